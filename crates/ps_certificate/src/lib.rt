@@ -1,0 +1,8 @@
+//! Certificates of parity games: what says who wins each vertex, by which move, and why.
+#![tactic(auto)]
+
+mod certificate;
+mod flaw;
+
+pub use certificate::{Certificate, Entry};
+pub use flaw::Flaw;
