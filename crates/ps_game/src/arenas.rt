@@ -1,0 +1,34 @@
+ghost use Rattle.std.specs.Prelude.{◌≡◌, ◌<◌, length, slice_index};
+ghost use Rattle.ps_game.specs.Games.{ParityGame, IsGame, vertex_count, owner_of, priority_of, successors_of};
+
+/// A parity game that can be read, however it is kept. None of the calls takes memory.
+pub trait Arena {
+    /// The game that the value stands for.
+    ghost game: { Self → ParityGame };
+
+    /// How many vertices there are; they are numbered from 0.
+    fn count(&self) -> usize
+        ensures vertices { result ≡ vertex_count (game self.now) }
+        ensures well_formed { IsGame (game self.now) };
+
+    /// The player who moves at a vertex, 0 or 1.
+    fn owner(&self, vertex: usize) -> u8
+        requires { vertex < vertex_count (game self.now) }
+        ensures { result ≡ owner_of (game self.now) vertex };
+
+    /// The priority of a vertex.
+    fn priority(&self, vertex: usize) -> u64
+        requires { vertex < vertex_count (game self.now) }
+        ensures { result ≡ priority_of (game self.now) vertex };
+
+    /// How many successors a vertex has.
+    fn degree(&self, vertex: usize) -> usize
+        requires { vertex < vertex_count (game self.now) }
+        ensures { result ≡ length (successors_of (game self.now) vertex) };
+
+    /// A successor of a vertex, by its number in the order of the vertex's successors.
+    fn successor(&self, vertex: usize, number: usize) -> usize
+        requires vertex { vertex < vertex_count (game self.now) }
+        requires number { number < length (successors_of (game self.now) vertex) }
+        ensures { result ≡ slice_index (successors_of (game self.now) vertex) number };
+}

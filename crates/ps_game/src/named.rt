@@ -1,0 +1,66 @@
+ghost use Rattle.std.specs.Prelude.{◌≡◌, ◌≢◌, ◌<◌, length, map, vec_len, slice_index, slice_index_or, None};
+ghost use Rattle.std.specs.List.{All, AllPairs};
+ghost use Rattle.std.specs.Option.{option_copied};
+ghost use Rattle.ps_game.specs.Games.{NamedGameData, IsNamedGame, HasNoQuote, vertex_count};
+ghost use Rattle.ps_game.specs.Names.{name_bytes};
+
+use crate::games::Game;
+use std::marker::Model;
+
+/// A game with an id and an optional name, bytes without `"`, for each vertex.
+#[derive(Drop)]
+pub struct NamedGame {
+    game: Game,
+    ids: Vec<u64>,
+    names: Vec<Option<Vec<u8>>>,
+}
+
+impl Model for NamedGame {
+    ghost Value = { NamedGameData };
+
+    ghost view = { λ n. record { game = n.game; ids = n.ids.items; names = map name_bytes n.names.items } };
+
+    ghost invariant = { λ n. IsNamedGame (record { game = n.game; ids = n.ids.items; names = map name_bytes n.names.items }) };
+}
+
+impl NamedGame {
+    /// Gives ids and names to the vertices of a game, in their order.
+    pub fn new(game: Game, ids: Vec<u64>, names: Vec<Option<Vec<u8>>>) -> Self
+        requires id_each { vec_len ids ≡ vertex_count game }
+        requires name_each { vec_len names ≡ vertex_count game }
+        requires ids_differ { AllPairs (λ x y. x ≢ y) ids.items }
+        requires names_plain { All HasNoQuote (map name_bytes names.items) }
+        ensures game { result.game ≡ game }
+        ensures ids { result.ids ≡ ids.items }
+        ensures names { result.names ≡ map name_bytes names.items }
+    {
+        NamedGame { game, ids, names }
+    }
+
+    /// The game without its ids and names.
+    pub fn game(&self) -> &Game
+        ensures game { result.now ≡ self.now.game }
+        ensures well_formed { IsNamedGame self.now }
+    {
+        &self.game
+    }
+
+    /// The id of a vertex.
+    pub fn id(&self, vertex: usize) -> u64
+        requires { vertex < vertex_count self.now.game }
+        ensures { result ≡ slice_index self.now.ids vertex }
+    {
+        self.ids[vertex]
+    }
+
+    /// The name of a vertex, if it has one.
+    pub fn name(&self, vertex: usize) -> Option<&[u8]>
+        requires { vertex < vertex_count self.now.game }
+        ensures { option_copied result ≡ slice_index_or self.now.names vertex None }
+    {
+        match &self.names[vertex] {
+            Some(name) => Some(name.as_slice()),
+            None => None,
+        }
+    }
+}
