@@ -1,5 +1,11 @@
--- Certificates, and what they say of a vertex.
-use Rattle.std.specs.Prelude.{ℕ, List, [], Option, None, if◌then◌else◌, ◌==◌, slice_index_or}
+-- Certificates of parity games: when they fit a game, when they are valid, and what is wrong with one
+-- that is not.
+use Rattle.std.specs.Prelude.{◌≡◌, ◌≢◌, ℕ, ◌+◌, ◌%◌, ◌<◌, ◌≤◌, ◌⊎◌, List, [], length, Option, None, Some, IfSome, IsSome, IsSomeAnd, if◌then◌else◌, ◌==◌, slice_index, slice_index_or}
+use Rattle.std.specs.List.{All, Contains}
+use Rattle.std.specs.List.Sorted.{IsStrictlyIncreasing}
+use Rattle.ps_game.specs.Games.{ParityGame, vertex_count, owner_of, priority_of, successors_of, HasEdge}
+use Rattle.ps_certificate.specs.declared.flaw.Flaw.{Flaw}
+use Rattle.ps_certificate.specs.declared.flaw.Flaw.TheVariants.{Move, Escape, Rank}
 
 -- what is said of one vertex: who wins it, the winner's move, and the counts
 pub record EntryData : Type 0 where
@@ -18,14 +24,117 @@ abbrev pub no_entry : EntryData
 no_entry = record { winner = 2; choice = None; counts = [] }
 
 unfoldable pub winner_of : CertificateData → ℕ → ℕ
-winner_of c v = (slice_index_or c.entries v no_entry).winner
+winner_of certificate v = (slice_index_or certificate.entries v no_entry).winner
 
 unfoldable pub choice_of : CertificateData → ℕ → Option ℕ
-choice_of c v = (slice_index_or c.entries v no_entry).choice
+choice_of certificate v = (slice_index_or certificate.entries v no_entry).choice
 
 unfoldable pub counts_of : CertificateData → ℕ → List ℕ
-counts_of c v = (slice_index_or c.entries v no_entry).counts
+counts_of certificate v = (slice_index_or certificate.entries v no_entry).counts
 
--- the listed priorities by which a player loses
+-- the priorities by which a player loses: the odd ones for player 0, the even ones for player 1
 unfoldable pub opposing : CertificateData → ℕ → List ℕ
-opposing c player = if player == 0 then c.odd else c.even
+opposing certificate player = if player == 0 then certificate.odd else certificate.even
+
+-- some vertex has the priority
+abbrev pub HasPriority : ParityGame → ℕ → Type 0
+HasPriority game p = (v : ℕ) × (v < vertex_count game) × (priority_of game v ≡ p)
+
+-- the list has just the priorities of one parity that the game has, rising
+pub record ListsPriorities (game : ParityGame) (parity : ℕ) (list : List ℕ) : Type 0 where
+  pub rising : IsStrictlyIncreasing list
+  pub complete : (v : ℕ) → v < vertex_count game → priority_of game v % 2 ≡ parity → Contains list (priority_of game v)
+  pub right_parity : All (λ p. p % 2 ≡ parity) list
+  pub present : All (HasPriority game) list
+
+-- one entry for each vertex, winners 0 or 1, moves that are vertices, just the priorities of the game,
+-- and one count for each priority by which the winner loses
+pub record Fits (game : ParityGame) (certificate : CertificateData) : Type 0 where
+  pub entry_each : length certificate.entries ≡ vertex_count game
+  pub winners : (v : ℕ) → v < vertex_count game → winner_of certificate v < 2
+  pub choices : (v : ℕ) → v < vertex_count game → IfSome (choice_of certificate v) (λ w. w < vertex_count game)
+  pub odd_listed : ListsPriorities game 1 certificate.odd
+  pub even_listed : ListsPriorities game 0 certificate.even
+  pub count_each : (v : ℕ) → v < vertex_count game → length (counts_of certificate v) ≡ length (opposing certificate (winner_of certificate v))
+
+-- an edge remains when it leaves a vertex of the loser, or is the winner's move
+pub record Remains (game : ParityGame) (certificate : CertificateData) (v w : ℕ) : Type 0 where
+  pub edge : HasEdge game v w
+  pub chosen : owner_of game v ≡ winner_of certificate v → choice_of certificate v ≡ Some w
+
+-- a vertex that its winner owns has a move, which is a successor; one that its loser owns has none
+pub record HasRightMove (game : ParityGame) (certificate : CertificateData) (v : ℕ) : Type 0 where
+  pub own : owner_of game v ≡ winner_of certificate v → IsSomeAnd (choice_of certificate v) (HasEdge game v)
+  pub other : owner_of game v ≢ winner_of certificate v → choice_of certificate v ≡ None
+
+-- moves are right, and edges that remain stay with the winner
+pub record IsClosed (game : ParityGame) (certificate : CertificateData) : Type 0 where
+  pub moves : (v : ℕ) → v < vertex_count game → HasRightMove game certificate v
+  pub stays : (v w : ℕ) → Remains game certificate v w → winner_of certificate w ≡ winner_of certificate v
+
+-- the opposing priority at a place, for the winner of a vertex
+abbrev pub opposing_at : CertificateData → ℕ → ℕ → ℕ
+opposing_at certificate v k = slice_index (opposing certificate (winner_of certificate v)) k
+
+-- the rule of counts for an edge and the opposing priority at a place: where neither end has a greater
+-- priority, the count does not rise, and it falls where the edge leaves a vertex of that priority
+pub record KeepsCount (game : ParityGame) (certificate : CertificateData) (v w k : ℕ) : Type 0 where
+  pub never_rises : priority_of game v ≤ opposing_at certificate v k → priority_of game w ≤ opposing_at certificate v k → slice_index (counts_of certificate w) k ≤ slice_index (counts_of certificate v) k
+  pub falls : priority_of game v ≡ opposing_at certificate v k → priority_of game w ≤ opposing_at certificate v k → slice_index (counts_of certificate w) k < slice_index (counts_of certificate v) k
+
+-- a valid certificate is closed, and each edge that remains between two vertices of one winner keeps
+-- the rule of counts for each opposing priority
+pub record IsValid (game : ParityGame) (certificate : CertificateData) : Type 0 where
+  pub closed : IsClosed game certificate
+  pub counts : (v w k : ℕ) → Remains game certificate v w → winner_of certificate w ≡ winner_of certificate v → k < length (opposing certificate (winner_of certificate v)) → KeepsCount game certificate v w k
+
+-- the winner owns the vertex, and its move is none or no successor; or the loser owns it, and a move
+-- is given
+abbrev pub HasWrongMove : ParityGame → CertificateData → ℕ → Type 0
+HasWrongMove game certificate v =
+    ((owner_of game v ≡ winner_of certificate v) × ¬ IsSomeAnd (choice_of certificate v) (HasEdge game v))
+    ⊎ ((owner_of game v ≢ winner_of certificate v) × IsSome (choice_of certificate v))
+
+-- an edge that remains between two vertices of one winner breaks the rule of counts for a priority
+pub record BreaksCount (game : ParityGame) (certificate : CertificateData) (v w p : ℕ) : Type 0 where
+  pub remains : Remains game certificate v w
+  pub same_winner : winner_of certificate w ≡ winner_of certificate v
+  pub place : ℕ
+  pub within : place < length (opposing certificate (winner_of certificate v))
+  pub priority : opposing_at certificate v place ≡ p
+  pub broken : ¬ KeepsCount game certificate v w place
+
+-- each flaw with its cause
+abbrev pub IsFlaw : ParityGame → CertificateData → Flaw → Type 0
+IsFlaw game certificate (Move v choice) =
+    (v < vertex_count game) × (choice_of certificate v ≡ choice) × HasWrongMove game certificate v
+IsFlaw game certificate (Escape v w) =
+    Remains game certificate v w × (winner_of certificate w ≢ winner_of certificate v)
+IsFlaw game certificate (Rank v w p) = BreaksCount game certificate v w p
+
+-- one number stands before another one in a list
+abbrev pub StandsBefore : List ℕ → ℕ → ℕ → Type 0
+StandsBefore xs x y =
+    (i : ℕ) × (j : ℕ) × (i < j) × (j < length xs) × (slice_index xs i ≡ x) × (slice_index xs j ≡ y)
+
+-- the edge from v to w comes before the one from v' to w': by vertex, then in the order of successors
+abbrev pub EdgePrecedes : ParityGame → ℕ → ℕ → ℕ → ℕ → Type 0
+EdgePrecedes game v w v' w' = (v < v') ⊎ ((v ≡ v') × StandsBefore (successors_of game v) w w')
+
+-- the order of flaws: moves and escapes by vertex, at one vertex the move first, then escapes in the
+-- order of successors; behind all of them ranks, by vertex, successor and priority
+abbrev pub Precedes : ParityGame → Flaw → Flaw → Type 0
+Precedes game (Move v _) (Move v' _) = v < v'
+Precedes game (Move v _) (Escape v' _) = v ≤ v'
+Precedes game (Escape v _) (Move v' _) = v < v'
+Precedes game (Escape v w) (Escape v' w') = EdgePrecedes game v w v' w'
+Precedes game (Rank v w p) (Rank v' w' p') = EdgePrecedes game v w v' w' ⊎ ((v ≡ v') × (w ≡ w') × (p < p'))
+Precedes game (Move _ _) (Rank _ _ _) = Unit {0}
+Precedes game (Escape _ _) (Rank _ _ _) = Unit {0}
+Precedes game (Rank _ _ _) (Move _ _) = ⊥
+Precedes game (Rank _ _ _) (Escape _ _) = ⊥
+
+-- a flaw that each other one comes behind
+pub record IsFirstFlaw (game : ParityGame) (certificate : CertificateData) (flaw : Flaw) : Type 0 where
+  pub is_flaw : IsFlaw game certificate flaw
+  pub first : (other : Flaw) → IsFlaw game certificate other → (flaw ≡ other) ⊎ Precedes game flaw other

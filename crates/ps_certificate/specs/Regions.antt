@@ -1,0 +1,19 @@
+-- What a certificate claims of a game: each player's region, held by the moves that are given.
+use Rattle.std.specs.Prelude.{◌≢◌, ℕ, ◌<◌, Bool, ◌==◌}
+use Rattle.ps_game.specs.Games.{ParityGame, vertex_count}
+use Rattle.ps_game.specs.Plays.{KeepsTo, Holds}
+use Rattle.ps_certificate.specs.Certificates.{CertificateData, winner_of, choice_of}
+
+-- the vertices that a player wins
+abbrev pub region_of : CertificateData → ℕ → ℕ → Bool
+region_of certificate player v = winner_of certificate v == player
+
+-- each player's moves are successors, and paths that follow them from the player's region stay there
+abbrev pub BothKeep : ParityGame → CertificateData → Type 0
+BothKeep game certificate =
+    (player : ℕ) → player < 2 → KeepsTo game player (region_of certificate player) (choice_of certificate)
+
+-- each player holds the player's region by the moves that are given
+abbrev pub BothHold : ParityGame → CertificateData → Type 0
+BothHold game certificate =
+    (player : ℕ) → player < 2 → Holds game player (region_of certificate player) (choice_of certificate)
