@@ -1,0 +1,30 @@
+-- Digits, decimal numbers, letters and blanks, as the formats' tokens are made of them.
+--     IsDigit b, IsLetter b, IsBlank b      the byte is 0 to 9; a to z or A to Z; 9 to 13 or 32
+--     decimal_value digits      the number that the digits write, of any size, leading zeros and all
+--     AreDigits run      one digit or more, and nothing else
+--     IsPlainNumber run      digits that are 0 alone or don't begin with 0
+use Rattle.std.specs.Prelude.{◌≡◌, ℕ, ◌-◌, ◌<◌, ◌≤◌, ◌⊎◌, List, [], ◌∷◌, length, map}
+use Rattle.std.specs.List.{All}
+use Rattle.std.specs.Int.Digits.{number_from_digits}
+
+abbrev pub IsDigit : ℕ → Type 0
+IsDigit b = (48 ≤ b) × (b ≤ 57)
+
+abbrev pub IsLetter : ℕ → Type 0
+IsLetter b = ((65 ≤ b) × (b ≤ 90)) ⊎ ((97 ≤ b) × (b ≤ 122))
+
+abbrev pub IsBlank : ℕ → Type 0
+IsBlank b = ((9 ≤ b) × (b ≤ 13)) ⊎ (b ≡ 32)
+
+abbrev pub decimal_value : List ℕ → ℕ
+decimal_value digits = number_from_digits 10 (map (λ b. b - 48) digits)
+
+abbrev pub AreDigits : List ℕ → Type 0
+AreDigits run = (0 < length run) × All IsDigit run
+
+abbrev pub BeginsWithZero : List ℕ → Type 0
+BeginsWithZero [] = ⊥
+BeginsWithZero (b ∷ bytes) = b ≡ 48
+
+abbrev pub IsPlainNumber : List ℕ → Type 0
+IsPlainNumber run = AreDigits run × (1 < length run → ¬ BeginsWithZero run)

@@ -1,0 +1,4 @@
+pub mod Answers
+pub mod Parts
+pub mod Readers
+pub mod Digits

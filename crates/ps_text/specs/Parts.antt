@@ -1,0 +1,156 @@
+-- A grammar by parts. A part is a grammar together with what may be wrong inside it; parts are joined by combinators, so that
+-- a grammar written in them reads like the standard's own.
+--     Part      IsText: these signs are a text of the part, of that value; IsCause: behind these signs of the part, that
+--               cause stands at that sign. What the grammar itself refuses is no cause of a part
+--     Causes      what a format says of its causes: their numbers, the cause that a sign is by itself, wherever it stands,
+--               and the one for a sign (or an end) that the grammar does not allow
+--     IsWrong causes part      what is wrong with a whole text: the IsCause of `Answers`, where the text is one part
+--     IsRead part all v rest      the part was read from the front of all: its longest text, with no cause up to the next sign
+--     IsFault causes part all f rest      the part's first fault was found in all, and rest is what stands from it on
+-- The combinators:
+--     give v      no sign, the value v
+--     one take Bad      one sign, of which take makes the value; Bad says what may be wrong with a sign at this place,
+--               whether take knows it or not
+--     then_by P (λ a. Q a)      P and then Q, which may depend on the value a; the value is that of Q
+--     either P Q      P or Q
+--     times n item c, many item c      n items, or any number of them, one behind another: `item c` is the item behind the
+--               context c, its value is the next context, and the last one is the value of the whole
+--     mapped h P      P with the value h v in place of v
+--     barred P Bad      P, and a cause at the sign behind it, which Bad says by P's value
+-- A reader of the code says of each production, in a private clause, that it read its part or stopped at its first fault
+-- (specs/Readers.antt); proofs/ has the theorems that join parts, and lead from the whole part to `Answers`.
+use Rattle.std.specs.Prelude.{◌≡◌, ℕ, zero, suc, ◌+◌, ◌<◌, ◌≤◌, ◌⊎◌, List, [], ◌∷◌, ◌++◌, length, Option, None, Some, Result}
+use Rattle.std.specs.Option.{unwrap_or}
+use Rattle.ps_text.specs.Answers.{Begins, IsRefused, Stream, Found, Answers, first_of}
+
+pub record Part (T V F : Type 0) : Type 1 where
+  pub IsText : List T → V → Type 0
+  pub IsCause : List T → T → F → Type 0
+
+pub record Causes (T F : Type 0) : Type 0 where
+  pub number : F → ℕ
+  pub own : T → Option F
+  pub syntax : F
+
+-- the cause where the grammar does not allow a sign, or the end
+abbrev pub refusal_of : {T F : Type 0} → Causes T F → Option T → F
+refusal_of causes None = causes.syntax
+refusal_of causes (Some t) = unwrap_or (causes.own t) causes.syntax
+
+-- f is wrong behind front, at that sign or at the end: a cause of the part, or the sign's own, or else the grammar's
+pub data IsWrong {T V F : Type 0} (causes : Causes T F) (part : Part T V F) (front : List T) (there : Option T) (f : F) : Type 0 where
+  by_part : (t : T) → there ≡ Some t → part.IsCause front t f → IsWrong causes part front there f
+  by_sign : (t : T) → there ≡ Some t → causes.own t ≡ Some f → IsWrong causes part front there f
+  by_grammar : IsRefused part.IsText front there → ((t : T) (g : F) → there ≡ Some t → part.IsCause front t g → ⊥)
+      → ((t : T) → there ≡ Some t → causes.own t ≡ None) → f ≡ causes.syntax → IsWrong causes part front there f
+
+-- the answer to a text that is one part
+abbrev pub PartAnswers : {T V F : Type 0} → Causes T F → Part T V F → Stream T → Result V (Found F) → Type 0
+PartAnswers causes part = Answers part.IsText (IsWrong causes part) causes.number
+
+-- no cause of the part stands behind fewer than n signs
+abbrev pub CleanUpTo : {T V F : Type 0} → Part T V F → List T → ℕ → Type 0
+CleanUpTo {T} {V} {F} part all n = (front rest : List T) (t : T) (f : F) → all ≡ front ++ t ∷ rest → length front < n → part.IsCause front t f → ⊥
+
+-- no text of the part goes on with the next sign
+abbrev pub StopsAt : {T V F : Type 0} → Part T V F → List T → Option T → Type 0
+StopsAt part front None = Unit {0}
+StopsAt part front (Some t) = Begins part.IsText (front ++ t ∷ []) → ⊥
+
+abbrev pub NoCauseAt : {T V F : Type 0} → Part T V F → List T → Option T → Type 0
+NoCauseAt part front None = Unit {0}
+NoCauseAt {T} {V} {F} part front (Some t) = (f : F) → part.IsCause front t f → ⊥
+
+-- all begins with a text of the part, of that value, and rest stands behind it. No text of the part goes on with the next
+-- sign, and no cause of the part stands in the text or at that sign
+pub record IsRead {T V F : Type 0} (part : Part T V F) (all : List T) (v : V) (rest : List T) : Type 0 where
+  pub text : List T
+  pub split : all ≡ text ++ rest
+  pub is_text : part.IsText text v
+  pub stops : StopsAt part text (first_of rest)
+  pub clean : CleanUpTo part all (length text + 1)
+
+-- front begins a text of the part and is none, none goes on with the next sign, and no cause of the part stands there
+pub record IsBroken {T V F : Type 0} (part : Part T V F) (front : List T) (there : Option T) : Type 0 where
+  pub before : Begins part.IsText front
+  pub no_text : (v : V) → part.IsText front v → ⊥
+  pub stops : StopsAt part front there
+  pub no_cause : NoCauseAt part front there
+
+-- f is the fault there: the part's cause with the least number, or the refusal
+pub data IsFaultAt {T V F : Type 0} (causes : Causes T F) (part : Part T V F) (front : List T) (there : Option T) (f : F) : Type 0 where
+  is_cause : (t : T) → there ≡ Some t → part.IsCause front t f → ((g : F) → part.IsCause front t g → causes.number f ≤ causes.number g)
+      → IsFaultAt causes part front there f
+  is_refusal : IsBroken part front there → f ≡ refusal_of causes there → IsFaultAt causes part front there f
+
+-- the first fault of the part in all: no cause of the part stands before it, and rest stands from it on
+pub record IsFault {T V F : Type 0} (causes : Causes T F) (part : Part T V F) (all : List T) (f : F) (rest : List T) : Type 0 where
+  pub front : List T
+  pub split : all ≡ front ++ rest
+  pub clean : CleanUpTo part all (length front)
+  pub fault : IsFaultAt causes part front (first_of rest) f
+
+-- ## The combinators
+
+abbrev pub give : {T V F : Type 0} → V → Part T V F
+give v = record { IsText = λ text x. (text ≡ []) × (x ≡ v); IsCause = λ _ _ _. ⊥ }
+
+abbrev pub one : {T V F : Type 0} → (T → Option V) → (T → F → Type 0) → Part T V F
+one {T} take Bad = record {
+  IsText = λ text v. (t : T) × (text ≡ t ∷ []) × (take t ≡ Some v);
+  IsCause = λ front t f. (front ≡ []) × Bad t f;
+}
+
+-- nothing may be wrong with the sign itself
+abbrev pub NoBad : {T F : Type 0} → T → F → Type 0
+NoBad _ _ = ⊥
+
+pub record IsJoined {T A B : Type 0} (P : List T → A → Type 0) (Q : A → List T → B → Type 0) (text : List T) (b : B) : Type 0 where
+  pub left : List T
+  pub right : List T
+  pub value : A
+  pub split : text ≡ left ++ right
+  pub is_left : P left value
+  pub is_right : Q value right b
+
+pub record IsBehind {T A F : Type 0} (P : List T → A → Type 0) (Q : A → List T → T → F → Type 0) (front : List T) (t : T) (f : F) : Type 0 where
+  pub left : List T
+  pub right : List T
+  pub value : A
+  pub split : front ≡ left ++ right
+  pub is_left : P left value
+  pub is_cause : Q value right t f
+
+abbrev pub then_by : {T A B F : Type 0} → Part T A F → (A → Part T B F) → Part T B F
+then_by P Q = record {
+  IsText = IsJoined P.IsText (λ a. (Q a).IsText);
+  IsCause = λ front t f. P.IsCause front t f ⊎ IsBehind P.IsText (λ a. (Q a).IsCause) front t f;
+}
+
+abbrev pub either : {T V F : Type 0} → Part T V F → Part T V F → Part T V F
+either P Q = record {
+  IsText = λ text v. P.IsText text v ⊎ Q.IsText text v;
+  IsCause = λ front t f. P.IsCause front t f ⊎ Q.IsCause front t f;
+}
+
+abbrev pub times : {T C F : Type 0} → ℕ → (C → Part T C F) → C → Part T C F
+times zero item c = give c
+times (suc n) item c = then_by (item c) (λ d. times n item d)
+
+abbrev pub many : {T C F : Type 0} → (C → Part T C F) → C → Part T C F
+many item c = record {
+  IsText = λ text d. (n : ℕ) × (times n item c).IsText text d;
+  IsCause = λ front t f. (n : ℕ) × (times n item c).IsCause front t f;
+}
+
+abbrev pub mapped : {T A B F : Type 0} → (A → B) → Part T A F → Part T B F
+mapped {T} {A} h P = record {
+  IsText = λ text b. (a : A) × P.IsText text a × (b ≡ h a);
+  IsCause = P.IsCause;
+}
+
+abbrev pub barred : {T V F : Type 0} → Part T V F → (V → T → F → Type 0) → Part T V F
+barred {T} {V} P Bad = record {
+  IsText = P.IsText;
+  IsCause = λ front t f. P.IsCause front t f ⊎ ((v : V) × P.IsText front v × Bad v t f);
+}

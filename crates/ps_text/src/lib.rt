@@ -1,0 +1,5 @@
+//! What every reader of texts is made of, whatever the format: the answer of a reader (the meaning of a text, or
+//! the first cause that stands in it), grammars by parts, digits and blanks.
+#![tactic(auto)]
+
+pub mod answers;
