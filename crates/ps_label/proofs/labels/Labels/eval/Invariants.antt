@@ -1,0 +1,12 @@
+use Rattle.std.proofs.Common.{◌≡◌, length, take, drop}
+use Rattle.ps_label.specs.Expression.{AreOrderedFrom}
+use Rattle.ps_label.specs.Truth.{alias_truths, expressions, truths_behind}
+use Rattle.ps_label.proofs.labels.Labels.eval.Given as goal
+
+-- the aliases still to come, behind those worked out, give the whole table
+abbrev pub invariant-loop-k : goal.invariant-loop-k
+invariant-loop-k l = record {
+  room : length l.scratch ≡ length l.alias-items;
+  known : truths_behind (take l.k l.scratch) l.letter (expressions (drop l.k l.alias-items)) ≡ alias_truths (expressions l.self) l.letter;
+  ordered : AreOrderedFrom l.k (expressions (drop l.k l.alias-items));
+}

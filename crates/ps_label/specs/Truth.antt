@@ -1,0 +1,47 @@
+-- The truth of an expression at a letter.
+use Rattle.std.specs.Prelude.{◌≡◌, ℕ, ◌/◌, ◌%◌, ◌^◌, ◌<◌, Bool, true, false, cond, List, [], ◌∷◌, ◌++◌, length, map, nat_eq, slice_index_or}
+use Rattle.ps_label.specs.declared.label.Label.{Label}
+use Rattle.ps_label.specs.Expression.{Expression, constant, proposition, alias, not_of, all_of, any_of, Operands, last, more, expression}
+
+-- proposition p is bit p of the letter, the lowest bit being bit 0
+abbrev pub is_in : ℕ → ℕ → Bool
+is_in p letter = nat_eq (letter / 2 ^ p % 2) 1
+
+-- the truth of an expression, where that of each alias is given
+abbrev mutual
+  pub truth : List Bool → ℕ → Expression → Bool
+  truth known letter (constant b) = b
+  truth known letter (proposition p) = is_in p letter
+  truth known letter (alias k) = slice_index_or known k false
+  truth known letter (not_of e) = cond (truth known letter e) false true
+  truth known letter (all_of es) = all_true known letter es
+  truth known letter (any_of es) = any_true known letter es
+
+  pub all_true : List Bool → ℕ → Operands → Bool
+  all_true known letter last = true
+  all_true known letter (more e es) = cond (truth known letter e) (all_true known letter es) false
+
+  pub any_true : List Bool → ℕ → Operands → Bool
+  any_true known letter last = false
+  any_true known letter (more e es) = cond (truth known letter e) true (any_true known letter es)
+
+-- A table has the truth of each alias: of the expression that it stands for, by the same table.
+pub record AreTruths (aliases : List Expression) (letter : ℕ) (known : List Bool) : Type 0 where
+  pub one_each : length known ≡ length aliases
+  pub each : (k : ℕ) → k < length aliases → slice_index_or known k false ≡ truth known letter (slice_index_or aliases k (constant false))
+
+-- the truths of the aliases, from the first to the last, behind those of earlier ones
+abbrev pub truths_behind : List Bool → ℕ → List Expression → List Bool
+truths_behind known letter [] = known
+truths_behind known letter (e ∷ es) = truths_behind (known ++ truth known letter e ∷ []) letter es
+
+-- The truth of a label at a letter, where its names are those of the aliases. (Where each alias speaks of
+-- earlier ones alone, there is one table of their truths, and this is the truth by that table.)
+unfoldable pub alias_truths : List Expression → ℕ → List Bool
+alias_truths aliases letter = truths_behind [] letter aliases
+
+unfoldable pub label_truth : List Expression → ℕ → Expression → Bool
+label_truth aliases letter e = truth (alias_truths aliases letter) letter e
+
+abbrev pub expressions : List Label → List Expression
+expressions labels = map expression labels

@@ -1,0 +1,136 @@
+//! The aliases of a text, and the truth of a label at a letter.
+
+ghost use Rattle.std.specs.Prelude.{◌≡◌, ℕ, ◌+◌, ◌^◌, ◌<◌, ◌++◌, ◌∷◌, [], List, Bool, IfOk, OnErr, OnOk, length};
+ghost use Rattle.ps_label.specs.Expression.{Expression, expression, IsWithin, AreOrdered};
+ghost use Rattle.ps_label.specs.Truth.{AreTruths, alias_truths, expressions, label_truth, truth};
+
+use crate::label::Label;
+use std::alloc::{AllocError, Global};
+use std::marker::Model;
+
+/// The aliases of a text in the order of their definitions: each speaks of earlier ones alone, and of
+/// propositions below 64.
+#[derive(Debug, Drop)]
+pub struct Labels {
+    aliases: Vec<Label>,
+}
+
+impl Model for Labels {
+    ghost use Rattle.std.specs.Prelude.{List};
+    ghost use Rattle.ps_label.specs.declared.label.Label.{Label};
+    ghost use Rattle.ps_label.specs.Expression.{AreOrdered};
+    ghost use Rattle.ps_label.specs.Truth.{expressions};
+    ghost use Rattle.std.specs.Coded.{codes};
+    ghost use Rattle.ps_label.specs.contracts.label.Label as e;
+
+    ghost Value = { List Label };
+
+    ghost coded = { Prim.hlevel (codes, e.the_row.coded) };
+
+    ghost view = { λ s. s.aliases.items };
+
+    ghost invariant = { λ s. AreOrdered (expressions s.aliases.items) };
+}
+
+impl Labels {
+    /// No aliases.
+    pub fn new(alloc: Global) -> Self
+        ensures { result ≡ [] }
+    {
+        Labels {
+            aliases: Vec::new(alloc),
+        }
+    }
+
+    /// One more alias, behind the others.
+    ///
+    /// # Errors
+    ///
+    /// Fails where a growth was refused.
+    pub fn push(&mut self, label: Label) -> Result<(), AllocError>
+        requires within { IsWithin (length self.old) (expression label) }
+        ensures ok { OnOk result (self.new ≡ self.old ++ label ∷ []) }
+        ensures err { OnErr result (self.new ≡ self.old) }
+    {
+        self.aliases.push(label)?;
+        Ok(())
+    }
+
+    /// The aliases in the order of their definitions.
+    pub fn as_slice(&self) -> &[Label]
+        ensures value { result.now ≡ self.now }
+        ensures ordered { AreOrdered (expressions self.now) }
+    {
+        self.aliases.as_slice()
+    }
+
+    /// The truth of a label at a letter. Each alias is worked out once; `scratch` has a place for each.
+    pub fn eval(&self, label: &Label, letter: u64, scratch: &mut [bool]) -> bool
+        requires room { length scratch.old ≡ length self.now }
+        requires within { IsWithin (length self.now) (expression label.now) }
+        ensures { result ≡ label_truth (expressions self.now) letter (expression label.now) }
+    {
+        for (k, alias) in self.aliases.iter().enumerate() {
+            let value = truth_by(alias, letter, &scratch[..k]);
+            scratch[k] = value;
+        }
+        truth_by(label, letter, scratch)
+    }
+}
+
+/// Where each alias speaks of earlier ones alone, there is one table of their truths at a letter, each being
+/// that of its expression by the same table; and a label's truth is its truth by that table.
+pub fn one_table_of_truths()
+    ensures table { (aliases : List Expression) (letter : ℕ) → AreOrdered aliases → AreTruths aliases letter (alias_truths aliases letter) }
+    ensures only { (aliases : List Expression) (letter : ℕ) (known : List Bool) → AreOrdered aliases → AreTruths aliases letter known → known ≡ alias_truths aliases letter }
+    ensures label { (aliases : List Expression) (letter : ℕ) (known : List Bool) (e : Expression) → AreOrdered aliases → AreTruths aliases letter known → label_truth aliases letter e ≡ truth known letter e }
+{}
+
+/// The truth of a label at a letter, where that of each alias is in `known`.
+fn truth_by(label: &Label, letter: u64, known: &[bool]) -> bool
+    requires { IsWithin (length known.now) (expression label.now) }
+    ensures { result ≡ truth known.now letter (expression label.now) }
+{
+    match label {
+        Label::Truth(value) => *value,
+        Label::Atom(proposition) => letter >> *proposition & 1 == 1,
+        Label::Named(alias) => known[*alias],
+        Label::Neg(operand) => !truth_by(operand, letter, known),
+        Label::Both(operands) => {
+            for operand in operands {
+                if !truth_by(operand, letter, known) {
+                    return false;
+                }
+            }
+            true
+        }
+        Label::Either(operands) => {
+            for operand in operands {
+                if truth_by(operand, letter, known) {
+                    return true;
+                }
+            }
+            false
+        }
+    }
+}
+
+#[cfg(test)]
+mod tests {
+    use crate::label::Label;
+    use crate::labels::Labels;
+    use std::test::Fail;
+
+    #[test]
+    fn aliases_are_followed(rt: HostRuntime) -> Result<(), Fail> {
+        let alloc = rt.alloc();
+        let mut labels = Labels::new(alloc);
+        labels.push(Label::Atom(1))?;
+        labels.push(Label::Neg(Box::new(alloc, Label::Named(0))?))?;
+        let label = Label::Named(1);
+        let mut scratch = [false; 2];
+        assert!(rt; labels.eval(&label, 1, &mut scratch));
+        assert!(rt; !labels.eval(&label, 2, &mut scratch));
+        Ok(())
+    }
+}
