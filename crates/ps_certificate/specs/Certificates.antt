@@ -1,6 +1,6 @@
 -- Certificates of parity games: when they fit a game, when they are valid, and what is wrong with one
 -- that is not.
-use Rattle.std.specs.Prelude.{◌≡◌, ◌≢◌, ℕ, ◌+◌, ◌%◌, ◌<◌, ◌≤◌, ◌⊎◌, List, [], length, Option, None, Some, IfSome, IsSome, IsSomeAnd, if◌then◌else◌, ◌==◌, slice_index, slice_index_or}
+use Rattle.std.specs.Prelude.{◌≡◌, ◌≢◌, ℕ, ◌%◌, ◌<◌, ◌≤◌, ◌⊎◌, List, [], length, Option, None, Some, IfSome, IsSome, IsSomeAnd, if◌then◌else◌, ◌==◌, slice_index, slice_index_or}
 use Rattle.std.specs.List.{All, Contains}
 use Rattle.std.specs.List.Sorted.{IsStrictlyIncreasing}
 use Rattle.ps_game.specs.Games.{ParityGame, vertex_count, owner_of, priority_of, successors_of, HasEdge}

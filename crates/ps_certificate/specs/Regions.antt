@@ -1,6 +1,6 @@
 -- What a certificate claims of a game: each player's region, held by the moves that are given.
-use Rattle.std.specs.Prelude.{◌≢◌, ℕ, ◌<◌, Bool, ◌==◌}
-use Rattle.ps_game.specs.Games.{ParityGame, vertex_count}
+use Rattle.std.specs.Prelude.{ℕ, ◌<◌, Bool, ◌==◌}
+use Rattle.ps_game.specs.Games.{ParityGame}
 use Rattle.ps_game.specs.Plays.{KeepsTo, Holds}
 use Rattle.ps_certificate.specs.Certificates.{CertificateData, winner_of, choice_of}
 

@@ -2,7 +2,9 @@
 #![tactic(auto)]
 
 mod certificate;
+mod closing;
 mod flaw;
 
 pub use certificate::{Certificate, Entry};
+pub use closing::closed;
 pub use flaw::Flaw;

@@ -1,0 +1,44 @@
+-- What the checks have found so far. The public contracts speak of `IsClosed`, `IsValid` and
+-- `IsFirstFlaw`; these are the facts on the way.
+use Rattle.std.specs.Prelude.{◌≡◌, ◌≢◌, ℕ, ◌⊎◌}
+use Rattle.ps_game.specs.Games.{ParityGame, successors_of}
+use Rattle.ps_certificate.specs.declared.flaw.Flaw.{Flaw}
+use Rattle.ps_certificate.specs.declared.flaw.Flaw.TheVariants.{Move, Escape, Rank}
+use Rattle.ps_certificate.specs.Certificates.{CertificateData, Remains, HasRightMove, IsFlaw, Precedes, StandsBefore, winner_of}
+
+-- each edge of a vertex that remains stays with the winner
+abbrev pub StaysInside : ParityGame → CertificateData → ℕ → Type 0
+StaysInside game certificate v = (w : ℕ) → Remains game certificate v w → winner_of certificate w ≡ winner_of certificate v
+
+-- the move of a vertex is right, and what remains stays with the winner
+pub record IsSoundAt (game : ParityGame) (certificate : CertificateData) (v : ℕ) : Type 0 where
+  pub right_move : HasRightMove game certificate v
+  pub inside : StaysInside game certificate v
+
+-- an edge that remains and leads to the other winner
+pub record Leaves (game : ParityGame) (certificate : CertificateData) (v w : ℕ) : Type 0 where
+  pub remains : Remains game certificate v w
+  pub other_winner : winner_of certificate w ≢ winner_of certificate v
+
+-- the first such edge of a vertex
+pub record IsFirstEscape (game : ParityGame) (certificate : CertificateData) (v w : ℕ) : Type 0 where
+  pub leaves : Leaves game certificate v w
+  pub first : (other : ℕ) → Leaves game certificate v other → (w ≡ other) ⊎ StandsBefore (successors_of game v) w other
+
+-- moves and escapes are looked for first, ranks behind them
+abbrev pub stage_of : Flaw → ℕ
+stage_of (Move _ _) = 0
+stage_of (Escape _ _) = 0
+stage_of (Rank _ _ _) = 1
+
+abbrev pub vertex_of : Flaw → ℕ
+vertex_of (Move v _) = v
+vertex_of (Escape v _) = v
+vertex_of (Rank v _ _) = v
+
+-- the first flaw of a stage at a vertex
+pub record IsFirstFlawAt (game : ParityGame) (certificate : CertificateData) (stage v : ℕ) (flaw : Flaw) : Type 0 where
+  pub is_flaw : IsFlaw game certificate flaw
+  pub at_stage : stage_of flaw ≡ stage
+  pub at_vertex : vertex_of flaw ≡ v
+  pub first : (other : Flaw) → IsFlaw game certificate other → stage_of other ≡ stage → vertex_of other ≡ v → (flaw ≡ other) ⊎ Precedes game flaw other

@@ -1,0 +1,102 @@
+//! The first half of the check: moves are right, and what remains stays with the winner.
+
+ghost use Rattle.std.specs.Prelude.{◌≡◌, ◌≢◌, ℕ, ◌<◌, ◌↔◌, IsTrue, IsOk, IfErr, OnOk, IfNone, IfSome};
+ghost use Rattle.ps_game.specs.Games.{vertex_count, owner_of, successors_of, HasEdge};
+ghost use Rattle.ps_certificate.specs.Certificates.{Fits, HasRightMove, IsClosed, IsFirstFlaw};
+ghost use Rattle.ps_certificate.specs.Regions.{BothKeep};
+ghost use Rattle.ps_certificate.specs.Prefixes.{StaysInside, IsSoundAt, IsFirstEscape, IsFirstFlawAt};
+
+use crate::certificate::Certificate;
+use crate::flaw::Flaw;
+use ps_game::Arena;
+
+/// Whether an edge leads from one vertex to another.
+fn has_edge<A: Arena>(arena: &A, vertex: usize, successor: usize) -> bool
+    requires { vertex < vertex_count (A.game arena.now) }
+    ensures { IsTrue result ↔ HasEdge (A.game arena.now) vertex successor }
+{
+    for place in 0..arena.degree(vertex) {
+        if arena.successor(vertex, place) == successor {
+            return true;
+        }
+    }
+    false
+}
+
+/// Whether the move of a vertex is right: a successor where the winner owns the vertex, else none.
+fn has_right_move<A: Arena>(arena: &A, certificate: &Certificate, vertex: usize) -> bool
+    requires fits { Fits (A.game arena.now) certificate.now }
+    requires vertex { vertex < vertex_count (A.game arena.now) }
+    ensures { IsTrue result ↔ HasRightMove (A.game arena.now) certificate.now vertex }
+{
+    let choice = certificate.choice(vertex);
+    if arena.owner(vertex) != certificate.winner(vertex) {
+        return choice.is_none();
+    }
+    match choice {
+        Some(successor) => has_edge(arena, vertex, successor),
+        None => false,
+    }
+}
+
+/// The first edge of a vertex that remains and leads to the other winner.
+fn first_escape<A: Arena>(arena: &A, certificate: &Certificate, vertex: usize) -> Option<usize>
+    requires fits { Fits (A.game arena.now) certificate.now }
+    requires vertex { vertex < vertex_count (A.game arena.now) }
+    requires right_move { HasRightMove (A.game arena.now) certificate.now vertex }
+    ensures none { IfNone result (StaysInside (A.game arena.now) certificate.now vertex) }
+    ensures some { IfSome result (IsFirstEscape (A.game arena.now) certificate.now vertex) }
+{
+    let _vertices = arena.count();
+    let winner = certificate.winner(vertex);
+    if arena.owner(vertex) == winner {
+        return match certificate.choice(vertex) {
+            Some(successor) if certificate.winner(successor) != winner => Some(successor),
+            _ => None,
+        };
+    }
+    for number in 0..arena.degree(vertex) {
+        let successor = arena.successor(vertex, number);
+        if certificate.winner(successor) != winner {
+            return Some(successor);
+        }
+    }
+    None
+}
+
+/// The first flaw of a vertex in its move or in what remains of its edges.
+fn unsound_at<A: Arena>(arena: &A, certificate: &Certificate, vertex: usize) -> Option<Flaw>
+    requires fits { Fits (A.game arena.now) certificate.now }
+    requires vertex { vertex < vertex_count (A.game arena.now) }
+    ensures none { IfNone result (IsSoundAt (A.game arena.now) certificate.now vertex) }
+    ensures some { IfSome result (IsFirstFlawAt (A.game arena.now) certificate.now 0 vertex) }
+{
+    if !has_right_move(arena, certificate, vertex) {
+        let choice = certificate.choice(vertex);
+        return Some(Flaw::Move { vertex, choice });
+    }
+    match first_escape(arena, certificate, vertex) {
+        Some(successor) => Some(Flaw::Escape { vertex, successor }),
+        None => None,
+    }
+}
+
+/// Whether moves are right, and every edge that remains stays with the winner; else the first flaw,
+/// by vertex, at each the move before the escapes, and these in the order of successors. Takes no memory.
+///
+/// # Errors
+///
+/// [`Flaw::Move`] or [`Flaw::Escape`], whichever is first.
+pub fn closed<A: Arena>(arena: &A, certificate: &Certificate) -> Result<(), Flaw>
+    requires { Fits (A.game arena.now) certificate.now }
+    ensures exact { IsOk result ↔ IsClosed (A.game arena.now) certificate.now }
+    ensures flaw { IfErr result (IsFirstFlaw (A.game arena.now) certificate.now) }
+    ensures regions { OnOk result (BothKeep (A.game arena.now) certificate.now) }
+{
+    for vertex in 0..arena.count() {
+        if let Some(flaw) = unsound_at(arena, certificate, vertex) {
+            return Err(flaw);
+        }
+    }
+    Ok(())
+}
