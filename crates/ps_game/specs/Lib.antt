@@ -1,3 +1,4 @@
+pub mod Drafts
 pub mod Games
-pub mod Plays
 pub mod Names
+pub mod Plays

@@ -22,7 +22,7 @@ impl Model for Vertex {
 /// A parity game, kept as a list of vertices with a list of successors each.
 #[derive(Drop)]
 pub struct Game {
-    vertices: Vec<Vertex>,
+    pub(crate) vertices: Vec<Vertex>,
 }
 
 impl Model for Game {

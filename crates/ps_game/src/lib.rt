@@ -2,9 +2,13 @@
 #![tactic(auto)]
 
 mod arenas;
+mod builder;
+mod faults;
 mod games;
 mod named;
 
 pub use arenas::Arena;
+pub use builder::GameBuilder;
+pub use faults::GameFault;
 pub use games::Game;
 pub use named::NamedGame;

@@ -1,0 +1,40 @@
+-- What the search for an unknown successor finds.
+use Rattle.std.proofs.Common.{inl, inr, ◌≤◌, ap, sym, ◌∙◌, ◌≡◌, ℕ, zero, suc, ◌<◌, List, [], ◌∷◌, find, Option, None, Some, nat_le, cond, arith}
+use Rattle.std.specs.List.{All}
+use Rattle.std.proofs.lemmas.Bool.{cases_lt}
+use Rattle.std.proofs.lemmas.Bool.Decides.{nat_tests}
+use Rattle.ps_game.specs.Games.{ParityGame, vertex_count, successors_of}
+use Rattle.ps_game.specs.Drafts.{IsFirstUnknown, NoneUnknown}
+
+-- the head is smaller, and nothing is found behind it
+parts : (n x : ℕ) (found : Option ℕ) → cond (nat_le n x) (Some x) found ≡ None → (x < n) × (found ≡ None)
+parts n x found none = grind (arith, nat_tests)
+
+-- what is found behind a head that is smaller
+behind : (n x w : ℕ) (found : Option ℕ) → cond (nat_le n x) (Some x) found ≡ Some w → x < n → found ≡ Some w
+behind n x w found is small = grind (arith, nat_tests)
+
+-- a list in which no number is found has only smaller ones
+pub all_from_find : (n : ℕ) (xs : List ℕ) → find (λ w. nat_le n w) xs ≡ None → All (λ w. w < n) xs
+all_from_find n [] none k d within = absurd (omega arith)
+all_from_find n (x ∷ xs) none zero d within = (parts n x _ none).0
+all_from_find n (x ∷ xs) none (suc k) d within = all_from_find n xs (parts n x _ none).1 k d (omega arith)
+
+-- where one is found, not all are smaller
+none_found : (n w : ℕ) (xs : List ℕ) → find (λ w. nat_le n w) xs ≡ Some w → All (λ w. w < n) xs → ⊥
+none_found n w [] found small = cc
+none_found n w (x ∷ xs) found small = none_found n w xs (behind n x w _ found (small 0 0 (omega arith))) (λ k d within. small (suc k) d (omega arith))
+
+-- the least vertex with an unknown successor, and its first such successor, are determined
+pub first_unknown_once : (draft : ParityGame) (v w u x : ℕ) → IsFirstUnknown draft v w → IsFirstUnknown draft u x → (v ≡ u) × (w ≡ x)
+first_unknown_once draft v w u x first second =
+    let not_above : v ≤ u = elim (cases_lt u v) [ inl less ↦ absurd (none_found _ _ _ second.unknown (first.before u less)) | inr more ↦ more ] in
+    let not_below : u ≤ v = elim (cases_lt v u) [ inl less ↦ absurd (none_found _ _ _ first.unknown (second.before v less)) | inr more ↦ more ] in
+    let same : v ≡ u = omega arith in
+    let found : ℕ → Option ℕ = λ number. find (λ successor. nat_le (vertex_count draft) successor) (successors_of draft number) in
+    let both : Some w ≡ Some x = sym first.unknown ∙ ap found same ∙ second.unknown in
+    (same, cc)
+
+-- there is none where each successor is a vertex
+pub no_first_unknown : (draft : ParityGame) (v w : ℕ) → NoneUnknown draft → IsFirstUnknown draft v w → ⊥
+no_first_unknown draft v w known first = none_found _ _ _ first.unknown (known v first.is_vertex)

@@ -1,0 +1,5 @@
+use Rattle.ps_game.proofs.Distinct.{IsDropped}
+use Rattle.ps_game.proofs.builder.drop_repeats.Given as goal
+
+abbrev pub invariant-loop-number : goal.invariant-loop-number
+invariant-loop-number l = IsDropped l.fn.vertices l.vertices l.seen l.number

@@ -1,0 +1,12 @@
+use Rattle.std.proofs.Common.{◌≡◌, get_or, sym, ◌∙◌, below_more}
+use Rattle.std.proofs.lemmas.List.{get_or_default}
+use Rattle.ps_game.specs.Games.{vertex_count, successors_of, no_vertex}
+use Rattle.ps_game.proofs.Unknown.{all_from_find}
+use Rattle.ps_game.proofs.builder.first_unknown.Goals as goal
+
+pub loop-number-preserved : goal.loop-number-preserved
+unfolding vertex_count successors_of
+loop-number-preserved c =
+    let vertex : get_or c.args.vertices.now c.loop-number.number no_vertex ≡ c.index-vertices-number.result
+    = get_or_default c.args.vertices.now c.loop-number.number _ _ c.loop-number-test.true ∙ sym c.index-vertices-number.is in
+    below_more _ _ c.loop-number.invariant (rw vertex (all_from_find _ _ (sym c.unknown_successor.ensures ∙ c.in_default.is)))

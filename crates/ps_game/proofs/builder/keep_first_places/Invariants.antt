@@ -1,0 +1,5 @@
+use Rattle.ps_game.proofs.Distinct.{IsKept}
+use Rattle.ps_game.proofs.builder.keep_first_places.Given as goal
+
+abbrev pub invariant-loop-place : goal.invariant-loop-place
+invariant-loop-place l = IsKept l.fn.numbers l.numbers l.seen l.stamp l.place l.kept

@@ -1,0 +1,46 @@
+-- A draft of a game: the vertices as they were made, whose successors may be missing, unknown or repeated.
+use Rattle.std.specs.Prelude.{◌≡◌, ℕ, ◌<◌, ◌++◌, ◌∷◌, List, [], length, map, find, filter, not, ◌==◌, nat_le, Some, slice_set}
+use Rattle.ps_game.specs.Games.{VertexData, ParityGame, vertex_count, owner_of, priority_of, successors_of}
+use Rattle.std.specs.List.{All}
+
+-- the draft with one more vertex, which has no successor yet
+abbrev pub with_vertex : ParityGame → ℕ → ℕ → ParityGame
+with_vertex draft owner priority = draft ++ record { owner = owner; priority = priority; successors = [] } ∷ []
+
+-- the draft with one more successor, w, of the vertex v
+abbrev pub with_edge : ParityGame → ℕ → ℕ → ParityGame
+with_edge draft v w =
+    slice_set draft v (record { owner = owner_of draft v; priority = priority_of draft v; successors = successors_of draft v ++ w ∷ [] })
+
+-- the numbers of a list, each at its first place
+abbrev pub distinct : List ℕ → List ℕ
+distinct [] = []
+distinct (x ∷ xs) = x ∷ filter (λ y. not (x == y)) (distinct xs)
+
+-- a repeated successor counts once, at its first place
+abbrev pub vertex_without_repeats : VertexData → VertexData
+vertex_without_repeats v = record v { successors = distinct v.successors }
+
+abbrev pub without_repeats : ParityGame → ParityGame
+without_repeats draft = map vertex_without_repeats draft
+
+-- each vertex has a successor
+abbrev pub NoneBare : ParityGame → Type 0
+NoneBare draft = (v : ℕ) → v < vertex_count draft → 0 < length (successors_of draft v)
+
+-- v is the least vertex without an edge
+pub record IsFirstBare (draft : ParityGame) (v : ℕ) : Type 0 where
+  pub is_vertex : v < vertex_count draft
+  pub bare : successors_of draft v ≡ []
+  pub before : (u : ℕ) → u < v → 0 < length (successors_of draft u)
+
+-- each vertex has a successor, v is the least with a successor that is no vertex, and w is its first such successor
+pub record IsFirstUnknown (draft : ParityGame) (v w : ℕ) : Type 0 where
+  pub none_bare : NoneBare draft
+  pub is_vertex : v < vertex_count draft
+  pub unknown : find (λ successor. nat_le (vertex_count draft) successor) (successors_of draft v) ≡ Some w
+  pub before : (u : ℕ) → u < v → All (λ x. x < vertex_count draft) (successors_of draft u)
+
+-- each successor is a vertex
+abbrev pub NoneUnknown : ParityGame → Type 0
+NoneUnknown draft = (v : ℕ) → v < vertex_count draft → All (λ w. w < vertex_count draft) (successors_of draft v)

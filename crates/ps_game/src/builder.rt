@@ -1,0 +1,179 @@
+ghost use Rattle.std.specs.Prelude.{◌≡◌, ◌<◌, ◌≤◌, ◌+◌, ◌↔◌, ℕ, [], IfOk, OnOk, OnErr, Err, IfSome, IfNone, Some, None, length, find, nat_le, take, map};
+ghost use Rattle.std.specs.List.{All};
+ghost use Rattle.ps_game.specs.Games.{ParityGame, VertexData, IsGame, vertex_count};
+ghost use Rattle.ps_game.specs.Drafts.{with_vertex, with_edge, distinct, vertex_without_repeats, without_repeats, NoneBare, IsFirstBare, IsFirstUnknown, NoneUnknown};
+
+use crate::faults::GameFault;
+use crate::games::{Game, Vertex};
+use smallvec::SmallVec;
+use std::alloc::{AllocError, Global};
+use std::marker::Model;
+
+/// Builds a game, vertex by vertex and edge by edge, in any order.
+#[derive(Drop)]
+pub struct GameBuilder {
+    alloc: Global,
+    vertices: Vec<Vertex>,
+}
+
+impl Model for GameBuilder {
+    ghost Value = { ParityGame };
+
+    ghost view = { λ b. b.vertices.items };
+
+    ghost invariant = { λ b. All (λ v. v.owner < 2) b.vertices.items };
+}
+
+#[tactic(auto, unfolding(crate::specs::Games::vertex_count, crate::specs::Games::owner_of, crate::specs::Games::priority_of, crate::specs::Games::successors_of))]
+impl GameBuilder {
+    /// A draft without vertices.
+    pub fn new(alloc: Global) -> Self
+        ensures { result ≡ [] }
+    {
+        GameBuilder {
+            alloc,
+            vertices: Vec::new(alloc),
+        }
+    }
+
+    /// Adds a vertex of an owner, 0 or 1, and answers its number. For want of memory the draft stays as it was.
+    pub fn vertex(&mut self, owner: u8, priority: u64) -> Result<usize, AllocError>
+        requires { owner < 2 }
+        ensures number { IfOk result (λ vertex. vertex ≡ vertex_count self.old) }
+        ensures ok { OnOk result (self.new ≡ with_vertex self.old owner priority) }
+        ensures err { OnErr result (self.new ≡ self.old) }
+    {
+        let number = self.vertices.len();
+        let successors = SmallVec::new(self.alloc);
+        self.vertices.push(Vertex {
+            owner,
+            priority,
+            successors,
+        })?;
+        Ok(number)
+    }
+
+    /// Adds an edge from a vertex that was made to one that may be made later. For want of memory the draft
+    /// stays as it was.
+    pub fn edge(&mut self, vertex: usize, successor: usize) -> Result<(), AllocError>
+        requires { vertex < vertex_count self.old }
+        ensures ok { OnOk result (self.new ≡ with_edge self.old vertex successor) }
+        ensures err { OnErr result (self.new ≡ self.old) }
+    {
+        let vertex = &mut self.vertices[vertex];
+        vertex.successors.push(successor)?;
+        Ok(())
+    }
+
+    /// The game, in which a repeated successor counts once, at its first place.
+    ///
+    /// Answers `NoSuccessor` at the least vertex without an edge, and if there is none, `UnknownSuccessor` at
+    /// the least vertex with a successor that was not made, and its first such successor.
+    pub fn finish(self) -> Result<Game, GameFault>
+        ensures game { IfOk result (λ game. game ≡ without_repeats self) }
+        ensures no_successor { (v : ℕ) → (result ≡ Err (GameFault.NoSuccessor v)) ↔ IsFirstBare self v }
+        ensures unknown_successor { (v w : ℕ) → (result ≡ Err (GameFault.UnknownSuccessor v w)) ↔ IsFirstUnknown self v w }
+    {
+        let GameBuilder {
+            alloc,
+            mut vertices,
+        } = self;
+        if let Some(vertex) = first_bare(&vertices) {
+            return Err(GameFault::NoSuccessor { vertex });
+        }
+        if let Some((vertex, successor)) = first_unknown(&vertices) {
+            return Err(GameFault::UnknownSuccessor { vertex, successor });
+        }
+        let Ok(mut seen) = vec![in alloc; 0usize; vertices.len()] else {
+            return Err(GameFault::OutOfMemory);
+        };
+        drop_repeats(&mut vertices, &mut seen);
+        Ok(Game { vertices })
+    }
+}
+
+/// The least vertex without an edge.
+#[tactic(auto, unfolding(crate::specs::Games::vertex_count, crate::specs::Games::successors_of))]
+fn first_bare(vertices: &[Vertex]) -> Option<usize>
+    ensures some { IfSome result (IsFirstBare vertices.now) }
+    ensures none { IfNone result (NoneBare vertices.now) }
+{
+    for (number, vertex) in vertices.iter().enumerate() {
+        if vertex.successors.is_empty() {
+            return Some(number);
+        }
+    }
+    None
+}
+
+/// The least vertex with a successor that is no vertex, and its first such successor.
+#[tactic(auto, unfolding(crate::specs::Games::vertex_count, crate::specs::Games::successors_of))]
+fn first_unknown(vertices: &[Vertex]) -> Option<(usize, usize)>
+    requires { NoneBare vertices.now }
+    ensures some { IfSome result (λ at. IsFirstUnknown vertices.now at.0 at.1) }
+    ensures none { IfNone result (NoneUnknown vertices.now) }
+{
+    for (number, vertex) in vertices.iter().enumerate() {
+        if let Some(successor) = unknown_successor(vertex, vertices.len()) {
+            return Some((number, successor));
+        }
+    }
+    None
+}
+
+/// The first successor that is not below a number of vertices.
+fn unknown_successor(vertex: &Vertex, count: usize) -> Option<usize>
+    ensures { result ≡ find (λ successor. nat_le count successor) vertex.now.successors }
+{
+    vertex
+        .successors
+        .iter()
+        .copied()
+        .find(|successor| count <= *successor)
+}
+
+/// Drops each repeated successor, in time in proportion to the vertices and edges. `seen` has one place for each
+/// vertex, where the last vertex that led there leaves its stamp, which is its number and one.
+#[tactic(auto, unfolding(crate::specs::Games::vertex_count, crate::specs::Games::successors_of))]
+fn drop_repeats(vertices: &mut [Vertex], seen: &mut [usize])
+    requires known { NoneUnknown vertices.old }
+    requires places { length seen.old ≡ length vertices.old }
+    requires fresh { All (λ stamp. stamp < 1) seen.old }
+    ensures { vertices.new ≡ without_repeats vertices.old }
+{
+    for number in 0..vertices.len() {
+        drop_repeats_at(&mut vertices[number], seen, number + 1);
+    }
+}
+
+/// Drops each repeated successor of a vertex, whose stamp stands nowhere in `seen` yet.
+fn drop_repeats_at(vertex: &mut Vertex, seen: &mut [usize], stamp: usize)
+    requires known { All (λ successor. successor < length seen.old) vertex.old.successors }
+    requires fresh { All (λ earlier. earlier < stamp) seen.old }
+    ensures dropped { vertex.new ≡ vertex_without_repeats vertex.old }
+    ensures stamped { All (λ earlier. earlier ≤ stamp) seen.new }
+{
+    let kept = keep_first_places(&mut vertex.successors, seen, stamp);
+    vertex.successors.truncate(kept);
+}
+
+/// Moves each number that stands here for the first time to the front, in order, and answers how many they are.
+/// A number has been seen here when its place in `seen` holds the stamp.
+fn keep_first_places(numbers: &mut [usize], seen: &mut [usize], stamp: usize) -> usize
+    requires known { All (λ number. number < length seen.old) numbers.old }
+    requires fresh { All (λ earlier. earlier < stamp) seen.old }
+    ensures kept { take result numbers.new ≡ distinct numbers.old }
+    ensures within { result ≤ length numbers.old }
+    ensures stamped { All (λ earlier. earlier ≤ stamp) seen.new }
+{
+    let mut kept = 0;
+    for place in 0..numbers.len() {
+        let number = numbers[place];
+        if seen[number] != stamp {
+            seen[number] = stamp;
+            numbers[kept] = number;
+            kept += 1;
+        }
+    }
+    kept
+}
