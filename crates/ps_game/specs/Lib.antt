@@ -2,3 +2,4 @@ pub mod Drafts
 pub mod Games
 pub mod Names
 pub mod Plays
+pub mod Strategies
