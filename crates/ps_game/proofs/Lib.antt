@@ -1,3 +1,7 @@
+pub mod Beaten
 pub mod Distinct
 pub mod Finished
+pub mod Memory
+pub mod Paths
+pub mod Repeats
 pub mod Unknown

@@ -5,10 +5,12 @@ mod arenas;
 mod builder;
 mod faults;
 mod games;
+mod laws;
 mod named;
 
 pub use arenas::Arena;
 pub use builder::GameBuilder;
 pub use faults::GameFault;
 pub use games::Game;
+pub use laws::{long_path_has_loop, no_history_wins_outside, no_memory_wins_outside};
 pub use named::NamedGame;
