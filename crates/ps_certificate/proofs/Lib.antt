@@ -1,3 +1,5 @@
 pub mod Edges
 pub mod FirstFlaws
+pub mod Fitting
 pub mod Keeping
+pub mod Loops

@@ -3,8 +3,13 @@
 
 mod certificate;
 mod closing;
+mod cursor;
+mod fault;
 mod flaw;
+mod text;
 
 pub use certificate::{Certificate, Entry};
 pub use closing::closed;
+pub use fault::{CertCause, CertFault};
 pub use flaw::Flaw;
+pub use text::read;

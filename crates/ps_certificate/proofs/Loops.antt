@@ -1,0 +1,206 @@
+-- What a loop of the reader has read, and what it still reads.
+use Rattle.std.proofs.Common.{◌≡◌, ℕ, suc, ◌+◌, ◌-◌, ◌*◌, ◌^◌, ◌<◌, ◌≤◌, List, [], ◌∷◌, ◌++◌, length, get_or, drop, Option, None, Some, true, false, nat_lt, Result, Ok, Err, refl, sym, ap, ◌∙◌, append_assoc, inl, inr, ◌%◌, cond, eqb, below_more, ◌≢◌, arith}
+use Rattle.std.specs.Prelude.{◌==◌, take_while, MatchOption, slice_index}
+use Rattle.std.specs.Ordering.{nat_cmp}
+use Rattle.std.specs.List.{All, Contains, dedup}
+use Rattle.std.specs.List.Sorted.{IsPermutation, IsSorted}
+use Rattle.std.proofs.lemmas.List.Kept.{Contains-dedup_nat}
+use Rattle.std.proofs.lemmas.List.Filters.{All-dedup}
+use Rattle.std.proofs.lemmas.List.Sorted.{Contains-permutation, All-permutation}
+use Rattle.std.proofs.lemmas.Map.Keys.{IsStrictlyIncreasing-dedup}
+use Rattle.ps_game.specs.Games.{ParityGame, vertex_count, priority_of}
+use Rattle.ps_certificate.specs.Certificates.{HasPriority, ListsPriorities}
+use Rattle.ps_certificate.specs.Known.{FindsBelow}
+use Rattle.std.specs.Char.{is_ascii_digit}
+use Rattle.std.proofs.lemmas.Bool.{cases_Bool, cases_eq, eq-eqb, ne_eqb, le-ltb, lt-ltb}
+use Rattle.std.proofs.lemmas.List.Elements.{All-nil, All-cons, All-push, Contains-push, Contains-append_left}
+use Rattle.std.proofs.lemmas.List.Sums.{take_while-cons}
+use Rattle.std.proofs.lemmas.List.{append-nil, drop_more, drop_all, at_drop_all}
+use Rattle.ps_certificate.specs.declared.fault.CertFault.{CertFault}
+use Rattle.ps_certificate.specs.declared.fault.CertFault.TheVariants.{Text, OutOfMemory}
+use Rattle.ps_certificate.specs.Places.{Place}
+use Rattle.ps_certificate.specs.declared.fault.CertCause.TheVariants.{OtherGame}
+use Rattle.ps_certificate.specs.Reading.{Fault, ◌>>=◌, Fails, KnownData, comes, byte_at, number_at, exactly_at, priorities_at, counts_at, entries_at, entry_at, value_from, numeral, numeral_value}
+
+-- what was read before, and what is still read
+abbrev pub with_front : {A : Type 0} → List A → Result (List A × Place) Fault → Result (List A × Place) Fault
+with_front front read = read >>= λ x. Ok (front ++ x.0, x.1)
+
+-- a fault of the first step is a fault of the whole
+pub fails_first : {A B : Type 0} (e : CertFault) (first : Result A Fault) (next : A → Result B Fault) → Fails e first → Fails e (first >>= next)
+fails_first OutOfMemory first next h = tt
+fails_first (Text cause offset) first next h = rw h refl
+
+pub fails_same : {A : Type 0} (e : CertFault) (read total : Result A Fault) → read ≡ total → Fails e read → Fails e total
+fails_same OutOfMemory read total same h = tt
+fails_same (Text cause offset) read total same h = sym same ∙ h
+
+-- one more element was read
+pub goes_on : {A : Type 0} (front : List A) (step : Result (A × Place) Fault) (more : Place → Result (List A × Place) Fault) (a : A) (next : Place) (total : Result (List A × Place) Fault)
+    → step ≡ Ok (a, next) → with_front front (step >>= λ x. with_front (x.0 ∷ []) (more x.1)) ≡ total → with_front (front ++ a ∷ []) (more next) ≡ total
+goes_on {A} front step more a next total h so_far =
+    let one : with_front front (step >>= λ x. with_front (x.0 ∷ []) (more x.1)) ≡ with_front (front ++ a ∷ []) (more next) = rw h (regroup front a (more next)) in
+    sym one ∙ so_far
+  where
+    regroup : (front : List A) (a : A) (read : Result (List A × Place) Fault) → with_front front (with_front (a ∷ []) read) ≡ with_front (front ++ a ∷ []) read
+    regroup front a (Ok x) = ap (λ (xs : List A). Ok (xs, x.1)) (simp append_assoc)
+    regroup front a (Err f) = refl
+
+pub stops : {A : Type 0} (e : CertFault) (front : List A) (step : Result (A × Place) Fault) (more : Place → Result (List A × Place) Fault) (total : Result (List A × Place) Fault)
+    → Fails e step → with_front front (step >>= λ x. with_front (x.0 ∷ []) (more x.1)) ≡ total → Fails e total
+stops OutOfMemory front step more total h so_far = tt
+stops {A} (Text cause offset) front step more total h so_far =
+    let one : with_front front (step >>= λ x. with_front (x.0 ∷ []) (more x.1)) ≡ Err (cause, offset) = rw h refl in
+    sym so_far ∙ one
+
+pub is_done : {A : Type 0} (front : List A) (place : Place) (total : Result (List A × Place) Fault) → with_front front (Ok ([], place)) ≡ total → total ≡ Ok (front, place)
+is_done {A} front place total so_far = sym so_far ∙ ap (λ (xs : List A). Ok (xs, place)) (append-nil front)
+
+-- ---- a line of priorities
+
+pub priority_missing : (ps : List ℕ) (i : ℕ) (place : Place) → i < length ps → comes 10 place.rest ≡ true → priorities_at (drop i ps) place ≡ Err (OtherGame, place.at)
+unfolding priorities_at
+priority_missing ps i place lt e = rw (drop_more ps i 0 lt, e) refl
+
+pub priority_next : (ps : List ℕ) (i : ℕ) (place : Place) → i < length ps → comes 10 place.rest ≡ false
+    → priorities_at (drop i ps) place ≡ (byte_at 32 place >>= λ next. exactly_at (get_or ps i 0) next >>= λ found. priorities_at (drop (i + 1) ps) found)
+unfolding priorities_at
+priority_next ps i place lt e = rw (drop_more ps i 0 lt, e) refl
+
+-- ---- counts
+
+-- a count behind a space
+abbrev pub count_at : Place → Result (ℕ × Place) Fault
+count_at place = byte_at 32 place >>= number_at
+
+pub count_next : (n i : ℕ) (place : Place) → i < n
+    → counts_at (n - i) place ≡ (count_at place >>= λ x. with_front (x.0 ∷ []) (counts_at (n - (i + 1)) x.1))
+unfolding counts_at
+count_next n i place lt = let k : n - i ≡ suc (n - (i + 1)) = omega arith in rw k (in_two (byte_at 32 place))
+  where
+    in_two : (first : Result Place Fault)
+        → (first >>= λ next. number_at next >>= λ count. with_front (count.0 ∷ []) (counts_at (n - (i + 1)) count.1))
+        ≡ ((first >>= number_at) >>= λ x. with_front (x.0 ∷ []) (counts_at (n - (i + 1)) x.1))
+    in_two (Ok place) = refl
+    in_two (Err f) = refl
+
+pub no_count : (n i : ℕ) (place : Place) → n ≤ i → counts_at (n - i) place ≡ Ok ([], place)
+unfolding counts_at
+no_count n i place le = let k : n - i ≡ 0 = omega arith in rw k refl
+
+-- ---- the lines of the vertices
+
+pub entry_next : (known : KnownData) (ids : List ℕ) (i : ℕ) (place : Place) → i < length ids
+    → entries_at known (drop i ids) place ≡ (entry_at known (get_or ids i 0) place >>= λ entry. with_front (entry.0 ∷ []) (entries_at known (drop (i + 1) ids) entry.1))
+unfolding entries_at
+entry_next known ids i place lt = rw (drop_more ids i 0 lt) refl
+
+pub no_entry_left : (known : KnownData) (ids : List ℕ) (i : ℕ) (place : Place) → length ids ≤ i → entries_at known (drop i ids) place ≡ Ok ([], place)
+unfolding entries_at
+no_entry_left known ids i place le = rw (drop_all i ids le) refl
+
+-- ---- the number of a run of digits
+
+pub value_from-ge : (n : ℕ) (digits : List ℕ) → n ≤ value_from n digits
+value_from-ge n [] = omega arith
+value_from-ge n (d ∷ digits) = omega (arith, value_from-ge (n * 10 + (d - 48)) digits)
+
+-- one digit more
+pub value_next : (n : ℕ) (digits : List ℕ) (i : ℕ) → i < length digits → value_from n (drop i digits) ≡ value_from (n * 10 + (get_or digits i 0 - 48)) (drop (i + 1) digits)
+value_next n digits i lt = rw (drop_more digits i 0 lt) refl
+
+pub value_is_none : (digits : List ℕ) → 2 ^ 64 ≤ value_from 0 digits → numeral_value digits ≡ None
+value_is_none [] le = refl
+value_is_none (d ∷ digits) le = let e : nat_lt (value_from 0 (d ∷ digits)) (2 ^ 64) ≡ false = le-ltb _ _ le in rw e refl
+
+pub value_is_some : (digits : List ℕ) → 0 < length digits → value_from 0 digits < 2 ^ 64 → numeral_value digits ≡ Some (value_from 0 digits)
+value_is_some [] long lt = absurd (omega arith)
+value_is_some (d ∷ digits) long lt = let e : nat_lt (value_from 0 (d ∷ digits)) (2 ^ 64) ≡ true = lt-ltb _ _ lt in rw e refl
+
+pub overflows : (digits : List ℕ) (v i : ℕ) → i < length digits → value_from v (drop i digits) ≡ value_from 0 digits → 2 ^ 64 ≤ v * 10 + (get_or digits i 0 - 48) → numeral_value digits ≡ None
+overflows digits v i lt same le =
+    value_is_none digits (omega (arith, value_next v digits i lt, same, value_from-ge (v * 10 + (get_or digits i 0 - 48)) (drop (i + 1) digits)))
+
+pub value_is_whole : (digits : List ℕ) (v i : ℕ) → length digits ≤ i → value_from v (drop i digits) ≡ value_from 0 digits → v ≡ value_from 0 digits
+value_is_whole digits v i le same = sym (at_drop_all (value_from v) digits i le) ∙ same
+
+pub not_empty : (digits : List ℕ) → false ≡ (length digits == 0) → 0 < length digits
+not_empty [] e = absurd cc
+not_empty (d ∷ digits) e = omega arith
+
+digit_low : (b : ℕ) → is_ascii_digit b ≡ true → 48 ≤ b
+digit_low b so = grind arith
+
+-- each digit of a numeral is one
+pub digits-take_while : (bytes : List ℕ) → All (λ d. 48 ≤ d) (take_while is_ascii_digit bytes)
+digits-take_while [] = All-nil (λ d. 48 ≤ d)
+digits-take_while (b ∷ bytes) = rw take_while-cons
+    (elim (cases_Bool (is_ascii_digit b)) [
+      | inl so ↦ rw so (All-cons (λ d. 48 ≤ d) b (take_while is_ascii_digit bytes) (digit_low b so) (digits-take_while bytes))
+      | inr other ↦ rw other (All-nil (λ d. 48 ≤ d))
+    ])
+
+pub numeral_digits : (bytes : List ℕ) → All (λ d. 48 ≤ d) (numeral bytes)
+numeral_digits bytes = elim (cases_Bool (comes 48 bytes)) [
+  | inl so ↦ rw so (All-cons (λ d. 48 ≤ d) 48 [] (omega arith) (All-nil (λ d. 48 ≤ d)))
+  | inr other ↦ rw other (digits-take_while bytes)
+]
+
+-- ---- vertices by their ids
+
+pub finds_more : (i : ℕ) (ids : List ℕ) (key : ℕ) (old new : ℕ → Option ℕ) → slice_index ids i ≡ key → ((q : ℕ) → new q ≡ cond (eqb key q) (Some i) (old q)) → FindsBelow i ids old → FindsBelow (i + 1) ids new
+finds_more i ids key old new here updated so_far q = elim (cases_eq key q) [
+  | inl same ↦
+      let e : new q ≡ Some i = updated q ∙ ap (λ b. cond b (Some i) (old q)) (eq-eqb key q same) in
+      rw e (omega arith, here ∙ same)
+  | inr apart ↦
+      let e : new q ≡ old q = updated q ∙ ap (λ b. cond b (Some i) (old q)) (ne_eqb key q apart) in
+      rw e (widened (old q) (so_far q) apart)
+]
+  where
+    widened : (o : Option ℕ) → MatchOption o ((v : ℕ) → v < i → slice_index ids v ≢ q) (λ v. (v < i) × (slice_index ids v ≡ q)) → (key ≡ q → ⊥)
+        → MatchOption o ((v : ℕ) → v < i + 1 → slice_index ids v ≢ q) (λ v. (v < i + 1) × (slice_index ids v ≡ q))
+    widened None h apart = below_more (λ v. slice_index ids v ≢ q) i h (λ e. apart (sym here ∙ e))
+    widened (Some v) h apart = (omega arith, h.1)
+
+-- ---- the priorities of a game
+
+-- the list has the priorities of one parity of the vertices below n
+pub record ListsBelow (game : ParityGame) (parity n : ℕ) (list : List ℕ) : Type 0 where
+  pub complete : (v : ℕ) → v < n → priority_of game v % 2 ≡ parity → Contains list (priority_of game v)
+  pub right_parity : All (λ p. p % 2 ≡ parity) list
+  pub present : All (HasPriority game) list
+
+pub lists_none : (game : ParityGame) (parity : ℕ) (list : List ℕ) → list ≡ [] → ListsBelow game parity 0 list
+lists_none game parity list e = rw e (record {
+  complete = λ v lt. absurd (omega arith);
+  right_parity = All-nil (λ p. p % 2 ≡ parity);
+  present = All-nil (HasPriority game);
+})
+
+pub lists_push : (game : ParityGame) (parity n : ℕ) (list : List ℕ) → n < vertex_count game → priority_of game n % 2 ≡ parity → ListsBelow game parity n list
+    → ListsBelow game parity (n + 1) (list ++ priority_of game n ∷ [])
+lists_push game parity n list lt right so_far = record {
+  complete = below_more (λ v. priority_of game v % 2 ≡ parity → Contains (list ++ priority_of game n ∷ []) (priority_of game v)) n
+      (λ v below h. Contains-append_left list (priority_of game n ∷ []) (priority_of game v) (so_far.complete v below h))
+      (λ h. Contains-push list (priority_of game n));
+  right_parity = All-push (λ p. p % 2 ≡ parity) list (priority_of game n) so_far.right_parity right;
+  present = All-push (HasPriority game) list (priority_of game n) so_far.present (n, lt, refl);
+}
+
+pub lists_skip : (game : ParityGame) (parity n : ℕ) (list : List ℕ) → (priority_of game n % 2 ≡ parity → ⊥) → ListsBelow game parity n list → ListsBelow game parity (n + 1) list
+lists_skip game parity n list wrong so_far = record {
+  complete = below_more (λ v. priority_of game v % 2 ≡ parity → Contains list (priority_of game v)) n so_far.complete (λ h. absurd (wrong h));
+  right_parity = so_far.right_parity;
+  present = so_far.present;
+}
+
+pub lists_from : (game : ParityGame) (parity : ℕ) (all sorted kept : List ℕ)
+    → ((v : ℕ) → v < vertex_count game → priority_of game v % 2 ≡ parity → Contains all (priority_of game v)) → All (λ p. p % 2 ≡ parity) all → All (HasPriority game) all
+    → IsPermutation all sorted → IsSorted nat_cmp sorted → kept ≡ dedup eqb sorted → ListsPriorities game parity kept
+lists_from game parity all sorted kept complete right present moved order e = rw e (record {
+  rising = IsStrictlyIncreasing-dedup sorted order;
+  complete = λ v lt h. Contains-dedup_nat sorted (priority_of game v) (Contains-permutation all sorted (priority_of game v) moved (complete v lt h));
+  right_parity = All-dedup eqb (λ p. p % 2 ≡ parity) sorted (All-permutation (λ p. p % 2 ≡ parity) all sorted moved right);
+  present = All-dedup eqb (HasPriority game) sorted (All-permutation (HasPriority game) all sorted moved present);
+})

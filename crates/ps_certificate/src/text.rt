@@ -1,0 +1,144 @@
+//! Reading the text of a certificate.
+
+ghost use Rattle.std.specs.Prelude.{◌≡◌, ◌<◌, length, map, nat_eq, IfOk, IfErr};
+ghost use Rattle.indexmap.specs.IndexMap.{get};
+ghost use Rattle.ps_game.specs.Games.{ParityGame, vertex_count};
+ghost use Rattle.ps_certificate.specs.Certificates.{Fits, ListsPriorities};
+ghost use Rattle.ps_certificate.specs.Reading.{Gives, Moves, Tells, head_at, entry_at, entries_at, entries_of as entries_of_text};
+ghost use Rattle.ps_certificate.specs.Known.{known_data, FindsVertices};
+
+use crate::certificate::{Certificate, Entry};
+use crate::cursor::Cursor;
+use crate::fault::{CertCause, CertFault};
+use indexmap::IndexMap;
+use ps_game::{Arena, Game, NamedGame};
+use std::alloc::{AllocError, Global};
+
+/// What is known of a game before the text is read.
+#[derive(Drop)]
+struct Known {
+    /// The odd priorities, rising.
+    odd: Vec<u64>,
+    /// The even priorities, rising.
+    even: Vec<u64>,
+    /// The vertex that has an id.
+    vertices: IndexMap<u64, usize>,
+}
+
+/// The priorities of a parity that a game has, rising.
+fn priorities_of(alloc: Global, game: &Game, parity: u64) -> Result<Vec<u64>, AllocError>
+    ensures { IfOk result (λ v. ListsPriorities game.now parity v.items) }
+{
+    let mut priorities = Vec::new(alloc);
+    for vertex in 0..game.count() {
+        let priority = game.priority(vertex);
+        if priority % 2 == parity {
+            priorities.push(priority)?;
+        }
+    }
+    priorities.sort_unstable();
+    priorities.dedup();
+    Ok(priorities)
+}
+
+/// The vertices of a game by their ids.
+fn vertices_of(alloc: Global, game: &NamedGame) -> Result<IndexMap<u64, usize>, CertFault>
+    ensures { IfOk result (λ m. FindsVertices game.now.ids (λ id. get nat_eq m id)) }
+{
+    let mut vertices = IndexMap::new(alloc);
+    for vertex in 0..game.game().count() {
+        vertices.insert(game.id(vertex), vertex)?;
+    }
+    Ok(vertices)
+}
+
+/// Goes behind the lines that stand before those of the vertices.
+#[tactic(auto, unfolding(crate::specs::Reading::head_at))]
+fn head(cursor: &mut Cursor, known: &Known, count: usize) -> Result<(), CertFault>
+    ensures { Moves result cursor.new (head_at (known_data known.now) count cursor.old) }
+{
+    cursor.word(b"psyncert 1\nvertices ")?;
+    cursor.exactly(count as u64)?;
+    cursor.word(b"\nodd")?;
+    cursor.priorities(&known.odd)?;
+    cursor.word(b"even")?;
+    cursor.priorities(&known.even)
+}
+
+/// The entry of the vertex with an id, from its line.
+#[tactic(auto, unfolding(crate::specs::Reading::entry_at))]
+fn entry(alloc: Global, cursor: &mut Cursor, known: &Known, id: u64) -> Result<Entry, CertFault>
+    ensures { Gives (λ e. e) result cursor.new (entry_at (known_data known.now) id cursor.old) }
+{
+    cursor.exactly(id)?;
+    cursor.byte(b' ')?;
+    let winner = cursor.winner()?;
+    cursor.byte(b' ')?;
+    let choice = cursor.choice(&known.vertices)?;
+    let count = if winner == 0 {
+        known.odd.len()
+    } else {
+        known.even.len()
+    };
+    let counts = cursor.counts(alloc, count)?;
+    cursor.byte(b'\n')?;
+    Ok(Entry {
+        winner,
+        choice,
+        counts,
+    })
+}
+
+/// The entries of all vertices, a line each.
+fn entries(
+    alloc: Global,
+    cursor: &mut Cursor,
+    known: &Known,
+    game: &NamedGame,
+) -> Result<Vec<Entry>, CertFault>
+    ensures { Gives (λ v. v.items) result cursor.new (entries_at (known_data known.now) game.now.ids cursor.old) }
+{
+    let mut entries = Vec::new(alloc);
+    for vertex in 0..game.game().count() {
+        entries.push(entry(alloc, cursor, known, game.id(vertex))?)?;
+    }
+    Ok(entries)
+}
+
+/// The entries of a text from its first to its last byte.
+#[tactic(auto, unfolding(crate::specs::Reading::entries_of))]
+fn entries_of(
+    alloc: Global,
+    text: &[u8],
+    known: &Known,
+    game: &NamedGame,
+) -> Result<Vec<Entry>, CertFault>
+    ensures { Tells (λ v. v.items) result (entries_of_text (known_data known.now) game.now.ids text.now) }
+{
+    let mut cursor = Cursor::new(text);
+    head(&mut cursor, known, game.game().count())?;
+    let entries = entries(alloc, &mut cursor, known, game)?;
+    if cursor.is_at_end() {
+        Ok(entries)
+    } else {
+        Err(cursor.fault(CertCause::Syntax))
+    }
+}
+
+/// Reads the text of a certificate of a game.
+pub fn read(alloc: Global, text: &[u8], game: &NamedGame) -> Result<Certificate, CertFault>
+    ensures fits { IfOk result (Fits game.now.game) }
+{
+    let known = Known {
+        odd: priorities_of(alloc, game.game(), 1)?,
+        even: priorities_of(alloc, game.game(), 0)?,
+        vertices: vertices_of(alloc, game)?,
+    };
+    let entries = entries_of(alloc, text, &known, game)?;
+    let Known {
+        odd,
+        even,
+        vertices: _,
+    } = known;
+    Ok(Certificate { odd, even, entries })
+}
