@@ -4,3 +4,8 @@ pub mod Laws
 pub mod Joined
 pub mod Simple
 pub mod Meeting
+pub mod Covered
+pub mod Repeated
+pub mod Whole
+pub mod Branches
+pub mod Barred
