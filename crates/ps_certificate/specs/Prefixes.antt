@@ -1,10 +1,11 @@
 -- What the checks have found so far. The public contracts speak of `IsClosed`, `IsValid` and
 -- `IsFirstFlaw`; these are the facts on the way.
-use Rattle.std.specs.Prelude.{◌≡◌, ◌≢◌, ℕ, ◌⊎◌}
-use Rattle.ps_game.specs.Games.{ParityGame, successors_of}
+use Rattle.std.specs.Prelude.{◌≡◌, ◌≢◌, ℕ, ◌%◌, ◌<◌, ◌⊎◌, List, length, IfSome, slice_index}
+use Rattle.std.specs.List.{Contains}
+use Rattle.ps_game.specs.Games.{ParityGame, vertex_count, priority_of, successors_of}
 use Rattle.ps_certificate.specs.declared.flaw.Flaw.{Flaw}
 use Rattle.ps_certificate.specs.declared.flaw.Flaw.TheVariants.{Move, Escape, Rank}
-use Rattle.ps_certificate.specs.Certificates.{CertificateData, Remains, HasRightMove, IsFlaw, Precedes, StandsBefore, winner_of}
+use Rattle.ps_certificate.specs.Certificates.{CertificateData, Remains, HasRightMove, IsFlaw, Precedes, StandsBefore, winner_of, choice_of, counts_of, opposing}
 
 -- each edge of a vertex that remains stays with the winner
 abbrev pub StaysInside : ParityGame → CertificateData → ℕ → Type 0
@@ -42,3 +43,18 @@ pub record IsFirstFlawAt (game : ParityGame) (certificate : CertificateData) (st
   pub at_stage : stage_of flaw ≡ stage
   pub at_vertex : vertex_of flaw ≡ v
   pub first : (other : Flaw) → IsFlaw game certificate other → stage_of other ≡ stage → vertex_of other ≡ v → (flaw ≡ other) ⊎ Precedes game flaw other
+
+-- a list has the priority of each vertex of one parity
+abbrev pub IsComplete : ParityGame → ℕ → List ℕ → Type 0
+IsComplete game parity list = (v : ℕ) → v < vertex_count game → priority_of game v % 2 ≡ parity → Contains list (priority_of game v)
+
+-- the entry of a vertex fits a game of so many vertices
+pub record EntryFits (vertices : ℕ) (certificate : CertificateData) (v : ℕ) : Type 0 where
+  pub winner : winner_of certificate v < 2
+  pub choice : IfSome (choice_of certificate v) (λ w. w < vertices)
+  pub count_each : length (counts_of certificate v) ≡ length (opposing certificate (winner_of certificate v))
+
+-- a number stands at a place of a list
+pub record IsAt (list : List ℕ) (number place : ℕ) : Type 0 where
+  pub within : place < length list
+  pub is : slice_index list place ≡ number

@@ -1,0 +1,13 @@
+use Rattle.std.proofs.Common.{ℕ, ◌-◌, ◌<◌, ◌≤◌, length, get_or}
+use Rattle.ps_certificate.specs.Certificates.{HasPriority}
+use Rattle.ps_certificate.proofs.fitted.all_present.Given as goal
+
+-- each number before the start is the priority of some vertex
+abbrev pub invariant-loop-start : goal.invariant-loop-start
+invariant-loop-start g l = record {
+  within : l.start ≤ length l.list;
+  present : (k : ℕ) → k < l.start → HasPriority (g.A.Arena.game l.arena) (get_or l.list k 0);
+}
+
+abbrev pub decreases-loop-start : goal.decreases-loop-start
+decreases-loop-start g l = length l.list - l.start

@@ -1,0 +1,115 @@
+//! Whether a certificate has the form that a game asks for.
+
+ghost use Rattle.std.specs.Prelude.{◌≡◌, ℕ, ◌+◌, ◌%◌, ◌<◌, ◌≤◌, ◌↔◌, IsTrue, length};
+ghost use Rattle.std.specs.List.{All};
+ghost use Rattle.std.specs.List.Sorted.{IsStrictlyIncreasing};
+ghost use Rattle.ps_game.specs.Games.{vertex_count};
+ghost use Rattle.ps_certificate.specs.Certificates.{HasPriority, ListsPriorities, Fits};
+ghost use Rattle.ps_certificate.specs.Prefixes.{IsComplete, EntryFits};
+
+use crate::certificate::Certificate;
+use crate::rising::{is_rising, place_of};
+use ps_game::Arena;
+
+/// How many listed priorities are looked for in one pass over the vertices.
+const WINDOW: usize = 1024;
+
+/// Whether a rising list has the priority of each vertex of one parity.
+fn is_complete<A: Arena>(arena: &A, parity: u64, list: &[u64]) -> bool
+    requires { IsStrictlyIncreasing list.now }
+    ensures { IsTrue result ↔ IsComplete (A.game arena.now) parity list.now }
+{
+    for vertex in 0..arena.count() {
+        let priority = arena.priority(vertex);
+        if priority % 2 == parity && place_of(list, priority).is_none() {
+            return false;
+        }
+    }
+    true
+}
+
+/// Whether each number of a short rising list is the priority of some vertex. One pass over the
+/// vertices, with a search of the list at each.
+fn window_present<A: Arena>(arena: &A, window: &[u64]) -> bool
+    requires rising { IsStrictlyIncreasing window.now }
+    requires short { length window.now ≤ 1024 }
+    ensures { IsTrue result ↔ All (HasPriority (A.game arena.now)) window.now }
+{
+    let mut seen = [false; WINDOW];
+    for vertex in 0..arena.count() {
+        if let Some(place) = place_of(window, arena.priority(vertex)) {
+            seen[place] = true;
+        }
+    }
+    for place in 0..window.len() {
+        if !seen[place] {
+            return false;
+        }
+    }
+    true
+}
+
+/// Whether each number of a rising list is the priority of some vertex. Without memory that grows
+/// this takes one pass over the vertices for each 1024 numbers.
+fn all_present<A: Arena>(arena: &A, list: &[u64]) -> bool
+    requires { IsStrictlyIncreasing list.now }
+    ensures { IsTrue result ↔ All (HasPriority (A.game arena.now)) list.now }
+{
+    let mut start = 0;
+    while start < list.len() {
+        let end = list.len().min(start + WINDOW);
+        if !window_present(arena, &list[start..end]) {
+            return false;
+        }
+        start = end;
+    }
+    true
+}
+
+/// Whether a list has just the priorities of one parity that the game has, rising.
+fn lists_priorities<A: Arena>(arena: &A, parity: u64, list: &[u64]) -> bool
+    ensures { IsTrue result ↔ ListsPriorities (A.game arena.now) parity list.now }
+{
+    if !is_rising(list) {
+        return false;
+    }
+    if !list.iter().all(|priority| *priority % 2 == parity) {
+        return false;
+    }
+    is_complete(arena, parity, list) && all_present(arena, list)
+}
+
+/// Whether the entry of a vertex has a winner 0 or 1, a vertex or none as its move, and one count for
+/// each priority by which the winner loses.
+fn entry_fits(certificate: &Certificate, vertices: usize, vertex: usize) -> bool
+    requires { vertex < length certificate.now.entries }
+    ensures { IsTrue result ↔ EntryFits vertices certificate.now vertex }
+{
+    let winner = certificate.winner(vertex);
+    if winner > 1 || certificate.counts(vertex).len() != certificate.opposing(winner).len() {
+        return false;
+    }
+    match certificate.choice(vertex) {
+        Some(choice) => choice < vertices,
+        None => true,
+    }
+}
+
+/// Whether a certificate fits a game: it has one entry for each vertex, winners 0 or 1, moves that are
+/// vertices, just the priorities that the game has, rising, and one count for each priority by which
+/// the winner loses. Takes no memory.
+pub fn fits<A: Arena>(arena: &A, certificate: &Certificate) -> bool
+    ensures { IsTrue result ↔ Fits (A.game arena.now) certificate.now }
+{
+    let vertices = arena.count();
+    if certificate.entries.len() != vertices {
+        return false;
+    }
+    for vertex in 0..vertices {
+        if !entry_fits(certificate, vertices, vertex) {
+            return false;
+        }
+    }
+    lists_priorities(arena, 1, certificate.odd.as_slice())
+        && lists_priorities(arena, 0, certificate.even.as_slice())
+}
