@@ -7,17 +7,13 @@
 --     shrinks      a part that takes a sign leaves fewer pieces: the measure of a loop
 use Rattle.std.proofs.Common.{◌≡◌, ℕ, zero, suc, ◌+◌, ◌-◌, ◌<◌, List, [], ◌∷◌, ◌++◌, length, Option, Some, Result, Ok, Err, sym, ap, subst, inl, inr, ◌∙◌, arith, length-append}
 use Rattle.std.proofs.lemmas.List.{length-map}
-use Rattle.ps_text.specs.Answers.{Stream, Found, first_of, signs}
+use Rattle.ps_text.specs.Answers.{Stream, Found, signs, next_of}
 use Rattle.ps_text.specs.Parts.{Part, Causes, IsRead, IsBroken, either, times, many}
 use Rattle.ps_text.specs.Readers.{Meets, Carries}
 use Rattle.ps_text.proofs.Laws.{Laws, Apart}
 use Rattle.ps_text.proofs.Meeting.{stops_as, then_meets, then_fails, meets_give, suffix_refl}
 use Rattle.ps_text.proofs.Covered.{Covers, Enters, Avoids, enters_broken, enters_read, enters_then, read_as, fault_as, covers_left, covers_right}
 use Rattle.ps_text.proofs.Repeated.{more_items, covers_item, joint_many, joint_times, read_none}
-
--- the sign that comes next
-abbrev pub next_of : {T : Type 0} → Stream T → Option T
-next_of s = first_of (signs s.pieces)
 
 pub enters_first : {T V F : Type 0} {odd : T → Type 0} {P : Part T V F} {First More : T → Type 0} {Null : Type 0} → Laws odd P First More Null →
     (there : Option T) → Enters P there → (t : T) → there ≡ Some t → First t

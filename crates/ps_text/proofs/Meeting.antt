@@ -3,15 +3,16 @@
 --               for calls one behind another. j is the `Joint` of the two
 --     then_fails j m      the first call failed: so did the function
 --     meets_one, meets_bad, meets_refused, meets_ended      a sign was taken; it is bad; it can't stand there; there is none
+--     meets_refusal      the last two at once, for a function that answers `refusal_at`
 --     meets_give      nothing was taken
 --     meets_mapped      the value is seen by another function
 --     exits m c      at the exit of a `?`: what `m` says of the error that was met, it says of the result, c being the facts of the conversion
 --     carries_start, carries_then      the invariant of a loop, before it and behind a call
 use Rattle.std.proofs.Common.{◌≡◌, ◌≤◌, List, [], ◌∷◌, ◌++◌, Option, None, Some, Result, Ok, Err, IsErrAnd, refl, sym, ap, subst, ◌∙◌, append_assoc}
 use Rattle.std.proofs.lemmas.Result.{err_from_is_err_and}
-use Rattle.ps_text.specs.Answers.{Piece, Stream, Found, signs, offset_of}
+use Rattle.ps_text.specs.Answers.{Piece, Stream, Found, first_of, next_of, signs, offset_of}
 use Rattle.ps_text.specs.Parts.{Part, Causes, IsRead, IsFault, give, one, then_by, mapped, refusal_of}
-use Rattle.ps_text.specs.Readers.{IsSuffix, StopsWith, Stops, Meets, Carries}
+use Rattle.ps_text.specs.Readers.{refusal_at, IsSuffix, StopsWith, Stops, Meets, Carries}
 use Rattle.ps_text.proofs.Laws.{Joint}
 use Rattle.ps_text.proofs.Joined.{read_then, fault_left, fault_right}
 use Rattle.ps_text.proofs.Simple.{read_give, read_one, bad_one, refused_one, ended_one, read_mapped, fault_mapped}
@@ -98,6 +99,16 @@ module _ {T F E : Type 0} (found : E → Option (Found F)) (causes : Causes T F)
         Meets found causes view (one take Bad) old (Err e) new
     meets_ended s w y e x t = ends_with view (one take Bad) old new e _ t
         (record { front = []; rest = []; split = x; fault = subst (λ z. IsFault causes (one take Bad) (signs z) causes.syntax []) (sym x) (ended_one take Bad causes s w y); offset = refl })
+
+    -- the next sign can't stand there, or there is none
+    pub meets_refusal : (s : T) (w : V) → take s ≡ Some w → ((t : T) → next_of old ≡ Some t → take t ≡ None) → ((t : T) (f : F) → next_of old ≡ Some t → Bad t f → ⊥) →
+        (e : E) → found e ≡ Some (refusal_at causes old) → Meets found causes view (one take Bad) old (Err e) new
+    meets_refusal s w y none good e t = go old.pieces refl
+      where
+        go : (ps : List (Piece T)) → old.pieces ≡ ps → Meets found causes view (one take Bad) old (Err e) new
+        go [] x = meets_ended s w y e x (t ∙ ap (λ z. Some (record { cause = refusal_of causes (first_of (signs z)); offset = offset_of z old.end })) x)
+        go (p ∷ ps) x = meets_refused s w y p ps e x (none p.sign (ap (λ z. first_of (signs z)) x)) (λ f b. good p.sign f (ap (λ z. first_of (signs z)) x) b)
+            (t ∙ ap (λ z. Some (record { cause = refusal_of causes (first_of (signs z)); offset = offset_of z old.end })) x)
 
   -- ## The exit of a `?`, and loops
 

@@ -36,6 +36,10 @@ abbrev pub first_of : {T : Type 0} → List T → Option T
 first_of [] = None
 first_of (t ∷ ts) = Some t
 
+-- the sign that comes next
+abbrev pub next_of : {T : Type 0} → Stream T → Option T
+next_of stream = first_of (signs stream.pieces)
+
 -- the offset of the next piece, or of the end
 abbrev pub offset_of : {T : Type 0} → List (Piece T) → ℕ → ℕ
 offset_of [] end = end
