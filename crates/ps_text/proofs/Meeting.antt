@@ -3,6 +3,7 @@
 --               for calls one behind another. j is the `Joint` of the two
 --     then_fails j m      the first call failed: so did the function
 --     meets_one, meets_bad, meets_refused, meets_ended      a sign was taken; it is bad; it can't stand there; there is none
+--     meets_next, meets_bad_next      the first two by the next sign, for a function that answers `tail`
 --     meets_refusal      the last two at once, for a function that answers `refusal_at`
 --     meets_give      nothing was taken
 --     meets_mapped      the value is seen by another function
@@ -12,10 +13,10 @@ use Rattle.std.proofs.Common.{◌≡◌, ◌≤◌, List, [], ◌∷◌, ◌++�
 use Rattle.std.proofs.lemmas.Result.{err_from_is_err_and}
 use Rattle.ps_text.specs.Answers.{Piece, Stream, Found, first_of, next_of, signs, offset_of}
 use Rattle.ps_text.specs.Parts.{Part, Causes, IsRead, IsFault, give, one, then_by, mapped, refusal_of}
-use Rattle.ps_text.specs.Readers.{refusal_at, IsSuffix, StopsWith, Stops, Meets, Carries}
+use Rattle.ps_text.specs.Readers.{tail, tail_of, refusal_at, IsSuffix, StopsWith, Stops, Meets, Carries}
 use Rattle.ps_text.proofs.Laws.{Joint}
 use Rattle.ps_text.proofs.Joined.{read_then, fault_left, fault_right}
-use Rattle.ps_text.proofs.Simple.{read_give, read_one, bad_one, refused_one, ended_one, read_mapped, fault_mapped}
+use Rattle.ps_text.proofs.Simple.{none_is_some, same_some, read_give, read_one, bad_one, refused_one, ended_one, read_mapped, fault_mapped}
 
 pub suffix_refl : {T : Type 0} (s : Stream T) → IsSuffix s s
 suffix_refl s = record { taken = []; split = refl; end = refl }
@@ -26,6 +27,14 @@ suffix_trans a b c x y = record {
   split = x.split ∙ ap (λ z. x.taken ++ z) y.split ∙ sym (append_assoc x.taken y.taken c.pieces);
   end = y.end ∙ x.end;
 }
+
+-- the next piece
+pub piece_next : {T : Type 0} (s : Stream T) (t : T) → next_of s ≡ Some t → (p : Piece T) × (s.pieces ≡ p ∷ (tail s).pieces) × (p.sign ≡ t)
+piece_next {T} s t e = go s.pieces e
+  where
+    go : (ps : List (Piece T)) → first_of (signs ps) ≡ Some t → (p : Piece T) × (ps ≡ p ∷ tail_of ps) × (p.sign ≡ t)
+    go [] e = absurd (none_is_some t e)
+    go (p ∷ ps) e = (p, refl, same_some p.sign t e)
 
 -- what is a fault of P is one of Q
 pub stops_as : {T A B F : Type 0} (causes : Causes T F) (P : Part T A F) (Q : Part T B F) (old : Stream T) →
@@ -109,6 +118,17 @@ module _ {T F E : Type 0} (found : E → Option (Found F)) (causes : Causes T F)
         go [] x = meets_ended s w y e x (t ∙ ap (λ z. Some (record { cause = refusal_of causes (first_of (signs z)); offset = offset_of z old.end })) x)
         go (p ∷ ps) x = meets_refused s w y p ps e x (none p.sign (ap (λ z. first_of (signs z)) x)) (λ f b. good p.sign f (ap (λ z. first_of (signs z)) x) b)
             (t ∙ ap (λ z. Some (record { cause = refusal_of causes (first_of (signs z)); offset = offset_of z old.end })) x)
+
+    -- the next sign is taken, or is bad
+    pub meets_next : (t : T) (x : X) → next_of old ≡ Some t → new ≡ tail old → take t ≡ Some (view x) → ((f : F) → Bad t f → ⊥) → Meets found causes view (one take Bad) old (Ok x) new
+    meets_next t x n z k good = let p = piece_next old t n in
+        meets_one p.0 x (p.1 ∙ ap (λ s. p.0 ∷ s.pieces) (sym z)) (ap (λ s. s.end) z) (ap take p.2 ∙ k) (λ f b. good f (subst (λ u. Bad u f) p.2 b))
+
+    pub meets_bad_next : (t : T) (f : F) (e : E) → next_of old ≡ Some t → Bad t f → ((g : F) → Bad t g → causes.number f ≤ causes.number g) →
+        found e ≡ Some (record { cause = f; offset = offset_of old.pieces old.end }) → Meets found causes view (one take Bad) old (Err e) new
+    meets_bad_next t f e n b least k = let p = piece_next old t n in
+        meets_bad p.0 (tail old).pieces f e p.1 (subst (λ u. Bad u f) (sym p.2) b) (λ g c. least g (subst (λ u. Bad u g) p.2 c))
+        (k ∙ ap (λ ps. Some (record { cause = f; offset = offset_of ps old.end })) p.1)
 
   -- ## The exit of a `?`, and loops
 

@@ -2,12 +2,21 @@
 -- `new` are the pieces still to come as the function begins and as it returns, the Model of the code's tokens.
 --     Meets found causes view part old result new      the function's contract, where `view` is what the grammar sees of its
 --               value and `found` is what an error says of the text: nothing, where memory ran out
+--     tail stream      what is left behind the next piece
 --     refusal_at causes stream      the cause where the grammar does not allow what comes next, and where that stands
 --     Carries found causes view whole start rest now      for a loop: what reading rest from now on gives, reading whole from
 --               start gives
-use Rattle.std.specs.Prelude.{◌≡◌, List, ◌++◌, Option, None, Some, Result, Ok, Err}
+use Rattle.std.specs.Prelude.{◌≡◌, List, [], ◌∷◌, ◌++◌, Option, None, Some, Result, Ok, Err}
 use Rattle.ps_text.specs.Answers.{Piece, Stream, Found, signs, next_of, offset_of}
 use Rattle.ps_text.specs.Parts.{Part, Causes, IsRead, IsFault, refusal_of}
+
+-- what is left behind the next piece
+abbrev pub tail_of : {T : Type 0} → List (Piece T) → List (Piece T)
+tail_of [] = []
+tail_of (p ∷ ps) = ps
+
+abbrev pub tail : {T : Type 0} → Stream T → Stream T
+tail stream = record { pieces = tail_of stream.pieces; end = stream.end }
 
 abbrev pub refusal_at : {T F : Type 0} → Causes T F → Stream T → Found F
 refusal_at causes stream = record { cause = refusal_of causes (next_of stream); offset = offset_of stream.pieces stream.end }
