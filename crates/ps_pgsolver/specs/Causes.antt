@@ -1,0 +1,19 @@
+-- The causes by which a game text is refused, and their numbers in psyn's list of faults.
+use Rattle.std.specs.Prelude.{ℕ, ◌≤◌}
+use Rattle.ps_pgsolver.specs.declared.fault.PgCause.{PgCause}
+use Rattle.ps_pgsolver.specs.declared.fault.PgCause.TheVariants as causes
+use Rattle.ps_pgsolver.specs.declared.fault.PgFault.{PgFault}
+use Rattle.ps_pgsolver.specs.declared.fault.PgFault.TheVariants as faults
+
+abbrev pub cause_number : PgCause → ℕ
+cause_number causes.Syntax = 30
+cause_number causes.NoSuccessor = 31
+cause_number causes.UnknownSuccessor = 32
+cause_number causes.NodeTwice = 33
+cause_number causes.Number = 34
+cause_number causes.Limit = 35
+
+-- a refusal stands within a text of this length, or at its end
+abbrev pub StandsWithin : ℕ → PgFault → Type 0
+StandsWithin length (faults.Text cause offset) = offset ≤ length
+StandsWithin length faults.OutOfMemory = Unit {0}

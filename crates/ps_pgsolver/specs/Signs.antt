@@ -1,0 +1,13 @@
+-- A sign is a token of a game text as the grammar sees it.
+use Rattle.std.specs.Prelude.{ℕ, List}
+
+pub data Sign : Type 0 where
+  Number : ℕ → Sign
+  Word : List ℕ → Sign
+  Name : List ℕ → Sign
+  Comma : Sign
+  Semicolon : Sign
+  -- a name that is not closed
+  OpenName : Sign
+  -- any other token that can't stand
+  Wrong : Sign

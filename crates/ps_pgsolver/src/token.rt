@@ -1,0 +1,251 @@
+//! Tokens of game texts.
+
+ghost use Rattle.std.specs.Prelude.{◌≡◌, ◌+◌, ◌≤◌, ◌<◌, ◌^◌, [], length, take, drop};
+ghost use Rattle.std.specs.List.{prefix_len, AllPass};
+ghost use Rattle.ps_pgsolver.specs.Bytes.{in_class, is_blank, is_digit, is_letter, ends_in};
+ghost use Rattle.ps_text.specs.Answers.{Stream};
+ghost use Rattle.ps_pgsolver.specs.Signs.{Sign};
+ghost use Rattle.ps_pgsolver.specs.Heads.{sign_of, IsPlain};
+ghost use Rattle.ps_pgsolver.specs.Lexer.{stream_of, stream_from, first_sign, first_size, number_sign, word_sign, name_sign, name_size, mark_sign};
+
+use std::marker::Model;
+
+/// A class of bytes.
+#[derive(Clone, Copy)]
+pub enum Class {
+    Blank,
+    Digit,
+    Letter,
+    /// Anything but a quote.
+    Inner,
+}
+
+impl Class {
+    pub fn has(self, byte: u8) -> bool
+        ensures { result ≡ in_class self byte }
+    {
+        match self {
+            Class::Blank => matches!(byte, 9..=13 | b' '),
+            Class::Digit => byte.is_ascii_digit(),
+            Class::Letter => byte.is_ascii_alphabetic(),
+            Class::Inner => byte != b'"',
+        }
+    }
+}
+
+/// How many bytes of the class the text begins with.
+pub fn run_length(text: &[u8], class: Class) -> usize
+    ensures length { result ≡ prefix_len (in_class class) text.now }
+    ensures within { result ≤ length text.now }
+    ensures run { AllPass (in_class class) (take result text.now) }
+{
+    text.iter().take_while(|byte| class.has(**byte)).count()
+}
+
+/// What a token is, with its bytes.
+#[derive(Clone, Copy)]
+pub enum Kind<'a> {
+    Number(&'a [u8]),
+    Word(&'a [u8]),
+    /// A name, without its quotes.
+    Name(&'a [u8]),
+    Comma,
+    Semicolon,
+    /// A name that is not closed.
+    OpenName,
+    /// Any other token that can't stand.
+    Wrong,
+    End,
+}
+
+/// A token, and where it begins.
+#[derive(Clone, Copy)]
+pub struct Token<'a> {
+    pub kind: Kind<'a>,
+    pub start: usize,
+}
+
+/// The tokens of a text that are still to come.
+#[derive(Drop)]
+pub struct Tokens<'a> {
+    text: &'a [u8],
+    at: usize,
+}
+
+impl<'a> Model for Tokens<'a> {
+    ghost Value = { Stream Sign };
+
+    ghost view = { λ t. stream_from t.text.now t.at };
+
+    ghost invariant = { λ t. t.at ≤ length t.text.now };
+}
+
+impl<'a> Tokens<'a> {
+    ghost use Rattle.std.specs.Prelude.{◌↔◌, IsTrue};
+    ghost use Rattle.ps_pgsolver.specs.Heads.{IsHead, IsPlain, tail, next_sign, is_number, is_comma};
+    ghost use Rattle.ps_pgsolver.specs.Signs.{Word};
+
+    /// The tokens of a text.
+    pub fn new(text: &'a [u8]) -> Self
+        ensures { result ≡ stream_of text.now }
+    {
+        Tokens { text, at: 0 }
+    }
+
+    /// The next token.
+    pub fn peek(&self) -> Token<'a>
+        ensures token { IsHead result self.now }
+        ensures plain { IsPlain result.kind }
+        ensures within { result.start ≤ self.now.end }
+    {
+        let start = next_start(self.text, self.at);
+        let (before, rest) = self.text.split_at(start);
+        let (kind, _) = token_at(before, rest);
+        Token { kind, start }
+    }
+
+    /// Reads the next token.
+    pub fn next(&mut self) -> Token<'a>
+        ensures token { IsHead result self.old }
+        ensures plain { IsPlain result.kind }
+        ensures within { result.start ≤ self.old.end }
+        ensures rest { self.new ≡ tail self.old }
+    {
+        let start = next_start(self.text, self.at);
+        let (before, rest) = self.text.split_at(start);
+        let (kind, size) = token_at(before, rest);
+        self.at = start + size;
+        Token { kind, start }
+    }
+
+    /// Whether a number comes next.
+    pub fn is_at_number(&self) -> bool
+        ensures { result ≡ is_number (next_sign self.now) }
+    {
+        match self.peek().kind {
+            Kind::Number(_) => true,
+            _ => false,
+        }
+    }
+
+    /// Whether a comma comes next.
+    pub fn is_at_comma(&self) -> bool
+        ensures { result ≡ is_comma (next_sign self.now) }
+    {
+        match self.peek().kind {
+            Kind::Comma => true,
+            _ => false,
+        }
+    }
+
+    /// Whether this word comes next.
+    pub fn is_at_word(&self, word: &[u8]) -> bool
+        ensures { IsTrue result ↔ (next_sign self.now ≡ Some (Word word.now)) }
+    {
+        match self.peek().kind {
+            Kind::Word(letters) => letters == word,
+            _ => false,
+        }
+    }
+}
+
+/// Where the next token begins, or the text ends.
+fn next_start(text: &[u8], at: usize) -> usize
+    requires { at ≤ length text.now }
+    ensures start { result ≡ at + prefix_len is_blank (drop at text.now) }
+    ensures within { result ≤ length text.now }
+{
+    at + run_length(&text[at..], Class::Blank)
+}
+
+/// The token that a text begins with, and how many bytes it has.
+fn token_at<'a>(before: &[u8], rest: &'a [u8]) -> (Kind<'a>, usize)
+    ensures end { rest.now ≡ [] → sign_of result.0 ≡ None }
+    ensures sign { 0 < length rest.now → sign_of result.0 ≡ Some (first_sign before.now rest.now) }
+    ensures size { result.1 ≡ first_size rest.now }
+    ensures plain { IsPlain result.0 }
+    ensures within { result.1 ≤ length rest.now }
+{
+    let Some((first, behind)) = rest.split_first() else {
+        return (Kind::End, 0);
+    };
+    if Class::Digit.has(*first) {
+        number_at(before, rest)
+    } else if Class::Letter.has(*first) {
+        word_at(before, rest)
+    } else if *first == b'"' {
+        name_at(behind)
+    } else {
+        (mark(*first), 1)
+    }
+}
+
+/// A run of digits, and how many bytes it has.
+fn number_at<'a>(before: &[u8], rest: &'a [u8]) -> (Kind<'a>, usize)
+    ensures sign { sign_of result.0 ≡ Some (number_sign before.now rest.now) }
+    ensures size { result.1 ≡ prefix_len is_digit rest.now }
+    ensures plain { IsPlain result.0 }
+    ensures within { result.1 ≤ length rest.now }
+{
+    let size = run_length(rest, Class::Digit);
+    let kind = if ends_in_class(before, Class::Letter) {
+        Kind::Wrong
+    } else {
+        Kind::Number(&rest[..size])
+    };
+    (kind, size)
+}
+
+/// A run of letters, and how many bytes it has.
+fn word_at<'a>(before: &[u8], rest: &'a [u8]) -> (Kind<'a>, usize)
+    ensures sign { sign_of result.0 ≡ Some (word_sign before.now rest.now) }
+    ensures size { result.1 ≡ prefix_len is_letter rest.now }
+    ensures plain { IsPlain result.0 }
+    ensures within { result.1 ≤ length rest.now }
+{
+    let size = run_length(rest, Class::Letter);
+    let kind = if ends_in_class(before, Class::Digit) {
+        Kind::Wrong
+    } else {
+        Kind::Word(&rest[..size])
+    };
+    (kind, size)
+}
+
+/// A name by what stands behind its first quote, and how many bytes it has with its quotes.
+fn name_at<'a>(behind: &'a [u8]) -> (Kind<'a>, usize)
+    requires { length behind.now + 1 < 2 ^ 64 }
+    ensures sign { sign_of result.0 ≡ Some (name_sign behind.now) }
+    ensures size { result.1 ≡ name_size behind.now }
+    ensures plain { IsPlain result.0 }
+    ensures within { result.1 ≤ length behind.now + 1 }
+{
+    let size = run_length(behind, Class::Inner);
+    if size < behind.len() {
+        (Kind::Name(&behind[..size]), size + 2)
+    } else {
+        (Kind::OpenName, size + 1)
+    }
+}
+
+/// A byte that is a token by itself, or can't stand.
+fn mark<'a>(byte: u8) -> Kind<'a>
+    ensures sign { sign_of result ≡ Some (mark_sign byte) }
+    ensures plain { IsPlain result }
+{
+    match byte {
+        b',' => Kind::Comma,
+        b';' => Kind::Semicolon,
+        _ => Kind::Wrong,
+    }
+}
+
+/// Whether the last byte of the text is of the class.
+fn ends_in_class(text: &[u8], class: Class) -> bool
+    ensures { result ≡ ends_in (in_class class) text.now }
+{
+    match text.last() {
+        Some(byte) => class.has(*byte),
+        None => false,
+    }
+}
