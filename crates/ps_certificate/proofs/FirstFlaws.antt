@@ -41,7 +41,7 @@ first_of_stage game certificate stage v flaw at none_before other is_flaw at_sta
       | inr (inr above) ↦ inr (later_vertex game flaw other (at.at_stage ∙ sym at_stage) (omega (arith, at.at_vertex)))
     ]
 
-stage_cases : (flaw : Flaw) → (stage_of flaw ≡ 0) ⊎ (stage_of flaw ≡ 1)
+pub stage_cases : (flaw : Flaw) → (stage_of flaw ≡ 0) ⊎ (stage_of flaw ≡ 1)
 stage_cases (Move _ _) = inl refl
 stage_cases (Escape _ _) = inl refl
 stage_cases (Rank _ _ _) = inr refl

@@ -1,6 +1,8 @@
+pub mod Counts
 pub mod Edges
 pub mod FirstFlaws
 pub mod Fitting
+pub mod Holding
 pub mod Keeping
 pub mod Lists
 pub mod Loops

@@ -5,7 +5,7 @@ use Rattle.std.specs.List.{Contains}
 use Rattle.ps_game.specs.Games.{ParityGame, vertex_count, priority_of, successors_of}
 use Rattle.ps_certificate.specs.declared.flaw.Flaw.{Flaw}
 use Rattle.ps_certificate.specs.declared.flaw.Flaw.TheVariants.{Move, Escape, Rank}
-use Rattle.ps_certificate.specs.Certificates.{CertificateData, Remains, HasRightMove, IsFlaw, Precedes, StandsBefore, winner_of, choice_of, counts_of, opposing}
+use Rattle.ps_certificate.specs.Certificates.{CertificateData, Remains, HasRightMove, IsFlaw, Precedes, StandsBefore, winner_of, choice_of, counts_of, opposing, KeepsCount, opposing_at}
 
 -- each edge of a vertex that remains stays with the winner
 abbrev pub StaysInside : ParityGame → CertificateData → ℕ → Type 0
@@ -58,3 +58,19 @@ pub record EntryFits (vertices : ℕ) (certificate : CertificateData) (v : ℕ) 
 pub record IsAt (list : List ℕ) (number place : ℕ) : Type 0 where
   pub within : place < length list
   pub is : slice_index list place ≡ number
+
+-- an edge keeps the rule of counts for each opposing priority
+abbrev pub KeepsCounts : ParityGame → CertificateData → ℕ → ℕ → Type 0
+KeepsCounts game certificate v w = (k : ℕ) → k < length (opposing certificate (winner_of certificate v)) → KeepsCount game certificate v w k
+
+-- each edge of a vertex that remains does
+abbrev pub KeepsCountsAt : ParityGame → CertificateData → ℕ → Type 0
+KeepsCountsAt game certificate v = (w : ℕ) → Remains game certificate v w → KeepsCounts game certificate v w
+
+-- the first opposing priority for which an edge breaks the rule
+pub record IsFirstBroken (game : ParityGame) (certificate : CertificateData) (v w p : ℕ) : Type 0 where
+  pub place : ℕ
+  pub within : place < length (opposing certificate (winner_of certificate v))
+  pub priority : opposing_at certificate v place ≡ p
+  pub broken : ¬ KeepsCount game certificate v w place
+  pub earlier : (k : ℕ) → k < place → KeepsCount game certificate v w k

@@ -1,7 +1,8 @@
 -- What a certificate claims of a game: each player's region, held by the moves that are given.
-use Rattle.std.specs.Prelude.{ℕ, ◌<◌, Bool, ◌==◌}
-use Rattle.ps_game.specs.Games.{ParityGame}
+use Rattle.std.specs.Prelude.{◌≢◌, ℕ, ◌<◌, Bool, ◌==◌}
+use Rattle.ps_game.specs.Games.{ParityGame, vertex_count}
 use Rattle.ps_game.specs.Plays.{KeepsTo, Holds}
+use Rattle.ps_game.specs.Strategies.{WinsByNoMemory, AllHistoriesBeaten}
 use Rattle.ps_certificate.specs.Certificates.{CertificateData, winner_of, choice_of}
 
 -- the vertices that a player wins
@@ -17,3 +18,12 @@ BothKeep game certificate =
 abbrev pub BothHold : ParityGame → CertificateData → Type 0
 BothHold game certificate =
     (player : ℕ) → player < 2 → Holds game player (region_of certificate player) (choice_of certificate)
+
+-- outside a player's region the player wins neither by a strategy of finite memory nor by a history table
+pub record WinsNothingAt (game : ParityGame) (player v : ℕ) : Type 0 where
+  pub by_memory : WinsByNoMemory game player v
+  pub by_histories : AllHistoriesBeaten game player v
+
+abbrev pub NoneWinsOutside : ParityGame → CertificateData → Type 0
+NoneWinsOutside game certificate =
+    (player : ℕ) → player < 2 → (v : ℕ) → v < vertex_count game → winner_of certificate v ≢ player → WinsNothingAt game player v

@@ -2,17 +2,21 @@
 #![tactic(auto)]
 
 mod certificate;
+mod checking;
 mod closing;
 mod cursor;
 mod fault;
 mod fitted;
 mod flaw;
+mod laws;
 mod rising;
 mod text;
 
 pub use certificate::{Certificate, Entry};
+pub use checking::check;
 pub use closing::closed;
 pub use fault::{CertCause, CertFault};
 pub use fitted::fits;
 pub use flaw::Flaw;
+pub use laws::{closed_regions_are_kept, no_strategy_wins_outside, valid_regions_are_held};
 pub use text::read;

@@ -1,0 +1,104 @@
+//! The whole check: what is closed, and the rule of counts on each edge that remains.
+
+ghost use Rattle.std.specs.Prelude.{◌≡◌, ℕ, ◌<◌, ◌↔◌, IsTrue, IsOk, IfErr, OnOk, IfNone, IfSome};
+ghost use Rattle.ps_game.specs.Games.{vertex_count};
+ghost use Rattle.ps_certificate.specs.Certificates.{Fits, IsClosed, IsValid, IsFirstFlaw, winner_of};
+ghost use Rattle.ps_certificate.specs.Regions.{BothHold, NoneWinsOutside};
+ghost use Rattle.ps_certificate.specs.Prefixes.{KeepsCounts, KeepsCountsAt, IsFirstBroken, IsFirstFlawAt};
+
+use crate::certificate::Certificate;
+use crate::closing::closed;
+use crate::flaw::Flaw;
+use crate::rising::first_at_least;
+use ps_game::Arena;
+
+/// The first opposing priority for which an edge breaks the rule of counts. Priorities below those of
+/// the edge's ends are passed over by a search; behind them each takes one comparison.
+fn broken_priority<A: Arena>(
+    arena: &A,
+    certificate: &Certificate,
+    vertex: usize,
+    successor: usize,
+) -> Option<u64>
+    requires fits { Fits (A.game arena.now) certificate.now }
+    requires vertex { vertex < vertex_count (A.game arena.now) }
+    requires successor { successor < vertex_count (A.game arena.now) }
+    requires same_winner { winner_of certificate.now successor ≡ winner_of certificate.now vertex }
+    ensures none { IfNone result (KeepsCounts (A.game arena.now) certificate.now vertex successor) }
+    ensures some { IfSome result (IsFirstBroken (A.game arena.now) certificate.now vertex successor) }
+{
+    let priorities = certificate.opposing(certificate.winner(vertex));
+    let before = certificate.counts(vertex);
+    let after = certificate.counts(successor);
+    let own = arena.priority(vertex);
+    let start = first_at_least(priorities, own.max(arena.priority(successor)));
+    if start < priorities.len() && priorities[start] == own && after[start] >= before[start] {
+        return Some(own);
+    }
+    for place in start..priorities.len() {
+        if after[place] > before[place] {
+            return Some(priorities[place]);
+        }
+    }
+    None
+}
+
+/// The first flaw of a vertex in the counts of the edges that remain.
+fn unranked_at<A: Arena>(arena: &A, certificate: &Certificate, vertex: usize) -> Option<Flaw>
+    requires fits { Fits (A.game arena.now) certificate.now }
+    requires vertex { vertex < vertex_count (A.game arena.now) }
+    requires closed { IsClosed (A.game arena.now) certificate.now }
+    ensures none { IfNone result (KeepsCountsAt (A.game arena.now) certificate.now vertex) }
+    ensures some { IfSome result (IsFirstFlawAt (A.game arena.now) certificate.now 1 vertex) }
+{
+    let _vertices = arena.count();
+    if arena.owner(vertex) == certificate.winner(vertex) {
+        let Some(successor) = certificate.choice(vertex) else {
+            return None;
+        };
+        return match broken_priority(arena, certificate, vertex, successor) {
+            Some(priority) => Some(Flaw::Rank {
+                vertex,
+                successor,
+                priority,
+            }),
+            None => None,
+        };
+    }
+    for number in 0..arena.degree(vertex) {
+        let successor = arena.successor(vertex, number);
+        if let Some(priority) = broken_priority(arena, certificate, vertex, successor) {
+            return Some(Flaw::Rank {
+                vertex,
+                successor,
+                priority,
+            });
+        }
+    }
+    None
+}
+
+/// Whether a certificate is valid: it is closed, and each edge that remains keeps the rule of counts.
+/// Else the first flaw: that of [`closed`] if there is one, else the first edge that breaks the rule, by
+/// vertex, in the order of successors, by priority. Takes no memory.
+///
+/// # Errors
+///
+/// The first [`Flaw`].
+pub fn check<A: Arena>(arena: &A, certificate: &Certificate) -> Result<(), Flaw>
+    requires { Fits (A.game arena.now) certificate.now }
+    ensures exact { IsOk result ↔ IsValid (A.game arena.now) certificate.now }
+    ensures flaw { IfErr result (IsFirstFlaw (A.game arena.now) certificate.now) }
+    ensures regions { OnOk result (BothHold (A.game arena.now) certificate.now) }
+    ensures best { OnOk result (NoneWinsOutside (A.game arena.now) certificate.now) }
+{
+    if let Err(flaw) = closed(arena, certificate) {
+        return Err(flaw);
+    }
+    for vertex in 0..arena.count() {
+        if let Some(flaw) = unranked_at(arena, certificate, vertex) {
+            return Err(flaw);
+        }
+    }
+    Ok(())
+}

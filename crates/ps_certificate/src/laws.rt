@@ -1,0 +1,20 @@
+//! Laws on certificates. Each is the contract of a function that does nothing.
+
+ghost use Rattle.ps_game.specs.Games.{ParityGame, IsGame};
+ghost use Rattle.ps_certificate.specs.Certificates.{CertificateData, Fits, IsClosed, IsValid};
+ghost use Rattle.ps_certificate.specs.Regions.{BothKeep, BothHold, NoneWinsOutside};
+
+/// Paths that follow the moves of a closed certificate stay in the region that they begin in.
+pub fn closed_regions_are_kept()
+    ensures { (game : ParityGame) (certificate : CertificateData) → IsClosed game certificate → BothKeep game certificate }
+{}
+
+/// The moves of a valid certificate hold both regions.
+pub fn valid_regions_are_held()
+    ensures { (game : ParityGame) (certificate : CertificateData) → Fits game certificate → IsValid game certificate → BothHold game certificate }
+{}
+
+/// No strategy wins outside the region that a valid certificate gives its player.
+pub fn no_strategy_wins_outside()
+    ensures { (game : ParityGame) (certificate : CertificateData) → IsGame game → Fits game certificate → IsValid game certificate → NoneWinsOutside game certificate }
+{}
