@@ -7,6 +7,8 @@ mod faults;
 mod games;
 mod laws;
 mod named;
+#[cfg(test)]
+mod tests;
 
 pub use arenas::Arena;
 pub use builder::GameBuilder;

@@ -1,0 +1,93 @@
+use crate::{Arena, GameBuilder, GameFault, NamedGame};
+use std::alloc::{AllocError, Global};
+use std::test::Fail;
+
+/// A vertex as it is read: its owner, its priority and its successors.
+type Row = (u8, u64, Vec<usize>);
+
+/// The vertices of a game, as code over any arena reads them.
+fn rows<A: Arena>(alloc: Global, arena: &A) -> Result<Vec<Row>, AllocError> {
+    let mut rows = Vec::new(alloc);
+    for vertex in 0..arena.count() {
+        let mut successors = Vec::new(alloc);
+        for number in 0..arena.degree(vertex) {
+            successors.push(arena.successor(vertex, number))?;
+        }
+        rows.push((arena.owner(vertex), arena.priority(vertex), successors))?;
+    }
+    Ok(rows)
+}
+
+#[test]
+#[tactic(auto, unfolding(crate::specs::Games::vertex_count))]
+fn a_repeated_successor_counts_once(rt: HostRuntime) -> Result<(), Fail> {
+    let mut builder = GameBuilder::new(rt.alloc());
+    builder.vertex(0, 4)?;
+    builder.vertex(1, 7)?;
+    builder.edge(0, 1)?;
+    builder.edge(0, 0)?;
+    builder.edge(0, 1)?;
+    builder.edge(1, 1)?;
+    let rows = rows(rt.alloc(), &builder.finish()?)?;
+    assert_eq!(rt; rows.len(), 2);
+    assert_eq!(rt; (rows[0].0, rows[0].1), (0, 4));
+    assert_eq!(rt; rows[0].2.as_slice(), [1, 0].as_slice());
+    assert_eq!(rt; (rows[1].0, rows[1].1), (1, 7));
+    assert_eq!(rt; rows[1].2.as_slice(), [1].as_slice());
+    Ok(())
+}
+
+#[test]
+fn no_vertex_is_a_game(rt: HostRuntime) -> Result<(), Fail> {
+    let game = GameBuilder::new(rt.alloc()).finish()?;
+    assert_eq!(rt; game.count(), 0);
+    Ok(())
+}
+
+#[test]
+#[tactic(auto, unfolding(crate::specs::Games::vertex_count))]
+fn a_vertex_without_an_edge_goes_first(rt: HostRuntime) -> Result<(), Fail> {
+    let mut builder = GameBuilder::new(rt.alloc());
+    builder.vertex(0, 0)?;
+    builder.vertex(0, 0)?;
+    builder.edge(0, 2)?;
+    assert_eq!(rt;
+        builder.finish().err(),
+        Some(GameFault::NoSuccessor { vertex: 1 })
+    );
+    Ok(())
+}
+
+#[test]
+#[tactic(auto, unfolding(crate::specs::Games::vertex_count))]
+fn the_first_unknown_successor_is_answered(rt: HostRuntime) -> Result<(), Fail> {
+    let mut builder = GameBuilder::new(rt.alloc());
+    builder.vertex(0, 0)?;
+    builder.edge(0, 0)?;
+    builder.edge(0, 6)?;
+    builder.edge(0, 5)?;
+    let fault = GameFault::UnknownSuccessor {
+        vertex: 0,
+        successor: 6,
+    };
+    assert_eq!(rt; builder.finish().err(), Some(fault));
+    Ok(())
+}
+
+#[test]
+#[tactic(auto, unfolding(crate::specs::Games::vertex_count))]
+fn vertices_have_ids_and_names(rt: HostRuntime) -> Result<(), Fail> {
+    let mut builder = GameBuilder::new(rt.alloc());
+    builder.vertex(0, 0)?;
+    builder.edge(0, 0)?;
+    let game = builder.finish()?;
+    let ids = vec![in rt.alloc(); 9]?;
+    let names = vec![in rt.alloc(); Some(b"a".to_vec(rt.alloc())?)]?;
+    if game.count() != 1 {
+        return Ok(());
+    }
+    let named = NamedGame::new(game, ids, names);
+    assert_eq!(rt; named.id(0), 9);
+    assert_eq!(rt; named.name(0), Some(b"a".as_slice()));
+    Ok(())
+}
