@@ -1,15 +1,15 @@
 -- `barred P Bad`: a cause at the sign behind P. No sign that Bad names goes on with P.
 --     laws_barred; read_barred      P is read, and Bad says nothing of the sign behind it
 --     fault_barred      P's own fault; fault_bar      Bad says what is wrong with the sign behind P
---     barred_meets, barred_fails, barred_bad      the same for `Meets`
-use Rattle.std.proofs.Common.{◌≡◌, suc, ◌+◌, ◌<◌, ◌≤◌, List, [], ◌∷◌, ◌++◌, length, Option, None, Some, Ok, Err, refl, sym, ap, subst, inl, inr, ◌∙◌, append_assoc, arith}
-use Rattle.ps_text.specs.Answers.{Begins, Piece, Stream, Found, first_of, signs}
+--     reads_barred, stops_barred, stops_bar      the same at the exits of a reading function
+use Rattle.std.proofs.Common.{◌≡◌, suc, ◌+◌, ◌<◌, ◌≤◌, List, [], ◌∷◌, ◌++◌, length, Option, None, Some, refl, sym, ap, subst, inl, inr, ◌∙◌, append_assoc, arith}
+use Rattle.ps_text.specs.Answers.{Begins, Piece, Stream, Found, first_of, next_of, offset_of, signs}
 use Rattle.ps_text.specs.Parts.{Part, Causes, IsRead, IsFault, IsFaultAt, is_cause, is_refusal, CleanUpTo, StopsAt, NoCauseAt, barred}
-use Rattle.ps_text.specs.Readers.{Stops, Meets}
+use Rattle.ps_text.specs.Readers.{tail, Stops, StopsWith, Reads}
 use Rattle.ps_text.proofs.Splits.{Compared, shorter, same, longer, compared, same_head, length_more}
 use Rattle.ps_text.proofs.Laws.{Laws, Or, When, Apart}
 use Rattle.ps_text.proofs.Joined.{text_begins}
-use Rattle.ps_text.proofs.Meeting.{stops_as}
+use Rattle.ps_text.proofs.Meeting.{stops_as, piece_next}
 
 -- a sign of which Bad says something
 abbrev pub Bar : {T V F : Type 0} → (V → T → F → Type 0) → T → Type 0
@@ -124,20 +124,22 @@ module _ {T V F : Type 0} {odd : T → Type 0} {P : Part T V F} (Bad : V → T �
       least g (inl c) = absurd (p.clean p.text rest t g p.split (omega arith) c)
       least g (inr c) = m g (bar_value p.text t v c.0 g p.is_text c.1 c.2)
 
-  module _ {E X : Type 0} (found : E → Option (Found F)) (causes : Causes T F) (view : X → V) (apart : Apart More (Bar Bad)) (old : Stream T) where
-    pub barred_meets : (new : Stream T) (x : X) → ((t : T) (f : F) → first_of (signs new.pieces) ≡ Some t → Bad (view x) t f → ⊥) →
-        Meets {E = E} found causes view P old (Ok x) new → Meets found causes view (barred P Bad) old (Ok x) new
-    barred_meets new x good m = (m.0, read_barred apart (signs old.pieces) (signs new.pieces) (view x) good m.1)
+  pub reads_barred : Apart More (Bar Bad) → {old new : Stream T} {v : V} → ((t : T) (f : F) → next_of new ≡ Some t → Bad v t f → ⊥) → Reads P old v new → Reads (barred P Bad) old v new
+  reads_barred apart {old} {new} {v} good m = (m.0, read_barred apart (signs old.pieces) (signs new.pieces) v good m.1)
 
-    pub barred_fails : (mid new : Stream T) (e : E) → Meets found causes view P old (Err e) mid → Meets found causes view (barred P Bad) old (Err e) new
-    barred_fails mid new e m = stops_as causes P (barred P Bad) old (λ f rest p. fault_barred apart causes (signs old.pieces) rest f p) (found e) m
+  pub stops_barred : Apart More (Bar Bad) → (causes : Causes T F) (old : Stream T) (o : Option (Found F)) → Stops causes P old o → Stops causes (barred P Bad) old o
+  stops_barred apart causes old o s = stops_as causes P (barred P Bad) old (λ f rest p. fault_barred apart causes (signs old.pieces) rest f p) o s
 
-    pub barred_bad : (mid new : Stream T) (x : X) (p : Piece T) (ps : List (Piece T)) (f : F) (e : E) → Meets found causes view P old (Ok x) mid → mid.pieces ≡ p ∷ ps → Bad (view x) p.sign f →
-        ((g : F) → Bad (view x) p.sign g → causes.number f ≤ causes.number g) → found e ≡ Some (record { cause = f; offset = p.start }) → Meets found causes view (barred P Bad) old (Err e) new
-    barred_bad mid new x p ps f e m s bad least k = subst (Stops causes (barred P Bad) old) (sym k) (record {
-      front = m.0.taken;
-      rest = p ∷ ps;
-      split = m.0.split ∙ ap (λ z. m.0.taken ++ z) s;
-      fault = fault_bar apart causes (signs old.pieces) (signs ps) p.sign (view x) f (subst (λ z. IsRead P (signs old.pieces) (view x) (signs z)) s m.1) bad least;
-      offset = refl;
-    })
+  pub stops_bar : Apart More (Bar Bad) → (causes : Causes T F) {old mid : Stream T} {v : V} → Reads P old v mid → (t : T) (f : F) (o : Option (Found F)) → next_of mid ≡ Some t → Bad v t f →
+      ((g : F) → Bad v t g → causes.number f ≤ causes.number g) → o ≡ Some (record { cause = f; offset = offset_of mid.pieces mid.end }) → Stops causes (barred P Bad) old o
+  stops_bar apart causes {old} {mid} {v} m t f o n bad least k = subst (Stops causes (barred P Bad) old) (sym k) (let p = piece_next mid t n in go p.0 (tail mid).pieces p.1 p.2)
+    where
+      go : (p : Piece T) (ps : List (Piece T)) → mid.pieces ≡ p ∷ ps → p.sign ≡ t → StopsWith causes (barred P Bad) old (record { cause = f; offset = offset_of mid.pieces mid.end })
+      go p ps e x = record {
+        front = m.0.taken;
+        rest = p ∷ ps;
+        split = m.0.split ∙ ap (λ z. m.0.taken ++ z) e;
+        fault = fault_bar apart causes (signs old.pieces) (signs ps) p.sign v f (subst (λ z. IsRead P (signs old.pieces) v (signs z)) e m.1) (subst (λ u. Bad v u f) (sym x) bad)
+            (λ g b. least g (subst (λ u. Bad v u g) x b));
+        offset = ap (λ z. offset_of z mid.end) e;
+      }

@@ -1,11 +1,13 @@
 -- What a reading function of the code says of the part that it reads: it was read, or its first fault was found. `old` and
 -- `new` are the pieces still to come as the function begins and as it returns, the Model of the code's tokens.
 --     Meets found causes view part old result new      the function's contract, where `view` is what the grammar sees of its
---               value and `found` is what an error says of the text: nothing, where memory ran out
+--               value and `found` is what an error says of the text: nothing, where memory ran out. At an Ok it is
+--               `Reads part old (view x) new`, at an Err `Stops causes part old (found e)`
+--     Goes causes part old result new      the same, where the value is the grammar's own and the error is what it says
+--     Carries causes whole start rest now      the invariant of a loop: what reading rest from now on gives, reading whole
+--               from start gives
 --     tail stream      what is left behind the next piece
 --     refusal_at causes stream      the cause where the grammar does not allow what comes next, and where that stands
---     Carries found causes view whole start rest now      for a loop: what reading rest from now on gives, reading whole from
---               start gives
 use Rattle.std.specs.Prelude.{◌≡◌, List, [], ◌∷◌, ◌++◌, Option, None, Some, Result, Ok, Err}
 use Rattle.ps_text.specs.Answers.{Piece, Stream, Found, signs, next_of, offset_of}
 use Rattle.ps_text.specs.Parts.{Part, Causes, IsRead, IsFault, refusal_of}
@@ -39,11 +41,19 @@ abbrev pub Stops : {T V F : Type 0} → Causes T F → Part T V F → Stream T �
 Stops causes part old None = Unit {0}
 Stops causes part old (Some found) = StopsWith causes part old found
 
-abbrev pub Meets : {T V F X E : Type 0} → (E → Option (Found F)) → Causes T F → (X → V) → Part T V F →
-    Stream T → Result X E → Stream T → Type 0
-Meets found causes view part old (Ok x) new = IsSuffix old new × IsRead part (signs old.pieces) (view x) (signs new.pieces)
+-- the part was read from old, with that value, and new is what is left
+abbrev pub Reads : {T V F : Type 0} → Part T V F → Stream T → V → Stream T → Type 0
+Reads part old v new = IsSuffix old new × IsRead part (signs old.pieces) v (signs new.pieces)
+
+abbrev pub Meets : {T V F X E : Type 0} → (E → Option (Found F)) → Causes T F → (X → V) → Part T V F → Stream T → Result X E → Stream T → Type 0
+Meets found causes view part old (Ok x) new = Reads part old (view x) new
 Meets found causes view part old (Err e) new = Stops causes part old (found e)
 
-abbrev pub Carries : {T V F X E : Type 0} → (E → Option (Found F)) → Causes T F → (X → V) → Part T V F → Stream T → Part T V F → Stream T → Type 0
-Carries {T} {V} {F} {X} {E} found causes view whole start rest now = (result : Result X E) (new : Stream T) →
-    Meets found causes view rest now result new → Meets found causes view whole start result new
+-- the part was read, or its first fault was found; the value is the grammar's own
+abbrev pub Goes : {T V F : Type 0} → Causes T F → Part T V F → Stream T → Result V (Option (Found F)) → Stream T → Type 0
+Goes causes part old (Ok v) new = Reads part old v new
+Goes causes part old (Err o) new = Stops causes part old o
+
+abbrev pub Carries : {T V F : Type 0} → Causes T F → Part T V F → Stream T → Part T V F → Stream T → Type 0
+Carries {T} {V} {F} causes whole start rest now = (result : Result V (Option (Found F))) (new : Stream T) →
+    Goes causes rest now result new → Goes causes whole start result new
