@@ -9,7 +9,7 @@ use Rattle.ps_text.specs.Readers.{tail, Stops, StopsWith, Reads}
 use Rattle.ps_text.proofs.Splits.{Compared, shorter, same, longer, compared, same_head, length_more}
 use Rattle.ps_text.proofs.Laws.{Laws, Or, When, Apart}
 use Rattle.ps_text.proofs.Joined.{text_begins}
-use Rattle.ps_text.proofs.Meeting.{stops_as, piece_next}
+use Rattle.ps_text.proofs.Exits.{stops_as, piece_next}
 
 -- a sign of which Bad says something
 abbrev pub Bar : {T V F : Type 0} → (V → T → F → Type 0) → T → Type 0

@@ -3,6 +3,7 @@ pub mod OneAnswer
 pub mod Laws
 pub mod Joined
 pub mod Simple
+pub mod Exits
 pub mod Meeting
 pub mod Covered
 pub mod Repeated
