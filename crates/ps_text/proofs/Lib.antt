@@ -10,3 +10,4 @@ pub mod Repeated
 pub mod Whole
 pub mod Branches
 pub mod Barred
+pub mod OneTokenisation

@@ -3,3 +3,4 @@
 #![tactic(auto)]
 
 pub mod answers;
+pub mod tokens;
