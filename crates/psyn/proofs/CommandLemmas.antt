@@ -1,0 +1,30 @@
+-- What clap makes of the table of commands.
+use Rattle.std.proofs.Common.{◌≡◌, ◌⊎◌, List, true, refl, inl, inr, subst}
+use Rattle.clap.specs.Simple.{is_simple}
+use Rattle.clap.specs.Words.{App, Text, IsAmong, fault_of, is_simple_and_free}
+use Rattle.clap.specs.declared.error.kind.ErrorKind.{ErrorKind}
+use Rattle.clap.specs.declared.error.kind.ErrorKind.TheVariants.{DisplayHelp, OutOfMemory}
+use Rattle.clap.proofs.OnLiterals.{clap_on_literals}
+use Rattle.psyn.specs.declared.command_line.Line.TheVariants.{Refused}
+use Rattle.psyn.specs.CommandLine.{table, line_refused, Says}
+
+-- clap's answers to the table are those of a simple command
+pub table-simple : is_simple table ≡ true
+unfolding table clap_on_literals
+table-simple = refl
+
+pub table-free : is_simple_and_free table ≡ true
+unfolding table clap_on_literals
+table-free = refl
+
+-- a refusal for another cause than memory says a line
+pub says_refusal : (app : App) (words : List Text) (kind : ErrorKind) → app ≡ table → (kind ≡ OutOfMemory → ⊥)
+    → (kind ≡ OutOfMemory) ⊎ IsAmong kind (fault_of app words) → Says words (line_refused kind)
+says_refusal app words kind same memory (inl e) = absurd (memory e)
+says_refusal app words kind same memory (inr among) =
+    inr (kind, subst (λ (a : App). IsAmong kind (fault_of a words)) same among, refl)
+
+-- but for help, each refusal is a refused line
+pub line_refused-other : (kind : ErrorKind) → (kind ≡ DisplayHelp → ⊥) → line_refused kind ≡ Refused
+line_refused-other DisplayHelp other = absurd (other refl)
+line_refused-other _ other = refl

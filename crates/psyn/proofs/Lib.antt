@@ -1,0 +1,5 @@
+pub mod CommandLemmas
+pub mod StreamLemmas
+pub mod ProgramLemmas
+pub mod OutcomeLemmas
+pub mod TextLemmas

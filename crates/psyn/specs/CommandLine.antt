@@ -1,0 +1,55 @@
+-- What the input's first line asks for.
+use Rattle.std.specs.Prelude.{◌≡◌, ◌⊎◌, ◌==◌, ℕ, true, List, [], length, Option, None, Some, codes, filter, not, IsUtf8, if◌then◌else◌}
+use Rattle.std.specs.List.{slice_split}
+use Rattle.std.specs.Str.{bytes_eq}
+use Rattle.clap.specs.Words.{App, Row, Shape, Text, new_app, with_subcommand, subcommand_of, fault_of, IsAmong}
+use Rattle.clap.specs.Simple.{new_shape, on_top}
+use Rattle.clap.specs.declared.error.kind.ErrorKind.{ErrorKind}
+use Rattle.clap.specs.declared.error.kind.ErrorKind.TheVariants.{DisplayHelp}
+use Rattle.psyn.specs.declared.command_line.Line.{Line}
+use Rattle.psyn.specs.declared.command_line.Line.TheVariants.{Refused, Help, Closed}
+
+-- what stands between runs of spaces
+abbrev pub words_of : List ℕ → List Text
+words_of line = filter (λ word. not (length word == 0)) (slice_split (λ byte. byte == 32) line)
+
+-- ---- the commands, each with its flags
+
+-- a command with no flags
+abbrev pub command : Text → Shape
+command name = new_shape name
+
+-- the words of a line are a command and its flags, and no name of a program stands before them
+abbrev pub program : App
+program = on_top (λ top. record top { no_binary_name = true; disable_help_subcommand = true }) (new_app (codes "psyn"))
+
+unfoldable pub table : App
+table = with_subcommand (with_subcommand program (command (codes "help"))) (command (codes "closed"))
+
+-- ---- what the words say
+
+-- the line of a command
+abbrev pub line_named : Text → Line
+line_named name = if bytes_eq name (codes "help") then Help
+    else if bytes_eq name (codes "closed") then Closed
+    else Refused
+
+-- the line of the command that the words name, if they name one
+abbrev pub line_said : Option (Text × List Row) → Line
+line_said (Some command) = line_named command.0
+line_said None = Refused
+
+-- the answer to words that are no line of the table: `--help` and `-h` ask for help
+abbrev pub line_refused : ErrorKind → Line
+line_refused DisplayHelp = Help
+line_refused _ = Refused
+
+-- the words say the line
+abbrev pub Says : List Text → Line → Type 0
+Says words line = ((fault_of table words ≡ []) × (line ≡ line_said (subcommand_of table words)))
+    ⊎ ((kind : ErrorKind) × IsAmong kind (fault_of table words) × (line ≡ line_refused kind))
+
+-- the input's first line says the line
+abbrev pub IsLine : List ℕ → Line → Type 0
+IsLine first_line line = (IsUtf8 first_line × Says (words_of first_line) line)
+    ⊎ (¬ (IsUtf8 first_line) × (line ≡ Refused))

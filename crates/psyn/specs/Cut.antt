@@ -1,0 +1,37 @@
+-- How the input falls into its first line and its texts.
+use Rattle.std.specs.Prelude.{◌≡◌, ◌+◌, ◌-◌, ◌<◌, ◌==◌, ◌&&◌, ◌||◌, ℕ, Bool, true, false, List, length, take, drop, slice_index, nat_le}
+use Rattle.std.specs.List.{before_first, after_first}
+
+-- the first line, without its newline
+abbrev pub first_line : List ℕ → List ℕ
+first_line input = before_first (λ byte. byte == 10) input
+
+-- what follows the first line and its newline
+abbrev pub behind_line : List ℕ → List ℕ
+behind_line input = after_first (λ byte. byte == 10) input
+
+-- a line begins at the place
+abbrev pub begins_line : List ℕ → ℕ → Bool
+begins_line text place = place == 0 || slice_index text (place - 1) == 10
+
+-- the text or a line ends at the place
+abbrev pub ends_line : List ℕ → ℕ → Bool
+ends_line text place = nat_le (length text) place || slice_index text place == 10
+
+-- the line `%%` begins at the place
+abbrev pub is_mark : List ℕ → ℕ → Bool
+is_mark text place = begins_line text place
+    && (slice_index text place == 37 && (slice_index text (place + 1) == 37 && ends_line text (place + 2)))
+
+-- no line is `%%`
+abbrev pub HasNoMark : List ℕ → Type 0
+HasNoMark text = (place : ℕ) → place < length text → is_mark text place ≡ false
+
+-- the first line `%%` stands between the two, which are without it
+pub record Cuts (text first second : List ℕ) : Type 0 where
+  pub mark : ℕ
+  pub within : mark < length text
+  pub stands : is_mark text mark ≡ true
+  pub none_before : (place : ℕ) → place < mark → is_mark text place ≡ false
+  pub before : first ≡ take mark text
+  pub behind : second ≡ drop (mark + 3) text

@@ -1,0 +1,12 @@
+pub mod Checks
+pub mod CommandLine
+pub mod Cut
+pub mod Faults
+pub mod Input
+pub mod Outcomes
+pub mod Program
+pub mod Refusals
+pub mod Replies
+pub mod Streams
+pub mod Texts
+pub mod Watched

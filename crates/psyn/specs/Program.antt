@@ -1,0 +1,56 @@
+-- What the program answers to an input, and what it writes of that.
+use Rattle.std.specs.Prelude.{◌≡◌, ◌≤◌, ◌<◌, ◌⊎◌, ℕ, Bool, true, false, List, length, Option, Result, Ok}
+use Rattle.std.specs.Io.KnownBytes.{Appends}
+use Rattle.psyn.specs.declared.reading.TheConstants.{INPUT_LIMIT}
+use Rattle.psyn.specs.declared.command_line.Line.{Line}
+use Rattle.psyn.specs.declared.command_line.Line.TheVariants.{Refused, Help, Closed}
+use Rattle.psyn.specs.CommandLine.{IsLine}
+use Rattle.psyn.specs.declared.fault.FaultLine.{FaultLine}
+use Rattle.psyn.specs.Checks.{AnswersClosed}
+use Rattle.psyn.specs.Cut.{first_line, behind_line}
+use Rattle.psyn.specs.Input.{AgreesWith}
+use Rattle.psyn.specs.Outcomes.{printed}
+use Rattle.psyn.specs.Replies.{Reply, usage, help, read_fault, out_of_memory}
+use Rattle.psyn.specs.Streams.{SinkState, AppendsSome, Breaks}
+
+-- the answer to a line, with what stands behind it
+abbrev pub AnswersLine : Line → List ℕ → Result Reply FaultLine → Type 0
+AnswersLine Refused texts outcome = outcome ≡ Ok usage
+AnswersLine Help texts outcome = outcome ≡ Ok help
+AnswersLine Closed texts outcome = AnswersClosed texts outcome
+
+-- the answer to an input
+abbrev pub Answers : List ℕ → Reply → Type 0
+Answers input reply =
+    (line : Line) × IsLine (first_line input) line
+    × ((outcome : Result Reply FaultLine) × AnswersLine line (behind_line input) outcome × (reply ≡ printed outcome))
+
+-- the same, of an input that may be too long
+abbrev pub AnswersWhole : List ℕ → Reply → Type 0
+AnswersWhole input reply = ((INPUT_LIMIT < length input) × (reply ≡ read_fault))
+    ⊎ ((length input ≤ INPUT_LIMIT) × Answers input reply)
+
+-- the answer to what a source has, where a read failed or none did: any growth may have been refused
+abbrev pub Replies : Option (List ℕ) → Bool → Reply → Type 0
+Replies known true reply = reply ≡ read_fault
+Replies known false reply = (reply ≡ out_of_memory)
+    ⊎ ((input : List ℕ) × AgreesWith known input × AnswersWhole input reply)
+
+-- the answer went out whole and was flushed
+pub record WritesAll (before after : SinkState) (reply : Reply) (status : ℕ) : Type 0 where
+  pub sound : after.has_failed ≡ false
+  pub steady : after.stall_count ≡ before.stall_count
+  pub text : Appends before.contents after.contents reply.text
+  pub flushed : after.is_flushed ≡ true
+  pub answered : status ≡ reply.status
+
+-- a write or the flush failed, or a write took no bytes: a beginning of the answer went out
+pub record WritesPart (before after : SinkState) (reply : Reply) (status : ℕ) : Type 0 where
+  pub broken : Breaks before.stall_count after.stall_count after.has_failed after.is_stalled
+  pub text : AppendsSome before.contents after.contents reply.text
+  pub refused : status ≡ 1
+
+-- what went out, and the exit status
+abbrev pub Writes : SinkState → SinkState → Reply → ℕ → Type 0
+Writes before after reply status =
+    WritesAll before after reply status ⊎ WritesPart before after reply status

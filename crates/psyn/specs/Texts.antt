@@ -1,0 +1,82 @@
+-- The texts of the commands, as their readers answer them.
+use Rattle.std.specs.Prelude.{◌≡◌, ◌≤◌, ◌<◌, ℕ, IfSome, List, length, Result, Ok, Err, option_map, slice_index}
+use Rattle.ps_text.specs.Answers.{Found}
+use Rattle.ps_game.specs.Games.{NamedGameData, IsNamedGame}
+use Rattle.ps_pgsolver.specs.declared.fault.PgCause.{PgCause}
+use Rattle.ps_pgsolver.specs.declared.fault.PgCause.TheVariants as game
+use Rattle.ps_certificate.specs.declared.fault.CertCause.{CertCause}
+use Rattle.ps_certificate.specs.declared.fault.CertCause.TheVariants as certificate
+use Rattle.ps_certificate.specs.declared.flaw.Flaw.{Flaw}
+use Rattle.ps_certificate.specs.declared.flaw.Flaw.TheVariants as flaw
+use Rattle.ps_certificate.specs.Certificates.{CertificateData, Fits}
+use Rattle.psyn.specs.declared.fault.TextFault.{TextFault}
+use Rattle.psyn.specs.declared.fault.TextFault.TheVariants.{GameSyntax, NoSuccessor, UnknownSuccessor}
+use Rattle.psyn.specs.declared.fault.TextFault.TheVariants.{NodeTwice, GameNumber, GameLimit}
+use Rattle.psyn.specs.declared.fault.TextFault.TheVariants.{CertificateSyntax, OtherGame}
+use Rattle.psyn.specs.declared.fault.FaultLine.{FaultLine}
+use Rattle.psyn.specs.declared.fault.FaultLine.TheVariants.{Plain, Move, Escape, Rank}
+use Rattle.psyn.specs.declared.fault.PlainFault.TheVariants.{MissingText}
+use Rattle.psyn.specs.Cut.{HasNoMark, Cuts}
+use Rattle.psyn.specs.Outcomes.{Then, Reading}
+
+-- ---- the cut
+
+-- the two texts that a line `%%` parts
+abbrev pub CutsInTwo : List ℕ → Result (List ℕ × List ℕ) FaultLine → Type 0
+CutsInTwo texts (Ok parts) = Cuts texts parts.0 parts.1
+CutsInTwo texts (Err fault) = HasNoMark texts × (fault ≡ Plain MissingText)
+
+-- ---- game texts
+
+abbrev pub game_fault : PgCause → TextFault
+game_fault game.Syntax = GameSyntax
+game_fault game.NoSuccessor = NoSuccessor
+game_fault game.UnknownSuccessor = UnknownSuccessor
+game_fault game.NodeTwice = NodeTwice
+game_fault game.Number = GameNumber
+game_fault game.Limit = GameLimit
+
+-- what the reader of game texts answers: a game, or a place within the text
+abbrev pub ReadsGame : List ℕ → Result NamedGameData (Found PgCause) → Type 0
+ReadsGame text (Ok named) = IsNamedGame named
+ReadsGame text (Err found) = found.offset ≤ length text
+
+abbrev pub ReadsGameText : List ℕ → Result NamedGameData FaultLine → Type 0
+ReadsGameText text = Reading (ReadsGame text) game_fault
+
+-- ---- certificate texts
+
+abbrev pub certificate_fault : CertCause → TextFault
+certificate_fault certificate.Syntax = CertificateSyntax
+certificate_fault certificate.OtherGame = OtherGame
+
+-- what the reader of certificate texts answers: a certificate that fits the game, or a fault
+abbrev pub ReadsCertificate : NamedGameData → List ℕ → Result CertificateData (Found CertCause) → Type 0
+ReadsCertificate named text (Ok certificate) = Fits named.game certificate
+ReadsCertificate named text (Err found) = Unit {0}
+
+abbrev pub ReadsCertificateText : NamedGameData → List ℕ → Result CertificateData FaultLine → Type 0
+ReadsCertificateText named text = Reading (ReadsCertificate named text) certificate_fault
+
+-- a game text and the text of a certificate of that game
+abbrev pub ReadsCertified : List ℕ → Result (NamedGameData × CertificateData) FaultLine → Type 0
+ReadsCertified texts =
+    Then (CutsInTwo texts) (λ parts. Then (ReadsGameText parts.0) (λ named.
+    Then (ReadsCertificateText named parts.1) (λ certificate outcome. outcome ≡ Ok (named, certificate))))
+
+-- ---- flaws
+
+abbrev pub id_of : NamedGameData → ℕ → ℕ
+id_of named v = slice_index named.ids v
+
+-- the line of a flaw, which names vertices by their ids
+abbrev pub flaw_line : NamedGameData → Flaw → FaultLine
+flaw_line named (flaw.Move v choice) = Move (id_of named v) (option_map (id_of named) choice)
+flaw_line named (flaw.Escape v w) = Escape (id_of named v) (id_of named w)
+flaw_line named (flaw.Rank v w p) = Rank (id_of named v) (id_of named w) p
+
+-- the flaw speaks of vertices below a number
+abbrev pub NamesVertices : ℕ → Flaw → Type 0
+NamesVertices count (flaw.Move v choice) = (v < count) × IfSome choice (λ w. w < count)
+NamesVertices count (flaw.Escape v w) = (v < count) × (w < count)
+NamesVertices count (flaw.Rank v w p) = (v < count) × (w < count)

@@ -1,0 +1,119 @@
+//! What the program answers.
+
+ghost use Rattle.std.specs.Prelude.{◌≡◌, IfOk};
+ghost use Rattle.psyn.specs.Outcomes.{Settles};
+
+use crate::fault::FaultLine;
+use std::alloc::{AllocError, Global};
+
+/// The status of an answer.
+const DONE: u8 = 0;
+
+/// The status of a fault.
+pub const FAULT: u8 = 1;
+
+/// The status of a refused command line.
+const REFUSED: u8 = 2;
+
+/// The line of an input that can't be read.
+pub const READ_FAULT: &[u8] = b"fault 25 ReadFault\n";
+
+/// The line of a growth that was refused.
+pub const OUT_OF_MEMORY: &[u8] = b"fault 24 OutOfMemory\n";
+
+/// What is written where help is asked for.
+pub const HELP: &str = "\
+psyn answers one command on standard input. The first line is the command;
+behind it come its texts, with a line %% between two of them.
+
+closed   a game, a certificate
+         `closed` where each path that follows a player's moves stays in the
+         player's region, or the first flaw
+help     this text
+
+A fault is one line: `fault`, its number and name, and where it stands.
+The status is 0 for an answer, 1 for a fault, 2 for a refused command line.
+";
+
+/// What the program writes, and its exit status.
+#[derive(Debug, Drop)]
+pub struct Answer {
+    /// The bytes.
+    pub text: Vec<u8>,
+    /// The status.
+    pub status: u8,
+}
+
+impl Answer {
+    ghost use Rattle.psyn.specs.Replies.{reply_of, fault_reply, line_reply};
+    ghost use Rattle.psyn.specs.Replies as reply;
+
+    /// One line.
+    pub fn line(alloc: Global, line: &str) -> Result<Answer, AllocError>
+        ensures { IfOk result (λ answer. reply_of answer ≡ line_reply line.now) }
+    {
+        let text = format!(in alloc; "{line}\n")?.into_bytes();
+        Ok(Answer { text, status: DONE })
+    }
+
+    /// The line of a fault.
+    pub fn fault(alloc: Global, fault: &FaultLine) -> Result<Answer, AllocError>
+        ensures { IfOk result (λ answer. reply_of answer ≡ fault_reply fault.now) }
+    {
+        let text = format!(in alloc; "{fault}\n")?.into_bytes();
+        Ok(Answer {
+            text,
+            status: FAULT,
+        })
+    }
+
+    /// The command line is refused.
+    pub fn usage(alloc: Global) -> Result<Answer, AllocError>
+        ensures { IfOk result (λ answer. reply_of answer ≡ reply.usage) }
+    {
+        let fault = FaultLine::Usage;
+        let text = format!(in alloc; "{fault}\n")?.into_bytes();
+        Ok(Answer {
+            text,
+            status: REFUSED,
+        })
+    }
+
+    /// What psyn can do.
+    pub fn help(alloc: Global) -> Result<Answer, AllocError>
+        ensures { IfOk result (λ answer. reply_of answer ≡ reply.help) }
+    {
+        let text = String::from_str(alloc, HELP)?.into_bytes();
+        Ok(Answer { text, status: DONE })
+    }
+}
+
+/// Why a command has no answer.
+#[derive(Debug, Drop)]
+pub enum Refusal {
+    /// A fault, which is answered in its place.
+    Fault(FaultLine),
+    /// A growth was refused.
+    OutOfMemory,
+}
+
+impl From<AllocError> for Refusal {
+    ghost use Rattle.psyn.specs.declared.answer.Refusal.TheVariants as refusal;
+
+    ghost from_gives = { λ _ given. given ≡ refusal.OutOfMemory };
+
+    fn from(_: AllocError) -> Self {
+        Refusal::OutOfMemory
+    }
+}
+
+/// A command's answer, or the line of its fault.
+pub fn settle(alloc: Global, outcome: Result<Answer, Refusal>) -> Result<Answer, AllocError>
+    ensures { IfOk result (Settles outcome) }
+{
+    match outcome {
+        Ok(answer) => Ok(answer),
+        Err(Refusal::Fault(fault)) => Answer::fault(alloc, &fault),
+        Err(Refusal::OutOfMemory) => Err(AllocError),
+    }
+}

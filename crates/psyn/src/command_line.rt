@@ -1,0 +1,77 @@
+//! The command line: the input's first line.
+
+ghost use Rattle.std.specs.Prelude.{◌≡◌, List, IfOk, map};
+ghost use Rattle.clap.specs.Words.{app_of, subcommand_rows_of};
+ghost use Rattle.psyn.specs.CommandLine.{table, words_of, line_said, Says, IsLine};
+
+use clap::error::ErrorKind;
+use clap::{ArgMatches, Command};
+use std::alloc::{AllocError, Global};
+
+/// What the first line asks for.
+#[derive(Clone, Copy, Debug, PartialEq, Eq)]
+pub enum Line {
+    /// It is no command with flags of its own, each given at most once.
+    Refused,
+    /// What psyn can do.
+    Help,
+    /// Whether a certificate's table keeps each region of a game.
+    Closed,
+}
+
+/// Reads the first line.
+pub fn read_line(alloc: Global, line: &[u8]) -> Result<Line, AllocError>
+    ensures { IfOk result (IsLine line.now) }
+{
+    match str::from_utf8(line) {
+        Ok(text) => read_words(alloc, split_words(alloc, text)?.as_slice()),
+        Err(_) => Ok(Line::Refused),
+    }
+}
+
+/// What stands between runs of spaces.
+fn split_words(alloc: Global, text: &str) -> Result<Vec<&str>, AllocError>
+    ensures { IfOk result (λ words. map (λ word. word.now) words.items ≡ words_of text.now) }
+{
+    text.split(' ')
+        .filter(|word| !word.is_empty())
+        .collect(alloc)
+}
+
+/// Reads the words of a line.
+fn read_words(alloc: Global, words: &[&str]) -> Result<Line, AllocError>
+    ensures { IfOk result (Says (map (λ word. word.now) words.now)) }
+{
+    match commands(alloc)?.try_get_matches_from(words) {
+        Ok(matches) => Ok(line_of(&matches)),
+        Err(error) => match error.kind() {
+            ErrorKind::OutOfMemory => Err(AllocError),
+            ErrorKind::DisplayHelp => Ok(Line::Help),
+            _ => Ok(Line::Refused),
+        },
+    }
+}
+
+/// The commands, each with its flags.
+fn commands<'a>(alloc: Global) -> Result<Command<'a>, AllocError>
+    ensures { IfOk result (λ command. app_of command ≡ table) }
+{
+    let help = Command::new(alloc, "help");
+    let closed = Command::new(alloc, "closed");
+    let psyn = Command::new(alloc, "psyn")
+        .no_binary_name(true)
+        .disable_help_subcommand(true);
+    let psyn = psyn.subcommand(help)?;
+    psyn.subcommand(closed)
+}
+
+/// The line that was read.
+fn line_of(matches: &ArgMatches) -> Line
+    ensures { result ≡ line_said (subcommand_rows_of matches.now) }
+{
+    match matches.subcommand_name() {
+        Some("help") => Line::Help,
+        Some("closed") => Line::Closed,
+        _ => Line::Refused,
+    }
+}

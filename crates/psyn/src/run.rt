@@ -1,0 +1,54 @@
+//! The program, from what it reads to what it writes.
+
+ghost use Rattle.std.specs.Prelude.{◌≡◌, ◌+◌, false};
+ghost use Rattle.psyn.specs.Input.{ConsumesAtMost};
+ghost use Rattle.psyn.specs.Streams.{sink_state};
+ghost use Rattle.psyn.specs.Replies.{Reply};
+ghost use Rattle.psyn.specs.Program.{Replies, Writes};
+
+use crate::answer::{Answer, FAULT, OUT_OF_MEMORY, READ_FAULT};
+use crate::program::answer_to;
+use crate::reading::{INPUT_LIMIT, InputFault, read_input};
+use crate::sending::send;
+use crate::stream::{Sink, Source};
+use std::alloc::Global;
+
+/// Reads the whole input, writes the answer to it, and gives the exit status.
+///
+/// It stops reading at the first read that fails and at the byte past `INPUT_LIMIT`. Nothing is
+/// written after a write or a flush that failed, or after a write that took no bytes; the status is
+/// then 1, and what went out is a beginning of the answer.
+pub fn run<R: Source, W: Sink>(alloc: Global, reader: &mut R, writer: &mut W) -> u8
+    requires reader { R.has_failed reader.old ≡ false }
+    requires writer { W.has_failed writer.old ≡ false }
+    ensures consumed { ConsumesAtMost (R.remaining reader.old) (R.remaining reader.new)
+        (INPUT_LIMIT + 1) }
+    ensures answered { (reply : Reply)
+        × Replies (R.remaining reader.old) (R.has_failed reader.new) reply
+        × Writes (sink_state W.contents W.has_failed W.stall_count W.is_stalled W.is_flushed writer.old)
+        (sink_state W.contents W.has_failed W.stall_count W.is_stalled W.is_flushed writer.new)
+        reply result }
+{
+    match read_input(alloc, reader) {
+        Ok(input) => match answer_to(alloc, input.as_slice()) {
+            Ok(answer) => write_reply(writer, answer.text.as_slice(), answer.status),
+            Err(_) => write_reply(writer, OUT_OF_MEMORY, FAULT),
+        },
+        Err(InputFault::Unreadable) => write_reply(writer, READ_FAULT, FAULT),
+        Err(InputFault::OutOfMemory) => write_reply(writer, OUT_OF_MEMORY, FAULT),
+    }
+}
+
+/// Writes an answer, and gives the exit status.
+fn write_reply<W: Sink>(writer: &mut W, text: &[u8], status: u8) -> u8
+    requires { W.has_failed writer.old ≡ false }
+    ensures { Writes
+        (sink_state W.contents W.has_failed W.stall_count W.is_stalled W.is_flushed writer.old)
+        (sink_state W.contents W.has_failed W.stall_count W.is_stalled W.is_flushed writer.new)
+        (record { text = text.now; status = status }) result }
+{
+    match send(writer, text) {
+        Ok(()) => status,
+        Err(_) => FAULT,
+    }
+}

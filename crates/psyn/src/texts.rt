@@ -1,0 +1,129 @@
+//! The texts of the commands, read, and the lines of what is wrong with them.
+
+ghost use Rattle.std.specs.Prelude.{◌≡◌, ◌<◌, IfOk};
+ghost use Rattle.ps_certificate.specs.Certificates.{Fits};
+ghost use Rattle.ps_game.specs.Games.{vertex_count};
+ghost use Rattle.psyn.specs.Outcomes.{Gives};
+ghost use Rattle.psyn.specs.Texts.{CutsInTwo, ReadsGameText, ReadsCertificateText, ReadsCertified, NamesVertices};
+ghost use Rattle.psyn.specs.Texts as spec;
+
+use crate::answer::Refusal;
+use crate::cut::cut;
+use crate::fault::{FaultLine, PlainFault, TextFault};
+use ps_certificate::{CertCause, CertFault, Certificate, Flaw};
+use ps_game::NamedGame;
+use ps_pgsolver::{PgCause, PgFault};
+use std::alloc::Global;
+
+impl From<PgFault> for Refusal {
+    ghost use Rattle.psyn.specs.Refusals.{game_refusal};
+
+    ghost from_gives = { λ fault given. given ≡ game_refusal fault };
+
+    fn from(fault: PgFault) -> Self {
+        match fault {
+            PgFault::Text { cause, offset } => {
+                let fault = match cause {
+                    PgCause::Syntax => TextFault::GameSyntax,
+                    PgCause::NoSuccessor => TextFault::NoSuccessor,
+                    PgCause::UnknownSuccessor => TextFault::UnknownSuccessor,
+                    PgCause::NodeTwice => TextFault::NodeTwice,
+                    PgCause::Number => TextFault::GameNumber,
+                    PgCause::Limit => TextFault::GameLimit,
+                };
+                Refusal::Fault(FaultLine::Text { fault, offset })
+            }
+            PgFault::OutOfMemory => Refusal::OutOfMemory,
+        }
+    }
+}
+
+impl From<CertFault> for Refusal {
+    ghost use Rattle.psyn.specs.Refusals.{certificate_refusal};
+
+    ghost from_gives = { λ fault given. given ≡ certificate_refusal fault };
+
+    fn from(fault: CertFault) -> Self {
+        match fault {
+            CertFault::Text { cause, offset } => {
+                let fault = match cause {
+                    CertCause::Syntax => TextFault::CertificateSyntax,
+                    CertCause::OtherGame => TextFault::OtherGame,
+                };
+                Refusal::Fault(FaultLine::Text { fault, offset })
+            }
+            CertFault::OutOfMemory => Refusal::OutOfMemory,
+        }
+    }
+}
+
+/// The two texts that a line `%%` parts.
+fn two_texts(texts: &[u8]) -> Result<(&[u8], &[u8]), Refusal>
+    ensures { Gives (λ parts. (parts.0.now, parts.1.now)) (CutsInTwo texts.now) result }
+{
+    match cut(texts) {
+        Some(parts) => Ok(parts),
+        None => Err(Refusal::Fault(FaultLine::Plain(PlainFault::MissingText))),
+    }
+}
+
+/// A game.
+fn read_game(alloc: Global, text: &[u8]) -> Result<NamedGame, Refusal>
+    ensures { Gives (λ game. game) (ReadsGameText text.now) result }
+{
+    match ps_pgsolver::read(alloc, text) {
+        Ok(game) => Ok(game),
+        Err(fault) => Err(Refusal::from(fault)),
+    }
+}
+
+/// A certificate of the game.
+fn read_certificate(alloc: Global, game: &NamedGame, text: &[u8]) -> Result<Certificate, Refusal>
+    ensures read { Gives (λ certificate. certificate) (ReadsCertificateText game.now text.now) result }
+    ensures fits { IfOk result (Fits game.now.game) }
+{
+    match ps_certificate::read(alloc, text, game) {
+        Ok(certificate) => Ok(certificate),
+        Err(fault) => Err(Refusal::from(fault)),
+    }
+}
+
+/// A game, and a certificate of it.
+pub fn read_certified(alloc: Global, texts: &[u8]) -> Result<(NamedGame, Certificate), Refusal>
+    ensures read { Gives (λ both. (both.0, both.1)) (ReadsCertified texts.now) result }
+    ensures fits { IfOk result (λ both. Fits both.0.game both.1) }
+{
+    let (first, second) = two_texts(texts)?;
+    let game = read_game(alloc, first)?;
+    let certificate = read_certificate(alloc, &game, second)?;
+    Ok((game, certificate))
+}
+
+/// The line of a flaw, which names vertices by their ids.
+pub fn flaw_line(game: &NamedGame, flaw: Flaw) -> FaultLine
+    requires { NamesVertices (vertex_count game.now.game) flaw }
+    ensures { result ≡ spec.flaw_line game.now flaw }
+{
+    match flaw {
+        Flaw::Move { vertex, choice } => FaultLine::Move {
+            vertex: game.id(vertex),
+            choice: match choice {
+                Some(successor) => Some(game.id(successor)),
+                None => None,
+            },
+        },
+        Flaw::Escape { vertex, successor } => FaultLine::Escape {
+            vertex: game.id(vertex),
+            successor: game.id(successor),
+        },
+        Flaw::Rank {
+            vertex,
+            successor,
+            priority,
+        } => FaultLine::Rank {
+            vertex: game.id(vertex),
+            successor: game.id(successor),
+            priority,
+        },
+    }
+}
