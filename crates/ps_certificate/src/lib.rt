@@ -2,6 +2,8 @@
 #![tactic(auto)]
 
 mod certificate;
+#[cfg(test)]
+mod check_tests;
 mod checking;
 mod closing;
 mod cursor;
