@@ -1,0 +1,13 @@
+use Rattle.std.proofs.Common.{length, drop, ◌≤◌, ◌≡◌, ◌-◌}
+use Rattle.ps_hoa.specs.Scan.{lex}
+use Rattle.ps_hoa.proofs.tokens.behind_blanks.Given as goal
+
+abbrev pub invariant-loop-count : goal.invariant-loop-count
+invariant-loop-count l = record {
+  from : l.from ≤ l.at;
+  within : l.at ≤ length l.source;
+  same : lex l.at (drop l.at l.source) ≡ lex l.from (drop l.from l.source);
+}
+
+abbrev pub decreases-loop-count : goal.decreases-loop-count
+decreases-loop-count l = length l.source - l.at

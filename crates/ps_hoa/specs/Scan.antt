@@ -1,0 +1,153 @@
+-- The tokens found by going over the bytes once: where the reader is, and what is still to come.
+use Rattle.std.specs.Prelude.{◌≡◌, ℕ, zero, suc, ◌+◌, ◌-◌, ◌<◌, ◌≤◌, ◌&&◌, Bool, true, false, cond, List, [], ◌∷◌, ◌++◌, length, take, drop, codes, if◌then◌else◌, nat_eq, nat_lt, Option, None, Some}
+use Rattle.std.specs.List.{prefix_len}
+use Rattle.std.specs.Str.{bytes_eq}
+use Rattle.ps_text.specs.Answers.{Piece, Stream}
+use Rattle.ps_hoa.specs.Bytes.{class_of, is_digit, is_name_byte}
+use Rattle.ps_hoa.specs.Tokens.{Sign, marked}
+use Rattle.ps_hoa.specs.declared.tokens.Class.{Class}
+use Rattle.ps_hoa.specs.declared.tokens.Class.TheVariants.{Blank, Digit, Letter, At, Quote, Dash, Slash, Sign as SignOf, Other}
+use Rattle.ps_hoa.specs.declared.tokens.Kind.{Kind}
+use Rattle.ps_hoa.specs.declared.tokens.Kind.TheVariants.{Header, Word, AliasName, Int, ZeroRun, Text, Body, End, Abort, OpenComment, Odd, Finish}
+use Rattle.ps_hoa.specs.declared.tokens.Step.{Step}
+use Rattle.ps_hoa.specs.declared.tokens.Step.TheVariants.{Skip, Found}
+use Rattle.ps_hoa.specs.declared.tokens.Marks.{Marks}
+
+abbrev pub head_or_zero : List ℕ → ℕ
+head_or_zero [] = 0
+head_or_zero (b ∷ bs) = b
+
+abbrev pub one_more : Option ℕ → Option ℕ
+one_more None = None
+one_more (Some n) = Some (suc n)
+
+-- that many more, if there is a number
+abbrev pub plus : ℕ → Option ℕ → Option ℕ
+plus k None = None
+plus k (Some n) = Some (k + n)
+
+-- how many bytes end the comment that they stand in, with `depth` others around it; with `skip`, the first one belongs to a pair
+-- before
+unfoldable pub comment_len : List ℕ → Bool → ℕ → Option ℕ
+comment_len [] skip depth = None
+comment_len (b ∷ bs) true depth = one_more (comment_len bs false depth)
+comment_len (b ∷ bs) false depth =
+    if nat_eq b 42 && nat_eq (head_or_zero bs) 47 then (elim depth [ zero ↦ Some 2 | suc d ↦ one_more (comment_len bs true d) ])
+    else (if nat_eq b 47 && nat_eq (head_or_zero bs) 42 then one_more (comment_len bs true (suc depth))
+    else one_more (comment_len bs false depth))
+
+-- how many bytes end the string that they stand in, the closing quote among them
+unfoldable pub quoted_len : List ℕ → Bool → Option ℕ
+quoted_len [] skip = None
+quoted_len (b ∷ bs) true = one_more (quoted_len bs false)
+quoted_len (b ∷ bs) false = if nat_eq b 34 then Some 1 else one_more (quoted_len bs (nat_eq b 92))
+
+abbrev pub begins_with : List ℕ → List ℕ → Bool
+begins_with bytes word = bytes_eq (take (length word) bytes) word
+
+-- what begins here, and how many bytes it has: a token, by the class of its first byte and the bytes behind that
+abbrev pub number_step : ℕ → List ℕ → Step
+number_step b bs =
+    if nat_eq b 48 && nat_lt 0 (prefix_len is_digit bs) then Found ZeroRun (1 + prefix_len is_digit bs)
+    else Found Int (1 + prefix_len is_digit bs)
+
+abbrev pub name_step : List ℕ → Step
+name_step bs =
+    if nat_eq (head_or_zero (drop (prefix_len is_name_byte bs) bs)) 58 then Found Header (2 + prefix_len is_name_byte bs)
+    else Found Word (1 + prefix_len is_name_byte bs)
+
+abbrev pub alias_step : List ℕ → Step
+alias_step bs = if nat_eq (prefix_len is_name_byte bs) 0 then Found Odd 1 else Found AliasName (1 + prefix_len is_name_byte bs)
+
+abbrev pub text_by : Option ℕ → Step
+text_by None = Found Odd 1
+text_by (Some n) = Found Text (1 + n)
+
+abbrev pub text_step : List ℕ → Step
+text_step bs = text_by (quoted_len bs false)
+
+abbrev pub mark_step : List ℕ → Step
+mark_step bs =
+    if begins_with bs (codes "-BODY--") then Found Body 8
+    else (if begins_with bs (codes "-END--") then Found End 7
+    else (if begins_with bs (codes "-ABORT--") then Found Abort 9
+    else Found Odd 1))
+
+abbrev pub comment_by : Option ℕ → Step
+comment_by None = Found OpenComment 2
+comment_by (Some n) = Skip (2 + n)
+
+abbrev pub comment_step : List ℕ → Step
+comment_step bs = if nat_eq (head_or_zero bs) 42 then comment_by (comment_len (drop 1 bs) false 0) else Found Odd 1
+
+abbrev pub class_step : Class → ℕ → List ℕ → Step
+class_step Blank b bs = Skip 1
+class_step Digit b bs = number_step b bs
+class_step Letter b bs = name_step bs
+class_step At b bs = alias_step bs
+class_step Quote b bs = text_step bs
+class_step Dash b bs = mark_step bs
+class_step Slash b bs = comment_step bs
+class_step (SignOf kind) b bs = Found kind 1
+class_step Other b bs = Found Odd 1
+
+unfoldable pub step_of : List ℕ → Step
+step_of [] = Found Finish 0
+step_of (b ∷ bs) = class_step (class_of b) b bs
+
+abbrev pub step_len : Step → ℕ
+step_len (Skip n) = n
+step_len (Found kind n) = n
+
+abbrev pub SkipsSome : Step → Type 0
+SkipsSome (Skip n) = 0 < n
+SkipsSome (Found kind n) = Unit {0}
+
+-- the end of a text is no token of its bytes
+abbrev pub is_finish : Kind → Bool
+is_finish Finish = true
+is_finish kind = false
+
+abbrev pub IsTokenStep : Step → Type 0
+IsTokenStep (Skip n) = Unit {0}
+IsTokenStep (Found kind n) = is_finish kind ≡ false
+
+abbrev pub IsTokenClass : Class → Type 0
+IsTokenClass (SignOf kind) = is_finish kind ≡ false
+IsTokenClass class = Unit {0}
+
+abbrev pub IsNoBlank : Step → Type 0
+IsNoBlank (Skip n) = ⊥
+IsNoBlank (Found kind n) = Unit {0}
+
+abbrev pub fresh : Marks
+fresh = record { states = false; propositions = false; acceptance = false; controllable = false; ended = false }
+
+-- the tokens still to come, where the first `skip` bytes belong to what was found before
+unfoldable pub lex_behind : List ℕ → ℕ → ℕ → List (Piece Sign)
+lex_behind [] skip at = []
+lex_behind (b ∷ bs) (suc skip) at = lex_behind bs skip (at + 1)
+lex_behind (b ∷ bs) zero at =
+    elim (step_of (b ∷ bs)) [
+      Skip n ↦ lex_behind bs (n - 1) (at + 1)
+    | Found kind n ↦ record { sign = record { kind = kind; text = take n (b ∷ bs) }; start = at } ∷ lex_behind bs (n - 1) (at + 1)
+    ]
+
+abbrev pub lex : ℕ → List ℕ → List (Piece Sign)
+lex at bytes = lex_behind bytes 0 at
+
+-- where a reader of tokens is
+pub record Reading : Type 0 where
+  pub source : List ℕ
+  pub at : ℕ
+  pub marks : Marks
+
+unfoldable pub stream_of : Reading → Stream Sign
+stream_of r = record { pieces = marked r.marks (lex r.at (drop r.at r.source)); end = length r.source }
+
+-- the next piece, which at the end of the text is none of its tokens
+abbrev pub next_of : Stream Sign → Piece Sign
+next_of s = elim s.pieces [ [] ↦ record { sign = record { kind = Finish; text = [] }; start = s.end } | p ∷ ps ↦ p ]
+
+abbrev pub behind_next : Stream Sign → Stream Sign
+behind_next s = elim s.pieces [ [] ↦ s | p ∷ ps ↦ record { pieces = ps; end = s.end } ]

@@ -1,0 +1,15 @@
+-- A token of the code, and where it stands.
+use Rattle.std.specs.Prelude.{◌≡◌, ℕ, ◌≤◌, List, length, slice_range}
+use Rattle.ps_text.specs.Answers.{Piece}
+use Rattle.ps_hoa.specs.Tokens.{Sign}
+use Rattle.ps_hoa.specs.declared.tokens.Token.{Token}
+
+-- what the grammar sees of a token
+abbrev pub piece_of : Token → Piece Sign
+piece_of token = record { sign = record { kind = token.kind; text = token.text.now }; start = token.start }
+
+-- the token's text is that between its two offsets
+pub record IsSpan (source : List ℕ) (token : Token) : Type 0 where
+  pub rises : token.start ≤ token.stop
+  pub within : token.stop ≤ length source
+  pub text : token.text.now ≡ slice_range source token.start token.stop

@@ -1,0 +1,161 @@
+-- The tokens of an HOA text, as a relation between its bytes and a list of tokens.
+--     Sign      a token as the grammar sees it: its kind and its bytes
+--     IsComment text      `/* .. */`, with comments of its own inside
+--     IsBlankRun text      blanks and comments
+--     Stands kind text rest      a token of that kind, where rest is what follows: the longest that can begin there
+--     IsToken kind text rest      the same, or one that can't stand: a comment that is not closed, or a byte that begins no token
+--     AreTokens at bytes pieces      the tokens of bytes, the first of which has the offset at, with blanks between
+--     marked marks pieces      the same, where names that may stand once are told from a second one, and what is behind `--END--`
+--               from what is not
+use Rattle.std.specs.Prelude.{◌≡◌, ℕ, suc, ◌+◌, ◌<◌, ◌⊎◌, ◌≢◌, ◌||◌, Bool, true, false, cond, List, [], ◌∷◌, ◌++◌, length, codes, if◌then◌else◌, nat_eq}
+use Rattle.std.specs.Str.{bytes_eq}
+use Rattle.std.specs.List.{concat}
+use Rattle.ps_text.specs.Answers.{Piece}
+use Rattle.ps_hoa.specs.Bytes.{class_of, is_digit, is_name_byte}
+use Rattle.ps_hoa.specs.declared.tokens.Class.TheVariants.{Blank, Letter, Sign as SignOf}
+use Rattle.ps_hoa.specs.declared.tokens.Kind.{Kind}
+use Rattle.ps_hoa.specs.declared.tokens.Kind.TheVariants.{Header, HeaderAgain, Word, AliasName, Int, ZeroRun, Text, Body, End, Abort, OpenComment, Odd, Behind, Finish}
+use Rattle.ps_hoa.specs.declared.tokens.Marks.{Marks}
+
+pub record Sign : Type 0 where
+  pub kind : Kind
+  pub text : List ℕ
+
+-- ## Blanks
+
+-- These bytes end the comment that they stand in, with `depth` further ones around it, and no sooner than with the last byte.
+pub data Ends : ℕ → List ℕ → Type 0 where
+  closes_last : {b c : ℕ} → b ≡ 42 → c ≡ 47 → Ends 0 (b ∷ c ∷ [])
+  closes : {depth b c : ℕ} {bs : List ℕ} → b ≡ 42 → c ≡ 47 → Ends depth bs → Ends (suc depth) (b ∷ c ∷ bs)
+  opens : {depth b c : ℕ} {bs : List ℕ} → b ≡ 47 → c ≡ 42 → Ends (suc depth) bs → Ends depth (b ∷ c ∷ bs)
+  goes_on : {depth b c : ℕ} {bs : List ℕ} → ((b ≡ 42) × (c ≡ 47) → ⊥) → ((b ≡ 47) × (c ≡ 42) → ⊥) → Ends depth (c ∷ bs) → Ends depth (b ∷ c ∷ bs)
+
+abbrev pub IsComment : List ℕ → Type 0
+IsComment text = (inside : List ℕ) × (text ≡ 47 ∷ 42 ∷ inside) × Ends 0 inside
+
+abbrev pub IsBlankPart : List ℕ → Type 0
+IsBlankPart text = ((b : ℕ) × (text ≡ b ∷ []) × (class_of b ≡ Blank)) ⊎ IsComment text
+
+pub data IsBlankRun : List ℕ → Type 0 where
+  no_blank : IsBlankRun []
+  blank : {part rest : List ℕ} → IsBlankPart part → IsBlankRun rest → (all : List ℕ) → all ≡ part ++ rest → IsBlankRun all
+
+-- ## Tokens
+
+abbrev pub AllBytes : (ℕ → Bool) → List ℕ → Type 0
+AllBytes p [] = Unit {0}
+AllBytes p (b ∷ bs) = (p b ≡ true) × AllBytes p bs
+
+abbrev pub IsName : List ℕ → Type 0
+IsName [] = ⊥
+IsName (b ∷ bs) = (class_of b ≡ Letter) × AllBytes is_name_byte bs
+
+abbrev pub BeginsWithZero : List ℕ → Type 0
+BeginsWithZero [] = ⊥
+BeginsWithZero (b ∷ bs) = b ≡ 48
+
+-- what stands between quotes: bytes other than `"` and a backslash, and pairs of a backslash and any byte
+pub data IsQuoted : List ℕ → Type 0 where
+  nothing : IsQuoted []
+  plain : {b : ℕ} {bs : List ℕ} → b ≢ 34 → b ≢ 92 → IsQuoted bs → IsQuoted (b ∷ bs)
+  escaped : {b c : ℕ} {bs : List ℕ} → b ≡ 92 → IsQuoted bs → IsQuoted (b ∷ c ∷ bs)
+
+-- a sign by itself is one byte
+abbrev pub HasForm : Kind → List ℕ → Type 0
+HasForm Header text = (name : List ℕ) × IsName name × (text ≡ name ++ 58 ∷ [])
+HasForm Word text = IsName text
+HasForm AliasName text = (name : List ℕ) × (0 < length name) × AllBytes is_name_byte name × (text ≡ 64 ∷ name)
+HasForm Int text = (0 < length text) × AllBytes is_digit text × (1 < length text → BeginsWithZero text → ⊥)
+HasForm ZeroRun text = (1 < length text) × AllBytes is_digit text × BeginsWithZero text
+HasForm Text text = (inside : List ℕ) × IsQuoted inside × (text ≡ 34 ∷ inside ++ 34 ∷ [])
+HasForm Body text = text ≡ codes "--BODY--"
+HasForm End text = text ≡ codes "--END--"
+HasForm Abort text = text ≡ codes "--ABORT--"
+HasForm HeaderAgain text = ⊥
+HasForm OpenComment text = ⊥
+HasForm Odd text = ⊥
+HasForm Behind text = ⊥
+HasForm Finish text = ⊥
+HasForm kind text = (b : ℕ) × (text ≡ b ∷ []) × (class_of b ≡ SignOf kind)
+
+-- the bytes that make a token of that kind longer
+abbrev pub lengthens : Kind → ℕ → Bool
+lengthens Word b = is_name_byte b || nat_eq b 58
+lengthens AliasName b = is_name_byte b
+lengthens Int b = is_digit b
+lengthens ZeroRun b = is_digit b
+lengthens kind b = false
+
+abbrev pub StopsBefore : (ℕ → Bool) → List ℕ → Type 0
+StopsBefore p [] = Unit {0}
+StopsBefore p (b ∷ bs) = p b ≡ false
+
+pub record Stands (kind : Kind) (text rest : List ℕ) : Type 0 where
+  pub form : HasForm kind text
+  pub longest : StopsBefore (lengthens kind) rest
+
+-- a comment begins that is not closed
+pub record IsOpen (text rest : List ℕ) : Type 0 where
+  pub begins : text ≡ codes "/*"
+  pub unclosed : (comment more : List ℕ) → text ++ rest ≡ comment ++ more → IsComment comment → ⊥
+
+-- no token, comment or blank begins here
+pub record IsOdd (text rest : List ℕ) : Type 0 where
+  pub byte : ℕ
+  pub text_is : text ≡ byte ∷ []
+  pub no_blank : class_of byte ≢ Blank
+  pub no_comment : (more : List ℕ) → text ++ rest ≡ codes "/*" ++ more → ⊥
+  pub no_token : (kind : Kind) (token more : List ℕ) → text ++ rest ≡ token ++ more → Stands kind token more → ⊥
+
+abbrev pub IsToken : Kind → List ℕ → List ℕ → Type 0
+IsToken OpenComment text rest = IsOpen text rest
+IsToken Odd text rest = IsOdd text rest
+IsToken kind text rest = Stands kind text rest
+
+-- one token behind blanks, and what follows
+pub record IsNext (at : ℕ) (bytes : List ℕ) (piece : Piece Sign) (rest : List ℕ) : Type 0 where
+  pub blanks : List ℕ
+  pub split : bytes ≡ blanks ++ (piece.sign.text ++ rest)
+  pub are_blanks : IsBlankRun blanks
+  pub is_token : IsToken piece.sign.kind piece.sign.text rest
+  pub start : piece.start ≡ at + length blanks
+
+abbrev pub AreTokens : ℕ → List ℕ → List (Piece Sign) → Type 0
+AreTokens at bytes [] = IsBlankRun bytes
+AreTokens at bytes (p ∷ ps) = (rest : List ℕ) × IsNext at bytes p rest × AreTokens (p.start + length p.sign.text) rest ps
+
+-- ## Names that may stand once, and what stands behind the end
+
+-- the name stood before (`HOA:` always did)
+abbrev pub is_known : Marks → List ℕ → Bool
+is_known marks name =
+    if bytes_eq name (codes "HOA:") then true
+    else (if bytes_eq name (codes "States:") then marks.states
+    else (if bytes_eq name (codes "AP:") then marks.propositions
+    else (if bytes_eq name (codes "Acceptance:") then marks.acceptance
+    else (if bytes_eq name (codes "controllable-AP:") then marks.controllable
+    else false))))
+
+abbrev pub with_name : Marks → List ℕ → Marks
+with_name marks name =
+    if bytes_eq name (codes "States:") then record marks { states = true }
+    else (if bytes_eq name (codes "AP:") then record marks { propositions = true }
+    else (if bytes_eq name (codes "Acceptance:") then record marks { acceptance = true }
+    else (if bytes_eq name (codes "controllable-AP:") then record marks { controllable = true }
+    else marks)))
+
+-- Behind `--END--` only a comment that is not closed is told from other tokens.
+abbrev pub kind_here : Marks → Kind → List ℕ → Kind
+kind_here marks OpenComment text = OpenComment
+kind_here marks Finish text = Finish
+kind_here marks Header text = if marks.ended then Behind else (if is_known marks text then HeaderAgain else Header)
+kind_here marks kind text = if marks.ended then Behind else kind
+
+abbrev pub marks_after : Marks → Kind → List ℕ → Marks
+marks_after marks Header text = with_name marks text
+marks_after marks End text = record marks { ended = true }
+marks_after marks kind text = marks
+
+abbrev pub marked : Marks → List (Piece Sign) → List (Piece Sign)
+marked marks [] = []
+marked marks (p ∷ ps) = record { sign = record { kind = kind_here marks p.sign.kind p.sign.text; text = p.sign.text }; start = p.start } ∷ marked (marks_after marks p.sign.kind p.sign.text) ps

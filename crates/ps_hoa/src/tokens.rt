@@ -1,0 +1,572 @@
+//! Tokens of an HOA text.
+
+ghost use Rattle.std.specs.Prelude.{◌≡◌, ℕ, ◌+◌, ◌-◌, ◌<◌, ◌≤◌, ◌↔◌, false, List, [], length, drop, slice_index, slice_range, IfSome, IsTrue, ◌==◌, ◌&&◌};
+ghost use Rattle.std.specs.List.{prefix_len};
+ghost use Rattle.std.specs.Str.{bytes_eq};
+ghost use Rattle.ps_text.specs.Answers.{Piece};
+ghost use Rattle.ps_hoa.specs.Bytes.{class_of as class, is_digit, is_name_byte as names};
+ghost use Rattle.ps_hoa.specs.Scan.{alias_step, begins_with, behind_next, comment_len, comment_step, fresh, is_finish, IsNoBlank, IsTokenClass, IsTokenStep, lex, mark_step, name_step, next_of, number_step, quoted_len, SkipsSome, step_len, step_of, stream_of, text_step};
+ghost use Rattle.ps_hoa.specs.Tokens.{AreTokens, is_known, kind_here, marked, marks_after, Sign, with_name};
+ghost use Rattle.ps_hoa.specs.Spans.{IsSpan, piece_of};
+
+use std::marker::Model;
+
+/// What a token is.
+#[derive(Clone, Copy, Debug, PartialEq, Eq)]
+pub enum Kind {
+    /// A name with `:` directly behind it.
+    Header,
+    /// One of the five names that may stand once, a second time.
+    HeaderAgain,
+    /// A name: a letter or `_`, and then letters, digits, `_` and `-`.
+    Word,
+    /// `@`, and then letters, digits, `_` and `-`.
+    AliasName,
+    /// `0`, or digits that don't begin with it.
+    Int,
+    /// Several digits that begin with `0`.
+    ZeroRun,
+    /// A string between quotes.
+    Text,
+    /// `!`
+    Not,
+    /// `&`
+    And,
+    /// `|`
+    Or,
+    /// `(`
+    LeftParen,
+    /// `)`
+    RightParen,
+    /// `[`
+    LeftBracket,
+    /// `]`
+    RightBracket,
+    /// `{`
+    LeftBrace,
+    /// `}`
+    RightBrace,
+    /// `--BODY--`
+    Body,
+    /// `--END--`
+    End,
+    /// `--ABORT--`
+    Abort,
+    /// `/*`, where the comment is not closed.
+    OpenComment,
+    /// A byte that begins no token.
+    Odd,
+    /// A byte that is no blank, behind `--END--`.
+    Behind,
+    /// The end of the text.
+    Finish,
+}
+
+/// What a byte begins.
+#[derive(Clone, Copy)]
+enum Class {
+    Blank,
+    Digit,
+    Letter,
+    At,
+    Quote,
+    Dash,
+    Slash,
+    Sign(Kind),
+    Other,
+}
+
+#[tactic(auto, unfolding(crate::specs::Bytes::class_of))]
+fn class_of(byte: u8) -> Class
+    ensures value { result ≡ class byte }
+    ensures token { IsTokenClass result }
+{
+    match byte {
+        9..=13 => Class::Blank,
+        b' ' => Class::Blank,
+        b'0'..=b'9' => Class::Digit,
+        b'a'..=b'z' => Class::Letter,
+        b'A'..=b'Z' => Class::Letter,
+        b'_' => Class::Letter,
+        b'@' => Class::At,
+        b'"' => Class::Quote,
+        b'-' => Class::Dash,
+        b'/' => Class::Slash,
+        b'!' => Class::Sign(Kind::Not),
+        b'&' => Class::Sign(Kind::And),
+        b'|' => Class::Sign(Kind::Or),
+        b'(' => Class::Sign(Kind::LeftParen),
+        b')' => Class::Sign(Kind::RightParen),
+        b'[' => Class::Sign(Kind::LeftBracket),
+        b']' => Class::Sign(Kind::RightBracket),
+        b'{' => Class::Sign(Kind::LeftBrace),
+        b'}' => Class::Sign(Kind::RightBrace),
+        _ => Class::Other,
+    }
+}
+
+/// Which of the names that may stand once have stood, and whether `--END--` has.
+#[derive(Clone, Copy)]
+pub struct Marks {
+    pub(crate) states: bool,
+    pub(crate) propositions: bool,
+    pub(crate) acceptance: bool,
+    pub(crate) controllable: bool,
+    pub(crate) ended: bool,
+}
+
+/// What begins at a place: what is skipped, or a token, and how many bytes it has.
+#[derive(Clone, Copy)]
+enum Step {
+    Skip(usize),
+    Found(Kind, usize),
+}
+
+/// How many digits stand at the front.
+fn digits_at(bytes: &[u8]) -> usize
+    ensures value { result ≡ prefix_len is_digit bytes.now }
+    ensures within { result ≤ length bytes.now }
+{
+    let mut count = 0;
+    while count < bytes.len() && matches!(class_of(bytes[count]), Class::Digit) {
+        count += 1;
+    }
+    count
+}
+
+fn is_name_byte(byte: u8) -> bool
+    ensures { result ≡ names byte }
+{
+    matches!(class_of(byte), Class::Digit | Class::Letter | Class::Dash)
+}
+
+/// How many bytes of a name stand at the front.
+fn name_at(bytes: &[u8]) -> usize
+    ensures value { result ≡ prefix_len names bytes.now }
+    ensures within { result ≤ length bytes.now }
+{
+    let mut count = 0;
+    while count < bytes.len() && is_name_byte(bytes[count]) {
+        count += 1;
+    }
+    count
+}
+
+/// How many bytes close the string that they stand in, the closing quote among them.
+fn quoted_at(bytes: &[u8]) -> Option<usize>
+    ensures value { result ≡ quoted_len bytes.now false }
+    ensures within { IfSome result (λ n. n ≤ length bytes.now) }
+{
+    let mut skip = false;
+    for (at, byte) in bytes.iter().enumerate() {
+        if skip {
+            skip = false;
+        } else if *byte == b'"' {
+            return Some(at + 1);
+        } else {
+            skip = *byte == b'\\';
+        }
+    }
+    None
+}
+
+/// How many bytes close the comment that they stand in, those of the comments inside it among them.
+fn comment_at(bytes: &[u8]) -> Option<usize>
+    ensures value { result ≡ comment_len bytes.now false 0 }
+    ensures within { IfSome result (λ n. n ≤ length bytes.now) }
+{
+    let mut skip = false;
+    let mut depth: usize = 0;
+    for at in 0..bytes.len() {
+        if skip {
+            skip = false;
+        } else if is_pair(bytes, at, b'*', b'/') {
+            if depth == 0 {
+                return Some(at + 2);
+            }
+            depth -= 1;
+            skip = true;
+        } else if is_pair(bytes, at, b'/', b'*') {
+            depth += 1;
+            skip = true;
+        }
+    }
+    None
+}
+
+/// Whether these two bytes stand at a place.
+fn is_pair(bytes: &[u8], at: usize, first: u8, second: u8) -> bool
+    requires some { 0 < second }
+    ensures value { result ≡ (slice_index bytes.now at == first && slice_index bytes.now (at + 1) == second) }
+    ensures within { IsTrue result → at + 1 < length bytes.now }
+{
+    at < bytes.len() && bytes[at] == first && byte_at(bytes, at + 1) == second
+}
+
+/// The byte at a place, or 0 behind the end.
+fn byte_at(bytes: &[u8], at: usize) -> u8
+    ensures value { result ≡ slice_index bytes.now at }
+    ensures within { 0 < result → at < length bytes.now }
+{
+    if at < bytes.len() { bytes[at] } else { 0 }
+}
+
+fn number_step(first: u8, bytes: &[u8]) -> Step
+    ensures value { result ≡ number_step first bytes.now }
+    ensures within { step_len result ≤ 1 + length bytes.now }
+    ensures some { 0 < step_len result }
+    ensures token { IsTokenStep result }
+{
+    let count = digits_at(bytes);
+    if first == b'0' && count > 0 {
+        Step::Found(Kind::ZeroRun, 1 + count)
+    } else {
+        Step::Found(Kind::Int, 1 + count)
+    }
+}
+
+fn name_step(bytes: &[u8]) -> Step
+    ensures value { result ≡ name_step bytes.now }
+    ensures within { step_len result ≤ 1 + length bytes.now }
+    ensures some { 0 < step_len result }
+    ensures token { IsTokenStep result }
+{
+    let count = name_at(bytes);
+    if byte_at(bytes, count) == b':' {
+        Step::Found(Kind::Header, 2 + count)
+    } else {
+        Step::Found(Kind::Word, 1 + count)
+    }
+}
+
+fn alias_step(bytes: &[u8]) -> Step
+    ensures value { result ≡ alias_step bytes.now }
+    ensures within { step_len result ≤ 1 + length bytes.now }
+    ensures some { 0 < step_len result }
+    ensures token { IsTokenStep result }
+{
+    match name_at(bytes) {
+        0 => Step::Found(Kind::Odd, 1),
+        count => Step::Found(Kind::AliasName, 1 + count),
+    }
+}
+
+fn text_step(bytes: &[u8]) -> Step
+    ensures value { result ≡ text_step bytes.now }
+    ensures within { step_len result ≤ 1 + length bytes.now }
+    ensures some { 0 < step_len result }
+    ensures token { IsTokenStep result }
+{
+    match quoted_at(bytes) {
+        None => Step::Found(Kind::Odd, 1),
+        Some(count) => Step::Found(Kind::Text, 1 + count),
+    }
+}
+
+fn begins_with(bytes: &[u8], word: &[u8]) -> bool
+    ensures value { result ≡ begins_with bytes.now word.now }
+    ensures within { IsTrue result → length word.now ≤ length bytes.now }
+{
+    bytes.starts_with(word)
+}
+
+fn mark_step(bytes: &[u8]) -> Step
+    ensures value { result ≡ mark_step bytes.now }
+    ensures within { step_len result ≤ 1 + length bytes.now }
+    ensures some { 0 < step_len result }
+    ensures token { IsTokenStep result }
+{
+    if begins_with(bytes, b"-BODY--") {
+        Step::Found(Kind::Body, 8)
+    } else if begins_with(bytes, b"-END--") {
+        Step::Found(Kind::End, 7)
+    } else if begins_with(bytes, b"-ABORT--") {
+        Step::Found(Kind::Abort, 9)
+    } else {
+        Step::Found(Kind::Odd, 1)
+    }
+}
+
+fn comment_step(bytes: &[u8]) -> Step
+    ensures value { result ≡ comment_step bytes.now }
+    ensures within { step_len result ≤ 1 + length bytes.now }
+    ensures some { 0 < step_len result }
+    ensures token { IsTokenStep result }
+{
+    if byte_at(bytes, 0) != b'*' {
+        return Step::Found(Kind::Odd, 1);
+    }
+    match comment_at(&bytes[1..]) {
+        None => Step::Found(Kind::OpenComment, 2),
+        Some(count) => Step::Skip(2 + count),
+    }
+}
+
+/// What begins at the front of these bytes.
+#[tactic(auto, unfolding(crate::specs::Scan::step_of))]
+fn step_at(bytes: &[u8]) -> Step
+    ensures value { result ≡ step_of bytes.now }
+    ensures within { step_len result ≤ length bytes.now }
+    ensures some { 0 < length bytes.now → 0 < step_len result }
+    ensures skips { SkipsSome result }
+    ensures token { 0 < length bytes.now → IsTokenStep result }
+{
+    let Some((first, rest)) = bytes.split_first() else {
+        return Step::Found(Kind::Finish, 0);
+    };
+    match class_of(*first) {
+        Class::Blank => Step::Skip(1),
+        Class::Digit => number_step(*first, rest),
+        Class::Letter => name_step(rest),
+        Class::At => alias_step(rest),
+        Class::Quote => text_step(rest),
+        Class::Dash => mark_step(rest),
+        Class::Slash => comment_step(rest),
+        Class::Sign(kind) => Step::Found(kind, 1),
+        Class::Other => Step::Found(Kind::Odd, 1),
+    }
+}
+
+/// Where the blanks and comments that begin at a place end.
+fn behind_blanks(source: &[u8], from: usize) -> usize
+    requires { from ≤ length source.now }
+    ensures from { from ≤ result }
+    ensures within { result ≤ length source.now }
+    ensures token { IsNoBlank (step_of (drop result source.now)) }
+    ensures same { lex result (drop result source.now) ≡ lex from (drop from source.now) }
+{
+    let mut at = from;
+    while let Step::Skip(count) = step_at(&source[at..]) {
+        at += count;
+    }
+    at
+}
+
+fn is_same(name: &[u8], word: &[u8]) -> bool
+    ensures { result ≡ bytes_eq name.now word.now }
+{
+    name == word
+}
+
+impl Marks {
+    /// Nothing has stood yet but `HOA:`.
+    fn new() -> Self
+        ensures { result ≡ fresh }
+    {
+        Marks {
+            states: false,
+            propositions: false,
+            acceptance: false,
+            controllable: false,
+            ended: false,
+        }
+    }
+
+    /// Whether a name that may stand once has stood.
+    fn has(&self, name: &[u8]) -> bool
+        ensures { result ≡ is_known self.now name.now }
+    {
+        if is_same(name, b"HOA:") {
+            true
+        } else if is_same(name, b"States:") {
+            self.states
+        } else if is_same(name, b"AP:") {
+            self.propositions
+        } else if is_same(name, b"Acceptance:") {
+            self.acceptance
+        } else if is_same(name, b"controllable-AP:") {
+            self.controllable
+        } else {
+            false
+        }
+    }
+
+    /// What a token is behind these.
+    fn kind_of(&self, kind: Kind, text: &[u8]) -> Kind
+        ensures { result ≡ kind_here self.now kind text.now }
+    {
+        match kind {
+            Kind::Finish => kind,
+            Kind::OpenComment => kind,
+            _ if self.ended => Kind::Behind,
+            Kind::Header if self.has(text) => Kind::HeaderAgain,
+            _ => kind,
+        }
+    }
+
+    fn with_name(&mut self, name: &[u8])
+        ensures { self.new ≡ with_name self.old name.now }
+    {
+        if is_same(name, b"States:") {
+            self.states = true;
+        } else if is_same(name, b"AP:") {
+            self.propositions = true;
+        } else if is_same(name, b"Acceptance:") {
+            self.acceptance = true;
+        } else if is_same(name, b"controllable-AP:") {
+            self.controllable = true;
+        }
+    }
+
+    /// Goes on behind a token.
+    fn pass(&mut self, kind: Kind, text: &[u8])
+        ensures { self.new ≡ marks_after self.old kind text.now }
+    {
+        match kind {
+            Kind::Header => self.with_name(text),
+            Kind::End => self.ended = true,
+            _ => {}
+        }
+    }
+}
+
+/// A token of a text.
+#[derive(Clone, Copy)]
+pub struct Token<'a> {
+    /// What it is.
+    pub kind: Kind,
+    /// Its bytes.
+    pub text: &'a [u8],
+    /// The offset of its first byte.
+    pub start: usize,
+    /// The offset behind its last byte.
+    pub stop: usize,
+}
+
+/// The tokens of a text that are still to come.
+#[derive(Drop)]
+pub struct Tokens<'a> {
+    source: &'a [u8],
+    at: usize,
+    marks: Marks,
+}
+
+impl<'a> Model for Tokens<'a> {
+    ghost use Rattle.std.specs.Prelude.{◌≤◌, length, drop};
+    ghost use Rattle.ps_hoa.specs.Scan.{Reading, step_of, IsNoBlank};
+
+    ghost Value = { Reading };
+
+    ghost view = { λ t. record { source = t.source.now; at = t.at; marks = t.marks } };
+
+    ghost invariant = { λ t. (t.at ≤ length t.source.now) × IsNoBlank (step_of (drop t.at t.source.now)) };
+}
+
+impl<'a> Tokens<'a> {
+    /// The tokens from a place of a text on.
+    pub fn new(source: &'a [u8], from: usize) -> Self
+        requires { from ≤ length source.now }
+        ensures pieces { (pieces : List (Piece Sign)) → AreTokens from (drop from source.now) pieces → (stream_of result).pieces ≡ marked fresh pieces }
+        ensures end { (stream_of result).end ≡ length source.now }
+        ensures source { result.source ≡ source.now }
+    {
+        Tokens {
+            source,
+            at: behind_blanks(source, from),
+            marks: Marks::new(),
+        }
+    }
+
+    /// The next token, which at the end of the text is `Finish`.
+    pub fn peek(&self) -> Token<'a>
+        ensures next { piece_of result ≡ next_of (stream_of self.now) }
+        ensures finish { (result.kind ≡ Kind.Finish) ↔ ((stream_of self.now).pieces ≡ []) }
+        ensures text { IsSpan self.now.source result }
+        ensures start { result.start ≡ self.now.at }
+    {
+        let (kind, stop) = self.found();
+        self.token(kind, stop)
+    }
+
+    /// Goes on behind the next token, which it returns.
+    pub fn advance(&mut self) -> Token<'a>
+        ensures next { piece_of result ≡ next_of (stream_of self.old) }
+        ensures rest { stream_of self.new ≡ behind_next (stream_of self.old) }
+        ensures text { IsSpan self.old.source result }
+        ensures source { self.new.source ≡ self.old.source }
+        ensures rises { result.stop ≤ self.new.at }
+    {
+        let (kind, stop) = self.found();
+        let token = self.token(kind, stop);
+        self.marks.pass(kind, token.text);
+        self.at = behind_blanks(self.source, stop);
+        token
+    }
+
+    /// What the next token is by itself, and where it ends.
+    fn found(&self) -> (Kind, usize)
+        ensures token { step_of (drop self.now.at self.now.source) ≡ Step.Found result.0 (result.1 - self.now.at) }
+        ensures rises { self.now.at ≤ result.1 }
+        ensures within { result.1 ≤ length self.now.source }
+        ensures some { self.now.at < length self.now.source → self.now.at < result.1 }
+        ensures proper { self.now.at < length self.now.source → is_finish result.0 ≡ false }
+    {
+        match step_at(&self.source[self.at..]) {
+            Step::Found(kind, count) => (kind, self.at + count),
+            Step::Skip(_) => unreachable!(),
+        }
+    }
+
+    /// The token of that kind from here to there.
+    fn token(&self, kind: Kind, stop: usize) -> Token<'a>
+        requires rises { self.now.at ≤ stop }
+        requires within { stop ≤ length self.now.source }
+        ensures kind { result.kind ≡ kind_here self.now.marks kind (slice_range self.now.source self.now.at stop) }
+        ensures text { result.text.now ≡ slice_range self.now.source self.now.at stop }
+        ensures start { result.start ≡ self.now.at }
+        ensures stop { result.stop ≡ stop }
+    {
+        let text = &self.source[self.at..stop];
+        Token {
+            kind: self.marks.kind_of(kind, text),
+            text,
+            start: self.at,
+            stop,
+        }
+    }
+}
+
+/// A text has exactly one list of tokens.
+pub fn one_list_of_tokens()
+    ensures some { (at : ℕ) (bytes : List ℕ) → (pieces : List (Piece Sign)) × AreTokens at bytes pieces }
+    ensures only { (at : ℕ) (bytes : List ℕ) (one two : List (Piece Sign)) → AreTokens at bytes one → AreTokens at bytes two → one ≡ two }
+{
+}
+
+#[cfg(test)]
+mod tests {
+    use std::test::Fail;
+
+    use crate::tokens::{Kind, Tokens};
+
+    #[test]
+    fn tokens_have_their_spans(rt: HostRuntime) -> Result<(), Fail> {
+        let text = b"t--BODY-- @a-b 0t /*a/*b*/*/ \"x\\\"\" 007 AP: AP: [!0|t] --END-- x";
+        let mut tokens = Tokens::new(text, 0);
+        for (kind, start, stop) in [
+            (Kind::Word, 0, 9),
+            (Kind::AliasName, 10, 14),
+            (Kind::Int, 15, 16),
+            (Kind::Word, 16, 17),
+            (Kind::Text, 29, 34),
+            (Kind::ZeroRun, 35, 38),
+            (Kind::Header, 39, 42),
+            (Kind::HeaderAgain, 43, 46),
+            (Kind::LeftBracket, 47, 48),
+            (Kind::Not, 48, 49),
+            (Kind::Int, 49, 50),
+            (Kind::Or, 50, 51),
+            (Kind::Word, 51, 52),
+            (Kind::RightBracket, 52, 53),
+            (Kind::End, 54, 61),
+            (Kind::Behind, 62, 63),
+            (Kind::Finish, 63, 63),
+        ] {
+            let token = tokens.advance();
+            assert_eq!(rt; token.kind, kind);
+            assert_eq!(rt; token.start, start);
+            assert_eq!(rt; token.stop, stop);
+        }
+        Ok(())
+    }
+}
