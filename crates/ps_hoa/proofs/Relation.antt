@@ -1,11 +1,10 @@
 -- The tokens that stand in a relation to the bytes are those that going over the bytes finds.
-use Rattle.std.proofs.Common.{◌≡◌, ◌≢◌, ℕ, suc, zero, ◌+◌, ◌-◌, ◌<◌, ◌≤◌, ◌&&◌, ◌||◌, Bool, true, false, cond, List, [], ◌∷◌, ◌++◌, length, take, drop, subst, min, length-take, refl, ap, sym, ◌∙◌, arith, length-append, length-drop, append_assoc, append-nil, inl, inr, ◌⊎◌}
+use Rattle.std.proofs.Common.{◌≡◌, ◌≢◌, ℕ, suc, zero, ◌+◌, ◌<◌, ◌≤◌, ◌&&◌, ◌||◌, Bool, true, false, cond, List, [], ◌∷◌, ◌++◌, length, take, drop, subst, min, length-take, refl, ap, sym, ◌∙◌, arith, length-append, length-drop, append_assoc, append-nil, inl, inr, ◌⊎◌}
 use Rattle.std.specs.Prelude.{Option, None, Some, codes, nat_eq, nat_lt}
 use Rattle.std.specs.List.{prefix_len}
 use Rattle.ps_text.specs.Answers.{Piece}
 use Rattle.ps_hoa.specs.Bytes.{is_between, class_of, is_digit, is_name_byte, digits, goes_on as names}
-use Rattle.ps_hoa.specs.Tokens
-use Rattle.ps_hoa.specs.Tokens.{Sign, AreTokens, Ends, closes_last, closes, opens, goes_on, IsComment, IsBlankPart, IsBlankRun, no_blank, blank, AllBytes, IsName, IsQuoted, nothing, plain, escaped, HasForm, lengthens, StopsBefore, Stands, IsOpen, IsOdd, IsToken, IsNext}
+use Rattle.ps_hoa.specs.Tokens.{Sign, AreTokens, Ends, closes_last, closes, opens, goes_on, IsBlankPart, IsBlankRun, no_blank, blank, AllBytes, IsName, IsQuoted, nothing, plain, escaped, lengthens, StopsBefore, Stands, IsToken, IsNext}
 use Rattle.ps_hoa.specs.Scan.{one_more, comment_len, quoted_len, head_or_zero, step_of, class_step, name_step, text_by, comment_by, mark_step, begins_with, comment_step, alias_step, text_step, lex, lex_behind}
 use Rattle.ps_hoa.specs.declared.tokens.Kind.{Kind}
 use Rattle.ps_hoa.specs.declared.tokens.Kind.TheVariants.{Header, HeaderAgain, Word, AliasName, Int, ZeroRun, Text, Not, And, Or, LeftParen, RightParen, LeftBracket, RightBracket, LeftBrace, RightBrace, Body, End, Abort, OpenComment, Odd, Behind, Finish}
@@ -14,14 +13,12 @@ use Rattle.ps_hoa.specs.declared.tokens.Class.TheVariants.{Blank, Digit, Letter,
 use Rattle.ps_hoa.specs.declared.tokens.Step.{Step}
 use Rattle.ps_hoa.specs.declared.tokens.Step.TheVariants.{Skip, Found}
 use Rattle.ps_hoa.proofs.Scanning.{lex_skip, lex_token}
-use Rattle.std.proofs.lemmas.Grind.{common_steps}
 use Rattle.std.proofs.lemmas.Bool.Decides.{eqb_tells}
 use Rattle.std.proofs.lemmas.Bool.{eqb-true, eq-eqb, ltb-true}
 use Rattle.std.proofs.lemmas.Slice.Eq.{bytes_eq-Decides}
 use Rattle.std.proofs.lemmas.List.Folds.{length-prefix_len}
 use Rattle.std.proofs.lemmas.List.{take-append-drop, length-take-le}
 use Rattle.std.proofs.Math.Seq.{take-append_seam, drop-append_seam}
-use Rattle.std.proofs.Math.Decide.{dec_lt}
 
 -- ## What is known of single bytes
 
@@ -96,9 +93,9 @@ differ a b h = grind arith
 
 no_pair : (b a c d : ℕ) → ((b ≡ a) × (c ≡ d) → ⊥) → (nat_eq b a && nat_eq c d) ≡ false
 no_pair b a c d h = (elim (eqb_tells b a) [
-    inl p ↦ (elim (eqb_tells c d) [ inl q ↦ absurd (h (p.1, q.1)) | inr q ↦ rw (p.0, q.0) refl ])
+  | inl p ↦ (elim (eqb_tells c d) [ inl q ↦ absurd (h (p.1, q.1)) | inr q ↦ rw (p.0, q.0) refl ])
   | inr p ↦ rw p.0 refl
-  ])
+])
 
 comment_found : {depth : ℕ} {text : List ℕ} (more : List ℕ) → Ends depth text → comment_len (text ++ more) false depth ≡ Some (length text)
 unfolding comment_len
@@ -205,9 +202,9 @@ bool_cases false = inr refl
 
 both_are : (b a c d : ℕ) → (nat_eq b a && nat_eq c d) ≡ true → (b ≡ a) × (c ≡ d)
 both_are b a c d h = (elim (eqb_tells b a) [
-    inl p ↦ (elim (eqb_tells c d) [ inl q ↦ (p.1, q.1) | inr q ↦ absurd (no_truth (rw (p.0, q.0) at h)) ])
+  | inl p ↦ (elim (eqb_tells c d) [ inl q ↦ (p.1, q.1) | inr q ↦ absurd (no_truth (rw (p.0, q.0) at h)) ])
   | inr p ↦ absurd (no_truth (rw p.0 at h))
-  ])
+])
   where
     no_truth : false ≡ true → ⊥
     no_truth e = cc
@@ -217,6 +214,7 @@ not_both b a c d h e = wrong (rw (e.0, e.1, same a, same d) at h)
   where
     wrong : true ≡ false → ⊥
     wrong e = cc
+
     same : (n : ℕ) → nat_eq n n ≡ true
     same n = eq-eqb n n refl
 
@@ -239,9 +237,9 @@ comment_plain b c bs d e f = rw (e, f) refl
 comment_one : (b d n : ℕ) → comment_len (b ∷ []) false d ≡ Some n → ⊥
 unfolding comment_len
 comment_one b d n is = (elim (eqb_tells b 42) [
-    inl p ↦ (elim (eqb_tells b 47) [ inl q ↦ wrong (rw (p.0, q.0) at is) | inr q ↦ wrong (rw (p.0, q.0) at is) ])
+  | inl p ↦ (elim (eqb_tells b 47) [ inl q ↦ wrong (rw (p.0, q.0) at is) | inr q ↦ wrong (rw (p.0, q.0) at is) ])
   | inr p ↦ (elim (eqb_tells b 47) [ inl q ↦ wrong (rw (p.0, q.0) at is) | inr q ↦ wrong (rw (p.0, q.0) at is) ])
-  ])
+])
   where
     wrong : ◌≡◌ {A = Option ℕ} None (Some n) → ⊥
     wrong e = cc
@@ -283,21 +281,21 @@ comment_sound (suc fuel) (b ∷ c ∷ bs) depth n short is =
     let less : length bs ≤ fuel = omega arith in
     let less' : suc (length bs) ≤ fuel = omega arith in
     (elim (bool_cases (nat_eq b 42 && nat_eq c 47)) [
-      inl t ↦ close_case b c bs t (λ d m e. comment_sound fuel bs d m less e) depth n is
-    | inr t ↦ (elim (bool_cases (nat_eq b 47 && nat_eq c 42)) [
-        inl u ↦
-          let both = both_are b 47 c 42 u in
-          let m = some_more _ n (sym (comment_outer b c bs depth t u) ∙ is) in
-          let k = some_more _ m.0 m.1 in
-          let inner = comment_sound fuel bs (suc depth) k.0 less k.1 in
-          let e : n ≡ suc (suc k.0) = m.2 ∙ ap (λ (x : ℕ). suc x) k.2 in
-          let within = inner.1 in
-          rw e (opens both.0 both.1 inner.0, omega arith)
-      | inr u ↦
-          let m = some_more _ n (sym (comment_plain b c bs depth t u) ∙ is) in
-          let inner = comment_sound fuel (c ∷ bs) depth m.0 less' m.1 in
-          let within = inner.1 in
-          rw m.2 (on b c bs m.0 depth (not_both b 42 c 47 t) (not_both b 47 c 42 u) inner.0 m.1, omega arith)
+      | inl t ↦ close_case b c bs t (λ d m e. comment_sound fuel bs d m less e) depth n is
+      | inr t ↦ (elim (bool_cases (nat_eq b 47 && nat_eq c 42)) [
+        | inl u ↦
+            let both = both_are b 47 c 42 u in
+            let m = some_more _ n (sym (comment_outer b c bs depth t u) ∙ is) in
+            let k = some_more _ m.0 m.1 in
+            let inner = comment_sound fuel bs (suc depth) k.0 less k.1 in
+            let e : n ≡ suc (suc k.0) = m.2 ∙ ap (λ (x : ℕ). suc x) k.2 in
+            let within = inner.1 in
+            rw e (opens both.0 both.1 inner.0, omega arith)
+        | inr u ↦
+            let m = some_more _ n (sym (comment_plain b c bs depth t u) ∙ is) in
+            let inner = comment_sound fuel (c ∷ bs) depth m.0 less' m.1 in
+            let within = inner.1 in
+            rw m.2 (on b c bs m.0 depth (not_both b 42 c 47 t) (not_both b 47 c 42 u) inner.0 m.1, omega arith)
       ])
     ])
   where
@@ -339,18 +337,18 @@ quoted_sound (suc fuel) (b ∷ bs) n short is =
     let s : suc (length bs) ≤ suc fuel = short in
     let less : length bs ≤ fuel = omega arith in
     (elim (eqb_tells b 34) [
-      inl p ↦ (let one : n ≡ 1 = (let e = sym (quoted_end b bs p.1) ∙ is in cc) in rw one (let none : List ℕ = [] in none, nothing, ap (λ (x : ℕ). x ∷ []) p.1, omega arith))
-    | inr p ↦
-      (elim (eqb_tells b 92) [
-        inl q ↦
-        (let m = some_more (quoted_len bs true) n (sym (quoted_more b bs p.1 ∙ ap (λ (t : Bool). one_more (quoted_len bs t)) q.0) ∙ is) in
-        rw m.2 (pair_case b bs q.1 (λ c cs k e f. quoted_sound fuel cs k (let l = ap length e in omega arith) f) m.0 m.1))
-      | inr q ↦
-        (let m = some_more (quoted_len bs false) n (sym (quoted_more b bs p.1 ∙ ap (λ (t : Bool). one_more (quoted_len bs t)) q.0) ∙ is) in
-        let inner = quoted_sound fuel bs m.0 less m.1 in
-        let within = inner.3 in
-        rw m.2 (b ∷ inner.0, plain p.1 q.1 inner.1, ap (λ (xs : List ℕ). b ∷ xs) inner.2, omega arith))
-      ])
+      | inl p ↦ (let one : n ≡ 1 = (let e = sym (quoted_end b bs p.1) ∙ is in cc) in rw one (let none : List ℕ = [] in none, nothing, ap (λ (x : ℕ). x ∷ []) p.1, omega arith))
+      | inr p ↦
+          (elim (eqb_tells b 92) [
+            | inl q ↦
+                (let m = some_more (quoted_len bs true) n (sym (quoted_more b bs p.1 ∙ ap (λ (t : Bool). one_more (quoted_len bs t)) q.0) ∙ is) in
+                rw m.2 (pair_case b bs q.1 (λ c cs k e f. quoted_sound fuel cs k (let l = ap length e in omega arith) f) m.0 m.1))
+            | inr q ↦
+                (let m = some_more (quoted_len bs false) n (sym (quoted_more b bs p.1 ∙ ap (λ (t : Bool). one_more (quoted_len bs t)) q.0) ∙ is) in
+                let inner = quoted_sound fuel bs m.0 less m.1 in
+                let within = inner.3 in
+                rw m.2 (b ∷ inner.0, plain p.1 q.1 inner.1, ap (λ (xs : List ℕ). b ∷ xs) inner.2, omega arith))
+          ])
     ])
 
 -- ## What a class says of its byte
@@ -409,21 +407,28 @@ Sound bytes (Found kind n) = IsToken kind (take n bytes) (drop n bytes) × (n �
 
 -- a byte that begins nothing
 odd_here : (b : ℕ) (bs : List ℕ) → step_of (b ∷ bs) ≡ Found Odd 1 → Sound (b ∷ bs) (Found Odd 1)
-odd_here b bs is = (record {
-      byte = b;
-      text_is = refl;
-      no_blank = λ e. not_skip 1 (sym (by_class b bs Blank e) ∙ is);
-      no_comment = λ more e. not_comment (comment_len more false 0) (sym (by_class 47 (42 ∷ more) Slash class_47) ∙ ap step_of (sym e) ∙ is);
-      no_token = λ kind token more e stands. not_token kind token more stands (sym (stand_step kind token more stands).0 ∙ ap step_of (sym e) ∙ is);
-    }, omega arith, omega arith)
+odd_here b bs is = (
+  record {
+    byte = b;
+    text_is = refl;
+    no_blank = λ e. not_skip 1 (sym (by_class b bs Blank e) ∙ is);
+    no_comment = λ more e. not_comment (comment_len more false 0) (sym (by_class 47 (42 ∷ more) Slash class_47) ∙ ap step_of (sym e) ∙ is);
+    no_token = λ kind token more e stands. not_token kind token more stands (sym (stand_step kind token more stands).0 ∙ ap step_of (sym e) ∙ is);
+  },
+  omega arith,
+  omega arith,
+)
   where
     not_skip : (n : ℕ) → Skip n ≡ Found Odd 1 → ⊥
     not_skip n e = cc
+
     not_comment : (o : Option ℕ) → comment_by o ≡ Found Odd 1 → ⊥
     not_comment None e = cc
     not_comment (Some n) e = cc
+
     odd_form : (kind : Kind) (token more : List ℕ) → kind ≡ Odd → Stands kind token more → ⊥
     odd_form kind token more e stands = (rw e at stands).form
+
     not_token : (kind : Kind) (token more : List ℕ) → Stands kind token more → Found kind (length token) ≡ Found Odd 1 → ⊥
     not_token kind token more stands e = odd_form kind token more (let k : kind ≡ Odd = cc in k) stands
 
@@ -450,9 +455,9 @@ number_sound b bs e =
     let one : 1 + k ≡ suc k = omega arith in
     let digit : is_digit b ≡ true = ap digits e in
     cond_sound (b ∷ bs) (nat_eq b 48 && nat_lt 0 k) _ _
-      (λ t. let h = and_true (nat_eq b 48) (nat_lt 0 k) t in let some : 0 < k = ltb-true 0 k h.1 in
-        rw one (record { form = (let long : 1 < suc (length (take k bs)) = omega arith in long, (digit, r.0), eqb-true b 48 h.0); longest = r.1 }, omega arith, omega arith))
-      (λ t. rw one (record { form = (let some : 0 < suc (length (take k bs)) = omega arith in some, (digit, r.0), λ long zero'. plain_form b k t (rw len at long) zero'); longest = r.1 }, omega arith, omega arith))
+    (λ t. let h = and_true (nat_eq b 48) (nat_lt 0 k) t in let some : 0 < k = ltb-true 0 k h.1 in
+    rw one (record { form = (let long : 1 < suc (length (take k bs)) = omega arith in long, (digit, r.0), eqb-true b 48 h.0); longest = r.1 }, omega arith, omega arith))
+    (λ t. rw one (record { form = (let some : 0 < suc (length (take k bs)) = omega arith in some, (digit, r.0), λ long zero'. plain_form b k t (rw len at long) zero'); longest = r.1 }, omega arith, omega arith))
   where
     plain_form : (b k : ℕ) → (nat_eq b 48 && nat_lt 0 k) ≡ false → 1 < suc k → b ≡ 48 → ⊥
     plain_form b k t long e = let both = sym (zero_test b k e long) ∙ t in cc
@@ -476,9 +481,9 @@ name_sound b bs e =
     let one : 1 + k ≡ suc k = omega arith in
     let two : 2 + k ≡ suc (suc k) = omega arith in
     cond_sound (b ∷ bs) (nat_eq (head_or_zero (drop k bs)) 58) _ _
-      (λ t. let h = take_head k bs 58 (omega arith) (eqb-true _ 58 t) in let w = h.1 in
-        rw two (record { form = (b ∷ take k bs, (e, r.0), ap (λ (xs : List ℕ). b ∷ xs) h.0); longest = stops_never Header (λ c. refl) (drop (suc k) bs) }, omega arith, omega arith))
-      (λ t. rw one (record { form = (e, r.0); longest = word_stops (drop k bs) r.1 t }, omega arith, omega arith))
+    (λ t. let h = take_head k bs 58 (omega arith) (eqb-true _ 58 t) in let w = h.1 in
+    rw two (record { form = (b ∷ take k bs, (e, r.0), ap (λ (xs : List ℕ). b ∷ xs) h.0); longest = stops_never Header (λ c. refl) (drop (suc k) bs) }, omega arith, omega arith))
+    (λ t. rw one (record { form = (e, r.0); longest = word_stops (drop k bs) r.1 t }, omega arith, omega arith))
 
 tells_of : (b : ℕ) (c : Class) → class_of b ≡ c → Tells b c
 tells_of b c e = subst (λ (k : Class). Tells b k) e (class_tells b)
@@ -492,9 +497,9 @@ alias_sound b bs e =
     let one : 1 + k ≡ suc k = omega arith in
     let at : b ≡ 64 = tells_of b At e in
     cond_sound (b ∷ bs) (nat_eq k 0) _ _
-      (λ t. odd_here b bs (by_class b bs At e ∙ rw t refl))
-      (λ t. let some : k ≢ 0 = λ z. wrong (sym (eq-eqb k 0 z) ∙ t) in
-        rw one (record { form = (take k bs, (let more : 0 < length (take k bs) = omega arith in more), r.0, ap (λ (x : ℕ). x ∷ take k bs) at); longest = r.1 }, omega arith, omega arith))
+    (λ t. odd_here b bs (by_class b bs At e ∙ rw t refl))
+    (λ t. let some : k ≢ 0 = λ z. wrong (sym (eq-eqb k 0 z) ∙ t) in
+    rw one (record { form = (take k bs, (let more : 0 < length (take k bs) = omega arith in more), r.0, ap (λ (x : ℕ). x ∷ take k bs) at); longest = r.1 }, omega arith, omega arith))
   where
     wrong : true ≡ false → ⊥
     wrong e = cc
@@ -520,12 +525,12 @@ mark_sound : (b : ℕ) (bs : List ℕ) → class_of b ≡ Dash → Sound (b ∷ 
 mark_sound b bs e =
     let dash : b ≡ 45 = tells_of b Dash e in
     cond_sound (b ∷ bs) (begins_with bs (codes "-BODY--")) _ _
-      (λ t. let w = begins_is bs (codes "-BODY--") t in let l = w.1 in (record { form = (λ i. dash i ∷ w.0 i); longest = stops_never Body (λ c. refl) _ }, omega arith, omega arith))
-      (λ t1. cond_sound (b ∷ bs) (begins_with bs (codes "-END--")) _ _
-        (λ t. let w = begins_is bs (codes "-END--") t in let l = w.1 in (record { form = (λ i. dash i ∷ w.0 i); longest = stops_never End (λ c. refl) _ }, omega arith, omega arith))
-        (λ t2. cond_sound (b ∷ bs) (begins_with bs (codes "-ABORT--")) _ _
-          (λ t. let w = begins_is bs (codes "-ABORT--") t in let l = w.1 in (record { form = (λ i. dash i ∷ w.0 i); longest = stops_never Abort (λ c. refl) _ }, omega arith, omega arith))
-          (λ t3. odd_here b bs (by_class b bs Dash e ∙ tested (begins_with bs (codes "-BODY--")) (begins_with bs (codes "-END--")) (begins_with bs (codes "-ABORT--")) t1 t2 t3))))
+    (λ t. let w = begins_is bs (codes "-BODY--") t in let l = w.1 in (record { form = (λ i. dash i ∷ w.0 i); longest = stops_never Body (λ c. refl) _ }, omega arith, omega arith))
+    (λ t1. cond_sound (b ∷ bs) (begins_with bs (codes "-END--")) _ _
+    (λ t. let w = begins_is bs (codes "-END--") t in let l = w.1 in (record { form = (λ i. dash i ∷ w.0 i); longest = stops_never End (λ c. refl) _ }, omega arith, omega arith))
+    (λ t2. cond_sound (b ∷ bs) (begins_with bs (codes "-ABORT--")) _ _
+    (λ t. let w = begins_is bs (codes "-ABORT--") t in let l = w.1 in (record { form = (λ i. dash i ∷ w.0 i); longest = stops_never Abort (λ c. refl) _ }, omega arith, omega arith))
+    (λ t3. odd_here b bs (by_class b bs Dash e ∙ tested (begins_with bs (codes "-BODY--")) (begins_with bs (codes "-END--")) (begins_with bs (codes "-ABORT--")) t1 t2 t3))))
   where
     tested : (p q r : Bool) → p ≡ false → q ≡ false → r ≡ false → cond p (Found Body 8) (cond q (Found End 7) (cond r (Found Abort 9) (Found Odd 1))) ≡ Found Odd 1
     tested p q r e f g = rw (e, f, g) refl
@@ -538,15 +543,21 @@ slash_sound b (c ∷ cs) e = cond_sound (b ∷ c ∷ cs) (nat_eq c 42) _ _
   where
     slash : b ≡ 47
     slash = tells_of b Slash e
+
     shut : (o : Option ℕ) (n : ℕ) → o ≡ None → o ≡ Some n → ⊥
     shut o n e f = cc
+
     go : c ≡ 42 → (o : Option ℕ) → comment_len cs false 0 ≡ o → Sound (b ∷ c ∷ cs) (comment_by o)
-    go star None is = (record {
+    go star None is = (
+      record {
         begins = (λ i. slash i ∷ star i ∷ []);
         unclosed = λ comment more f closed. shut (comment_len cs false 0) (length closed.0) is (
-          let same : b ∷ c ∷ cs ≡ 47 ∷ 42 ∷ closed.0 ++ more = f ∙ ap (λ (xs : List ℕ). xs ++ more) closed.1 in
-          ap (λ (xs : List ℕ). comment_len (drop 2 xs) false 0) same ∙ comment_found more closed.2);
-      }, omega arith, omega arith)
+            let same : b ∷ c ∷ cs ≡ 47 ∷ 42 ∷ closed.0 ++ more = f ∙ ap (λ (xs : List ℕ). xs ++ more) closed.1 in
+            ap (λ (xs : List ℕ). comment_len (drop 2 xs) false 0) same ∙ comment_found more closed.2);
+      },
+      omega arith,
+      omega arith,
+    )
     go star (Some n) is =
         let s = comment_sound (length cs) cs 0 n (omega arith) is in
         let within = s.1 in
@@ -596,18 +607,23 @@ token_is Odd text rest i = rw i.text_is (go (step_of (i.byte ∷ rest)) (sound i
   where
     bytes : List ℕ
     bytes = i.byte ∷ rest
+
     no_comment : (n : ℕ) (more : List ℕ) → take n bytes ≡ 47 ∷ 42 ∷ more → ⊥
     no_comment n more e = i.no_comment (more ++ drop n bytes) (ap (λ (xs : List ℕ). xs ++ rest) i.text_is ∙ whole n bytes ∙ ap (λ (xs : List ℕ). xs ++ drop n bytes) e)
+
     no_token : (kind : Kind) (n : ℕ) → Stands kind (take n bytes) (drop n bytes) → ⊥
     no_token kind n stands = i.no_token kind (take n bytes) (drop n bytes) (ap (λ (xs : List ℕ). xs ++ rest) i.text_is ∙ whole n bytes) stands
+
     blank_first : (n c : ℕ) → 0 < n → take n bytes ≡ c ∷ [] → class_of c ≡ Blank → ⊥
     blank_first zero c some e h = omega arith
     blank_first (suc n) c some e h = i.no_blank (let same : i.byte ≡ c = cc in ap class_of same ∙ h)
+
     found : (kind : Kind) (n : ℕ) → n ≤ length bytes → IsToken kind (take n bytes) (drop n bytes) → Found kind n ≡ Found Odd 1
     found Odd n within odd = let l : length (take n bytes) ≡ 1 = ap length odd.text_is in
         let m : length (take n bytes) ≡ n = length-take-le n bytes within in ap (λ (k : ℕ). Found Odd k) (sym m ∙ l)
     found OpenComment n within open' = absurd (no_comment n [] open'.begins)
     found kind n within stands = absurd (no_token kind n stands)
+
     go : (s : Step) → Sound bytes s → s ≡ Found Odd 1
     go (Skip n) (inl b, within, some) = absurd (blank_first n b.0 some b.1 b.2)
     go (Skip n) (inr c, within, some) = absurd (no_comment n c.0 c.1)
@@ -657,13 +673,17 @@ only_lex at bytes (p ∷ ps) (rest, next, more) = sym (next_lex at bytes p rest 
 
 behind_blank : (at : ℕ) (part rest : List ℕ) → IsBlankPart part → (ps : List (Piece Sign)) → AreTokens (at + length part) rest ps → AreTokens at (part ++ rest) ps
 behind_blank at part rest is [] run = blank is run (part ++ rest) refl
-behind_blank at part rest is (p ∷ ps) (rest', next, more) = (rest', record {
+behind_blank at part rest is (p ∷ ps) (rest', next, more) = (
+  rest',
+  record {
     blanks = part ++ next.blanks;
     split = ap (λ (xs : List ℕ). part ++ xs) next.split ∙ sym (append_assoc part next.blanks _);
     are_blanks = blank is next.are_blanks (part ++ next.blanks) refl;
     is_token = next.is_token;
     start = next.start ∙ (let e : (at + length part) + length next.blanks ≡ at + length (part ++ next.blanks) = rw length-append (omega arith) in e);
-  }, more)
+  },
+  more,
+)
 
 abbrev SomeTokens : ℕ → List ℕ → Type 0
 SomeTokens at bytes = (pieces : List (Piece Sign)) × AreTokens at bytes pieces
@@ -675,16 +695,23 @@ some_tokens (suc fuel) at (b ∷ bs) short = go (λ at' n h. some_tokens fuel at
   where
     less : (n : ℕ) → 0 < n → length (drop n (b ∷ bs)) ≤ fuel
     less n some = let s : suc (length bs) ≤ suc fuel = short in rw length-drop (omega arith)
+
     go : ((at' n : ℕ) → length (drop n (b ∷ bs)) ≤ fuel → SomeTokens at' (drop n (b ∷ bs))) → (s : Step) → Sound (b ∷ bs) s → SomeTokens at (b ∷ bs)
     go ih (Skip n) (part, within, some) =
         let r = ih (at + length (take n (b ∷ bs))) n (less n some) in
         (r.0, subst (λ (xs : List ℕ). AreTokens at xs r.0) (take-append-drop n (b ∷ bs)) (behind_blank at (take n (b ∷ bs)) (drop n (b ∷ bs)) part r.0 r.1))
     go ih (Found kind n) (token, within, some) =
-        let r = ih (at + length (take n (b ∷ bs))) n (less n some) in
-        (record { sign = record { kind = kind; text = take n (b ∷ bs) }; start = at } ∷ r.0, (drop n (b ∷ bs), record {
-          blanks = [];
-          split = whole n (b ∷ bs);
-          are_blanks = no_blank;
-          is_token = token;
-          start = (let e : at ≡ at + 0 = omega arith in e);
-        }, r.1))
+        let r = ih (at + length (take n (b ∷ bs))) n (less n some) in (
+          record { sign = record { kind = kind; text = take n (b ∷ bs) }; start = at } ∷ r.0,
+          (
+            drop n (b ∷ bs),
+            record {
+              blanks = [];
+              split = whole n (b ∷ bs);
+              are_blanks = no_blank;
+              is_token = token;
+              start = (let e : at ≡ at + 0 = omega arith in e);
+            },
+            r.1,
+          ),
+        )

@@ -1,9 +1,8 @@
 -- One byte further in a string or a comment.
-use Rattle.std.proofs.Common.{◌≡◌, ◌≢◌, ℕ, suc, zero, ◌+◌, ◌-◌, ◌<◌, ◌≤◌, ◌&&◌, Bool, true, false, cond, List, [], ◌∷◌, ◌++◌, length, get_or, take, drop, refl, ap, sym, ◌∙◌, arith, add-one, add-zero, zero-add, nat_eq, eq-eqb}
+use Rattle.std.proofs.Common.{◌≡◌, ◌≢◌, ℕ, suc, zero, ◌+◌, ◌-◌, ◌<◌, ◌≤◌, ◌&&◌, Bool, true, false, List, [], ◌∷◌, length, get_or, take, drop, refl, ap, sym, ◌∙◌, arith, add-one, zero-add, nat_eq}
 use Rattle.std.specs.Prelude.{Option, None, Some}
 use Rattle.std.proofs.Math.Seq.{drop-cons}
 use Rattle.std.proofs.lemmas.List.{drop_all, drop-drop}
-use Rattle.std.proofs.lemmas.Grind.{common_steps}
 use Rattle.ps_text.specs.Answers.{Piece}
 use Rattle.ps_hoa.specs.Tokens.{Sign}
 use Rattle.ps_hoa.specs.declared.tokens.Kind.{Kind}
@@ -94,9 +93,9 @@ lex_skips (b ∷ bs) (suc n) at = let e : (at + 1) + n ≡ at + suc n = omega ar
 -- the list by what begins at the front
 abbrev lex_by : ℕ → List ℕ → ℕ → Step → List (Piece Sign)
 lex_by b bs at s = elim s [
-    Skip n ↦ lex_behind bs (n - 1) (at + 1)
+  | Skip n ↦ lex_behind bs (n - 1) (at + 1)
   | Found kind n ↦ record { sign = record { kind = kind; text = take n (b ∷ bs) }; start = at } ∷ lex_behind bs (n - 1) (at + 1)
-  ]
+]
 
 lex_is : (b : ℕ) (bs : List ℕ) (at : ℕ) → lex at (b ∷ bs) ≡ lex_by b bs at (step_of (b ∷ bs))
 unfolding lex_behind

@@ -1,21 +1,21 @@
 -- The pieces still to come, and one token further.
 use Rattle.std.proofs.Common.{◌≡◌, ℕ, suc, zero, ◌+◌, ◌-◌, ◌<◌, ◌≤◌, ◌↔◌, Bool, true, false, cond, List, [], ◌∷◌, length, take, drop, refl, ap, sym, ◌∙◌, arith, length-drop}
 use Rattle.std.specs.List.{slice_range}
-use Rattle.std.proofs.lemmas.List.{drop_all, drop-drop, take_all}
+use Rattle.std.proofs.lemmas.List.{drop_all, drop-drop}
 use Rattle.std.proofs.Math.Decide.{dec_lt}
 use Rattle.ps_text.specs.Answers.{Piece, Stream}
-use Rattle.ps_hoa.specs.Tokens.{Sign, marked, marks_after, kind_here, is_known, AreTokens}
+use Rattle.ps_hoa.specs.Tokens.{Sign, marked, marks_after, kind_here, is_known}
 use Rattle.ps_hoa.specs.declared.tokens.Kind.{Kind}
-use Rattle.ps_hoa.specs.declared.tokens.Kind.TheVariants.{Header, HeaderAgain, Word, AliasName, Int, ZeroRun, Text, Not, And, Or, LeftParen, RightParen, LeftBracket, RightBracket, LeftBrace, RightBrace, Body, End, Abort, OpenComment, Odd, Behind, Finish}
+use Rattle.ps_hoa.specs.declared.tokens.Kind.TheVariants.{Header, HeaderAgain, OpenComment, Behind, Finish}
 use Rattle.ps_hoa.specs.declared.tokens.Marks.{Marks}
-use Rattle.ps_hoa.specs.declared.tokens.Step.TheVariants.{Skip, Found}
+use Rattle.ps_hoa.specs.declared.tokens.Step.TheVariants.{Found}
 use Rattle.ps_hoa.specs.Scan.{lex, lex_behind, step_of, Reading, stream_of, next_of, behind_next, is_finish, fresh}
 use Rattle.ps_hoa.proofs.Scanning.{lex_token}
 
 -- a token stands here
 pub pieces_found : (r : Reading) (kind : Kind) (stop : ℕ) → r.at < stop → stop ≤ length r.source → step_of (drop r.at r.source) ≡ Found kind (stop - r.at) →
     (stream_of r).pieces ≡ record { sign = record { kind = kind_here r.marks kind (slice_range r.source r.at stop); text = slice_range r.source r.at stop }; start = r.at }
-      ∷ marked (marks_after r.marks kind (slice_range r.source r.at stop)) (lex stop (drop stop r.source))
+    ∷ marked (marks_after r.marks kind (slice_range r.source r.at stop)) (lex stop (drop stop r.source))
 unfolding stream_of
 pieces_found r kind stop some within is =
     let long : 0 < length (drop r.at r.source) = rw length-drop (omega arith) in
@@ -25,8 +25,8 @@ pieces_found r kind stop some within is =
     let found = lex_token (drop r.at r.source) kind (stop - r.at) r.at long is more in
     ap (λ (ps : List (Piece Sign)). marked r.marks ps) found
     ∙ ap (λ (ps : List (Piece Sign)). record { sign = record { kind = kind_here r.marks kind (slice_range r.source r.at stop); text = slice_range r.source r.at stop }; start = r.at }
-        ∷ marked (marks_after r.marks kind (slice_range r.source r.at stop)) ps)
-      (ap (λ (k : ℕ). lex k (drop (stop - r.at) (drop r.at r.source))) there ∙ ap (λ (bytes : List ℕ). lex stop bytes) rest)
+    ∷ marked (marks_after r.marks kind (slice_range r.source r.at stop)) ps)
+    (ap (λ (k : ℕ). lex k (drop (stop - r.at) (drop r.at r.source))) there ∙ ap (λ (bytes : List ℕ). lex stop bytes) rest)
 
 lex_nothing : (at : ℕ) → lex at [] ≡ []
 unfolding lex_behind
@@ -73,13 +73,13 @@ pub next_is : (r : Reading) (kind : Kind) (stop : ℕ) → r.at ≤ stop → sto
     (r.at < length r.source → r.at < stop) → next_of (stream_of r) ≡ token_piece r kind stop
 next_is r kind stop rises within is some =
     (elim (dec_lt r.at (length r.source)) as (λ _. next_of (stream_of r) ≡ token_piece r kind stop) [
-      yes h ↦ next_at (stream_of r) _ _ (pieces_found r kind stop (some h) within is)
-    | no h ↦
-      let done : length r.source ≤ r.at = omega arith in
-      let f = finish_here r kind (stop - r.at) done is in
-      let e : (stream_of r).end ≡ r.at = end_is r ∙ (let g : length r.source ≡ r.at = omega arith in g) in
-      let text : slice_range r.source r.at stop ≡ [] = rw (drop_all r.at r.source done) (take_nothing (stop - r.at)) in
-      next_at_end (stream_of r) (pieces_none r done) ∙ rw (e, text, f.0) refl
+      | yes h ↦ next_at (stream_of r) _ _ (pieces_found r kind stop (some h) within is)
+      | no h ↦
+          let done : length r.source ≤ r.at = omega arith in
+          let f = finish_here r kind (stop - r.at) done is in
+          let e : (stream_of r).end ≡ r.at = end_is r ∙ (let g : length r.source ≡ r.at = omega arith in g) in
+          let text : slice_range r.source r.at stop ≡ [] = rw (drop_all r.at r.source done) (take_nothing (stop - r.at)) in
+          next_at_end (stream_of r) (pieces_none r done) ∙ rw (e, text, f.0) refl
     ])
 
 -- the stream by its two parts
@@ -115,12 +115,12 @@ pub rest_is : (r : Reading) (kind : Kind) (stop at : ℕ) → r.at ≤ stop → 
 rest_is r kind stop at rises within on last is some same =
     let new : Reading = record { source = r.source; at = at; marks = marks_after r.marks kind (slice_range r.source r.at stop) } in
     (elim (dec_lt r.at (length r.source)) as (λ _. stream_of new ≡ behind_next (stream_of r)) [
-      yes h ↦ shown new _ _ (ap (λ (ps : List (Piece Sign)). marked new.marks ps) same) refl ∙ sym (behind_at (stream_of r) _ _ (pieces_found r kind stop (some h) within is) ∙ ap (λ (e : ℕ). record { pieces = marked (marks_after r.marks kind (slice_range r.source r.at stop)) (lex stop (drop stop r.source)); end = e }) (end_is r))
-    | no h ↦
-      let done : length r.source ≤ r.at = omega arith in
-      let past : length r.source ≤ at = omega arith in
-      shown new [] (length r.source) (ap (λ (bytes : List ℕ). marked new.marks (lex at bytes)) (drop_all at r.source past) ∙ ap (λ (ps : List (Piece Sign)). marked new.marks ps) (lex_nothing at)) refl
-      ∙ sym (behind_at_end (stream_of r) (pieces_none r done) ∙ stream_none r done)
+      | yes h ↦ shown new _ _ (ap (λ (ps : List (Piece Sign)). marked new.marks ps) same) refl ∙ sym (behind_at (stream_of r) _ _ (pieces_found r kind stop (some h) within is) ∙ ap (λ (e : ℕ). record { pieces = marked (marks_after r.marks kind (slice_range r.source r.at stop)) (lex stop (drop stop r.source)); end = e }) (end_is r))
+      | no h ↦
+          let done : length r.source ≤ r.at = omega arith in
+          let past : length r.source ≤ at = omega arith in
+          shown new [] (length r.source) (ap (λ (bytes : List ℕ). marked new.marks (lex at bytes)) (drop_all at r.source past) ∙ ap (λ (ps : List (Piece Sign)). marked new.marks ps) (lex_nothing at)) refl
+          ∙ sym (behind_at_end (stream_of r) (pieces_none r done) ∙ stream_none r done)
     ])
 
 -- the end of the text is at no token, and nothing else is
@@ -129,10 +129,10 @@ pub finish_iff : (r : Reading) (kind : Kind) (stop : ℕ) → stop ≤ length r.
     (kind_here r.marks kind (slice_range r.source r.at stop) ≡ Finish) ↔ ((stream_of r).pieces ≡ [])
 finish_iff r kind stop within is some proper =
     (elim (dec_lt r.at (length r.source)) as (λ _. (kind_here r.marks kind (slice_range r.source r.at stop) ≡ Finish) ↔ ((stream_of r).pieces ≡ [])) [
-      yes h ↦ (λ e. absurd (never r.marks kind _ (proper h) e), λ e. absurd (no_piece _ _ (sym (pieces_found r kind stop (some h) within is) ∙ e)))
-    | no h ↦
-      let done : length r.source ≤ r.at = omega arith in
-      (λ _. pieces_none r done, λ _. ap (λ (k : Kind). kind_here r.marks k (slice_range r.source r.at stop)) (finish_here r kind (stop - r.at) done is).0)
+      | yes h ↦ (λ e. absurd (never r.marks kind _ (proper h) e), λ e. absurd (no_piece _ _ (sym (pieces_found r kind stop (some h) within is) ∙ e)))
+      | no h ↦
+          let done : length r.source ≤ r.at = omega arith in
+          (λ _. pieces_none r done, λ _. ap (λ (k : Kind). kind_here r.marks k (slice_range r.source r.at stop)) (finish_here r kind (stop - r.at) done is).0)
     ])
 
 pub piece_same : {k k' : Kind} {t t' : List ℕ} {s s' : ℕ} → k ≡ k' → t ≡ t' → s ≡ s' →

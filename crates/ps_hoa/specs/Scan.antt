@@ -1,5 +1,5 @@
 -- The tokens found by going over the bytes once: where the reader is, and what is still to come.
-use Rattle.std.specs.Prelude.{◌≡◌, ℕ, zero, suc, ◌+◌, ◌-◌, ◌<◌, ◌≤◌, ◌&&◌, Bool, true, false, cond, List, [], ◌∷◌, ◌++◌, length, take, drop, codes, if◌then◌else◌, nat_eq, nat_lt, Option, None, Some}
+use Rattle.std.specs.Prelude.{◌≡◌, ℕ, zero, suc, ◌+◌, ◌-◌, ◌<◌, ◌&&◌, Bool, true, false, List, [], ◌∷◌, length, take, drop, codes, if◌then◌else◌, nat_eq, nat_lt, Option, None, Some}
 use Rattle.std.specs.List.{prefix_len}
 use Rattle.std.specs.Str.{bytes_eq}
 use Rattle.ps_text.specs.Answers.{Piece, Stream}
@@ -129,8 +129,8 @@ lex_behind [] skip at = []
 lex_behind (b ∷ bs) (suc skip) at = lex_behind bs skip (at + 1)
 lex_behind (b ∷ bs) zero at =
     elim (step_of (b ∷ bs)) [
-      Skip n ↦ lex_behind bs (n - 1) (at + 1)
-    | Found kind n ↦ record { sign = record { kind = kind; text = take n (b ∷ bs) }; start = at } ∷ lex_behind bs (n - 1) (at + 1)
+      | Skip n ↦ lex_behind bs (n - 1) (at + 1)
+      | Found kind n ↦ record { sign = record { kind = kind; text = take n (b ∷ bs) }; start = at } ∷ lex_behind bs (n - 1) (at + 1)
     ]
 
 abbrev pub lex : ℕ → List ℕ → List (Piece Sign)

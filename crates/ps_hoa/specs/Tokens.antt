@@ -7,9 +7,8 @@
 --     AreTokens at bytes pieces      the tokens of bytes, the first of which has the offset at, with blanks between
 --     marked marks pieces      the same, where names that may stand once are told from a second one, and what is behind `--END--`
 --               from what is not
-use Rattle.std.specs.Prelude.{◌≡◌, ℕ, suc, ◌+◌, ◌<◌, ◌⊎◌, ◌≢◌, ◌||◌, Bool, true, false, cond, List, [], ◌∷◌, ◌++◌, length, codes, if◌then◌else◌, nat_eq}
+use Rattle.std.specs.Prelude.{◌≡◌, ℕ, suc, ◌+◌, ◌<◌, ◌⊎◌, ◌≢◌, ◌||◌, Bool, true, false, List, [], ◌∷◌, ◌++◌, length, codes, if◌then◌else◌, nat_eq}
 use Rattle.std.specs.Str.{bytes_eq}
-use Rattle.std.specs.List.{concat}
 use Rattle.ps_text.specs.Answers.{Piece}
 use Rattle.ps_hoa.specs.Bytes.{class_of, is_digit, is_name_byte}
 use Rattle.ps_hoa.specs.declared.tokens.Class.TheVariants.{Blank, Letter, Sign as SignOf}

@@ -530,14 +530,12 @@ impl<'a> Tokens<'a> {
 pub fn one_list_of_tokens()
     ensures some { (at : ℕ) (bytes : List ℕ) → (pieces : List (Piece Sign)) × AreTokens at bytes pieces }
     ensures only { (at : ℕ) (bytes : List ℕ) (one two : List (Piece Sign)) → AreTokens at bytes one → AreTokens at bytes two → one ≡ two }
-{
-}
+{}
 
 #[cfg(test)]
 mod tests {
-    use std::test::Fail;
-
     use crate::tokens::{Kind, Tokens};
+    use std::test::Fail;
 
     #[test]
     fn tokens_have_their_spans(rt: HostRuntime) -> Result<(), Fail> {

@@ -12,10 +12,10 @@ returns-then-depth-eq0-clause-value c =
 
 pub loop-at-preserved : goal.loop-at-preserved
 loop-at-preserved c = elim c.if-skip.branch [
-    then-skip w ↦ rw (w.skip-is, w.depth-is) (record {
-      rest = sym (comment_skip c.args.bytes.now c.loop-at.at c.loop-at.depth c.loop-at-test.true) ∙ (rw w.if-skip.true at c.loop-at.invariant.rest);
-      within = omega arith;
-    })
+  | then-skip w ↦ rw (w.skip-is, w.depth-is) (record {
+    rest = sym (comment_skip c.args.bytes.now c.loop-at.at c.loop-at.depth c.loop-at-test.true) ∙ (rw w.if-skip.true at c.loop-at.invariant.rest);
+    within = omega arith;
+  })
   | else-skip+then-is_pair+else-depth-eq0 w ↦
       let some : 0 < c.loop-at.depth = omega (arith, w.if-depth-eq0.false) in
       rw (w.skip-is, w.depth-is) (record {
@@ -23,11 +23,11 @@ loop-at-preserved c = elim c.if-skip.branch [
         within = omega arith;
       })
   | else-skip+else-is_pair+then-is_pair-2 w ↦ rw (w.skip-is, w.depth-is) (record {
-      rest = sym (comment_opens c.args.bytes.now c.loop-at.at c.loop-at.depth c.loop-at-test.true (sym w.is_pair.ensures.value ∙ w.if-is_pair.false) (sym w.is_pair-else-is_pair.ensures.value ∙ w.if-is_pair-2.true)) ∙ (rw w.if-skip.false at c.loop-at.invariant.rest);
-      within = omega arith;
-    })
+    rest = sym (comment_opens c.args.bytes.now c.loop-at.at c.loop-at.depth c.loop-at-test.true (sym w.is_pair.ensures.value ∙ w.if-is_pair.false) (sym w.is_pair-else-is_pair.ensures.value ∙ w.if-is_pair-2.true)) ∙ (rw w.if-skip.false at c.loop-at.invariant.rest);
+    within = omega arith;
+  })
   | else-skip+else-is_pair+else-is_pair-2 w ↦ rw (w.skip-is, w.if-skip.false, w.depth-is) (record {
-      rest = sym (comment_on c.args.bytes.now c.loop-at.at c.loop-at.depth c.loop-at-test.true (sym w.is_pair.ensures.value ∙ w.if-is_pair.false) (sym w.is_pair-else-is_pair.ensures.value ∙ w.if-is_pair-2.false)) ∙ (rw w.if-skip.false at c.loop-at.invariant.rest);
-      within = omega arith;
-    })
-  ]
+    rest = sym (comment_on c.args.bytes.now c.loop-at.at c.loop-at.depth c.loop-at-test.true (sym w.is_pair.ensures.value ∙ w.if-is_pair.false) (sym w.is_pair-else-is_pair.ensures.value ∙ w.if-is_pair-2.false)) ∙ (rw w.if-skip.false at c.loop-at.invariant.rest);
+    within = omega arith;
+  })
+]

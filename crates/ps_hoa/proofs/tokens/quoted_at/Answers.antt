@@ -15,6 +15,6 @@ returns-then-byte-eq34-clause-value c =
 
 pub loop-at-preserved : goal.loop-at-preserved
 loop-at-preserved c = elim c.if-skip.branch [
-    then-skip w ↦ rw w.skip-is (sym (quoted_skip c.args.bytes.now c.loop-at.at c.loop-at-test.true) ∙ (rw w.if-skip.true at c.loop-at.invariant))
+  | then-skip w ↦ rw w.skip-is (sym (quoted_skip c.args.bytes.now c.loop-at.at c.loop-at-test.true) ∙ (rw w.if-skip.true at c.loop-at.invariant))
   | else-skip+else-byte-eq34 w ↦ rw w.skip-is (sym (quoted_on c.args.bytes.now c.loop-at.at c.loop-at-test.true w.if-byte-eq34.false) ∙ (rw w.if-skip.false at c.loop-at.invariant))
-  ]
+]

@@ -16,7 +16,7 @@ returns-clause-rest c =
     let b = c.behind_blanks-self-inside.ensures in
     let source = ap (λ (r : Reading). r.source) c.self.view_is in
     let marks = c.pass.ensures ∙ ap (λ (m : Marks). marks_after m c.found-kind.result.0 c.token-token.result.text.now) (ap (λ (r : Reading). r.marks) c.self.view_is)
-      ∙ ap (λ (text : List ℕ). marks_after c.args.self.now.marks c.found-kind.result.0 text) c.token-token.ensures.text in
+    ∙ ap (λ (text : List ℕ). marks_after c.args.self.now.marks c.found-kind.result.0 text) c.token-token.ensures.text in
     let at = c.behind_blanks-self-inside.result in
     let within = rw source at b.within in
     let same : lex at (drop at c.args.self.now.source) ≡ lex c.found-kind.result.1 (drop c.found-kind.result.1 c.args.self.now.source) = rw source at b.same in

@@ -1,4 +1,4 @@
-use Rattle.std.proofs.Common.{◌≡◌, ◌↔◌, ◌-◌, ◌∙◌, sym}
+use Rattle.std.proofs.Common.{◌∙◌, sym}
 use Rattle.ps_hoa.proofs.Streams.{next_is, finish_iff, piece_same}
 use Rattle.ps_hoa.proofs.tokens.Tokens.peek.Goals as goal
 
