@@ -6,4 +6,5 @@ pub mod Holding
 pub mod Keeping
 pub mod Lists
 pub mod Loops
+pub mod OneFlaw
 pub mod Windows

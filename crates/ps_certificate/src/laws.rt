@@ -1,7 +1,9 @@
 //! Laws on certificates. Each is the contract of a function that does nothing.
 
+ghost use Rattle.std.specs.Prelude.{◌≡◌};
 ghost use Rattle.ps_game.specs.Games.{ParityGame, IsGame};
-ghost use Rattle.ps_certificate.specs.Certificates.{CertificateData, Fits, IsClosed, IsValid};
+ghost use Rattle.ps_certificate.specs.Certificates.{CertificateData, Fits, IsClosed, IsValid, IsFirstFlaw};
+ghost use Rattle.ps_certificate.specs.declared.flaw.Flaw.{Flaw};
 ghost use Rattle.ps_certificate.specs.Regions.{BothKeep, BothHold, NoneWinsOutside};
 
 /// Paths that follow the moves of a closed certificate stay in the region that they begin in.
@@ -17,4 +19,9 @@ pub fn valid_regions_are_held()
 /// No strategy wins outside the region that a valid certificate gives its player.
 pub fn no_strategy_wins_outside()
     ensures { (game : ParityGame) (certificate : CertificateData) → IsGame game → Fits game certificate → IsValid game certificate → NoneWinsOutside game certificate }
+{}
+
+/// A certificate has one first flaw at most.
+pub fn first_flaw_is_one()
+    ensures { (game : ParityGame) (certificate : CertificateData) (flaw other : Flaw) → IsGame game → IsFirstFlaw game certificate flaw → IsFirstFlaw game certificate other → flaw ≡ other }
 {}

@@ -20,5 +20,7 @@ pub use closing::closed;
 pub use fault::{CertCause, CertFault};
 pub use fitted::fits;
 pub use flaw::Flaw;
-pub use laws::{closed_regions_are_kept, no_strategy_wins_outside, valid_regions_are_held};
+pub use laws::{
+    closed_regions_are_kept, first_flaw_is_one, no_strategy_wins_outside, valid_regions_are_held,
+};
 pub use text::read;
