@@ -4,3 +4,4 @@ pub mod Lexer
 pub mod Heads
 pub mod Causes
 pub mod Nodes
+pub mod GameTokens

@@ -4,9 +4,11 @@
 mod fault;
 mod game;
 mod ids;
+mod laws;
 mod node;
 mod reader;
 mod token;
 
 pub use fault::{PgCause, PgFault};
+pub use laws::one_list_of_tokens;
 pub use reader::read;

@@ -1,0 +1,7 @@
+-- The tokens are those that the lexer finds.
+use Rattle.ps_pgsolver.specs.Lexer.{stream_of}
+use Rattle.ps_pgsolver.proofs.GameTokens.{tokens_found, only_tokens}
+use Rattle.ps_pgsolver.proofs.laws.one_list_of_tokens.Goals as goal
+
+pub returns : goal.returns
+returns c = λ text. (stream_of text, tokens_found text, only_tokens text)

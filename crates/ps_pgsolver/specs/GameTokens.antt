@@ -1,0 +1,51 @@
+-- The tokens of a game text, as a relation between its bytes and its pieces.
+--     IsRun p text rest      text is a run of bytes that pass p, the longest where rest stands behind it
+--     IsToken before sign text rest      behind the bytes `before`, text is that token and rest stands behind it
+--     AreGameTokens text stream      the tokens of a whole text, with blanks between them
+-- A number is a longest run of digits, a word a longest run of letters, a name stands between quotes. What can't stand is a word
+-- directly behind a number, a number directly behind a word, a name that is not closed, and any other byte.
+use Rattle.std.specs.Prelude.{◌≡◌, ◌≢◌, ℕ, ◌<◌, Bool, true, false, List, [], ◌∷◌, ◌++◌, length}
+use Rattle.std.specs.List.{AllByRecursion}
+use Rattle.ps_text.specs.Answers.{Stream}
+use Rattle.ps_text.specs.Digits.{decimal_value}
+use Rattle.ps_text.specs.Tokens.{AreTokens}
+use Rattle.ps_pgsolver.specs.Bytes.{is_blank, is_digit, is_letter, is_inner, ends_in}
+use Rattle.ps_pgsolver.specs.Signs.{Sign, Number, Word, Name, Comma, Semicolon, OpenName, Wrong}
+
+abbrev pub AllOf : (ℕ → Bool) → List ℕ → Type 0
+AllOf p text = AllByRecursion (λ b. p b ≡ true) text
+
+abbrev pub StopsBefore : (ℕ → Bool) → List ℕ → Type 0
+StopsBefore p [] = Unit {0}
+StopsBefore p (b ∷ bs) = p b ≡ false
+
+pub record IsRun (p : ℕ → Bool) (text rest : List ℕ) : Type 0 where
+  pub some : 0 < length text
+  pub all : AllOf p text
+  pub longest : StopsBefore p rest
+
+-- a byte that begins no token and is no blank
+pub record IsStray (b : ℕ) : Type 0 where
+  pub no_digit : is_digit b ≡ false
+  pub no_letter : is_letter b ≡ false
+  pub no_blank : is_blank b ≡ false
+  pub no_quote : b ≢ 34
+  pub no_comma : b ≢ 44
+  pub no_semicolon : b ≢ 59
+
+pub data IsWrong (before text rest : List ℕ) : Type 0 where
+  number_behind_word : IsRun is_digit text rest → ends_in is_letter before ≡ true → IsWrong before text rest
+  word_behind_number : IsRun is_letter text rest → ends_in is_digit before ≡ true → IsWrong before text rest
+  stray : (b : ℕ) → text ≡ b ∷ [] → IsStray b → IsWrong before text rest
+
+abbrev pub IsToken : List ℕ → Sign → List ℕ → List ℕ → Type 0
+IsToken before (Number n) text rest = IsRun is_digit text rest × (n ≡ decimal_value text) × (ends_in is_letter before ≡ false)
+IsToken before (Word letters) text rest = IsRun is_letter text rest × (letters ≡ text) × (ends_in is_digit before ≡ false)
+IsToken before (Name inner) text rest = (text ≡ 34 ∷ (inner ++ 34 ∷ [])) × AllOf is_inner inner
+IsToken before Comma text rest = text ≡ 44 ∷ []
+IsToken before Semicolon text rest = text ≡ 59 ∷ []
+IsToken before OpenName text rest = (inner : List ℕ) × (text ≡ 34 ∷ inner) × AllOf is_inner inner × (rest ≡ [])
+IsToken before Wrong text rest = IsWrong before text rest
+
+abbrev pub AreGameTokens : List ℕ → Stream Sign → Type 0
+AreGameTokens text stream = AreTokens (λ b. is_blank b ≡ true) IsToken text stream
