@@ -3,4 +3,6 @@
 #![tactic(auto)]
 
 pub mod answers;
+#[cfg(test)]
+mod tests;
 pub mod tokens;

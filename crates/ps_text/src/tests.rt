@@ -1,0 +1,44 @@
+//! The laws at a format and at a lexicon.
+
+ghost use Rattle.std.specs.Prelude.{◌≡◌, [], ◌∷◌, length};
+
+use crate::answers::{Format, one_answer};
+use crate::tokens::{Lexicon, one_tokenisation};
+
+/// Any bytes, which mean how many they are; none is refused.
+struct Bytes;
+
+impl Format for Bytes {
+    type Sign = u8;
+
+    type Value = usize;
+
+    type Cause = u8;
+
+    ghost is_text = { λ text value. value ≡ length text };
+
+    ghost is_cause = { λ front there cause. ⊥ };
+
+    ghost number = { λ cause. cause };
+}
+
+/// Each byte is a token, but for spaces.
+struct Marks;
+
+impl Lexicon for Marks {
+    type Sign = u8;
+
+    ghost is_blank = { λ b. b ≡ 32 };
+
+    ghost is_token = { λ before sign text rest. (text ≡ sign ∷ []) × (sign ≡ 32 → ⊥) };
+}
+
+#[test]
+fn law_of_a_format() {
+    one_answer::<Bytes>();
+}
+
+#[test]
+fn law_of_a_lexicon() {
+    one_tokenisation::<Marks>();
+}
