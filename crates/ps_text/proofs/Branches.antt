@@ -1,4 +1,4 @@
--- The exits of a reading function at a choice and in a loop.
+-- The exits of a reading function at a choice and in a loop. Meeting has the same names for a `Meets` with its view written out.
 --     Stands there P Q      at the next sign `there`, P is read in place of Q. It is shown by
 --               left_entered, right_entered      the next sign begins that form of `either`, or a cause of it stands there
 --               left_otherwise, right_otherwise      it does not begin the other form, which is never empty

@@ -1,10 +1,14 @@
--- The lemmas of Exits on a `Meets` of any result, with the view and the streams written out.
-use Rattle.std.proofs.Common.{◌≡◌, ◌≤◌, Option, None, Some, Result, Ok, Err, subst, sym}
+-- The lemmas of Exits and Branches on a `Meets` of any result, with the view and the streams written out.
+use Rattle.std.proofs.Common.{◌≡◌, ◌<◌, ◌≤◌, [], length, Option, None, Some, Result, Ok, Err, IsErrAnd, subst, sym}
 use Rattle.ps_text.specs.Answers.{Stream, Found, next_of, offset_of}
-use Rattle.ps_text.specs.Parts.{Part, Causes, give, one, then_by, mapped}
+use Rattle.ps_text.specs.Parts.{Part, Causes, give, one, then_by, mapped, either, many}
 use Rattle.ps_text.specs.Readers.{refusal_at, tail, Reads, Meets}
-use Rattle.ps_text.proofs.Laws.{Joint}
+use Rattle.ps_text.proofs.Laws.{Joint, Laws, Apart}
+use Rattle.ps_text.proofs.Covered.{Enters, Avoids}
+use Rattle.ps_text.proofs.Exits as steps
 use Rattle.ps_text.proofs.Exits.{reads_give, reads_mapped, reads_then, reads_next, stops_mapped, stops_first, stops_behind, stops_bad, stops_refusal}
+use Rattle.ps_text.proofs.Branches as branches
+use Rattle.ps_text.proofs.Branches.{reads_shrinks, meets_as, many_reads, many_fails_later, times_reads, times_fails_later}
 
 module _ {T F E : Type 0} (found : E → Option (Found F)) (causes : Causes T F) where
   pub meets_give : {V X : Type 0} (view : X → V) (s : Stream T) (x : X) (v : V) → view x ≡ v → Meets found causes view (give v) s (Ok x) s
@@ -38,3 +42,39 @@ module _ {T F E : Type 0} (found : E → Option (Found F)) (causes : Causes T F)
     pub meets_refusal : (s : T) (w : V) → take s ≡ Some w → ((t : T) → next_of old ≡ Some t → take t ≡ None) → ((t : T) (f : F) → next_of old ≡ Some t → Bad t f → ⊥) →
         (e : E) → found e ≡ Some (refusal_at causes old) → Meets found causes view (one take Bad) old (Err e) new
     meets_refusal s w y none good e t = stops_refusal causes take Bad old s w y none good (found e) t
+
+  pub exits : {V X : Type 0} (view : X → V) (P : Part T V F) (old new : Stream T) (e : E) (r : Result X E) → Meets found causes view P old (Err e) new → IsErrAnd r (λ y. y ≡ e) →
+      Meets found causes view P old r new
+  exits view P old new e r m i = steps.exits found causes view P old new e r m i
+
+  -- a reading that took a sign has fewer to come
+  pub meets_shrinks : {V X : Type 0} (view : X → V) (P : Part T V F) (old new : Stream T) (x : X) → ((v : V) → P.IsText [] v → ⊥) → Meets found causes view P old (Ok x) new →
+      length new.pieces < length old.pieces
+  meets_shrinks view P old new x some m = reads_shrinks some m
+
+  module _ {V X : Type 0} {odd : T → Type 0} {P Q : Part T V F} {F1 M1 F2 M2 : T → Type 0} {N1 N2 : Type 0}
+      (l : Laws odd P F1 M1 N1) (r : Laws odd Q F2 M2 N2) (view : X → V) (old new : Stream T) (result : Result X E) where
+    pub left_entered : Apart F1 F2 → Enters P (next_of old) → Meets found causes view P old result new → Meets found causes view (either P Q) old result new
+    left_entered apart e m = meets_as found causes view old new result (branches.left_entered l r (next_of old) apart e) m
+
+    pub right_entered : Apart F1 F2 → Enters Q (next_of old) → Meets found causes view Q old result new → Meets found causes view (either P Q) old result new
+    right_entered apart e m = meets_as found causes view old new result (branches.right_entered l r (next_of old) apart e) m
+
+    pub left_otherwise : Avoids F2 (next_of old) → (N2 → ⊥) → Meets found causes view P old result new → Meets found causes view (either P Q) old result new
+    left_otherwise a n m = meets_as found causes view old new result (branches.left_otherwise l r (next_of old) a n) m
+
+    pub right_otherwise : Avoids F1 (next_of old) → (N1 → ⊥) → Meets found causes view Q old result new → Meets found causes view (either P Q) old result new
+    right_otherwise a n m = meets_as found causes view old new result (branches.right_otherwise l r (next_of old) a n) m
+
+  module _ {C X : Type 0} {odd : T → Type 0} (item : C → Part T C F) {First More : T → Type 0} (l : (c : C) → Laws odd (item c) First More ⊥) (apart : Apart More First) (view : X → C) where
+    pub many_ends : (c : C) (s : Stream T) (x : X) → Avoids First (next_of s) → view x ≡ c → Meets found causes view (many item c) s (Ok x) s
+    many_ends c s x a e = subst (λ v. Reads (many item c) s v s) (sym e) (branches.many_ends item l apart c s a)
+
+    pub many_fails : {Y : Type 0} (see : Y → C) (c : C) (old mid new : Stream T) (e : E) → Enters (item c) (next_of old) → Meets found causes see (item c) old (Err e) mid →
+        Meets found causes view (many item c) old (Err e) new
+    many_fails see c old mid new e h m = branches.many_fails item l apart causes c old (found e) h m
+
+    pub many_then : {Y : Type 0} (see : Y → C) (c : C) (old mid new : Stream T) (y : Y) (r : Result X E) → Meets found causes see (item c) old (Ok y) mid →
+        Meets found causes view (many item (see y)) mid r new → Meets found causes view (many item c) old r new
+    many_then see c old mid new y (Ok x) m n = many_reads item l apart m n
+    many_then see c old mid new y (Err e) m n = many_fails_later item l apart causes (found e) m n
