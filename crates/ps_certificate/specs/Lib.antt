@@ -5,3 +5,5 @@ pub mod Places
 pub mod Prefixes
 pub mod Reading
 pub mod Regions
+pub mod Texts
+pub mod Words

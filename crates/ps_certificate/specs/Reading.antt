@@ -1,6 +1,6 @@
 -- Reading a certificate from left to right, with the first fault that is met: what the private functions of the reader
 -- compute. What a text means, and which fault is the first one, is said in `Texts`.
-use Rattle.std.specs.Prelude.{◌≡◌, ℕ, zero, suc, ◌+◌, ◌-◌, ◌*◌, ◌^◌, List, [], ◌∷◌, length, drop, Option, Some, None, Result, Ok, Err, Bool, false, ◌||◌, nat_lt, ◌==◌, if◌then◌else◌, codes, take_while}
+use Rattle.std.specs.Prelude.{◌≡◌, ℕ, zero, suc, ◌+◌, ◌-◌, ◌*◌, ◌^◌, List, [], ◌∷◌, length, drop, Option, Some, None, Result, Ok, Err, Bool, false, ◌||◌, nat_lt, ◌==◌, if◌then◌else◌, take_while}
 use Rattle.std.specs.Char.{is_ascii_digit}
 use Rattle.ps_certificate.specs.declared.fault.CertCause.{CertCause}
 use Rattle.ps_certificate.specs.declared.fault.CertCause.TheVariants.{Syntax, OtherGame}
@@ -8,6 +8,7 @@ use Rattle.ps_certificate.specs.declared.fault.CertFault.{CertFault}
 use Rattle.ps_certificate.specs.declared.fault.CertFault.TheVariants.{Text, OutOfMemory}
 use Rattle.ps_certificate.specs.Certificates.{EntryData}
 use Rattle.ps_certificate.specs.Places.{Place}
+use Rattle.ps_certificate.specs.Words.{first_words, odd_word, even_word}
 
 -- a cause and its place
 abbrev pub Fault : Type 0
@@ -185,16 +186,6 @@ entries_at known (id ∷ ids) place = do
 abbrev pub ended : List EntryData → ℕ → List ℕ → Result (List EntryData) Fault
 ended entries at [] = Ok entries
 ended entries at (b ∷ bytes) = Err (Syntax, at)
-
--- `psyncert 1`, a newline, `vertices `; a newline, `odd`; `even`
-abbrev pub first_words : List ℕ
-first_words = codes "psyncert 1\nvertices "
-
-abbrev pub odd_word : List ℕ
-odd_word = codes "\nodd"
-
-abbrev pub even_word : List ℕ
-even_word = codes "even"
 
 -- the lines before those of the vertices
 unfoldable pub head_at : KnownData → ℕ → Place → Result Place Fault

@@ -2,7 +2,7 @@
 
 ghost use Rattle.std.specs.Prelude.{◌≡◌};
 ghost use Rattle.ps_certificate.specs.declared.fault.CertFault.TheVariants.{OutOfMemory};
-ghost use Rattle.ps_certificate.specs.Faults.{cause_number};
+ghost use Rattle.ps_certificate.specs.Faults.{cause_number, cause_name};
 
 use std::alloc::{AllocError, AllocFailed};
 use thiserror::Error;
@@ -28,7 +28,9 @@ impl CertCause {
     }
 
     /// The name of the cause.
-    pub fn name(self) -> &'static str {
+    pub fn name(self) -> &'static str
+        ensures { result.now ≡ cause_name self }
+    {
         match self {
             CertCause::Syntax => "Syntax",
             CertCause::OtherGame => "OtherGame",

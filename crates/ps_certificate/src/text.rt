@@ -6,6 +6,7 @@ ghost use Rattle.ps_game.specs.Games.{ParityGame, vertex_count};
 ghost use Rattle.ps_certificate.specs.Certificates.{Fits, ListsPriorities};
 ghost use Rattle.ps_certificate.specs.Reading.{Gives, Moves, Tells, head_at, entry_at, entries_at, entries_of as entries_of_text};
 ghost use Rattle.ps_certificate.specs.Known.{known_data, FindsVertices};
+ghost use Rattle.ps_certificate.specs.Texts.{IsAnswer};
 
 use crate::certificate::{Certificate, Entry};
 use crate::cursor::Cursor;
@@ -42,7 +43,7 @@ fn priorities_of(alloc: Global, game: &Game, parity: u64) -> Result<Vec<u64>, Al
 }
 
 /// The vertices of a game by their ids.
-fn vertices_of(alloc: Global, game: &NamedGame) -> Result<IndexMap<u64, usize>, CertFault>
+fn vertices_of(alloc: Global, game: &NamedGame) -> Result<IndexMap<u64, usize>, AllocError>
     ensures { IfOk result (λ m. FindsVertices game.now.ids (λ id. get nat_eq m id)) }
 {
     let mut vertices = IndexMap::new(alloc);
@@ -127,6 +128,8 @@ fn entries_of(
 
 /// Reads the text of a certificate of a game.
 pub fn read(alloc: Global, text: &[u8], game: &NamedGame) -> Result<Certificate, CertFault>
+    // The text's certificate, or the first cause for which it is none.
+    ensures exact { IsAnswer game.now text.now result }
     ensures fits { IfOk result (Fits game.now.game) }
 {
     let known = Known {

@@ -1,0 +1,320 @@
+-- A number as a part of the text: how it is read, and how reading it fails.
+use Rattle.std.proofs.Common.{◌≡◌, ℕ, zero, suc, ◌+◌, ◌^◌, ◌<◌, ◌≤◌, ◌⊎◌, Bool, true, false, cond, List, [], ◌∷◌, ◌++◌, length, take, drop, Option, Some, None, Ok, Err, refl, sym, ap, ap₂, subst, inl, inr, ◌∙◌, append_assoc, arith, length-append, length-drop}
+use Rattle.std.specs.Prelude.{nat_lt}
+use Rattle.std.proofs.lemmas.Bool.{ltb-true, ltb-false}
+use Rattle.std.proofs.Math.Seq.{take-append_seam, drop-append_seam}
+use Rattle.ps_text.specs.Answers.{Begins, Stream, Found, signs, first_of}
+use Rattle.ps_text.specs.Parts.{IsRead, IsFaultAt, is_cause, is_refusal, StopsAt, CleanUpTo}
+use Rattle.ps_text.specs.Readers.{IsSuffix, StopsWith}
+use Rattle.ps_text.specs.Digits.{IsDigit, IsPlainNumber, decimal_value}
+use Rattle.std.specs.List.{All}
+use Rattle.std.proofs.lemmas.List.Elements.{All-head, All-drop}
+use Rattle.ps_text.proofs.Splits.{same_head}
+use Rattle.ps_text.proofs.Laws.{Laws}
+use Rattle.ps_text.proofs.Simple.{none_is_some}
+use Rattle.ps_text.proofs.Whole.{Own}
+use Rattle.ps_text.proofs.OneAnswer.{signs_split}
+use Rattle.ps_certificate.specs.declared.fault.CertCause.{CertCause}
+use Rattle.ps_certificate.specs.declared.fault.CertCause.TheVariants.{Syntax, OtherGame}
+use Rattle.ps_certificate.specs.Faults.{cause_number}
+use Rattle.ps_certificate.specs.Places.{Place}
+use Rattle.ps_certificate.specs.Reading.{Fault, numeral, numeral_value, numbered, behind, number_at, value_from}
+use Rattle.ps_certificate.specs.Texts.{Seen, pieces_at, stream_at, bytes_of, causes, EndsField, IsBadNumber, number}
+use Rattle.ps_certificate.proofs.Numerals.{value_is, value_grows, numeral_split, numeral_plain, numeral_longest, plain_front, numeral_ended}
+
+-- ## Places and streams
+
+abbrev pub at_place : Place → Stream Seen
+at_place place = stream_at place.at place.rest
+
+abbrev pub found : Fault → Option (Found CertCause)
+found f = Some (record { cause = f.0; offset = f.1 })
+
+pub pieces_split : (n at : ℕ) (bytes : List ℕ) → n ≤ length bytes → pieces_at at bytes ≡ take n (pieces_at at bytes) ++ pieces_at (at + n) (drop n bytes)
+pieces_split zero at bytes l = let e : at ≡ at + 0 = omega arith in ap (λ a. pieces_at a bytes) e
+pieces_split (suc n) at [] l = absurd (omega arith)
+pieces_split (suc n) at (b ∷ bytes) l =
+    let e : (at + 1) + n ≡ at + suc n = omega arith in
+    let rest : pieces_at (at + 1) bytes ≡ take n (pieces_at (at + 1) bytes) ++ pieces_at (at + suc n) (drop n bytes) =
+    pieces_split n (at + 1) bytes (omega arith) ∙ ap (λ a. take n (pieces_at (at + 1) bytes) ++ pieces_at a (drop n bytes)) e in
+    ap (λ ps. record { sign = record { byte = b; behind = bytes }; start = at } ∷ ps) rest
+
+pub bytes_taken : (n at : ℕ) (bytes : List ℕ) → bytes_of (signs (take n (pieces_at at bytes))) ≡ take n bytes
+bytes_taken zero at bytes = refl
+bytes_taken (suc n) at [] = refl
+bytes_taken (suc n) at (b ∷ bytes) = ap (λ xs. b ∷ xs) (bytes_taken n (at + 1) bytes)
+
+pub bytes_append : (a b : List Seen) → bytes_of (a ++ b) ≡ bytes_of a ++ bytes_of b
+bytes_append [] b = refl
+bytes_append (s ∷ a) b = ap (λ xs. s.byte ∷ xs) (bytes_append a b)
+
+-- the first sign sees the whole text
+pub first_sees : (at : ℕ) (bytes : List ℕ) (t : Seen) (rest : List Seen) → signs (pieces_at at bytes) ≡ t ∷ rest → bytes ≡ t.byte ∷ t.behind
+first_sees at [] t rest e = absurd (let l : 0 ≡ suc (length rest) = ap length e in omega (arith, l))
+first_sees at (b ∷ bytes) t rest e = ap (λ (s : Seen). s.byte ∷ s.behind) (same_head _ t (signs (pieces_at (at + 1) bytes)) rest e)
+
+-- ## What is wrong with the number that bytes begin with
+
+abbrev pub run_length : List ℕ → ℕ
+run_length bytes = length (numeral bytes)
+
+abbrev pub IsWrongRun : (ℕ → Type 0) → List ℕ → CertCause → Type 0
+IsWrongRun Wrong bytes f =
+    ((f ≡ Syntax) × (2 ^ 64 ≤ decimal_value (numeral bytes)))
+    ⊎ ((f ≡ OtherGame) × EndsField (drop (run_length bytes) bytes) × Wrong (decimal_value (numeral bytes)))
+
+run_long : (bytes digits more : List ℕ) → bytes ≡ digits ++ more → IsPlainNumber digits → 0 < run_length bytes
+run_long bytes digits more e h =
+    let long = numeral_longest digits more h in
+    let l : run_length bytes ≡ length digits + length long.0 = ap run_length e ∙ ap length long.1 ∙ length-append digits long.0 in
+    omega (arith, l, h.0.0)
+
+pub run_is_wrong : (Wrong : ℕ → Type 0) (bytes : List ℕ) (t : Seen) (f : CertCause) → bytes ≡ t.byte ∷ t.behind → IsBadNumber Wrong t f → (0 < run_length bytes) × IsWrongRun Wrong bytes f
+run_is_wrong Wrong bytes t f e b = (run_long bytes b.digits b.more whole b.number, go b.bad)
+  where
+    whole : bytes ≡ b.digits ++ b.more
+    whole = e ∙ b.split
+
+    go : ((f ≡ Syntax) × (2 ^ 64 ≤ decimal_value b.digits)) ⊎ ((f ≡ OtherGame) × EndsField b.more × Wrong (decimal_value b.digits)) → IsWrongRun Wrong bytes f
+    go (inl x) =
+        let long = numeral_longest b.digits b.more b.number in
+        let same : decimal_value (numeral bytes) ≡ decimal_value (b.digits ++ long.0) = ap (λ r. decimal_value (numeral r)) whole ∙ ap decimal_value long.1 in
+        inl (x.0, omega (arith, x.1, same, value_grows b.digits long.0))
+    go (inr x) =
+        let run : numeral bytes ≡ b.digits = ap numeral whole ∙ numeral_ended b.digits b.more b.number x.1 in
+        let rest : b.more ≡ drop (run_length bytes) bytes =
+        sym (ap (λ r. drop (length r) bytes) run ∙ ap (λ r. drop (length b.digits) r) whole ∙ drop-append_seam b.digits b.more) in
+        inr (x.0, subst EndsField rest x.1, subst (λ r. Wrong (decimal_value r)) (sym run) x.2)
+
+pub wrong_run_is : (Wrong : ℕ → Type 0) (bytes : List ℕ) (t : Seen) (f : CertCause) → bytes ≡ t.byte ∷ t.behind → 0 < run_length bytes → IsWrongRun Wrong bytes f → IsBadNumber Wrong t f
+wrong_run_is Wrong bytes t f e l w = record {
+  digits = numeral bytes;
+  more = drop (run_length bytes) bytes;
+  split = sym e ∙ numeral_split bytes;
+  number = numeral_plain bytes l;
+  bad = w;
+}
+
+-- ## What reading a number tells
+
+pub record IsNumberRead (place : Place) (read : ℕ × Place) : Type 0 where
+  pub long : 0 < run_length place.rest
+  pub value : read.0 ≡ decimal_value (numeral place.rest)
+  pub small : decimal_value (numeral place.rest) < 2 ^ 64
+  pub next : read.1 ≡ behind (numeral place.rest) place
+
+value_read : (run : List ℕ) (n : ℕ) → numeral_value run ≡ Some n → (0 < length run) × (n ≡ decimal_value run) × (decimal_value run < 2 ^ 64)
+value_read [] n e = absurd cc
+value_read (d ∷ digits) n e = go (nat_lt (value_from 0 (d ∷ digits)) (2 ^ 64)) refl e
+  where
+    go : (b : Bool) → nat_lt (value_from 0 (d ∷ digits)) (2 ^ 64) ≡ b → cond b (Some (value_from 0 (d ∷ digits))) None ≡ Some n → (0 < length (d ∷ digits)) × (n ≡ decimal_value (d ∷ digits)) × (decimal_value (d ∷ digits) < 2 ^ 64)
+    go true t h =
+        let same : value_from 0 (d ∷ digits) ≡ n = cc in
+        (omega arith, sym same ∙ value_is (d ∷ digits), omega (arith, ltb-true (value_from 0 (d ∷ digits)) (2 ^ 64) t, value_is (d ∷ digits)))
+    go false t h = absurd cc
+
+value_not_read : (run : List ℕ) → numeral_value run ≡ None → (run ≡ []) ⊎ ((0 < length run) × (2 ^ 64 ≤ decimal_value run))
+value_not_read [] e = inl refl
+value_not_read (d ∷ digits) e = go (nat_lt (value_from 0 (d ∷ digits)) (2 ^ 64)) refl e
+  where
+    go : (b : Bool) → nat_lt (value_from 0 (d ∷ digits)) (2 ^ 64) ≡ b → cond b (Some (value_from 0 (d ∷ digits))) None ≡ None → ((d ∷ digits) ≡ []) ⊎ ((0 < length (d ∷ digits)) × (2 ^ 64 ≤ decimal_value (d ∷ digits)))
+    go true t h = absurd cc
+    go false t h = inr (omega arith, omega (arith, ltb-false (value_from 0 (d ∷ digits)) (2 ^ 64) t, value_is (d ∷ digits)))
+
+pub number_read : (place : Place) (read : ℕ × Place) → number_at place ≡ Ok read → IsNumberRead place read
+unfolding number_at
+number_read place read e = go (numeral_value (numeral place.rest)) refl e
+  where
+    go : (o : Option ℕ) → numeral_value (numeral place.rest) ≡ o → numbered place (behind (numeral place.rest) place) o ≡ Ok read → IsNumberRead place read
+    go None t h = absurd cc
+    go (Some n) t h =
+        let v = value_read (numeral place.rest) n t in
+        let same : (n, behind (numeral place.rest) place) ≡ read = cc in
+        record { long = v.0; value = sym (ap (λ (x : ℕ × Place). x.0) same) ∙ v.1; small = v.2; next = sym (ap (λ (x : ℕ × Place). x.1) same) }
+
+pub number_not_read : (place : Place) (f : Fault) → number_at place ≡ Err f →
+    (f ≡ (Syntax, place.at)) × ((numeral place.rest ≡ []) ⊎ ((0 < run_length place.rest) × (2 ^ 64 ≤ decimal_value (numeral place.rest))))
+unfolding number_at
+number_not_read place f e = go (numeral_value (numeral place.rest)) refl e
+  where
+    go : (o : Option ℕ) → numeral_value (numeral place.rest) ≡ o → numbered place (behind (numeral place.rest) place) o ≡ Err f →
+        (f ≡ (Syntax, place.at)) × ((numeral place.rest ≡ []) ⊎ ((0 < run_length place.rest) × (2 ^ 64 ≤ decimal_value (numeral place.rest))))
+    go (Some n) t h = absurd cc
+    go None t h = (cc, value_not_read (numeral place.rest) t)
+
+-- ## Reading a number
+
+run_within : (bytes : List ℕ) → run_length bytes ≤ length bytes
+run_within bytes = omega (arith, ap length (numeral_split bytes), length-append (numeral bytes) (drop (run_length bytes) bytes))
+
+taken_is_run : (at : ℕ) (bytes : List ℕ) → bytes_of (signs (take (run_length bytes) (pieces_at at bytes))) ≡ numeral bytes
+taken_is_run at bytes =
+    bytes_taken (run_length bytes) at bytes ∙ ap (take (run_length bytes)) (numeral_split bytes) ∙ take-append_seam (numeral bytes) (drop (run_length bytes) bytes)
+
+pub suffix_behind : (n at : ℕ) (bytes : List ℕ) → n ≤ length bytes → IsSuffix (stream_at at bytes) (stream_at (at + n) (drop n bytes))
+suffix_behind n at bytes l = record {
+  taken = take n (pieces_at at bytes);
+  split = pieces_split n at bytes l;
+  end = omega (arith, l, length-drop n bytes);
+}
+
+one_byte : (b : ℕ) (more : List ℕ) → IsPlainNumber (b ∷ more) → IsPlainNumber (b ∷ [])
+one_byte b more h = plain_front (b ∷ []) more (omega arith) h
+
+read_run : (Wrong : ℕ → Type 0) (at : ℕ) (bytes : List ℕ) → 0 < run_length bytes → decimal_value (numeral bytes) < 2 ^ 64
+    → (EndsField (drop (run_length bytes) bytes) → Wrong (decimal_value (numeral bytes)) → ⊥)
+    → IsRead (number Wrong) (signs (pieces_at at bytes)) (decimal_value (numeral bytes)) (signs (pieces_at (at + run_length bytes) (drop (run_length bytes) bytes)))
+read_run Wrong at bytes long small right = record {
+  text = text;
+  split = signs_split (pieces_at at bytes) (take (run_length bytes) (pieces_at at bytes)) (pieces_at (at + run_length bytes) rest) (pieces_split (run_length bytes) at bytes (run_within bytes));
+  is_text = (subst IsPlainNumber (sym same) (numeral_plain bytes long), ap decimal_value (sym same));
+  stops = stops rest refl;
+  clean = clean;
+}
+  where
+    text : List Seen
+    text = signs (take (run_length bytes) (pieces_at at bytes))
+
+    rest : List ℕ
+    rest = drop (run_length bytes) bytes
+
+    same : bytes_of text ≡ numeral bytes
+    same = taken_is_run at bytes
+
+    stops : (r : List ℕ) → drop (run_length bytes) bytes ≡ r → StopsAt (number Wrong) text (first_of (signs (pieces_at (at + run_length bytes) r)))
+    stops [] e = tt
+    stops (c ∷ r) e = λ b.
+        let sign : Seen = record { byte = c; behind = r } in
+        let whole : bytes_of ((text ++ sign ∷ []) ++ b.more) ≡ (numeral bytes ++ c ∷ []) ++ bytes_of b.more =
+        bytes_append (text ++ sign ∷ []) b.more ∙ ap (λ x. x ++ bytes_of b.more) (bytes_append text (sign ∷ []) ∙ ap (λ x. x ++ c ∷ []) same) in
+        let plain : IsPlainNumber (numeral bytes ++ c ∷ []) =
+        plain_front (numeral bytes ++ c ∷ []) (bytes_of b.more) (omega (arith, length-append (numeral bytes) (c ∷ []))) (subst IsPlainNumber whole b.is_text.0) in
+        let split : bytes ≡ (numeral bytes ++ c ∷ []) ++ r = numeral_split bytes ∙ ap (λ x. numeral bytes ++ x) e ∙ sym (append_assoc (numeral bytes) (c ∷ []) r) in
+        let long = numeral_longest (numeral bytes ++ c ∷ []) r plain in
+        let l : run_length bytes ≡ length (numeral bytes ++ c ∷ []) + length long.0 = ap run_length split ∙ ap length long.1 ∙ length-append (numeral bytes ++ c ∷ []) long.0 in
+        omega (arith, l, length-append (numeral bytes) (c ∷ []))
+
+    clean : CleanUpTo (number Wrong) (signs (pieces_at at bytes)) (length text + 1)
+    clean front more t f e l c =
+        let w = run_is_wrong Wrong bytes t f (first_sees at bytes t more (e ∙ ap (λ x. x ++ t ∷ more) c.0)) c.1 in
+        go w.1
+      where
+        go : IsWrongRun Wrong bytes f → ⊥
+        go (inl x) = omega (arith, x.1, small)
+        go (inr x) = right x.1 x.2
+
+pub number_reads : (Wrong : ℕ → Type 0) (place : Place) (read : ℕ × Place) → number_at place ≡ Ok read → (EndsField read.1.rest → Wrong read.0 → ⊥)
+    → IsSuffix (at_place place) (at_place read.1) × IsRead (number Wrong) (signs (at_place place).pieces) read.0 (signs (at_place read.1).pieces)
+number_reads Wrong place read e right = subst Told (sym whole) (suffix_behind (run_length place.rest) place.at place.rest (run_within place.rest), read_run Wrong place.at place.rest r.long r.small good)
+  where
+    r : IsNumberRead place read
+    r = number_read place read e
+
+    Told : ℕ × Place → Type 0
+    Told x = IsSuffix (at_place place) (at_place x.1) × IsRead (number Wrong) (signs (at_place place).pieces) x.0 (signs (at_place x.1).pieces)
+
+    whole : read ≡ (decimal_value (numeral place.rest), behind (numeral place.rest) place)
+    whole = ap₂ (λ (n : ℕ) (q : Place). (n, q)) r.value r.next
+
+    good : EndsField (drop (run_length place.rest) place.rest) → Wrong (decimal_value (numeral place.rest)) → ⊥
+    good ends wrong = right (subst (λ (q : Place). EndsField q.rest) (sym r.next) ends) (subst Wrong (sym r.value) wrong)
+
+pub number_begins : (Wrong : ℕ → Type 0) → Begins (number Wrong).IsText []
+number_begins Wrong = record { more = record { byte = 48; behind = [] } ∷ []; value = 0; is_text = (numeral_plain (48 ∷ []) (omega arith), refl) }
+
+-- the cause or the refusal at the first sign
+fault_here : (Wrong : ℕ → Type 0) (at : ℕ) (bytes : List ℕ) (f : CertCause) → IsFaultAt causes (number Wrong) [] (first_of (signs (pieces_at at bytes))) f
+    → StopsWith causes (number Wrong) (stream_at at bytes) (record { cause = f; offset = at })
+fault_here Wrong at [] f h = record {
+  front = [];
+  rest = [];
+  split = refl;
+  fault = record { front = []; split = refl; clean = λ front more t g e l c. absurd (omega (arith, l)); fault = h };
+  offset = omega arith;
+}
+fault_here Wrong at (b ∷ bytes) f h = record {
+  front = [];
+  rest = pieces_at at (b ∷ bytes);
+  split = refl;
+  fault = record { front = []; split = refl; clean = λ front more t g e l c. absurd (omega (arith, l)); fault = h };
+  offset = refl;
+}
+
+-- no number begins there
+nothing_there : (Wrong : ℕ → Type 0) (at : ℕ) (bytes : List ℕ) → numeral bytes ≡ [] → IsFaultAt causes (number Wrong) [] (first_of (signs (pieces_at at bytes))) Syntax
+nothing_there Wrong at [] e = is_refusal (record { before = number_begins Wrong; no_text = λ v h. absurd (omega (arith, h.0.0.0)); stops = tt; no_cause = tt }) refl
+nothing_there Wrong at (b ∷ bytes) e = is_refusal (record {
+  before = number_begins Wrong;
+  no_text = λ v h. absurd (omega (arith, h.0.0.0));
+  stops = λ x. let l = run_long (b ∷ bytes) (b ∷ []) bytes refl (one_byte b (bytes_of x.more) x.is_text.0) in omega (arith, l, ap length e);
+  no_cause = λ f c. let w = run_is_wrong Wrong (b ∷ bytes) (record { byte = b; behind = bytes }) f refl c.1 in omega (arith, w.0, ap length e);
+}) refl
+
+syntax_least : (g : CertCause) → cause_number Syntax ≤ cause_number g
+syntax_least Syntax = omega arith
+syntax_least OtherGame = omega arith
+
+too_large : (Wrong : ℕ → Type 0) (at : ℕ) (bytes : List ℕ) → 0 < run_length bytes → 2 ^ 64 ≤ decimal_value (numeral bytes) → IsFaultAt causes (number Wrong) [] (first_of (signs (pieces_at at bytes))) Syntax
+too_large Wrong at [] l h = absurd (omega arith)
+too_large Wrong at (b ∷ bytes) l h =
+    let sign : Seen = record { byte = b; behind = bytes } in
+    is_cause sign refl (refl, wrong_run_is Wrong (b ∷ bytes) sign Syntax refl l (inl (refl, h))) (λ g c. syntax_least g)
+
+other_number : (Wrong : ℕ → Type 0) (at : ℕ) (bytes : List ℕ) → 0 < run_length bytes → decimal_value (numeral bytes) < 2 ^ 64 → EndsField (drop (run_length bytes) bytes) → Wrong (decimal_value (numeral bytes))
+    → IsFaultAt causes (number Wrong) [] (first_of (signs (pieces_at at bytes))) OtherGame
+other_number Wrong at [] l small ends wrong = absurd (omega arith)
+other_number Wrong at (b ∷ bytes) l small ends wrong =
+    let sign : Seen = record { byte = b; behind = bytes } in
+    is_cause sign refl (refl, wrong_run_is Wrong (b ∷ bytes) sign OtherGame refl l (inr (refl, ends, wrong)))
+    (λ g c. least g (run_is_wrong Wrong (b ∷ bytes) sign g refl c.1).1)
+  where
+    least : (g : CertCause) → IsWrongRun Wrong (b ∷ bytes) g → cause_number OtherGame ≤ cause_number g
+    least g (inl x) = absurd (omega (arith, x.1, small))
+    least g (inr x) = rw x.0 (omega arith)
+
+pub number_fails : (Wrong : ℕ → Type 0) (place : Place) (f : Fault) → number_at place ≡ Err f → StopsWith causes (number Wrong) (at_place place) (record { cause = f.0; offset = f.1 })
+number_fails Wrong place f e = rw h.0 (fault_here Wrong place.at place.rest Syntax (go h.1))
+  where
+    h : (f ≡ (Syntax, place.at)) × ((numeral place.rest ≡ []) ⊎ ((0 < run_length place.rest) × (2 ^ 64 ≤ decimal_value (numeral place.rest))))
+    h = number_not_read place f e
+
+    go : (numeral place.rest ≡ []) ⊎ ((0 < run_length place.rest) × (2 ^ 64 ≤ decimal_value (numeral place.rest))) → IsFaultAt causes (number Wrong) [] (first_of (signs (pieces_at place.at place.rest))) Syntax
+    go (inl none) = nothing_there Wrong place.at place.rest none
+    go (inr large) = too_large Wrong place.at place.rest large.0 large.1
+
+pub number_wrong : (Wrong : ℕ → Type 0) (place : Place) (read : ℕ × Place) → number_at place ≡ Ok read → EndsField read.1.rest → Wrong read.0
+    → StopsWith causes (number Wrong) (at_place place) (record { cause = OtherGame; offset = place.at })
+number_wrong Wrong place read e ends wrong =
+    let r = number_read place read e in
+    fault_here Wrong place.at place.rest OtherGame (other_number Wrong place.at place.rest r.long r.small (subst (λ (q : Place). EndsField q.rest) r.next ends) (subst Wrong r.value wrong))
+
+-- ## The laws
+
+abbrev pub Odd : Seen → Type 0
+Odd = Own causes
+
+abbrev pub AtDigit : Seen → Type 0
+AtDigit s = IsDigit s.byte
+
+first_digit : (b : ℕ) (bytes digits more : List ℕ) → b ∷ bytes ≡ digits ++ more → IsPlainNumber digits → IsDigit b
+first_digit b bytes [] more e h = absurd (omega (arith, h.0.0))
+first_digit b bytes (d ∷ digits) more e h = subst IsDigit (sym (same_head b d bytes (digits ++ more) e)) (All-head IsDigit d digits h.0.1)
+
+pub laws_number : (Wrong : ℕ → Type 0) → Laws Odd (number Wrong) AtDigit AtDigit ⊥
+laws_number Wrong = record {
+  some = number_begins Wrong;
+  one_value = λ text v w h k. h.1 ∙ sym k.1;
+  first_text = λ t text v h. All-head IsDigit t.byte (bytes_of text) h.0.0.1;
+  first_cause = λ t f c. first_digit t.byte t.behind c.1.digits c.1.more c.1.split c.1.number;
+  more_text = λ text more t v w h k. later text more t k.0;
+  more_cause = λ text t v f h c. absurd (let z : 0 < length (bytes_of []) = subst (λ x. 0 < length (bytes_of x)) c.0 h.0.0.0 in omega (arith, z));
+  null = λ v h. omega (arith, h.0.0.0);
+  behind = λ front t f c. subst (Begins (number Wrong).IsText) (sym c.0) (number_begins Wrong);
+  plain_text = λ front rest t v h o. none_is_some o.0 o.1;
+  plain_cause = λ front t f c o. none_is_some o.0 o.1;
+}
+  where
+    later : (text more : List Seen) (t : Seen) → IsPlainNumber (bytes_of (text ++ t ∷ more)) → IsDigit t.byte
+    later text more t h =
+        let all : All IsDigit (bytes_of text ++ t.byte ∷ bytes_of more) = subst (All IsDigit) (bytes_append text (t ∷ more)) h.0.1 in
+        All-head IsDigit t.byte (bytes_of more) (subst (All IsDigit) (drop-append_seam (bytes_of text) (t.byte ∷ bytes_of more)) (All-drop IsDigit (length (bytes_of text)) (bytes_of text ++ t.byte ∷ bytes_of more) all))

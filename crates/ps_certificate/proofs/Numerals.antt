@@ -1,0 +1,136 @@
+-- The digits that a text begins with: the longest run without a leading zero, and the number that it writes.
+use Rattle.std.proofs.Common.{◌≡◌, ℕ, suc, ◌+◌, ◌-◌, ◌*◌, ◌<◌, ◌≤◌, Bool, true, false, cond, eqb, List, [], ◌∷◌, ◌++◌, length, drop, refl, sym, ap, subst, inl, inr, ◌∙◌, append_assoc, append-nil, arith, length-append}
+use Rattle.std.specs.Prelude.{map, take_while}
+use Rattle.std.specs.Char.{is_ascii_digit}
+use Rattle.std.specs.List.{All}
+use Rattle.std.specs.Int.Digits.{number_from_digits_after}
+use Rattle.std.proofs.lemmas.Bool.{cases_Bool, cases_eq, eq-eqb, ne_eqb, eqb-true, eqb-false, le-leb}
+use Rattle.std.proofs.lemmas.List.Elements.{All-nil, All-cons, All-head, All-tail, All-take, All-drop}
+use Rattle.std.proofs.lemmas.List.{append_cancel_left}
+use Rattle.std.proofs.Math.Seq.{take-append_seam, drop-append_seam}
+use Rattle.std.proofs.lemmas.List.Sums.{take_while-cons}
+use Rattle.ps_text.specs.Digits.{IsDigit, BeginsWithZero, IsPlainNumber, decimal_value}
+use Rattle.ps_certificate.specs.Reading.{comes, numeral, value_from}
+use Rattle.ps_certificate.specs.Texts.{EndsField}
+
+-- ## Values
+
+after_is : (n : ℕ) (digits : List ℕ) → value_from n digits ≡ number_from_digits_after 10 n (map (λ b. b - 48) digits)
+after_is n [] = refl
+after_is n (d ∷ digits) = after_is (n * 10 + (d - 48)) digits
+
+pub value_is : (digits : List ℕ) → value_from 0 digits ≡ decimal_value digits
+value_is digits = after_is 0 digits
+
+value_append : (n : ℕ) (a b : List ℕ) → value_from n (a ++ b) ≡ value_from (value_from n a) b
+value_append n [] b = refl
+value_append n (d ∷ a) b = value_append (n * 10 + (d - 48)) a b
+
+value_ge : (n : ℕ) (digits : List ℕ) → n ≤ value_from n digits
+value_ge n [] = omega arith
+value_ge n (d ∷ digits) = omega (arith, value_ge (n * 10 + (d - 48)) digits)
+
+-- more digits write no smaller number
+pub value_grows : (a b : List ℕ) → decimal_value a ≤ decimal_value (a ++ b)
+value_grows a b = omega (arith, value_is a, value_is (a ++ b), value_append 0 a b, value_ge (value_from 0 a) b)
+
+-- ## The longest run
+
+digit_is : (b : ℕ) → is_ascii_digit b ≡ true → IsDigit b
+digit_is b e = (grind arith, grind arith)
+
+digit_test : (b : ℕ) → IsDigit b → is_ascii_digit b ≡ true
+digit_test b h = rw (le-leb 48 b h.0, le-leb b 57 h.1) refl
+
+not_digit : (b : ℕ) → is_ascii_digit b ≡ false → IsDigit b → ⊥
+not_digit b e h = let t = digit_test b h in cc
+
+taken_digits : (bytes : List ℕ) → All IsDigit (take_while is_ascii_digit bytes)
+taken_digits [] = All-nil IsDigit
+taken_digits (b ∷ bytes) = rw take_while-cons
+    (elim (cases_Bool (is_ascii_digit b)) [
+      | inl so ↦ rw so (All-cons IsDigit b (take_while is_ascii_digit bytes) (digit_is b so) (taken_digits bytes))
+      | inr other ↦ rw other (All-nil IsDigit)
+    ])
+
+taken_split : (bytes : List ℕ) → bytes ≡ take_while is_ascii_digit bytes ++ drop (length (take_while is_ascii_digit bytes)) bytes
+taken_split [] = refl
+taken_split (b ∷ bytes) = rw take_while-cons
+    (elim (cases_Bool (is_ascii_digit b)) [
+      | inl so ↦ rw so (ap (λ xs. b ∷ xs) (taken_split bytes))
+      | inr other ↦ rw other refl
+    ])
+
+taken_over : (digits more : List ℕ) → All IsDigit digits → take_while is_ascii_digit (digits ++ more) ≡ digits ++ take_while is_ascii_digit more
+taken_over [] more h = refl
+taken_over (d ∷ digits) more h = rw (take_while-cons, digit_test d (All-head IsDigit d digits h)) (ap (λ xs. d ∷ xs) (taken_over digits more (All-tail IsDigit d digits h)))
+
+-- what begins with a zero: the run is that zero
+comes_is : (b : ℕ) (bytes : List ℕ) → comes b bytes ≡ true → (more : List ℕ) × (bytes ≡ b ∷ more)
+comes_is b [] e = absurd cc
+comes_is b (c ∷ bytes) e = (bytes, ap (λ x. x ∷ bytes) (eqb-true c b e))
+
+-- the run is a front of the bytes
+pub numeral_split : (bytes : List ℕ) → bytes ≡ numeral bytes ++ drop (length (numeral bytes)) bytes
+numeral_split bytes = elim (cases_Bool (comes 48 bytes)) [
+  | inl so ↦ let z = comes_is 48 bytes so in rw (so, z.1) refl
+  | inr other ↦ rw other (taken_split bytes)
+]
+
+no_zero : (bytes : List ℕ) → comes 48 bytes ≡ false → BeginsWithZero (take_while is_ascii_digit bytes) → ⊥
+no_zero [] e = λ z. z
+no_zero (b ∷ bytes) e = rw take_while-cons
+    (elim (cases_Bool (is_ascii_digit b)) [
+      | inl so ↦ rw so (λ z. eqb-false b 48 e z)
+      | inr other ↦ rw other (λ z. z)
+    ])
+
+-- and a number without leading zeros, unless it is empty
+pub numeral_plain : (bytes : List ℕ) → 0 < length (numeral bytes) → IsPlainNumber (numeral bytes)
+numeral_plain bytes long = go (comes 48 bytes) refl long
+  where
+    go : (b : Bool) → comes 48 bytes ≡ b → 0 < length (cond b (48 ∷ []) (take_while is_ascii_digit bytes)) → IsPlainNumber (cond b (48 ∷ []) (take_while is_ascii_digit bytes))
+    go true e l = ((omega arith, All-cons IsDigit 48 [] (omega arith, omega arith) (All-nil IsDigit)), λ lt. absurd (omega arith))
+    go false e l = ((l, taken_digits bytes), λ lt z. no_zero bytes e z)
+
+-- each number without leading zeros that the bytes begin with is a front of the run
+pub numeral_longest : (digits more : List ℕ) → IsPlainNumber digits → (m : List ℕ) × (numeral (digits ++ more) ≡ digits ++ m)
+numeral_longest [] more h = absurd (omega (arith, h.0.0))
+numeral_longest (d ∷ digits) more h = elim (cases_eq d 48) [
+  | inl zero_first ↦ ([], only_zero digits (eq-eqb d 48 zero_first) zero_first h.1)
+  | inr other ↦ (take_while is_ascii_digit more, rw (ne_eqb d 48 other) (taken_over (d ∷ digits) more h.0.1))
+]
+  where
+    only_zero : (rest : List ℕ) → eqb d 48 ≡ true → d ≡ 48 → (1 < length (d ∷ rest) → ¬ BeginsWithZero (d ∷ rest)) → numeral ((d ∷ rest) ++ more) ≡ (d ∷ rest) ++ []
+    only_zero [] e z none = rw e (ap (λ x. x ∷ []) (sym z))
+    only_zero (c ∷ rest) e z none = absurd (none (omega arith) z)
+
+-- a front of a number without leading zeros is one, unless it is empty
+pub plain_front : (a b : List ℕ) → 0 < length a → IsPlainNumber (a ++ b) → IsPlainNumber a
+plain_front [] b l h = absurd (omega arith)
+plain_front (d ∷ a) b l h = ((l, digits), λ lt z. h.1 (omega (arith, lt, length-append a b)) z)
+  where
+    digits : All IsDigit (d ∷ a)
+    digits = subst (All IsDigit) (take-append_seam (d ∷ a) b) (All-take IsDigit (length (d ∷ a)) ((d ∷ a) ++ b) h.0.1)
+
+-- where a space, a newline or a colon ends such a number, it is the whole run
+pub numeral_ended : (digits more : List ℕ) → IsPlainNumber digits → EndsField more → numeral (digits ++ more) ≡ digits
+numeral_ended digits more h ends = go long.0 long.1
+  where
+    long : (m : List ℕ) × (numeral (digits ++ more) ≡ digits ++ m)
+    long = numeral_longest digits more h
+
+    no_end : (x : ℕ) (xs : List ℕ) → EndsField (x ∷ xs) → IsDigit x → ⊥
+    no_end x xs (inl e) d = omega (arith, e, d.0)
+    no_end x xs (inr (inl e)) d = omega (arith, e, d.0)
+    no_end x xs (inr (inr e)) d = omega (arith, e, d.1)
+
+    go : (m : List ℕ) → numeral (digits ++ more) ≡ digits ++ m → numeral (digits ++ more) ≡ digits
+    go [] e = e ∙ append-nil digits
+    go (x ∷ m) e =
+        let rest = drop (length (numeral (digits ++ more))) (digits ++ more) in
+        let whole : digits ++ more ≡ (digits ++ x ∷ m) ++ rest = numeral_split (digits ++ more) ∙ ap (λ r. r ++ rest) e in
+        let tail : more ≡ (x ∷ m) ++ rest = append_cancel_left digits more ((x ∷ m) ++ rest) (whole ∙ append_assoc digits (x ∷ m) rest) in
+        let plain : IsPlainNumber (digits ++ x ∷ m) = subst IsPlainNumber e (numeral_plain (digits ++ more) (let l : length (numeral (digits ++ more)) ≡ length digits + suc (length m) = ap length e ∙ length-append digits (x ∷ m) in omega (arith, l))) in
+        let digit : IsDigit x = All-head IsDigit x m (subst (All IsDigit) (drop-append_seam digits (x ∷ m)) (All-drop IsDigit (length digits) (digits ++ x ∷ m) plain.0.1)) in
+        absurd (no_end x (m ++ rest) (subst EndsField tail ends) digit)

@@ -1,0 +1,220 @@
+-- The laws of the parts of a certificate text, by `ps_text`: with which signs a part begins, and with which it goes on. Only
+-- numbers and moves go on with anything, which are digits, and what stands behind them begins with a space or a newline.
+use Rattle.std.proofs.Common.{◌≡◌, ℕ, zero, suc, ◌⊎◌, Bool, true, false, cond, eqb, List, [], ◌∷◌, length, drop, Option, Some, None, refl, ap, inl, inr, arith}
+use Rattle.std.specs.Prelude.{codes}
+use Rattle.std.specs.List.{Contains}
+use Rattle.std.proofs.lemmas.Bool.{eqb-true, eq-eqb}
+use Rattle.ps_text.specs.Parts.{NoBad, one, then_by, many, mapped}
+use Rattle.ps_text.proofs.Laws.{Laws, Joint, Nothing, Or, When, Apart, weaker}
+use Rattle.ps_text.proofs.Joined.{joint}
+use Rattle.ps_text.proofs.Simple.{none_is_some, Taken, BadSign, laws_give, laws_one, laws_mapped, laws_then}
+use Rattle.ps_text.proofs.Covered.{laws_either}
+use Rattle.ps_text.proofs.Repeated.{laws_many}
+use Rattle.ps_certificate.specs.declared.fault.CertCause.{CertCause}
+use Rattle.ps_certificate.specs.Certificates.{EntryData, CertificateData}
+use Rattle.ps_certificate.specs.Words.{odd_word, even_word}
+use Rattle.ps_certificate.specs.Texts.{Seen, Field, take_byte, byte, word, number, Never, NotNext, priority, IsMissing, priorities, take_winner, winner, vertex_of, choice, counts, count_number, entry, entries, certificate}
+use Rattle.ps_certificate.proofs.NumberPart.{Odd, AtDigit, laws_number}
+
+-- ## Sets of signs
+
+abbrev pub At : ℕ → Seen → Type 0
+At b s = s.byte ≡ b
+
+abbrev pub Any : Seen → Type 0
+Any s = Unit {0}
+
+abbrev pub Separates : Seen → Type 0
+Separates s = (s.byte ≡ 32) ⊎ (s.byte ≡ 10)
+
+pub no_digit_separates : Apart AtDigit Separates
+no_digit_separates t d (inl e) = omega (arith, e, d.0)
+no_digit_separates t d (inr e) = omega (arith, e, d.0)
+
+not_odd : (A : Seen → Type 0) → Apart A Odd
+not_odd A t a o = none_is_some o.0 o.1
+
+-- ## Two parts, the first of which does not go on, or goes on with digits
+
+module _ {A B : Type 0} {P : Field A} {Q : A → Field B} {First First' More' : Seen → Type 0} {Null' : Type 0} where
+  pub tight_joint : {Null : Type 0} → Laws Odd P First Nothing Null → ((a : A) → Laws Odd (Q a) First' More' Null') → Joint P Q
+  tight_joint l r = joint l r (λ t x y. x)
+
+  pub tight_then : Laws Odd P First Nothing ⊥ → ((a : A) → Laws Odd (Q a) First' More' Null') → Laws Odd (then_by P Q) First More' ⊥
+  tight_then l r = weaker (laws_then l r (λ t x y. x)) first more (λ n. n.0)
+    where
+      first : (t : Seen) → Or First (When ⊥ First') t → First t
+      first t (inl x) = x
+      first t (inr x) = absurd x.0
+
+      more : (t : Seen) → Or More' (When Null' Nothing) t → More' t
+      more t (inl x) = x
+      more t (inr x) = absurd x.1
+
+module _ {A B : Type 0} {P : Field A} {Q : A → Field B} {First : Seen → Type 0} where
+  pub loose_joint : Laws Odd P First AtDigit ⊥ → ((a : A) → Laws Odd (Q a) Separates Nothing ⊥) → Joint P Q
+  loose_joint l r = joint l r no_digit_separates
+
+  pub loose_then : Laws Odd P First AtDigit ⊥ → ((a : A) → Laws Odd (Q a) Separates Nothing ⊥) → Laws Odd (then_by P Q) First Nothing ⊥
+  loose_then l r = weaker (laws_then l r no_digit_separates) first more (λ n. n.0)
+    where
+      first : (t : Seen) → Or First (When ⊥ Separates) t → First t
+      first t (inl x) = x
+      first t (inr x) = absurd x.0
+
+      more : (t : Seen) → Or Nothing (When ⊥ AtDigit) t → Nothing t
+      more t (inl x) = x
+      more t (inr x) = x.0
+
+-- ## Bytes
+
+pub byte_taken : (b : ℕ) (s : Seen) → s.byte ≡ b → take_byte b s ≡ Some tt
+byte_taken b s e = ap (λ x. cond x (Some tt) None) (eq-eqb s.byte b e)
+
+pub taken_byte : (b : ℕ) (s : Seen) (u : Unit {0}) → take_byte b s ≡ Some u → s.byte ≡ b
+taken_byte b s u e = go (eqb s.byte b) refl e
+  where
+    go : (x : Bool) → eqb s.byte b ≡ x → cond x (Some tt) None ≡ Some u → s.byte ≡ b
+    go true t h = eqb-true s.byte b t
+    go false t h = absurd cc
+
+pub laws_byte : (b : ℕ) → Laws Odd (byte b) (At b) Nothing ⊥
+laws_byte b = weaker (laws_one (take_byte b) NoBad Odd (record { byte = b; behind = [] }) tt (byte_taken b (record { byte = b; behind = [] }) refl) (not_odd (Taken (take_byte b))) (not_odd (BadSign NoBad)))
+    first (λ t h. h) (λ n. n)
+  where
+    first : (t : Seen) → Or (Taken (take_byte b)) (BadSign {F = CertCause} NoBad) t → At b t
+    first t (inl x) = taken_byte b t x.0 x.1
+    first t (inr x) = absurd x.1
+
+pub laws_word : (bytes : List ℕ) → Laws Odd (word bytes) Any Nothing (Unit {0})
+laws_word [] = weaker (laws_give Odd tt) (λ t h. tt) (λ t h. h) (λ n. n)
+laws_word (b ∷ bytes) = weaker (tight_then (laws_byte b) (λ _. laws_word bytes)) (λ t h. tt) (λ t h. h) (λ n. tt)
+
+pub laws_word_from : (b : ℕ) (bytes : List ℕ) → Laws Odd (word (b ∷ bytes)) (At b) Nothing ⊥
+laws_word_from b bytes = tight_then (laws_byte b) (λ _. laws_word bytes)
+
+pub laws_space : {B : Type 0} {Q : Unit {0} → Field B} {First More : Seen → Type 0} {Null : Type 0} → ((u : Unit {0}) → Laws Odd (Q u) First More Null) → Laws Odd (then_by (byte 32) Q) Separates More ⊥
+laws_space r = weaker (tight_then (laws_byte 32) r) (λ t h. inl h) (λ t h. h) (λ n. n)
+
+-- ## Lines of priorities
+
+pub laws_priority : (ps : List ℕ) → Laws Odd (priority ps) (At 32) AtDigit ⊥
+laws_priority ps = tight_then (laws_byte 32) (λ _. laws_mapped (λ _. drop 1 ps) (number (NotNext ps)) (laws_number (NotNext ps)))
+
+pub digit_no_space : Apart AtDigit (At 32)
+digit_no_space t d e = omega (arith, e, d.0)
+
+pub laws_newline : (left : List ℕ) → Laws Odd (one (take_byte 10) (IsMissing left)) (At 10) Nothing ⊥
+laws_newline left = weaker (laws_one (take_byte 10) (IsMissing left) Odd (record { byte = 10; behind = [] }) tt (byte_taken 10 (record { byte = 10; behind = [] }) refl) (not_odd (Taken (take_byte 10))) (not_odd (BadSign (IsMissing left))))
+    first (λ t h. h) (λ n. n)
+  where
+    first : (t : Seen) → Or (Taken (take_byte 10)) (BadSign (IsMissing left)) t → At 10 t
+    first t (inl x) = taken_byte 10 t x.0 x.1
+    first t (inr x) = x.1.0
+
+numbers_end : Apart (Or AtDigit (At 32)) (At 10)
+numbers_end t (inl d) e = omega (arith, e, d.0)
+numbers_end t (inr s) e = omega (arith, e, s)
+
+pub joint_priorities : (ps : List ℕ) → Joint (many priority ps) (λ left. one (take_byte 10) (IsMissing left))
+joint_priorities ps = joint (laws_many priority laws_priority digit_no_space ps) laws_newline numbers_end
+
+pub laws_priorities : (ps : List ℕ) → Laws Odd (priorities ps) Separates Nothing ⊥
+laws_priorities ps = weaker (laws_then (laws_many priority laws_priority digit_no_space ps) laws_newline numbers_end) first more (λ n. n.1)
+  where
+    first : (t : Seen) → Or (At 32) (When (Unit {0}) (At 10)) t → Separates t
+    first t (inl x) = inl x
+    first t (inr x) = inr x.1
+
+    more : (t : Seen) → Or Nothing (When ⊥ (Or AtDigit (At 32))) t → Nothing t
+    more t (inl x) = x
+    more t (inr x) = x.0
+
+-- ## Lines of vertices
+
+pub laws_winner : Laws Odd winner Any Nothing ⊥
+laws_winner = weaker (laws_one take_winner NoBad Odd (record { byte = 48; behind = [] }) 0 refl (not_odd (Taken take_winner)) (not_odd (BadSign NoBad))) (λ t h. tt) (λ t h. h) (λ n. n)
+
+abbrev pub dash : Field (Option ℕ)
+dash = mapped (λ _. None) (byte 45)
+
+abbrev pub chosen : List ℕ → Field (Option ℕ)
+chosen ids = mapped (vertex_of ids) (number (λ id. ¬ Contains ids id))
+
+pub laws_dash : Laws Odd dash (At 45) Nothing ⊥
+laws_dash = laws_mapped (λ _. None) (byte 45) (laws_byte 45)
+
+pub laws_chosen : (ids : List ℕ) → Laws Odd (chosen ids) AtDigit AtDigit ⊥
+laws_chosen ids = laws_mapped (vertex_of ids) (number (λ id. ¬ Contains ids id)) (laws_number (λ id. ¬ Contains ids id))
+
+pub dash_no_digit : Apart (At 45) AtDigit
+dash_no_digit t e d = omega (arith, e, d.0)
+
+pub laws_choice : (ids : List ℕ) → Laws Odd (choice ids) Any AtDigit ⊥
+laws_choice ids = weaker (laws_either laws_dash (laws_chosen ids) dash_no_digit (λ a b. a)) (λ t h. tt) more none
+  where
+    more : (t : Seen) → Or (Or Nothing AtDigit) (Or (When ⊥ AtDigit) (When ⊥ (At 45))) t → AtDigit t
+    more t (inl (inl x)) = absurd x
+    more t (inl (inr x)) = x
+    more t (inr (inl x)) = absurd x.0
+    more t (inr (inr x)) = absurd x.0
+
+    none : ⊥ ⊎ ⊥ → ⊥
+    none (inl x) = x
+    none (inr x) = x
+
+pub laws_counts : (n : ℕ) → Laws Odd (counts n) Separates Nothing ⊥
+laws_counts zero = weaker (laws_mapped (λ _. []) (byte 10) (laws_byte 10)) (λ t h. inr h) (λ t h. h) (λ n. n)
+laws_counts (suc n) = laws_space (λ _. loose_then (laws_number Never) (λ count. laws_mapped (λ others. count ∷ others) (counts n) (laws_counts n)))
+
+module _ (odd even ids : List ℕ) where
+  abbrev pub entry_counts : ℕ → Option ℕ → Field EntryData
+  entry_counts w c = mapped (λ cs. record { winner = w; choice = c; counts = cs }) (counts (count_number odd even w))
+
+  pub laws_entry_counts : (w : ℕ) (c : Option ℕ) → Laws Odd (entry_counts w c) Separates Nothing ⊥
+  laws_entry_counts w c = laws_mapped (λ cs. record { winner = w; choice = c; counts = cs }) (counts (count_number odd even w)) (laws_counts (count_number odd even w))
+
+  pub laws_entry_choice : (w : ℕ) → Laws Odd (then_by (choice ids) (entry_counts w)) Any Nothing ⊥
+  laws_entry_choice w = loose_then (laws_choice ids) (laws_entry_counts w)
+
+  pub laws_entry_winner : Laws Odd (then_by winner (λ w. then_by (byte 32) (λ _. then_by (choice ids) (entry_counts w)))) Any Nothing ⊥
+  laws_entry_winner = tight_then laws_winner (λ w. laws_space (λ _. laws_entry_choice w))
+
+  pub laws_entry_rest : Laws Odd (then_by (byte 32) (λ _. then_by winner (λ w. then_by (byte 32) (λ _. then_by (choice ids) (entry_counts w))))) Separates Nothing ⊥
+  laws_entry_rest = laws_space (λ _. laws_entry_winner)
+
+  pub laws_entry : (id : ℕ) → Laws Odd (entry odd even ids id) Any Nothing ⊥
+  laws_entry id = weaker (loose_then (laws_number (λ n. n ≡ id → ⊥)) (λ _. laws_entry_rest)) (λ t h. tt) (λ t h. h) (λ n. n)
+
+  pub laws_entries : (rest : List ℕ) → Laws Odd (entries odd even ids rest) Any Nothing (Unit {0})
+  laws_entries [] = weaker (laws_give Odd []) (λ t h. absurd h) (λ t h. h) (λ n. n)
+  laws_entries (id ∷ rest) = weaker (tight_then (laws_entry id) (λ first. laws_mapped (λ others. first ∷ others) (entries odd even ids rest) (laws_entries rest))) (λ t h. h) (λ t h. h) (λ n. tt)
+
+  -- ## The text
+
+  abbrev pub all_entries : Field CertificateData
+  all_entries = mapped (λ es. record { odd = odd; even = even; entries = es }) (entries odd even ids ids)
+
+  pub laws_all_entries : Laws Odd all_entries Any Nothing (Unit {0})
+  laws_all_entries = laws_mapped (λ es. record { odd = odd; even = even; entries = es }) (entries odd even ids ids) (laws_entries ids)
+
+  pub laws_even : Laws Odd (then_by (priorities even) (λ _. all_entries)) Separates Nothing ⊥
+  laws_even = tight_then (laws_priorities even) (λ _. laws_all_entries)
+
+  pub laws_even_word : Laws Odd (then_by (word even_word) (λ _. then_by (priorities even) (λ _. all_entries))) (At 101) Nothing ⊥
+  laws_even_word = tight_then (laws_word_from 101 (codes "ven")) (λ _. laws_even)
+
+  pub laws_odd : Laws Odd (then_by (priorities odd) (λ _. then_by (word even_word) (λ _. then_by (priorities even) (λ _. all_entries)))) Separates Nothing ⊥
+  laws_odd = tight_then (laws_priorities odd) (λ _. laws_even_word)
+
+  abbrev pub behind_count : Field CertificateData
+  behind_count = then_by (word odd_word) (λ _. then_by (priorities odd) (λ _. then_by (word even_word) (λ _. then_by (priorities even) (λ _. all_entries))))
+
+  pub laws_behind_count : Laws Odd behind_count Separates Nothing ⊥
+  laws_behind_count = weaker (tight_then (laws_word_from 10 (codes "odd")) (λ _. laws_odd)) (λ t h. inr h) (λ t h. h) (λ n. n)
+
+  pub laws_count : Laws Odd (then_by (number (λ n. n ≡ length ids → ⊥)) (λ _. behind_count)) AtDigit Nothing ⊥
+  laws_count = loose_then (laws_number (λ n. n ≡ length ids → ⊥)) (λ _. laws_behind_count)
+
+  pub laws_certificate : Laws Odd (certificate odd even ids) (At 112) Nothing ⊥
+  laws_certificate = tight_then (laws_word_from 112 (codes "syncert 1\nvertices ")) (λ _. laws_count)
