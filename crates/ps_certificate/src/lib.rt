@@ -13,6 +13,8 @@ mod flaw;
 mod laws;
 mod rising;
 mod text;
+#[cfg(test)]
+mod text_tests;
 
 pub use certificate::{Certificate, Entry};
 pub use checking::check;
