@@ -6,3 +6,4 @@ pub mod Closing
 pub mod Ending
 pub mod Stepping
 pub mod LinksLemmas
+pub mod ReadingLemmas

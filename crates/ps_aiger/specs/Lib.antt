@@ -4,3 +4,6 @@ pub mod Arrangements
 pub mod Circuits
 pub mod Drafts
 pub mod Written
+pub mod Causes
+pub mod Reading
+pub mod Names

@@ -52,6 +52,7 @@ impl Circuit {
     pub fn new(alloc: Global, parts: Parts) -> Result<Self, CircuitFault>
         requires { IsDraft (data_of parts) }
         ensures ok { IfOk result (λ c. c ≡ data_of parts) }
+        ensures well_formed { IfOk result (λ c. IsCircuit c) }
         ensures cyclic { (i : ℕ) → result ≡ Err (CircuitFault.Cyclic i) → IsFirstOnCycle (Reads parts.gates.items) i }
     {
         let links = links_of(alloc, &parts.gates)?;

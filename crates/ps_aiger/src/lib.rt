@@ -2,11 +2,19 @@
 #![tactic(auto)]
 
 mod circuit;
+mod cursor;
+mod fault;
 mod links;
 mod parts;
+mod reader;
 mod search;
 mod writer;
 
 pub use circuit::{Circuit, CircuitFault};
+pub use fault::{AigCause, AigFault};
 pub use parts::{Gate, Latch, Parts};
+pub use reader::read;
 pub use writer::write;
+
+#[cfg(test)]
+mod tests;

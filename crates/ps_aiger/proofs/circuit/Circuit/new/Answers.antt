@@ -20,6 +20,13 @@ invariant_of-result c =
     let ended = rw c.deref-2.ensures.value at arranged in
     (record { draft = c.requires; acyclic = acyclic-of_links _ _ links ended.1 }, order-of_links _ _ links _ ended.0)
 
+pub returns-in-Order-clause-well_formed : goal.returns-in-Order-clause-well_formed
+returns-in-Order-clause-well_formed c =
+    let links = subst (λ gs. AreLinksOf gs c.in_ok-links.links.items) c.deref.ensures.value c.in_ok-links.ensures in
+    let arranged = subst (λ a. IsArrangement c.deref-2.result.now a) c.in-Order.is c.in_ok-arrangement.ensures in
+    let ended = rw c.deref-2.ensures.value at arranged in
+    record { draft = c.requires; acyclic = acyclic-of_links _ _ links ended.1 }
+
 pub returns-in-Cyclic-clause-cyclic : goal.returns-in-Cyclic-clause-cyclic
 returns-in-Cyclic-clause-cyclic c =
     let links = subst (λ gs. AreLinksOf gs c.in_ok-links.links.items) c.deref.ensures.value c.in_ok-links.ensures in

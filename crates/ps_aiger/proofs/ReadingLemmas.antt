@@ -1,0 +1,150 @@
+-- Lemmas of the reader.
+use Rattle.std.proofs.Common.{◌≡◌, ◌≢◌, ℕ, ◌+◌, ◌-◌, ◌*◌, ◌/◌, ◌%◌, ◌^◌, ◌<◌, ◌≤◌, ◌⊎◌, inl, inr, List, [], ◌∷◌, ◌++◌, Bool, true, false, not, ◌||◌, ◌==◌, nat_eq, map, length, take, drop, get_or, set, zero, suc, refl, sym, ap, subst, ◌∙◌, arith, Some, None, Option, slice_get, All, AllPairs, Contains, length-append, append-nil, append_assoc, flat_map, Vec}
+use Rattle.std.specs.List.{list_any}
+use Rattle.std.proofs.lemmas.List.{length-map, get_or-map, get_or_append_left, get_or-append-add, map-append, map-set, get_or-take, get_or-drop, length-take}
+use Rattle.std.proofs.lemmas.Bool.{cases_eq, cases_lt, eq-eqb}
+use Rattle.std.proofs.lemmas.Option.{slice_get_within, slice_get-get_or, get_or_from_slice_get}
+use Rattle.std.proofs.lemmas.List.Elements.{All-append, All-push, All-set, All-map}
+use Rattle.std.proofs.lemmas.List.Quantifiers.{all_pairs_push}
+use Rattle.std.specs.Global.{Global}
+use Rattle.indexmap.specs.IndexSet.{insert_key}
+use Rattle.ps_aiger.specs.declared.parts.Latch.{Latch}
+use Rattle.ps_aiger.specs.declared.parts.Gate.{Gate}
+use Rattle.ps_aiger.specs.Ways.{Way, last, next}
+use Rattle.ps_aiger.specs.Circuits.{CircuitData, variable, definitions, readings, IsDefinition, IsKnown, IsName, IsDraft, Reads}
+use Rattle.ps_aiger.specs.Drafts.{name_bytes}
+use Rattle.ps_aiger.specs.Reading.{AddsVariable, Defines, IsKnownIn}
+use Rattle.ps_aiger.specs.declared.reader.Field.{Field}
+use Rattle.std.specs.Bool.{OnTrue}
+use Rattle.std.proofs.lemmas.List.{take_more, take_all}
+use Rattle.std.proofs.lemmas.List.Concat.{flat_map-append}
+use Rattle.indexmap.proofs.CallerLemmas.{Contains-list_any}
+use Rattle.std.proofs.lemmas.Bool.{eqb-true}
+
+or_false_right : (a b : Bool) → (a || b) ≡ false → b ≡ false
+or_false_right true b h = cc
+or_false_right false b h = h
+
+absent : (ks : List ℕ) (v : ℕ) → list_any (nat_eq v) ks ≡ false → (k d : ℕ) → k < length ks → get_or ks k d ≡ v → ⊥
+absent [] v h k d lt e = omega arith
+absent (x ∷ xs) v h zero d lt e = (let test = eq-eqb v x (sym e) in let no = rw test at h in cc)
+absent (x ∷ xs) v h (suc k) d lt e = absent xs v (or_false_right (nat_eq v x) (list_any (nat_eq v) xs) h) k d (omega arith) e
+
+-- a key that is new goes behind the others
+pub new_key : (old new : List ℕ) (v : ℕ) → new ≡ insert_key nat_eq old v → true ≡ not (list_any (nat_eq v) old) → AddsVariable old v new
+new_key old new v e test = by (list_any (nat_eq v) old) refl
+  where
+    by : (b : Bool) → list_any (nat_eq v) old ≡ b → AddsVariable old v new
+    by true is = (let no = rw is at test in cc)
+    by false is = record { behind = e ∙ (rw is); fresh = λ k d lt h. absent old v is k d lt h }
+
+pub defines_one : (most literal : ℕ) (old new : List ℕ) → IsDefinition most literal → AddsVariable old (variable literal) new → Defines most old (literal ∷ []) new
+defines_one most literal old new fits adds = record {
+  variables = adds.behind;
+  each = λ k d lt. (let e : k ≡ 0 = omega arith in subst (λ i. IsDefinition most (get_or (literal ∷ []) i d)) (sym e) fits);
+  apart = λ h. subst (λ ks. AllPairs (λ v w. v ≢ w) ks) (sym adds.behind) (all_pairs_push (λ v w. v ≢ w) old (variable literal) h adds.fresh);
+}
+
+-- one more literal behind those that stand there
+pub defines_more : (most m literal : ℕ) (old mid new literals : List ℕ) → m ≡ most → Defines most old literals mid → Defines m mid (literal ∷ []) new → Defines most old (literals ++ literal ∷ []) new
+defines_more most m literal old mid new literals e d one = record {
+  variables = one.variables ∙ ap (λ xs. xs ++ variable literal ∷ []) d.variables ∙ append_assoc old (map variable literals) (variable literal ∷ []) ∙ ap (λ xs. old ++ xs) (sym (map-append variable literals (literal ∷ [])));
+  each = All-push (IsDefinition most) literals literal d.each (subst (λ x. IsDefinition x literal) e (one.each 0 literal (omega arith)));
+  apart = λ h. one.apart (d.apart h);
+}
+
+pub defines_none : (most : ℕ) (old : List ℕ) → Defines most old [] old
+defines_none most old = record { variables = sym (append-nil old); each = λ k d lt. absurd (omega arith); apart = λ h. h }
+
+-- what stands from start to before stop holds no newline
+pub no_newline : (text : List ℕ) (start stop : ℕ) → ((k : ℕ) → start ≤ k → k < stop → get_or text k 0 ≡ 10 → ⊥) → stop ≤ length text → All (λ b. b ≢ 10) (take (stop - start) (drop start text))
+no_newline text start stop h within k d lt e =
+    let size = length-take (stop - start) (drop start text) in
+    let less : k < stop - start = omega arith in
+    let there = get_or-take (stop - start) (drop start text) k d less ∙ get_or-drop start text k d in
+    h (start + k) (omega arith) (omega arith) (get_or_any text (start + k) 0 d (omega arith) ∙ sym there ∙ e)
+  where
+    get_or_any : (xs : List ℕ) (i a b : ℕ) → i < length xs → get_or xs i a ≡ get_or xs i b
+    get_or_any [] i a b lt = absurd (omega arith)
+    get_or_any (x ∷ xs) zero a b lt = refl
+    get_or_any (x ∷ xs) (suc i) a b lt = get_or_any xs i a b (omega arith)
+
+-- a name put at its place
+pub names_set : (names : List (Option (Vec ℕ Global))) (i : ℕ) (name : Vec ℕ Global) → All IsName (map name_bytes names) → 0 < length name.items → All (λ b. b ≢ 10) name.items → All IsName (map name_bytes (set names i (Some name)))
+names_set names i name h some plain =
+    subst (λ ns. All IsName ns) (sym (map-set name_bytes names i (Some name))) (All-set IsName (map name_bytes names) i (Some name.items) (some, plain) h)
+
+pub way_within : (gates : List Gate) (i j : ℕ) → Way (Reads gates) i j → i < length gates
+way_within gates i j (last r) = slice_get_within gates i r.reader r.at_i
+way_within gates i j (next r w) = slice_get_within gates i r.reader r.at_i
+
+apart_of : (literals : List ℕ) → AllPairs (λ v w. v ≢ w) (map variable literals) → AllPairs (λ l m. variable l ≢ variable m) literals
+apart_of literals h i j d lt within e =
+    h i j (variable d) lt (omega (arith, length-map literals variable))
+    (get_or-map variable literals i d (variable d) (omega arith) ∙ e ∙ sym (get_or-map variable literals j d (variable d) within))
+
+-- the parts that were read make a draft
+pub draft_of : (c : CircuitData) (m1 m2 m3 : ℕ) (first second third : List ℕ) → c.most < 2 ^ 31 → m1 ≡ c.most → m2 ≡ c.most → m3 ≡ c.most →
+    Defines m1 [] c.inputs first → Defines m2 first (map (λ l. l.literal) c.latches) second → Defines m3 second (map (λ g. g.literal) c.gates) third →
+    All (IsKnownIn third) (readings c) →
+    length c.input_names ≡ length c.inputs → length c.latch_names ≡ length c.latches → length c.output_names ≡ length c.outputs →
+    All IsName c.input_names → All IsName c.latch_names → All IsName c.output_names → IsDraft c
+draft_of c m1 m2 m3 first second third limit e1 e2 e3 d1 d2 d3 known n1 n2 n3 a1 a2 a3 = record {
+  limit = limit;
+  defined = All-append (IsDefinition c.most) (c.inputs ++ map (λ l. l.literal) c.latches) (map (λ g. g.literal) c.gates)
+      (All-append (IsDefinition c.most) c.inputs (map (λ l. l.literal) c.latches) (subst (λ m. All (IsDefinition m) c.inputs) e1 d1.each) (subst (λ m. All (IsDefinition m) (map (λ l. l.literal) c.latches)) e2 d2.each))
+      (subst (λ m. All (IsDefinition m) (map (λ g. g.literal) c.gates)) e3 d3.each);
+  once = apart_of (definitions c) (subst (λ ks. AllPairs (λ v w. v ≢ w) ks) keys (d3.apart (d2.apart (d1.apart (λ i j d lt within. absurd (omega arith))))));
+  known = λ k d lt. subst (λ ks. (variable (get_or (readings c) k d) ≡ 0) ⊎ Contains ks (variable (get_or (readings c) k d))) keys (known k d lt);
+  inputs_named = n1;
+  latches_named = n2;
+  outputs_named = n3;
+  input_names = a1;
+  latch_names = a2;
+  output_names = a3;
+}
+  where
+    keys : third ≡ map variable (definitions c)
+    keys =
+        d3.variables ∙ ap (λ xs. xs ++ map variable (map (λ g. g.literal) c.gates)) (d2.variables ∙ ap (λ xs. xs ++ map variable (map (λ l. l.literal) c.latches)) d1.variables ∙ sym (map-append variable c.inputs (map (λ l. l.literal) c.latches)))
+        ∙ sym (map-append variable (c.inputs ++ map (λ l. l.literal) c.latches) (map (λ g. g.literal) c.gates))
+
+pub at_true : (b : Bool) (P : Type 0) → b ≡ true → OnTrue b P → P
+at_true true P e h = h
+at_true false P e h = cc
+
+pub new_key_on : (old new : List ℕ) (v : ℕ) (b : Bool) → new ≡ insert_key nat_eq old v → b ≡ not (list_any (nat_eq v) old) → OnTrue b (AddsVariable old v new)
+new_key_on old new v true e t = new_key old new v e t
+new_key_on old new v false e t = tt
+
+pub reads_more : {X : Type 0} (f : X → ℕ) (xs ys : List X) (x : X) (start now then : List ℕ) → ys ≡ xs ++ x ∷ [] → now ≡ start ++ map f xs → then ≡ now ++ f x ∷ [] → then ≡ start ++ map f ys
+reads_more f xs ys x start now then e h k =
+    k ∙ ap (λ zs. zs ++ f x ∷ []) h ∙ append_assoc start (map f xs) (f x ∷ []) ∙ ap (λ zs. start ++ zs) (sym (map-append f xs (x ∷ []))) ∙ ap (λ zs. start ++ map f zs) (sym e)
+
+pub reads_gate : (xs ys : List Gate) (g : Gate) (start now one two : List ℕ) → ys ≡ xs ++ g ∷ [] → now ≡ start ++ flat_map (λ g. g.first ∷ g.second ∷ []) xs → one ≡ now ++ g.first ∷ [] → two ≡ one ++ g.second ∷ [] → two ≡ start ++ flat_map (λ g. g.first ∷ g.second ∷ []) ys
+reads_gate xs ys g start now one two e h k m =
+    m ∙ ap (λ zs. zs ++ g.second ∷ []) k ∙ append_assoc now (g.first ∷ []) (g.second ∷ []) ∙ ap (λ zs. zs ++ g.first ∷ g.second ∷ []) h
+    ∙ append_assoc start (flat_map (λ g. g.first ∷ g.second ∷ []) xs) (g.first ∷ g.second ∷ []) ∙ ap (λ zs. start ++ zs) (sym (flat_map-append (λ (g : Gate). g.first ∷ g.second ∷ []) xs (g ∷ []))) ∙ ap (λ zs. start ++ flat_map (λ g. g.first ∷ g.second ∷ []) zs) (sym e)
+
+-- the literals that more elements define
+pub defines_mapped : {X : Type 0} (f : X → ℕ) (xs ys : List X) (x : X) (most m : ℕ) (old mid new now : List ℕ) → ys ≡ xs ++ x ∷ [] → m ≡ most → Defines most old (map f xs) mid → Defines m mid (f x ∷ []) new → now ≡ new → Defines most old (map f ys) now
+defines_mapped f xs ys x most m old mid new now e e' d one same =
+    subst (λ zs. Defines most old zs now) (sym (ap (map f) e ∙ map-append f xs (x ∷ []))) (subst (λ z. Defines most old (map f xs ++ f x ∷ []) z) (sym same) (defines_more most m (f x) old mid new (map f xs) e' d one))
+
+pub known_more : (variables : List ℕ) (fields : List Field) (i : ℕ) (d : Field) → i < length fields → All (λ f. IsKnownIn variables f.literal) (take i fields) → IsKnownIn variables (get_or fields i d).literal → All (λ f. IsKnownIn variables f.literal) (take (i + 1) fields)
+known_more variables fields i d lt h k = subst (λ fs. All (λ f. IsKnownIn variables f.literal) fs) (sym (take_more fields i d lt)) (All-push (λ f. IsKnownIn variables f.literal) (take i fields) (get_or fields i d) h k)
+
+pub known_all : (variables : List ℕ) (fields : List Field) (i : ℕ) → length fields ≤ i → All (λ f. IsKnownIn variables f.literal) (take i fields) → All (λ f. IsKnownIn variables f.literal) fields
+known_all variables fields i le h = subst (λ fs. All (λ f. IsKnownIn variables f.literal) fs) (take_all i fields le) h
+
+pub found_known : (variables : List ℕ) (v : ℕ) (b : Bool) → b ≡ list_any (nat_eq v) variables → b ≡ true → Contains variables v
+found_known variables v b e t = Contains-list_any nat_eq (λ x y h. eqb-true x y h) variables v (sym e ∙ t)
+
+not_empty : (n : ℕ) (b : Bool) → b ≡ (n == 0) → b ≡ false → 0 < n
+not_empty zero b e f = cc
+not_empty (suc n) b e f = omega arith
+
+-- a name that was read fits
+pub name_put : (names : List (Option (Vec ℕ Global))) (i : ℕ) (name : List ℕ) (v : Vec ℕ Global) (b : Bool) → All IsName (map name_bytes names) → v.items ≡ name → b ≡ (length name == 0) → b ≡ false → All (λ b. b ≢ 10) name → All IsName (map name_bytes (set names i (Some v)))
+name_put names i name v b h e test full plain =
+    names_set names i v h (subst (λ xs. 0 < length xs) (sym e) (not_empty (length name) b test full)) (subst (λ xs. All (λ b. b ≢ 10) xs) (sym e) plain)
