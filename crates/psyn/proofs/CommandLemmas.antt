@@ -6,7 +6,7 @@ use Rattle.clap.specs.declared.error.kind.ErrorKind.{ErrorKind}
 use Rattle.clap.specs.declared.error.kind.ErrorKind.TheVariants.{DisplayHelp, OutOfMemory}
 use Rattle.clap.proofs.OnLiterals.{clap_on_literals}
 use Rattle.psyn.specs.declared.command_line.Line.TheVariants.{Refused}
-use Rattle.psyn.specs.CommandLine.{table, line_refused, Says}
+use Rattle.psyn.specs.CommandLine.{table, line_refused, Says, LinesAreRead, AskForHelp}
 
 -- clap's answers to the table are those of a simple command
 pub table-simple : is_simple table ≡ true
@@ -28,3 +28,12 @@ says_refusal app words kind same memory (inr among) =
 pub line_refused-other : (kind : ErrorKind) → (kind ≡ DisplayHelp → ⊥) → line_refused kind ≡ Refused
 line_refused-other DisplayHelp other = absurd (other refl)
 line_refused-other _ other = refl
+
+-- each line of the table is read
+pub lines_read : LinesAreRead
+unfolding table clap_on_literals
+lines_read = (((refl, refl), tt), ((((refl, refl), tt), ((((refl, refl), tt), tt)))))
+
+pub help_asked : AskForHelp
+unfolding table clap_on_literals
+help_asked = (refl, refl)

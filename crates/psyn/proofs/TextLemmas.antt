@@ -9,6 +9,7 @@ use Rattle.ps_certificate.specs.declared.fault.CertFault.TheVariants as certific
 use Rattle.ps_certificate.specs.declared.flaw.Flaw.{Flaw}
 use Rattle.ps_certificate.specs.declared.flaw.Flaw.TheVariants as flaw
 use Rattle.ps_certificate.specs.Certificates.{CertificateData, Fits, Remains, IsFlaw}
+use Rattle.ps_certificate.specs.Texts.{IsAnswer}
 use Rattle.psyn.specs.declared.answer.Refusal.{Refusal}
 use Rattle.psyn.specs.declared.answer.Refusal.TheVariants as refusal
 use Rattle.psyn.specs.Outcomes.{Gives}
@@ -21,10 +22,10 @@ pub gives_game_fault : (text : List ℕ) (fault : PgFault) → StandsWithin (len
 gives_game_fault text (game.Text cause offset) within = (record { cause = cause; offset = offset }, within, refl)
 gives_game_fault text game.OutOfMemory within = tt
 
-pub gives_certificate_fault : (named : NamedGameData) (text : List ℕ) (fault : CertFault)
+pub gives_certificate_fault : (named : NamedGameData) (text : List ℕ) (fault : CertFault) → IsAnswer named text (Err fault)
     → Gives {X = CertificateData} (λ given. given) (ReadsCertificateText named text) (Err (certificate_refusal fault))
-gives_certificate_fault named text (certificate.Text cause offset) = (record { cause = cause; offset = offset }, tt, refl)
-gives_certificate_fault named text certificate.OutOfMemory = tt
+gives_certificate_fault named text (certificate.Text cause offset) answer = (record { cause = cause; offset = offset }, answer, refl)
+gives_certificate_fault named text certificate.OutOfMemory answer = tt
 
 -- a flaw speaks of vertices of the game
 remains_within : (game : ParityGame) (given : CertificateData) (v w : ℕ) → IsGame game → Remains game given v w

@@ -2,7 +2,7 @@
 use Rattle.std.specs.Prelude.{◌≡◌, ℕ, List, Result, Ok, Err, codes}
 use Rattle.ps_game.specs.Games.{ParityGame, NamedGameData}
 use Rattle.ps_certificate.specs.declared.flaw.Flaw.{Flaw}
-use Rattle.ps_certificate.specs.Certificates.{CertificateData, IsClosed, IsFirstFlaw}
+use Rattle.ps_certificate.specs.Certificates.{CertificateData, IsClosed, IsValid, IsFirstFlaw}
 use Rattle.psyn.specs.declared.fault.FaultLine.{FaultLine}
 use Rattle.psyn.specs.Outcomes.{Then}
 use Rattle.psyn.specs.Replies.{Reply, line_reply}
@@ -17,3 +17,7 @@ Tests IsGood word named certificate (Err fault) = ¬ (IsGood named.game certific
 -- `closed`
 abbrev pub AnswersClosed : List ℕ → Result Reply FaultLine → Type 0
 AnswersClosed texts = Then (ReadsCertified texts) (λ both. Tests IsClosed (codes "closed") both.0 both.1)
+
+-- `check`
+abbrev pub AnswersCheck : List ℕ → Result Reply FaultLine → Type 0
+AnswersCheck texts = Then (ReadsCertified texts) (λ both. Tests IsValid (codes "valid") both.0 both.1)

@@ -1,13 +1,13 @@
 -- What the input's first line asks for.
-use Rattle.std.specs.Prelude.{◌≡◌, ◌⊎◌, ◌==◌, ℕ, true, List, [], length, Option, None, Some, codes, filter, not, IsUtf8, if◌then◌else◌}
-use Rattle.std.specs.List.{slice_split}
+use Rattle.std.specs.Prelude.{◌≡◌, ◌⊎◌, ◌==◌, ℕ, true, List, [], length, Option, None, Some, codes, filter, not, IsUtf8, if◌then◌else◌, ◌∷◌, ◌++◌, map, flat_map}
+use Rattle.std.specs.List.{slice_split, AllByRecursion}
 use Rattle.std.specs.Str.{bytes_eq}
 use Rattle.clap.specs.Words.{App, Row, Shape, Text, new_app, with_subcommand, subcommand_of, fault_of, IsAmong}
 use Rattle.clap.specs.Simple.{new_shape, on_top}
 use Rattle.clap.specs.declared.error.kind.ErrorKind.{ErrorKind}
 use Rattle.clap.specs.declared.error.kind.ErrorKind.TheVariants.{DisplayHelp}
 use Rattle.psyn.specs.declared.command_line.Line.{Line}
-use Rattle.psyn.specs.declared.command_line.Line.TheVariants.{Refused, Help, Closed}
+use Rattle.psyn.specs.declared.command_line.Line.TheVariants.{Refused, Help, Closed, Check}
 
 -- what stands between runs of spaces
 abbrev pub words_of : List ℕ → List Text
@@ -24,7 +24,8 @@ abbrev pub program : App
 program = on_top (λ top. record top { no_binary_name = true; disable_help_subcommand = true }) (new_app (codes "psyn"))
 
 unfoldable pub table : App
-table = with_subcommand (with_subcommand program (command (codes "help"))) (command (codes "closed"))
+table = with_subcommand (with_subcommand (with_subcommand program
+    (command (codes "help"))) (command (codes "closed"))) (command (codes "check"))
 
 -- ---- what the words say
 
@@ -32,6 +33,7 @@ table = with_subcommand (with_subcommand program (command (codes "help"))) (comm
 abbrev pub line_named : Text → Line
 line_named name = if bytes_eq name (codes "help") then Help
     else if bytes_eq name (codes "closed") then Closed
+    else if bytes_eq name (codes "check") then Check
     else Refused
 
 -- the line of the command that the words name, if they name one
@@ -53,3 +55,43 @@ Says words line = ((fault_of table words ≡ []) × (line ≡ line_said (subcomm
 abbrev pub IsLine : List ℕ → Line → Type 0
 IsLine first_line line = (IsUtf8 first_line × Says (words_of first_line) line)
     ⊎ (¬ (IsUtf8 first_line) × (line ≡ Refused))
+
+-- ---- the lines that are read
+
+-- a command, its flags, and its line where some of them are given
+pub record Usage : Type 0 where
+  pub name : Text
+  pub flags : List Text
+  pub line : List Text → Line
+
+abbrev pub usages : List Usage
+usages = record { name = codes "help"; flags = []; line = λ _. Help }
+    ∷ record { name = codes "closed"; flags = []; line = λ _. Closed }
+    ∷ record { name = codes "check"; flags = []; line = λ _. Check } ∷ []
+
+-- a word put at each place of a list
+abbrev pub insertions : Text → List Text → List (List Text)
+insertions word [] = (word ∷ []) ∷ []
+insertions word (x ∷ xs) = (word ∷ (x ∷ xs)) ∷ map (λ rest. x ∷ rest) (insertions word xs)
+
+-- different words of a list, each choice in each order
+abbrev pub arrangements : List Text → List (List Text)
+arrangements [] = [] ∷ []
+arrangements (x ∷ xs) = arrangements xs ++ flat_map (insertions x) (arrangements xs)
+
+-- a command and some flags, as a line has them
+abbrev pub words_with : Text → List Text → List Text
+words_with name flags = name ∷ map (λ flag. codes "--" ++ flag) flags
+
+-- the words are taken, and say the line
+abbrev pub AreRead : List Text → Line → Type 0
+AreRead words line = (fault_of table words ≡ []) × (line_said (subcommand_of table words) ≡ line)
+
+-- a command with different flags of its own, in any order, is read as that command
+abbrev pub LinesAreRead : Type 0
+LinesAreRead = AllByRecursion (λ usage. AllByRecursion (λ flags. AreRead (words_with usage.name flags) (usage.line flags))
+    (arrangements usage.flags)) usages
+
+-- words that ask for help, and are nothing else
+abbrev pub AskForHelp : Type 0
+AskForHelp = (fault_of table (codes "--help" ∷ []) ≡ DisplayHelp ∷ []) × (fault_of table (codes "-h" ∷ []) ≡ DisplayHelp ∷ [])

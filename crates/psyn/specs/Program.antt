@@ -3,10 +3,10 @@ use Rattle.std.specs.Prelude.{◌≡◌, ◌≤◌, ◌<◌, ◌⊎◌, ℕ, Boo
 use Rattle.std.specs.Io.KnownBytes.{Appends}
 use Rattle.psyn.specs.declared.reading.TheConstants.{INPUT_LIMIT}
 use Rattle.psyn.specs.declared.command_line.Line.{Line}
-use Rattle.psyn.specs.declared.command_line.Line.TheVariants.{Refused, Help, Closed}
+use Rattle.psyn.specs.declared.command_line.Line.TheVariants.{Refused, Help, Closed, Check}
 use Rattle.psyn.specs.CommandLine.{IsLine}
 use Rattle.psyn.specs.declared.fault.FaultLine.{FaultLine}
-use Rattle.psyn.specs.Checks.{AnswersClosed}
+use Rattle.psyn.specs.Checks.{AnswersClosed, AnswersCheck}
 use Rattle.psyn.specs.Cut.{first_line, behind_line}
 use Rattle.psyn.specs.Input.{AgreesWith}
 use Rattle.psyn.specs.Outcomes.{printed}
@@ -18,6 +18,7 @@ abbrev pub AnswersLine : Line → List ℕ → Result Reply FaultLine → Type 0
 AnswersLine Refused texts outcome = outcome ≡ Ok usage
 AnswersLine Help texts outcome = outcome ≡ Ok help
 AnswersLine Closed texts outcome = AnswersClosed texts outcome
+AnswersLine Check texts outcome = AnswersCheck texts outcome
 
 -- the answer to an input
 abbrev pub Answers : List ℕ → Reply → Type 0

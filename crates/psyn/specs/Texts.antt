@@ -8,7 +8,8 @@ use Rattle.ps_certificate.specs.declared.fault.CertCause.{CertCause}
 use Rattle.ps_certificate.specs.declared.fault.CertCause.TheVariants as certificate
 use Rattle.ps_certificate.specs.declared.flaw.Flaw.{Flaw}
 use Rattle.ps_certificate.specs.declared.flaw.Flaw.TheVariants as flaw
-use Rattle.ps_certificate.specs.Certificates.{CertificateData, Fits}
+use Rattle.ps_certificate.specs.Certificates.{CertificateData}
+use Rattle.ps_certificate.specs.Texts.{Reads}
 use Rattle.psyn.specs.declared.fault.TextFault.{TextFault}
 use Rattle.psyn.specs.declared.fault.TextFault.TheVariants.{GameSyntax, NoSuccessor, UnknownSuccessor}
 use Rattle.psyn.specs.declared.fault.TextFault.TheVariants.{NodeTwice, GameNumber, GameLimit}
@@ -50,13 +51,9 @@ abbrev pub certificate_fault : CertCause → TextFault
 certificate_fault certificate.Syntax = CertificateSyntax
 certificate_fault certificate.OtherGame = OtherGame
 
--- what the reader of certificate texts answers: a certificate that fits the game, or a fault
-abbrev pub ReadsCertificate : NamedGameData → List ℕ → Result CertificateData (Found CertCause) → Type 0
-ReadsCertificate named text (Ok certificate) = Fits named.game certificate
-ReadsCertificate named text (Err found) = Unit {0}
-
+-- the text of a certificate of that game
 abbrev pub ReadsCertificateText : NamedGameData → List ℕ → Result CertificateData FaultLine → Type 0
-ReadsCertificateText named text = Reading (ReadsCertificate named text) certificate_fault
+ReadsCertificateText named text = Reading (Reads named text) certificate_fault
 
 -- a game text and the text of a certificate of that game
 abbrev pub ReadsCertified : List ℕ → Result (NamedGameData × CertificateData) FaultLine → Type 0

@@ -23,16 +23,35 @@ pub const OUT_OF_MEMORY: &[u8] = b"fault 24 OutOfMemory\n";
 
 /// What is written where help is asked for.
 pub const HELP: &str = "\
-psyn answers one command on standard input. The first line is the command;
-behind it come its texts, with a line %% between two of them.
+psyn answers one command, which it reads from standard input.
 
-closed   a game, a certificate
-         `closed` where each path that follows a player's moves stays in the
-         player's region, or the first flaw
+The first line is the command. Behind it come its texts, with a line %% between
+two of them.
+
+closed   a game, a certificate: `closed` where each path that follows the moves
+         stays with its winner, else the first flaw
+check    a game, a certificate: `valid` where, besides, the counts show that
+         the winner wins each loop, else the first flaw
 help     this text
 
-A fault is one line: `fault`, its number and name, and where it stands.
-The status is 0 for an answer, 1 for a fault, 2 for a refused command line.
+A game has an entry for each vertex: its id, its priority, its owner (0 or 1),
+its successors, a name if it has one, and a semicolon. A certificate lists the
+odd and the even priorities, and gives each vertex its winner, the winner's move
+or a dash, and a count for each priority by which the winner loses:
+
+check
+0 1 0 0,1; 1 2 0 0;
+%%
+psyncert 1
+vertices 2
+odd 1
+even 2
+0 0 1 0
+1 0 0 0
+
+A fault is one line in place of the answer: `fault`, its number and its name,
+and where it stands. The exit status is 0 for an answer, 1 for a fault and 2 for
+a command line that is refused.
 ";
 
 /// What the program writes, and its exit status.

@@ -2,7 +2,7 @@
 
 ghost use Rattle.std.specs.Prelude.{◌≡◌, List, IfOk, map};
 ghost use Rattle.clap.specs.Words.{app_of, subcommand_rows_of};
-ghost use Rattle.psyn.specs.CommandLine.{table, words_of, line_said, Says, IsLine};
+ghost use Rattle.psyn.specs.CommandLine.{table, words_of, line_said, Says, IsLine, LinesAreRead, AskForHelp};
 
 use clap::error::ErrorKind;
 use clap::{ArgMatches, Command};
@@ -17,6 +17,8 @@ pub enum Line {
     Help,
     /// Whether a certificate's table keeps each region of a game.
     Closed,
+    /// Whether a certificate of a game is valid.
+    Check,
 }
 
 /// Reads the first line.
@@ -28,6 +30,13 @@ pub fn read_line(alloc: Global, line: &[u8]) -> Result<Line, AllocError>
         Err(_) => Ok(Line::Refused),
     }
 }
+
+/// A law: a command with different flags of its own, in any order, is read as that command, and
+/// `--help` and `-h` ask for help.
+pub fn lines_are_read()
+    ensures lines { LinesAreRead }
+    ensures help { AskForHelp }
+{}
 
 /// What stands between runs of spaces.
 fn split_words(alloc: Global, text: &str) -> Result<Vec<&str>, AllocError>
@@ -58,11 +67,13 @@ fn commands<'a>(alloc: Global) -> Result<Command<'a>, AllocError>
 {
     let help = Command::new(alloc, "help");
     let closed = Command::new(alloc, "closed");
+    let check = Command::new(alloc, "check");
     let psyn = Command::new(alloc, "psyn")
         .no_binary_name(true)
         .disable_help_subcommand(true);
     let psyn = psyn.subcommand(help)?;
-    psyn.subcommand(closed)
+    let psyn = psyn.subcommand(closed)?;
+    psyn.subcommand(check)
 }
 
 /// The line that was read.
@@ -72,6 +83,7 @@ fn line_of(matches: &ArgMatches) -> Line
     match matches.subcommand_name() {
         Some("help") => Line::Help,
         Some("closed") => Line::Closed,
+        Some("check") => Line::Check,
         _ => Line::Refused,
     }
 }

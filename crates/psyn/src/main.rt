@@ -12,6 +12,8 @@ pub mod reading;
 pub mod run;
 pub mod sending;
 pub mod stream;
+#[cfg(test)]
+mod tests;
 pub mod texts;
 pub mod watched;
 

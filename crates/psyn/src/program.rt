@@ -6,7 +6,7 @@ ghost use Rattle.psyn.specs.Program.{Answers, AnswersLine};
 ghost use Rattle.psyn.specs.Replies.{reply_of};
 
 use crate::answer::{Answer, Refusal, settle};
-use crate::checks::closed;
+use crate::checks::{check, closed};
 use crate::command_line::{Line, read_line};
 use crate::cut::first_line;
 use std::alloc::{AllocError, Global};
@@ -28,5 +28,6 @@ fn answer_line(alloc: Global, line: Line, texts: &[u8]) -> Result<Answer, Refusa
         Line::Refused => Ok(Answer::usage(alloc)?),
         Line::Help => Ok(Answer::help(alloc)?),
         Line::Closed => closed(alloc, texts),
+        Line::Check => check(alloc, texts),
     }
 }

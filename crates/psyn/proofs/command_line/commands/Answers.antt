@@ -10,6 +10,8 @@ returns c =
     let top : app_of c.disable_help_subcommand-psyn.result ≡ program = search rules in
     let first : app_of c.in_ok-psyn.psyn ≡ with_subcommand program (command (codes "help")) =
     c.in_ok-psyn.ensures.shape (search rules) ∙ ap₂ with_subcommand top (ap (λ (a : App). a.top) c.new-help.ensures.app) in
-    IfOk-weaker c.subcommand-2.result _ _
-    (λ whole adds. adds.shape (search rules) ∙ ap₂ with_subcommand first (ap (λ (a : App). a.top) c.new-closed.ensures.app))
-    c.subcommand-2.ensures
+    let second : app_of c.in_ok-psyn-2.psyn ≡ with_subcommand (with_subcommand program (command (codes "help"))) (command (codes "closed")) =
+    c.in_ok-psyn-2.ensures.shape (search rules) ∙ ap₂ with_subcommand first (ap (λ (a : App). a.top) c.new-closed.ensures.app) in
+    IfOk-weaker c.subcommand-3.result _ _
+    (λ whole adds. adds.shape (search rules) ∙ ap₂ with_subcommand second (ap (λ (a : App). a.top) c.new-check.ensures.app))
+    c.subcommand-3.ensures

@@ -9,4 +9,4 @@ use Rattle.psyn.proofs.texts.read_certificate.Goals as goal
 pub returns-in-Err-clause-read : goal.returns-in-Err-clause-read
 returns-in-Err-clause-read c =
     subst (λ (refusal : Refusal). Gives {X = CertificateData} (λ given. given) (ReadsCertificateText c.args.game.now c.args.text.now) (Err refusal)) (sym c.from.ensures)
-    (gives_certificate_fault c.args.game.now c.args.text.now c.in-Err.fault)
+    (gives_certificate_fault c.args.game.now c.args.text.now c.in-Err.fault c.in-Err.ensures.exact)

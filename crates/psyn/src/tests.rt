@@ -1,0 +1,113 @@
+//! The program over memory: worked rows, and readers and writers that fail.
+
+mod rows;
+mod streams;
+
+use crate::run::run;
+use rows::ROWS;
+use std::test::Fail;
+use streams::{Endless, Script, Written};
+
+/// A game whose certificate is closed.
+const EXAMPLE: &str =
+    "closed\n0 0 1 0,1; 1 1 1 1;\n%%\npsyncert 1\nvertices 2\nodd 1\neven 0\n0 1 1 0\n1 1 1 0\n";
+
+/// Its answer.
+const ANSWER: &[u8] = b"closed\n";
+
+/// The answer where a read fails.
+const UNREADABLE: &[u8] = b"fault 25 ReadFault\n";
+
+#[test]
+fn worked_rows(rt: HostRuntime) -> Result<(), Fail> {
+    for row in ROWS.iter() {
+        let mut reader = Script::new(row.input.as_bytes());
+        let mut writer = Written::new(rt.alloc());
+        let status = run(rt.alloc(), &mut reader, &mut writer);
+        assert_eq!(rt;
+            writer.text.as_slice(),
+            row.output.as_bytes(),
+            "{}",
+            row.name
+        );
+        assert_eq!(rt; status, row.status, "{}", row.name);
+    }
+    Ok(())
+}
+
+#[test]
+fn reads_that_fail(rt: HostRuntime) -> Result<(), Fail> {
+    // At each call in turn, the one that finds the end among them.
+    for calls in 0..=EXAMPLE.len() as u64 {
+        let mut reader = Script::new(EXAMPLE.as_bytes());
+        reader.most = 1;
+        reader.calls_left = calls;
+        let mut writer = Written::new(rt.alloc());
+        let status = run(rt.alloc(), &mut reader, &mut writer);
+        assert_eq!(rt; writer.text.as_slice(), UNREADABLE, "at call {calls}");
+        assert_eq!(rt; status, 1, "at call {calls}");
+    }
+    Ok(())
+}
+
+#[test]
+fn reads_of_one_byte(rt: HostRuntime) -> Result<(), Fail> {
+    let mut reader = Script::new(EXAMPLE.as_bytes());
+    reader.most = 1;
+    let mut writer = Written::new(rt.alloc());
+    let status = run(rt.alloc(), &mut reader, &mut writer);
+    assert_eq!(rt; writer.text.as_slice(), ANSWER);
+    assert_eq!(rt; status, 0);
+    Ok(())
+}
+
+#[test]
+fn reads_without_an_end(rt: HostRuntime) -> Result<(), Fail> {
+    let mut reader = Endless { given: 0 };
+    let mut writer = Written::new(rt.alloc());
+    let status = run(rt.alloc(), &mut reader, &mut writer);
+    assert_eq!(rt; writer.text.as_slice(), UNREADABLE);
+    assert_eq!(rt; status, 1);
+    assert_eq!(rt; reader.given, 67_108_865);
+    Ok(())
+}
+
+#[test]
+fn writes_that_fail(rt: HostRuntime) -> Result<(), Fail> {
+    // At each call in turn; the last one is the flush.
+    for calls in 0..=ANSWER.len() {
+        let mut reader = Script::new(EXAMPLE.as_bytes());
+        let mut writer = Written::new(rt.alloc());
+        writer.most = 1;
+        writer.calls_left = calls as u64;
+        let status = run(rt.alloc(), &mut reader, &mut writer);
+        assert_eq!(rt; writer.text.as_slice(), &ANSWER[..calls], "at call {calls}");
+        assert_eq!(rt; writer.calls, calls as u64 + 1, "at call {calls}");
+        assert_eq!(rt; status, 1, "at call {calls}");
+    }
+    Ok(())
+}
+
+#[test]
+fn writes_of_one_byte(rt: HostRuntime) -> Result<(), Fail> {
+    let mut reader = Script::new(EXAMPLE.as_bytes());
+    let mut writer = Written::new(rt.alloc());
+    writer.most = 1;
+    let status = run(rt.alloc(), &mut reader, &mut writer);
+    assert_eq!(rt; writer.text.as_slice(), ANSWER);
+    assert_eq!(rt; writer.calls, ANSWER.len() as u64 + 1);
+    assert_eq!(rt; status, 0);
+    Ok(())
+}
+
+#[test]
+fn writes_that_take_nothing(rt: HostRuntime) -> Result<(), Fail> {
+    let mut reader = Script::new(EXAMPLE.as_bytes());
+    let mut writer = Written::new(rt.alloc());
+    writer.most = 0;
+    let status = run(rt.alloc(), &mut reader, &mut writer);
+    assert!(rt; writer.text.is_empty());
+    assert_eq!(rt; writer.calls, 1);
+    assert_eq!(rt; status, 1);
+    Ok(())
+}
