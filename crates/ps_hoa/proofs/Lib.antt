@@ -1,3 +1,4 @@
 pub mod Scanning
 pub mod Streams
 pub mod Relation
+pub mod Openings

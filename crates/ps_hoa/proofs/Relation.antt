@@ -5,7 +5,8 @@ use Rattle.std.specs.List.{prefix_len}
 use Rattle.ps_text.specs.Answers.{Piece}
 use Rattle.ps_hoa.specs.Bytes.{is_between, class_of, is_digit, is_name_byte, digits, goes_on as names}
 use Rattle.ps_hoa.specs.Tokens.{Sign, AreTokens, Ends, closes_last, closes, opens, goes_on, IsBlankPart, IsBlankRun, no_blank, blank, AllBytes, IsName, IsQuoted, nothing, plain, escaped, lengthens, StopsBefore, Stands, IsToken, IsNext}
-use Rattle.ps_hoa.specs.Scan.{one_more, comment_len, quoted_len, head_or_zero, step_of, class_step, name_step, text_by, comment_by, mark_step, begins_with, comment_step, alias_step, text_step, lex, lex_behind}
+use Rattle.ps_hoa.specs.Spans.{AreBlanks}
+use Rattle.ps_hoa.specs.Scan.{IsNoBlank, one_more, comment_len, quoted_len, head_or_zero, step_of, class_step, name_step, text_by, comment_by, mark_step, begins_with, comment_step, alias_step, text_step, lex, lex_behind}
 use Rattle.ps_hoa.specs.declared.tokens.Kind.{Kind}
 use Rattle.ps_hoa.specs.declared.tokens.Kind.TheVariants.{Header, HeaderAgain, Word, AliasName, Int, ZeroRun, Text, Not, And, Or, LeftParen, RightParen, LeftBracket, RightBracket, LeftBrace, RightBrace, Body, End, Abort, OpenComment, Odd, Behind, Finish}
 use Rattle.ps_hoa.specs.declared.tokens.Class.{Class}
@@ -17,7 +18,7 @@ use Rattle.std.proofs.lemmas.Bool.Decides.{eqb_tells}
 use Rattle.std.proofs.lemmas.Bool.{eqb-true, eq-eqb, ltb-true}
 use Rattle.std.proofs.lemmas.Slice.Eq.{bytes_eq-Decides}
 use Rattle.std.proofs.lemmas.List.Folds.{length-prefix_len}
-use Rattle.std.proofs.lemmas.List.{take-append-drop, length-take-le}
+use Rattle.std.proofs.lemmas.List.{take-append-drop, length-take-le, drop-drop}
 use Rattle.std.proofs.Math.Seq.{take-append_seam, drop-append_seam}
 
 -- ## What is known of single bytes
@@ -72,7 +73,7 @@ head_append : (run rest : List ℕ) → head_or_zero (drop (length run) (run ++ 
 head_append [] rest = refl
 head_append (b ∷ bs) rest = head_append bs rest
 
-run_sound : (p : ℕ → Bool) (bs : List ℕ) → AllBytes p (take (prefix_len p bs) bs) × StopsBefore p (drop (prefix_len p bs) bs) × (prefix_len p bs ≤ length bs)
+pub run_sound : (p : ℕ → Bool) (bs : List ℕ) → AllBytes p (take (prefix_len p bs) bs) × StopsBefore p (drop (prefix_len p bs) bs) × (prefix_len p bs ≤ length bs)
 run_sound p [] = (tt, tt, omega arith)
 run_sound p (b ∷ bs) = go (run_sound p bs) (p b) refl
   where
@@ -516,7 +517,7 @@ text_sound b bs e = go (quoted_len bs false) refl
         let quote : b ≡ 34 = tells_of b Quote e in
         rw one (record { form = (q.0, q.1, (λ i. quote i ∷ q.2 i)); longest = stops_never Text (λ c. refl) (drop n bs) }, omega arith, omega arith)
 
-begins_is : (bs word : List ℕ) → begins_with bs word ≡ true → (take (length word) bs ≡ word) × (length word ≤ length bs)
+pub begins_is : (bs word : List ℕ) → begins_with bs word ≡ true → (take (length word) bs ≡ word) × (length word ≤ length bs)
 begins_is bs word t =
     let e = (bytes_eq-Decides (take (length word) bs) word).0 t in
     (e, (let l : min (length word) (length bs) ≡ length word = sym (length-take (length word) bs) ∙ ap length e in omega arith))
@@ -598,7 +599,7 @@ sound b bs = subst (λ (s : Step). Sound (b ∷ bs) s) (sym (step_is b bs)) (go 
 
 -- ## The two lists are one
 
-whole : (n : ℕ) (bytes : List ℕ) → bytes ≡ take n bytes ++ drop n bytes
+pub whole : (n : ℕ) (bytes : List ℕ) → bytes ≡ take n bytes ++ drop n bytes
 whole n bytes = sym (take-append-drop n bytes)
 
 -- the step at a token
@@ -715,3 +716,39 @@ some_tokens (suc fuel) at (b ∷ bs) short = go (λ at' n h. some_tokens fuel at
             r.1,
           ),
         )
+
+-- ## Blanks from one place to another
+
+nothing_begins : (n : ℕ) → step_of [] ≡ Skip n → ⊥
+unfolding step_of
+nothing_begins n is = cc
+
+skip_sound : (bytes : List ℕ) (n : ℕ) → step_of bytes ≡ Skip n → Sound bytes (Skip n)
+skip_sound [] n is = absurd (nothing_begins n is)
+skip_sound (b ∷ bs) n is = subst (λ (s : Step). Sound (b ∷ bs) s) is (sound b bs)
+
+run_append : {run : List ℕ} (part : List ℕ) → IsBlankRun run → IsBlankPart part → IsBlankRun (run ++ part)
+run_append part no_blank is = blank is no_blank part (sym (append-nil part))
+run_append part (blank {part = first} {rest} here run all split) is =
+    blank here (run_append part run is) (all ++ part) (ap (λ (xs : List ℕ). xs ++ part) split ∙ append_assoc first rest part)
+
+pub no_blanks : (source : List ℕ) (from : ℕ) → AreBlanks source from from
+no_blanks source from = record { blanks = []; run = no_blank; split = refl; end = (let e : from ≡ from + 0 = omega arith in e) }
+
+pub more_blanks : (source : List ℕ) (from at n : ℕ) → AreBlanks source from at → step_of (drop at source) ≡ Skip n → AreBlanks source from (at + n)
+more_blanks source from at n before is =
+    let bytes = drop at source in
+    let part = skip_sound bytes n is in
+    let len : length (take n bytes) ≡ n = length-take-le n bytes part.1 in
+    let rest : drop n bytes ≡ drop (at + n) source = drop-drop n at source in
+    let total : at + n ≡ from + length (before.blanks ++ take n bytes) = rw (length-append, len) (let e = before.end in omega arith) in
+    record {
+      blanks = before.blanks ++ take n bytes;
+      run = run_append (take n bytes) before.run part.0;
+      split = before.split ∙ ap (λ (xs : List ℕ). before.blanks ++ xs) (whole n bytes ∙ ap (λ (xs : List ℕ). take n bytes ++ xs) rest) ∙ sym (append_assoc before.blanks (take n bytes) (drop (at + n) source));
+      end = total;
+    }
+
+-- where a token or the end stands, no blank does
+pub no_blank_begins : (bytes : List ℕ) → IsNoBlank (step_of bytes) → (part more : List ℕ) → bytes ≡ part ++ more → IsBlankPart part → ⊥
+no_blank_begins bytes h part more e is = subst (λ (s : Step). IsNoBlank s) (ap step_of e ∙ (part_is part more is).0) h

@@ -2,3 +2,11 @@ pub mod Bytes
 pub mod Tokens
 pub mod Scan
 pub mod Spans
+pub mod Causes
+pub mod Operands
+pub mod Labels
+pub mod Conditions
+pub mod Files
+pub mod Header
+pub mod Body
+pub mod Texts

@@ -1,7 +1,7 @@
 -- A token of the code, and where it stands.
-use Rattle.std.specs.Prelude.{◌≡◌, ℕ, ◌≤◌, List, length, slice_range}
+use Rattle.std.specs.Prelude.{◌≡◌, ℕ, ◌+◌, ◌≤◌, List, ◌++◌, length, drop, slice_range}
 use Rattle.ps_text.specs.Answers.{Piece}
-use Rattle.ps_hoa.specs.Tokens.{Sign}
+use Rattle.ps_hoa.specs.Tokens.{Sign, IsBlankRun}
 use Rattle.ps_hoa.specs.declared.tokens.Token.{Token}
 
 -- what the grammar sees of a token
@@ -13,3 +13,10 @@ pub record IsSpan (source : List ℕ) (token : Token) : Type 0 where
   pub rises : token.start ≤ token.stop
   pub within : token.stop ≤ length source
   pub text : token.text.now ≡ slice_range source token.start token.stop
+
+-- the blanks from one place of a text to another
+pub record AreBlanks (source : List ℕ) (from at : ℕ) : Type 0 where
+  pub blanks : List ℕ
+  pub run : IsBlankRun blanks
+  pub split : drop from source ≡ blanks ++ drop at source
+  pub end : at ≡ from + length blanks

@@ -1,6 +1,9 @@
 //! Reads texts of the Hanoi Omega-Automata format, version 1.
 #![tactic(auto)]
 
+pub mod fault;
+pub mod opening;
 pub mod tokens;
 
-pub use tokens::Kind;
+pub use fault::{HoaCause, HoaFault};
+pub use tokens::{Kind, Token, Tokens};

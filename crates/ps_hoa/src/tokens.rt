@@ -7,7 +7,7 @@ ghost use Rattle.ps_text.specs.Answers.{Piece};
 ghost use Rattle.ps_hoa.specs.Bytes.{class_of as class, is_digit, is_name_byte as names};
 ghost use Rattle.ps_hoa.specs.Scan.{alias_step, begins_with, behind_next, comment_len, comment_step, fresh, is_finish, IsNoBlank, IsTokenClass, IsTokenStep, lex, mark_step, name_step, next_of, number_step, quoted_len, SkipsSome, step_len, step_of, stream_of, text_step};
 ghost use Rattle.ps_hoa.specs.Tokens.{AreTokens, is_known, kind_here, marked, marks_after, Sign, with_name};
-ghost use Rattle.ps_hoa.specs.Spans.{IsSpan, piece_of};
+ghost use Rattle.ps_hoa.specs.Spans.{AreBlanks, IsSpan, piece_of};
 
 use std::marker::Model;
 
@@ -134,7 +134,7 @@ fn digits_at(bytes: &[u8]) -> usize
     count
 }
 
-fn is_name_byte(byte: u8) -> bool
+pub(crate) fn is_name_byte(byte: u8) -> bool
     ensures { result ≡ names byte }
 {
     matches!(class_of(byte), Class::Digit | Class::Letter | Class::Dash)
@@ -263,7 +263,7 @@ fn text_step(bytes: &[u8]) -> Step
     }
 }
 
-fn begins_with(bytes: &[u8], word: &[u8]) -> bool
+pub(crate) fn begins_with(bytes: &[u8], word: &[u8]) -> bool
     ensures value { result ≡ begins_with bytes.now word.now }
     ensures within { IsTrue result → length word.now ≤ length bytes.now }
 {
@@ -328,8 +328,9 @@ fn step_at(bytes: &[u8]) -> Step
 }
 
 /// Where the blanks and comments that begin at a place end.
-fn behind_blanks(source: &[u8], from: usize) -> usize
+pub(crate) fn behind_blanks(source: &[u8], from: usize) -> usize
     requires { from ≤ length source.now }
+    ensures blanks { AreBlanks source.now from result }
     ensures from { from ≤ result }
     ensures within { result ≤ length source.now }
     ensures token { IsNoBlank (step_of (drop result source.now)) }
@@ -342,7 +343,7 @@ fn behind_blanks(source: &[u8], from: usize) -> usize
     at
 }
 
-fn is_same(name: &[u8], word: &[u8]) -> bool
+pub(crate) fn is_same(name: &[u8], word: &[u8]) -> bool
     ensures { result ≡ bytes_eq name.now word.now }
 {
     name == word

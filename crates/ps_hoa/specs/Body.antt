@@ -1,0 +1,213 @@
+-- The body of an HOA text, from behind `--BODY--` to `--END--`:
+--     state ::= "State:" ("[" label "]")? INT STRING? sets? edge*
+--     edge  ::= ("[" label "]")? INT sets?
+--     sets  ::= "{" INT* "}"
+-- The label of a state is that of each of its edges. A state without one, whose edges have none either, has implicit labels:
+-- edge k is taken at the letter k, in which proposition i is bit i.
+--     BodyData      the rows so far, and how many edges they have
+--     state h body      one more state, behind those of body
+--     body h      all states, and `--END--`
+use Rattle.std.specs.Prelude.{◌≡◌, ◌≢◌, ℕ, ◌+◌, ◌^◌, ◌<◌, ◌≤◌, ◌⊎◌, Bool, true, false, List, [], ◌∷◌, ◌++◌, length, codes, if◌then◌else◌, nat_eq, Option, None, Some, IfSome}
+use Rattle.ps_label.specs.Expression.{Expression}
+use Rattle.ps_text.specs.Parts.{Part, give, one, then_by, either, many, mapped, barred}
+use Rattle.ps_hoa.specs.Tokens.{Sign}
+use Rattle.ps_hoa.specs.Operands.{number_limit, nesting_limit, mark}
+use Rattle.ps_hoa.specs.Labels as labels
+use Rattle.ps_hoa.specs.Labels.{ScopeData}
+use Rattle.ps_hoa.specs.Files.{EdgeData, RowData, GuardData, stated, of_state, at_letter, once}
+use Rattle.ps_hoa.specs.Header.{HeaderData, names_of, name_value, item_name, int_in, string, state_limit, IsAlternating}
+use Rattle.ps_hoa.specs.declared.fault.HoaCause.{HoaCause}
+use Rattle.ps_hoa.specs.declared.fault.HoaCause.TheVariants as causes
+use Rattle.ps_hoa.specs.declared.tokens.Kind.{Kind}
+use Rattle.ps_hoa.specs.declared.tokens.Kind.TheVariants as kinds
+
+pub record BodyData : Type 0 where
+  pub rows : List RowData
+  pub edges : ℕ
+
+abbrev pub no_rows : BodyData
+no_rows = record { rows = []; edges = 0 }
+
+-- a text has at most as many edges
+abbrev pub edge_limit : ℕ
+edge_limit = 1048576
+
+-- ## Numbers
+
+-- an INT that is no state
+abbrev pub IsBadState : Option ℕ → ℕ → HoaCause → Type 0
+IsBadState (Some states) n f = ((number_limit < n) × (f ≡ causes.Limit)) ⊎ ((states ≤ n) × (f ≡ causes.Range))
+IsBadState None n f = (state_limit ≤ n) × (f ≡ causes.Limit)
+
+-- an INT that is no set
+abbrev pub IsBadSet : ℕ → ℕ → HoaCause → Type 0
+IsBadSet sets n f = ((number_limit < n) × (f ≡ causes.Limit)) ⊎ ((sets ≤ n) × (f ≡ causes.Range))
+
+abbrev pub BadIn : (ℕ → HoaCause → Type 0) → Sign → HoaCause → Type 0
+BadIn Bad s f = IfSome (int_in s) (λ n. Bad n f) × (int_in s ≢ None)
+
+abbrev pub sets_of : HeaderData → ℕ
+sets_of h = elim h.acceptance [ None ↦ 0 | Some a ↦ a.sets ]
+
+-- ## Marks
+
+abbrev pub is_left_brace : Kind → Bool
+is_left_brace kinds.LeftBrace = true
+is_left_brace kind = false
+
+abbrev pub is_right_brace : Kind → Bool
+is_right_brace kinds.RightBrace = true
+is_right_brace kind = false
+
+abbrev pub set_number : HeaderData → List ℕ → Part Sign (List ℕ) HoaCause
+set_number h ns = mapped (once ns) (one int_in (BadIn (IsBadSet (sets_of h))))
+
+abbrev pub closing : List ℕ → Part Sign (List ℕ) HoaCause
+closing ns = mapped (λ _. ns) (mark is_right_brace)
+
+abbrev pub sets : HeaderData → Part Sign (List ℕ) HoaCause
+sets h = then_by (mark is_left_brace) (λ _. then_by (many (set_number h) []) closing)
+
+-- sets, or none
+abbrev pub marks : HeaderData → Part Sign (List ℕ) HoaCause
+marks h = either (sets h) (give [])
+
+-- ## Labels between brackets
+
+abbrev pub is_left_bracket : Kind → Bool
+is_left_bracket kinds.LeftBracket = true
+is_left_bracket kind = false
+
+abbrev pub is_right_bracket : Kind → Bool
+is_right_bracket kinds.RightBracket = true
+is_right_bracket kind = false
+
+abbrev pub body_scope : HeaderData → ScopeData
+body_scope h = record { names = h.alias_names; propositions = Some (length (names_of h)) }
+
+abbrev pub some_label : Expression → Unit {0} → Option Expression
+some_label e _ = Some e
+
+-- what stands behind `[`
+abbrev pub label_in_brackets : HeaderData → Part Sign (Option Expression) HoaCause
+label_in_brackets h = then_by (labels.label (body_scope h) nesting_limit) (λ e. mapped (some_label e) (mark is_right_bracket))
+
+abbrev pub state_label : HeaderData → Part Sign (Option Expression) HoaCause
+state_label h = either (then_by (mark is_left_bracket) (λ _. label_in_brackets h)) (give None)
+
+-- ## Edges
+
+-- how the edges of a row are labelled: by the row's label, each by its own, by their places, or not known yet
+pub data Labelling : Type 0 where
+  by_state : Labelling
+  by_edge : Labelling
+  by_place : Labelling
+  not_known : Labelling
+
+abbrev pub first_labelling : List EdgeData → Labelling
+first_labelling [] = not_known
+first_labelling (e ∷ es) = elim e.guard [ stated label ↦ by_edge | of_state ↦ by_state | at_letter k ↦ by_place ]
+
+abbrev pub labelling : RowData → Labelling
+labelling row = elim row.label [ Some e ↦ by_state | None ↦ first_labelling row.edges ]
+
+-- an edge with a label where its state has one or earlier edges have none
+abbrev pub MayHaveNoLabel : Labelling → Type 0
+MayHaveNoLabel by_edge = ⊥
+MayHaveNoLabel _ = Unit {0}
+
+abbrev pub MayHaveLabel : Labelling → Type 0
+MayHaveLabel by_edge = Unit {0}
+MayHaveLabel not_known = Unit {0}
+MayHaveLabel _ = ⊥
+
+-- what may be wrong with the first sign of an edge: one edge too many; or a label where there may be none
+abbrev pub IsBadBracket : BodyData → RowData → Sign → HoaCause → Type 0
+IsBadBracket body row s f = (s.kind ≡ kinds.LeftBracket)
+    × (((edge_limit ≤ body.edges + length row.edges) × (f ≡ causes.Limit)) ⊎ ((MayHaveLabel (labelling row) → ⊥) × (f ≡ causes.Labels)))
+
+abbrev pub is_bracket : Sign → Option (Unit {0})
+is_bracket s = if is_left_bracket s.kind then Some tt else None
+
+-- the target of an edge whose label stands before it
+abbrev pub labelled_target : HeaderData → Part Sign ℕ HoaCause
+labelled_target h = barred (one int_in (BadIn (IsBadState h.states))) IsAlternating
+
+-- a target that is an edge's first sign: of a state's number that is wrong, of one edge too many, or of an edge that wants a label
+abbrev pub IsBadPlainTarget : HeaderData → BodyData → RowData → ℕ → HoaCause → Type 0
+IsBadPlainTarget h body row n f =
+    IsBadState h.states n f
+    ⊎ (((edge_limit ≤ body.edges + length row.edges) × (f ≡ causes.Limit)) ⊎ ((MayHaveNoLabel (labelling row) → ⊥) × (f ≡ causes.Labels)))
+
+abbrev pub plain_target : HeaderData → BodyData → RowData → Part Sign ℕ HoaCause
+plain_target h body row = barred (one int_in (BadIn (IsBadPlainTarget h body row))) IsAlternating
+
+-- the guard of an edge without a label
+abbrev pub plain_guard : RowData → GuardData
+plain_guard row = elim row.label [ Some e ↦ of_state | None ↦ at_letter (length row.edges) ]
+
+abbrev pub guard_of : RowData → Option Expression → GuardData
+guard_of row None = plain_guard row
+guard_of row (Some e) = stated e
+
+abbrev pub with_edge : RowData → Option Expression → ℕ → List ℕ → RowData
+with_edge row label target ns = record row { edges = row.edges ++ record { guard = guard_of row label; target = target; marks = ns } ∷ [] }
+
+abbrev pub edge : HeaderData → BodyData → RowData → Part Sign RowData HoaCause
+edge h body row = either
+    (then_by (one is_bracket (IsBadBracket body row)) (λ _. then_by (label_in_brackets h) (λ label.
+    then_by (labelled_target h) (λ target. mapped (with_edge row label target) (marks h)))))
+    (then_by (plain_target h body row) (λ target. mapped (with_edge row None target) (marks h)))
+
+-- behind the last edge: implicit labels that are not one for each letter
+abbrev pub IsWrongCount : HeaderData → RowData → Type 0
+IsWrongCount h row = (labelling row ≡ by_place) × (length row.edges ≢ 2 ^ length (names_of h))
+
+abbrev pub IsBehindEdges : Sign → Type 0
+IsBehindEdges s = (s.kind ≡ kinds.End) ⊎ (name_value (codes "State:") s.kind s.text ≢ None)
+
+abbrev pub IsBadEnd : HeaderData → RowData → Sign → HoaCause → Type 0
+IsBadEnd h row s f = IsBehindEdges s × IsWrongCount h row × (f ≡ causes.Labels)
+
+abbrev pub edges : HeaderData → BodyData → RowData → Part Sign RowData HoaCause
+edges h body row = barred (many (edge h body) row) (IsBadEnd h)
+
+-- ## States
+
+abbrev pub has_row : ℕ → List RowData → Bool
+has_row n [] = false
+has_row n (row ∷ rows) = if nat_eq n row.state then true else has_row n rows
+
+-- an INT that is no state, or that of an earlier row
+abbrev pub IsBadRow : HeaderData → BodyData → ℕ → HoaCause → Type 0
+IsBadRow h body n f = IsBadState h.states n f ⊎ ((has_row n body.rows ≡ true) × (f ≡ causes.StateTwice))
+
+abbrev pub state_number : HeaderData → BodyData → Part Sign ℕ HoaCause
+state_number h body = one int_in (BadIn (IsBadRow h body))
+
+-- the name of a state is read over
+abbrev pub nothing_of : List ℕ → Unit {0}
+nothing_of _ = tt
+
+abbrev pub state_name : Part Sign (Unit {0}) HoaCause
+state_name = either (mapped nothing_of string) (give tt)
+
+abbrev pub empty_row : ℕ → Option Expression → List ℕ → RowData
+empty_row n label ns = record { state = n; label = label; marks = ns; edges = [] }
+
+abbrev pub with_row : BodyData → RowData → BodyData
+with_row body row = record { rows = body.rows ++ row ∷ []; edges = body.edges + length row.edges }
+
+abbrev pub state : HeaderData → BodyData → Part Sign BodyData HoaCause
+state h body = then_by (item_name (codes "State:")) (λ _. then_by (state_label h) (λ label. then_by (state_number h body) (λ n.
+    then_by state_name (λ _. then_by (marks h) (λ ns. mapped (with_row body) (edges h body (empty_row n label ns)))))))
+
+abbrev pub is_end : Kind → Bool
+is_end kinds.End = true
+is_end kind = false
+
+abbrev pub ended : BodyData → Part Sign BodyData HoaCause
+ended body = mapped (λ _. body) (mark is_end)
+
+abbrev pub body : HeaderData → Part Sign BodyData HoaCause
+body h = then_by (many (state h) no_rows) ended

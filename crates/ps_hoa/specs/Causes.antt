@@ -1,0 +1,74 @@
+-- The causes by which an HOA text is refused, with their numbers in psyn's list of faults, and those that a sign is by itself,
+-- wherever it stands.
+--     hoa_causes      for the answer to a text: the numbers, the causes of signs by themselves, and the grammar's refusal
+--     found_of      what an error says of the text
+use Rattle.std.specs.Prelude.{ℕ, ◌&&◌, Bool, true, false, List, [], ◌∷◌, codes, if◌then◌else◌, nat_le, Option, None, Some}
+use Rattle.std.specs.Str.{bytes_eq}
+use Rattle.ps_text.specs.Answers.{Found}
+use Rattle.ps_text.specs.Parts.{Causes}
+use Rattle.ps_hoa.specs.Tokens.{Sign}
+use Rattle.ps_hoa.specs.declared.tokens.Kind.{Kind}
+use Rattle.ps_hoa.specs.declared.tokens.Kind.TheVariants as kinds
+use Rattle.ps_hoa.specs.declared.fault.HoaCause.{HoaCause}
+use Rattle.ps_hoa.specs.declared.fault.HoaCause.TheVariants as causes
+use Rattle.ps_hoa.specs.declared.fault.HoaFault.{HoaFault}
+use Rattle.ps_hoa.specs.declared.fault.HoaFault.TheVariants as faults
+
+abbrev pub cause_number : HoaCause → ℕ
+cause_number causes.NotHoa = 1
+cause_number causes.Version = 2
+cause_number causes.Token = 3
+cause_number causes.Syntax = 4
+cause_number causes.Number = 5
+cause_number causes.HeaderTwice = 6
+cause_number causes.MissingAcceptance = 7
+cause_number causes.UnknownHeader = 8
+cause_number causes.Limit = 9
+cause_number causes.Aborted = 10
+cause_number causes.Alternating = 11
+cause_number causes.Start = 12
+cause_number causes.Range = 13
+cause_number causes.Alias = 14
+cause_number causes.Labels = 15
+cause_number causes.StateTwice = 16
+cause_number causes.Controllable = 19
+cause_number causes.Name = 20
+cause_number causes.SeveralAutomata = 22
+
+-- the first byte is one of A to Z
+abbrev pub begins_capital : List ℕ → Bool
+begins_capital [] = false
+begins_capital (b ∷ bs) = nat_le 65 b && nat_le b 90
+
+-- a name that begins with a capital and that the grammar spells
+abbrev pub is_spelled : List ℕ → Bool
+is_spelled name =
+    if bytes_eq name (codes "HOA:") then true
+    else (if bytes_eq name (codes "States:") then true
+    else (if bytes_eq name (codes "Start:") then true
+    else (if bytes_eq name (codes "AP:") then true
+    else (if bytes_eq name (codes "Alias:") then true
+    else (if bytes_eq name (codes "Acceptance:") then true
+    else bytes_eq name (codes "State:"))))))
+
+unfoldable pub is_unknown_capital : List ℕ → Bool
+is_unknown_capital name = if is_spelled name then false else begins_capital name
+
+-- the cause that a sign is by itself
+abbrev pub own_cause : Kind → List ℕ → Option HoaCause
+own_cause kinds.OpenComment text = Some causes.Token
+own_cause kinds.Odd text = Some causes.Token
+own_cause kinds.ZeroRun text = Some causes.Number
+own_cause kinds.HeaderAgain text = Some causes.HeaderTwice
+own_cause kinds.Header text = if is_unknown_capital text then Some causes.UnknownHeader else None
+own_cause kinds.Abort text = Some causes.Aborted
+own_cause kinds.Behind text = Some causes.SeveralAutomata
+own_cause kind text = None
+
+abbrev pub hoa_causes : Causes Sign HoaCause
+hoa_causes = record { number = cause_number; own = λ s. own_cause s.kind s.text; syntax = causes.Syntax }
+
+-- what an error says of the text: nothing, where memory ran out
+abbrev pub found_of : HoaFault → Option (Found HoaCause)
+found_of (faults.Text cause offset) = Some (record { cause = cause; offset = offset })
+found_of faults.OutOfMemory = None

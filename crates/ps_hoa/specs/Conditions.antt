@@ -1,0 +1,122 @@
+-- Acceptance conditions:
+--     cond ::= BOOLEAN | ("Inf" | "Fin") "(" "!"? INT ")" | "(" cond ")" | cond "&" cond | cond "|" cond
+-- `&` binds tighter than `|`. The operands of several `&` are one conjunction, and so with `|`; a condition in parentheses stands
+-- for itself.
+--     condition room      a condition at a place where `(` may nest so many deep; those of `Inf` and `Fin` don't count
+use Rattle.std.specs.Prelude.{ℕ, ◌≡◌, ◌<◌, zero, suc, Bool, true, false, List, [], ◌∷◌, codes, if◌then◌else◌, Option, None, Some}
+use Rattle.std.specs.Str.{bytes_eq}
+use Rattle.ps_text.specs.Digits.{decimal_value}
+use Rattle.ps_text.specs.Parts.{Part, NoBad, one, then_by, either}
+use Rattle.ps_hoa.specs.Labels.{boolean_in}
+use Rattle.ps_hoa.specs.Operands.{is_not, is_and, is_or, is_left, mark, inner, row, closed, number_limit}
+use Rattle.ps_hoa.specs.Tokens.{Sign}
+use Rattle.ps_hoa.specs.declared.fault.HoaCause.{HoaCause}
+use Rattle.ps_hoa.specs.declared.fault.HoaCause.TheVariants as causes
+use Rattle.ps_hoa.specs.declared.tokens.Kind.{Kind}
+use Rattle.ps_hoa.specs.declared.tokens.Kind.TheVariants as kinds
+
+-- the set of that number, or its complement
+pub record SetData : Type 0 where
+  pub number : ℕ
+  pub complemented : Bool
+
+-- an acceptance condition: some sets are visited infinitely often, and some finitely often
+mutual
+  pub data Condition : Type 0 where
+    constant : Bool → Condition
+    infinitely : SetData → Condition
+    finitely : SetData → Condition
+    all_hold : Conditions → Condition
+    any_holds : Conditions → Condition
+
+  pub data Conditions : Type 0 where
+    last : Conditions
+    more : Condition → Conditions → Conditions
+
+abbrev pub row_of : List Condition → Conditions
+row_of [] = last
+row_of (c ∷ cs) = more c (row_of cs)
+
+abbrev pub constant_of : Option Bool → Option Condition
+constant_of None = None
+constant_of (Some b) = Some (constant b)
+
+-- `t` or `f`
+abbrev pub constant_value : Kind → List ℕ → Option Condition
+constant_value kinds.Word text = constant_of (boolean_in text)
+constant_value kind text = None
+
+abbrev pub constant_in : Sign → Option Condition
+constant_in sign = constant_value sign.kind sign.text
+
+-- `Inf` is true of Inf
+abbrev pub often_value : Kind → List ℕ → Option Bool
+often_value kinds.Word text = if bytes_eq text (codes "Inf") then Some true else (if bytes_eq text (codes "Fin") then Some false else None)
+often_value kind text = None
+
+abbrev pub often_in : Sign → Option Bool
+often_in sign = often_value sign.kind sign.text
+
+abbrev pub visits : Bool → SetData → Condition
+visits true set = infinitely set
+visits false set = finitely set
+
+abbrev pub set_value : Bool → Kind → List ℕ → Option SetData
+set_value complemented kinds.Int text = Some (record { number = decimal_value text; complemented = complemented })
+set_value complemented kind text = None
+
+abbrev pub set_in : Bool → Sign → Option SetData
+set_in complemented sign = set_value complemented sign.kind sign.text
+
+-- an INT above the greatest one
+abbrev pub IsBadSet : Kind → List ℕ → HoaCause → Type 0
+IsBadSet kinds.Int text f = (number_limit < decimal_value text) × (f ≡ causes.Limit)
+IsBadSet kind text f = ⊥
+
+abbrev pub BadSet : Sign → HoaCause → Type 0
+BadSet sign f = IsBadSet sign.kind sign.text f
+
+abbrev pub set : Bool → Part Sign SetData HoaCause
+set complemented = one (set_in complemented) BadSet
+
+abbrev pub any_set : Part Sign SetData HoaCause
+any_set = either (then_by (mark is_not) (λ _. set true)) (set false)
+
+abbrev pub closed_set : Bool → SetData → Part Sign Condition HoaCause
+closed_set often s = closed (visits often s)
+
+abbrev pub often_or_not : Part Sign Bool HoaCause
+often_or_not = one often_in NoBad
+
+abbrev pub visit : Part Sign Condition HoaCause
+visit = then_by often_or_not (λ often. then_by (mark is_left) (λ _. then_by any_set (closed_set often)))
+
+-- what may be wrong with the first sign of an operand: a `(` where no more may nest
+abbrev pub IsBadStart : ℕ → Kind → HoaCause → Type 0
+IsBadStart room kinds.LeftParen f = (room ≡ 0) × (f ≡ causes.Limit)
+IsBadStart room kind f = ⊥
+
+abbrev pub BadStart : ℕ → Sign → HoaCause → Type 0
+BadStart room sign f = IsBadStart room sign.kind f
+
+abbrev pub atom : ℕ → Part Sign Condition HoaCause
+atom room = either (one constant_in (BadStart room)) visit
+
+abbrev pub all_together : List Condition → Condition
+all_together cs = all_hold (row_of cs)
+
+abbrev pub any_together : List Condition → Condition
+any_together cs = any_holds (row_of cs)
+
+abbrev pub conjunction : Part Sign Condition HoaCause → Part Sign Condition HoaCause
+conjunction operand = row is_and all_together operand
+
+abbrev pub disjunction : Part Sign Condition HoaCause → Part Sign Condition HoaCause
+disjunction operand = row is_or any_together (conjunction operand)
+
+unfoldable pub operand : ℕ → Part Sign Condition HoaCause
+operand zero = atom 0
+operand (suc room) = either (atom (suc room)) (inner (disjunction (operand room)))
+
+abbrev pub condition : ℕ → Part Sign Condition HoaCause
+condition room = disjunction (operand room)

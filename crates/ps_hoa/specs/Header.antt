@@ -1,0 +1,309 @@
+-- The header of an HOA text, from behind the version to `--BODY--`:
+--     item ::= "States:" INT | "Start:" INT | "AP:" INT STRING* | "Alias:" ANAME label | "Acceptance:" INT cond
+--            | "controllable-AP:" INT* | "tool:" STRING STRING? | "name:" STRING
+--            | HEADERNAME (BOOLEAN | INT | STRING | IDENTIFIER)*
+-- Items stand in any order, an alias before its use.
+--     HeaderData      what the items so far say
+--     item h      one more item, behind those that say h
+--     header      all items, and `--BODY--`
+use Rattle.std.specs.Prelude.{◌≡◌, ◌≢◌, ℕ, ◌<◌, ◌≤◌, ◌⊎◌, ◌||◌, Bool, true, false, List, [], ◌∷◌, ◌++◌, length, drop, codes, if◌then◌else◌, nat_eq, nat_lt, Option, None, Some, IfSome}
+use Rattle.std.specs.Str.{bytes_eq}
+use Rattle.std.specs.Option.{unwrap_or}
+use Rattle.ps_label.specs.Expression.{Expression, constant, proposition, alias, not_of, all_of, any_of, Operands, last, more}
+use Rattle.ps_text.specs.Digits.{decimal_value}
+use Rattle.ps_text.specs.Parts.{Part, NoBad, give, one, then_by, either, times, many, mapped, barred}
+use Rattle.ps_hoa.specs.Tokens.{Sign}
+use Rattle.ps_hoa.specs.Causes.{begins_capital, is_spelled}
+use Rattle.ps_hoa.specs.Operands.{number_limit, nesting_limit}
+use Rattle.ps_hoa.specs.Labels as labels
+use Rattle.ps_hoa.specs.Labels.{ScopeData}
+use Rattle.ps_hoa.specs.Conditions as conditions
+use Rattle.ps_hoa.specs.Conditions.{Condition, Conditions}
+use Rattle.ps_hoa.specs.Files.{once}
+use Rattle.ps_hoa.specs.declared.fault.HoaCause.{HoaCause}
+use Rattle.ps_hoa.specs.declared.fault.HoaCause.TheVariants as causes
+use Rattle.ps_hoa.specs.declared.tokens.Kind.{Kind}
+use Rattle.ps_hoa.specs.declared.tokens.Kind.TheVariants as kinds
+
+-- the sets of `Acceptance:` and its condition
+pub record AcceptanceData : Type 0 where
+  pub sets : ℕ
+  pub condition : Condition
+
+pub record HeaderData : Type 0 where
+  pub states : Option ℕ
+  pub start : Option ℕ
+  pub names : Option (List (List ℕ))
+  pub controllable : Option (List ℕ)
+  pub alias_names : List (List ℕ)
+  pub aliases : List Expression
+  pub acceptance : Option AcceptanceData
+
+abbrev pub no_items : HeaderData
+no_items = record { states = None; start = None; names = None; controllable = None; alias_names = []; aliases = []; acceptance = None }
+
+-- without `AP:` there are no propositions
+abbrev pub names_of : HeaderData → List (List ℕ)
+names_of h = unwrap_or h.names []
+
+-- ## Signs
+
+-- the limits: of states, propositions, sets and aliases; the greatest number of a state where `States:` does not give one
+abbrev pub state_limit : ℕ
+state_limit = 65535
+
+abbrev pub proposition_limit : ℕ
+proposition_limit = 64
+
+abbrev pub set_limit : ℕ
+set_limit = 64
+
+abbrev pub alias_limit : ℕ
+alias_limit = 4096
+
+abbrev pub name_value : List ℕ → Kind → List ℕ → Option (Unit {0})
+name_value name kinds.Header text = if bytes_eq text name then Some tt else None
+name_value name kind text = None
+
+-- the name of an item
+abbrev pub item_name : List ℕ → Part Sign (Unit {0}) HoaCause
+item_name name = one (λ s. name_value name s.kind s.text) NoBad
+
+abbrev pub int_value : Kind → List ℕ → Option ℕ
+int_value kinds.Int text = Some (decimal_value text)
+int_value kind text = None
+
+abbrev pub int_in : Sign → Option ℕ
+int_in s = int_value s.kind s.text
+
+-- an INT above a limit
+abbrev pub IsAbove : ℕ → Sign → HoaCause → Type 0
+IsAbove limit s f = IfSome (int_in s) (λ n. (limit < n) × (f ≡ causes.Limit)) × (int_in s ≢ None)
+
+-- an INT up to a limit
+abbrev pub int : ℕ → Part Sign ℕ HoaCause
+int limit = one int_in (IsAbove limit)
+
+-- what a string between quotes means: a backslash and a byte stand for that byte
+abbrev pub unescaped : Bool → List ℕ → List ℕ
+unescaped skip [] = []
+unescaped true (b ∷ bs) = b ∷ unescaped false bs
+unescaped false (b ∷ bs) = if nat_eq b 92 then unescaped true bs else b ∷ unescaped false bs
+
+-- the bytes between the quotes
+abbrev pub without_last : List ℕ → List ℕ
+without_last [] = []
+without_last (b ∷ []) = []
+without_last (b ∷ c ∷ bs) = b ∷ without_last (c ∷ bs)
+
+abbrev pub string_value : Kind → List ℕ → Option (List ℕ)
+string_value kinds.Text text = Some (unescaped false (without_last (drop 1 text)))
+string_value kind text = None
+
+abbrev pub string_in : Sign → Option (List ℕ)
+string_in s = string_value s.kind s.text
+
+abbrev pub string : Part Sign (List ℕ) HoaCause
+string = one string_in NoBad
+
+-- ## Items
+
+abbrev pub with_states : HeaderData → ℕ → HeaderData
+with_states h n = record h { states = Some n }
+
+abbrev pub states_item : HeaderData → Part Sign HeaderData HoaCause
+states_item h = then_by (item_name (codes "States:")) (λ _. mapped (with_states h) (int state_limit))
+
+-- a second `Start:`
+abbrev pub IsSecondStart : HeaderData → Sign → HoaCause → Type 0
+IsSecondStart h s f = (name_value (codes "Start:") s.kind s.text ≢ None) × (h.start ≢ None) × (f ≡ causes.Start)
+
+-- `&` behind a state makes an alternating automaton
+abbrev pub IsAlternating : ℕ → Sign → HoaCause → Type 0
+IsAlternating state s f = (s.kind ≡ kinds.And) × (f ≡ causes.Alternating)
+
+abbrev pub with_start : HeaderData → ℕ → HeaderData
+with_start h n = record h { start = Some n }
+
+abbrev pub start_item : HeaderData → Part Sign HeaderData HoaCause
+start_item h = then_by (one (λ s. name_value (codes "Start:") s.kind s.text) (IsSecondStart h)) (λ _. mapped (with_start h) (barred (int number_limit) IsAlternating))
+
+-- a byte that stands in no name of a proposition
+abbrev pub is_control : ℕ → Bool
+is_control b = nat_lt b 32 || nat_eq b 127
+
+abbrev pub has_control : List ℕ → Bool
+has_control [] = false
+has_control (b ∷ bs) = if is_control b then true else has_control bs
+
+abbrev pub is_name_among : List ℕ → List (List ℕ) → Bool
+is_name_among name [] = false
+is_name_among name (other ∷ names) = if bytes_eq name other then true else is_name_among name names
+
+abbrev pub is_empty : List ℕ → Bool
+is_empty [] = true
+is_empty (b ∷ bs) = false
+
+-- a string that is no name of a proposition, or that of an earlier one
+abbrev pub IsBadName : List (List ℕ) → Sign → HoaCause → Type 0
+IsBadName names s f = IfSome (string_in s) (λ name. ((is_empty name || has_control name || is_name_among name names) ≡ true) × (f ≡ causes.Name)) × (string_in s ≢ None)
+
+abbrev pub with_name : List (List ℕ) → List ℕ → List (List ℕ)
+with_name names name = names ++ name ∷ []
+
+abbrev pub proposition_name : List (List ℕ) → Part Sign (List (List ℕ)) HoaCause
+proposition_name names = mapped (with_name names) (one string_in (IsBadName names))
+
+abbrev pub with_names : HeaderData → List (List ℕ) → HeaderData
+with_names h names = record h { names = Some names }
+
+abbrev pub names_item : HeaderData → Part Sign HeaderData HoaCause
+names_item h = then_by (item_name (codes "AP:")) (λ _. then_by (int proposition_limit) (λ n. mapped (with_names h) (times n proposition_name [])))
+
+abbrev pub alias_value : Kind → List ℕ → Option (List ℕ)
+alias_value kinds.AliasName text = Some text
+alias_value kind text = None
+
+-- a name beyond the limit of aliases, or that of an earlier one
+abbrev pub IsBadAlias : List (List ℕ) → Sign → HoaCause → Type 0
+IsBadAlias names s f = IfSome (alias_value s.kind s.text) (λ name.
+    ((alias_limit ≤ length names) × (f ≡ causes.Limit)) ⊎ ((is_name_among name names ≡ true) × (f ≡ causes.Alias))) × (alias_value s.kind s.text ≢ None)
+
+abbrev pub header_scope : HeaderData → ScopeData
+header_scope h = record { names = h.alias_names; propositions = None }
+
+abbrev pub with_alias : HeaderData → List ℕ → Expression → HeaderData
+with_alias h name e = record h { alias_names = h.alias_names ++ name ∷ []; aliases = h.aliases ++ e ∷ [] }
+
+abbrev pub alias_item : HeaderData → Part Sign HeaderData HoaCause
+alias_item h = then_by (item_name (codes "Alias:")) (λ _.
+    then_by (one (λ s. alias_value s.kind s.text) (IsBadAlias h.alias_names)) (λ name.
+    mapped (with_alias h name) (labels.label (header_scope h) nesting_limit)))
+
+abbrev pub with_acceptance : HeaderData → ℕ → Condition → HeaderData
+with_acceptance h n c = record h { acceptance = Some (record { sets = n; condition = c }) }
+
+abbrev pub acceptance_item : HeaderData → Part Sign HeaderData HoaCause
+acceptance_item h = then_by (item_name (codes "Acceptance:")) (λ _. then_by (int set_limit) (λ n. mapped (with_acceptance h n) (conditions.condition nesting_limit)))
+
+abbrev pub index : List ℕ → Part Sign (List ℕ) HoaCause
+index ns = mapped (once ns) (int number_limit)
+
+abbrev pub with_controllable : HeaderData → List ℕ → HeaderData
+with_controllable h ns = record h { controllable = Some ns }
+
+abbrev pub controllable_item : HeaderData → Part Sign HeaderData HoaCause
+controllable_item h = then_by (item_name (codes "controllable-AP:")) (λ _. mapped (with_controllable h) (many index []))
+
+-- what is read over changes nothing
+abbrev pub unchanged : HeaderData → List ℕ → HeaderData
+unchanged h _ = h
+
+abbrev pub tool_item : HeaderData → Part Sign HeaderData HoaCause
+tool_item h = then_by (item_name (codes "tool:")) (λ _. then_by string (λ _. either (mapped (unchanged h) string) (give h)))
+
+abbrev pub name_item : HeaderData → Part Sign HeaderData HoaCause
+name_item h = then_by (item_name (codes "name:")) (λ _. mapped (unchanged h) string)
+
+-- any other name that does not begin with a capital
+abbrev pub other_value : Kind → List ℕ → Option (Unit {0})
+other_value kinds.Header text =
+    if is_spelled text || begins_capital text then None
+    else (if bytes_eq text (codes "controllable-AP:") || bytes_eq text (codes "tool:") || bytes_eq text (codes "name:") then None
+    else Some tt)
+other_value kind text = None
+
+abbrev pub read_over_value : HeaderData → Kind → Option HeaderData
+read_over_value h kinds.Int = Some h
+read_over_value h kinds.Text = Some h
+read_over_value h kinds.Word = Some h
+read_over_value h kind = None
+
+abbrev pub read_over : HeaderData → Part Sign HeaderData HoaCause
+read_over h = one (λ s. read_over_value h s.kind) (IsAbove number_limit)
+
+abbrev pub other_item : HeaderData → Part Sign HeaderData HoaCause
+other_item h = then_by (one (λ s. other_value s.kind s.text) NoBad) (λ _. many read_over h)
+
+abbrev pub item : HeaderData → Part Sign HeaderData HoaCause
+item h = either (states_item h) (either (start_item h) (either (names_item h) (either (alias_item h) (either (acceptance_item h)
+    (either (controllable_item h) (either (tool_item h) (either (name_item h) (other_item h))))))))
+
+-- ## `--BODY--`, where the whole header is checked
+
+-- a label, or a condition, speaks of a proposition, or of a set, that there is not
+abbrev mutual
+  pub SpeaksBeyond : ℕ → Expression → Type 0
+  SpeaksBeyond count (constant b) = ⊥
+  SpeaksBeyond count (proposition p) = count ≤ p
+  SpeaksBeyond count (alias k) = ⊥
+  SpeaksBeyond count (not_of e) = SpeaksBeyond count e
+  SpeaksBeyond count (all_of es) = SomeSpeaksBeyond count es
+  SpeaksBeyond count (any_of es) = SomeSpeaksBeyond count es
+
+  pub SomeSpeaksBeyond : ℕ → Operands → Type 0
+  SomeSpeaksBeyond count last = ⊥
+  SomeSpeaksBeyond count (more e es) = SpeaksBeyond count e ⊎ SomeSpeaksBeyond count es
+
+abbrev pub AnAliasBeyond : ℕ → List Expression → Type 0
+AnAliasBeyond count [] = ⊥
+AnAliasBeyond count (e ∷ es) = SpeaksBeyond count e ⊎ AnAliasBeyond count es
+
+abbrev mutual
+  pub NamesSetBeyond : ℕ → Condition → Type 0
+  NamesSetBeyond count (conditions.constant b) = ⊥
+  NamesSetBeyond count (conditions.infinitely s) = count ≤ s.number
+  NamesSetBeyond count (conditions.finitely s) = count ≤ s.number
+  NamesSetBeyond count (conditions.all_hold cs) = SomeNamesSetBeyond count cs
+  NamesSetBeyond count (conditions.any_holds cs) = SomeNamesSetBeyond count cs
+
+  pub SomeNamesSetBeyond : ℕ → Conditions → Type 0
+  SomeNamesSetBeyond count conditions.last = ⊥
+  SomeNamesSetBeyond count (conditions.more c cs) = NamesSetBeyond count c ⊎ SomeNamesSetBeyond count cs
+
+abbrev pub AnIndexBeyond : ℕ → List ℕ → Type 0
+AnIndexBeyond count [] = ⊥
+AnIndexBeyond count (n ∷ ns) = (count ≤ n) ⊎ AnIndexBeyond count ns
+
+-- the start is no state; without `States:` it is above the greatest that there can be
+abbrev pub IsStartBeyond : Option ℕ → Option ℕ → Type 0
+IsStartBeyond (Some n) (Some start) = n ≤ start
+IsStartBeyond states start = ⊥
+
+abbrev pub IsStartTooLarge : Option ℕ → Option ℕ → Type 0
+IsStartTooLarge None (Some start) = state_limit ≤ start
+IsStartTooLarge states start = ⊥
+
+abbrev pub IsConditionBeyond : Option AcceptanceData → Type 0
+IsConditionBeyond None = ⊥
+IsConditionBeyond (Some a) = NamesSetBeyond a.sets a.condition
+
+abbrev pub IsControlBeyond : ℕ → Option (List ℕ) → Type 0
+IsControlBeyond count None = ⊥
+IsControlBeyond count (Some ns) = AnIndexBeyond count ns
+
+abbrev pub IsRangeBroken : HeaderData → Type 0
+IsRangeBroken h =
+    IsStartBeyond h.states h.start
+    ⊎ (AnAliasBeyond (length (names_of h)) h.aliases ⊎ (IsConditionBeyond h.acceptance ⊎ IsControlBeyond (length (names_of h)) h.controllable))
+
+-- what is wrong with a header that ends here; of several the one with the smallest number is answered
+pub data IsBadHeader (h : HeaderData) : HoaCause → Type 0 where
+  no_acceptance : h.acceptance ≡ None → IsBadHeader h causes.MissingAcceptance
+  start_too_large : IsStartTooLarge h.states h.start → IsBadHeader h causes.Limit
+  no_start : h.start ≡ None → IsBadHeader h causes.Start
+  out_of_range : IsRangeBroken h → IsBadHeader h causes.Range
+  no_controllable : h.controllable ≡ None → IsBadHeader h causes.Controllable
+
+abbrev pub body_value : HeaderData → Kind → Option HeaderData
+body_value h kinds.Body = Some h
+body_value h kind = None
+
+abbrev pub IsBadBody : HeaderData → Sign → HoaCause → Type 0
+IsBadBody h s f = (s.kind ≡ kinds.Body) × IsBadHeader h f
+
+abbrev pub body_mark : HeaderData → Part Sign HeaderData HoaCause
+body_mark h = one (λ s. body_value h s.kind) (IsBadBody h)
+
+abbrev pub header : Part Sign HeaderData HoaCause
+header = then_by (many item no_items) body_mark

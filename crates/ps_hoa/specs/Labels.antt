@@ -1,0 +1,91 @@
+-- Label expressions:
+--     label ::= BOOLEAN | INT | ANAME | "!" label | "(" label ")" | label "&" label | label "|" label
+-- `!` binds tightest, then `&`, then `|`. The operands of several `&` are one conjunction, and so with `|`; an operand in
+-- parentheses stands for itself.
+--     label scope room      a label at a place where `!` and `(` may nest so many deep
+--     operand scope room      what may stand on either side of `&`
+use Rattle.std.specs.Prelude.{ℕ, ◌≡◌, ◌≤◌, ◌<◌, ◌⊎◌, zero, suc, Bool, true, false, List, codes, if◌then◌else◌, Option, None, Some, position}
+use Rattle.std.specs.Str.{bytes_eq}
+use Rattle.ps_label.specs.Expression.{Expression, constant, proposition, alias, not_of, all_of, any_of, row_of}
+use Rattle.ps_text.specs.Digits.{decimal_value}
+use Rattle.ps_text.specs.Parts.{Part, one, then_by, either, mapped}
+use Rattle.ps_hoa.specs.Operands.{is_not, is_and, is_or, mark, inner, row, number_limit}
+use Rattle.ps_hoa.specs.Tokens.{Sign}
+use Rattle.ps_hoa.specs.declared.fault.HoaCause.{HoaCause}
+use Rattle.ps_hoa.specs.declared.fault.HoaCause.TheVariants as causes
+use Rattle.ps_hoa.specs.declared.tokens.Kind.{Kind}
+use Rattle.ps_hoa.specs.declared.tokens.Kind.TheVariants as kinds
+
+-- The surroundings of a label: the aliases that were defined before, in order, and where it matters the number of propositions.
+-- In the header it does not, since `AP:` may stand behind the label.
+pub record ScopeData : Type 0 where
+  pub names : List (List ℕ)
+  pub propositions : Option ℕ
+
+abbrev pub boolean_in : List ℕ → Option Bool
+boolean_in text = if bytes_eq text (codes "t") then Some true else (if bytes_eq text (codes "f") then Some false else None)
+
+abbrev pub constant_in : Option Bool → Option Expression
+constant_in None = None
+constant_in (Some b) = Some (constant b)
+
+-- the number of the alias of that name
+abbrev pub alias_number : List (List ℕ) → List ℕ → Option ℕ
+alias_number names text = position (λ name. bytes_eq name text) names
+
+abbrev pub alias_in : Option ℕ → Option Expression
+alias_in None = None
+alias_in (Some k) = Some (alias k)
+
+-- an operand of one sign
+abbrev pub leaf_value : List (List ℕ) → Kind → List ℕ → Option Expression
+leaf_value names kinds.Word text = constant_in (boolean_in text)
+leaf_value names kinds.Int text = Some (proposition (decimal_value text))
+leaf_value names kinds.AliasName text = alias_in (alias_number names text)
+leaf_value names kind text = None
+
+abbrev pub leaf_in : List (List ℕ) → Sign → Option Expression
+leaf_in names sign = leaf_value names sign.kind sign.text
+
+abbrev pub IsBeyond : Option ℕ → ℕ → Type 0
+IsBeyond None n = ⊥
+IsBeyond (Some count) n = count ≤ n
+
+-- what may be wrong with the first sign of an operand: an INT above the greatest one, or that is no proposition; an alias that
+-- is not known; and a `!` or `(` where no more may nest
+abbrev pub IsBadLeaf : ScopeData → ℕ → Kind → List ℕ → HoaCause → Type 0
+IsBadLeaf scope room kinds.Int text f = ((number_limit < decimal_value text) × (f ≡ causes.Limit)) ⊎ (IsBeyond scope.propositions (decimal_value text) × (f ≡ causes.Range))
+IsBadLeaf scope room kinds.AliasName text f = (alias_number scope.names text ≡ None) × (f ≡ causes.Alias)
+IsBadLeaf scope room kinds.Not text f = (room ≡ 0) × (f ≡ causes.Limit)
+IsBadLeaf scope room kinds.LeftParen text f = (room ≡ 0) × (f ≡ causes.Limit)
+IsBadLeaf scope room kind text f = ⊥
+
+abbrev pub BadLeaf : ScopeData → ℕ → Sign → HoaCause → Type 0
+BadLeaf scope room sign f = IsBadLeaf scope room sign.kind sign.text f
+
+abbrev pub leaf : ScopeData → ℕ → Part Sign Expression HoaCause
+leaf scope room = one (leaf_in scope.names) (BadLeaf scope room)
+
+abbrev pub all_together : List Expression → Expression
+all_together es = all_of (row_of es)
+
+abbrev pub any_together : List Expression → Expression
+any_together es = any_of (row_of es)
+
+-- operands with `&` between them
+abbrev pub conjunction : Part Sign Expression HoaCause → Part Sign Expression HoaCause
+conjunction operand = row is_and all_together operand
+
+-- these with `|` between them
+abbrev pub disjunction : Part Sign Expression HoaCause → Part Sign Expression HoaCause
+disjunction operand = row is_or any_together (conjunction operand)
+
+abbrev pub negation : Part Sign Expression HoaCause → Part Sign Expression HoaCause
+negation operand = then_by (mark is_not) (λ _. mapped not_of operand)
+
+unfoldable pub operand : ScopeData → ℕ → Part Sign Expression HoaCause
+operand scope zero = leaf scope 0
+operand scope (suc room) = either (leaf scope (suc room)) (either (negation (operand scope room)) (inner (disjunction (operand scope room))))
+
+abbrev pub label : ScopeData → ℕ → Part Sign Expression HoaCause
+label scope room = disjunction (operand scope room)

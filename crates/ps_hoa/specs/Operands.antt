@@ -1,0 +1,73 @@
+-- What labels and acceptance conditions have in common: signs by themselves, an operand in parentheses, and rows of operands.
+--     mark test      a sign of such a kind, by itself
+--     inner part      the part between parentheses
+--     row sign join operand      operands with that sign between them: one stands for itself, and several are joined, all at once
+use Rattle.std.specs.Prelude.{ℕ, Bool, true, false, List, [], ◌∷◌, ◌++◌, if◌then◌else◌, Option, None, Some}
+use Rattle.ps_text.specs.Parts.{Part, NoBad, one, then_by, many, mapped}
+use Rattle.ps_hoa.specs.Tokens.{Sign}
+use Rattle.ps_hoa.specs.declared.fault.HoaCause.{HoaCause}
+use Rattle.ps_hoa.specs.declared.tokens.Kind.{Kind}
+use Rattle.ps_hoa.specs.declared.tokens.Kind.TheVariants as kinds
+
+abbrev pub is_not : Kind → Bool
+is_not kinds.Not = true
+is_not kind = false
+
+abbrev pub is_and : Kind → Bool
+is_and kinds.And = true
+is_and kind = false
+
+abbrev pub is_or : Kind → Bool
+is_or kinds.Or = true
+is_or kind = false
+
+abbrev pub is_left : Kind → Bool
+is_left kinds.LeftParen = true
+is_left kind = false
+
+abbrev pub is_right : Kind → Bool
+is_right kinds.RightParen = true
+is_right kind = false
+
+abbrev pub mark_in : (Kind → Bool) → Sign → Option (Unit {0})
+mark_in test sign = if test sign.kind then Some tt else None
+
+abbrev pub mark : (Kind → Bool) → Part Sign (Unit {0}) HoaCause
+mark test = one (mark_in test) NoBad
+
+abbrev pub before : {V : Type 0} → V → Unit {0} → V
+before v _ = v
+
+abbrev pub closed : {V : Type 0} → V → Part Sign V HoaCause
+closed v = mapped (before v) (mark is_right)
+
+abbrev pub inner : {V : Type 0} → Part Sign V HoaCause → Part Sign V HoaCause
+inner part = then_by (mark is_left) (λ _. then_by part (λ v. closed v))
+
+abbrev pub single : {V : Type 0} → V → List V
+single v = v ∷ []
+
+abbrev pub with_last : {V : Type 0} → List V → V → List V
+with_last vs v = vs ++ v ∷ []
+
+-- one operand stands for itself
+abbrev pub joined : {V : Type 0} → (List V → V) → List V → V
+joined join (v ∷ []) = v
+joined join vs = join vs
+
+abbrev pub further : {V : Type 0} → (Kind → Bool) → Part Sign V HoaCause → List V → Part Sign (List V) HoaCause
+further sign operand vs = then_by (mark sign) (λ _. mapped (with_last vs) operand)
+
+abbrev pub operands : {V : Type 0} → (Kind → Bool) → Part Sign V HoaCause → Part Sign (List V) HoaCause
+operands sign operand = then_by (mapped single operand) (λ vs. many (λ ws. further sign operand ws) vs)
+
+abbrev pub row : {V : Type 0} → (Kind → Bool) → (List V → V) → Part Sign V HoaCause → Part Sign V HoaCause
+row sign join operand = mapped (joined join) (operands sign operand)
+
+-- the greatest INT
+abbrev pub number_limit : ℕ
+number_limit = 4294967295
+
+-- `!` and `(` may nest as many deep
+abbrev pub nesting_limit : ℕ
+nesting_limit = 256

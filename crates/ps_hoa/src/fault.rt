@@ -1,0 +1,129 @@
+//! What is wrong with an HOA text.
+
+ghost use Rattle.ps_hoa.specs.declared.fault.HoaFault.TheVariants.{OutOfMemory};
+ghost use Rattle.ps_hoa.specs.Causes.{cause_number};
+ghost use Rattle.std.specs.Prelude.{◌≡◌};
+
+use std::alloc::{AllocError, AllocFailed};
+
+/// Why an HOA text is refused.
+#[derive(Clone, Copy, Debug, PartialEq, Eq)]
+pub enum HoaCause {
+    /// The text does not begin with `HOA:`.
+    NotHoa,
+    /// The version is not `v1`.
+    Version,
+    /// No token begins here, or a string or a comment is not closed.
+    Token,
+    /// A token that can't stand here, or an early end.
+    Syntax,
+    /// Several digits that begin with `0`.
+    Number,
+    /// A header item that may stand once, a second time.
+    HeaderTwice,
+    /// There is no `Acceptance:`.
+    MissingAcceptance,
+    /// An unknown header item whose name begins with a capital.
+    UnknownHeader,
+    /// A limit is passed.
+    Limit,
+    /// The text was aborted.
+    Aborted,
+    /// `&` behind a state: the automaton is alternating.
+    Alternating,
+    /// There is no start state, or a second one.
+    Start,
+    /// A number beyond the propositions, the sets or the states.
+    Range,
+    /// An alias that is not defined before, or defined twice.
+    Alias,
+    /// Labels on some edges of a state, or a wrong number of edges without any.
+    Labels,
+    /// A state a second time.
+    StateTwice,
+    /// There is no `controllable-AP:`.
+    Controllable,
+    /// A name that no proposition can have, or that an earlier one has.
+    Name,
+    /// Something stands behind `--END--`.
+    SeveralAutomata,
+}
+
+impl HoaCause {
+    /// The cause's number in psyn's list of faults.
+    pub fn number(self) -> u8
+        ensures { result ≡ cause_number self }
+    {
+        match self {
+            HoaCause::NotHoa => 1,
+            HoaCause::Version => 2,
+            HoaCause::Token => 3,
+            HoaCause::Syntax => 4,
+            HoaCause::Number => 5,
+            HoaCause::HeaderTwice => 6,
+            HoaCause::MissingAcceptance => 7,
+            HoaCause::UnknownHeader => 8,
+            HoaCause::Limit => 9,
+            HoaCause::Aborted => 10,
+            HoaCause::Alternating => 11,
+            HoaCause::Start => 12,
+            HoaCause::Range => 13,
+            HoaCause::Alias => 14,
+            HoaCause::Labels => 15,
+            HoaCause::StateTwice => 16,
+            HoaCause::Controllable => 19,
+            HoaCause::Name => 20,
+            HoaCause::SeveralAutomata => 22,
+        }
+    }
+
+    /// The cause's name.
+    pub fn name(self) -> &'static str {
+        match self {
+            HoaCause::NotHoa => "NotHoa",
+            HoaCause::Version => "Version",
+            HoaCause::Token => "Token",
+            HoaCause::Syntax => "Syntax",
+            HoaCause::Number => "Number",
+            HoaCause::HeaderTwice => "HeaderTwice",
+            HoaCause::MissingAcceptance => "MissingAcceptance",
+            HoaCause::UnknownHeader => "UnknownHeader",
+            HoaCause::Limit => "Limit",
+            HoaCause::Aborted => "Aborted",
+            HoaCause::Alternating => "Alternating",
+            HoaCause::Start => "Start",
+            HoaCause::Range => "Range",
+            HoaCause::Alias => "Alias",
+            HoaCause::Labels => "Labels",
+            HoaCause::StateTwice => "StateTwice",
+            HoaCause::Controllable => "Controllable",
+            HoaCause::Name => "Name",
+            HoaCause::SeveralAutomata => "SeveralAutomata",
+        }
+    }
+}
+
+/// Why an HOA text was not read.
+#[derive(Clone, Copy, Debug, PartialEq, Eq)]
+pub enum HoaFault {
+    /// The text is refused, at this offset in bytes from its beginning.
+    Text { cause: HoaCause, offset: usize },
+    /// Memory ran out.
+    OutOfMemory,
+}
+
+impl From<AllocError> for HoaFault {
+    ghost from_gives = { λ _ fault. fault ≡ OutOfMemory };
+
+    fn from(_error: AllocError) -> HoaFault {
+        HoaFault::OutOfMemory
+    }
+}
+
+impl<T: Drop> From<AllocFailed<T>> for HoaFault {
+    ghost from_gives = { λ _ fault. fault ≡ OutOfMemory };
+
+    fn from(_error: AllocFailed<T>) -> HoaFault {
+        HoaFault::OutOfMemory
+    }
+}

@@ -1,0 +1,91 @@
+//! The opening of an HOA text: its length, `HOA:` and the version.
+
+ghost use Rattle.std.specs.Prelude.{◌≡◌, ◌≤◌, length, IfOk, IfErr, IfSome, Result, Err, Ok};
+ghost use Rattle.std.specs.List.{prefix_len};
+ghost use Rattle.ps_text.specs.Answers.{Found};
+ghost use Rattle.ps_text.specs.Parts.{PartAnswers};
+ghost use Rattle.ps_hoa.specs.Causes.{hoa_causes, found_of};
+ghost use Rattle.ps_hoa.specs.Files.{FileData};
+ghost use Rattle.ps_hoa.specs.Scan.{stream_of};
+ghost use Rattle.ps_hoa.specs.Texts.{file, is_version_byte, IsRefusedAs, Reads};
+ghost use Rattle.ps_hoa.specs.declared.fault.HoaCause.{HoaCause};
+
+use crate::fault::{HoaCause, HoaFault};
+use crate::tokens::{Tokens, begins_with, behind_blanks, is_name_byte, is_same};
+
+/// A text has at most as many bytes.
+const TEXT_LIMIT: usize = 16_777_216;
+
+/// How many bytes of a version stand at the front.
+fn version_at(bytes: &[u8]) -> usize
+    ensures value { result ≡ prefix_len is_version_byte bytes.now }
+    ensures within { result ≤ length bytes.now }
+{
+    let mut count = 0;
+    while count < bytes.len() && (is_name_byte(bytes[count]) || bytes[count] == b'.') {
+        count += 1;
+    }
+    count
+}
+
+/// The tokens behind the version of a text.
+///
+/// # Errors
+///
+/// `Limit` where the text is too long, `NotHoa` where it does not begin with `HOA:`, and `Version` where
+/// the version is not `v1`.
+pub fn opened(text: &[u8]) -> Result<Tokens<'_>, HoaFault>
+    // What the tokens mean, or the first cause in them, is the answer to the text.
+    ensures tokens { IfOk result (λ tokens. (answer : Result FileData (Found HoaCause)) → PartAnswers hoa_causes file (stream_of tokens) answer → Reads text.now answer) }
+    // A refusal is the first cause of the text.
+    ensures refused { IfErr result (IsRefusedAs text.now) }
+{
+    if text.len() > TEXT_LIMIT {
+        return Err(HoaFault::Text {
+            cause: HoaCause::Limit,
+            offset: TEXT_LIMIT,
+        });
+    }
+    let first = behind_blanks(text, 0);
+    if !begins_with(&text[first..], b"HOA:") {
+        return Err(HoaFault::Text {
+            cause: HoaCause::NotHoa,
+            offset: first,
+        });
+    }
+    let second = behind_blanks(text, first + 4);
+    let stop = second + version_at(&text[second..]);
+    if !is_same(&text[second..stop], b"v1") {
+        return Err(HoaFault::Text {
+            cause: HoaCause::Version,
+            offset: second,
+        });
+    }
+    Ok(Tokens::new(text, stop))
+}
+
+#[cfg(test)]
+mod tests {
+    use crate::fault::{HoaCause, HoaFault};
+    use crate::opening::opened;
+    use std::test::Fail;
+
+    #[test]
+    fn texts_open(rt: HostRuntime) -> Result<(), Fail> {
+        for (text, cause, offset) in [
+            ("HOA", HoaCause::NotHoa, 0),
+            ("/* HOA: v1", HoaCause::NotHoa, 0),
+            ("HOA:", HoaCause::Version, 4),
+            ("HOA: v", HoaCause::Version, 5),
+            ("HOA: v1--BODY--", HoaCause::Version, 5),
+            (" HOA: /*", HoaCause::Version, 6),
+        ] {
+            assert_eq!(rt;
+                opened(text.as_bytes()).err(),
+                Some(HoaFault::Text { cause, offset })
+            );
+        }
+        assert!(rt; opened(b"/*a/*b*/c*/HOA:v1 Start: 0").is_ok());
+        Ok(())
+    }
+}
