@@ -3,3 +3,11 @@ pub mod IdLemmas
 pub mod GameLemmas
 pub mod NodeLemmas
 pub mod GameTokens
+pub mod SingleSigns
+pub mod ValueLemmas
+pub mod PartLaws
+pub mod Exits
+pub mod Choices
+pub mod Wholes
+pub mod Sound
+pub mod Answering

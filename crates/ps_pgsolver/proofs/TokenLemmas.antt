@@ -7,7 +7,8 @@ use Rattle.std.specs.List.{prefix_len}
 use Rattle.ps_pgsolver.specs.Bytes.{is_blank, is_digit, is_letter, ends_in}
 use Rattle.ps_text.specs.Answers.{Stream}
 use Rattle.ps_pgsolver.specs.Signs.{Sign}
-use Rattle.ps_pgsolver.specs.Heads.{IsHead, sign_of, tail}
+use Rattle.ps_pgsolver.specs.Heads.{IsHead, sign_of}
+use Rattle.ps_text.specs.Readers.{tail}
 use Rattle.ps_pgsolver.specs.declared.token.Kind.{Kind}
 use Rattle.ps_pgsolver.specs.Lexer.{lex, first_sign, first_size, number_sign, word_sign, name_sign, name_size, mark_sign, is_closed, stream_from}
 

@@ -1,5 +1,5 @@
 -- The causes by which a game text is refused, and their numbers in psyn's list of faults.
-use Rattle.std.specs.Prelude.{ℕ, ◌≤◌}
+use Rattle.std.specs.Prelude.{ℕ, ◌≤◌, List, codes}
 use Rattle.ps_pgsolver.specs.declared.fault.PgCause.{PgCause}
 use Rattle.ps_pgsolver.specs.declared.fault.PgCause.TheVariants as causes
 use Rattle.ps_pgsolver.specs.declared.fault.PgFault.{PgFault}
@@ -12,6 +12,14 @@ cause_number causes.UnknownSuccessor = 32
 cause_number causes.NodeTwice = 33
 cause_number causes.Number = 34
 cause_number causes.Limit = 35
+
+abbrev pub cause_name : PgCause → List ℕ
+cause_name causes.Syntax = codes "Syntax"
+cause_name causes.NoSuccessor = codes "NoSuccessor"
+cause_name causes.UnknownSuccessor = codes "UnknownSuccessor"
+cause_name causes.NodeTwice = codes "NodeTwice"
+cause_name causes.Number = codes "Number"
+cause_name causes.Limit = codes "Limit"
 
 -- a refusal stands within a text of this length, or at its end
 abbrev pub StandsWithin : ℕ → PgFault → Type 0

@@ -1,7 +1,7 @@
 -- What a token of the code stands for.
-use Rattle.std.specs.Prelude.{◌≡◌, ℕ, Bool, true, false, List, [], ◌∷◌, Option, None, Some}
+use Rattle.std.specs.Prelude.{◌≡◌, ℕ, Bool, true, false, List, Option, None, Some}
 use Rattle.std.specs.List.{AllPass}
-use Rattle.ps_text.specs.Answers.{Piece, Stream, first_of, signs, offset_of}
+use Rattle.ps_text.specs.Answers.{Stream, next_of, offset_of}
 use Rattle.ps_text.specs.Digits.{decimal_value}
 use Rattle.ps_pgsolver.specs.Bytes.{is_digit, is_inner}
 use Rattle.ps_pgsolver.specs.Signs.{Sign, Number, Word, Name, Comma, Semicolon, OpenName, Wrong}
@@ -20,26 +20,10 @@ sign_of kinds.OpenName = Some OpenName
 sign_of kinds.Wrong = Some Wrong
 sign_of kinds.End = None
 
--- the sign of the next token, if one is left
-abbrev pub next_sign : Stream Sign → Option Sign
-next_sign stream = first_of (signs stream.pieces)
-
--- where the next token begins, or the text ends
-abbrev pub next_offset : Stream Sign → ℕ
-next_offset stream = offset_of stream.pieces stream.end
-
-abbrev pub tail_of : List (Piece Sign) → List (Piece Sign)
-tail_of [] = []
-tail_of (p ∷ ps) = ps
-
--- what is left behind the next token
-abbrev pub tail : Stream Sign → Stream Sign
-tail stream = record stream { pieces = tail_of stream.pieces }
-
 -- the token is the next one
 pub record IsHead (token : Token) (stream : Stream Sign) : Type 0 where
-  pub sign : sign_of token.kind ≡ next_sign stream
-  pub start : token.start ≡ next_offset stream
+  pub sign : sign_of token.kind ≡ next_of stream
+  pub start : token.start ≡ offset_of stream.pieces stream.end
 
 abbrev pub is_number : Option Sign → Bool
 is_number (Some (Number n)) = true
@@ -48,6 +32,10 @@ is_number _ = false
 abbrev pub is_comma : Option Sign → Bool
 is_comma (Some Comma) = true
 is_comma _ = false
+
+abbrev pub name_of : Option Sign → Option (List ℕ)
+name_of (Some (Name inner)) = Some inner
+name_of _ = None
 
 -- a number has digits alone, and a name has no quote
 abbrev pub IsPlain : Kind → Type 0

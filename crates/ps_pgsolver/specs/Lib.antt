@@ -5,3 +5,7 @@ pub mod Heads
 pub mod Causes
 pub mod Nodes
 pub mod GameTokens
+pub mod GameTexts
+pub mod Answered
+pub mod GamesOf
+pub mod Reading

@@ -1,6 +1,6 @@
 -- A node of a game text, as it stands there.
-use Rattle.std.specs.Prelude.{ℕ, ◌≡◌, ◌<◌, ◌≢◌, List, map, length, Option}
-use Rattle.std.specs.List.{All, AllPairs}
+use Rattle.std.specs.Prelude.{ℕ, Bool, ◌==◌, ◌≡◌, ◌<◌, ◌≢◌, List, map, length, Option}
+use Rattle.std.specs.List.{All, AllPairs, Contains, list_any}
 use Rattle.ps_game.specs.Games.{HasNoQuote}
 
 pub record NodeData : Type 0 where
@@ -15,6 +15,10 @@ ids_of nodes = map (λ n. n.id) nodes
 
 abbrev pub names_of : List NodeData → List (Option (List ℕ))
 names_of nodes = map (λ n. n.name) nodes
+
+-- whether a number is one of the ids
+abbrev pub is_member : List ℕ → ℕ → Bool
+is_member ids n = list_any (λ id. n == id) ids
 
 -- what is true of each node that was read
 pub record IsNode (node : NodeData) : Type 0 where
@@ -34,3 +38,12 @@ pub record AreNodes (nodes : List NodeData) : Type 0 where
 pub record HasTable (nodes : List NodeData) (table : List ℕ) : Type 0 where
   pub ids : table ≡ ids_of nodes
   pub well_formed : AreNodes nodes
+
+-- a node of an id that is none of these
+pub record IsNewNode (ids : List ℕ) (node : NodeData) : Type 0 where
+  pub new : ¬ Contains ids node.id
+  pub is_node : IsNode node
+
+-- each successor of each node is one of these ids
+abbrev pub KnowsAll : List ℕ → List NodeData → Type 0
+KnowsAll ids nodes = All (λ node. All (λ id. Contains ids id) node.successors) nodes

@@ -1,7 +1,7 @@
 //! What is wrong with a game text.
 
 ghost use Rattle.ps_pgsolver.specs.declared.fault.PgFault.TheVariants.{OutOfMemory};
-ghost use Rattle.ps_pgsolver.specs.Causes.{cause_number};
+ghost use Rattle.ps_pgsolver.specs.Causes.{cause_name, cause_number};
 ghost use Rattle.std.specs.Prelude.{◌≡◌};
 
 use std::alloc::{AllocError, AllocFailed};
@@ -39,7 +39,9 @@ impl PgCause {
     }
 
     /// The cause's name.
-    pub fn name(self) -> &'static str {
+    pub fn name(self) -> &'static str
+        ensures { result.now ≡ cause_name self }
+    {
         match self {
             PgCause::Syntax => "Syntax",
             PgCause::NoSuccessor => "NoSuccessor",

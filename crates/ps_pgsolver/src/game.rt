@@ -1,20 +1,21 @@
 //! The game of the nodes of a text.
 
-ghost use Rattle.std.specs.Prelude.{◌≡◌, ◌+◌, IfOk, IfErr, OnOk, length};
+ghost use Rattle.std.specs.Prelude.{◌≡◌, ◌<◌, ◌++◌, ◌∷◌, [], IfOk, IfErr, OnOk, Contains, map};
 ghost use Rattle.std.specs.List.{All};
-ghost use Rattle.ps_game.specs.Games.{vertex_count};
-ghost use Rattle.ps_pgsolver.specs.Causes.{StandsWithin};
-ghost use Rattle.ps_pgsolver.specs.Nodes.{IsNode};
+ghost use Rattle.ps_pgsolver.specs.GamesOf.{game_of, named_game_of, place_of, vertex_made};
+ghost use Rattle.ps_pgsolver.specs.Nodes.{IsNode, KnowsAll, ids_of};
 
-use crate::fault::{PgCause, PgFault};
+use crate::fault::PgFault;
 use crate::ids::Ids;
 use crate::node::{Node, Nodes};
 use ps_game::{Game, GameBuilder, GameFault, NamedGame};
-use std::alloc::Global;
+use std::alloc::{AllocError, Global};
 
-/// The game of the nodes, with their ids and names. Vertices are numbered in the order of the nodes.
+/// The game of the nodes, with their ids and names.
 pub fn named_game(alloc: Global, nodes: Nodes) -> Result<NamedGame, PgFault>
-    ensures within { IfErr result (StandsWithin 0) }
+    requires { KnowsAll (ids_of nodes) nodes }
+    ensures value { IfOk result (λ named. named ≡ named_game_of nodes) }
+    ensures memory { IfErr result (λ fault. fault ≡ PgFault.OutOfMemory) }
 {
     let game = game(alloc, nodes.entries(), nodes.ids())?;
     let (ids, names) = nodes.into_labels(alloc)?;
@@ -23,38 +24,50 @@ pub fn named_game(alloc: Global, nodes: Nodes) -> Result<NamedGame, PgFault>
 
 /// The game without ids and names.
 fn game(alloc: Global, nodes: &[Node], ids: &Ids) -> Result<Game, PgFault>
-    requires { All IsNode nodes.now }
-    ensures count { IfOk result (λ game. vertex_count game ≡ length nodes.now) }
-    ensures within { IfErr result (StandsWithin 0) }
+    requires each { All IsNode nodes.now }
+    requires table { ids.now ≡ ids_of nodes.now }
+    requires known { KnowsAll ids.now nodes.now }
+    ensures value { IfOk result (λ game. game ≡ game_of nodes.now) }
+    ensures memory { IfErr result (λ fault. fault ≡ PgFault.OutOfMemory) }
 {
     let mut builder = GameBuilder::new(alloc);
     for node in nodes {
-        vertex(&mut builder, node, ids)?;
+        vertex(
+            &mut builder,
+            node.owner,
+            node.priority,
+            &node.successors,
+            ids,
+        )?;
     }
     match builder.finish() {
         Ok(game) => Ok(game),
         Err(GameFault::OutOfMemory) => Err(PgFault::OutOfMemory),
-        Err(_) => Err(PgFault::Text {
-            cause: PgCause::UnknownSuccessor,
-            offset: 0,
-        }),
+        Err(GameFault::NoSuccessor { vertex: _ }) => unreachable!(),
+        Err(
+            GameFault::UnknownSuccessor {
+                vertex: _,
+                successor: _,
+            },
+        ) => unreachable!(),
     }
 }
 
-/// Adds the vertex of a node, with its edges.
-fn vertex(builder: &mut GameBuilder, node: &Node, ids: &Ids) -> Result<(), PgFault>
-    requires { IsNode node.now }
-    ensures count { OnOk result (vertex_count builder.new ≡ vertex_count builder.old + 1) }
-    ensures within { IfErr result (StandsWithin 0) }
+/// Adds a vertex, with an edge to the vertex of each of these ids.
+fn vertex(
+    builder: &mut GameBuilder,
+    owner: u8,
+    priority: u64,
+    successors: &[u64],
+    ids: &Ids,
+) -> Result<(), AllocError>
+    requires owner { owner < 2 }
+    requires known { All (λ id. Contains ids.now id) successors.now }
+    ensures { OnOk result (builder.new ≡ builder.old ++ vertex_made owner priority (map (place_of ids.now) successors.now) ∷ []) }
 {
-    let vertex = builder.vertex(node.owner, node.priority)?;
-    for successor in &node.successors {
-        let Some(place) = ids.place(*successor) else {
-            return Err(PgFault::Text {
-                cause: PgCause::UnknownSuccessor,
-                offset: 0,
-            });
-        };
+    let vertex = builder.vertex(owner, priority)?;
+    for id in successors {
+        let place = ids.place(*id);
         builder.edge(vertex, place)?;
     }
     Ok(())

@@ -1,8 +1,8 @@
 //! The ids of a game text.
 
-ghost use Rattle.std.specs.Prelude.{ℕ, List, [], ◌∷◌, ◌++◌, ◌≡◌, ◌==◌, ◌<◌, ◌↔◌, IsTrue, Contains, IfSome, IfNone, OnOk, OnErr, length, position};
-ghost use Rattle.std.specs.List.{list_any};
-ghost use Rattle.ps_pgsolver.specs.Nodes.{IsDistinct};
+ghost use Rattle.std.specs.Prelude.{ℕ, List, [], ◌∷◌, ◌++◌, ◌≡◌, ◌==◌, ◌<◌, Contains, OnOk, OnErr, length};
+ghost use Rattle.ps_pgsolver.specs.GamesOf.{place_of};
+ghost use Rattle.ps_pgsolver.specs.Nodes.{is_member};
 
 use indexmap::IndexSet;
 use std::alloc::{AllocFailed, Global};
@@ -32,16 +32,18 @@ impl Ids {
 
     /// Whether the id is one of them.
     pub fn has(&self, id: u64) -> bool
-        ensures { IsTrue result ↔ Contains self.now id }
+        ensures { result ≡ is_member self.now id }
     {
         self.table.contains(&id)
     }
 
-    /// The place of the id among them.
-    pub fn place(&self, id: u64) -> Option<usize>
-        ensures { result ≡ position (λ other. other == id) self.now }
+    /// The place of one of them.
+    pub fn place(&self, id: u64) -> usize
+        requires { Contains self.now id }
+        ensures value { result ≡ place_of self.now id }
+        ensures within { result < length self.now }
     {
-        self.table.get_index_of(&id)
+        self.table.get_index_of(&id).unwrap()
     }
 
     /// Adds an id that is none of them.

@@ -1,7 +1,7 @@
 //! Nodes of game texts.
 
-ghost use Rattle.std.specs.Prelude.{◌≡◌, ◌++◌, ◌∷◌, ◌<◌, ◌↔◌, [], List, OnOk, OnErr, IsTrue, IfOk, Contains, length, map};
-ghost use Rattle.ps_pgsolver.specs.Nodes.{NodeData, IsNode, AreNodes, HasTable, ids_of, names_of};
+ghost use Rattle.std.specs.Prelude.{◌≡◌, ◌++◌, ◌∷◌, ◌<◌, [], List, OnOk, OnErr, IfOk, Contains, length, map};
+ghost use Rattle.ps_pgsolver.specs.Nodes.{NodeData, IsNode, AreNodes, HasTable, ids_of, names_of, is_member};
 ghost use Rattle.ps_game.specs.Names.{name_bytes};
 
 use crate::ids::Ids;
@@ -67,7 +67,7 @@ impl Nodes {
 
     /// Whether a node has the id.
     pub fn has(&self, id: u64) -> bool
-        ensures { IsTrue result ↔ Contains (ids_of self.now) id }
+        ensures { result ≡ is_member (ids_of self.now) id }
     {
         self.ids.has(id)
     }

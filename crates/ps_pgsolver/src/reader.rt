@@ -1,13 +1,19 @@
 //! The reading of a game text.
 
-ghost use Rattle.std.specs.Prelude.{◌≡◌, ◌<◌, IfErr, IfOk, Contains, length, vec_len};
+ghost use Rattle.std.specs.Prelude.{◌≡◌, ◌≤◌, ◌<◌, Some, None, IfOk, vec_len, option_copied, nat_lt, if◌then◌else◌, IfErr, length};
+ghost use Rattle.std.specs.List.{AllPass, Contains};
+ghost use Rattle.ps_text.specs.Answers.{next_of, offset_of};
 ghost use Rattle.ps_game.specs.Games.{HasNoQuote};
 ghost use Rattle.ps_game.specs.Names.{name_bytes};
-ghost use Rattle.std.specs.List.{AllPass};
+ghost use Rattle.ps_text.specs.Digits.{decimal_value};
+ghost use Rattle.ps_pgsolver.specs.Answered.{Reads, TextAnswers, number_answer, id_answer, owner_answer, successor_answer, first_answer, comma_answer, semicolon_answer, end_answer};
 ghost use Rattle.ps_pgsolver.specs.Bytes.{is_digit};
+ghost use Rattle.ps_pgsolver.specs.GameTexts as parts;
 ghost use Rattle.ps_pgsolver.specs.Causes.{StandsWithin};
-ghost use Rattle.ps_pgsolver.specs.Heads.{IsPlain};
-ghost use Rattle.ps_pgsolver.specs.Nodes.{ids_of};
+ghost use Rattle.ps_pgsolver.specs.Heads.{IsPlain, sign_of};
+ghost use Rattle.ps_pgsolver.specs.Lexer.{stream_of};
+ghost use Rattle.ps_pgsolver.specs.Reading.{Answers};
+ghost use Rattle.ps_pgsolver.specs.Nodes.{IsNewNode, ids_of};
 
 use crate::fault::{PgCause, PgFault};
 use crate::game::named_game;
@@ -24,6 +30,7 @@ const TEXT_LIMIT: usize = 16_777_216;
 ///
 /// A successor may stand before its node, so the text is read twice: the first reading finds the ids.
 pub fn read(alloc: Global, text: &[u8]) -> Result<NamedGame, PgFault>
+    ensures answer { Answers text.now result }
     ensures within { IfErr result (StandsWithin (length text.now)) }
 {
     if text.len() > TEXT_LIMIT {
@@ -32,8 +39,8 @@ pub fn read(alloc: Global, text: &[u8]) -> Result<NamedGame, PgFault>
             offset: TEXT_LIMIT,
         });
     }
-    let first = nodes(alloc, text, None)?;
-    let second = nodes(alloc, text, Some(first.ids()))?;
+    let first = game_text(alloc, text, None)?;
+    let second = game_text(alloc, text, Some(first.ids()))?;
     named_game(alloc, second)
 }
 
@@ -47,47 +54,72 @@ fn fault(cause: PgCause, token: Token) -> PgFault
     }
 }
 
-/// Reads the nodes of a whole text. Where the ids of the nodes are known, each successor must be one of them.
-fn nodes(alloc: Global, text: &[u8], known: Option<&Ids>) -> Result<Nodes, PgFault>
-    ensures within { IfErr result (StandsWithin (length text.now)) }
+/// Reads a whole text. Where the ids of its nodes are known, each successor must be one of them.
+fn game_text(alloc: Global, text: &[u8], known: Option<&Ids>) -> Result<Nodes, PgFault>
+    ensures { TextAnswers (option_copied known.entry) (stream_of text.now) result }
 {
     let mut tokens = Tokens::new(text);
-    setting(&mut tokens, b"parity")?;
-    setting(&mut tokens, b"start")?;
-    let mut nodes = Nodes::new(alloc);
-    node(alloc, &mut tokens, known, &mut nodes)?;
-    'more: for _ in 0..text.len() {
-        if !tokens.is_at_number() {
-            break;
-        }
-        node(alloc, &mut tokens, known, &mut nodes)?;
-    }
+    let _parity = setting(&mut tokens, b"parity")?;
+    let _start = setting(&mut tokens, b"start")?;
+    let nodes = entries(alloc, &mut tokens, known)?;
     finish(&tokens)?;
     Ok(nodes)
 }
 
-/// Reads a line such as `parity 7;`, if it stands here. Its number has no meaning.
+/// Reads a line such as `parity 7;`, if it stands here.
 fn setting(tokens: &mut Tokens, word: &[u8]) -> Result<(), PgFault>
-    ensures within { IfErr result (StandsWithin tokens.old.end) }
-    ensures end { tokens.new.end ≡ tokens.old.end }
+    ensures { Reads (λ u. u) (parts.setting word.now) tokens.old result tokens.new }
 {
     if tokens.is_at_word(word) {
         tokens.next();
-        number(tokens)?;
-        semicolon(tokens)?;
+        value_line(tokens)?;
     }
     Ok(())
 }
 
+/// Reads a number, which has no meaning, and a semicolon.
+fn value_line(tokens: &mut Tokens) -> Result<(), PgFault>
+    ensures { Reads (λ u. u) parts.value_line tokens.old result tokens.new }
+{
+    number(tokens)?;
+    semicolon(tokens)
+}
+
+/// Reads the nodes.
+fn entries(alloc: Global, tokens: &mut Tokens, known: Option<&Ids>) -> Result<Nodes, PgFault>
+    ensures { Reads (λ nodes. nodes) (parts.entries (option_copied known.entry)) tokens.old result tokens.new }
+{
+    let mut nodes = Nodes::new(alloc);
+    entry(alloc, tokens, known, &mut nodes)?;
+    'more: while tokens.is_at_number() {
+        entry(alloc, tokens, known, &mut nodes)?;
+    }
+    Ok(nodes)
+}
+
 /// Reads a node behind the nodes that were read.
-fn node(
+fn entry(
     alloc: Global,
     tokens: &mut Tokens,
     known: Option<&Ids>,
     nodes: &mut Nodes,
 ) -> Result<(), PgFault>
-    ensures within { IfErr result (StandsWithin tokens.old.end) }
-    ensures end { tokens.new.end ≡ tokens.old.end }
+    ensures { Reads (λ _. nodes.new) (parts.entry (option_copied known.entry) nodes.old) tokens.old result tokens.new }
+{
+    let node = node(alloc, tokens, known, nodes)?;
+    nodes.push(node)?;
+    Ok(())
+}
+
+/// Reads a node, of which no other has the id.
+fn node(
+    alloc: Global,
+    tokens: &mut Tokens,
+    known: Option<&Ids>,
+    nodes: &Nodes,
+) -> Result<Node, PgFault>
+    ensures part { Reads (λ node. node) (parts.node (option_copied known.entry) (ids_of nodes.now)) tokens.old result tokens.new }
+    ensures node { IfOk result (λ node. IsNewNode (ids_of nodes.now) node) }
 {
     let id = new_id(tokens, nodes)?;
     let priority = number(tokens)?;
@@ -95,23 +127,124 @@ fn node(
     let successors = successors(alloc, tokens, known)?;
     let name = name(alloc, tokens)?;
     semicolon(tokens)?;
-    nodes.push(Node {
+    Ok(Node {
         id,
         priority,
         owner,
         successors,
         name,
-    })?;
-    Ok(())
+    })
 }
 
 /// Reads an id that no node has.
 fn new_id(tokens: &mut Tokens, nodes: &Nodes) -> Result<u64, PgFault>
-    ensures within { IfErr result (StandsWithin tokens.old.end) }
+    ensures part { Reads (λ id. id) (parts.new_id (ids_of nodes.now)) tokens.old result tokens.new }
     ensures new { IfOk result (λ id. ¬ Contains (ids_of nodes.now) id) }
-    ensures end { tokens.new.end ≡ tokens.old.end }
 {
     let token = tokens.next();
+    id_of(token, nodes)
+}
+
+/// Reads a number.
+fn number(tokens: &mut Tokens) -> Result<u64, PgFault>
+    ensures { Reads (λ n. n) parts.number tokens.old result tokens.new }
+{
+    number_of(tokens.next())
+}
+
+/// Reads an owner.
+fn owner(tokens: &mut Tokens) -> Result<u8, PgFault>
+    ensures part { Reads (λ n. n) parts.owner tokens.old result tokens.new }
+    ensures player { IfOk result (λ owner. owner < 2) }
+{
+    owner_of(tokens.next())
+}
+
+/// Reads a list of successors.
+fn successors(alloc: Global, tokens: &mut Tokens, known: Option<&Ids>) -> Result<Vec<u64>, PgFault>
+    ensures part { Reads (λ list. list.items) (parts.successors (option_copied known.entry)) tokens.old result tokens.new }
+    ensures some { IfOk result (λ list. 0 < vec_len list) }
+{
+    let mut list = Vec::new(alloc);
+    list.push(first_successor(tokens, known)?)?;
+    'more: while tokens.is_at_comma() {
+        more_successor(tokens, known, &mut list)?;
+    }
+    Ok(list)
+}
+
+/// Reads a comma and one more successor.
+fn more_successor(
+    tokens: &mut Tokens,
+    known: Option<&Ids>,
+    list: &mut Vec<u64>,
+) -> Result<(), PgFault>
+    ensures part { Reads (λ _. list.new.items) (parts.more_successor (option_copied known.entry) list.old.items) tokens.old result tokens.new }
+    ensures longer { vec_len list.old ≤ vec_len list.new }
+{
+    comma(tokens)?;
+    let id = successor(tokens, known)?;
+    list.push(id)?;
+    Ok(())
+}
+
+/// Reads the first successor of a node, which a node can't do without.
+fn first_successor(tokens: &mut Tokens, known: Option<&Ids>) -> Result<u64, PgFault>
+    ensures { Reads (λ n. n) (parts.first_successor (option_copied known.entry)) tokens.old result tokens.new }
+{
+    first_of(tokens.next(), known)
+}
+
+/// Reads a successor.
+fn successor(tokens: &mut Tokens, known: Option<&Ids>) -> Result<u64, PgFault>
+    ensures { Reads (λ n. n) (parts.successor (option_copied known.entry)) tokens.old result tokens.new }
+{
+    successor_of(tokens.next(), known)
+}
+
+/// Reads a name, if one stands here.
+fn name(alloc: Global, tokens: &mut Tokens) -> Result<Option<Vec<u8>>, PgFault>
+    ensures part { Reads name_bytes parts.name tokens.old result tokens.new }
+    ensures plain { IfOk result (λ name. HasNoQuote (name_bytes name)) }
+{
+    let Some(bytes) = tokens.next_name() else {
+        return Ok(None);
+    };
+    tokens.next();
+    Ok(Some(bytes.to_vec(alloc)?))
+}
+
+/// Reads a comma.
+fn comma(tokens: &mut Tokens) -> Result<(), PgFault>
+    ensures { Reads (λ u. u) parts.comma tokens.old result tokens.new }
+{
+    comma_of(tokens.next())
+}
+
+/// Reads a semicolon.
+fn semicolon(tokens: &mut Tokens) -> Result<(), PgFault>
+    ensures { Reads (λ u. u) parts.semicolon tokens.old result tokens.new }
+{
+    semicolon_of(tokens.next())
+}
+
+/// Nothing more stands in the text.
+fn finish(tokens: &Tokens) -> Result<(), PgFault>
+    ensures { result ≡ end_answer (next_of tokens.now) (offset_of tokens.now.pieces tokens.now.end) }
+{
+    let token = tokens.peek();
+    match token.kind {
+        Kind::End => Ok(()),
+        _ => Err(fault(PgCause::Syntax, token)),
+    }
+}
+
+/// The new id that a token is.
+fn id_of(token: Token, nodes: &Nodes) -> Result<u64, PgFault>
+    requires { IsPlain token.kind }
+    ensures answer { result ≡ id_answer (ids_of nodes.now) (sign_of token.entry.kind) token.entry.start }
+    ensures new { IfOk result (λ id. ¬ Contains (ids_of nodes.now) id) }
+{
     let id = number_of(token)?;
     if nodes.has(id) {
         return Err(fault(PgCause::NodeTwice, token));
@@ -119,21 +252,11 @@ fn new_id(tokens: &mut Tokens, nodes: &Nodes) -> Result<u64, PgFault>
     Ok(id)
 }
 
-/// Reads a number.
-fn number(tokens: &mut Tokens) -> Result<u64, PgFault>
-    ensures within { IfErr result (StandsWithin tokens.old.end) }
-    ensures end { tokens.new.end ≡ tokens.old.end }
+/// The owner that a token is.
+fn owner_of(token: Token) -> Result<u8, PgFault>
+    requires { IsPlain token.kind }
+    ensures { result ≡ owner_answer (sign_of token.entry.kind) token.entry.start }
 {
-    number_of(tokens.next())
-}
-
-/// Reads an owner.
-fn owner(tokens: &mut Tokens) -> Result<u8, PgFault>
-    ensures within { IfErr result (StandsWithin tokens.old.end) }
-    ensures player { IfOk result (λ owner. owner < 2) }
-    ensures end { tokens.new.end ≡ tokens.old.end }
-{
-    let token = tokens.next();
     match number_of(token)? {
         0 => Ok(0),
         1 => Ok(1),
@@ -141,50 +264,10 @@ fn owner(tokens: &mut Tokens) -> Result<u8, PgFault>
     }
 }
 
-/// Reads a list of successors.
-fn successors(alloc: Global, tokens: &mut Tokens, known: Option<&Ids>) -> Result<Vec<u64>, PgFault>
-    ensures within { IfErr result (StandsWithin tokens.old.end) }
-    ensures some { IfOk result (λ successors. 0 < vec_len successors) }
-    ensures end { tokens.new.end ≡ tokens.old.end }
-{
-    let mut successors = Vec::new(alloc);
-    successors.push(first_successor(tokens, known)?)?;
-    'more: for _ in 0..usize::MAX {
-        if !tokens.is_at_comma() {
-            break;
-        }
-        tokens.next();
-        successors.push(successor(tokens, known)?)?;
-    }
-    Ok(successors)
-}
-
-/// Reads the first successor of a node, which a node can't do without.
-fn first_successor(tokens: &mut Tokens, known: Option<&Ids>) -> Result<u64, PgFault>
-    ensures within { IfErr result (StandsWithin tokens.old.end) }
-    ensures end { tokens.new.end ≡ tokens.old.end }
-{
-    let token = tokens.next();
-    match token.kind {
-        Kind::Semicolon => Err(fault(PgCause::NoSuccessor, token)),
-        Kind::Name(_) => Err(fault(PgCause::NoSuccessor, token)),
-        Kind::OpenName => Err(fault(PgCause::NoSuccessor, token)),
-        _ => successor_of(token, known),
-    }
-}
-
-/// Reads a successor.
-fn successor(tokens: &mut Tokens, known: Option<&Ids>) -> Result<u64, PgFault>
-    ensures within { IfErr result (StandsWithin tokens.old.end) }
-    ensures end { tokens.new.end ≡ tokens.old.end }
-{
-    successor_of(tokens.next(), known)
-}
-
 /// The successor that a token is.
 fn successor_of(token: Token, known: Option<&Ids>) -> Result<u64, PgFault>
     requires { IsPlain token.kind }
-    ensures { IfErr result (StandsWithin token.entry.start) }
+    ensures { result ≡ successor_answer (option_copied known.entry) (sign_of token.entry.kind) token.entry.start }
 {
     let id = number_of(token)?;
     if let Some(ids) = known
@@ -195,38 +278,35 @@ fn successor_of(token: Token, known: Option<&Ids>) -> Result<u64, PgFault>
     Ok(id)
 }
 
-/// Reads a name, if one stands here.
-fn name(alloc: Global, tokens: &mut Tokens) -> Result<Option<Vec<u8>>, PgFault>
-    ensures within { IfErr result (StandsWithin tokens.old.end) }
-    ensures plain { IfOk result (λ name. HasNoQuote (name_bytes name)) }
-    ensures end { tokens.new.end ≡ tokens.old.end }
+/// The successor that a token is, where a node's first one is wanted.
+fn first_of(token: Token, known: Option<&Ids>) -> Result<u64, PgFault>
+    requires { IsPlain token.kind }
+    ensures { result ≡ first_answer (option_copied known.entry) (sign_of token.entry.kind) token.entry.start }
 {
-    let Kind::Name(bytes) = tokens.peek().kind else {
-        return Ok(None);
-    };
-    tokens.next();
-    Ok(Some(bytes.to_vec(alloc)?))
+    match token.kind {
+        Kind::Semicolon => Err(fault(PgCause::NoSuccessor, token)),
+        Kind::Name(_) => Err(fault(PgCause::NoSuccessor, token)),
+        Kind::OpenName => Err(fault(PgCause::NoSuccessor, token)),
+        _ => successor_of(token, known),
+    }
 }
 
-/// Reads a semicolon.
-fn semicolon(tokens: &mut Tokens) -> Result<(), PgFault>
-    ensures within { IfErr result (StandsWithin tokens.old.end) }
-    ensures end { tokens.new.end ≡ tokens.old.end }
+/// The token is a comma.
+fn comma_of(token: Token) -> Result<(), PgFault>
+    ensures { result ≡ comma_answer (sign_of token.entry.kind) token.entry.start }
 {
-    let token = tokens.next();
     match token.kind {
-        Kind::Semicolon => Ok(()),
+        Kind::Comma => Ok(()),
         _ => Err(fault(PgCause::Syntax, token)),
     }
 }
 
-/// Nothing more stands in the text.
-fn finish(tokens: &Tokens) -> Result<(), PgFault>
-    ensures within { IfErr result (StandsWithin tokens.now.end) }
+/// The token is a semicolon.
+fn semicolon_of(token: Token) -> Result<(), PgFault>
+    ensures { result ≡ semicolon_answer (sign_of token.entry.kind) token.entry.start }
 {
-    let token = tokens.peek();
     match token.kind {
-        Kind::End => Ok(()),
+        Kind::Semicolon => Ok(()),
         _ => Err(fault(PgCause::Syntax, token)),
     }
 }
@@ -234,17 +314,21 @@ fn finish(tokens: &Tokens) -> Result<(), PgFault>
 /// The number that a token is.
 fn number_of(token: Token) -> Result<u64, PgFault>
     requires { IsPlain token.kind }
-    ensures { IfErr result (StandsWithin token.entry.start) }
+    ensures { result ≡ number_answer (sign_of token.entry.kind) token.entry.start }
 {
     let Kind::Number(digits) = token.kind else {
         return Err(fault(PgCause::Syntax, token));
     };
-    value(digits).ok_or(fault(PgCause::Number, token))
+    match value(digits) {
+        Some(value) => Ok(value),
+        None => Err(fault(PgCause::Number, token)),
+    }
 }
 
 /// The value of a run of digits, if it is below 2 to the 64.
 fn value(digits: &[u8]) -> Option<u64>
     requires { AllPass is_digit digits.now }
+    ensures { result ≡ (if nat_lt (decimal_value digits.now) parts.too_large then Some (decimal_value digits.now) else None) }
 {
     let mut value = 0u64;
     for digit in digits {

@@ -81,8 +81,11 @@ impl<'a> Model for Tokens<'a> {
 }
 
 impl<'a> Tokens<'a> {
-    ghost use Rattle.std.specs.Prelude.{◌↔◌, IsTrue};
-    ghost use Rattle.ps_pgsolver.specs.Heads.{IsHead, IsPlain, tail, next_sign, is_number, is_comma};
+    ghost use Rattle.std.specs.Prelude.{◌↔◌, IsTrue, IfSome, Some, option_copied};
+    ghost use Rattle.ps_text.specs.Answers.{next_of};
+    ghost use Rattle.ps_text.specs.Readers.{tail};
+    ghost use Rattle.ps_pgsolver.specs.Heads.{IsHead, is_number, is_comma, name_of};
+    ghost use Rattle.ps_pgsolver.specs.Bytes.{is_inner};
     ghost use Rattle.ps_pgsolver.specs.Signs.{Word};
 
     /// The tokens of a text.
@@ -120,7 +123,7 @@ impl<'a> Tokens<'a> {
 
     /// Whether a number comes next.
     pub fn is_at_number(&self) -> bool
-        ensures { result ≡ is_number (next_sign self.now) }
+        ensures { result ≡ is_number (next_of self.now) }
     {
         match self.peek().kind {
             Kind::Number(_) => true,
@@ -130,7 +133,7 @@ impl<'a> Tokens<'a> {
 
     /// Whether a comma comes next.
     pub fn is_at_comma(&self) -> bool
-        ensures { result ≡ is_comma (next_sign self.now) }
+        ensures { result ≡ is_comma (next_of self.now) }
     {
         match self.peek().kind {
             Kind::Comma => true,
@@ -138,9 +141,20 @@ impl<'a> Tokens<'a> {
         }
     }
 
+    /// The name that comes next, if one does.
+    pub fn next_name(&self) -> Option<&'a [u8]>
+        ensures name { option_copied result ≡ name_of (next_of self.now) }
+        ensures plain { IfSome result (λ inner. AllPass is_inner inner.now) }
+    {
+        match self.peek().kind {
+            Kind::Name(inner) => Some(inner),
+            _ => None,
+        }
+    }
+
     /// Whether this word comes next.
     pub fn is_at_word(&self, word: &[u8]) -> bool
-        ensures { IsTrue result ↔ (next_sign self.now ≡ Some (Word word.now)) }
+        ensures { IsTrue result ↔ (next_of self.now ≡ Some (Word word.now)) }
     {
         match self.peek().kind {
             Kind::Word(letters) => letters == word,

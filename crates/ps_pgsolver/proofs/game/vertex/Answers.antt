@@ -1,11 +1,19 @@
-use Rattle.ps_pgsolver.proofs.GameLemmas.{made, stays_made, count_made, count_stays}
+use Rattle.std.proofs.Common.{[], ◌∷◌, ◌++◌, map, take, ap, ◌∙◌}
+use Rattle.ps_pgsolver.specs.GamesOf.{place_of, vertex_made}
+use Rattle.ps_pgsolver.proofs.GameLemmas.{edge_made, places_more, vertex_made-within}
 use Rattle.ps_pgsolver.proofs.game.vertex.Goals as goal
 
-pub loop-successor-init : goal.loop-successor-init
-loop-successor-init c = (made _ _ _ _ _ c.in_ok-vertex.ensures.number c.in_ok-vertex.ensures.ok, count_made _ _ _ _ c.in_ok-vertex.ensures.ok)
+pub loop-id-init : goal.loop-id-init
+loop-id-init c = (c.in_ok-vertex.ensures.ok, c.in_ok-vertex.ensures.number)
 
-pub loop-successor-preserved : goal.loop-successor-preserved
-loop-successor-preserved c = (
-  stays_made _ _ _ _ _ c.loop-successor.invariant.0 c.in_ok-edge.ensures.ok,
-  count_stays _ _ _ _ _ c.loop-successor.invariant.1 c.in_ok-edge.ensures.ok,
-)
+pub edge-requires : goal.edge-requires
+edge-requires c = vertex_made-within _ _ _ _ c.loop-id.invariant.1 c.loop-id.invariant.0
+
+pub loop-id-preserved : goal.loop-id-preserved
+loop-id-preserved c =
+    let old = c.args.builder.now in (
+      edge_made old _ _ _ _ _ _ _ c.loop-id.invariant.0 c.loop-id.invariant.1 c.in_ok-edge.ensures.ok
+          ∙ ap (λ w. old ++ vertex_made c.args.owner c.args.priority (map (place_of c.args.ids.now) (take c.loop-id.id-index c.args.successors.now) ++ w ∷ []) ∷ []) c.place-place.ensures.value
+          ∙ ap (λ ps. old ++ vertex_made c.args.owner c.args.priority ps ∷ []) (places_more c.args.ids.now c.args.successors.now c.loop-id.id-index c.loop-id-test.true),
+      c.loop-id.invariant.1,
+    )

@@ -1,0 +1,457 @@
+-- The laws of the grammar's parts, and how they are joined.
+use Rattle.std.proofs.Common.{◌≡◌, ℕ, true, false, cond, List, [], ◌∷◌, ◌++◌, Option, None, Some, refl, sym, ap, inl, inr, ⊎_elim, ◌∙◌, arith}
+use Rattle.std.specs.Str.{bytes_eq}
+use Rattle.std.proofs.lemmas.Slice.Eq.{bytes_eq-Decides}
+use Rattle.std.proofs.lemmas.Bool.{cases_Bool}
+use Rattle.std.specs.Prelude.{codes}
+use Rattle.ps_text.specs.Parts.{Part, one, give, then_by, many, mapped, NoBad}
+use Rattle.ps_text.proofs.Laws.{Laws, Joint, Nothing, Or, When, Within, Apart, weaker}
+use Rattle.ps_text.proofs.Joined.{joint}
+use Rattle.ps_text.proofs.Simple.{Taken, BadSign, none_is_some, laws_one, laws_give, laws_mapped, laws_then}
+use Rattle.ps_text.proofs.Covered.{laws_either}
+use Rattle.ps_text.proofs.Repeated.{laws_many}
+use Rattle.ps_text.proofs.Whole.{Own}
+use Rattle.ps_pgsolver.specs.GameTexts.{pg_causes, number_in, comma_in, semicolon_in, name_in, keyword_in, BadNumber, BadId, BadOwner, BadSuccessor, BadFirst, number, new_id, owner, successor, first_successor, comma, semicolon, more_successor, successors, name, node, entry, entries, keyword, value_line, setting, game}
+use Rattle.ps_pgsolver.specs.Nodes.{NodeData, ids_of}
+use Rattle.ps_pgsolver.specs.Signs.{Sign, Number, Word, Name, Comma, Semicolon, OpenName, Wrong}
+use Rattle.ps_pgsolver.specs.declared.fault.PgCause.{PgCause}
+
+-- which sign it is, without its value
+unfoldable pub kind_of : Sign → ℕ
+kind_of (Number x) = 0
+kind_of (Word x) = 1
+kind_of (Name x) = 2
+kind_of Comma = 3
+kind_of Semicolon = 4
+kind_of OpenName = 5
+kind_of Wrong = 6
+
+abbrev pub IsKind : ℕ → Sign → Type 0
+IsKind k t = kind_of t ≡ k
+
+abbrev pub Anything : Sign → Type 0
+Anything t = Unit {0}
+
+abbrev pub Odd : Sign → Type 0
+Odd = Own pg_causes
+
+no_odd : (A : Sign → Type 0) → Apart A Odd
+no_odd A t h o = none_is_some o.0 o.1
+
+nothing_apart : (A : Sign → Type 0) → Apart Nothing A
+nothing_apart A t h k = h
+
+kinds_apart : (i j : ℕ) → (i ≡ j → ⊥) → Apart (IsKind i) (IsKind j)
+kinds_apart i j d t h k = d (sym h ∙ k)
+
+same : (A : Sign → Type 0) → Within A A
+same A t h = h
+
+first_number : Within (Or (Taken number_in) (BadSign {F = PgCause} (BadNumber))) (IsKind 0)
+unfolding kind_of
+first_number (Number x) h = refl
+first_number (Word x) (inl h) = absurd (none_is_some h.0 h.1)
+first_number (Word x) (inr h) = absurd h.1
+first_number (Name x) (inl h) = absurd (none_is_some h.0 h.1)
+first_number (Name x) (inr h) = absurd h.1
+first_number Comma (inl h) = absurd (none_is_some h.0 h.1)
+first_number Comma (inr h) = absurd h.1
+first_number Semicolon (inl h) = absurd (none_is_some h.0 h.1)
+first_number Semicolon (inr h) = absurd h.1
+first_number OpenName (inl h) = absurd (none_is_some h.0 h.1)
+first_number OpenName (inr h) = absurd h.1
+first_number Wrong (inl h) = absurd (none_is_some h.0 h.1)
+first_number Wrong (inr h) = absurd h.1
+
+first_id : (ids : List ℕ) → Within (Or (Taken number_in) (BadSign {F = PgCause} (BadId ids))) (IsKind 0)
+unfolding kind_of
+first_id z (Number x) h = refl
+first_id z (Word x) (inl h) = absurd (none_is_some h.0 h.1)
+first_id z (Word x) (inr h) = absurd h.1
+first_id z (Name x) (inl h) = absurd (none_is_some h.0 h.1)
+first_id z (Name x) (inr h) = absurd h.1
+first_id z Comma (inl h) = absurd (none_is_some h.0 h.1)
+first_id z Comma (inr h) = absurd h.1
+first_id z Semicolon (inl h) = absurd (none_is_some h.0 h.1)
+first_id z Semicolon (inr h) = absurd h.1
+first_id z OpenName (inl h) = absurd (none_is_some h.0 h.1)
+first_id z OpenName (inr h) = absurd h.1
+first_id z Wrong (inl h) = absurd (none_is_some h.0 h.1)
+first_id z Wrong (inr h) = absurd h.1
+
+first_owner : Within (Or (Taken number_in) (BadSign {F = PgCause} (BadOwner))) (IsKind 0)
+unfolding kind_of
+first_owner (Number x) h = refl
+first_owner (Word x) (inl h) = absurd (none_is_some h.0 h.1)
+first_owner (Word x) (inr h) = absurd h.1
+first_owner (Name x) (inl h) = absurd (none_is_some h.0 h.1)
+first_owner (Name x) (inr h) = absurd h.1
+first_owner Comma (inl h) = absurd (none_is_some h.0 h.1)
+first_owner Comma (inr h) = absurd h.1
+first_owner Semicolon (inl h) = absurd (none_is_some h.0 h.1)
+first_owner Semicolon (inr h) = absurd h.1
+first_owner OpenName (inl h) = absurd (none_is_some h.0 h.1)
+first_owner OpenName (inr h) = absurd h.1
+first_owner Wrong (inl h) = absurd (none_is_some h.0 h.1)
+first_owner Wrong (inr h) = absurd h.1
+
+first_more : (known : Option (List ℕ)) → Within (Or (Taken number_in) (BadSign {F = PgCause} (BadSuccessor known))) (IsKind 0)
+unfolding kind_of
+first_more z (Number x) h = refl
+first_more z (Word x) (inl h) = absurd (none_is_some h.0 h.1)
+first_more z (Word x) (inr h) = absurd h.1
+first_more z (Name x) (inl h) = absurd (none_is_some h.0 h.1)
+first_more z (Name x) (inr h) = absurd h.1
+first_more z Comma (inl h) = absurd (none_is_some h.0 h.1)
+first_more z Comma (inr h) = absurd h.1
+first_more z Semicolon (inl h) = absurd (none_is_some h.0 h.1)
+first_more z Semicolon (inr h) = absurd h.1
+first_more z OpenName (inl h) = absurd (none_is_some h.0 h.1)
+first_more z OpenName (inr h) = absurd h.1
+first_more z Wrong (inl h) = absurd (none_is_some h.0 h.1)
+first_more z Wrong (inr h) = absurd h.1
+
+first_comma : Within (Or (Taken comma_in) (BadSign {F = PgCause} (NoBad))) (IsKind 3)
+unfolding kind_of
+first_comma (Number x) (inl h) = absurd (none_is_some h.0 h.1)
+first_comma (Number x) (inr h) = absurd h.1
+first_comma (Word x) (inl h) = absurd (none_is_some h.0 h.1)
+first_comma (Word x) (inr h) = absurd h.1
+first_comma (Name x) (inl h) = absurd (none_is_some h.0 h.1)
+first_comma (Name x) (inr h) = absurd h.1
+first_comma Comma h = refl
+first_comma Semicolon (inl h) = absurd (none_is_some h.0 h.1)
+first_comma Semicolon (inr h) = absurd h.1
+first_comma OpenName (inl h) = absurd (none_is_some h.0 h.1)
+first_comma OpenName (inr h) = absurd h.1
+first_comma Wrong (inl h) = absurd (none_is_some h.0 h.1)
+first_comma Wrong (inr h) = absurd h.1
+
+first_semicolon : Within (Or (Taken semicolon_in) (BadSign {F = PgCause} (NoBad))) (IsKind 4)
+unfolding kind_of
+first_semicolon (Number x) (inl h) = absurd (none_is_some h.0 h.1)
+first_semicolon (Number x) (inr h) = absurd h.1
+first_semicolon (Word x) (inl h) = absurd (none_is_some h.0 h.1)
+first_semicolon (Word x) (inr h) = absurd h.1
+first_semicolon (Name x) (inl h) = absurd (none_is_some h.0 h.1)
+first_semicolon (Name x) (inr h) = absurd h.1
+first_semicolon Comma (inl h) = absurd (none_is_some h.0 h.1)
+first_semicolon Comma (inr h) = absurd h.1
+first_semicolon Semicolon h = refl
+first_semicolon OpenName (inl h) = absurd (none_is_some h.0 h.1)
+first_semicolon OpenName (inr h) = absurd h.1
+first_semicolon Wrong (inl h) = absurd (none_is_some h.0 h.1)
+first_semicolon Wrong (inr h) = absurd h.1
+
+first_name : Within (Or (Taken name_in) (BadSign {F = PgCause} (NoBad))) (IsKind 2)
+unfolding kind_of
+first_name (Number x) (inl h) = absurd (none_is_some h.0 h.1)
+first_name (Number x) (inr h) = absurd h.1
+first_name (Word x) (inl h) = absurd (none_is_some h.0 h.1)
+first_name (Word x) (inr h) = absurd h.1
+first_name (Name x) h = refl
+first_name Comma (inl h) = absurd (none_is_some h.0 h.1)
+first_name Comma (inr h) = absurd h.1
+first_name Semicolon (inl h) = absurd (none_is_some h.0 h.1)
+first_name Semicolon (inr h) = absurd h.1
+first_name OpenName (inl h) = absurd (none_is_some h.0 h.1)
+first_name OpenName (inr h) = absurd h.1
+first_name Wrong (inl h) = absurd (none_is_some h.0 h.1)
+first_name Wrong (inr h) = absurd h.1
+
+pub laws_number : Laws Odd number (IsKind 0) Nothing ⊥
+unfolding number
+laws_number = weaker (laws_one number_in BadNumber Odd (Number 0) 0 refl (no_odd _) (no_odd _)) first_number (same Nothing) (λ h. h)
+
+pub laws_id : (ids : List ℕ) → Laws Odd (new_id ids) (IsKind 0) Nothing ⊥
+unfolding new_id
+laws_id ids = weaker (laws_one number_in (BadId ids) Odd (Number 0) 0 refl (no_odd _) (no_odd _)) (first_id ids) (same Nothing) (λ h. h)
+
+pub laws_owner : Laws Odd owner (IsKind 0) Nothing ⊥
+unfolding owner
+laws_owner = weaker (laws_one number_in BadOwner Odd (Number 0) 0 refl (no_odd _) (no_odd _)) first_owner (same Nothing) (λ h. h)
+
+pub laws_successor : (known : Option (List ℕ)) → Laws Odd (successor known) (IsKind 0) Nothing ⊥
+unfolding successor
+laws_successor known = weaker (laws_one number_in (BadSuccessor known) Odd (Number 0) 0 refl (no_odd _) (no_odd _)) (first_more known) (same Nothing) (λ h. h)
+
+pub laws_first : (known : Option (List ℕ)) → Laws Odd (first_successor known) Anything Nothing ⊥
+unfolding first_successor
+laws_first known = weaker (laws_one number_in (BadFirst known) Odd (Number 0) 0 refl (no_odd _) (no_odd _)) (λ t h. tt) (same Nothing) (λ h. h)
+
+pub laws_comma : Laws Odd comma (IsKind 3) Nothing ⊥
+unfolding comma
+laws_comma = weaker (laws_one comma_in NoBad Odd Comma tt refl (no_odd _) (no_odd _)) first_comma (same Nothing) (λ h. h)
+
+pub laws_semicolon : Laws Odd semicolon (IsKind 4) Nothing ⊥
+unfolding semicolon
+laws_semicolon = weaker (laws_one semicolon_in NoBad Odd Semicolon tt refl (no_odd _) (no_odd _)) first_semicolon (same Nothing) (λ h. h)
+
+pub laws_one_name : Laws Odd (one {F = PgCause} name_in NoBad) (IsKind 2) Nothing ⊥
+laws_one_name = weaker (laws_one name_in NoBad Odd (Name []) (Some []) refl (no_odd _) (no_odd _)) first_name (same Nothing) (λ h. h)
+
+first_of_two : (A B : Sign → Type 0) (t : Sign) → Or A (When ⊥ B) t → A t
+first_of_two A B t (inl h) = h
+first_of_two A B t (inr h) = absurd h.0
+
+more_of_two : (A B : Sign → Type 0) (t : Sign) → Or A (When ⊥ B) t → A t
+more_of_two A B t (inl h) = h
+more_of_two A B t (inr h) = absurd h.0
+
+module _ (known : Option (List ℕ)) where
+  abbrev pub another : List ℕ → Part Sign (List ℕ) PgCause
+  another list = mapped (λ n. list ++ n ∷ []) (successor known)
+
+  laws_another : (list : List ℕ) → Laws Odd (another list) (IsKind 0) Nothing ⊥
+  laws_another list = laws_mapped (λ n. list ++ n ∷ []) (successor known) (laws_successor known)
+
+  pub joint_more : (list : List ℕ) → Joint comma (λ _. another list)
+  joint_more list = joint laws_comma (λ _. laws_another list) (nothing_apart _)
+
+  pub laws_more : (list : List ℕ) → Laws Odd (more_successor known list) (IsKind 3) Nothing ⊥
+  unfolding more_successor
+  laws_more list = weaker (laws_then laws_comma (λ _. laws_another list) (nothing_apart _)) (first_of_two _ _) (more_of_two _ _) (λ h. h.0)
+
+  abbrev pub all_more : ℕ → Part Sign (List ℕ) PgCause
+  all_more n = many (more_successor known) (n ∷ [])
+
+  or_nothing : (t : Sign) → Or Nothing (IsKind 3) t → IsKind 3 t
+  or_nothing t (inl h) = absurd h
+  or_nothing t (inr h) = h
+
+  laws_all_more : (n : ℕ) → Laws Odd (all_more n) (IsKind 3) (IsKind 3) (Unit {0})
+  laws_all_more n = weaker (laws_many (more_successor known) laws_more (nothing_apart _) (n ∷ [])) (same _) or_nothing (λ h. h)
+
+  pub joint_successors : Joint (first_successor known) all_more
+  joint_successors = joint (laws_first known) laws_all_more (nothing_apart _)
+
+  more_successors : (t : Sign) → Or (IsKind 3) (When (Unit {0}) Nothing) t → IsKind 3 t
+  more_successors t (inl h) = h
+  more_successors t (inr h) = absurd h.1
+
+  pub laws_successors : Laws Odd (successors known) Anything (IsKind 3) ⊥
+  unfolding successors
+  laws_successors = weaker (laws_then (laws_first known) laws_all_more (nothing_apart _)) (λ t h. tt) more_successors (λ h. h.0)
+
+more_name : (t : Sign) → Or (Or Nothing Nothing) (Or (When ⊥ Nothing) (When (Unit {0}) (IsKind 2))) t → IsKind 2 t
+more_name t (inl (inl h)) = absurd h
+more_name t (inl (inr h)) = absurd h
+more_name t (inr (inl h)) = absurd h.0
+more_name t (inr (inr h)) = h.1
+
+first_of_name : (t : Sign) → Or (IsKind 2) Nothing t → IsKind 2 t
+first_of_name t (inl h) = h
+first_of_name t (inr h) = absurd h
+
+pub laws_no_name : Laws Odd (give {T = Sign} {V = Option (List ℕ)} {F = PgCause} None) Nothing Nothing (Unit {0})
+laws_no_name = laws_give Odd None
+
+pub laws_name : Laws Odd name (IsKind 2) (IsKind 2) (Unit {0})
+unfolding name
+laws_name = weaker (laws_either laws_one_name laws_no_name (λ t h k. k) (λ h k. h)) first_of_name more_name (λ h. tt)
+
+-- ## The parts of a node, from the back
+
+abbrev pub NodeEnd : Sign → Type 0
+NodeEnd = Or (IsKind 2) (IsKind 4)
+
+module _ (known : Option (List ℕ)) (ids : List ℕ) where
+  abbrev pub node_end : ℕ → ℕ → ℕ → List ℕ → Option (List ℕ) → Part Sign NodeData PgCause
+  node_end id priority owner' list name' = mapped (λ _. record { id = id; priority = priority; owner = owner'; successors = list; name = name' }) semicolon
+
+  abbrev pub from_name : ℕ → ℕ → ℕ → List ℕ → Part Sign NodeData PgCause
+  from_name id priority owner' list = then_by name (node_end id priority owner' list)
+
+  abbrev pub from_successors : ℕ → ℕ → ℕ → Part Sign NodeData PgCause
+  from_successors id priority owner' = then_by (successors known) (from_name id priority owner')
+
+  abbrev pub from_owner : ℕ → ℕ → Part Sign NodeData PgCause
+  from_owner id priority = then_by owner (from_successors id priority)
+
+  abbrev pub from_priority : ℕ → Part Sign NodeData PgCause
+  from_priority id = then_by number (from_owner id)
+
+  laws_node_end : (id priority owner' : ℕ) (list : List ℕ) (name' : Option (List ℕ)) → Laws Odd (node_end id priority owner' list name') (IsKind 4) Nothing ⊥
+  laws_node_end id priority owner' list name' = laws_mapped _ semicolon laws_semicolon
+
+  name_ends : Apart (IsKind 2) (IsKind 4)
+  name_ends = kinds_apart 2 4 (λ e. omega (arith, e))
+
+  pub joint_name : (id priority owner' : ℕ) (list : List ℕ) → Joint name (node_end id priority owner' list)
+  joint_name id priority owner' list = joint laws_name (laws_node_end id priority owner' list) name_ends
+
+  first_from_name : (t : Sign) → Or (IsKind 2) (When (Unit {0}) (IsKind 4)) t → NodeEnd t
+  first_from_name t (inl h) = inl h
+  first_from_name t (inr h) = inr h.1
+
+  laws_from_name : (id priority owner' : ℕ) (list : List ℕ) → Laws Odd (from_name id priority owner' list) NodeEnd Nothing ⊥
+  laws_from_name id priority owner' list = weaker (laws_then laws_name (laws_node_end id priority owner' list) name_ends) first_from_name (more_of_two _ _) (λ h. h.1)
+
+  comma_ends : Apart (IsKind 3) NodeEnd
+  comma_ends t h (inl k) = kinds_apart 3 2 (λ e. omega (arith, e)) t h k
+  comma_ends t h (inr k) = kinds_apart 3 4 (λ e. omega (arith, e)) t h k
+
+  pub joint_list : (id priority owner' : ℕ) → Joint (successors known) (from_name id priority owner')
+  joint_list id priority owner' = joint (laws_successors known) (laws_from_name id priority owner') comma_ends
+
+  laws_from_successors : (id priority owner' : ℕ) → Laws Odd (from_successors id priority owner') Anything Nothing ⊥
+  laws_from_successors id priority owner' = weaker (laws_then (laws_successors known) (laws_from_name id priority owner') comma_ends) (λ t h. tt) (more_of_two _ _) (λ h. h.0)
+
+  pub joint_owner : (id priority : ℕ) → Joint owner (from_successors id priority)
+  joint_owner id priority = joint laws_owner (laws_from_successors id priority) (nothing_apart _)
+
+  laws_from_owner : (id priority : ℕ) → Laws Odd (from_owner id priority) (IsKind 0) Nothing ⊥
+  laws_from_owner id priority = weaker (laws_then laws_owner (laws_from_successors id priority) (nothing_apart _)) (first_of_two _ _) (more_of_two _ _) (λ h. h.0)
+
+  pub joint_priority : (id : ℕ) → Joint number (from_owner id)
+  joint_priority id = joint laws_number (laws_from_owner id) (nothing_apart _)
+
+  laws_from_priority : (id : ℕ) → Laws Odd (from_priority id) (IsKind 0) Nothing ⊥
+  laws_from_priority id = weaker (laws_then laws_number (laws_from_owner id) (nothing_apart _)) (first_of_two _ _) (more_of_two _ _) (λ h. h.0)
+
+  pub joint_id : Joint (new_id ids) from_priority
+  joint_id = joint (laws_id ids) laws_from_priority (nothing_apart _)
+
+  pub laws_node : Laws Odd (node known ids) (IsKind 0) Nothing ⊥
+  unfolding node
+  laws_node = weaker (laws_then (laws_id ids) laws_from_priority (nothing_apart _)) (first_of_two _ _) (more_of_two _ _) (λ h. h.0)
+
+-- ## The whole text
+
+module _ (known : Option (List ℕ)) where
+  pub laws_entry : (nodes : List NodeData) → Laws Odd (entry known nodes) (IsKind 0) Nothing ⊥
+  unfolding entry
+  laws_entry nodes = laws_mapped _ (node known (ids_of nodes)) (laws_node known (ids_of nodes))
+
+  or_numbers : (t : Sign) → Or Nothing (IsKind 0) t → IsKind 0 t
+  or_numbers t (inl h) = absurd h
+  or_numbers t (inr h) = h
+
+  abbrev pub more_entries : List NodeData → Part Sign (List NodeData) PgCause
+  more_entries nodes = many (entry known) nodes
+
+  laws_more_entries : (nodes : List NodeData) → Laws Odd (more_entries nodes) (IsKind 0) (IsKind 0) (Unit {0})
+  laws_more_entries nodes = weaker (laws_many (entry known) laws_entry (nothing_apart _) nodes) (same _) or_numbers (λ h. h)
+
+  pub joint_entries : Joint (entry known []) more_entries
+  joint_entries = joint (laws_entry []) laws_more_entries (nothing_apart _)
+
+  more_of_entries : (t : Sign) → Or (IsKind 0) (When (Unit {0}) Nothing) t → IsKind 0 t
+  more_of_entries t (inl h) = h
+  more_of_entries t (inr h) = absurd h.1
+
+  pub laws_entries : Laws Odd (entries known) (IsKind 0) (IsKind 0) ⊥
+  unfolding entries
+  laws_entries = weaker (laws_then (laws_entry []) laws_more_entries (nothing_apart _)) (first_of_two _ _) more_of_entries (λ h. h.0)
+
+pub joint_value : Joint number (λ _. semicolon)
+joint_value = joint laws_number (λ _. laws_semicolon) (nothing_apart _)
+
+pub laws_value : Laws Odd value_line (IsKind 0) Nothing ⊥
+unfolding value_line
+laws_value = weaker (laws_then laws_number (λ _. laws_semicolon) (nothing_apart _)) (first_of_two _ _) (more_of_two _ _) (λ h. h.0)
+
+abbrev pub IsWord : List ℕ → Sign → Type 0
+IsWord word t = t ≡ Word word
+
+same_word : (word letters : List ℕ) (v : Unit {0}) → keyword_in word (Word letters) ≡ Some v → letters ≡ word
+same_word word letters v e = ⊎_elim
+    (λ (yes : bytes_eq letters word ≡ true). (bytes_eq-Decides letters word).0 yes)
+    (λ (no : bytes_eq letters word ≡ false). absurd (none_is_some v (sym (ap (λ b. cond b (Some tt) None) no) ∙ e)))
+    (cases_Bool (bytes_eq letters word))
+
+pub takes_word : (word : List ℕ) → keyword_in word (Word word) ≡ Some tt
+takes_word word = ap (λ b. cond b (Some tt) None) ((bytes_eq-Decides word word).1 refl)
+
+first_keyword : (word : List ℕ) → Within (Or (Taken (keyword_in word)) (BadSign {F = PgCause} NoBad)) (IsWord word)
+first_keyword word (Word letters) (inl h) = ap Word (same_word word letters h.0 h.1)
+first_keyword word (Word letters) (inr h) = absurd h.1
+first_keyword word (Number x) (inl h) = absurd (none_is_some h.0 h.1)
+first_keyword word (Number x) (inr h) = absurd h.1
+first_keyword word (Name x) (inl h) = absurd (none_is_some h.0 h.1)
+first_keyword word (Name x) (inr h) = absurd h.1
+first_keyword word Comma (inl h) = absurd (none_is_some h.0 h.1)
+first_keyword word Comma (inr h) = absurd h.1
+first_keyword word Semicolon (inl h) = absurd (none_is_some h.0 h.1)
+first_keyword word Semicolon (inr h) = absurd h.1
+first_keyword word OpenName (inl h) = absurd (none_is_some h.0 h.1)
+first_keyword word OpenName (inr h) = absurd h.1
+first_keyword word Wrong (inl h) = absurd (none_is_some h.0 h.1)
+first_keyword word Wrong (inr h) = absurd h.1
+
+pub laws_keyword : (word : List ℕ) → Laws Odd (keyword word) (IsWord word) Nothing ⊥
+unfolding keyword
+laws_keyword word = weaker (laws_one (keyword_in word) NoBad Odd (Word word) tt (takes_word word) (no_odd _) (no_odd _)) (first_keyword word) (same Nothing) (λ h. h)
+
+module _ (word : List ℕ) where
+  pub joint_line : Joint (keyword word) (λ _. value_line)
+  joint_line = joint (laws_keyword word) (λ _. laws_value) (nothing_apart _)
+
+  abbrev pub line : Part Sign (Unit {0}) PgCause
+  line = then_by (keyword word) (λ _. value_line)
+
+  pub laws_line : Laws Odd line (IsWord word) Nothing ⊥
+  laws_line = weaker (laws_then (laws_keyword word) (λ _. laws_value) (nothing_apart _)) (first_of_two _ _) (more_of_two _ _) (λ h. h.0)
+
+  pub laws_no_line : Laws Odd (give {T = Sign} {V = Unit {0}} {F = PgCause} tt) Nothing Nothing (Unit {0})
+  laws_no_line = laws_give Odd tt
+
+  first_setting : (t : Sign) → Or (IsWord word) Nothing t → IsWord word t
+  first_setting t (inl h) = h
+  first_setting t (inr h) = absurd h
+
+  more_setting : (t : Sign) → Or (Or Nothing Nothing) (Or (When ⊥ Nothing) (When (Unit {0}) (IsWord word))) t → IsWord word t
+  more_setting t (inl (inl h)) = absurd h
+  more_setting t (inl (inr h)) = absurd h
+  more_setting t (inr (inl h)) = absurd h.0
+  more_setting t (inr (inr h)) = h.1
+
+  pub laws_setting : Laws Odd (setting word) (IsWord word) (IsWord word) (Unit {0})
+  unfolding setting
+  laws_setting = weaker (laws_either laws_line laws_no_line (λ t h k. k) (λ h k. h)) first_setting more_setting (λ h. tt)
+
+word_kind : (word : List ℕ) (t : Sign) → IsWord word t → kind_of t ≡ 1
+unfolding kind_of
+word_kind word t h = ap kind_of h
+
+module _ (known : Option (List ℕ)) where
+  abbrev pub from_start : Part Sign (List NodeData) PgCause
+  from_start = then_by (setting (codes "start")) (λ _. entries known)
+
+  start_apart : Apart (IsWord (codes "start")) (IsKind 0)
+  start_apart t h k = let a : kind_of t ≡ 1 = word_kind (codes "start") t h in omega (arith, a, k)
+
+  pub joint_start : Joint (setting (codes "start")) (λ _. entries known)
+  joint_start = joint (laws_setting (codes "start")) (λ _. laws_entries known) start_apart
+
+  abbrev pub Starts : Sign → Type 0
+  Starts = Or (IsWord (codes "start")) (IsKind 0)
+
+  first_start : (t : Sign) → Or (IsWord (codes "start")) (When (Unit {0}) (IsKind 0)) t → Starts t
+  first_start t (inl h) = inl h
+  first_start t (inr h) = inr h.1
+
+  more_start : (t : Sign) → Or (IsKind 0) (When ⊥ (IsWord (codes "start"))) t → IsKind 0 t
+  more_start t (inl h) = h
+  more_start t (inr h) = absurd h.0
+
+  laws_start : Laws Odd from_start Starts (IsKind 0) ⊥
+  laws_start = weaker (laws_then (laws_setting (codes "start")) (λ _. laws_entries known) start_apart) first_start more_start (λ h. h.1)
+
+  other_word : Word (codes "parity") ≡ Word (codes "start") → ⊥
+  other_word e = let x : Word (codes "parity") ≡ Word (codes "start") = e in cc
+
+  parity_apart : Apart (IsWord (codes "parity")) Starts
+  parity_apart t h (inl k) = other_word (sym h ∙ k)
+  parity_apart t h (inr k) = let a : kind_of t ≡ 1 = word_kind (codes "parity") t h in omega (arith, a, k)
+
+  pub joint_parity : Joint (setting (codes "parity")) (λ _. from_start)
+  joint_parity = joint (laws_setting (codes "parity")) (λ _. laws_start) parity_apart
+
+  pub laws_game : Laws Odd (game known) Anything (IsKind 0) ⊥
+  unfolding game
+  laws_game = weaker (laws_then (laws_setting (codes "parity")) (λ _. laws_start) parity_apart) (λ t h. tt) more_game (λ h. h.1)
+    where
+      more_game : (t : Sign) → Or (IsKind 0) (When ⊥ (IsWord (codes "parity"))) t → IsKind 0 t
+      more_game t (inl h) = h
+      more_game t (inr h) = absurd h.0

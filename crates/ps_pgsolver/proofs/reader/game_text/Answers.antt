@@ -1,0 +1,47 @@
+use Rattle.std.proofs.Common.{subst, Ok}
+use Rattle.std.specs.Option.{option_copied}
+use Rattle.ps_pgsolver.specs.Answered.{TextAnswers}
+use Rattle.ps_pgsolver.specs.GameTexts.{game}
+use Rattle.ps_pgsolver.proofs.Exits.{stops_left, stops_right, done_then}
+use Rattle.ps_pgsolver.proofs.PartLaws.{joint_parity, joint_start}
+use Rattle.ps_pgsolver.proofs.Wholes.{answer_exit, ended, not_ended}
+use Rattle.ps_pgsolver.proofs.reader.game_text.Goals as goal
+
+pub returns-in_err-_parity : goal.returns-in_err-_parity
+unfolding game
+returns-in_err-_parity c =
+    let known = option_copied c.args.known in
+    subst (λ s. TextAnswers known s c.from_residual.result) c.new-tokens.ensures
+    (answer_exit known c.new-tokens.result _ _ (stops_left (joint_parity known) _ _ c.in_err-_parity.ensures) c.from_residual.ensures.1)
+
+pub returns-in_err-_start : goal.returns-in_err-_start
+unfolding game
+returns-in_err-_start c =
+    let known = option_copied c.args.known in
+    subst (λ s. TextAnswers known s c.from_residual-in_err-_start.result) c.new-tokens.ensures
+    (answer_exit known c.new-tokens.result _ _ (stops_right (joint_parity known) _ _ _ _ c.in_ok-_parity.ensures
+    (stops_left (joint_start known) _ _ c.in_err-_start.ensures)) c.from_residual-in_err-_start.ensures.1)
+
+pub returns-in_err-nodes : goal.returns-in_err-nodes
+unfolding game
+returns-in_err-nodes c =
+    let known = option_copied c.args.known in
+    subst (λ s. TextAnswers known s c.from_residual-in_err-nodes.result) c.new-tokens.ensures
+    (answer_exit known c.new-tokens.result _ _ (stops_right (joint_parity known) _ _ _ _ c.in_ok-_parity.ensures
+    (stops_right (joint_start known) _ _ _ _ c.in_ok-_start.ensures c.in_err-nodes.ensures)) c.from_residual-in_err-nodes.ensures.1)
+
+pub returns-in_err-finish : goal.returns-in_err-finish
+unfolding game
+returns-in_err-finish c =
+    let known = option_copied c.args.known in
+    subst (λ s. TextAnswers known s c.from_residual-in_err-finish.result) c.new-tokens.ensures
+    (not_ended known c.new-tokens.result _ _ _ _ (done_then (joint_parity known) _ _ _ _ _ c.in_ok-_parity.ensures
+    (done_then (joint_start known) _ _ _ _ _ c.in_ok-_start.ensures c.in_ok-nodes.ensures)) c.in_err-finish.ensures c.from_residual-in_err-finish.ensures.1)
+
+pub returns : goal.returns
+unfolding game
+returns c =
+    let known = option_copied c.args.known in
+    subst (λ s. TextAnswers known s (Ok c.in_ok-nodes.nodes)) c.new-tokens.ensures
+    (ended known c.new-tokens.result _ _ _ (done_then (joint_parity known) _ _ _ _ _ c.in_ok-_parity.ensures
+    (done_then (joint_start known) _ _ _ _ _ c.in_ok-_start.ensures c.in_ok-nodes.ensures)) c.in_ok-finish.ensures)

@@ -1,0 +1,14 @@
+use Rattle.ps_text.proofs.Meeting.{then_meets}
+use Rattle.ps_pgsolver.specs.Answered.{found_of}
+use Rattle.ps_pgsolver.specs.GameTexts.{pg_causes, value_line}
+use Rattle.ps_pgsolver.proofs.Exits.{exit, stops_left}
+use Rattle.ps_pgsolver.proofs.PartLaws.{joint_value}
+use Rattle.ps_pgsolver.proofs.reader.value_line.Goals as goal
+
+pub returns-in_err-number : goal.returns-in_err-number
+unfolding value_line
+returns-in_err-number c = exit _ _ _ _ _ _ (stops_left joint_value _ _ c.in_err-number.ensures) c.from_residual.ensures.1
+
+pub returns : goal.returns
+unfolding value_line
+returns c = then_meets found_of pg_causes joint_value (λ n. n) (λ u. u) _ _ _ c.in_ok-number.field-0 _ c.in_ok-number.ensures c.semicolon.ensures

@@ -1,0 +1,42 @@
+-- What the reading of a game text answers: the text's game, or its first cause and where it stands.
+use Rattle.std.specs.Prelude.{◌≡◌, ℕ, ◌<◌, ◌≤◌, List, length, None, Some, Result, Ok, Err}
+use Rattle.ps_text.specs.Answers.{Stream, Found}
+use Rattle.ps_text.specs.Parts.{PartAnswers}
+use Rattle.ps_game.specs.Games.{NamedGameData}
+use Rattle.ps_pgsolver.specs.GameTexts.{pg_causes, game}
+use Rattle.ps_pgsolver.specs.GamesOf.{named_game_of}
+use Rattle.ps_pgsolver.specs.GameTokens.{AreGameTokens}
+use Rattle.ps_pgsolver.specs.Nodes.{NodeData, ids_of}
+use Rattle.ps_pgsolver.specs.Signs.{Sign}
+use Rattle.ps_pgsolver.specs.declared.fault.PgCause.{PgCause}
+use Rattle.ps_pgsolver.specs.declared.fault.PgCause.TheVariants as causes
+use Rattle.ps_pgsolver.specs.declared.fault.PgFault.{PgFault}
+use Rattle.ps_pgsolver.specs.declared.fault.PgFault.TheVariants as faults
+
+-- the greatest length of a text, in bytes
+abbrev pub text_limit : ℕ
+text_limit = 16777216
+
+-- the text is short enough, and these are its tokens
+pub record HasTokens (text : List ℕ) (stream : Stream Sign) : Type 0 where
+  pub short : length text ≤ text_limit
+  pub tokens : AreGameTokens text stream
+
+-- the answer to a text
+pub data Answer (text : List ℕ) (answer : Result NamedGameData (Found PgCause)) : Type 0 where
+  -- before all: the text is too long
+  too_long : text_limit < length text → answer ≡ Err (record { cause = causes.Limit; offset = text_limit }) → Answer text answer
+  -- the first cause in text order
+  refused : (stream : Stream Sign) (found : Found PgCause) → HasTokens text stream → PartAnswers pg_causes (game None) stream (Err found) → answer ≡ Err found → Answer text answer
+  -- behind the end, where there is none: the first successor that is no id
+  unknown : (stream : Stream Sign) (nodes : List NodeData) (found : Found PgCause) → HasTokens text stream → PartAnswers pg_causes (game None) stream (Ok nodes) →
+      PartAnswers pg_causes (game (Some (ids_of nodes))) stream (Err found) → answer ≡ Err found → Answer text answer
+  -- the text has no cause
+  meaning : (stream : Stream Sign) (nodes : List NodeData) → HasTokens text stream → PartAnswers pg_causes (game None) stream (Ok nodes) →
+      PartAnswers pg_causes (game (Some (ids_of nodes))) stream (Ok nodes) → answer ≡ Ok (named_game_of nodes) → Answer text answer
+
+-- what a call answers is that, unless memory ran out
+abbrev pub Answers : List ℕ → Result NamedGameData PgFault → Type 0
+Answers text (Ok named) = Answer text (Ok named)
+Answers text (Err (faults.Text cause offset)) = Answer text (Err (record { cause = cause; offset = offset }))
+Answers text (Err faults.OutOfMemory) = Unit {0}
