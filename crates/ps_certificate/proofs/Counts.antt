@@ -77,23 +77,6 @@ KeepsCount-compared game certificate v w priorities before after top start k com
       }
 ]
 
--- a count that does not fall at the vertex's own priority
-pub IsFirstBroken-at_start : (game : ParityGame) (certificate : CertificateData) (v w : ℕ) (priorities before after : List ℕ) (top start p : ℕ) → Compared game certificate v w priorities before after top start → start < length priorities → slice_index priorities start ≡ p → p ≡ priority_of game v → slice_index before start ≤ slice_index after start → IsFirstBroken game certificate v w p
-IsFirstBroken-at_start game certificate v w priorities before after top start p compared within at_start is_own at_least =
-    let is : slice_index priorities start ≡ opposing_at certificate v start = ap (λ l. slice_index l start) compared.priorities_are in
-    let before_is : slice_index before start ≡ slice_index (counts_of certificate v) start = ap (λ l. slice_index l start) compared.before_are in
-    let after_is : slice_index after start ≡ slice_index (counts_of certificate w) start = ap (λ l. slice_index l start) compared.after_are in
-    let long : length priorities ≡ length (opposing certificate (winner_of certificate v)) = ap length compared.priorities_are in
-    let high : top ≤ slice_index priorities start = compared.higher start (omega arith) within in
-    let top_is : top ≡ max (priority_of game v) (priority_of game w) = compared.top_is in
-    record {
-      place = start;
-      within = omega arith;
-      priority = sym is ∙ at_start;
-      broken = λ keeps. (let less : slice_index (counts_of certificate w) start < slice_index (counts_of certificate v) start = keeps.falls (omega arith) (omega arith) in omega arith);
-      earlier = λ k early. KeepsCount-lower game certificate v w priorities before after top start k compared early;
-    }
-
 -- a count that rises
 pub IsFirstBroken-behind : (game : ParityGame) (certificate : CertificateData) (v w : ℕ) (priorities before after : List ℕ) (top start place : ℕ) → Compared game certificate v w priorities before after top start → FallsAtStart game v priorities before after start → start ≤ place → place < length priorities → ((k : ℕ) → start ≤ k → k < place → slice_index after k ≤ slice_index before k) → slice_index before place < slice_index after place → IsFirstBroken game certificate v w (slice_index priorities place)
 IsFirstBroken-behind game certificate v w priorities before after top start place compared strict late within not_before rises =
