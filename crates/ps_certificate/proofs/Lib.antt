@@ -13,6 +13,7 @@ pub mod Loops
 pub mod NumberPart
 pub mod Numerals
 pub mod OneFlaw
+pub mod OneReading
 pub mod TextLaws
 pub mod Told
 pub mod Windows

@@ -25,4 +25,4 @@ pub use flaw::Flaw;
 pub use laws::{
     closed_regions_are_kept, first_flaw_is_one, no_strategy_wins_outside, valid_regions_are_held,
 };
-pub use text::read;
+pub use text::{certificate_text_has_one_answer, read};

@@ -1,12 +1,14 @@
 //! Reading the text of a certificate.
 
-ghost use Rattle.std.specs.Prelude.{◌≡◌, ◌<◌, length, map, nat_eq, IfOk, IfErr};
+ghost use Rattle.std.specs.Prelude.{◌≡◌, ℕ, List, Result, nat_eq, IfOk};
 ghost use Rattle.indexmap.specs.IndexMap.{get};
-ghost use Rattle.ps_game.specs.Games.{ParityGame, vertex_count};
-ghost use Rattle.ps_certificate.specs.Certificates.{Fits, ListsPriorities};
+ghost use Rattle.ps_text.specs.Answers.{Found};
+ghost use Rattle.ps_game.specs.Games.{NamedGameData};
+ghost use Rattle.ps_certificate.specs.Certificates.{CertificateData, Fits, ListsPriorities};
 ghost use Rattle.ps_certificate.specs.Reading.{Gives, Moves, Tells, head_at, entry_at, entries_at, entries_of as entries_of_text};
 ghost use Rattle.ps_certificate.specs.Known.{known_data, FindsVertices};
-ghost use Rattle.ps_certificate.specs.Texts.{IsAnswer};
+ghost use Rattle.ps_certificate.specs.Texts.{Reads, IsAnswer};
+ghost use Rattle.ps_certificate.specs.declared.fault.CertCause.{CertCause};
 
 use crate::certificate::{Certificate, Entry};
 use crate::cursor::Cursor;
@@ -145,3 +147,8 @@ pub fn read(alloc: Global, text: &[u8], game: &NamedGame) -> Result<Certificate,
     } = known;
     Ok(Certificate { odd, even, entries })
 }
+
+/// The text of a certificate has one answer for a game.
+pub fn certificate_text_has_one_answer()
+    ensures { (game : NamedGameData) (text : List ℕ) (answer other : Result CertificateData (Found CertCause)) → Reads game text answer → Reads game text other → answer ≡ other }
+{}

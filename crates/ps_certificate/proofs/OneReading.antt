@@ -1,0 +1,83 @@
+-- A text has one answer for a game.
+use Rattle.std.proofs.Common.{◌≡◌, ℕ, zero, suc, ◌%◌, ◌<◌, ◌≤◌, List, [], ◌∷◌, length, get_or, Result, refl, ap, ap₂, subst, ◌∙◌, arith}
+use Rattle.std.specs.List.{All, AllPairs, Contains}
+use Rattle.std.proofs.lemmas.List.Elements.{All-contains}
+use Rattle.std.proofs.lemmas.List.Kept.{AllPairs-from_increasing}
+use Rattle.std.proofs.lemmas.Map.Made.{Contains-tail}
+use Rattle.ps_text.specs.Answers.{Found, AreNumbered}
+use Rattle.ps_text.specs.Parts.{PartAnswers, IsWrong}
+use Rattle.ps_text.proofs.OneAnswer.{has_one_answer}
+use Rattle.ps_game.specs.Games.{ParityGame, NamedGameData}
+use Rattle.ps_certificate.specs.declared.fault.CertCause.{CertCause}
+use Rattle.ps_certificate.specs.declared.fault.CertCause.TheVariants.{Syntax, OtherGame}
+use Rattle.ps_certificate.specs.Faults.{cause_number}
+use Rattle.ps_certificate.specs.Certificates.{CertificateData, ListsPriorities, HasPriority}
+use Rattle.ps_certificate.specs.Texts.{stream_at, causes, certificate, Reads}
+use Rattle.ps_certificate.proofs.TextLaws.{laws_certificate}
+
+-- each number is below all that follow it
+abbrev Rises : List ℕ → Type 0
+Rises [] = Unit {0}
+Rises (x ∷ xs) = All (λ y. x < y) xs × Rises xs
+
+rises : (xs : List ℕ) → AllPairs (λ x y. x < y) xs → Rises xs
+rises [] h = tt
+rises (x ∷ xs) h = (λ k d lt. h 0 (suc k) d (omega arith) (omega (arith, lt)), rises xs (λ i j d a b. h (suc i) (suc j) d (omega (arith, a)) (omega (arith, b))))
+
+least_first : (x : ℕ) (xs : List ℕ) (p : ℕ) → Rises (x ∷ xs) → Contains (x ∷ xs) p → x ≤ p
+least_first x xs p r c = go c.0 c.1 c.2
+  where
+    go : (k : ℕ) → k < length (x ∷ xs) → get_or (x ∷ xs) k p ≡ p → x ≤ p
+    go zero lt e = omega (arith, e)
+    go (suc k) lt e = omega (arith, r.0 k p (omega (arith, lt)), e)
+
+head_in : (x : ℕ) (xs : List ℕ) → Contains (x ∷ xs) x
+head_in x xs = (0, omega arith, refl)
+
+later_in : (x : ℕ) (xs : List ℕ) (p : ℕ) → Contains xs p → Contains (x ∷ xs) p
+later_in x xs p c = (suc c.0, omega (arith, c.1), c.2)
+
+above : (x : ℕ) (xs : List ℕ) (p : ℕ) → Rises (x ∷ xs) → Contains xs p → x < p
+above x xs p r c = omega (arith, r.0 c.0 p c.1, c.2)
+
+abbrev Within : List ℕ → List ℕ → Type 0
+Within xs ys = (p : ℕ) → Contains xs p → Contains ys p
+
+-- rising lists of the same numbers are the same
+same_list : (xs ys : List ℕ) → Rises xs → Rises ys → Within xs ys → Within ys xs → xs ≡ ys
+same_list [] [] r s a b = refl
+same_list [] (y ∷ ys) r s a b = absurd (omega (arith, (b y (head_in y ys)).1))
+same_list (x ∷ xs) [] r s a b = absurd (omega (arith, (a x (head_in x xs)).1))
+same_list (x ∷ xs) (y ∷ ys) r s a b = ap₂ (λ z zs. z ∷ zs) same (same_list xs ys r.1 s.1 left right)
+  where
+    same : x ≡ y
+    same = omega (arith, least_first y ys x s (a x (head_in x xs)), least_first x xs y r (b y (head_in y ys)))
+
+    left : Within xs ys
+    left p c = Contains-tail y ys p (λ e. omega (arith, above x xs p r c, e, same)) (a p (later_in x xs p c))
+
+    right : Within ys xs
+    right p c = Contains-tail x xs p (λ e. omega (arith, above y ys p s c, e, same)) (b p (later_in y ys p c))
+
+within : (game : ParityGame) (parity : ℕ) (xs ys : List ℕ) → ListsPriorities game parity xs → ListsPriorities game parity ys → Within xs ys
+within game parity xs ys l m p c =
+    let right : p % 2 ≡ parity = All-contains (λ q. q % 2 ≡ parity) xs p l.right_parity c in
+    let there : HasPriority game p = All-contains (HasPriority game) xs p l.present c in
+    subst (Contains ys) there.2 (m.complete there.0 there.1 (ap (λ q. q % 2) there.2 ∙ right))
+
+one_list : (game : ParityGame) (parity : ℕ) (xs ys : List ℕ) → ListsPriorities game parity xs → ListsPriorities game parity ys → xs ≡ ys
+one_list game parity xs ys l m =
+    same_list xs ys (rises xs (AllPairs-from_increasing xs l.rising)) (rises ys (AllPairs-from_increasing ys m.rising)) (within game parity xs ys l m) (within game parity ys xs m l)
+
+numbered : AreNumbered cause_number
+numbered Syntax Syntax e = refl
+numbered Syntax OtherGame e = absurd (omega (arith, e))
+numbered OtherGame Syntax e = absurd (omega (arith, e))
+numbered OtherGame OtherGame e = refl
+
+pub one_reading : (game : NamedGameData) (text : List ℕ) (answer other : Result CertificateData (Found CertCause)) → Reads game text answer → Reads game text other → answer ≡ other
+one_reading game text answer other a b =
+    has_one_answer (certificate a.odd a.even game.ids).IsText (IsWrong causes (certificate a.odd a.even game.ids)) cause_number (laws_certificate a.odd a.even game.ids).one_value numbered (stream_at 0 text) answer other
+    a.answers
+    (subst (λ odd. PartAnswers causes (certificate odd a.even game.ids) (stream_at 0 text) other) (one_list game.game 1 b.odd a.odd b.odd_listed a.odd_listed)
+    (subst (λ even. PartAnswers causes (certificate b.odd even game.ids) (stream_at 0 text) other) (one_list game.game 0 b.even a.even b.even_listed a.even_listed) b.answers))
