@@ -1,17 +1,16 @@
 -- Lemmas of the reader.
-use Rattle.std.proofs.Common.{◌≡◌, ◌≢◌, ℕ, ◌+◌, ◌-◌, ◌*◌, ◌/◌, ◌%◌, ◌^◌, ◌<◌, ◌≤◌, ◌⊎◌, inl, inr, List, [], ◌∷◌, ◌++◌, Bool, true, false, not, ◌||◌, ◌==◌, nat_eq, map, length, take, drop, get_or, set, zero, suc, refl, sym, ap, subst, ◌∙◌, arith, Some, None, Option, slice_get, All, AllPairs, Contains, length-append, append-nil, append_assoc, flat_map, Vec}
+use Rattle.std.proofs.Common.{◌≡◌, ◌≢◌, ℕ, ◌+◌, ◌-◌, ◌^◌, ◌<◌, ◌≤◌, ◌⊎◌, List, [], ◌∷◌, ◌++◌, Bool, true, false, not, ◌||◌, ◌==◌, nat_eq, map, length, take, drop, get_or, set, zero, suc, refl, sym, ap, subst, ◌∙◌, arith, Some, Option, All, AllPairs, Contains, append-nil, append_assoc, flat_map, Vec}
 use Rattle.std.specs.List.{list_any}
-use Rattle.std.proofs.lemmas.List.{length-map, get_or-map, get_or_append_left, get_or-append-add, map-append, map-set, get_or-take, get_or-drop, length-take}
-use Rattle.std.proofs.lemmas.Bool.{cases_eq, cases_lt, eq-eqb}
-use Rattle.std.proofs.lemmas.Option.{slice_get_within, slice_get-get_or, get_or_from_slice_get}
-use Rattle.std.proofs.lemmas.List.Elements.{All-append, All-push, All-set, All-map}
+use Rattle.std.proofs.lemmas.List.{length-map, get_or-map, map-append, map-set, get_or-take, get_or-drop, length-take}
+use Rattle.std.proofs.lemmas.Bool.{eq-eqb}
+use Rattle.std.proofs.lemmas.Option.{slice_get_within}
+use Rattle.std.proofs.lemmas.List.Elements.{All-append, All-push, All-set}
 use Rattle.std.proofs.lemmas.List.Quantifiers.{all_pairs_push}
 use Rattle.std.specs.Global.{Global}
 use Rattle.indexmap.specs.IndexSet.{insert_key}
-use Rattle.ps_aiger.specs.declared.parts.Latch.{Latch}
 use Rattle.ps_aiger.specs.declared.parts.Gate.{Gate}
 use Rattle.ps_aiger.specs.Ways.{Way, last, next}
-use Rattle.ps_aiger.specs.Circuits.{CircuitData, variable, definitions, readings, IsDefinition, IsKnown, IsName, IsDraft, Reads}
+use Rattle.ps_aiger.specs.Circuits.{CircuitData, variable, definitions, readings, IsDefinition, IsName, IsDraft, Reads}
 use Rattle.ps_aiger.specs.Drafts.{name_bytes}
 use Rattle.ps_aiger.specs.Reading.{AddsVariable, Defines, IsKnownIn}
 use Rattle.ps_aiger.specs.declared.reader.Field.{Field}

@@ -1,5 +1,4 @@
-use Rattle.std.proofs.Common.{◌≡◌, ◌<◌, Err, length, arith}
-use Rattle.ps_aiger.specs.declared.circuit.CircuitFault.TheVariants.{Cyclic}
+use Rattle.std.proofs.Common.{arith}
 use Rattle.ps_aiger.proofs.ReadingLemmas.{way_within}
 use Rattle.ps_aiger.proofs.reader.assembled.Goals as goal
 

@@ -1,4 +1,4 @@
-use Rattle.std.proofs.Common.{◌≡◌, ◌≤◌, map, vec_len, All}
+use Rattle.std.proofs.Common.{◌≡◌, map, vec_len, All}
 use Rattle.ps_aiger.specs.Circuits.{IsName}
 use Rattle.ps_aiger.specs.Drafts.{name_bytes}
 use Rattle.ps_aiger.proofs.reader.no_names.Given as goal

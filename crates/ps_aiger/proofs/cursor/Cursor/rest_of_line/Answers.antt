@@ -1,4 +1,4 @@
-use Rattle.std.proofs.Common.{◌≡◌, ◌≤◌, length, arith}
+use Rattle.std.proofs.Common.{arith}
 use Rattle.ps_aiger.proofs.ReadingLemmas.{no_newline}
 use Rattle.ps_aiger.proofs.cursor.Cursor.rest_of_line.Goals as goal
 

@@ -1,4 +1,4 @@
-use Rattle.std.proofs.Common.{◌≡◌, ◌+◌, ◌<◌, ◌≤◌, inl, inr, take, length, All, sym, subst, arith}
+use Rattle.std.proofs.Common.{◌+◌, inl, inr, take, All, sym, subst, arith}
 use Rattle.ps_aiger.specs.Reading.{IsKnownIn}
 use Rattle.ps_aiger.proofs.ReadingLemmas.{known_more, known_all, found_known}
 use Rattle.ps_aiger.proofs.reader.Reader.all_defined.Goals as goal

@@ -1,6 +1,6 @@
-use Rattle.std.proofs.Common.{◌≡◌, ◌∙◌, refl, ap, sym, subst, arith}
+use Rattle.std.proofs.Common.{◌∙◌, ap, arith}
 use Rattle.ps_aiger.specs.declared.parts.Gate.{Gate}
-use Rattle.ps_aiger.specs.Reading.{Defines, literals_of}
+use Rattle.ps_aiger.specs.Reading.{literals_of}
 use Rattle.ps_aiger.proofs.ReadingLemmas.{defines_mapped, reads_gate}
 use Rattle.ps_aiger.proofs.reader.Reader.gates.Goals as goal
 

@@ -1,4 +1,4 @@
-use Rattle.std.proofs.Common.{◌≡◌, ◌∙◌, sym, subst}
+use Rattle.std.proofs.Common.{◌∙◌, sym, subst}
 use Rattle.ps_aiger.specs.Reading.{Defines}
 use Rattle.ps_aiger.proofs.ReadingLemmas.{defines_more}
 use Rattle.ps_aiger.proofs.reader.Reader.inputs.Goals as goal

@@ -1,6 +1,6 @@
-use Rattle.std.proofs.Common.{◌≡◌, ◌∙◌, refl, ap, sym, subst}
+use Rattle.std.proofs.Common.{◌∙◌, ap}
 use Rattle.ps_aiger.specs.declared.parts.Latch.{Latch}
-use Rattle.ps_aiger.specs.Reading.{Defines, literals_of}
+use Rattle.ps_aiger.specs.Reading.{literals_of}
 use Rattle.ps_aiger.proofs.ReadingLemmas.{defines_mapped, reads_more}
 use Rattle.ps_aiger.proofs.reader.Reader.latches.Goals as goal
 
