@@ -1,7 +1,7 @@
 -- Faults of texts, and the vertices of flaws.
 use Rattle.std.proofs.Common.{◌<◌, ℕ, List, length, Option, IfSome, Ok, Err, refl, inl, inr, subst}
 use Rattle.ps_game.specs.Games.{ParityGame, NamedGameData, IsGame, vertex_count}
-use Rattle.ps_pgsolver.specs.Causes.{StandsWithin}
+use Rattle.ps_pgsolver.specs.Reading.{Answers}
 use Rattle.ps_pgsolver.specs.declared.fault.PgFault.{PgFault}
 use Rattle.ps_pgsolver.specs.declared.fault.PgFault.TheVariants as game
 use Rattle.ps_certificate.specs.declared.fault.CertFault.{CertFault}
@@ -17,10 +17,10 @@ use Rattle.psyn.specs.Refusals.{game_refusal, certificate_refusal}
 use Rattle.psyn.specs.Texts.{CutsInTwo, ReadsGameText, ReadsCertificateText, ReadsCertified, NamesVertices}
 
 -- what is refused by a reader is refused by its line
-pub gives_game_fault : (text : List ℕ) (fault : PgFault) → StandsWithin (length text) fault
+pub gives_game_fault : (text : List ℕ) (fault : PgFault) → Answers text (Err fault)
     → Gives {X = NamedGameData} (λ named. named) (ReadsGameText text) (Err (game_refusal fault))
-gives_game_fault text (game.Text cause offset) within = (record { cause = cause; offset = offset }, within, refl)
-gives_game_fault text game.OutOfMemory within = tt
+gives_game_fault text (game.Text cause offset) answer = (record { cause = cause; offset = offset }, answer, refl)
+gives_game_fault text game.OutOfMemory answer = tt
 
 pub gives_certificate_fault : (named : NamedGameData) (text : List ℕ) (fault : CertFault) → IsAnswer named text (Err fault)
     → Gives {X = CertificateData} (λ given. given) (ReadsCertificateText named text) (Err (certificate_refusal fault))

@@ -1,7 +1,8 @@
 -- The texts of the commands, as their readers answer them.
-use Rattle.std.specs.Prelude.{◌≡◌, ◌≤◌, ◌<◌, ℕ, IfSome, List, length, Result, Ok, Err, option_map, slice_index}
+use Rattle.std.specs.Prelude.{◌≡◌, ◌<◌, ℕ, IfSome, List, Result, Ok, Err, option_map, slice_index}
 use Rattle.ps_text.specs.Answers.{Found}
-use Rattle.ps_game.specs.Games.{NamedGameData, IsNamedGame}
+use Rattle.ps_game.specs.Games.{NamedGameData}
+use Rattle.ps_pgsolver.specs.Reading.{Answer}
 use Rattle.ps_pgsolver.specs.declared.fault.PgCause.{PgCause}
 use Rattle.ps_pgsolver.specs.declared.fault.PgCause.TheVariants as game
 use Rattle.ps_certificate.specs.declared.fault.CertCause.{CertCause}
@@ -37,13 +38,9 @@ game_fault game.NodeTwice = NodeTwice
 game_fault game.Number = GameNumber
 game_fault game.Limit = GameLimit
 
--- what the reader of game texts answers: a game, or a place within the text
-abbrev pub ReadsGame : List ℕ → Result NamedGameData (Found PgCause) → Type 0
-ReadsGame text (Ok named) = IsNamedGame named
-ReadsGame text (Err found) = found.offset ≤ length text
-
+-- the text of a game
 abbrev pub ReadsGameText : List ℕ → Result NamedGameData FaultLine → Type 0
-ReadsGameText text = Reading (ReadsGame text) game_fault
+ReadsGameText text = Reading (Answer text) game_fault
 
 -- ---- certificate texts
 

@@ -9,4 +9,4 @@ use Rattle.psyn.proofs.texts.read_game.Goals as goal
 pub returns-in-Err : goal.returns-in-Err
 returns-in-Err c =
     subst (λ (refusal : Refusal). Gives {X = NamedGameData} (λ named. named) (ReadsGameText c.args.text.now) (Err refusal)) (sym c.from.ensures)
-    (gives_game_fault c.args.text.now c.in-Err.fault c.in-Err.ensures.within)
+    (gives_game_fault c.args.text.now c.in-Err.fault c.in-Err.ensures.answer)
