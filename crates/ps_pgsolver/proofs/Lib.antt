@@ -11,3 +11,4 @@ pub mod Choices
 pub mod Wholes
 pub mod Sound
 pub mod Answering
+pub mod OneReading

@@ -10,5 +10,5 @@ mod reader;
 mod token;
 
 pub use fault::{PgCause, PgFault};
-pub use laws::one_list_of_tokens;
+pub use laws::{one_answer, one_list_of_tokens};
 pub use reader::read;
