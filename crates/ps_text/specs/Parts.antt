@@ -17,6 +17,10 @@
 --               context c, its value is the next context, and the last one is the value of the whole
 --     mapped h P      P with the value h v in place of v
 --     barred P Bad      P, and a cause at the sign behind it, which Bad says by P's value
+-- So a list of numbers as `1, 2, 3;` is
+--     number = one number_of IsTooLarge
+--     more ns = then_by comma (λ _. mapped (λ n. ns ++ n ∷ []) number)
+--     list = then_by number (λ n. then_by (many more (n ∷ [])) (λ ns. mapped (λ _. ns) semicolon))
 -- A reader of the code says of each production, in a private clause, that it read its part or stopped at its first fault
 -- (specs/Readers.antt); proofs/ has the theorems that join parts, and lead from the whole part to `Answers`.
 use Rattle.std.specs.Prelude.{◌≡◌, ℕ, zero, suc, ◌+◌, ◌<◌, ◌≤◌, ◌⊎◌, List, [], ◌∷◌, ◌++◌, length, Option, None, Some, Result}
