@@ -1,5 +1,5 @@
 -- A game text has one answer.
-use Rattle.std.proofs.Common.{◌≡◌, ◌≢◌, ℕ, ◌<◌, ◌≤◌, eqb, if◌then◌else◌, List, length, Option, None, Some, Result, Ok, Err, refl, sym, ap, subst, ◌∙◌, arith}
+use Rattle.std.proofs.Common.{◌≡◌, ℕ, ◌<◌, ◌≤◌, eqb, if◌then◌else◌, List, length, Option, None, Some, Result, Ok, Err, refl, sym, ap, subst, ◌∙◌, arith}
 use Rattle.ps_text.specs.Answers.{Stream, Found, AreNumbered}
 use Rattle.ps_text.specs.Parts.{PartAnswers, IsWrong}
 use Rattle.ps_text.proofs.OneAnswer.{has_one_answer}
@@ -9,7 +9,7 @@ use Rattle.ps_pgsolver.specs.GamesOf.{named_game_of}
 use Rattle.ps_pgsolver.specs.GameTexts.{pg_causes, game}
 use Rattle.ps_pgsolver.specs.Lexer.{stream_of}
 use Rattle.ps_pgsolver.specs.Nodes.{NodeData, ids_of}
-use Rattle.ps_pgsolver.specs.Reading.{Answer, HasTokens, text_limit, too_long, refused, unknown, meaning}
+use Rattle.ps_pgsolver.specs.Reading.{Answer, text_limit, too_long, refused, unknown, meaning}
 use Rattle.ps_pgsolver.specs.Signs.{Sign}
 use Rattle.ps_pgsolver.specs.declared.fault.PgCause.{PgCause}
 use Rattle.ps_pgsolver.specs.declared.fault.PgCause.TheVariants as causes
