@@ -4,8 +4,7 @@ use Rattle.std.specs.Prelude.{Option}
 use Rattle.std.specs.Io.KnownBytes.{Appends, Consumes, IsAtEnd}
 use Rattle.std.proofs.KnownBytes.{Appends-trans, Consumes-trans}
 use Rattle.std.proofs.lemmas.List.{take_rest}
-use Rattle.psyn.specs.Input.{AgreesWith, ConsumesAtMost, IsTooLong}
-use Rattle.psyn.specs.declared.reading.TheConstants.{INPUT_LIMIT}
+use Rattle.psyn.specs.Input.{AgreesWith, ConsumesAtMost, IsTooLong, input_limit}
 
 -- a write took the next `count` bytes of a text of which `sent` have gone out
 pub Appends-next : (a b c : Option (List ℕ)) (text : List ℕ) (sent count : ℕ) → Appends a b (take sent text)
@@ -23,7 +22,7 @@ Consumes-agrees (Some x) None taken p = absurd p
 Consumes-agrees (Some x) (Some y) taken p = (y, p)
 
 -- a source that gave more than an input may have
-pub IsTooLong-taken : (a b : Option (List ℕ)) (taken : List ℕ) → Consumes a b taken → INPUT_LIMIT < length taken → IsTooLong a
+pub IsTooLong-taken : (a b : Option (List ℕ)) (taken : List ℕ) → Consumes a b taken → input_limit < length taken → IsTooLong a
 IsTooLong-taken a b taken p long =
     let all = Consumes-agrees a b taken p in
     (taken ++ all.0, all.1, omega (arith, length-append taken all.0))
@@ -36,7 +35,7 @@ ConsumesAtMost-next a b c taken buffer count most first next whole small =
 
 -- a source gave some bytes and then more than an input may have
 pub IsTooLong-next : (a b c : Option (List ℕ)) (taken buffer : List ℕ) (count : ℕ) → Consumes a b taken
-    → Consumes b c (take count buffer) → length (take count buffer) ≡ count → INPUT_LIMIT < length taken + count → IsTooLong a
+    → Consumes b c (take count buffer) → length (take count buffer) ≡ count → input_limit < length taken + count → IsTooLong a
 IsTooLong-next a b c taken buffer count first next whole long =
     IsTooLong-taken a c (taken ++ take count buffer) (Consumes-trans a b c _ _ first next)
     (omega (arith, length-append taken (take count buffer), whole))

@@ -1,14 +1,13 @@
 -- What the program answers to an input, and what it writes of that.
 use Rattle.std.specs.Prelude.{◌≡◌, ◌≤◌, ◌<◌, ◌⊎◌, ℕ, Bool, true, false, List, length, Option, Result, Ok}
 use Rattle.std.specs.Io.KnownBytes.{Appends}
-use Rattle.psyn.specs.declared.reading.TheConstants.{INPUT_LIMIT}
 use Rattle.psyn.specs.declared.command_line.Line.{Line}
 use Rattle.psyn.specs.declared.command_line.Line.TheVariants.{Refused, Help, Closed, Check}
 use Rattle.psyn.specs.CommandLine.{IsLine}
 use Rattle.psyn.specs.declared.fault.FaultLine.{FaultLine}
 use Rattle.psyn.specs.Checks.{AnswersClosed, AnswersCheck}
 use Rattle.psyn.specs.Cut.{first_line, behind_line}
-use Rattle.psyn.specs.Input.{AgreesWith}
+use Rattle.psyn.specs.Input.{AgreesWith, input_limit}
 use Rattle.psyn.specs.Outcomes.{printed}
 use Rattle.psyn.specs.Replies.{Reply, usage, help, read_fault, out_of_memory}
 use Rattle.psyn.specs.Streams.{SinkState, AppendsSome, Breaks}
@@ -28,8 +27,8 @@ Answers input reply =
 
 -- the same, of an input that may be too long
 abbrev pub AnswersWhole : List ℕ → Reply → Type 0
-AnswersWhole input reply = ((INPUT_LIMIT < length input) × (reply ≡ read_fault))
-    ⊎ ((length input ≤ INPUT_LIMIT) × Answers input reply)
+AnswersWhole input reply = ((input_limit < length input) × (reply ≡ read_fault))
+    ⊎ ((length input ≤ input_limit) × Answers input reply)
 
 -- the answer to what a source has, where a read failed or none did: any growth may have been refused
 abbrev pub Replies : Option (List ℕ) → Bool → Reply → Type 0

@@ -2,7 +2,7 @@
 
 ghost use Rattle.std.specs.Prelude.{◌≡◌, ◌+◌, ◌≤◌, ℕ, List, length, false};
 ghost use Rattle.std.specs.Io.KnownBytes.{Consumes};
-ghost use Rattle.psyn.specs.Input.{ConsumesAtMost, ReadsInput};
+ghost use Rattle.psyn.specs.Input.{ConsumesAtMost, ReadsInput, input_limit};
 
 use crate::stream::Source;
 use std::alloc::{AllocError, Global};
@@ -39,7 +39,7 @@ pub fn read_input<R: Source>(alloc: Global, reader: &mut R) -> Result<Vec<u8>, I
     requires { R.has_failed reader.old ≡ false }
     ensures read { ReadsInput (R.remaining reader.old) (R.has_failed reader.new) result }
     ensures bounded { ConsumesAtMost (R.remaining reader.old) (R.remaining reader.new)
-        (INPUT_LIMIT + 1) }
+        (input_limit + 1) }
 {
     let mut input = Vec::new(alloc);
     let mut buffer = [0; CHUNK];

@@ -1,14 +1,14 @@
 //! The program, from what it reads to what it writes.
 
 ghost use Rattle.std.specs.Prelude.{◌≡◌, ◌+◌, false};
-ghost use Rattle.psyn.specs.Input.{ConsumesAtMost};
+ghost use Rattle.psyn.specs.Input.{ConsumesAtMost, input_limit};
 ghost use Rattle.psyn.specs.Streams.{sink_state};
 ghost use Rattle.psyn.specs.Replies.{Reply};
 ghost use Rattle.psyn.specs.Program.{Replies, Writes};
 
 use crate::answer::{Answer, FAULT, OUT_OF_MEMORY, READ_FAULT};
 use crate::program::answer_to;
-use crate::reading::{INPUT_LIMIT, InputFault, read_input};
+use crate::reading::{InputFault, read_input};
 use crate::sending::send;
 use crate::stream::{Sink, Source};
 use std::alloc::Global;
@@ -22,7 +22,7 @@ pub fn run<R: Source, W: Sink>(alloc: Global, reader: &mut R, writer: &mut W) ->
     requires reader { R.has_failed reader.old ≡ false }
     requires writer { W.has_failed writer.old ≡ false }
     ensures consumed { ConsumesAtMost (R.remaining reader.old) (R.remaining reader.new)
-        (INPUT_LIMIT + 1) }
+        (input_limit + 1) }
     ensures answered { (reply : Reply)
         × Replies (R.remaining reader.old) (R.has_failed reader.new) reply
         × Writes (sink_state W.contents W.has_failed W.stall_count W.is_stalled W.is_flushed writer.old)
