@@ -5,3 +5,5 @@ pub mod Openings
 pub mod OperandLaws
 pub mod LabelLaws
 pub mod ConditionLaws
+pub mod BodyLaws
+pub mod StateLaws

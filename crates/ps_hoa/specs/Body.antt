@@ -7,15 +7,15 @@
 --     BodyData      the rows so far, and how many edges they have
 --     state h body      one more state, behind those of body
 --     body h      all states, and `--END--`
-use Rattle.std.specs.Prelude.{◌≡◌, ◌≢◌, ℕ, ◌+◌, ◌^◌, ◌<◌, ◌≤◌, ◌⊎◌, Bool, true, false, List, [], ◌∷◌, ◌++◌, length, codes, if◌then◌else◌, nat_eq, Option, None, Some, IfSome}
+use Rattle.std.specs.Prelude.{◌≡◌, ◌≢◌, ℕ, ◌+◌, ◌-◌, ◌^◌, ◌<◌, ◌≤◌, ◌⊎◌, Bool, true, false, List, [], ◌∷◌, ◌++◌, length, codes, if◌then◌else◌, nat_eq, Option, None, Some, IfSome, slice_get}
 use Rattle.ps_label.specs.Expression.{Expression}
 use Rattle.ps_text.specs.Parts.{Part, give, one, then_by, either, many, mapped, barred}
 use Rattle.ps_hoa.specs.Tokens.{Sign}
-use Rattle.ps_hoa.specs.Operands.{number_limit, nesting_limit, mark}
+use Rattle.ps_hoa.specs.Operands.{number_limit, nesting_limit, mark_in, mark}
 use Rattle.ps_hoa.specs.Labels as labels
 use Rattle.ps_hoa.specs.Labels.{ScopeData}
 use Rattle.ps_hoa.specs.Files.{EdgeData, RowData, GuardData, stated, of_state, at_letter, once}
-use Rattle.ps_hoa.specs.Header.{HeaderData, names_of, name_value, item_name, int_in, string, state_limit, IsAlternating}
+use Rattle.ps_hoa.specs.Header.{HeaderData, names_of, name_value, int_in, string, state_limit, IsAlternating}
 use Rattle.ps_hoa.specs.declared.fault.HoaCause.{HoaCause}
 use Rattle.ps_hoa.specs.declared.fault.HoaCause.TheVariants as causes
 use Rattle.ps_hoa.specs.declared.tokens.Kind.{Kind}
@@ -153,24 +153,29 @@ guard_of row (Some e) = stated e
 abbrev pub with_edge : RowData → Option Expression → ℕ → List ℕ → RowData
 with_edge row label target ns = record row { edges = row.edges ++ record { guard = guard_of row label; target = target; marks = ns } ∷ [] }
 
-abbrev pub edge : HeaderData → BodyData → RowData → Part Sign RowData HoaCause
-edge h body row = either
-    (then_by (one is_bracket (IsBadBracket body row)) (λ _. then_by (label_in_brackets h) (λ label.
-    then_by (labelled_target h) (λ target. mapped (with_edge row label target) (marks h)))))
-    (then_by (plain_target h body row) (λ target. mapped (with_edge row None target) (marks h)))
+abbrev pub labelled_edge : HeaderData → BodyData → RowData → Part Sign RowData HoaCause
+labelled_edge h body row = then_by (one is_bracket (IsBadBracket body row)) (λ _. then_by (label_in_brackets h) (λ label.
+    then_by (labelled_target h) (λ target. mapped (with_edge row label target) (marks h))))
 
--- behind the last edge: implicit labels that are not one for each letter
+abbrev pub plain_edge : HeaderData → BodyData → RowData → Part Sign RowData HoaCause
+plain_edge h body row = then_by (plain_target h body row) (λ target. mapped (with_edge row None target) (marks h))
+
+abbrev pub edge : HeaderData → BodyData → RowData → Part Sign RowData HoaCause
+edge h body row = either (labelled_edge h body row) (plain_edge h body row)
+
+abbrev pub edges : HeaderData → BodyData → RowData → Part Sign RowData HoaCause
+edges h body row = many (edge h body) row
+
+-- implicit labels that are not one for each letter
 abbrev pub IsWrongCount : HeaderData → RowData → Type 0
 IsWrongCount h row = (labelling row ≡ by_place) × (length row.edges ≢ 2 ^ length (names_of h))
 
-abbrev pub IsBehindEdges : Sign → Type 0
-IsBehindEdges s = (s.kind ≡ kinds.End) ⊎ (name_value (codes "State:") s.kind s.text ≢ None)
+abbrev pub last_row : BodyData → Option RowData
+last_row body = slice_get body.rows (length body.rows - 1)
 
-abbrev pub IsBadEnd : HeaderData → RowData → Sign → HoaCause → Type 0
-IsBadEnd h row s f = IsBehindEdges s × IsWrongCount h row × (f ≡ causes.Labels)
-
-abbrev pub edges : HeaderData → BodyData → RowData → Part Sign RowData HoaCause
-edges h body row = barred (many (edge h body) row) (IsBadEnd h)
+-- what may be wrong with a sign behind the last edge of a state: the number of its edges
+abbrev pub IsBadEnd : HeaderData → BodyData → HoaCause → Type 0
+IsBadEnd h body f = ((row : RowData) × (last_row body ≡ Some row) × IsWrongCount h row) × (f ≡ causes.Labels)
 
 -- ## States
 
@@ -198,16 +203,28 @@ empty_row n label ns = record { state = n; label = label; marks = ns; edges = []
 abbrev pub with_row : BodyData → RowData → BodyData
 with_row body row = record { rows = body.rows ++ row ∷ []; edges = body.edges + length row.edges }
 
+abbrev pub state_value : Sign → Option (Unit {0})
+state_value s = name_value (codes "State:") s.kind s.text
+
+abbrev pub IsBadNext : HeaderData → BodyData → Sign → HoaCause → Type 0
+IsBadNext h body s f = (state_value s ≢ None) × IsBadEnd h body f
+
+abbrev pub state_begins : HeaderData → BodyData → Part Sign (Unit {0}) HoaCause
+state_begins h body = one state_value (IsBadNext h body)
+
 abbrev pub state : HeaderData → BodyData → Part Sign BodyData HoaCause
-state h body = then_by (item_name (codes "State:")) (λ _. then_by (state_label h) (λ label. then_by (state_number h body) (λ n.
+state h body = then_by (state_begins h body) (λ _. then_by (state_label h) (λ label. then_by (state_number h body) (λ n.
     then_by state_name (λ _. then_by (marks h) (λ ns. mapped (with_row body) (edges h body (empty_row n label ns)))))))
 
 abbrev pub is_end : Kind → Bool
 is_end kinds.End = true
 is_end kind = false
 
-abbrev pub ended : BodyData → Part Sign BodyData HoaCause
-ended body = mapped (λ _. body) (mark is_end)
+abbrev pub IsBadClose : HeaderData → BodyData → Sign → HoaCause → Type 0
+IsBadClose h body s f = (is_end s.kind ≡ true) × IsBadEnd h body f
+
+abbrev pub ended : HeaderData → BodyData → Part Sign BodyData HoaCause
+ended h body = mapped (λ _. body) (one (mark_in is_end) (IsBadClose h body))
 
 abbrev pub body : HeaderData → Part Sign BodyData HoaCause
-body h = then_by (many (state h) no_rows) ended
+body h = then_by (many (state h) no_rows) (ended h)
