@@ -2,6 +2,9 @@ pub mod Scanning
 pub mod Streams
 pub mod Relation
 pub mod Openings
+pub mod SingleSigns
+pub mod NameLemmas
+pub mod NumberLemmas
 pub mod OperandLaws
 pub mod LabelLaws
 pub mod ConditionLaws

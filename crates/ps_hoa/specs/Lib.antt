@@ -10,3 +10,5 @@ pub mod Files
 pub mod Header
 pub mod Body
 pub mod Texts
+pub mod Values
+pub mod Reads

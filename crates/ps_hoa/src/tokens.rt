@@ -1,6 +1,6 @@
 //! Tokens of an HOA text.
 
-ghost use Rattle.std.specs.Prelude.{◌≡◌, ℕ, ◌+◌, ◌-◌, ◌<◌, ◌≤◌, ◌↔◌, false, List, [], length, drop, slice_index, slice_range, IfSome, IsTrue, ◌==◌, ◌&&◌};
+ghost use Rattle.std.specs.Prelude.{◌≡◌, ℕ, ◌+◌, ◌-◌, ◌<◌, ◌≤◌, ◌↔◌, false, true, List, [], length, drop, slice_index, slice_range, IfSome, IsTrue, ◌==◌, ◌&&◌};
 ghost use Rattle.std.specs.List.{prefix_len};
 ghost use Rattle.std.specs.Str.{bytes_eq};
 ghost use Rattle.ps_text.specs.Answers.{Piece};
@@ -492,6 +492,13 @@ impl<'a> Tokens<'a> {
         self.marks.pass(kind, token.text);
         self.at = behind_blanks(self.source, stop);
         token
+    }
+
+    /// Whether the next token is of that kind.
+    pub(crate) fn is_at(&self, kind: Kind) -> bool
+        ensures { (result ≡ true) ↔ ((next_of (stream_of self.now)).sign.kind ≡ kind) }
+    {
+        self.peek().kind == kind
     }
 
     /// What the next token is by itself, and where it ends.

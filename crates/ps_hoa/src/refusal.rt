@@ -1,0 +1,70 @@
+//! The fault of a token.
+
+ghost use Rattle.std.specs.Prelude.{◌≡◌, Some};
+ghost use Rattle.ps_text.specs.Parts.{refusal_of};
+ghost use Rattle.ps_hoa.specs.Causes.{begins_capital, hoa_causes, is_spelled, is_unknown_capital, own_cause};
+ghost use Rattle.ps_hoa.specs.Spans.{piece_of};
+
+use crate::fault::{HoaCause, HoaFault};
+use crate::tokens::{Kind, Token, is_same};
+
+/// A fault of that cause at a token.
+pub(crate) fn fault_at(token: Token, cause: HoaCause) -> HoaFault
+    ensures { result ≡ HoaFault.Text cause token.entry.start }
+{
+    HoaFault::Text {
+        cause,
+        offset: token.start,
+    }
+}
+
+/// The fault of a token that can't stand where it stands.
+pub(crate) fn refused(token: Token) -> HoaFault
+    ensures { result ≡ HoaFault.Text (refusal_of hoa_causes (Some (piece_of token.entry).sign)) token.entry.start }
+{
+    fault_at(token, refusal(token))
+}
+
+/// The cause that a token is by itself, or else that of the grammar.
+fn refusal(token: Token) -> HoaCause
+    ensures { result ≡ refusal_of hoa_causes (Some (piece_of token.entry).sign) }
+{
+    match token.kind {
+        Kind::OpenComment => HoaCause::Token,
+        Kind::Odd => HoaCause::Token,
+        Kind::ZeroRun => HoaCause::Number,
+        Kind::HeaderAgain => HoaCause::HeaderTwice,
+        Kind::Header if is_unknown(token.text) => HoaCause::UnknownHeader,
+        Kind::Abort => HoaCause::Aborted,
+        Kind::Behind => HoaCause::SeveralAutomata,
+        _ => HoaCause::Syntax,
+    }
+}
+
+/// Whether a name begins with a capital and is none that the grammar spells.
+#[tactic(auto, unfolding(crate::specs::Causes::is_unknown_capital))]
+fn is_unknown(name: &[u8]) -> bool
+    ensures { result ≡ is_unknown_capital name.now }
+{
+    !is_spelled(name) && begins_capital(name)
+}
+
+/// Whether a name is one that begins with a capital and that the grammar spells.
+fn is_spelled(name: &[u8]) -> bool
+    ensures { result ≡ is_spelled name.now }
+{
+    is_same(name, b"HOA:")
+        || is_same(name, b"States:")
+        || is_same(name, b"Start:")
+        || is_same(name, b"AP:")
+        || is_same(name, b"Alias:")
+        || is_same(name, b"Acceptance:")
+        || is_same(name, b"State:")
+}
+
+/// Whether the first byte is one of `A` to `Z`.
+fn begins_capital(name: &[u8]) -> bool
+    ensures { result ≡ begins_capital name.now }
+{
+    matches!(name, [b'A'..=b'Z', ..])
+}
