@@ -10,3 +10,6 @@ pub mod LabelLaws
 pub mod ConditionLaws
 pub mod BodyLaws
 pub mod StateLaws
+pub mod SignLaws
+pub mod HeaderLaws
+pub mod ItemChoice
