@@ -15,6 +15,15 @@ const EXAMPLE: &str =
 /// Its answer.
 const ANSWER: &[u8] = b"closed\n";
 
+/// A game behind each command that reads a certificate of it, and the answer to the one below.
+const CERTIFIED: [(&str, &str); 2] = [
+    ("closed\n10 11 0 10,12; 12 22 0 10;\n%%\n", "closed\n"),
+    ("check\n10 11 0 10,12; 12 22 0 10;\n%%\n", "valid\n"),
+];
+
+/// A certificate of that game.
+const CERTIFICATE: &str = "psyncert 1\nvertices 2\nodd 11\neven 22\n10 0 12 30\n12 0 10 40\n";
+
 /// The answer where a read fails.
 const UNREADABLE: &[u8] = b"fault 25 ReadFault\n";
 
@@ -31,6 +40,26 @@ fn worked_rows(rt: HostRuntime) -> Result<(), Fail> {
             row.name
         );
         assert_eq!(rt; status, row.status, "{}", row.name);
+    }
+    Ok(())
+}
+
+#[test]
+fn certificates_cut_short(rt: HostRuntime) -> Result<(), Fail> {
+    for (game, answer) in CERTIFIED {
+        // Behind each byte; the whole text comes last.
+        for end in 0..=CERTIFICATE.len() {
+            let mut input = game.as_bytes().to_vec(rt.alloc())?;
+            input.extend_from_slice(&CERTIFICATE.as_bytes()[..end])?;
+            let mut reader = Script::new(input.as_slice());
+            let mut writer = Written::new(rt.alloc());
+            let status = run(rt.alloc(), &mut reader, &mut writer);
+            let refused = format!(in rt.alloc(); "fault 53 Syntax at {end}\n")?;
+            let is_whole = end == CERTIFICATE.len();
+            let expected = if is_whole { answer } else { refused.as_str() };
+            assert_eq!(rt; writer.text.as_slice(), expected.as_bytes(), "cut at {end}");
+            assert_eq!(rt; status, u8::from(!is_whole), "cut at {end}");
+        }
     }
     Ok(())
 }
