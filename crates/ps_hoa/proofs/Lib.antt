@@ -13,3 +13,5 @@ pub mod StateLaws
 pub mod SignLaws
 pub mod HeaderLaws
 pub mod ItemChoice
+pub mod FileLaws
+pub mod OneReading

@@ -64,7 +64,7 @@ digit_class b h = go (class_of b) h
 
 -- ## Runs
 
-run_len : (p : ℕ → Bool) (run rest : List ℕ) → AllBytes p run → StopsBefore p rest → prefix_len p (run ++ rest) ≡ length run
+pub run_len : (p : ℕ → Bool) (run rest : List ℕ) → AllBytes p run → StopsBefore p rest → prefix_len p (run ++ rest) ≡ length run
 run_len p [] [] all stops = refl
 run_len p [] (b ∷ bs) all stops = rw stops refl
 run_len p (b ∷ bs) rest all stops = rw (all.0, run_len p bs rest all.1 stops) (let e : 1 + length bs ≡ suc (length bs) = omega arith in e)
@@ -638,7 +638,7 @@ token_is OpenComment text rest i = rw i.begins (by_class 47 (42 ∷ rest) Slash 
         (take n rest, refl, (comment_sound (length rest) rest 0 n (omega arith) is).0))
 token_is kind text rest stands = stand_step kind text rest stands
 
-part_is : (part more : List ℕ) → IsBlankPart part → (step_of (part ++ more) ≡ Skip (length part)) × (0 < length part)
+pub part_is : (part more : List ℕ) → IsBlankPart part → (step_of (part ++ more) ≡ Skip (length part)) × (0 < length part)
 part_is part more (inl b) = rw b.1 (by_class b.0 more Blank b.2, omega arith)
 part_is part more (inr c) = rw c.1 (by_class 47 (42 ∷ c.0 ++ more) Slash class_47 ∙ ap comment_by (comment_found more c.2) ∙ (let e : 2 + length c.0 ≡ suc (suc (length c.0)) = omega arith in ap (λ (n : ℕ). Skip n) e), omega arith)
 

@@ -4,6 +4,7 @@
 pub mod condition;
 pub mod expressions;
 pub mod fault;
+mod laws;
 mod names;
 mod number;
 pub mod opening;
@@ -12,4 +13,5 @@ pub mod tokens;
 
 pub use condition::Cond;
 pub use fault::{HoaCause, HoaFault};
+pub use laws::one_answer;
 pub use tokens::{Kind, Token, Tokens};
