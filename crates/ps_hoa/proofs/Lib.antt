@@ -14,4 +14,5 @@ pub mod SignLaws
 pub mod HeaderLaws
 pub mod ItemChoice
 pub mod FileLaws
+pub mod Answering
 pub mod OneReading

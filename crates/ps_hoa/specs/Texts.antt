@@ -3,7 +3,8 @@
 --     IsBehindBlanks bytes blanks rest      rest is what stands behind all blanks and comments
 --     Reads bytes answer      the meaning of a text without a cause, and else its first cause. The stages go one behind the other:
 --               the length, `HOA:`, the version, and what is behind it by its tokens
-use Rattle.std.specs.Prelude.{◌≡◌, ◌≢◌, ℕ, ◌+◌, ◌<◌, ◌≤◌, ◌||◌, Bool, true, List, [], ◌++◌, length, codes, nat_eq, None, Some, Result, Err}
+--     Answers view bytes result      what the reader answers
+use Rattle.std.specs.Prelude.{◌≡◌, ◌≢◌, ℕ, ◌+◌, ◌<◌, ◌≤◌, ◌||◌, Bool, true, List, [], ◌++◌, length, codes, nat_eq, None, Some, Result, Ok, Err}
 use Rattle.std.specs.Option.{unwrap_or}
 use Rattle.ps_text.specs.Answers.{Piece, Found}
 use Rattle.ps_text.specs.Parts.{Part, then_by, mapped, PartAnswers}
@@ -79,3 +80,13 @@ pub data Reads (bytes : List ℕ) : Result FileData (Found HoaCause) → Type 0 
 abbrev pub IsRefusedAs : List ℕ → HoaFault → Type 0
 IsRefusedAs bytes (faults.Text cause offset) = Reads bytes (at_offset cause offset)
 IsRefusedAs bytes faults.OutOfMemory = ⊥
+
+-- the same, and nothing where memory ran out
+abbrev pub IsFaultOf : List ℕ → HoaFault → Type 0
+IsFaultOf bytes (faults.Text cause offset) = Reads bytes (at_offset cause offset)
+IsFaultOf bytes faults.OutOfMemory = Unit {0}
+
+-- what the reader answers, whose value means what view says
+abbrev pub Answers : {X : Type 0} → (X → FileData) → List ℕ → Result X HoaFault → Type 0
+Answers view bytes (Ok x) = Reads bytes (Ok (view x))
+Answers view bytes (Err fault) = IsFaultOf bytes fault
