@@ -8,6 +8,8 @@ pub mod NumberLemmas
 pub mod OperandLaws
 pub mod LabelLaws
 pub mod ConditionLaws
+pub mod RowReading
+pub mod LabelReading
 pub mod BodyLaws
 pub mod StateLaws
 pub mod SignLaws

@@ -4,6 +4,7 @@
 pub mod condition;
 pub mod expressions;
 pub mod fault;
+mod label;
 mod laws;
 mod names;
 mod number;

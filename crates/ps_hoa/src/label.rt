@@ -1,0 +1,157 @@
+//! The reading of labels.
+
+ghost use Rattle.std.specs.Prelude.{◌≡◌, ◌↔◌, true};
+ghost use Rattle.ps_label.specs.Expression.{expression};
+ghost use Rattle.ps_text.specs.Parts.{NoBad};
+ghost use Rattle.ps_hoa.specs.Labels as labels;
+ghost use Rattle.ps_hoa.specs.Operands.{is_right, mark, mark_in, nesting_limit};
+ghost use Rattle.ps_hoa.specs.Reads.{Reads, Takes};
+ghost use Rattle.ps_hoa.specs.Spans.{piece_of};
+
+use crate::fault::{HoaCause, HoaFault};
+use crate::names::Scope;
+use crate::number::int_of;
+use crate::refusal::{fault_at, refused};
+use crate::tokens::{Kind, Token, Tokens, is_same};
+use ps_label::Label;
+use std::alloc::Global;
+
+/// `!` and `(` may nest as many deep.
+pub(crate) const NESTING_LIMIT: usize = 256;
+
+/// Reads a label.
+pub(crate) fn label(alloc: Global, tokens: &mut Tokens, scope: &Scope) -> Result<Label, HoaFault>
+    ensures { Reads expression (labels.label scope.now nesting_limit) tokens.old result tokens.new }
+{
+    disjunction(alloc, tokens, scope, NESTING_LIMIT)
+}
+
+/// Reads operands with `|` between them, where `!` and `(` may nest so many deep.
+#[cycle(label)]
+fn disjunction(
+    alloc: Global,
+    tokens: &mut Tokens,
+    scope: &Scope,
+    room: usize,
+) -> Result<Label, HoaFault>
+    ensures { Reads expression (labels.label scope.now room) tokens.old result tokens.new }
+{
+    let first = conjunction(alloc, tokens, scope, room)?;
+    if !tokens.is_at(Kind::Or) {
+        return Ok(first);
+    }
+    let mut operands = Vec::new(alloc);
+    operands.push(first)?;
+    'more: while tokens.is_at(Kind::Or) {
+        tokens.advance();
+        operands.push(conjunction(alloc, tokens, scope, room)?)?;
+    }
+    Ok(Label::Either(operands))
+}
+
+/// Reads operands with `&` between them.
+#[cycle(label)]
+fn conjunction(
+    alloc: Global,
+    tokens: &mut Tokens,
+    scope: &Scope,
+    room: usize,
+) -> Result<Label, HoaFault>
+    ensures { Reads expression (labels.conjunction (labels.operand scope.now room)) tokens.old result tokens.new }
+{
+    let first = operand(alloc, tokens, scope, room)?;
+    if !tokens.is_at(Kind::And) {
+        return Ok(first);
+    }
+    let mut operands = Vec::new(alloc);
+    operands.push(first)?;
+    'more: while tokens.is_at(Kind::And) {
+        tokens.advance();
+        operands.push(operand(alloc, tokens, scope, room)?)?;
+    }
+    Ok(Label::Both(operands))
+}
+
+/// Reads an operand of `&`.
+#[cycle(label)]
+fn operand(
+    alloc: Global,
+    tokens: &mut Tokens,
+    scope: &Scope,
+    room: usize,
+) -> Result<Label, HoaFault>
+    ensures { Reads expression (labels.operand scope.now room) tokens.old result tokens.new }
+{
+    if room > 0 && tokens.is_at(Kind::Not) {
+        tokens.advance();
+        let negated = operand(alloc, tokens, scope, room - 1)?;
+        return Ok(Label::Neg(Box::new(alloc, negated)?));
+    }
+    if room > 0 && tokens.is_at(Kind::LeftParen) {
+        tokens.advance();
+        let inner = disjunction(alloc, tokens, scope, room - 1)?;
+        right_paren(tokens)?;
+        return Ok(inner);
+    }
+    leaf(tokens, scope, room)
+}
+
+/// Reads an operand of one sign.
+fn leaf(tokens: &mut Tokens, scope: &Scope, room: usize) -> Result<Label, HoaFault>
+    ensures { Reads expression (labels.leaf scope.now room) tokens.old result tokens.new }
+{
+    let token = tokens.advance();
+    leaf_of(token, scope, room)
+}
+
+/// The operand that a token is.
+fn leaf_of(token: Token, scope: &Scope, room: usize) -> Result<Label, HoaFault>
+    ensures { Takes expression (labels.leaf_in scope.now.names) (labels.BadLeaf scope.now room) (piece_of token.entry) result }
+{
+    match token.kind {
+        Kind::Word if is_same(token.text, b"t") => Ok(Label::Truth(true)),
+        Kind::Word if is_same(token.text, b"f") => Ok(Label::Truth(false)),
+        Kind::Int => match int_of(token.text) {
+            None => Err(fault_at(token, HoaCause::Limit)),
+            Some(number) if is_beyond(scope.propositions, number) => {
+                Err(fault_at(token, HoaCause::Range))
+            }
+            Some(number) => Ok(Label::Atom(number)),
+        },
+        Kind::AliasName => match scope.aliases.number(token.text) {
+            None => Err(fault_at(token, HoaCause::Alias)),
+            Some(number) => Ok(Label::Named(number)),
+        },
+        Kind::Not if room == 0 => Err(fault_at(token, HoaCause::Limit)),
+        Kind::LeftParen if room == 0 => Err(fault_at(token, HoaCause::Limit)),
+        _ => Err(refused(token)),
+    }
+}
+
+/// Whether there is no proposition of that number, as far as their number is known.
+fn is_beyond(propositions: Option<usize>, number: u32) -> bool
+    ensures { (result ≡ true) ↔ labels.IsBeyond propositions number }
+{
+    match propositions {
+        None => false,
+        Some(count) => count <= number as usize,
+    }
+}
+
+/// Reads a `)`.
+pub(crate) fn right_paren(tokens: &mut Tokens) -> Result<(), HoaFault>
+    ensures { Reads (λ u. u) (mark is_right) tokens.old result tokens.new }
+{
+    let token = tokens.advance();
+    right_paren_of(token)
+}
+
+/// The token is a `)`.
+fn right_paren_of(token: Token) -> Result<(), HoaFault>
+    ensures { Takes (λ u. u) (mark_in is_right) NoBad (piece_of token.entry) result }
+{
+    match token.kind {
+        Kind::RightParen => Ok(()),
+        _ => Err(refused(token)),
+    }
+}
