@@ -1,7 +1,5 @@
 -- The classes of bytes that the tokens of a game text are made of.
 use Rattle.std.specs.Prelude.{ℕ, Bool, false, List, [], ◌∷◌, ◌==◌, ◌&&◌, ◌||◌, nat_le, not}
-use Rattle.ps_pgsolver.specs.declared.token.Class.{Class}
-use Rattle.ps_pgsolver.specs.declared.token.Class.TheVariants.{Blank, Digit, Letter, Inner}
 
 -- a tab, a line's end, the bytes up to 13, or a space
 abbrev pub is_blank : ℕ → Bool
@@ -16,12 +14,6 @@ is_letter b = (nat_le 65 b && nat_le b 90) || (nat_le 97 b && nat_le b 122)
 -- anything but a quote
 abbrev pub is_inner : ℕ → Bool
 is_inner b = not (b == 34)
-
-abbrev pub in_class : Class → ℕ → Bool
-in_class Blank = is_blank
-in_class Digit = is_digit
-in_class Letter = is_letter
-in_class Inner = is_inner
 
 -- whether the last byte of a text is of this class
 abbrev pub ends_in : (ℕ → Bool) → List ℕ → Bool

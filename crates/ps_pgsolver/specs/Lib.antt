@@ -1,4 +1,5 @@
 pub mod Bytes
+pub mod Classes
 pub mod Signs
 pub mod Lexer
 pub mod Heads

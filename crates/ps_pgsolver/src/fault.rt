@@ -5,6 +5,7 @@ ghost use Rattle.ps_pgsolver.specs.Causes.{cause_name, cause_number};
 ghost use Rattle.std.specs.Prelude.{◌≡◌};
 
 use std::alloc::{AllocError, AllocFailed};
+use thiserror::Error;
 
 /// Why a game text is refused.
 #[derive(Clone, Copy, Debug, PartialEq, Eq)]
@@ -54,11 +55,18 @@ impl PgCause {
 }
 
 /// Why a game was not read.
-#[derive(Clone, Copy, Debug, PartialEq, Eq)]
+#[derive(Clone, Copy, Debug, PartialEq, Eq, Error)]
 pub enum PgFault {
-    /// The text is refused, at this offset in bytes from its beginning.
-    Text { cause: PgCause, offset: usize },
+    /// The text is refused.
+    #[error("{} at byte {offset}", .cause.name())]
+    Text {
+        /// What is wrong.
+        cause: PgCause,
+        /// The byte at which it stands, from 0; at the end of the text it is the text's length.
+        offset: usize,
+    },
     /// Memory ran out.
+    #[error("out of memory")]
     OutOfMemory,
 }
 

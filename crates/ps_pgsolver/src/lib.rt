@@ -7,6 +7,8 @@ mod ids;
 mod laws;
 mod node;
 mod reader;
+#[cfg(test)]
+mod tests;
 mod token;
 
 pub use fault::{PgCause, PgFault};

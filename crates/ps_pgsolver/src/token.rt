@@ -2,7 +2,8 @@
 
 ghost use Rattle.std.specs.Prelude.{◌≡◌, ◌+◌, ◌≤◌, ◌<◌, ◌^◌, [], length, take, drop};
 ghost use Rattle.std.specs.List.{prefix_len, AllPass};
-ghost use Rattle.ps_pgsolver.specs.Bytes.{in_class, is_blank, is_digit, is_letter, ends_in};
+ghost use Rattle.ps_pgsolver.specs.Bytes.{is_blank, is_digit, is_letter, ends_in};
+ghost use Rattle.ps_pgsolver.specs.Classes.{in_class};
 ghost use Rattle.ps_text.specs.Answers.{Stream};
 ghost use Rattle.ps_pgsolver.specs.Signs.{Sign};
 ghost use Rattle.ps_pgsolver.specs.Heads.{sign_of, IsPlain};

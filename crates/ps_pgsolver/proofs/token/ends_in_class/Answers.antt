@@ -1,5 +1,5 @@
 use Rattle.std.proofs.Common.{ap, sym, ◌∙◌}
-use Rattle.ps_pgsolver.specs.Bytes.{in_class}
+use Rattle.ps_pgsolver.specs.Classes.{in_class}
 use Rattle.ps_pgsolver.proofs.TokenLemmas.{ends_in-last}
 use Rattle.ps_pgsolver.proofs.token.ends_in_class.Goals as goal
 
