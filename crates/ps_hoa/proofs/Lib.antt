@@ -18,3 +18,6 @@ pub mod ItemChoice
 pub mod FileLaws
 pub mod Answering
 pub mod OneReading
+pub mod NameSets
+pub mod HeaderSigns
+pub mod NextSign

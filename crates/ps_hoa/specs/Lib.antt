@@ -12,3 +12,6 @@ pub mod Body
 pub mod Texts
 pub mod Values
 pub mod Reads
+pub mod Memory
+pub mod Views
+pub mod Signs

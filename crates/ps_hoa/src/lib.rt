@@ -4,15 +4,20 @@
 pub mod condition;
 pub mod expressions;
 pub mod fault;
+pub mod file;
+mod header;
 mod label;
 mod laws;
 mod names;
 mod number;
 pub mod opening;
+mod propositions;
 mod refusal;
+mod signs;
 pub mod tokens;
 
 pub use condition::Cond;
 pub use fault::{HoaCause, HoaFault};
+pub use file::{Edge, Guard, HoaFile, Row};
 pub use laws::one_answer;
 pub use tokens::{Kind, Token, Tokens};

@@ -1,6 +1,6 @@
 //! Names in the order in which they came, each once.
 
-ghost use Rattle.std.specs.Prelude.{◌≡◌, ◌++◌, ◌∷◌, [], None, OnOk};
+ghost use Rattle.std.specs.Prelude.{◌≡◌, ◌++◌, ◌∷◌, [], None, OnOk, length};
 ghost use Rattle.ps_hoa.specs.Labels.{alias_number};
 
 use indexmap::IndexSet;
@@ -29,6 +29,13 @@ impl<'a> Names<'a> {
         Names {
             table: IndexSet::new(alloc),
         }
+    }
+
+    /// How many names there are.
+    pub(crate) fn len(&self) -> usize
+        ensures { result ≡ length self.now }
+    {
+        self.table.len()
     }
 
     /// The number of a name, if it is one of them.

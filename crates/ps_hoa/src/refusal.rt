@@ -50,7 +50,7 @@ fn is_unknown(name: &[u8]) -> bool
 }
 
 /// Whether a name is one that begins with a capital and that the grammar spells.
-fn is_spelled(name: &[u8]) -> bool
+pub(crate) fn is_spelled(name: &[u8]) -> bool
     ensures { result ≡ is_spelled name.now }
 {
     is_same(name, b"HOA:")
@@ -63,7 +63,7 @@ fn is_spelled(name: &[u8]) -> bool
 }
 
 /// Whether the first byte is one of `A` to `Z`.
-fn begins_capital(name: &[u8]) -> bool
+pub(crate) fn begins_capital(name: &[u8]) -> bool
     ensures { result ≡ begins_capital name.now }
 {
     matches!(name, [b'A'..=b'Z', ..])

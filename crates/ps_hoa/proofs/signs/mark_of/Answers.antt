@@ -1,0 +1,10 @@
+use Rattle.std.proofs.Common.{◌≡◌, true, false, sym, ◌∙◌}
+use Rattle.ps_text.specs.Parts.{NoBad}
+use Rattle.ps_hoa.specs.Operands.{mark_in}
+use Rattle.ps_hoa.specs.Spans.{piece_of}
+use Rattle.ps_hoa.proofs.HeaderSigns.{takes_refused, mark_none}
+use Rattle.ps_hoa.proofs.signs.mark_of.Goals as goal
+
+pub returns-else-is_kind : goal.returns-else-is_kind
+returns-else-is_kind c = λ test is. takes_refused (λ u. u) (mark_in test) NoBad (piece_of c.args.token) _
+    (mark_none test c.args.kind (piece_of c.args.token).sign is (λ e. let wrong : true ≡ false = sym (c.is_kind.ensures.1 e) ∙ c.if-is_kind.false in cc)) (λ g b. b) c.refused.ensures

@@ -1,0 +1,53 @@
+-- What the grammar sees of the values of the code.
+--     guard_data, edge_data, row_data, file_data      of the parts of a whole text, and of the whole
+--     header_data      of a header
+use Rattle.std.specs.Prelude.{map, option_map}
+use Rattle.ps_label.specs.Expression.{expression}
+use Rattle.ps_label.specs.Truth.{expressions}
+use Rattle.ps_hoa.specs.Files.{GuardData, EdgeData, RowData, FileData, stated, of_state, at_letter}
+use Rattle.ps_hoa.specs.Header.{AcceptanceData, HeaderData}
+use Rattle.ps_hoa.specs.Values.{condition_of}
+use Rattle.ps_hoa.specs.declared.file.Guard.{Guard}
+use Rattle.ps_hoa.specs.declared.file.Guard.TheVariants.{Stated, OfState, Letter}
+use Rattle.ps_hoa.specs.declared.file.Edge.{Edge}
+use Rattle.ps_hoa.specs.declared.file.Row.{Row}
+use Rattle.ps_hoa.specs.declared.file.HoaFile.{HoaFile}
+use Rattle.ps_hoa.specs.declared.header.Acceptance.{Acceptance}
+use Rattle.ps_hoa.specs.declared.header.Header.{Header}
+
+abbrev pub guard_data : Guard → GuardData
+guard_data (Stated label) = stated (expression label)
+guard_data OfState = of_state
+guard_data (Letter k) = at_letter k
+
+abbrev pub edge_data : Edge → EdgeData
+edge_data e = record { guard = guard_data e.guard; target = e.target; marks = e.marks.items }
+
+abbrev pub row_data : Row → RowData
+row_data r = record { state = r.state; label = option_map expression r.label; marks = r.marks.items; edges = map edge_data r.edges.items }
+
+abbrev pub file_data : HoaFile → FileData
+file_data f = record {
+  states = f.states;
+  start = f.start;
+  names = f.names;
+  controllable = f.controllable.keys;
+  aliases = expressions f.aliases;
+  sets = f.sets;
+  condition = condition_of f.condition;
+  rows = map row_data f.rows.items;
+}
+
+abbrev pub acceptance_data : Acceptance → AcceptanceData
+acceptance_data a = record { sets = a.sets; condition = condition_of a.condition }
+
+abbrev pub header_data : Header → HeaderData
+header_data h = record {
+  states = h.states;
+  start = h.start;
+  names = h.names;
+  controllable = option_map (λ c. c.keys) h.controllable;
+  alias_names = h.alias_names;
+  aliases = expressions h.aliases.items;
+  acceptance = option_map acceptance_data h.acceptance;
+}

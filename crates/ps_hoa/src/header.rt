@@ -1,0 +1,79 @@
+//! What a header says.
+
+ghost use Rattle.std.specs.Prelude.{◌≡◌, length};
+ghost use Rattle.ps_hoa.specs.Header.{names_of, no_items};
+ghost use Rattle.ps_hoa.specs.Body.{body_scope, sets_of};
+ghost use Rattle.ps_hoa.specs.Views.{header_data};
+
+use crate::condition::Cond;
+use crate::names::{Names, Scope};
+use crate::propositions::Propositions;
+use indexmap::IndexSet;
+use ps_label::Label;
+use std::alloc::Global;
+
+/// The acceptance sets, and the condition over them.
+#[derive(Drop)]
+pub(crate) struct Acceptance {
+    pub(crate) sets: u32,
+    pub(crate) condition: Cond,
+}
+
+/// What the items of a header say.
+#[derive(Drop)]
+pub(crate) struct Header<'a> {
+    pub(crate) states: Option<u32>,
+    pub(crate) start: Option<u32>,
+    pub(crate) names: Option<Propositions>,
+    pub(crate) controllable: Option<IndexSet<u32>>,
+    pub(crate) alias_names: Names<'a>,
+    pub(crate) aliases: Vec<Label>,
+    pub(crate) acceptance: Option<Acceptance>,
+}
+
+impl<'a> Header<'a> {
+    /// No items.
+    pub(crate) fn new(alloc: Global) -> Self
+        ensures { header_data result ≡ no_items }
+    {
+        Header {
+            states: None,
+            start: None,
+            names: None,
+            controllable: None,
+            alias_names: Names::new(alloc),
+            aliases: Vec::new(alloc),
+            acceptance: None,
+        }
+    }
+
+    /// The number of propositions.
+    pub(crate) fn propositions(&self) -> usize
+        ensures { result ≡ length (names_of (header_data self.now)) }
+    {
+        match &self.names {
+            None => 0,
+            Some(names) => names.len(),
+        }
+    }
+
+    /// The number of acceptance sets.
+    pub(crate) fn sets(&self) -> u32
+        ensures { result ≡ sets_of (header_data self.now) }
+    {
+        match &self.acceptance {
+            None => 0,
+            Some(acceptance) => acceptance.sets,
+        }
+    }
+
+    /// What a label of the body may speak of.
+    pub(crate) fn scope(&self) -> Scope<'_>
+        ensures { result ≡ body_scope (header_data self.now) }
+    {
+        Scope {
+            aliases: &self.alias_names,
+            propositions: Some(self.propositions()),
+        }
+    }
+}

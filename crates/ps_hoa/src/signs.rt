@@ -1,0 +1,149 @@
+//! Single signs of a text.
+
+ghost use Rattle.std.specs.Prelude.{◌≡◌, ◌≢◌, ◌≤◌, ◌↔◌, Bool, IfOk, false, is_some, true};
+ghost use Rattle.ps_text.specs.Parts.{NoBad, barred as barred_by};
+ghost use Rattle.ps_hoa.specs.Header.{int as int_part, int_in, IsAbove, IsAlternating, item_name as item_name_part, name_value, string as string_part, string_in, unescaped as meaning};
+ghost use Rattle.ps_hoa.specs.Operands.{mark as mark_part, mark_in, number_limit};
+ghost use Rattle.ps_hoa.specs.Reads.{Reads, Takes};
+ghost use Rattle.ps_hoa.specs.Signs.{inside, IsTestOf, name_in};
+ghost use Rattle.ps_hoa.specs.Spans.{piece_of};
+ghost use Rattle.ps_hoa.specs.declared.tokens.Kind.{Kind};
+
+use crate::fault::{HoaCause, HoaFault};
+use crate::number::int_of;
+use crate::refusal::{fault_at, refused};
+use crate::tokens::{Kind, Token, Tokens, is_same};
+use std::alloc::{AllocError, Global};
+
+/// Reads a sign of a kind.
+pub(crate) fn mark(tokens: &mut Tokens, kind: Kind) -> Result<(), HoaFault>
+    requires { kind ≢ Kind.Finish }
+    ensures { (test : Kind → Bool) → IsTestOf test kind → Reads (λ u. u) (mark_part test) tokens.old result tokens.new }
+{
+    let token = tokens.advance();
+    mark_of(token, kind)
+}
+
+/// The token is of a kind.
+fn mark_of(token: Token, kind: Kind) -> Result<(), HoaFault>
+    ensures { (test : Kind → Bool) → IsTestOf test kind → Takes (λ u. u) (mark_in test) NoBad (piece_of token.entry) result }
+{
+    if is_kind(token, kind) {
+        Ok(())
+    } else {
+        Err(refused(token))
+    }
+}
+
+/// Whether a token is of a kind.
+fn is_kind(token: Token, kind: Kind) -> bool
+    ensures { (result ≡ true) ↔ (token.entry.kind ≡ kind) }
+{
+    token.kind == kind
+}
+
+/// Reads the name of an item.
+pub(crate) fn item_name(tokens: &mut Tokens, name: &[u8]) -> Result<(), HoaFault>
+    ensures { Reads (λ u. u) (item_name_part name.now) tokens.old result tokens.new }
+{
+    let token = tokens.advance();
+    item_name_of(token, name)
+}
+
+/// The token is the name of an item.
+fn item_name_of(token: Token, name: &[u8]) -> Result<(), HoaFault>
+    ensures { Takes (λ u. u) (name_in name.now) NoBad (piece_of token.entry) result }
+{
+    if is_item_name(token, name) {
+        Ok(())
+    } else {
+        Err(refused(token))
+    }
+}
+
+/// Whether a token is the name of an item.
+pub(crate) fn is_item_name(token: Token, name: &[u8]) -> bool
+    ensures { result ≡ is_some (name_value name.now token.entry.kind token.entry.text.now) }
+{
+    token.kind == Kind::Header && is_same(token.text, name)
+}
+
+/// Reads a number up to a limit.
+pub(crate) fn int(tokens: &mut Tokens, limit: u32) -> Result<u32, HoaFault>
+    ensures part { Reads (λ n. n) (int_part limit) tokens.old result tokens.new }
+    ensures within { IfOk result (λ n. n ≤ limit) }
+{
+    let token = tokens.advance();
+    int_up_to(token, limit)
+}
+
+/// The number up to a limit that a token is.
+fn int_up_to(token: Token, limit: u32) -> Result<u32, HoaFault>
+    ensures sign { Takes (λ n. n) int_in (IsAbove limit) (piece_of token.entry) result }
+    ensures within { IfOk result (λ n. n ≤ limit) }
+{
+    if token.kind != Kind::Int {
+        return Err(refused(token));
+    }
+    match int_of(token.text) {
+        Some(number) if number <= limit => Ok(number),
+        _ => Err(fault_at(token, HoaCause::Limit)),
+    }
+}
+
+/// Reads a state in front of which no `&` stands.
+pub(crate) fn start_state(tokens: &mut Tokens) -> Result<u32, HoaFault>
+    ensures { Reads (λ n. n) (barred_by (int_part number_limit) IsAlternating) tokens.old result tokens.new }
+{
+    let state = int(tokens, u32::MAX)?;
+    if tokens.is_at(Kind::And) {
+        return Err(fault_at(tokens.peek(), HoaCause::Alternating));
+    }
+    Ok(state)
+}
+
+/// Reads a string between quotes, and gives what stands between them.
+pub(crate) fn quoted<'a>(tokens: &mut Tokens<'a>) -> Result<&'a [u8], HoaFault>
+    ensures { Reads (λ inner. meaning false inner.now) string_part tokens.old result tokens.new }
+{
+    let token = tokens.advance();
+    quoted_of(token)
+}
+
+/// What stands between the quotes of a token.
+pub(crate) fn quoted_of<'a>(token: Token<'a>) -> Result<&'a [u8], HoaFault>
+    ensures { Takes (λ inner. meaning false inner.now) string_in NoBad (piece_of token.entry) result }
+{
+    if token.kind == Kind::Text {
+        Ok(between_quotes(token.text))
+    } else {
+        Err(refused(token))
+    }
+}
+
+/// The text without its first and its last byte.
+fn between_quotes(text: &[u8]) -> &[u8]
+    ensures { result.now ≡ inside text.now }
+{
+    if text.len() < 2 {
+        return &[];
+    }
+    &text[1..text.len() - 1]
+}
+
+/// What stands between quotes means this: a backslash and a byte stand for that byte.
+pub(crate) fn unescaped(alloc: Global, inner: &[u8]) -> Result<Vec<u8>, AllocError>
+    ensures { IfOk result (λ bytes. bytes.items ≡ meaning false inner.now) }
+{
+    let mut bytes = Vec::new(alloc);
+    let mut escaped = false;
+    for byte in inner {
+        if !escaped && *byte == b'\\' {
+            escaped = true;
+        } else {
+            bytes.push(*byte)?;
+            escaped = false;
+        }
+    }
+    Ok(bytes)
+}
