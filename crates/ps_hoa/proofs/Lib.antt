@@ -21,3 +21,6 @@ pub mod OneReading
 pub mod NameSets
 pub mod HeaderSigns
 pub mod NextSign
+pub mod Keeping
+pub mod SoundLabels
+pub mod SoundHeaders

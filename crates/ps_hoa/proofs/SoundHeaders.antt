@@ -1,0 +1,166 @@
+-- A header that was read has no flaw, at most 64 propositions, and aliases that each speak of earlier ones alone.
+--     keeps_header      for each header
+--     ordered_aliases      the aliases of a header that was read, as labels want them
+use Rattle.std.proofs.Common.{◌≡◌, ℕ, zero, suc, ◌+◌, ◌<◌, ◌≤◌, ◌⊎◌, true, List, [], ◌∷◌, ◌++◌, length, codes, Some, refl, sym, subst, inl, inr, ◌∙◌, arith, length-append}
+use Rattle.std.specs.Option.{IfSome}
+use Rattle.std.proofs.Math.Decide.{dec_lt}
+use Rattle.ps_label.specs.Expression.{Expression, AreOrderedFrom, AreOrdered}
+use Rattle.ps_text.specs.Parts.{one, times, many, barred}
+use Rattle.ps_text.specs.Readers.{Reads}
+use Rattle.ps_text.specs.Answers.{Stream, signs}
+use Rattle.ps_text.proofs.Simple.{none_is_some, same_some}
+use Rattle.ps_hoa.specs.Header.{HeaderData, no_items, names_of, state_limit, proposition_limit, alias_limit, set_limit, item_name, int_in, IsAbove, int, string, with_states, states_item, IsAlternating, is_name_among, with_start, start_item, string_in, IsBadName, with_name, proposition_name, with_names, names_item, alias_value, IsBadAlias, header_scope, with_alias, alias_item, with_acceptance, acceptance_item, index, with_controllable, controllable_item, unchanged, tool_item, name_item, read_over_value, read_over, item, AnAliasBeyond, IsBadHeader, out_of_range, body_value, IsBadBody, body_mark, header}
+use Rattle.ps_hoa.specs.Labels.{label}
+use Rattle.ps_hoa.specs.Conditions.{condition}
+use Rattle.ps_hoa.specs.Operands.{number_limit, nesting_limit}
+use Rattle.ps_hoa.specs.Tokens.{Sign}
+use Rattle.ps_hoa.specs.declared.fault.HoaCause.{HoaCause}
+use Rattle.ps_hoa.specs.declared.fault.HoaCause.TheVariants as causes
+use Rattle.ps_hoa.specs.declared.tokens.Kind.{Kind}
+use Rattle.ps_hoa.specs.declared.tokens.Kind.TheVariants.{Body, Int, Text, Word}
+use Rattle.ps_hoa.proofs.Keeping.{Keeps, keeps_nothing, keeps_less, keeps_give, keeps_one, keeps_then, keeps_either, keeps_mapped, keeps_many, keeps_read}
+use Rattle.ps_hoa.proofs.SoundLabels.{NamesBelow, within_of, keeps_label}
+use Rattle.ps_hoa.proofs.HeaderLaws.{start_name, other_name}
+
+-- ## Numbers
+
+within_limit : (limit : ℕ) (t : Sign) (n : ℕ) → int_in t ≡ Some n → ((f : HoaCause) → IsAbove limit t f → ⊥) → n ≤ limit
+within_limit limit t n e good = elim (dec_lt limit n) as (λ _. n ≤ limit) [
+  | yes h ↦ absurd (good causes.Limit (subst (λ o. IfSome o (λ m. (limit < m) × (causes.Limit ≡ causes.Limit))) (sym e) (h, refl), λ k. none_is_some n (sym k ∙ e)))
+  | no h ↦ omega arith
+]
+
+pub keeps_int : (limit : ℕ) → Keeps (int limit) (λ n. n ≤ limit)
+keeps_int limit = keeps_one (λ n. n ≤ limit) int_in (IsAbove limit) (λ t n e good. within_limit limit t n e good)
+
+-- ## What the items so far keep
+
+-- each of these expressions, the first of which stands for the alias of that number, speaks of earlier aliases alone
+abbrev pub NamesRise : ℕ → List Expression → Type 0
+NamesRise k [] = Unit {0}
+NamesRise k (e ∷ es) = NamesBelow k e × NamesRise (k + 1) es
+
+-- the aliases have a name each, and speak of earlier ones alone
+pub record AreAliases (names : List (List ℕ)) (es : List Expression) : Type 0 where
+  pub one_each : length names ≡ length es
+  pub few : length es ≤ alias_limit
+  pub rise : NamesRise 0 es
+
+-- what the items so far say: the states, propositions, aliases and sets
+abbrev pub Kept : HeaderData → Type 0
+Kept h = IfSome h.states (λ n. n ≤ state_limit) × (length (names_of h) ≤ proposition_limit) × AreAliases h.alias_names h.aliases × IfSome h.acceptance (λ a. a.sets ≤ set_limit)
+
+rise_push : (k : ℕ) (es : List Expression) (e : Expression) → NamesRise k es → NamesBelow (k + length es) e → NamesRise k (es ++ e ∷ [])
+rise_push k [] e r n = (let z : k + 0 ≡ k = omega arith in subst (λ m. NamesBelow m e) z n, tt)
+rise_push k (x ∷ es) e r n = (r.0, rise_push (k + 1) es e r.1 (let z : k + suc (length es) ≡ (k + 1) + length es = omega arith in subst (λ m. NamesBelow m e) z n))
+
+one_more_alias : (names : List (List ℕ)) (es : List Expression) (name : List ℕ) (e : Expression) → AreAliases names es → length names < alias_limit → NamesBelow (length names) e →
+    AreAliases (names ++ name ∷ []) (es ++ e ∷ [])
+one_more_alias names es name e a l n =
+    let x : length names ≡ length es = a.one_each in
+    let y : length (names ++ name ∷ []) ≡ length names + 1 = length-append names (name ∷ []) in
+    let z : length (es ++ e ∷ []) ≡ length es + 1 = length-append es (e ∷ []) in
+    let w : length names ≡ 0 + length es = omega (arith, x) in
+    record {
+      one_each = omega (arith, x, y, z);
+      few = omega (arith, x, z, l);
+      rise = rise_push 0 es e a.rise (subst (λ m. NamesBelow m e) w n);
+    }
+
+keeps_count : (n : ℕ) (names : List (List ℕ)) → Keeps (times n proposition_name names) (λ all. length all ≡ length names + n)
+keeps_count zero names = keeps_give (λ all. length all ≡ length names + 0) names (omega arith)
+keeps_count (suc n) names = keeps_then (keeps_mapped (λ all. length all ≡ length names + 1) (with_name names) (one string_in (IsBadName names)) (λ text v i q. length-append names (v ∷ [])))
+    (λ more l. keeps_less (times n proposition_name more) (λ all m. let x : length more ≡ length names + 1 = l in let y : length all ≡ length more + n = m in
+    (let z : length all ≡ length names + suc n = omega (arith, x, y) in z)) (keeps_count n more))
+
+few_more : (names : List (List ℕ)) (t : Sign) (name : List ℕ) → alias_value t.kind t.text ≡ Some name → ((f : HoaCause) → IsBadAlias names t f → ⊥) → length names < alias_limit
+few_more names t name e good = elim (dec_lt (length names) alias_limit) as (λ _. length names < alias_limit) [ yes h ↦ h | no h ↦ absurd (good causes.Limit (bad (omega arith))) ]
+  where
+    bad : alias_limit ≤ length names → IsBadAlias names t causes.Limit
+    bad l = (
+      subst (λ o. IfSome o (λ n. ((alias_limit ≤ length names) × (causes.Limit ≡ causes.Limit)) ⊎ ((is_name_among n names ≡ true) × (causes.Limit ≡ causes.Alias)))) (sym e) (inl (l, refl)),
+      λ k. none_is_some name (sym k ∙ e),
+    )
+
+-- ## Items
+
+module _ (h : HeaderData) (k : Kept h) where
+  keeps_states : Keeps (states_item h) Kept
+  keeps_states = keeps_then (keeps_nothing (item_name (codes "States:"))) (λ _ _. keeps_mapped Kept (with_states h) (int state_limit)
+      (λ text n i q. (keeps_int state_limit text n i q, k.1, k.2, k.3)))
+
+  keeps_start : Keeps (start_item h) Kept
+  keeps_start = keeps_then (keeps_nothing (start_name h)) (λ _ _. keeps_mapped Kept (with_start h) (barred (int number_limit) IsAlternating) (λ text n i q. k))
+
+  keeps_names : Keeps (names_item h) Kept
+  keeps_names = keeps_then (keeps_nothing (item_name (codes "AP:"))) (λ _ _. keeps_then (keeps_int proposition_limit) (λ n l.
+      keeps_mapped Kept (with_names h) (times n proposition_name [])
+      (λ text names i q. (k.0, (let m : length names ≡ 0 + n = keeps_count n [] text names i q in omega (arith, l, m)), k.2, k.3))))
+
+  keeps_alias : Keeps (alias_item h) Kept
+  keeps_alias = keeps_then (keeps_nothing (item_name (codes "Alias:"))) (λ _ _.
+      keeps_then (keeps_one (λ _. length h.alias_names < alias_limit) (λ s. alias_value s.kind s.text) (IsBadAlias h.alias_names) (few_more h.alias_names)) (λ name l.
+      keeps_mapped Kept (with_alias h name) (label (header_scope h) nesting_limit)
+      (λ text e i q. (k.0, k.1, one_more_alias h.alias_names h.aliases name e k.2 l (keeps_label (header_scope h) nesting_limit text e i q).0, k.3))))
+
+  keeps_acceptance : Keeps (acceptance_item h) Kept
+  keeps_acceptance = keeps_then (keeps_nothing (item_name (codes "Acceptance:"))) (λ _ _. keeps_then (keeps_int set_limit) (λ n l.
+      keeps_mapped Kept (with_acceptance h n) (condition nesting_limit) (λ text c i q. (k.0, k.1, k.2, l))))
+
+  keeps_controllable : Keeps (controllable_item h) Kept
+  keeps_controllable = keeps_then (keeps_nothing (item_name (codes "controllable-AP:"))) (λ _ _. keeps_mapped Kept (with_controllable h) (many index []) (λ text ns i q. k))
+
+  keeps_tool : Keeps (tool_item h) Kept
+  keeps_tool = keeps_then (keeps_nothing (item_name (codes "tool:"))) (λ _ _. keeps_then (keeps_nothing string) (λ _ _.
+      keeps_either (keeps_mapped Kept (unchanged h) string (λ text v i q. k)) (keeps_give Kept h k)))
+
+  keeps_name : Keeps (name_item h) Kept
+  keeps_name = keeps_then (keeps_nothing (item_name (codes "name:"))) (λ _ _. keeps_mapped Kept (unchanged h) string (λ text v i q. k))
+
+same_value : (h g : HeaderData) (kind : Kind) → read_over_value h kind ≡ Some g → h ≡ g
+same_value h g Int e = same_some h g e
+same_value h g Text e = same_some h g e
+same_value h g Word e = same_some h g e
+same_value h g kind e = absurd (none_is_some g e)
+
+keeps_read_over : (h : HeaderData) → Kept h → Keeps (read_over h) Kept
+keeps_read_over h k = keeps_one Kept (λ s. read_over_value h s.kind) (IsAbove number_limit) (λ t g e good. subst Kept (same_value h g t.kind e) k)
+
+keeps_item : (h : HeaderData) → Kept h → Keeps (item h) Kept
+keeps_item h k = keeps_either (keeps_states h k) (keeps_either (keeps_start h k) (keeps_either (keeps_names h k) (keeps_either (keeps_alias h k) (keeps_either (keeps_acceptance h k)
+    (keeps_either (keeps_controllable h k) (keeps_either (keeps_tool h k) (keeps_either (keeps_name h k)
+    (keeps_then (keeps_nothing other_name) (λ _ _. keeps_many read_over keeps_read_over h k)))))))))
+
+-- ## The header
+
+abbrev pub HasNoFlaw : HeaderData → Type 0
+HasNoFlaw h = (f : HoaCause) → IsBadHeader h f → ⊥
+
+same_header : (h g : HeaderData) (kind : Kind) → body_value h kind ≡ Some g → (kind ≡ Body) × (h ≡ g)
+same_header h g Body e = (refl, same_some h g e)
+same_header h g kind e = absurd (none_is_some g e)
+
+keeps_body_mark : (h : HeaderData) → Kept h → Keeps (body_mark h) (λ g. Kept g × HasNoFlaw g)
+keeps_body_mark h k = keeps_one (λ g. Kept g × HasNoFlaw g) (λ s. body_value h s.kind) (IsBadBody h) (λ t g e good.
+    let p = same_header h g t.kind e in subst (λ z. Kept z × HasNoFlaw z) p.1 (k, λ f b. good f (p.0, b)))
+
+no_items_kept : Kept no_items
+no_items_kept = (tt, omega arith, record { one_each = refl; few = omega arith; rise = tt }, tt)
+
+pub keeps_header : Keeps header (λ h. Kept h × HasNoFlaw h)
+keeps_header = keeps_then (keeps_many item keeps_item no_items no_items_kept) keeps_body_mark
+
+-- ## The aliases
+
+rise_ordered : (count k : ℕ) (es : List Expression) → count ≤ 64 → NamesRise k es → (AnAliasBeyond count es → ⊥) → AreOrderedFrom k es
+rise_ordered count k [] l r n = tt
+rise_ordered count k (e ∷ es) l r n = (within_of count k e l r.0 (λ h. n (inl h)), rise_ordered count (k + 1) es l r.1 (λ h. n (inr h)))
+
+pub aliases_ordered : (h : HeaderData) → Kept h → HasNoFlaw h → AreOrdered h.aliases
+aliases_ordered h k n = rise_ordered (length (names_of h)) 0 h.aliases k.1 k.2.rise (λ b. n causes.Range (out_of_range (inr (inl b))))
+
+pub read_kept : (old new : Stream Sign) (h : HeaderData) → Reads header old h new → Kept h × HasNoFlaw h
+read_kept old new h m = keeps_read header keeps_header (signs old.pieces) (signs new.pieces) h m.1
+
+pub ordered_aliases : (old new : Stream Sign) (h : HeaderData) → Reads header old h new → AreOrdered h.aliases
+ordered_aliases old new h m = let k = read_kept old new h m in aliases_ordered h k.0 k.1
