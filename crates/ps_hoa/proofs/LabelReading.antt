@@ -1,62 +1,27 @@
 -- How labels are read: the rows of their operands, and the forms of an operand.
-use Rattle.std.proofs.Common.{◌≡◌, ℕ, zero, suc, ◌-◌, ◌<◌, Bool, true, [], Option, None, Some, Result, refl, subst, inl, inr, arith}
+use Rattle.std.proofs.Common.{◌≡◌, ℕ, zero, suc, ◌-◌, ◌<◌, [], Option, Result, refl, subst, inl, inr, arith}
 use Rattle.ps_label.specs.Expression.{Expression, not_of}
-use Rattle.ps_text.specs.Answers.{Stream, Found, signs, next_of as there_of}
-use Rattle.ps_text.specs.Parts.{Part, either, then_by, mapped}
+use Rattle.ps_text.specs.Answers.{Stream, Found, next_of as there_of}
+use Rattle.ps_text.specs.Parts.{Part, either, mapped}
 use Rattle.ps_text.specs.Readers.{Stops, Reads, Meets}
 use Rattle.ps_text.proofs.Laws.{Laws, Joint, Nothing, Or}
 use Rattle.ps_text.proofs.Simple.{laws_mapped}
-use Rattle.ps_text.proofs.Covered.{Enters, Avoids, enters_read, enters_then}
-use Rattle.ps_text.proofs.Exits.{reads_then, reads_mapped, stops_first, stops_behind, stops_mapped}
+use Rattle.ps_text.proofs.Covered.{Enters, Avoids, enters_then}
+use Rattle.ps_text.proofs.Exits.{reads_then, reads_mapped, stops_behind, stops_mapped}
 use Rattle.ps_text.proofs.Branches.{Stands, reads_as, stops_as_well, meets_as, left_entered, right_entered, left_otherwise}
 use Rattle.ps_hoa.specs.Causes.{hoa_causes, found_of}
 use Rattle.ps_hoa.specs.Labels.{ScopeData, leaf_in, BadLeaf, leaf, all_together, any_together, conjunction, disjunction, negation, operand, label}
-use Rattle.ps_hoa.specs.Operands.{is_not, is_and, is_or, is_left, is_right, mark, inner, before, closed}
+use Rattle.ps_hoa.specs.Operands.{is_not, is_and, is_or, is_left, is_right, mark, inner}
 use Rattle.ps_hoa.specs.Scan.{next_of, behind_next}
 use Rattle.ps_hoa.specs.Tokens.{Sign}
 use Rattle.ps_hoa.specs.declared.fault.HoaCause.{HoaCause}
 use Rattle.ps_hoa.specs.declared.fault.HoaFault.{HoaFault}
-use Rattle.ps_hoa.specs.declared.tokens.Kind.{Kind}
-use Rattle.ps_hoa.specs.declared.tokens.Kind.TheVariants.{Int, Not, And, Or as OrSign, LeftParen, RightParen}
-use Rattle.ps_hoa.proofs.OperandLaws.{Odd, Of, false_true, nothing_apart, joint_mark, joint_closed, laws_held}
-use Rattle.ps_hoa.proofs.LabelLaws.{is_start, AndMore, AndOrMore, laws_not, laws_and, laws_or, laws_left, laws_right, laws_both, laws_either_row, laws_nested, laws_negation, laws_deep, laws_single, laws_operand, not_left, single_nested, apart_or, apart_right}
+use Rattle.ps_hoa.specs.declared.tokens.Kind.TheVariants.{Int, Not, And, Or as OrSign, LeftParen}
+use Rattle.ps_hoa.proofs.OperandLaws.{Odd, Of, nothing_apart, joint_mark}
+use Rattle.ps_hoa.proofs.LabelLaws.{is_start, AndMore, AndOrMore, laws_not, laws_and, laws_or, laws_both, laws_either_row, laws_nested, laws_negation, laws_deep, laws_single, laws_operand, not_left, single_nested, apart_or, apart_right}
 use Rattle.ps_hoa.proofs.SingleSigns.{IsOfSigns}
-use Rattle.ps_hoa.proofs.RowReading.{Tests, Row, mark_read, mark_elsewhere}
-
-pub tests_not : Tests is_not Not
-tests_not = record { passes = refl; only = only; proper = refl }
-  where
-    only : (k : Kind) → is_not k ≡ true → k ≡ Not
-    only Not e = refl
-    only k e = absurd (false_true e)
-
-pub tests_and : Tests is_and And
-tests_and = record { passes = refl; only = only; proper = refl }
-  where
-    only : (k : Kind) → is_and k ≡ true → k ≡ And
-    only And e = refl
-    only k e = absurd (false_true e)
-
-pub tests_or : Tests is_or OrSign
-tests_or = record { passes = refl; only = only; proper = refl }
-  where
-    only : (k : Kind) → is_or k ≡ true → k ≡ OrSign
-    only OrSign e = refl
-    only k e = absurd (false_true e)
-
-pub tests_left : Tests is_left LeftParen
-tests_left = record { passes = refl; only = only; proper = refl }
-  where
-    only : (k : Kind) → is_left k ≡ true → k ≡ LeftParen
-    only LeftParen e = refl
-    only k e = absurd (false_true e)
-
-pub tests_right : Tests is_right RightParen
-tests_right = record { passes = refl; only = only; proper = refl }
-  where
-    only : (k : Kind) → is_right k ≡ true → k ≡ RightParen
-    only RightParen e = refl
-    only k e = absurd (false_true e)
+use Rattle.ps_hoa.proofs.MarkReading.{tests_not, tests_and, tests_or, tests_left, mark_read, mark_elsewhere, mark_enters, enters_left, enters_right, enters_inner, inner_reads, inner_fails, inner_stays_open}
+use Rattle.ps_hoa.proofs.RowReading.{Row}
 
 pub and_row : (scope : ScopeData) (room : ℕ) → Row is_and And (operand scope room) (Of is_start) Nothing
 and_row scope room = record {
@@ -79,19 +44,6 @@ leaf_signs scope room = record { sign = record { kind = Int; text = [] }; value 
 
 -- ## The forms of an operand
 
-enters_left : {V : Type 0} (P Q : Part Sign V HoaCause) (there : Option Sign) → Enters P there → Enters (either P Q) there
-enters_left P Q None e = e
-enters_left P Q (Some t) (inl b) = inl (record { more = b.more; value = b.value; is_text = inl b.is_text })
-enters_left P Q (Some t) (inr c) = inr (c.0, inl c.1)
-
-enters_right : {V : Type 0} (P Q : Part Sign V HoaCause) (there : Option Sign) → Enters Q there → Enters (either P Q) there
-enters_right P Q None e = e
-enters_right P Q (Some t) (inl b) = inl (record { more = b.more; value = b.value; is_text = inr b.is_text })
-enters_right P Q (Some t) (inr c) = inr (c.0, inr c.1)
-
-mark_enters : (test : Kind → Bool) → Laws Odd (mark test) (Of test) Nothing ⊥ → {old mid : Stream Sign} → Reads (mark test) old tt mid → Enters (mark test) (there_of old)
-mark_enters test l {old} {mid} r = enters_read (mark test) (signs old.pieces) (signs mid.pieces) tt (λ w h. l.null w h) r.1
-
 -- an operand where one more may nest
 module _ (scope : ScopeData) (room : ℕ) where
   abbrev under : Part Sign Expression HoaCause
@@ -109,17 +61,8 @@ module _ (scope : ScopeData) (room : ℕ) where
   joint_not : Joint (mark is_not) (λ _. mapped not_of under)
   joint_not = joint_mark is_not laws_not (laws_mapped not_of under laws_under)
 
-  joint_left : Joint (mark is_left) (λ _. then_by (disjunction under) (λ v. closed v))
-  joint_left = joint_mark is_left laws_left (laws_held laws_right laws_row_under apart_right)
-
-  joint_right : Joint (disjunction under) (λ v. closed v)
-  joint_right = joint_closed laws_right laws_row_under apart_right
-
   enters_not : {old mid : Stream Sign} → Reads (mark is_not) old tt mid → Enters (negation under) (there_of old)
   enters_not {old} r = enters_then (mark is_not) (λ _. mapped not_of under) joint_not (there_of old) (mark_enters is_not laws_not r)
-
-  enters_paren : {old mid : Stream Sign} → Reads (mark is_left) old tt mid → Enters (inner (disjunction under)) (there_of old)
-  enters_paren {old} r = enters_then (mark is_left) (λ _. then_by (disjunction under) (λ v. closed v)) joint_left (there_of old) (mark_enters is_left laws_left r)
 
   abbrev nested : Part Sign Expression HoaCause
   nested = either (negation under) (inner (disjunction under))
@@ -128,7 +71,7 @@ module _ (scope : ScopeData) (room : ℕ) where
   stands_not {old} r = left_entered (laws_negation under laws_under) laws_held_under (there_of old) not_left (enters_not r)
 
   stands_paren : {old mid : Stream Sign} → Reads (mark is_left) old tt mid → Stands (there_of old) (inner (disjunction under)) nested
-  stands_paren {old} r = right_entered (laws_negation under laws_under) laws_held_under (there_of old) not_left (enters_paren r)
+  stands_paren {old} r = right_entered (laws_negation under laws_under) laws_held_under (there_of old) not_left (enters_inner laws_row_under apart_right r)
 
   nests : (there : Option Sign) → Enters nested there → Stands there nested (operand scope (suc room))
   unfolding operand
@@ -138,7 +81,7 @@ module _ (scope : ScopeData) (room : ℕ) where
   nests_not {old} r = nests (there_of old) (enters_left (negation under) (inner (disjunction under)) (there_of old) (enters_not r))
 
   nests_paren : {old mid : Stream Sign} → Reads (mark is_left) old tt mid → Stands (there_of old) nested (operand scope (suc room))
-  nests_paren {old} r = nests (there_of old) (enters_right (negation under) (inner (disjunction under)) (there_of old) (enters_paren r))
+  nests_paren {old} r = nests (there_of old) (enters_right (negation under) (inner (disjunction under)) (there_of old) (enters_inner laws_row_under apart_right r))
 
   not_reads_under : {old mid new : Stream Sign} {v : Expression} → Reads (mark is_not) old tt mid → Reads under mid v new → Reads (operand scope (suc room)) old (not_of v) new
   not_reads_under r m = reads_as (nests_not r) (reads_as (stands_not r) (reads_then joint_not r (reads_mapped not_of m)))
@@ -149,17 +92,17 @@ module _ (scope : ScopeData) (room : ℕ) where
 
   paren_reads_under : {old mid next new : Stream Sign} {v : Expression} → Reads (mark is_left) old tt mid → Reads (disjunction under) mid v next → Reads (mark is_right) next tt new →
       Reads (operand scope (suc room)) old v new
-  paren_reads_under {v = v} r m n = reads_as (nests_paren r) (reads_as (stands_paren r) (reads_then joint_left r (reads_then joint_right m (reads_mapped (before v) n))))
+  paren_reads_under {v = v} r m n = reads_as (nests_paren r) (reads_as (stands_paren r) (inner_reads laws_row_under apart_right r m n))
 
   paren_fails_under : {old mid : Stream Sign} (o : Option (Found HoaCause)) → Reads (mark is_left) old tt mid → Stops hoa_causes (disjunction under) mid o →
       Stops hoa_causes (operand scope (suc room)) old o
   paren_fails_under {old} {mid} o r s = stops_as_well hoa_causes old o (nests_paren r) (stops_as_well hoa_causes old o (stands_paren r)
-      (stops_behind hoa_causes joint_left r o (stops_first hoa_causes joint_right mid o s)))
+      (inner_fails laws_row_under apart_right o r s))
 
   paren_stays_open_under : {old mid next : Stream Sign} {v : Expression} (o : Option (Found HoaCause)) → Reads (mark is_left) old tt mid → Reads (disjunction under) mid v next →
       Stops hoa_causes (mark is_right) next o → Stops hoa_causes (operand scope (suc room)) old o
   paren_stays_open_under {old} {next = next} {v = v} o r m s = stops_as_well hoa_causes old o (nests_paren r) (stops_as_well hoa_causes old o (stands_paren r)
-      (stops_behind hoa_causes joint_left r o (stops_behind hoa_causes joint_right m o (stops_mapped hoa_causes (before v) (mark is_right) next o s))))
+      (inner_stays_open laws_row_under apart_right o r m s))
 
   leaf_under : {X : Type 0} (view : X → Expression) (old new : Stream Sign) (result : Result X HoaFault) → Avoids (Or (Of is_not) (Of is_left)) (there_of old) →
       Meets found_of hoa_causes view (leaf scope (suc room)) old result new → Meets found_of hoa_causes view (operand scope (suc room)) old result new

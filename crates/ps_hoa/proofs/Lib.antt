@@ -8,8 +8,11 @@ pub mod NumberLemmas
 pub mod OperandLaws
 pub mod LabelLaws
 pub mod ConditionLaws
+pub mod MarkReading
 pub mod RowReading
 pub mod LabelReading
+pub mod CondRows
+pub mod ConditionReading
 pub mod BodyLaws
 pub mod StateLaws
 pub mod SignLaws

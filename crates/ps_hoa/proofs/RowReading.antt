@@ -1,70 +1,21 @@
 -- The loop that reads operands with a sign between them.
---     Tests test kind      the test passes that kind, and no other
 --     IsRow sign operand old vs now      from old on these operands were read; where it was only one, the sign stands at now
 --     Row sign operand      the laws that the lemmas on rows need
-use Rattle.std.proofs.Common.{◌≡◌, ℕ, ◌+◌, ◌<◌, ◌≤◌, ◌↔◌, Bool, true, false, cond, List, [], ◌∷◌, ◌++◌, length, map, Option, None, Some, Ok, refl, sym, ap, subst, ◌∙◌, arith, length-append}
+use Rattle.std.proofs.Common.{◌≡◌, ◌+◌, ◌<◌, ◌↔◌, Bool, true, false, List, [], ◌∷◌, ◌++◌, length, map, Option, refl, sym, ap, subst, ◌∙◌, arith, length-append}
 use Rattle.std.proofs.lemmas.List.{map-append}
-use Rattle.ps_text.specs.Answers.{Piece, Stream, Found, first_of, signs, next_of as there_of}
-use Rattle.ps_text.specs.Parts.{Part, NoBad, many}
+use Rattle.ps_text.specs.Answers.{Stream, Found}
+use Rattle.ps_text.specs.Parts.{Part, many}
 use Rattle.ps_text.specs.Readers.{Stops, Reads, Carries}
 use Rattle.ps_text.proofs.Laws.{Laws, Nothing, Apart}
-use Rattle.ps_text.proofs.Simple.{none_is_some, same_some}
-use Rattle.ps_text.proofs.Covered.{Avoids}
 use Rattle.ps_text.proofs.Branches.{reads_shrinks}
 use Rattle.ps_hoa.specs.Causes.{hoa_causes}
-use Rattle.ps_hoa.specs.Operands.{mark_in, mark, single, with_last, joined, further, operands, row}
+use Rattle.ps_hoa.specs.Operands.{mark, single, with_last, joined, further, operands, row}
 use Rattle.ps_hoa.specs.Scan.{next_of, behind_next}
 use Rattle.ps_hoa.specs.Tokens.{Sign}
 use Rattle.ps_hoa.specs.declared.fault.HoaCause.{HoaCause}
 use Rattle.ps_hoa.specs.declared.tokens.Kind.{Kind}
-use Rattle.ps_hoa.specs.declared.tokens.Kind.TheVariants.{Finish}
 use Rattle.ps_hoa.proofs.OperandLaws.{Odd, Of, false_true, row_fails, row_alone, row_begins, row_goes_on, row_stops, row_ends}
-use Rattle.ps_hoa.proofs.SingleSigns.{IsOfSigns, reads_one}
-
--- ## A sign by itself
-
-pub record Tests (test : Kind → Bool) (kind : Kind) : Type 0 where
-  pub passes : test kind ≡ true
-  pub only : (k : Kind) → test k ≡ true → k ≡ kind
-  pub proper : test Finish ≡ false
-
-module _ {test : Kind → Bool} {kind : Kind} (is : Tests test kind) where
-  pub one_mark : IsOfSigns (mark_in test) NoBad
-  one_mark = record {
-    sign = record { kind = kind; text = [] };
-    value = tt;
-    taken = ap (λ b. cond b (Some tt) None) is.passes;
-    end = ap (λ b. cond b (Some tt) None) is.proper;
-    good = λ f b. b;
-  }
-
-  -- the sign stands there, and was taken
-  pub mark_read : {old new : Stream Sign} → (next_of old).sign.kind ≡ kind → new ≡ behind_next old → Reads (mark test) old tt new
-  mark_read {old = old} {new = new} e n = reads_one (λ u. u) one_mark old new (Ok tt) (record {
-    some = ap (λ b. cond b (Some tt) None) (ap test e ∙ is.passes);
-    good = λ f b. b;
-  }) n
-
-  -- it does not stand there
-  pub mark_elsewhere : (s : Stream Sign) → ((next_of s).sign.kind ≡ kind → ⊥) → Avoids (Of test) (there_of s)
-  mark_elsewhere s differs = go s.pieces s.end differs
-    where
-      go : (ps : List (Piece Sign)) (end : ℕ) → ((next_of (record { pieces = ps; end = end })).sign.kind ≡ kind → ⊥) → Avoids (Of test) (first_of (signs ps))
-      go [] end differs t x h = none_is_some t x
-      go (p ∷ ps) end differs t x h = differs (is.only p.sign.kind (subst (Of test) (sym (same_some p.sign t x)) h))
-
-  pub mark_avoided : (s : Stream Sign) (b : Bool) → (b ≡ true) ↔ ((next_of s).sign.kind ≡ kind) → b ≡ false → Avoids (Of test) (there_of s)
-  mark_avoided s b w e = mark_elsewhere s (λ k. false_true (sym e ∙ w.1 k))
-
--- going on by a token leaves no more pieces
-pub behind_shrinks : (s new : Stream Sign) → new ≡ behind_next s → length new.pieces ≤ length s.pieces
-behind_shrinks s new e = subst (λ (x : Stream Sign). length x.pieces ≤ length s.pieces) (sym e) (go s.pieces s.end)
-  where
-    go : (ps : List (Piece Sign)) (end : ℕ) → length (behind_next (record { pieces = ps; end = end })).pieces ≤ length ps
-    go [] end = omega arith
-    go (p ∷ ps) end = omega arith
-
--- ## Rows
+use Rattle.ps_hoa.proofs.MarkReading.{Tests, mark_read, mark_avoided, behind_shrinks}
 
 -- the values of what a `Vec` holds, one more behind the others
 pub first_value : {X V : Type 0} (view : X → V) (x : X) (none all : List X) → all ≡ none ++ x ∷ [] → none ≡ [] → map view all ≡ single (view x)

@@ -1,6 +1,7 @@
 -- What the code's acceptance conditions are, apart from where their parts lie in memory.
 use Rattle.std.specs.Prelude.{true, false}
-use Rattle.ps_hoa.specs.Conditions.{Condition, Conditions, constant, infinitely, finitely, all_hold, any_holds, last, more}
+use Rattle.ps_hoa.specs.Conditions.{SetData, Condition, Conditions, constant, infinitely, finitely, all_hold, any_holds, last, more}
+use Rattle.ps_hoa.specs.declared.condition.Set.{Set}
 use Rattle.ps_hoa.specs.declared.condition.Cond.{Cond, Always, Never, Inf, Fin, All', Any', Row_of-Cond, end_of-Cond, more_of-Cond}
 
 abbrev mutual
@@ -15,3 +16,6 @@ abbrev mutual
   pub conditions_of : {m : _} → Row_of-Cond m → Conditions
   conditions_of end_of-Cond = last
   conditions_of (more_of-Cond c row) = more (condition_of c) (conditions_of row)
+
+abbrev pub set_data : Set → SetData
+set_data set = record { number = set.number; complemented = set.complemented }

@@ -1,4 +1,19 @@
-//! Acceptance conditions.
+//! Acceptance conditions, and the reading of them.
+
+ghost use Rattle.std.specs.Prelude.{◌≡◌};
+ghost use Rattle.ps_text.specs.Parts.{NoBad, one};
+ghost use Rattle.ps_hoa.specs.Conditions as conditions;
+ghost use Rattle.ps_hoa.specs.Operands.{is_left, mark, mark_in, nesting_limit};
+ghost use Rattle.ps_hoa.specs.Reads.{Reads, Takes};
+ghost use Rattle.ps_hoa.specs.Spans.{piece_of};
+ghost use Rattle.ps_hoa.specs.Values.{condition_of, set_data};
+
+use crate::fault::{HoaCause, HoaFault};
+use crate::label::{NESTING_LIMIT, right_paren};
+use crate::number::int_of;
+use crate::refusal::{fault_at, refused};
+use crate::tokens::{Kind, Token, Tokens, is_same};
+use std::alloc::Global;
 
 /// An acceptance condition: some sets of edges are visited infinitely often, and some finitely often.
 #[derive(Debug, Drop)]
@@ -15,4 +30,177 @@ pub enum Cond {
     All(Vec<Cond>),
     /// At least one of these holds.
     Any(Vec<Cond>),
+}
+
+/// A set by its number, or the complement of that.
+#[derive(Clone, Copy)]
+struct Set {
+    number: u32,
+    complemented: bool,
+}
+
+/// Reads an acceptance condition.
+pub(crate) fn condition(alloc: Global, tokens: &mut Tokens) -> Result<Cond, HoaFault>
+    ensures { Reads condition_of (conditions.condition nesting_limit) tokens.old result tokens.new }
+{
+    disjunction(alloc, tokens, NESTING_LIMIT)
+}
+
+/// Reads operands with `|` between them, where `(` may nest so many deep.
+#[cycle(condition)]
+fn disjunction(alloc: Global, tokens: &mut Tokens, room: usize) -> Result<Cond, HoaFault>
+    ensures { Reads condition_of (conditions.condition room) tokens.old result tokens.new }
+{
+    let first = conjunction(alloc, tokens, room)?;
+    if !tokens.is_at(Kind::Or) {
+        return Ok(first);
+    }
+    let mut operands = Vec::new(alloc);
+    operands.push(first)?;
+    'more: while tokens.is_at(Kind::Or) {
+        tokens.advance();
+        operands.push(conjunction(alloc, tokens, room)?)?;
+    }
+    Ok(Cond::Any(operands))
+}
+
+/// Reads operands with `&` between them.
+#[cycle(condition)]
+fn conjunction(alloc: Global, tokens: &mut Tokens, room: usize) -> Result<Cond, HoaFault>
+    ensures { Reads condition_of (conditions.conjunction (conditions.operand room)) tokens.old result tokens.new }
+{
+    let first = operand(alloc, tokens, room)?;
+    if !tokens.is_at(Kind::And) {
+        return Ok(first);
+    }
+    let mut operands = Vec::new(alloc);
+    operands.push(first)?;
+    'more: while tokens.is_at(Kind::And) {
+        tokens.advance();
+        operands.push(operand(alloc, tokens, room)?)?;
+    }
+    Ok(Cond::All(operands))
+}
+
+/// Reads an operand of `&`.
+#[cycle(condition)]
+fn operand(alloc: Global, tokens: &mut Tokens, room: usize) -> Result<Cond, HoaFault>
+    ensures { Reads condition_of (conditions.operand room) tokens.old result tokens.new }
+{
+    if room > 0 && tokens.is_at(Kind::LeftParen) {
+        tokens.advance();
+        let inner = disjunction(alloc, tokens, room - 1)?;
+        right_paren(tokens)?;
+        return Ok(inner);
+    }
+    atom(tokens, room)
+}
+
+/// Reads an operand that is not in parentheses.
+fn atom(tokens: &mut Tokens, room: usize) -> Result<Cond, HoaFault>
+    ensures { Reads condition_of (conditions.atom room) tokens.old result tokens.new }
+{
+    let Some(often) = often_of(tokens.peek()) else {
+        return constant(tokens, room);
+    };
+    tokens.advance();
+    left_paren(tokens)?;
+    let set = any_set(tokens)?;
+    right_paren(tokens)?;
+    Ok(visits(often, set))
+}
+
+/// The condition that a set is visited infinitely often, or that it is not.
+fn visits(often: bool, set: Set) -> Cond
+    ensures { condition_of result ≡ conditions.visits often (set_data set) }
+{
+    if often {
+        Cond::Inf(set.number, set.complemented)
+    } else {
+        Cond::Fin(set.number, set.complemented)
+    }
+}
+
+/// Whether a token is `Inf`, if it is `Inf` or `Fin`.
+fn often_of(token: Token) -> Option<bool>
+    ensures { result ≡ conditions.often_in (piece_of token.entry).sign }
+{
+    match token.kind {
+        Kind::Word if is_same(token.text, b"Inf") => Some(true),
+        Kind::Word if is_same(token.text, b"Fin") => Some(false),
+        _ => None,
+    }
+}
+
+/// Reads `t` or `f`.
+fn constant(tokens: &mut Tokens, room: usize) -> Result<Cond, HoaFault>
+    ensures { Reads condition_of (one conditions.constant_in (conditions.BadStart room)) tokens.old result tokens.new }
+{
+    let token = tokens.advance();
+    constant_of(token, room)
+}
+
+/// The constant that a token is.
+fn constant_of(token: Token, room: usize) -> Result<Cond, HoaFault>
+    ensures { Takes condition_of conditions.constant_in (conditions.BadStart room) (piece_of token.entry) result }
+{
+    match token.kind {
+        Kind::Word if is_same(token.text, b"t") => Ok(Cond::Always),
+        Kind::Word if is_same(token.text, b"f") => Ok(Cond::Never),
+        Kind::LeftParen if room == 0 => Err(fault_at(token, HoaCause::Limit)),
+        _ => Err(refused(token)),
+    }
+}
+
+/// Reads a set, or the complement of one.
+fn any_set(tokens: &mut Tokens) -> Result<Set, HoaFault>
+    ensures { Reads set_data conditions.any_set tokens.old result tokens.new }
+{
+    if tokens.is_at(Kind::Not) {
+        tokens.advance();
+        return one_set(tokens, true);
+    }
+    one_set(tokens, false)
+}
+
+/// Reads the number of a set.
+fn one_set(tokens: &mut Tokens, complemented: bool) -> Result<Set, HoaFault>
+    ensures { Reads set_data (conditions.set complemented) tokens.old result tokens.new }
+{
+    let token = tokens.advance();
+    set_of(token, complemented)
+}
+
+/// The set that a token is the number of.
+fn set_of(token: Token, complemented: bool) -> Result<Set, HoaFault>
+    ensures { Takes set_data (conditions.set_in complemented) conditions.BadSet (piece_of token.entry) result }
+{
+    match token.kind {
+        Kind::Int => match int_of(token.text) {
+            None => Err(fault_at(token, HoaCause::Limit)),
+            Some(number) => Ok(Set {
+                number,
+                complemented,
+            }),
+        },
+        _ => Err(refused(token)),
+    }
+}
+
+/// Reads a `(`.
+fn left_paren(tokens: &mut Tokens) -> Result<(), HoaFault>
+    ensures { Reads (λ u. u) (mark is_left) tokens.old result tokens.new }
+{
+    let token = tokens.advance();
+    left_paren_of(token)
+}
+
+/// The token is a `(`.
+fn left_paren_of(token: Token) -> Result<(), HoaFault>
+    ensures { Takes (λ u. u) (mark_in is_left) NoBad (piece_of token.entry) result }
+{
+    match token.kind {
+        Kind::LeftParen => Ok(()),
+        _ => Err(refused(token)),
+    }
 }
