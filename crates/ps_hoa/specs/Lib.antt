@@ -3,6 +3,7 @@ pub mod Tokens
 pub mod Scan
 pub mod Spans
 pub mod Causes
+pub mod CauseNames
 pub mod Operands
 pub mod Labels
 pub mod Conditions

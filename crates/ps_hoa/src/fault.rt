@@ -1,10 +1,12 @@
 //! What is wrong with an HOA text.
 
 ghost use Rattle.ps_hoa.specs.declared.fault.HoaFault.TheVariants.{OutOfMemory};
+ghost use Rattle.ps_hoa.specs.CauseNames.{cause_name};
 ghost use Rattle.ps_hoa.specs.Causes.{cause_number};
 ghost use Rattle.std.specs.Prelude.{◌≡◌};
 
 use std::alloc::{AllocError, AllocFailed};
+use thiserror::Error;
 
 /// Why an HOA text is refused.
 #[derive(Clone, Copy, Debug, PartialEq, Eq)]
@@ -78,7 +80,9 @@ impl HoaCause {
     }
 
     /// The cause's name.
-    pub fn name(self) -> &'static str {
+    pub fn name(self) -> &'static str
+        ensures { result.now ≡ cause_name self }
+    {
         match self {
             HoaCause::NotHoa => "NotHoa",
             HoaCause::Version => "Version",
@@ -104,11 +108,18 @@ impl HoaCause {
 }
 
 /// Why an HOA text was not read.
-#[derive(Clone, Copy, Debug, PartialEq, Eq)]
+#[derive(Clone, Copy, Debug, PartialEq, Eq, Error)]
 pub enum HoaFault {
-    /// The text is refused, at this offset in bytes from its beginning.
-    Text { cause: HoaCause, offset: usize },
+    /// The text is refused.
+    #[error("{} at byte {offset}", .cause.name())]
+    Text {
+        /// What is wrong.
+        cause: HoaCause,
+        /// The byte at which it stands, from 0; at the end of the text it is the text's length.
+        offset: usize,
+    },
     /// Memory ran out.
+    #[error("out of memory")]
     OutOfMemory,
 }
 
