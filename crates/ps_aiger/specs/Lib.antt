@@ -5,6 +5,7 @@ pub mod Circuits
 pub mod Drafts
 pub mod Written
 pub mod Causes
+pub mod CauseNames
 pub mod Signs
 pub mod Texts
 pub mod Reading

@@ -1,10 +1,12 @@
 //! Why the text of a circuit is refused.
 
 ghost use Rattle.ps_aiger.specs.declared.fault.AigFault.TheVariants.{OutOfMemory};
+ghost use Rattle.ps_aiger.specs.CauseNames.{cause_name};
 ghost use Rattle.ps_aiger.specs.Causes.{cause_number};
 ghost use Rattle.std.specs.Prelude.{◌≡◌};
 
 use std::alloc::{AllocError, AllocFailed};
+use thiserror::Error;
 
 /// What is wrong with the text of a circuit.
 #[derive(Clone, Copy, Debug, PartialEq, Eq)]
@@ -42,7 +44,9 @@ impl AigCause {
     }
 
     /// The cause's name.
-    pub fn name(self) -> &'static str {
+    pub fn name(self) -> &'static str
+        ensures { result.now ≡ cause_name self }
+    {
         match self {
             AigCause::Syntax => "Syntax",
             AigCause::Literal => "Literal",
@@ -56,11 +60,18 @@ impl AigCause {
 }
 
 /// Why a circuit was not read.
-#[derive(Clone, Copy, Debug, PartialEq, Eq)]
+#[derive(Clone, Copy, Debug, PartialEq, Eq, Error)]
 pub enum AigFault {
-    /// The text is refused, at this offset in bytes from its beginning.
-    Text { cause: AigCause, offset: usize },
+    /// The text is refused.
+    #[error("{} at byte {offset}", .cause.name())]
+    Text {
+        /// What is wrong.
+        cause: AigCause,
+        /// The byte at which it stands, from 0; at the end of the text it is the text's length.
+        offset: usize,
+    },
     /// Memory ran out.
+    #[error("out of memory")]
     OutOfMemory,
 }
 
