@@ -1,0 +1,101 @@
+-- The places of a circuit's variables.
+use Rattle.std.proofs.Common.{◌≡◌, ◌≢◌, ℕ, zero, suc, ◌+◌, ◌*◌, ◌/◌, ◌%◌, ◌<◌, ◌≤◌, inl, inr, List, [], ◌∷◌, ◌++◌, map, length, get_or, refl, sym, ap, subst, ◌∙◌, arith, cond, nat_eq, Some, Option, All, AllPairs, Contains, length-append}
+use Rattle.std.specs.List.{flat_map, position_or_len}
+use Rattle.std.proofs.lemmas.List.{length-map, get_or-map, get_or_default}
+use Rattle.std.proofs.lemmas.List.Sums.{position_or_len_is}
+use Rattle.std.proofs.lemmas.List.Elements.{All-contains, Contains-get_or, Contains-append_left, Contains-append_right}
+use Rattle.std.proofs.lemmas.Bool.{eq-eqb, ne_eqb}
+use borrow.Author.Count.{below_more}
+use Rattle.ps_aiger.specs.declared.parts.Latch.{Latch}
+use Rattle.ps_aiger.specs.declared.parts.Gate.{Gate}
+use Rattle.ps_aiger.specs.Circuits.{CircuitData, IsCircuit, IsDefinition, IsKnown, variable, definitions, readings}
+use Rattle.ps_simulate.specs.Plans.{variables, place_of}
+
+-- one more variable
+pub places-more : (vs : List ℕ) (i : ℕ) (old new : ℕ → Option ℕ) → AllPairs (λ v w. v ≢ w) vs → i < length vs
+    → ((q : ℕ) → new q ≡ cond (nat_eq (get_or vs i 0) q) (Some i) (old q))
+    → ((k : ℕ) → k < i → old (get_or vs k 0) ≡ Some k) → (k : ℕ) → k < i + 1 → new (get_or vs k 0) ≡ Some k
+places-more vs i old new once lt updates before =
+    below_more (λ k. new (get_or vs k 0) ≡ Some k) i
+    (λ k less. updates (get_or vs k 0) ∙ ap (λ t. cond t (Some i) (old (get_or vs k 0))) (ne_eqb _ _ (λ e. once k i 0 less lt (sym e))) ∙ before k less)
+    (updates (get_or vs i 0) ∙ ap (λ t. cond t (Some i) (old (get_or vs i 0))) (eq-eqb _ _ refl))
+
+module _ (c : CircuitData) (is : IsCircuit c) where
+  defined : (k d : ℕ) → k < length (definitions c) → IsDefinition c.most (get_or (definitions c) k d)
+  defined k d lt = is.draft.defined k d lt
+
+  pub variables_at : (k d : ℕ) → k < length (definitions c) → get_or (variables c) (suc k) d ≡ variable (get_or (definitions c) k d)
+  variables_at k d lt = get_or-map variable (definitions c) k d d lt
+
+  many : length (map variable (definitions c)) ≡ length (definitions c)
+  many = length-map (definitions c) variable
+
+  -- no variable has two places
+  pub variables_once : AllPairs (λ v w. v ≢ w) (variables c)
+  variables_once i zero d less lt e = absurd (omega arith)
+  variables_once zero (suc j) d less lt e =
+      let within : j < length (definitions c) = omega (arith, many) in
+      let at = variables_at j d within in
+      let is_definition = defined j d within in
+      omega (arith, at, is_definition.1)
+  variables_once (suc i) (suc j) d less lt e =
+      let within : j < length (definitions c) = omega (arith, many) in
+      let first : i < length (definitions c) = omega arith in
+      is.draft.once i j d (omega arith) within (sym (variables_at i d first) ∙ e ∙ variables_at j d within)
+
+  pub place_of-at : (k : ℕ) → k < length (variables c) → place_of c (get_or (variables c) k 0) ≡ k
+  place_of-at k lt =
+      position_or_len_is (λ w. nat_eq w (get_or (variables c) k 0)) (variables c) k 0 (omega arith)
+      (λ j less. ne_eqb _ _ (λ e. variables_once j k 0 less lt e)) (λ _. eq-eqb _ _ refl)
+
+  known_at : (literal k : ℕ) → k < length (variables c) → get_or (variables c) k 0 ≡ variable literal
+      → (place_of c (variable literal) < length (variables c)) × (get_or (variables c) (place_of c (variable literal)) 0 ≡ variable literal)
+  known_at literal k lt e =
+      let P : ℕ → Type 0 = λ v. (place_of c v < length (variables c)) × (get_or (variables c) (place_of c v) 0 ≡ v) in
+      let here = place_of-at k lt in
+      subst P e (omega (arith, here), ap (λ p. get_or (variables c) p 0) here)
+
+  -- the place of a literal whose variable is 0 or defined
+  pub place_known : (literal : ℕ) → IsKnown (definitions c) literal
+      → (place_of c (variable literal) < length (variables c)) × (get_or (variables c) (place_of c (variable literal)) 0 ≡ variable literal)
+  place_known literal (inl zero_is) = known_at literal 0 (omega arith) (sym zero_is)
+  place_known literal (inr (k, lt, e)) =
+      known_at literal (suc k) (omega arith) (get_or_default (map variable (definitions c)) k 0 (variable literal) lt ∙ e)
+
+  contains_variable : (literal : ℕ) → Contains (definitions c) literal → IsKnown (definitions c) literal
+  contains_variable literal (k, lt, e) =
+      inr (k, omega (arith, many), get_or-map variable (definitions c) k literal (variable literal) lt ∙ ap variable e)
+
+  contains_mapped : {A : Type 0} (f : A → ℕ) (xs : List A) (i : ℕ) (d : A) → i < length xs → Contains (map f xs) (f (get_or xs i d))
+  contains_mapped f xs i d lt = (i, omega (arith, length-map xs f), get_or-map f xs i d (f (get_or xs i d)) lt)
+
+  -- the literals of a gate are known
+  pub gate_known : (i : ℕ) (d : Gate) → i < length c.gates → IsKnown (definitions c) (get_or c.gates i d).literal
+  gate_known i d lt =
+      contains_variable _ (Contains-append_right (c.inputs ++ map (λ l. l.literal) c.latches) _ _ (contains_mapped (λ g. g.literal) c.gates i d lt))
+
+  reads_contain : (gates : List Gate) (i : ℕ) (d : Gate) → i < length gates
+      → Contains (flat_map (λ g. g.first ∷ g.second ∷ []) gates) (get_or gates i d).first × Contains (flat_map (λ g. g.first ∷ g.second ∷ []) gates) (get_or gates i d).second
+  reads_contain [] i d lt = absurd (omega arith)
+  reads_contain (g ∷ gates) zero d lt = ((0, omega arith, refl), (1, omega arith, refl))
+  reads_contain (g ∷ gates) (suc i) d lt =
+      let rest = reads_contain gates i d (omega arith) in
+      (Contains-append_right (g.first ∷ g.second ∷ []) _ _ rest.0, Contains-append_right (g.first ∷ g.second ∷ []) _ _ rest.1)
+
+  pub sides_known : (i : ℕ) (d : Gate) → i < length c.gates
+      → IsKnown (definitions c) (get_or c.gates i d).first × IsKnown (definitions c) (get_or c.gates i d).second
+  sides_known i d lt =
+      let both = reads_contain c.gates i d lt in
+      let front = map (λ l. l.next) c.latches ++ c.outputs in
+      (All-contains (IsKnown (definitions c)) (readings c) _ is.draft.known (Contains-append_right front _ _ both.0),
+      All-contains (IsKnown (definitions c)) (readings c) _ is.draft.known (Contains-append_right front _ _ both.1))
+
+  pub output_known : (i d : ℕ) → i < length c.outputs → IsKnown (definitions c) (get_or c.outputs i d)
+  output_known i d lt =
+      All-contains (IsKnown (definitions c)) (readings c) _ is.draft.known
+      (Contains-append_left (map (λ l. l.next) c.latches ++ c.outputs) _ _ (Contains-append_right (map (λ l. l.next) c.latches) _ _ (Contains-get_or c.outputs i d lt)))
+
+  pub next_known : (i : ℕ) (d : Latch) → i < length c.latches → IsKnown (definitions c) (get_or c.latches i d).next
+  next_known i d lt =
+      All-contains (IsKnown (definitions c)) (readings c) _ is.draft.known
+      (Contains-append_left (map (λ l. l.next) c.latches ++ c.outputs) _ _ (Contains-append_left (map (λ l. l.next) c.latches) _ _ (contains_mapped (λ l. l.next) c.latches i d lt)))

@@ -1,0 +1,9 @@
+use Rattle.std.proofs.Common.{arith}
+use Rattle.ps_simulate.proofs.PlacesLemmas.{next_known}
+use Rattle.ps_simulate.proofs.plan.next_wires.Goals as goal
+
+pub wire-requires : goal.wire-requires
+wire-requires c =
+    rw (c.requires, c.latches-latch-items.ensures.latches)
+    (next_known c.args.circuit.now c.latches-latch-items.ensures.well_formed c.loop-latch.latch-index _
+    (rw c.latches-latch-items.ensures.latches at c.loop-latch-test.true))

@@ -1,0 +1,4 @@
+pub mod Values
+pub mod Simulations
+pub mod Plans
+pub mod Tables

@@ -1,0 +1,78 @@
+-- The table of gates that a simulator works through. A place is that of a variable in a list: 0, and then the variables of
+-- the inputs, the latches and the gates.
+use Rattle.std.specs.Prelude.{◌≡◌, ℕ, ◌+◌, ◌<◌, ◌%◌, ◌==◌, ◌&&◌, Bool, false, not, if◌then◌else◌, List, [], ◌∷◌, map, length, slice_index_or, slice_set, slice_index, Option, Some}
+use Rattle.std.specs.List.{position_or_len}
+use Rattle.ps_aiger.specs.declared.parts.Gate.{Gate}
+use Rattle.ps_aiger.specs.Circuits.{CircuitData, variable, definitions, Reads}
+use Rattle.ps_aiger.specs.Ways.{IsOrder}
+use Rattle.ps_simulate.specs.declared.plan.Wire.{Wire}
+use Rattle.ps_simulate.specs.declared.plan.Row.{Row}
+use Rattle.ps_simulate.specs.declared.plan.Plan.{Plan}
+
+-- the variables by their places
+abbrev pub variables : CircuitData → List ℕ
+variables c = 0 ∷ map variable (definitions c)
+
+abbrev pub place_of : CircuitData → ℕ → ℕ
+place_of c v = position_or_len (λ w. w == v) (variables c)
+
+abbrev pub wire_of : CircuitData → ℕ → Wire
+wire_of c literal = record { place = place_of c (variable literal); is_negated = literal % 2 == 1 }
+
+abbrev pub row_of : CircuitData → Gate → Row
+row_of c g = record { target = place_of c (variable g.literal); first = wire_of c g.first; second = wire_of c g.second }
+
+abbrev pub no_gate : Gate
+no_gate = record { literal = 0; first = 0; second = 0 }
+
+-- the row of the gate at that place
+abbrev pub row_at : CircuitData → ℕ → Row
+row_at c i = row_of c (slice_index_or c.gates i no_gate)
+
+-- the rows stand in an order in which each gate comes behind those that it reads
+pub record AreRows (c : CircuitData) (rows : List Row) : Type 0 where
+  pub order : List ℕ
+  pub is_order : IsOrder (Reads c.gates) (length c.gates) order
+  pub each : rows ≡ map (row_at c) order
+
+pub record IsPlan (c : CircuitData) (p : Plan) : Type 0 where
+  pub size_is : p.size ≡ length (variables c)
+  pub rows_are : AreRows c p.rows.items
+  pub outputs_are : p.outputs.items ≡ map (wire_of c) c.outputs
+  pub nexts_are : p.nexts.items ≡ map (λ l. wire_of c l.next) c.latches
+
+-- the table has the place of each variable of the list
+abbrev pub ArePlaces : List ℕ → (ℕ → Option ℕ) → Type 0
+ArePlaces vs place = (k : ℕ) → k < length vs → place (slice_index vs k) ≡ Some k
+
+-- ---- work
+
+abbrev pub read : List Bool → Wire → Bool
+read values w = if w.is_negated then not (slice_index_or values w.place false) else slice_index_or values w.place false
+
+abbrev pub work_row : List Bool → Row → List Bool
+work_row values row = slice_set values row.target (read values row.first && read values row.second)
+
+-- the rows are worked out, one after another
+abbrev pub work_out : List Row → List Bool → List Bool
+work_out [] values = values
+work_out (row ∷ rows) values = work_out rows (work_row values row)
+
+-- the places of the row are places of a table of that length
+pub record IsWithin (size : ℕ) (row : Row) : Type 0 where
+  pub target : row.target < size
+  pub first : row.first.place < size
+  pub second : row.second.place < size
+
+-- bits by place: the constant, the inputs and the latches stand in front
+pub record Holds (inputs latches values : List Bool) : Type 0 where
+  pub constant : slice_index_or values 0 false ≡ false
+  pub inputs_there : (k : ℕ) → k < length inputs → slice_index_or values (1 + k) false ≡ slice_index_or inputs k false
+  pub latches_there : (k : ℕ) → k < length latches → slice_index_or values (1 + length inputs + k) false ≡ slice_index_or latches k false
+
+-- a table of that size that held these bits, with its rows worked out
+pub record IsWorkedOut (rows : List Row) (inputs latches : List Bool) (size : ℕ) (values : List Bool) : Type 0 where
+  pub table : List Bool
+  pub each : length table ≡ size
+  pub holds : Holds inputs latches table
+  pub done : values ≡ work_out rows table

@@ -1,0 +1,8 @@
+-- What a contract sees of a simulator.
+use Rattle.std.specs.Prelude.{Bool, List}
+use Rattle.ps_aiger.specs.Circuits.{CircuitData}
+
+-- a circuit, and the latches' values now
+pub record Simulation : Type 0 where
+  pub circuit : CircuitData
+  pub latches : List Bool

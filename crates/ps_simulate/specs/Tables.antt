@@ -1,0 +1,13 @@
+-- What a simulator keeps true of its table.
+use Rattle.std.specs.Prelude.{◌≡◌, ℕ, Bool, false, List, length, slice_index_or}
+use Rattle.ps_aiger.specs.Circuits.{CircuitData, IsCircuit}
+use Rattle.ps_simulate.specs.declared.plan.Plan.{Plan}
+use Rattle.ps_simulate.specs.Plans.{IsPlan, variables}
+
+-- a value for each place, the constant's in front, and one for each latch
+pub record IsTable (c : CircuitData) (plan : Plan) (values latches : List Bool) : Type 0 where
+  pub is_circuit : IsCircuit c
+  pub is_plan : IsPlan c plan
+  pub values_each : length values ≡ length (variables c)
+  pub constant : slice_index_or values 0 false ≡ false
+  pub latches_each : length latches ≡ length c.latches

@@ -1,0 +1,97 @@
+//! The places of a circuit's variables in a table that has no gaps.
+
+ghost use Rattle.std.specs.Prelude.{◌≡◌, ◌≢◌, ◌<◌, length, map, slice_index_or, All, AllPairs, IfOk, nat_eq};
+ghost use Rattle.indexmap.specs.IndexMap.{get};
+ghost use Rattle.ps_aiger.specs.Circuits.{IsCircuit};
+ghost use Rattle.ps_simulate.specs.Plans.{variables, ArePlaces};
+
+use crate::plan::Wire;
+use indexmap::IndexMap;
+use ps_aiger::Circuit;
+use std::alloc::{AllocError, Global};
+use std::iter::once;
+use std::marker::Model;
+
+/// The place of each variable of a circuit: 0 has the first, and then come those of the inputs, the latches and the gates.
+#[derive(Drop)]
+pub struct Places<'a> {
+    circuit: &'a Circuit,
+    places: IndexMap<u32, usize>,
+    count: usize,
+}
+
+impl<'a> Model for Places<'a> {
+    ghost use Rattle.std.specs.Prelude.{◌≡◌, length, nat_eq};
+    ghost use Rattle.indexmap.specs.IndexMap.{get};
+    ghost use Rattle.ps_aiger.specs.Circuits.{CircuitData, IsCircuit};
+    ghost use Rattle.ps_simulate.specs.Plans.{variables, ArePlaces};
+
+    ghost Value = { CircuitData };
+
+    ghost view = { λ p. p.circuit.now };
+
+    ghost invariant = { λ p. ArePlaces (variables p.circuit.now) (get nat_eq p.places) × (p.count ≡ length (variables p.circuit.now)) × IsCircuit p.circuit.now };
+}
+
+impl<'a> Places<'a> {
+    ghost use Rattle.ps_aiger.specs.Circuits.{IsKnown, definitions};
+    ghost use Rattle.ps_simulate.specs.Plans.{variables, wire_of};
+
+    pub fn new(alloc: Global, circuit: &'a Circuit) -> Result<Self, AllocError>
+        ensures { IfOk result (λ places. places ≡ circuit.now) }
+    {
+        let variables = variables_of(alloc, circuit)?;
+        let count = variables.len();
+        let places = places_of(alloc, &variables)?;
+        Ok(Places {
+            circuit,
+            places,
+            count,
+        })
+    }
+
+    /// How many places there are.
+    pub fn count(&self) -> usize
+        ensures { result ≡ length (variables self.now) }
+    {
+        self.count
+    }
+
+    /// The place of a literal's variable, with the literal's sign.
+    pub fn wire(&self, literal: u32) -> Wire
+        requires { IsKnown (definitions self.now) literal }
+        ensures { result ≡ wire_of self.now literal }
+    {
+        let place = self.places.get(&(literal / 2)).copied().unwrap();
+        Wire {
+            place,
+            is_negated: literal % 2 == 1,
+        }
+    }
+}
+
+/// The variables by their places.
+fn variables_of(alloc: Global, circuit: &Circuit) -> Result<Vec<u32>, AllocError>
+    ensures variables { IfOk result (λ all. all.items ≡ variables circuit.now) }
+    ensures well_formed { IsCircuit circuit.now }
+{
+    let inputs = circuit.inputs().iter().copied();
+    let latches = circuit.latches().iter().map(|latch| latch.literal);
+    let gates = circuit.gates().iter().map(|gate| gate.literal);
+    let defined = inputs.chain(latches).chain(gates);
+    once(0)
+        .chain(defined.map(|literal| literal / 2))
+        .collect(alloc)
+}
+
+/// The place of each of these variables.
+fn places_of(alloc: Global, variables: &[u32]) -> Result<IndexMap<u32, usize>, AllocError>
+    requires { AllPairs (λ v w. v ≢ w) variables.now }
+    ensures { IfOk result (λ places. ArePlaces variables.now (get nat_eq places)) }
+{
+    let mut places = IndexMap::new(alloc);
+    for (place, &variable) in variables.iter().enumerate() {
+        let _ = places.insert(variable, place)?;
+    }
+    Ok(places)
+}

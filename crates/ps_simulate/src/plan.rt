@@ -1,0 +1,93 @@
+//! The table of gates that a simulator works through.
+
+ghost use Rattle.std.specs.Prelude.{◌≡◌, ◌<◌, length, map, slice_index_or, All, IfOk};
+ghost use Rattle.ps_simulate.specs.Plans.{AreRows, wire_of};
+
+use crate::places::Places;
+use ps_aiger::Circuit;
+use std::alloc::{AllocError, Global};
+
+/// A literal of a circuit, by the place of its variable in the table of values.
+#[derive(Clone, Copy)]
+pub struct Wire {
+    pub place: usize,
+    pub is_negated: bool,
+}
+
+/// A gate: the place of its value, and the two literals that it reads.
+#[derive(Clone, Copy)]
+pub struct Row {
+    pub target: usize,
+    pub first: Wire,
+    pub second: Wire,
+}
+
+/// What a step of a circuit works out: the gates, each behind those that it reads, and then the outputs and the next values of
+/// the latches. Places are those of a table of `size` values: the constant 0, the inputs, the latches and the gates.
+#[derive(Drop)]
+pub struct Plan {
+    pub size: usize,
+    pub rows: Vec<Row>,
+    pub outputs: Vec<Wire>,
+    pub nexts: Vec<Wire>,
+}
+
+impl Plan {
+    ghost use Rattle.ps_simulate.specs.Plans.{IsPlan};
+
+    /// The plan of a circuit.
+    pub fn new(alloc: Global, circuit: &Circuit) -> Result<Self, AllocError>
+        ensures { IfOk result (IsPlan circuit.now) }
+    {
+        let places = Places::new(alloc, circuit)?;
+        Ok(Plan {
+            size: places.count(),
+            rows: rows_of(alloc, circuit, &places)?,
+            outputs: output_wires(alloc, circuit, &places)?,
+            nexts: next_wires(alloc, circuit, &places)?,
+        })
+    }
+}
+
+/// A row for each gate, in the circuit's order.
+fn rows_of(alloc: Global, circuit: &Circuit, places: &Places) -> Result<Vec<Row>, AllocError>
+    requires { places.now ≡ circuit.now }
+    ensures { IfOk result (λ rows. AreRows circuit.now rows.items) }
+{
+    let gates = circuit.gates();
+    let order = circuit.order();
+    let mut rows = Vec::new(alloc);
+    for &place in order {
+        let gate = gates[place];
+        rows.push(Row {
+            target: places.wire(gate.literal).place,
+            first: places.wire(gate.first),
+            second: places.wire(gate.second),
+        })?;
+    }
+    Ok(rows)
+}
+
+/// The outputs' literals.
+fn output_wires(alloc: Global, circuit: &Circuit, places: &Places) -> Result<Vec<Wire>, AllocError>
+    requires { places.now ≡ circuit.now }
+    ensures { IfOk result (λ wires. wires.items ≡ map (wire_of circuit.now) circuit.now.outputs) }
+{
+    let mut wires = Vec::new(alloc);
+    for &output in circuit.outputs() {
+        wires.push(places.wire(output))?;
+    }
+    Ok(wires)
+}
+
+/// The literals of the latches' next values.
+fn next_wires(alloc: Global, circuit: &Circuit, places: &Places) -> Result<Vec<Wire>, AllocError>
+    requires { places.now ≡ circuit.now }
+    ensures { IfOk result (λ wires. wires.items ≡ map (λ l. wire_of circuit.now l.next) circuit.now.latches) }
+{
+    let mut wires = Vec::new(alloc);
+    for latch in circuit.latches() {
+        wires.push(places.wire(latch.next))?;
+    }
+    Ok(wires)
+}
