@@ -4,3 +4,7 @@ pub mod RowLemmas
 pub mod ValueLemmas
 pub mod OneLemmas
 pub mod StepLemmas
+pub mod LineLemmas
+pub mod StimulusLemmas
+pub mod StimulusSteps
+pub mod OneStimulus

@@ -1,5 +1,5 @@
 -- A circuit has values, and no others.
-use Rattle.std.proofs.Common.{◌≡◌, ℕ, zero, suc, ◌+◌, ◌-◌, ◌⊎◌, ◌/◌, ◌%◌, ◌<◌, ◌≤◌, ◌&&◌, ◌==◌, Bool, false, not, cond, inl, inr, List, ◌++◌, map, length, get_or, refl, sym, ap, ap₂, subst, ◌∙◌, arith, Some, length-append}
+use Rattle.std.proofs.Common.{◌≡◌, ℕ, zero, suc, ◌+◌, ◌-◌, ◌⊎◌, ◌%◌, ◌<◌, ◌≤◌, ◌&&◌, ◌==◌, Bool, false, not, cond, inl, inr, List, ◌++◌, map, length, get_or, refl, sym, ap, ap₂, subst, ◌∙◌, arith, Some, length-append}
 use Rattle.std.specs.Prelude.{slice_get, replicate}
 use Rattle.std.proofs.lemmas.List.{length-map, length-replicate, get_or-map}
 use Rattle.std.proofs.lemmas.Bool.{cases_lt}
@@ -8,10 +8,10 @@ use Rattle.ps_aiger.specs.declared.parts.Latch.{Latch}
 use Rattle.ps_aiger.specs.Ways.{IsOrder}
 use Rattle.ps_aiger.specs.Circuits.{CircuitData, IsCircuit, IsKnown, Reads, variable, definitions}
 use Rattle.ps_simulate.specs.Values.{AreValues, HasOneValues, value_of, bit_of}
-use Rattle.ps_simulate.specs.Plans.{row_at, no_gate, AreRows, variables}
+use Rattle.ps_simulate.specs.Plans.{row_at, no_gate}
 use Rattle.ps_simulate.proofs.PlacesLemmas.{sides_known}
 use Rattle.ps_simulate.proofs.RowLemmas.{no_latch, length-definitions, length-variables, definitions_input, definitions_latch, definitions_gate}
-use Rattle.ps_simulate.proofs.ValueLemmas.{bit_of-definition, values_by, first_table, Holds-first_table, AreValues-work_out}
+use Rattle.ps_simulate.proofs.ValueLemmas.{bit_of-definition, first_table, Holds-first_table, AreValues-work_out}
 
 module _ (c : CircuitData) (is : IsCircuit c) (order : List ℕ) (is_order : IsOrder (Reads c.gates) (length c.gates) order)
     (inputs latches values others : List Bool) (a : AreValues c inputs latches values) (b : AreValues c inputs latches others) where
@@ -100,7 +100,10 @@ module _ (c : CircuitData) (is : IsCircuit c) (order : List ℕ) (is_order : IsO
 
 pub HasOneValues-circuit : (c : CircuitData) → IsCircuit c → (order : List ℕ) → IsOrder (Reads c.gates) (length c.gates) order → HasOneValues c
 HasOneValues-circuit c is order is_order = record {
-  some = λ inputs latches many_inputs many_latches. (_, AreValues-work_out c is (map (row_at c) order) (record { order = order; is_order = is_order; each = refl }) inputs latches (first_table c inputs latches)
-      (omega (arith, length-variables c, length-append (inputs ++ latches) (replicate (length c.gates) false), length-append inputs latches, length-replicate (length c.gates) false)) many_inputs many_latches (Holds-first_table c inputs latches));
+  some = λ inputs latches many_inputs many_latches. (
+    _,
+    AreValues-work_out c is (map (row_at c) order) (record { order = order; is_order = is_order; each = refl }) inputs latches (first_table c inputs latches)
+        (omega (arith, length-variables c, length-append (inputs ++ latches) (replicate (length c.gates) false), length-append inputs latches, length-replicate (length c.gates) false)) many_inputs many_latches (Holds-first_table c inputs latches),
+  );
   one = λ inputs latches values others a b. bit_of-one c is order is_order inputs latches values others a b;
 }

@@ -1,6 +1,6 @@
 -- The places of a circuit's variables.
-use Rattle.std.proofs.Common.{◌≡◌, ◌≢◌, ℕ, zero, suc, ◌+◌, ◌*◌, ◌/◌, ◌%◌, ◌<◌, ◌≤◌, inl, inr, List, [], ◌∷◌, ◌++◌, map, length, get_or, refl, sym, ap, subst, ◌∙◌, arith, cond, nat_eq, Some, Option, All, AllPairs, Contains, length-append}
-use Rattle.std.specs.List.{flat_map, position_or_len}
+use Rattle.std.proofs.Common.{◌≡◌, ◌≢◌, ℕ, zero, suc, ◌+◌, ◌<◌, inl, inr, List, [], ◌∷◌, ◌++◌, map, length, get_or, refl, sym, ap, subst, ◌∙◌, arith, cond, nat_eq, Some, Option, AllPairs, Contains}
+use Rattle.std.specs.List.{flat_map}
 use Rattle.std.proofs.lemmas.List.{length-map, get_or-map, get_or_default}
 use Rattle.std.proofs.lemmas.List.Sums.{position_or_len_is}
 use Rattle.std.proofs.lemmas.List.Elements.{All-contains, Contains-get_or, Contains-append_left, Contains-append_right}
@@ -86,9 +86,10 @@ module _ (c : CircuitData) (is : IsCircuit c) where
       → IsKnown (definitions c) (get_or c.gates i d).first × IsKnown (definitions c) (get_or c.gates i d).second
   sides_known i d lt =
       let both = reads_contain c.gates i d lt in
-      let front = map (λ l. l.next) c.latches ++ c.outputs in
-      (All-contains (IsKnown (definitions c)) (readings c) _ is.draft.known (Contains-append_right front _ _ both.0),
-      All-contains (IsKnown (definitions c)) (readings c) _ is.draft.known (Contains-append_right front _ _ both.1))
+      let front = map (λ l. l.next) c.latches ++ c.outputs in (
+        All-contains (IsKnown (definitions c)) (readings c) _ is.draft.known (Contains-append_right front _ _ both.0),
+        All-contains (IsKnown (definitions c)) (readings c) _ is.draft.known (Contains-append_right front _ _ both.1),
+      )
 
   pub output_known : (i d : ℕ) → i < length c.outputs → IsKnown (definitions c) (get_or c.outputs i d)
   output_known i d lt =

@@ -3,8 +3,7 @@ use Rattle.std.proofs.Common.{◌≡◌, ◌≢◌, ℕ, zero, suc, ◌+◌, ◌
 use Rattle.std.proofs.lemmas.List.{length-map, get_or-map, get_or_append_left, get_or-append-add}
 use Rattle.std.proofs.lemmas.Option.{slice_get-get_or, get_or_from_slice_get, slice_get_within}
 use Rattle.ps_aiger.specs.declared.parts.Latch.{Latch}
-use Rattle.ps_aiger.specs.declared.parts.Gate.{Gate}
-use Rattle.ps_aiger.specs.Circuits.{CircuitData, IsCircuit, IsKnown, Reads, variable, definitions}
+use Rattle.ps_aiger.specs.Circuits.{CircuitData, IsCircuit, IsKnown, variable, definitions}
 use Rattle.ps_simulate.specs.declared.plan.Row.{Row}
 use Rattle.ps_simulate.specs.Plans.{variables, place_of, row_at, no_gate, AreRows, IsWithin}
 use Rattle.ps_simulate.proofs.PlacesLemmas.{variables_at, place_of-at, place_known, gate_known, sides_known}
@@ -95,11 +94,21 @@ module _ (c : CircuitData) (is : IsCircuit c) where
       once = λ k l hk hl e. (let same : gate_place k ≡ gate_place l = omega (arith, target_is k hk, target_is l hl) in
           are.is_order.once k l (gate_place l) (at k hk ∙ ap Some same) (at l hl));
       first_behind = λ k l hk hl e. are.is_order.behind k l (gate_place k) (gate_place l) (at k hk) (at l hl)
-          (record { reader = _; read = _; at_i = gate_at k hk; at_j = gate_at l hl;
-          side = inl (reads k l _ hk hl (sides_known c is (gate_place k) no_gate (gate_within k hk)).0 (sym (ap (λ (r : Row). r.first.place) (row_is k hk)) ∙ e)) });
+          (record {
+            reader = _;
+            read = _;
+            at_i = gate_at k hk;
+            at_j = gate_at l hl;
+            side = inl (reads k l _ hk hl (sides_known c is (gate_place k) no_gate (gate_within k hk)).0 (sym (ap (λ (r : Row). r.first.place) (row_is k hk)) ∙ e));
+          });
       second_behind = λ k l hk hl e. are.is_order.behind k l (gate_place k) (gate_place l) (at k hk) (at l hl)
-          (record { reader = _; read = _; at_i = gate_at k hk; at_j = gate_at l hl;
-          side = inr (reads k l _ hk hl (sides_known c is (gate_place k) no_gate (gate_within k hk)).1 (sym (ap (λ (r : Row). r.second.place) (row_is k hk)) ∙ e)) });
+          (record {
+            reader = _;
+            read = _;
+            at_i = gate_at k hk;
+            at_j = gate_at l hl;
+            side = inr (reads k l _ hk hl (sides_known c is (gate_place k) no_gate (gate_within k hk)).1 (sym (ap (λ (r : Row). r.second.place) (row_is k hk)) ∙ e));
+          });
     }
 
     -- rows stay within the table

@@ -1,21 +1,19 @@
 -- A table of values by places, and the values of the circuit.
-use Rattle.std.proofs.Common.{◌≡◌, ◌≢◌, ℕ, zero, suc, ◌+◌, ◌*◌, ◌/◌, ◌%◌, ◌<◌, ◌≤◌, ◌&&◌, ◌==◌, Bool, false, true, not, cond, inl, inr, List, [], ◌∷◌, ◌++◌, map, length, get_or, refl, sym, ap, ap₂, subst, ◌∙◌, arith, All, length-append}
+use Rattle.std.proofs.Common.{◌≡◌, ℕ, suc, ◌+◌, ◌%◌, ◌<◌, ◌&&◌, ◌==◌, Bool, false, not, cond, inl, inr, List, ◌∷◌, ◌++◌, map, length, get_or, refl, sym, ap, ap₂, subst, ◌∙◌, arith, length-append}
 use Rattle.std.specs.Prelude.{replicate}
 use Rattle.std.specs.List.{range_with_len}
-use Rattle.std.proofs.lemmas.List.{length-map, get_or-map, ext_get_or, get_or_default, get_or_append_left, get_or-append-add}
+use Rattle.std.proofs.lemmas.List.{length-map, get_or-map, ext_get_or, get_or_append_left, get_or-append-add}
 use Rattle.std.proofs.lemmas.List.FromFn.{get_or-map-range_with_len, length-map-range_with_len}
 use Rattle.std.proofs.lemmas.List.Elements.{All-from_get_or}
 use Rattle.std.proofs.lemmas.Bool.{ne_eqb}
 use Rattle.ps_aiger.specs.declared.parts.Latch.{Latch}
-use Rattle.ps_aiger.specs.declared.parts.Gate.{Gate}
 use Rattle.ps_aiger.specs.Circuits.{CircuitData, IsCircuit, IsDefinition, IsKnown, variable, definitions}
-use Rattle.ps_simulate.specs.declared.plan.Wire.{Wire}
 use Rattle.ps_simulate.specs.declared.plan.Row.{Row}
 use Rattle.ps_simulate.specs.Values.{AreValues, MeetsGate, value_of, bit_of}
 use Rattle.ps_simulate.specs.Plans.{variables, place_of, wire_of, row_at, no_gate, AreRows, Holds, read, work_out}
-use Rattle.ps_simulate.proofs.PlacesLemmas.{place_of-at, gate_known, sides_known, output_known, next_known}
-use Rattle.ps_simulate.proofs.RowLemmas.{no_latch, length-definitions, length-variables, definitions_input, definitions_latch, definitions_gate, place_of-definition, gate_place, row_is, gate_within, row_of_gate, target_is, IsScheduled-rows, IsWithin-row}
-use Rattle.ps_simulate.proofs.WorkLemmas.{row, length-work_out, work_out-other, work_out-row}
+use Rattle.ps_simulate.proofs.PlacesLemmas.{place_of-at, sides_known}
+use Rattle.ps_simulate.proofs.RowLemmas.{no_latch, length-definitions, length-variables, definitions_input, definitions_latch, definitions_gate, place_of-definition, row_is, row_of_gate, target_is, IsScheduled-rows, IsWithin-row}
+use Rattle.ps_simulate.proofs.WorkLemmas.{row, work_out-other, work_out-row}
 
 -- the values by variables, of a table by places
 abbrev pub values_by : CircuitData → List Bool → List Bool

@@ -2,3 +2,7 @@ pub mod Values
 pub mod Simulations
 pub mod Plans
 pub mod Tables
+pub mod Faults
+pub mod Stimuli
+pub mod StimulusTexts
+pub mod StimulusReading

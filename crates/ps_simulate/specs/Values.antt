@@ -6,7 +6,6 @@
 --     IsTrace c moments      latches begin with their resets, and go on by their next literals
 -- A variable that nothing defines may have either bit: no literal of a circuit reads it.
 use Rattle.std.specs.Prelude.{◌≡◌, ℕ, ◌+◌, ◌%◌, ◌==◌, ◌&&◌, Bool, false, not, if◌then◌else◌, List, [], ◌∷◌, map, length, slice_index_or, All}
-use Rattle.ps_aiger.specs.declared.parts.Latch.{Latch}
 use Rattle.ps_aiger.specs.declared.parts.Gate.{Gate}
 use Rattle.ps_aiger.specs.Circuits.{CircuitData, variable, definitions, IsKnown}
 

@@ -1,4 +1,3 @@
-use Rattle.std.proofs.Common.{arith}
 use Rattle.ps_simulate.proofs.PlacesLemmas.{output_known}
 use Rattle.ps_simulate.proofs.plan.output_wires.Goals as goal
 

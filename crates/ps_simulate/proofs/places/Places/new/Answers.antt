@@ -1,4 +1,4 @@
-use Rattle.std.proofs.Common.{◌≡◌, ◌≢◌, ◌∙◌, ℕ, List, ap, length, subst, sym, AllPairs, nat_eq}
+use Rattle.std.proofs.Common.{◌≢◌, ◌∙◌, ℕ, List, ap, length, subst, sym, AllPairs, nat_eq}
 use Rattle.indexmap.specs.IndexMap.{get}
 use Rattle.ps_simulate.specs.Plans.{ArePlaces}
 use Rattle.ps_simulate.proofs.PlacesLemmas.{variables_once}

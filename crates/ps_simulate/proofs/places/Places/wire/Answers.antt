@@ -1,4 +1,4 @@
-use Rattle.std.proofs.Common.{◌≡◌, ◌∙◌, ◌==◌, ◌%◌, ap, refl, rules, subst, sym, nat_eq, Some, ℕ, get_or}
+use Rattle.std.proofs.Common.{◌≡◌, ◌∙◌, ◌==◌, ◌%◌, ap, refl, rules, subst, sym, nat_eq, Some, ℕ}
 use Rattle.std.specs.Prelude.{IsSome, Option}
 use Rattle.indexmap.specs.IndexMap.{get}
 use Rattle.ps_aiger.specs.Circuits.{CircuitData, IsKnown, definitions, variable}

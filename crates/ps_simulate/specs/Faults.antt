@@ -1,0 +1,16 @@
+-- What may be wrong with the text of a stimulus: the number and the name of each cause, and which goes first at one byte.
+use Rattle.std.specs.Prelude.{ℕ, List, codes}
+use Rattle.ps_simulate.specs.declared.fault.StimulusCause.{StimulusCause}
+use Rattle.ps_simulate.specs.declared.fault.StimulusCause.TheVariants.{Width, Stimulus}
+
+abbrev pub cause_number : StimulusCause → ℕ
+cause_number Width = 70
+cause_number Stimulus = 73
+
+abbrev pub cause_name : StimulusCause → List ℕ
+cause_name Width = codes "Width"
+cause_name Stimulus = codes "Stimulus"
+
+abbrev pub rank : StimulusCause → ℕ
+rank Stimulus = 0
+rank Width = 1

@@ -1,0 +1,22 @@
+-- What the reader of stimuli keeps true.
+use Rattle.std.specs.Prelude.{◌≡◌, ℕ, Bool, true, false, List, [], ◌++◌, length, drop, All, Result, Ok, Err, Vec}
+use Rattle.std.specs.Global.{Global}
+use Rattle.ps_simulate.specs.declared.fault.StimulusFault.{StimulusFault}
+use Rattle.ps_simulate.specs.declared.fault.StimulusFault.TheVariants.{Text, OutOfMemory}
+use Rattle.ps_simulate.specs.Stimuli.{StimulusData}
+use Rattle.ps_simulate.specs.StimulusTexts.{lines_of, extent, spelled, digits_of, StandsInLine, IsFirst}
+
+-- the lines before that place spell these letters, and the divider where the lap has begun
+pub record HasRead (text : List ℕ) (width : ℕ) (split in_lap : Bool) (start : ℕ) (s : StimulusData) : Type 0 where
+  pub lines : lines_of text ≡ spelled in_lap s ++ lines_of (drop start text)
+  pub start_is : start ≡ extent (spelled in_lap s)
+  pub stem_widths : All (λ letter. length letter ≡ width) s.stem
+  pub lap_widths : All (λ letter. length letter ≡ width) s.lap
+  pub wanted : in_lap ≡ true → split ≡ true
+  pub no_lap : in_lap ≡ false → s.lap ≡ []
+
+-- a line that begins there, as a letter: its bits, or the first cause in it
+abbrev pub ReadsLine : List ℕ → ℕ → ℕ → Result (Vec Bool Global) StimulusFault → Type 0
+ReadsLine line start width (Ok letter) = (line ≡ digits_of letter.items) × (length line ≡ width)
+ReadsLine line start width (Err (Text cause offset)) = IsFirst (StandsInLine line start width) cause offset
+ReadsLine line start width (Err OutOfMemory) = Unit {0}

@@ -1,0 +1,115 @@
+-- The text of a stimulus: a line of digits for each letter, as many as there are inputs. Where stem and lap are split, one line
+-- `-` stands between them.
+--     lines_of text, start_of lines k      the lines without their newlines; the offset of the first byte of line k
+--     IsStimulus text width split s      the lines spell the letters
+--     Stands text width split cause offset      a cause stands there
+--     IsFirst S cause offset      of the causes that S has, this one stands first; at one offset `Stimulus` goes before `Width`
+--     Reads text width split answer      the stimulus of a text without a cause, and else the first cause
+use Rattle.std.specs.Prelude.{◌≡◌, ◌≢◌, ℕ, ◌+◌, ◌<◌, ◌≤◌, ◌⊎◌, ◌==◌, Bool, true, false, if◌then◌else◌, List, [], ◌∷◌, ◌++◌, length, map, take, slice_get, sum_by, All, Some, Result, Ok, Err}
+use Rattle.ps_text.specs.Answers.{Found}
+use Rattle.ps_simulate.specs.declared.fault.StimulusCause.{StimulusCause}
+use Rattle.ps_simulate.specs.declared.fault.StimulusCause.TheVariants.{Width, Stimulus}
+use Rattle.ps_simulate.specs.declared.fault.StimulusFault.{StimulusFault}
+use Rattle.ps_simulate.specs.declared.fault.StimulusFault.TheVariants.{Text, OutOfMemory}
+use Rattle.ps_simulate.specs.Faults.{rank}
+use Rattle.ps_simulate.specs.Stimuli.{StimulusData}
+
+-- ## Lines
+
+-- a byte in front of the first line
+abbrev pub put_byte : ℕ → List (List ℕ) → List (List ℕ)
+put_byte b [] = (b ∷ []) ∷ []
+put_byte b (line ∷ lines) = (b ∷ line) ∷ lines
+
+-- a newline ends a line; what stands behind the last one is a line if it is not empty
+abbrev pub lines_of : List ℕ → List (List ℕ)
+lines_of [] = []
+lines_of (b ∷ bytes) = if b == 10 then [] ∷ lines_of bytes else put_byte b (lines_of bytes)
+
+-- the bytes of lines with their newlines
+abbrev pub extent : List (List ℕ) → ℕ
+extent lines = sum_by (λ line. length line + 1) lines
+
+abbrev pub start_of : List (List ℕ) → ℕ → ℕ
+start_of lines k = extent (take k lines)
+
+-- ## Stimuli
+
+abbrev pub digit_of : Bool → ℕ
+digit_of bit = if bit then 49 else 48
+
+abbrev pub digits_of : List Bool → List ℕ
+digits_of letter = map digit_of letter
+
+-- the line `-`
+abbrev pub divider : List ℕ
+divider = 45 ∷ []
+
+-- the lines of letters, with a divider or without
+abbrev pub spelled : Bool → StimulusData → List (List ℕ)
+spelled false s = map digits_of s.stem
+spelled true s = map digits_of s.stem ++ divider ∷ map digits_of s.lap
+
+pub record IsStimulus (text : List ℕ) (width : ℕ) (split : Bool) (s : StimulusData) : Type 0 where
+  pub lines : lines_of text ≡ spelled split s
+  pub stem_widths : All (λ letter. length letter ≡ width) s.stem
+  pub lap_widths : All (λ letter. length letter ≡ width) s.lap
+  pub no_lap : split ≡ false → s.lap ≡ []
+
+-- ## Causes
+
+abbrev pub IsDigit : ℕ → Type 0
+IsDigit byte = (byte ≡ 48) ⊎ (byte ≡ 49)
+
+-- line k is the first divider, where one is wanted
+pub record Divides (split : Bool) (lines : List (List ℕ)) (k : ℕ) : Type 0 where
+  pub wanted : split ≡ true
+  pub there : slice_get lines k ≡ Some divider
+  pub first : (j : ℕ) → j < k → slice_get lines j ≢ Some divider
+
+-- line k, which is to be a letter
+pub record IsLetterLine (split : Bool) (lines : List (List ℕ)) (k : ℕ) (line : List ℕ) : Type 0 where
+  pub there : slice_get lines k ≡ Some line
+  pub letter : ¬ Divides split lines k
+
+-- what is wrong with the line of a letter that begins there: its length, at its first byte, or a byte that is no digit
+abbrev pub StandsInLine : List ℕ → ℕ → ℕ → StimulusCause → ℕ → Type 0
+StandsInLine line start width Width offset = (length line ≢ width) × (offset ≡ start)
+StandsInLine line start width Stimulus offset =
+    (j : ℕ) × (byte : ℕ) × (slice_get line j ≡ Some byte) × ¬ IsDigit byte × (offset ≡ start + j)
+
+pub record StandsInLetter (text : List ℕ) (width : ℕ) (split : Bool) (cause : StimulusCause) (offset : ℕ) : Type 0 where
+  pub k : ℕ
+  pub line : List ℕ
+  pub is_letter : IsLetterLine split (lines_of text) k line
+  pub in_line : StandsInLine line (start_of (lines_of text) k) width cause offset
+
+-- a divider is wanted, and none stands up to the end
+pub record MissesDivider (text : List ℕ) (split : Bool) (cause : StimulusCause) (offset : ℕ) : Type 0 where
+  pub wanted : split ≡ true
+  pub none : (k : ℕ) → slice_get (lines_of text) k ≢ Some divider
+  pub cause_is : cause ≡ Stimulus
+  pub offset_is : offset ≡ length text
+
+abbrev pub Stands : List ℕ → ℕ → Bool → StimulusCause → ℕ → Type 0
+Stands text width split cause offset = StandsInLetter text width split cause offset ⊎ MissesDivider text split cause offset
+
+-- ## The answer
+
+pub record IsFirst (S : StimulusCause → ℕ → Type 0) (cause : StimulusCause) (offset : ℕ) : Type 0 where
+  pub stands : S cause offset
+  pub least : (other : StimulusCause) (there : ℕ) → S other there → (offset < there) ⊎ ((offset ≡ there) × (rank cause ≤ rank other))
+
+abbrev pub Reads : List ℕ → ℕ → Bool → Result StimulusData (Found StimulusCause) → Type 0
+Reads text width split (Ok s) = IsStimulus text width split s
+Reads text width split (Err found) = IsFirst (Stands text width split) found.cause found.offset
+
+-- what the reader answers: this, unless memory runs out
+abbrev pub IsAnswer : List ℕ → ℕ → Bool → Result StimulusData StimulusFault → Type 0
+IsAnswer text width split (Ok s) = Reads text width split (Ok s)
+IsAnswer text width split (Err (Text cause offset)) = Reads text width split (Err (record { cause = cause; offset = offset }))
+IsAnswer text width split (Err OutOfMemory) = Unit {0}
+
+abbrev pub HasOneAnswer : List ℕ → ℕ → Bool → Type 0
+HasOneAnswer text width split =
+    (answer other : Result StimulusData (Found StimulusCause)) → Reads text width split answer → Reads text width split other → answer ≡ other

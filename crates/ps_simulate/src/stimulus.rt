@@ -1,0 +1,144 @@
+//! Stimuli: the letters that a circuit is given, read from their texts.
+
+ghost use Rattle.std.specs.Prelude.{◌≡◌, ◌+◌, ◌-◌, ◌^◌, ◌<◌, ◌≤◌, ◌↔◌, ◌∷◌, ℕ, Bool, List, length, take, drop, slice_index, All, IsTrue, IfOk, IfSome, IfNone};
+ghost use Rattle.ps_simulate.specs.StimulusTexts.{IsDigit, lines_of, digits_of, divider, IsAnswer, HasOneAnswer};
+ghost use Rattle.ps_simulate.specs.StimulusReading.{ReadsLine};
+
+use crate::fault::{StimulusCause, StimulusFault};
+use std::alloc::{AllocError, Global};
+use std::marker::Model;
+
+/// Letters, each with a bit for each input of a circuit, in the circuit's order.
+#[derive(Debug, Drop)]
+pub struct Stimulus {
+    /// The letters that come once.
+    pub stem: Vec<Vec<bool>>,
+    /// The letters that come again and again.
+    pub lap: Vec<Vec<bool>>,
+}
+
+impl Model for Stimulus {
+    ghost use Rattle.ps_simulate.specs.Stimuli.{StimulusData, letters_of};
+
+    ghost Value = { StimulusData };
+
+    ghost view = { λ s. record { stem = letters_of s.stem.items; lap = letters_of s.lap.items } };
+}
+
+/// Reads a stimulus: a line of digits for each letter. With `split` a line `-` stands between stem and lap, and without it all
+/// letters are the stem.
+pub fn parse_stimulus(
+    alloc: Global,
+    text: &[u8],
+    width: usize,
+    split: bool,
+) -> Result<Stimulus, StimulusFault>
+    ensures { IsAnswer text.now width split result }
+{
+    let mut stem = Vec::new(alloc);
+    let mut lap = Vec::new(alloc);
+    let mut in_lap = false;
+    let mut start = 0;
+    while start < text.len() {
+        let end = line_end(text, start);
+        let line = &text[start..end];
+        if split && !in_lap && is_divider(line) {
+            in_lap = true;
+        } else {
+            let letter = read_letter(alloc, line, start, width)?;
+            if in_lap {
+                lap.push(letter)?;
+            } else {
+                stem.push(letter)?;
+            }
+        }
+        start = end + 1;
+    }
+    if split && !in_lap {
+        return Err(StimulusFault::Text {
+            cause: StimulusCause::Stimulus,
+            offset: text.len(),
+        });
+    }
+    Ok(Stimulus { stem, lap })
+}
+
+/// A law: the text of a stimulus has one answer.
+pub fn stimulus_text_has_one_answer()
+    ensures { (text : List ℕ) (width : ℕ) (split : Bool) → HasOneAnswer text width split }
+{}
+
+/// Where the line that begins at `start` ends: at a newline, or at the end of the text.
+fn line_end(text: &[u8], start: usize) -> usize
+    requires { start < length text.now }
+    ensures from { start ≤ result }
+    ensures within { result ≤ length text.now }
+    ensures lines { lines_of (drop start text.now) ≡ take (result - start) (drop start text.now) ∷ lines_of (drop (result + 1) text.now) }
+{
+    for end in start..text.len() {
+        if text[end] == b'\n' {
+            return end;
+        }
+    }
+    text.len()
+}
+
+/// Whether the line is `-`.
+fn is_divider(line: &[u8]) -> bool
+    ensures { IsTrue result ↔ (line.now ≡ divider) }
+{
+    line.len() == 1 && line[0] == b'-'
+}
+
+/// The first byte of a line that is no digit.
+fn first_wrong(line: &[u8]) -> Option<usize>
+    ensures digits { IfNone result (All IsDigit line.now) }
+    ensures wrong { IfSome result (λ j. (j < length line.now) × ¬ IsDigit (slice_index line.now j)) }
+    ensures first { IfSome result (λ j. (i : ℕ) → i < j → IsDigit (slice_index line.now i)) }
+{
+    for (place, byte) in line.iter().enumerate() {
+        if *byte != b'0' && *byte != b'1' {
+            return Some(place);
+        }
+    }
+    None
+}
+
+/// The letter of a line of digits.
+fn bits_of(alloc: Global, line: &[u8]) -> Result<Vec<bool>, AllocError>
+    requires { All IsDigit line.now }
+    ensures { IfOk result (λ bits. digits_of bits.items ≡ line.now) }
+{
+    let mut bits = Vec::new(alloc);
+    for byte in line {
+        bits.push(*byte == b'1')?;
+    }
+    Ok(bits)
+}
+
+/// Reads the line of a letter, which begins at this offset.
+fn read_letter(
+    alloc: Global,
+    line: &[u8],
+    start: usize,
+    width: usize,
+) -> Result<Vec<bool>, StimulusFault>
+    requires { start + length line.now < 2 ^ 64 }
+    ensures { ReadsLine line.now start width result }
+{
+    match first_wrong(line) {
+        Some(0) => Err(StimulusFault::Text {
+            cause: StimulusCause::Stimulus,
+            offset: start,
+        }),
+        _ if line.len() != width => Err(StimulusFault::Text {
+            cause: StimulusCause::Width,
+            offset: start,
+        }),
+        Some(place) => Err(StimulusFault::Text {
+            cause: StimulusCause::Stimulus,
+            offset: start + place,
+        }),
+        None => Ok(bits_of(alloc, line)?),
+    }
+}

@@ -1,0 +1,78 @@
+use crate::{Simulator, StimulusCause, StimulusFault, parse_stimulus};
+use std::test::Fail;
+
+/// One input, one latch whose first value is 1, and three gates, none of which stands behind those that it reads.
+const FORWARD: &[u8] = b"aag 5 1 1 3 3\n2\n4 10 1\n4\n10\n1\n10 9 7\n8 5 3\n6 4 2\n";
+
+/// The outputs of each letter, with the latch's value before it.
+const STEPS: [(bool, bool, [bool; 3]); 3] = [
+    (true, true, [true, false, true]),
+    (true, false, [false, true, true]),
+    (false, true, [true, true, true]),
+];
+
+#[test]
+fn gates_are_worked_out_in_their_order(rt: HostRuntime) -> Result<(), Fail> {
+    let circuit = ps_aiger::read(rt.alloc(), FORWARD)?;
+    assert_eq!(rt; circuit.inputs().len(), 1);
+    assert_eq!(rt; circuit.outputs().len(), 3);
+    assert_eq!(rt; circuit.latches().len(), 1);
+    let mut simulator = Simulator::new(rt.alloc(), &circuit)?;
+    for (input, latch, wanted) in STEPS {
+        let mut outputs = [false; 3];
+        assert_eq!(rt; simulator.latch(0), latch);
+        simulator.step(&[input], &mut outputs);
+        assert_eq!(rt; outputs, wanted);
+    }
+    Ok(())
+}
+
+/// What a text is answered: how many letters the stem and the lap have, or the cause and its offset.
+#[derive(Clone, Copy, Debug, PartialEq, Eq)]
+enum Reading {
+    Letters(usize, usize),
+    Refused(StimulusCause, usize),
+    OutOfMemory,
+}
+
+fn answer(rt: &impl AllocGlobal, text: &[u8], width: usize, split: bool) -> Reading {
+    match parse_stimulus(rt.alloc(), text, width, split) {
+        Ok(stimulus) => Reading::Letters(stimulus.stem.len(), stimulus.lap.len()),
+        Err(StimulusFault::Text { cause, offset }) => Reading::Refused(cause, offset),
+        Err(StimulusFault::OutOfMemory) => Reading::OutOfMemory,
+    }
+}
+
+#[test]
+fn lines_are_letters(rt: HostRuntime) -> Result<(), Fail> {
+    assert_eq!(rt; answer(&rt, b"", 1, false), Reading::Letters(0, 0));
+    assert_eq!(rt; answer(&rt, b"01\n10\n", 2, false), Reading::Letters(2, 0));
+    assert_eq!(rt; answer(&rt, b"01\n10", 2, false), Reading::Letters(2, 0));
+    assert_eq!(rt; answer(&rt, b"\n\n", 0, false), Reading::Letters(2, 0));
+    assert_eq!(rt; answer(&rt, b"1\n-\n0\n1", 1, true), Reading::Letters(1, 2));
+    assert_eq!(rt; answer(&rt, b"-", 3, true), Reading::Letters(0, 0));
+    Ok(())
+}
+
+#[test]
+fn the_first_cause_is_answered(rt: HostRuntime) -> Result<(), Fail> {
+    let width = |offset| Reading::Refused(StimulusCause::Width, offset);
+    let stimulus = |offset| Reading::Refused(StimulusCause::Stimulus, offset);
+    assert_eq!(rt; answer(&rt, b"-", 1, false), stimulus(0));
+    assert_eq!(rt; answer(&rt, b"1\n11\n", 1, false), width(2));
+    assert_eq!(rt; answer(&rt, b"x1", 1, false), stimulus(0));
+    assert_eq!(rt; answer(&rt, b"1x", 1, false), width(0));
+    assert_eq!(rt; answer(&rt, b"1x", 2, false), stimulus(1));
+    assert_eq!(rt; answer(&rt, b"1\n", 1, true), stimulus(2));
+    assert_eq!(rt; answer(&rt, b"-\n-\n", 1, true), stimulus(2));
+    assert_eq!(rt; answer(&rt, b"1\n\n", 1, false), width(2));
+    Ok(())
+}
+
+#[test]
+fn a_letter_has_its_bits(rt: HostRuntime) -> Result<(), Fail> {
+    let stimulus = parse_stimulus(rt.alloc(), b"011", 3, false)?;
+    assert_eq!(rt; stimulus.stem.len(), 1);
+    assert_eq!(rt; stimulus.stem[0].as_slice(), [false, true, true].as_slice());
+    Ok(())
+}
