@@ -17,7 +17,8 @@ use Rattle.ps_hoa.specs.Operands.{nesting_limit, is_and, is_or, mark}
 use Rattle.ps_hoa.specs.Labels.{label}
 use Rattle.ps_hoa.specs.Files.{RowData}
 use Rattle.ps_hoa.specs.Header.{HeaderData, int_value, int_in, string_value, string_in, string, IsAlternating}
-use Rattle.ps_hoa.specs.Body.{BodyData, IsBadState, IsBadSet, BadIn, sets_of, is_left_brace, is_right_brace, set_number, closing, sets, marks, is_left_bracket, is_right_bracket, body_scope, some_label, label_in_brackets, state_label, is_bracket, IsBadBracket, labelled_target, IsBadPlainTarget, plain_target, with_edge, labelled_edge, plain_edge, edge, edges, is_end, body}
+use Rattle.ps_hoa.specs.Body.{IsBadState, IsBadSet, BadIn, sets_of, is_left_brace, is_right_brace, set_number, closing, sets, marks, is_left_bracket, is_right_bracket, body_scope, some_label, label_in_brackets, state_label, is_bracket, IsBadBracket, labelled_target, IsBadPlainTarget, plain_target, with_edge, labelled_edge, plain_edge, edge, edges, is_end}
+use Rattle.ps_hoa.specs.Ahead.{begins_edge}
 use Rattle.ps_hoa.specs.declared.fault.HoaCause.{HoaCause}
 use Rattle.ps_hoa.specs.declared.tokens.Kind.{Kind}
 use Rattle.ps_hoa.specs.declared.tokens.Kind.TheVariants.{Int, Text, And, Or as OrSign, LeftBracket, RightBracket, LeftBrace, RightBrace, End}
@@ -34,12 +35,7 @@ abbrev pub is_text : Kind → Bool
 is_text Text = true
 is_text kind = false
 
--- the signs with which an edge begins, and those with which it goes on
-abbrev pub begins_edge : Kind → Bool
-begins_edge LeftBracket = true
-begins_edge Int = true
-begins_edge kind = false
-
+-- the signs with which an edge goes on
 abbrev pub lengthens_edge : Kind → Bool
 lengthens_edge And = true
 lengthens_edge LeftBrace = true
@@ -130,14 +126,14 @@ laws_text = weaker
 
 -- ## Sets
 
-laws_set_number : (h : HeaderData) (ns : List ℕ) → Laws Odd (set_number h ns) (Of is_int) Nothing ⊥
-laws_set_number h ns = laws_mapped _ (one int_in (BadIn (IsBadSet (sets_of h)))) (laws_number (IsBadSet (sets_of h)))
+pub laws_set_number : (count : ℕ) (ns : List ℕ) → Laws Odd (set_number count ns) (Of is_int) Nothing ⊥
+laws_set_number count ns = laws_mapped _ (one int_in (BadIn (IsBadSet count))) (laws_number (IsBadSet count))
 
 laws_closing : (ns : List ℕ) → Laws Odd (closing ns) (Of is_right_brace) Nothing ⊥
 laws_closing ns = laws_mapped _ (mark is_right_brace) laws_right_brace
 
-pub laws_set_numbers : (h : HeaderData) (ns : List ℕ) → Laws Odd (many (set_number h) ns) (Of is_int) (Or Nothing (Of is_int)) (Unit {0})
-laws_set_numbers h ns = laws_many (set_number h) (laws_set_number h) (nothing_apart (Of is_int)) ns
+pub laws_set_numbers : (count : ℕ) (ns : List ℕ) → Laws Odd (many (set_number count) ns) (Of is_int) (Or Nothing (Of is_int)) (Unit {0})
+laws_set_numbers count ns = laws_many (set_number count) (laws_set_number count) (nothing_apart (Of is_int)) ns
 
 int_closes : Apart (Or Nothing (Of is_int)) (Of is_right_brace)
 int_closes t (inl h) k = h
@@ -147,17 +143,17 @@ int_closes t (inr h) k = go t.kind h k
     go Int h k = false_true k
     go kind h k = false_true h
 
-pub joint_sets : (h : HeaderData) → Joint (many (set_number h) []) closing
-joint_sets h = joint (laws_set_numbers h []) laws_closing int_closes
+pub joint_sets : (count : ℕ) → Joint (many (set_number count) []) closing
+joint_sets count = joint (laws_set_numbers count []) laws_closing int_closes
 
-laws_in_braces : (h : HeaderData) → Laws Odd (then_by (many (set_number h) []) closing) (Or (Of is_int) (When (Unit {0}) (Of is_right_brace))) Nothing ⊥
-laws_in_braces h = weaker (laws_then (laws_set_numbers h []) laws_closing int_closes) (λ t k. k) (only_first Nothing (Or Nothing (Of is_int))) (λ k. k.1)
+laws_in_braces : (count : ℕ) → Laws Odd (then_by (many (set_number count) []) closing) (Or (Of is_int) (When (Unit {0}) (Of is_right_brace))) Nothing ⊥
+laws_in_braces count = weaker (laws_then (laws_set_numbers count []) laws_closing int_closes) (λ t k. k) (only_first Nothing (Or Nothing (Of is_int))) (λ k. k.1)
 
-pub joint_braces : (h : HeaderData) → Joint (mark is_left_brace) (λ _. then_by (many (set_number h) []) closing)
-joint_braces h = joint laws_left_brace (λ _. laws_in_braces h) (nothing_apart _)
+pub joint_braces : (count : ℕ) → Joint (mark is_left_brace) (λ _. then_by (many (set_number count) []) closing)
+joint_braces count = joint laws_left_brace (λ _. laws_in_braces count) (nothing_apart _)
 
-pub laws_sets : (h : HeaderData) → Laws Odd (sets h) (Of is_left_brace) Nothing ⊥
-laws_sets h = laws_behind is_left_brace laws_left_brace (laws_in_braces h)
+pub laws_sets : (count : ℕ) → Laws Odd (sets count) (Of is_left_brace) Nothing ⊥
+laws_sets count = laws_behind is_left_brace laws_left_brace (laws_in_braces count)
 
 pub laws_no_sets : Laws Odd (give {T = Sign} {V = List ℕ} {F = HoaCause} []) Nothing Nothing (Unit {0})
 laws_no_sets = laws_give Odd []
@@ -173,7 +169,7 @@ either_more A t (inr (inl h)) = absurd h.0
 either_more A t (inr (inr h)) = h.1
 
 pub laws_marks : (h : HeaderData) → Laws Odd (marks h) (Of is_left_brace) (Of is_left_brace) (Unit {0})
-laws_marks h = weaker (laws_either (laws_sets h) laws_no_sets (λ t a b. b) (λ a b. a)) (either_first _) (either_more _) (λ k. tt)
+laws_marks h = weaker (laws_either (laws_sets (sets_of h)) laws_no_sets (λ t a b. b) (λ a b. a)) (either_first _) (either_more _) (λ k. tt)
 
 -- ## Labels between brackets
 
@@ -262,7 +258,7 @@ module _ (h : HeaderData) (row : RowData) (label : Option Expression) where
   pub laws_from_target : (Bad : ℕ → HoaCause → Type 0) → Laws Odd (from_target (barred (one int_in (BadIn Bad)) IsAlternating)) (Of is_int) (Of lengthens_edge) ⊥
   laws_from_target Bad = weaker (laws_then (laws_target Bad) (laws_marked h row label) target_marked) (only_first (Of is_int) (Of is_left_brace)) brace_lengthens (λ k. k.0)
 
-module _ (h : HeaderData) (body : BodyData) (row : RowData) where
+module _ (h : HeaderData) (before : ℕ) (row : RowData) where
   abbrev pub from_edge_label : Part Sign RowData HoaCause
   from_edge_label = then_by (label_in_brackets h) (λ label. from_target h row label (labelled_target h))
 
@@ -276,27 +272,27 @@ module _ (h : HeaderData) (body : BodyData) (row : RowData) where
   laws_from_edge_label = weaker (laws_then (laws_label_in_brackets h) (λ label. laws_from_target h row label (IsBadState h.states)) (nothing_apart _))
       (only_first _ _) (only_first _ Nothing) (λ k. k.0)
 
-  laws_edge_bracket : Laws Odd (one is_bracket (IsBadBracket body row)) (Of is_left_bracket) Nothing ⊥
+  laws_edge_bracket : Laws Odd (one is_bracket (IsBadBracket before row)) (Of is_left_bracket) Nothing ⊥
   laws_edge_bracket = weaker
-      (laws_one is_bracket (IsBadBracket body row) Odd (record { kind = LeftBracket; text = [] }) tt refl
+      (laws_one is_bracket (IsBadBracket before row) Odd (record { kind = LeftBracket; text = [] }) tt refl
       (λ t k o. plain_odd is_left_bracket plain_left_bracket t (first t (inl k)) o) (λ t k o. plain_odd is_left_bracket plain_left_bracket t (first t (inr k)) o))
       first (λ t k. k) (λ k. k)
     where
-      first : Within (Or (Taken is_bracket) (BadSign (IsBadBracket body row))) (Of is_left_bracket)
+      first : Within (Or (Taken is_bracket) (BadSign (IsBadBracket before row))) (Of is_left_bracket)
       first t (inl k) = taken_mark is_left_bracket t k.0 k.1
       first t (inr k) = ap is_left_bracket k.1.0
 
-  pub joint_edge_label : Joint (one is_bracket (IsBadBracket body row)) (λ _. from_edge_label)
+  pub joint_edge_label : Joint (one is_bracket (IsBadBracket before row)) (λ _. from_edge_label)
   joint_edge_label = joint laws_edge_bracket (λ _. laws_from_edge_label) (nothing_apart _)
 
-  pub laws_labelled_edge : Laws Odd (labelled_edge h body row) (Of is_left_bracket) (Of lengthens_edge) ⊥
+  pub laws_labelled_edge : Laws Odd (labelled_edge h before row) (Of is_left_bracket) (Of lengthens_edge) ⊥
   laws_labelled_edge = weaker (laws_then laws_edge_bracket (λ _. laws_from_edge_label) (nothing_apart _)) (only_first _ _) (only_first _ Nothing) (λ k. k.0)
 
-  pub joint_plain_marks : Joint (plain_target h body row) (λ n. mapped (with_edge row None n) (marks h))
-  joint_plain_marks = joint_target_marks h row None (IsBadPlainTarget h body row)
+  pub joint_plain_marks : Joint (plain_target h before row) (λ n. mapped (with_edge row None n) (marks h))
+  joint_plain_marks = joint_target_marks h row None (IsBadPlainTarget h.states before row)
 
-  pub laws_plain_edge : Laws Odd (plain_edge h body row) (Of is_int) (Of lengthens_edge) ⊥
-  laws_plain_edge = laws_from_target h row None (IsBadPlainTarget h body row)
+  pub laws_plain_edge : Laws Odd (plain_edge h before row) (Of is_int) (Of lengthens_edge) ⊥
+  laws_plain_edge = laws_from_target h row None (IsBadPlainTarget h.states before row)
 
   pub bracket_int : Apart (Of is_left_bracket) (Of is_int)
   bracket_int t k m = go t.kind k m
@@ -320,7 +316,7 @@ module _ (h : HeaderData) (body : BodyData) (row : RowData) where
   edge_more A B C t (inr (inl k)) = absurd k.0
   edge_more A B C t (inr (inr k)) = absurd k.0
 
-  pub laws_edge : Laws Odd (edge h body row) (Of begins_edge) (Of lengthens_edge) ⊥
+  pub laws_edge : Laws Odd (edge h before row) (Of begins_edge) (Of lengthens_edge) ⊥
   laws_edge = weaker (laws_either laws_labelled_edge laws_plain_edge bracket_int (λ a b. a)) edge_first (edge_more _ _ _) none
     where
       none : ⊥ ⊎ ⊥ → ⊥
@@ -335,5 +331,5 @@ edge_apart t h k = go t.kind h k
     go LeftBrace h k = false_true k
     go kind h k = false_true h
 
-pub laws_edges : (h : HeaderData) (body : BodyData) (row : RowData) → Laws Odd (edges h body row) (Of begins_edge) (Or (Of lengthens_edge) (Of begins_edge)) (Unit {0})
-laws_edges h body row = laws_many (edge h body) (laws_edge h body) edge_apart row
+pub laws_edges : (h : HeaderData) (before : ℕ) (row : RowData) → Laws Odd (edges h before row) (Of begins_edge) (Or (Of lengthens_edge) (Of begins_edge)) (Unit {0})
+laws_edges h before row = laws_many (edge h before) (laws_edge h before) edge_apart row

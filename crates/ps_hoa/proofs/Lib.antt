@@ -27,3 +27,7 @@ pub mod NextSign
 pub mod Keeping
 pub mod SoundLabels
 pub mod SoundHeaders
+pub mod IntSigns
+pub mod BodyReading
+pub mod RowTable
+pub mod StateReading

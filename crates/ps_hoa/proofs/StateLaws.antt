@@ -19,11 +19,12 @@ use Rattle.ps_hoa.specs.Labels.{label}
 use Rattle.ps_hoa.specs.Causes.{own_cause, is_unknown_capital}
 use Rattle.ps_hoa.specs.Header.{HeaderData, name_value, string}
 use Rattle.ps_hoa.specs.Body.{BodyData, no_rows, is_left_brace, marks, is_left_bracket, state_label, edges, IsBadRow, state_number, nothing_of, state_name, empty_row, with_row, state_value, IsBadNext, state_begins, state, is_end, IsBadClose, ended, body}
+use Rattle.ps_hoa.specs.Ahead.{begins_edge}
 use Rattle.ps_hoa.specs.declared.fault.HoaCause.{HoaCause}
 use Rattle.ps_hoa.specs.declared.tokens.Kind.{Kind}
 use Rattle.ps_hoa.specs.declared.tokens.Kind.TheVariants.{Int, Text, Header, And, LeftBracket, LeftBrace, End}
 use Rattle.ps_hoa.proofs.OperandLaws.{Odd, Of, false_true, taken_mark, plain_odd, nothing_apart, only_first}
-use Rattle.ps_hoa.proofs.BodyLaws.{is_int, is_text, begins_edge, lengthens_edge, AreApart, plain_end, laws_number, laws_text, either_first, either_more, laws_marks, laws_state_label, laws_edges}
+use Rattle.ps_hoa.proofs.BodyLaws.{is_int, is_text, lengthens_edge, AreApart, plain_end, laws_number, laws_text, either_first, either_more, laws_marks, laws_state_label, laws_edges}
 
 -- the signs that may stand in a state behind its first one
 abbrev pub lengthens_state : Kind → Bool
@@ -37,7 +38,7 @@ lengthens_state kind = false
 abbrev pub IsState : Sign → Type 0
 IsState = Taken state_value
 
-text_of_state : (kind : Kind) (text : List ℕ) (v : Unit {0}) → name_value (codes "State:") kind text ≡ Some v → (kind ≡ Header) × (text ≡ codes "State:")
+pub text_of_state : (kind : Kind) (text : List ℕ) (v : Unit {0}) → name_value (codes "State:") kind text ≡ Some v → (kind ≡ Header) × (text ≡ codes "State:")
 text_of_state Header text v e = (refl, go (bytes_eq text (codes "State:")) refl e)
   where
     go : (b : Bool) → bytes_eq text (codes "State:") ≡ b → cond b (Some tt) None ≡ Some v → text ≡ codes "State:"
@@ -86,7 +87,7 @@ laws_named = laws_mapped nothing_of string laws_text
 pub laws_no_name : Laws Odd (give {T = Sign} {V = Unit {0}} {F = HoaCause} tt) Nothing Nothing (Unit {0})
 laws_no_name = laws_give Odd tt
 
-laws_state_name : Laws Odd state_name (Of is_text) (Of is_text) (Unit {0})
+pub laws_state_name : Laws Odd state_name (Of is_text) (Of is_text) (Unit {0})
 laws_state_name = weaker (laws_either laws_named laws_no_name (λ t a b. b) (λ a b. a)) (either_first _) (either_more _) (λ k. tt)
 
 -- the signs of a state behind its label, by what may stand behind each of its parts
@@ -198,7 +199,7 @@ label_int t h k = go t.kind h k
 
 module _ (h : HeaderData) (b : BodyData) where
   abbrev pub from_edges : Option Expression → ℕ → List ℕ → Part Sign BodyData HoaCause
-  from_edges label n ns = mapped (with_row b) (edges h b (empty_row n label ns))
+  from_edges label n ns = mapped (with_row b) (edges h b.edges (empty_row n label ns))
 
   abbrev pub from_marks : Option Expression → ℕ → Part Sign BodyData HoaCause
   from_marks label n = then_by (marks h) (from_edges label n)
@@ -213,7 +214,7 @@ module _ (h : HeaderData) (b : BodyData) where
   from_label = then_by (state_label h) from_number
 
   laws_from_edges : (label : Option Expression) (n : ℕ) (ns : List ℕ) → Laws Odd (from_edges label n ns) (Of begins_edge) MoreEdges (Unit {0})
-  laws_from_edges label n ns = laws_mapped (with_row b) (edges h b (empty_row n label ns)) (laws_edges h b (empty_row n label ns))
+  laws_from_edges label n ns = laws_mapped (with_row b) (edges h b.edges (empty_row n label ns)) (laws_edges h b.edges (empty_row n label ns))
 
   pub joint_marks : (label : Option Expression) (n : ℕ) → Joint (marks h) (from_edges label n)
   joint_marks label n = joint (laws_marks h) (laws_from_edges label n) marks_apart

@@ -16,6 +16,8 @@ use Rattle.ps_hoa.specs.Labels as labels
 use Rattle.ps_hoa.specs.Labels.{ScopeData}
 use Rattle.ps_hoa.specs.Files.{EdgeData, RowData, GuardData, stated, of_state, at_letter, once}
 use Rattle.ps_hoa.specs.Header.{HeaderData, names_of, name_value, int_in, string, state_limit, IsAlternating}
+use Rattle.ps_hoa.specs.declared.edges.Labelling.{Labelling}
+use Rattle.ps_hoa.specs.declared.edges.Labelling.TheVariants.{ByState, ByEdge, ByPlace, NotKnown}
 use Rattle.ps_hoa.specs.declared.fault.HoaCause.{HoaCause}
 use Rattle.ps_hoa.specs.declared.fault.HoaCause.TheVariants as causes
 use Rattle.ps_hoa.specs.declared.tokens.Kind.{Kind}
@@ -59,18 +61,18 @@ abbrev pub is_right_brace : Kind → Bool
 is_right_brace kinds.RightBrace = true
 is_right_brace kind = false
 
-abbrev pub set_number : HeaderData → List ℕ → Part Sign (List ℕ) HoaCause
-set_number h ns = mapped (once ns) (one int_in (BadIn (IsBadSet (sets_of h))))
+abbrev pub set_number : ℕ → List ℕ → Part Sign (List ℕ) HoaCause
+set_number count ns = mapped (once ns) (one int_in (BadIn (IsBadSet count)))
 
 abbrev pub closing : List ℕ → Part Sign (List ℕ) HoaCause
 closing ns = mapped (λ _. ns) (mark is_right_brace)
 
-abbrev pub sets : HeaderData → Part Sign (List ℕ) HoaCause
-sets h = then_by (mark is_left_brace) (λ _. then_by (many (set_number h) []) closing)
+abbrev pub sets : ℕ → Part Sign (List ℕ) HoaCause
+sets count = then_by (mark is_left_brace) (λ _. then_by (many (set_number count) []) closing)
 
 -- sets, or none
 abbrev pub marks : HeaderData → Part Sign (List ℕ) HoaCause
-marks h = either (sets h) (give [])
+marks h = either (sets (sets_of h)) (give [])
 
 -- ## Labels between brackets
 
@@ -98,33 +100,28 @@ state_label h = either (then_by (mark is_left_bracket) (λ _. label_in_brackets 
 -- ## Edges
 
 -- how the edges of a row are labelled: by the row's label, each by its own, by their places, or not known yet
-pub data Labelling : Type 0 where
-  by_state : Labelling
-  by_edge : Labelling
-  by_place : Labelling
-  not_known : Labelling
-
 abbrev pub first_labelling : List EdgeData → Labelling
-first_labelling [] = not_known
-first_labelling (e ∷ es) = elim e.guard [ stated label ↦ by_edge | of_state ↦ by_state | at_letter k ↦ by_place ]
+first_labelling [] = NotKnown
+first_labelling (e ∷ es) = elim e.guard [ stated label ↦ ByEdge | of_state ↦ ByState | at_letter k ↦ ByPlace ]
 
 abbrev pub labelling : RowData → Labelling
-labelling row = elim row.label [ Some e ↦ by_state | None ↦ first_labelling row.edges ]
+labelling row = elim row.label [ Some e ↦ ByState | None ↦ first_labelling row.edges ]
 
 -- an edge with a label where its state has one or earlier edges have none
 abbrev pub MayHaveNoLabel : Labelling → Type 0
-MayHaveNoLabel by_edge = ⊥
+MayHaveNoLabel ByEdge = ⊥
 MayHaveNoLabel _ = Unit {0}
 
 abbrev pub MayHaveLabel : Labelling → Type 0
-MayHaveLabel by_edge = Unit {0}
-MayHaveLabel not_known = Unit {0}
+MayHaveLabel ByEdge = Unit {0}
+MayHaveLabel NotKnown = Unit {0}
 MayHaveLabel _ = ⊥
 
--- what may be wrong with the first sign of an edge: one edge too many; or a label where there may be none
-abbrev pub IsBadBracket : BodyData → RowData → Sign → HoaCause → Type 0
-IsBadBracket body row s f = (s.kind ≡ kinds.LeftBracket)
-    × (((edge_limit ≤ body.edges + length row.edges) × (f ≡ causes.Limit)) ⊎ ((MayHaveLabel (labelling row) → ⊥) × (f ≡ causes.Labels)))
+-- what may be wrong with the `[` of an edge, where `before` is the number of edges of earlier states: one edge too many; or a label
+-- where there may be none
+abbrev pub IsBadBracket : ℕ → RowData → Sign → HoaCause → Type 0
+IsBadBracket before row s f = (s.kind ≡ kinds.LeftBracket)
+    × (((edge_limit ≤ before + length row.edges) × (f ≡ causes.Limit)) ⊎ ((MayHaveLabel (labelling row) → ⊥) × (f ≡ causes.Labels)))
 
 abbrev pub is_bracket : Sign → Option (Unit {0})
 is_bracket s = if is_left_bracket s.kind then Some tt else None
@@ -134,13 +131,13 @@ abbrev pub labelled_target : HeaderData → Part Sign ℕ HoaCause
 labelled_target h = barred (one int_in (BadIn (IsBadState h.states))) IsAlternating
 
 -- a target that is an edge's first sign: of a state's number that is wrong, of one edge too many, or of an edge that wants a label
-abbrev pub IsBadPlainTarget : HeaderData → BodyData → RowData → ℕ → HoaCause → Type 0
-IsBadPlainTarget h body row n f =
-    IsBadState h.states n f
-    ⊎ (((edge_limit ≤ body.edges + length row.edges) × (f ≡ causes.Limit)) ⊎ ((MayHaveNoLabel (labelling row) → ⊥) × (f ≡ causes.Labels)))
+abbrev pub IsBadPlainTarget : Option ℕ → ℕ → RowData → ℕ → HoaCause → Type 0
+IsBadPlainTarget states before row n f =
+    IsBadState states n f
+    ⊎ (((edge_limit ≤ before + length row.edges) × (f ≡ causes.Limit)) ⊎ ((MayHaveNoLabel (labelling row) → ⊥) × (f ≡ causes.Labels)))
 
-abbrev pub plain_target : HeaderData → BodyData → RowData → Part Sign ℕ HoaCause
-plain_target h body row = barred (one int_in (BadIn (IsBadPlainTarget h body row))) IsAlternating
+abbrev pub plain_target : HeaderData → ℕ → RowData → Part Sign ℕ HoaCause
+plain_target h before row = barred (one int_in (BadIn (IsBadPlainTarget h.states before row))) IsAlternating
 
 -- the guard of an edge without a label
 abbrev pub plain_guard : RowData → GuardData
@@ -153,22 +150,22 @@ guard_of row (Some e) = stated e
 abbrev pub with_edge : RowData → Option Expression → ℕ → List ℕ → RowData
 with_edge row label target ns = record row { edges = row.edges ++ record { guard = guard_of row label; target = target; marks = ns } ∷ [] }
 
-abbrev pub labelled_edge : HeaderData → BodyData → RowData → Part Sign RowData HoaCause
-labelled_edge h body row = then_by (one is_bracket (IsBadBracket body row)) (λ _. then_by (label_in_brackets h) (λ label.
+abbrev pub labelled_edge : HeaderData → ℕ → RowData → Part Sign RowData HoaCause
+labelled_edge h before row = then_by (one is_bracket (IsBadBracket before row)) (λ _. then_by (label_in_brackets h) (λ label.
     then_by (labelled_target h) (λ target. mapped (with_edge row label target) (marks h))))
 
-abbrev pub plain_edge : HeaderData → BodyData → RowData → Part Sign RowData HoaCause
-plain_edge h body row = then_by (plain_target h body row) (λ target. mapped (with_edge row None target) (marks h))
+abbrev pub plain_edge : HeaderData → ℕ → RowData → Part Sign RowData HoaCause
+plain_edge h before row = then_by (plain_target h before row) (λ target. mapped (with_edge row None target) (marks h))
 
-abbrev pub edge : HeaderData → BodyData → RowData → Part Sign RowData HoaCause
-edge h body row = either (labelled_edge h body row) (plain_edge h body row)
+abbrev pub edge : HeaderData → ℕ → RowData → Part Sign RowData HoaCause
+edge h before row = either (labelled_edge h before row) (plain_edge h before row)
 
-abbrev pub edges : HeaderData → BodyData → RowData → Part Sign RowData HoaCause
-edges h body row = many (edge h body) row
+abbrev pub edges : HeaderData → ℕ → RowData → Part Sign RowData HoaCause
+edges h before row = many (edge h before) row
 
 -- implicit labels that are not one for each letter
 abbrev pub IsWrongCount : HeaderData → RowData → Type 0
-IsWrongCount h row = (labelling row ≡ by_place) × (length row.edges ≢ 2 ^ length (names_of h))
+IsWrongCount h row = (labelling row ≡ ByPlace) × (length row.edges ≢ 2 ^ length (names_of h))
 
 abbrev pub last_row : BodyData → Option RowData
 last_row body = slice_get body.rows (length body.rows - 1)
@@ -214,7 +211,7 @@ state_begins h body = one state_value (IsBadNext h body)
 
 abbrev pub state : HeaderData → BodyData → Part Sign BodyData HoaCause
 state h body = then_by (state_begins h body) (λ _. then_by (state_label h) (λ label. then_by (state_number h body) (λ n.
-    then_by state_name (λ _. then_by (marks h) (λ ns. mapped (with_row body) (edges h body (empty_row n label ns)))))))
+    then_by state_name (λ _. then_by (marks h) (λ ns. mapped (with_row body) (edges h body.edges (empty_row n label ns)))))))
 
 abbrev pub is_end : Kind → Bool
 is_end kinds.End = true

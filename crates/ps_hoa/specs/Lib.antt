@@ -16,3 +16,5 @@ pub mod Reads
 pub mod Memory
 pub mod Views
 pub mod Signs
+pub mod Ahead
+pub mod Rows

@@ -1,7 +1,9 @@
 //! Reads texts of the Hanoi Omega-Automata format, version 1.
 #![tactic(auto)]
 
+mod body;
 pub mod condition;
+mod edges;
 pub mod expressions;
 pub mod fault;
 pub mod file;
@@ -13,6 +15,7 @@ mod number;
 pub mod opening;
 mod propositions;
 mod refusal;
+mod rows;
 mod signs;
 pub mod tokens;
 

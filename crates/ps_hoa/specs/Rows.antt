@@ -1,0 +1,14 @@
+-- What the grammar sees of the rows of the code.
+use Rattle.std.specs.Prelude.{◌≡◌, Some, map}
+use Rattle.ps_hoa.specs.Files.{RowData}
+use Rattle.ps_hoa.specs.Header.{HeaderData}
+use Rattle.ps_hoa.specs.Body.{BodyData, IsWrongCount, last_row}
+use Rattle.ps_hoa.specs.Views.{row_data}
+use Rattle.ps_hoa.specs.declared.rows.Rows.{Rows}
+
+abbrev pub body_data : Rows → BodyData
+body_data r = record { rows = map row_data r.rows.items; edges = r.edges }
+
+-- the last row has implicit labels that are not one for each letter
+abbrev pub IsEndWrong : HeaderData → BodyData → Type 0
+IsEndWrong h body = (row : RowData) × (last_row body ≡ Some row) × IsWrongCount h row

@@ -1,0 +1,201 @@
+//! The body of an HOA text.
+
+ghost use Rattle.std.specs.Prelude.{◌≡◌, ◌≢◌, ℕ, ◌+◌, ◌^◌, ◌≤◌, ◌↔◌, false, true, codes, IfOk, is_some, length, option_map};
+ghost use Rattle.ps_label.specs.Expression.{expression};
+ghost use Rattle.ps_text.specs.Parts.{many, one};
+ghost use Rattle.ps_text.specs.Readers.{Reads as ReadsPart};
+ghost use Rattle.ps_hoa.specs.Body as parts;
+ghost use Rattle.ps_hoa.specs.Body.{BadIn, edge_limit, has_row, IsBadClose, IsBadNext, IsBadRow, IsWrongCount, is_end, last_row, no_rows, state_value, with_row};
+ghost use Rattle.ps_hoa.specs.Header.{HeaderData, int_in, names_of, name_value};
+ghost use Rattle.ps_hoa.specs.Operands.{mark_in};
+ghost use Rattle.ps_hoa.specs.Reads.{Reads, Takes};
+ghost use Rattle.ps_hoa.specs.Rows.{body_data, IsEndWrong};
+ghost use Rattle.ps_hoa.specs.Scan.{next_of, stream_of};
+ghost use Rattle.ps_hoa.specs.Spans.{piece_of};
+ghost use Rattle.ps_hoa.specs.Views.{header_data, row_data};
+
+use crate::edges::{Labelling, edges, label_in_brackets, labelling_of, marks, state_of};
+use crate::fault::{HoaCause, HoaFault};
+use crate::file::Row;
+use crate::header::Header;
+use crate::refusal::{fault_at, refused};
+use crate::rows::Rows;
+use crate::signs::{is_item_name, mark};
+use crate::tokens::{Kind, Token, Tokens};
+use ps_label::Label;
+use std::alloc::Global;
+
+/// Reads the body: its states, and `--END--`.
+pub(crate) fn body(alloc: Global, tokens: &mut Tokens, header: &Header) -> Result<Rows, HoaFault>
+    ensures { Reads body_data (parts.body (header_data header.now)) tokens.old result tokens.new }
+{
+    let rows = states(alloc, tokens, header)?;
+    end(tokens, header, &rows)?;
+    Ok(rows)
+}
+
+/// Reads states, as many as stand here.
+fn states(alloc: Global, tokens: &mut Tokens, header: &Header) -> Result<Rows, HoaFault>
+    ensures { Reads body_data (many (parts.state (header_data header.now)) no_rows) tokens.old result tokens.new }
+{
+    let mut rows = Rows::new(alloc);
+    'more: while is_at_state(tokens) {
+        state(alloc, tokens, header, &mut rows)?;
+    }
+    Ok(rows)
+}
+
+/// Whether `State:` stands here.
+fn is_at_state(tokens: &Tokens) -> bool
+    ensures { result ≡ is_some (state_value (next_of (stream_of tokens.now)).sign) }
+{
+    let token = tokens.peek();
+    is_item_name(token, b"State:")
+}
+
+/// Reads a state behind others.
+fn state(
+    alloc: Global,
+    tokens: &mut Tokens,
+    header: &Header,
+    rows: &mut Rows,
+) -> Result<(), HoaFault>
+    ensures { Reads (λ _. body_data rows.new) (parts.state (header_data header.now) (body_data rows.old)) tokens.old result tokens.new }
+{
+    let row = row(alloc, tokens, header, rows)?;
+    rows.push(row)?;
+    Ok(())
+}
+
+/// Reads the row of a state of which no other row is.
+fn row(alloc: Global, tokens: &mut Tokens, header: &Header, rows: &Rows) -> Result<Row, HoaFault>
+    ensures part { Reads (λ row. with_row (body_data rows.now) (row_data row)) (parts.state (header_data header.now) (body_data rows.now)) tokens.old result tokens.new }
+    ensures new { IfOk result (λ row. has_row row.state (body_data rows.now).rows ≡ false) }
+    ensures within { IfOk result (λ row. (body_data rows.now).edges + length row.edges.items ≤ edge_limit) }
+{
+    begin(tokens, header, rows)?;
+    let label = state_label(alloc, tokens, header)?;
+    let state = state_number(tokens, header, rows)?;
+    pass_name(tokens);
+    let marks = marks(alloc, tokens, header)?;
+    let mut row = Row {
+        state,
+        label,
+        marks,
+        edges: Vec::new(alloc),
+    };
+    let before = rows.edges();
+    edges(alloc, tokens, header, before, &mut row)?;
+    Ok(row)
+}
+
+/// Reads `State:` behind the edges of the last row.
+fn begin(tokens: &mut Tokens, header: &Header, rows: &Rows) -> Result<(), HoaFault>
+    ensures { Reads (λ u. u) (parts.state_begins (header_data header.now) (body_data rows.now)) tokens.old result tokens.new }
+{
+    let token = tokens.advance();
+    begin_of(token, header, rows)
+}
+
+/// The token is `State:` behind the edges of the last row.
+fn begin_of(token: Token, header: &Header, rows: &Rows) -> Result<(), HoaFault>
+    ensures { Takes (λ u. u) state_value (IsBadNext (header_data header.now) (body_data rows.now)) (piece_of token.entry) result }
+{
+    if !is_item_name(token, b"State:") {
+        Err(refused(token))
+    } else if is_end_wrong(header, rows) {
+        Err(fault_at(token, HoaCause::Labels))
+    } else {
+        Ok(())
+    }
+}
+
+/// Reads `--END--` behind the edges of the last row.
+fn end(tokens: &mut Tokens, header: &Header, rows: &Rows) -> Result<(), HoaFault>
+    ensures { Reads (λ _. body_data rows.now) (parts.ended (header_data header.now) (body_data rows.now)) tokens.old result tokens.new }
+{
+    let token = tokens.advance();
+    end_of(token, header, rows)
+}
+
+/// The token is `--END--` behind the edges of the last row.
+fn end_of(token: Token, header: &Header, rows: &Rows) -> Result<(), HoaFault>
+    ensures { Takes (λ u. u) (mark_in is_end) (IsBadClose (header_data header.now) (body_data rows.now)) (piece_of token.entry) result }
+{
+    match token.kind {
+        Kind::End if is_end_wrong(header, rows) => Err(fault_at(token, HoaCause::Labels)),
+        Kind::End => Ok(()),
+        _ => Err(refused(token)),
+    }
+}
+
+/// Whether the last row has implicit labels that are not one for each letter.
+fn is_end_wrong(header: &Header, rows: &Rows) -> bool
+    ensures { (result ≡ true) ↔ IsEndWrong (header_data header.now) (body_data rows.now) }
+{
+    match rows.last() {
+        Some(row) => has_wrong_count(row, header.propositions()),
+        None => false,
+    }
+}
+
+/// Whether a row has implicit labels that are not one for each letter, where there are so many propositions.
+fn has_wrong_count(row: &Row, propositions: usize) -> bool
+    ensures { (h : HeaderData) → length (names_of h) ≡ propositions → (result ≡ true) ↔ IsWrongCount h (row_data row.now) }
+{
+    matches!(labelling_of(row), Labelling::ByPlace)
+        && !is_power_of_two(row.edges.len(), propositions)
+}
+
+/// Whether a number is 2 to the power of another.
+fn is_power_of_two(number: usize, exponent: usize) -> bool
+    ensures { (result ≡ true) ↔ (number ≡ 2 ^ exponent) }
+{
+    exponent < 64 && number == 1 << exponent
+}
+
+/// Reads the label of a state, if it has one.
+fn state_label(
+    alloc: Global,
+    tokens: &mut Tokens,
+    header: &Header,
+) -> Result<Option<Label>, HoaFault>
+    ensures { Reads (λ label. option_map expression label) (parts.state_label (header_data header.now)) tokens.old result tokens.new }
+{
+    if !tokens.is_at(Kind::LeftBracket) {
+        return Ok(None);
+    }
+    mark(tokens, Kind::LeftBracket)?;
+    let label = label_in_brackets(alloc, tokens, header)?;
+    Ok(Some(label))
+}
+
+/// Reads the number of a state of which no row is.
+fn state_number(tokens: &mut Tokens, header: &Header, rows: &Rows) -> Result<u32, HoaFault>
+    ensures part { Reads (λ n. n) (parts.state_number (header_data header.now) (body_data rows.now)) tokens.old result tokens.new }
+    ensures new { IfOk result (λ n. has_row n (body_data rows.now).rows ≡ false) }
+{
+    let token = tokens.advance();
+    new_state_of(token, header, rows)
+}
+
+/// The state that a token is, of which no row is.
+fn new_state_of(token: Token, header: &Header, rows: &Rows) -> Result<u32, HoaFault>
+    ensures sign { Takes (λ n. n) int_in (BadIn (IsBadRow (header_data header.now) (body_data rows.now))) (piece_of token.entry) result }
+    ensures new { IfOk result (λ n. has_row n (body_data rows.now).rows ≡ false) }
+{
+    let state = state_of(token, header.states)?;
+    if rows.has(state) {
+        return Err(fault_at(token, HoaCause::StateTwice));
+    }
+    Ok(state)
+}
+
+/// Goes on behind the name of a state, if it has one.
+fn pass_name(tokens: &mut Tokens)
+    ensures { ReadsPart parts.state_name (stream_of tokens.old) tt (stream_of tokens.new) }
+{
+    if tokens.is_at(Kind::Text) {
+        tokens.advance();
+    }
+}

@@ -1,0 +1,350 @@
+//! The edges of a state: their labels, targets and marks.
+
+ghost use Rattle.std.specs.Prelude.{[], ◌≡◌, ◌+◌, ◌<◌, ◌≤◌, ◌↔◌, Bool, IfOk, IsTrue, OnOk, length, map, Some};
+ghost use Rattle.ps_label.specs.Expression.{expression};
+ghost use Rattle.ps_hoa.specs.Body as parts;
+ghost use Rattle.ps_hoa.specs.Body.{BadIn, IsBadBracket, IsBadPlainTarget, IsBadSet, IsBadState, edge_limit, is_bracket, MayHaveLabel, MayHaveNoLabel};
+ghost use Rattle.ps_hoa.specs.Files.{once};
+ghost use Rattle.ps_hoa.specs.Header.{int_in};
+ghost use Rattle.ps_hoa.specs.Reads.{Reads, Takes};
+ghost use Rattle.ps_hoa.specs.Spans.{piece_of};
+ghost use Rattle.ps_hoa.specs.Scan.{next_of, stream_of};
+ghost use Rattle.ps_hoa.specs.Ahead.{begins_edge, StandsAlone};
+ghost use Rattle.ps_hoa.specs.Views.{guard_data, header_data, row_data};
+ghost use Rattle.ps_text.specs.Parts.{many, one};
+
+use crate::fault::{HoaCause, HoaFault};
+use crate::file::{Edge, Guard, Row};
+use crate::header::Header;
+use crate::label::label;
+use crate::number::int_of;
+use crate::refusal::{fault_at, refused};
+use crate::signs::mark;
+use crate::tokens::{Kind, Token, Tokens};
+use ps_label::Label;
+use smallvec::SmallVec;
+use std::alloc::{AllocFailed, Global};
+
+/// A text has at most as many edges.
+pub(crate) const EDGE_LIMIT: usize = 1_048_576;
+
+/// Where `States:` does not give the number of states, each is below this.
+const STATE_LIMIT: u32 = 65_535;
+
+/// How the edges of a state are labelled.
+#[derive(Clone, Copy, Debug, PartialEq, Eq)]
+pub(crate) enum Labelling {
+    /// By the state's label.
+    ByState,
+    /// Each by its own label.
+    ByEdge,
+    /// By their places: edge `k` is taken at the letter `k`.
+    ByPlace,
+    /// The state has no label, and no edge yet.
+    NotKnown,
+}
+
+/// How the edges of a state are labelled.
+pub(crate) fn labelling_of(row: &Row) -> Labelling
+    ensures { result ≡ parts.labelling (row_data row.now) }
+{
+    if row.label.is_some() {
+        return Labelling::ByState;
+    }
+    match row.edges.first() {
+        None => Labelling::NotKnown,
+        Some(edge) => match edge.guard {
+            Guard::Stated(_) => Labelling::ByEdge,
+            Guard::OfState => Labelling::ByState,
+            Guard::Letter(_) => Labelling::ByPlace,
+        },
+    }
+}
+
+/// Reads the edges of a state, as many as stand here, behind as many of earlier states.
+pub(crate) fn edges(
+    alloc: Global,
+    tokens: &mut Tokens,
+    header: &Header,
+    before: usize,
+    row: &mut Row,
+) -> Result<(), HoaFault>
+    requires { before + length row.old.edges.items ≤ edge_limit }
+    ensures part { Reads (λ _. row_data row.new) (parts.edges (header_data header.now) before (row_data row.old)) tokens.old result tokens.new }
+    ensures within { IfOk result (λ _. before + length row.new.edges.items ≤ edge_limit) }
+    ensures same { row.new.state ≡ row.old.state }
+{
+    'more: while is_at_edge(tokens) {
+        edge(alloc, tokens, header, before, row)?;
+    }
+    Ok(())
+}
+
+/// Whether an edge begins here.
+fn is_at_edge(tokens: &Tokens) -> bool
+    ensures { result ≡ begins_edge (next_of (stream_of tokens.now)).sign.kind }
+{
+    matches!(tokens.peek().kind, Kind::LeftBracket | Kind::Int)
+}
+
+/// Reads one more edge of a state.
+fn edge(
+    alloc: Global,
+    tokens: &mut Tokens,
+    header: &Header,
+    before: usize,
+    row: &mut Row,
+) -> Result<(), HoaFault>
+    requires { before + length row.old.edges.items ≤ edge_limit }
+    ensures part { Reads (λ _. row_data row.new) (parts.edge (header_data header.now) before (row_data row.old)) tokens.old result tokens.new }
+    ensures within { IfOk result (λ _. before + length row.new.edges.items ≤ edge_limit) }
+    ensures same { row.new.state ≡ row.old.state }
+{
+    if tokens.is_at(Kind::LeftBracket) {
+        labelled_edge(alloc, tokens, header, before, row)
+    } else {
+        plain_edge(alloc, tokens, header, before, row)
+    }
+}
+
+/// Reads an edge with a label.
+fn labelled_edge(
+    alloc: Global,
+    tokens: &mut Tokens,
+    header: &Header,
+    before: usize,
+    row: &mut Row,
+) -> Result<(), HoaFault>
+    requires { before + length row.old.edges.items ≤ edge_limit }
+    ensures part { Reads (λ _. row_data row.new) (parts.labelled_edge (header_data header.now) before (row_data row.old)) tokens.old result tokens.new }
+    ensures within { IfOk result (λ _. before + length row.new.edges.items ≤ edge_limit) }
+    ensures same { row.new.state ≡ row.old.state }
+{
+    bracket(tokens, before, row)?;
+    let label = label_in_brackets(alloc, tokens, header)?;
+    let target = labelled_target(tokens, header)?;
+    let marks = marks(alloc, tokens, header)?;
+    row.edges.push(Edge {
+        guard: Guard::Stated(label),
+        target,
+        marks,
+    })?;
+    Ok(())
+}
+
+/// Reads an edge without a label.
+fn plain_edge(
+    alloc: Global,
+    tokens: &mut Tokens,
+    header: &Header,
+    before: usize,
+    row: &mut Row,
+) -> Result<(), HoaFault>
+    requires { before + length row.old.edges.items ≤ edge_limit }
+    ensures part { Reads (λ _. row_data row.new) (parts.plain_edge (header_data header.now) before (row_data row.old)) tokens.old result tokens.new }
+    ensures within { IfOk result (λ _. before + length row.new.edges.items ≤ edge_limit) }
+    ensures same { row.new.state ≡ row.old.state }
+{
+    let target = plain_target(tokens, header, before, row)?;
+    let marks = marks(alloc, tokens, header)?;
+    let guard = plain_guard(row);
+    row.edges.push(Edge {
+        guard,
+        target,
+        marks,
+    })?;
+    Ok(())
+}
+
+/// The guard of the next edge of a state, if it has no label.
+fn plain_guard(row: &Row) -> Guard
+    ensures { guard_data result ≡ parts.plain_guard (row_data row.now) }
+{
+    match row.label {
+        Some(_) => Guard::OfState,
+        None => Guard::Letter(row.edges.len() as u64),
+    }
+}
+
+/// Reads the `[` of an edge.
+fn bracket(tokens: &mut Tokens, before: usize, row: &Row) -> Result<(), HoaFault>
+    requires { before ≤ edge_limit }
+    ensures part { Reads (λ u. u) (one is_bracket (IsBadBracket before (row_data row.now))) tokens.old result tokens.new }
+    ensures room { IfOk result (λ _. before + length row.now.edges.items < edge_limit) }
+{
+    let token = tokens.advance();
+    bracket_of(token, before, row)
+}
+
+/// The token is the `[` of an edge.
+fn bracket_of(token: Token, before: usize, row: &Row) -> Result<(), HoaFault>
+    requires { before ≤ edge_limit }
+    ensures sign { Takes (λ u. u) is_bracket (IsBadBracket before (row_data row.now)) (piece_of token.entry) result }
+    ensures room { IfOk result (λ _. before + length row.now.edges.items < edge_limit) }
+{
+    if token.kind != Kind::LeftBracket {
+        Err(refused(token))
+    } else if row.edges.len() >= EDGE_LIMIT - before {
+        Err(fault_at(token, HoaCause::Limit))
+    } else if matches!(labelling_of(row), Labelling::ByEdge | Labelling::NotKnown) {
+        Ok(())
+    } else {
+        Err(fault_at(token, HoaCause::Labels))
+    }
+}
+
+/// Reads what stands behind the `[` of a label.
+pub(crate) fn label_in_brackets(
+    alloc: Global,
+    tokens: &mut Tokens,
+    header: &Header,
+) -> Result<Label, HoaFault>
+    ensures { Reads (λ label. Some (expression label)) (parts.label_in_brackets (header_data header.now)) tokens.old result tokens.new }
+{
+    let scope = header.scope();
+    let label = label(alloc, tokens, &scope)?;
+    mark(tokens, Kind::RightBracket)?;
+    Ok(label)
+}
+
+/// Reads the target of an edge with a label.
+fn labelled_target(tokens: &mut Tokens, header: &Header) -> Result<u32, HoaFault>
+    ensures { Reads (λ n. n) (parts.labelled_target (header_data header.now)) tokens.old result tokens.new }
+{
+    let token = tokens.advance();
+    let target = state_of(token, header.states)?;
+    alone(tokens)?;
+    Ok(target)
+}
+
+/// Reads the target of an edge without a label.
+fn plain_target(
+    tokens: &mut Tokens,
+    header: &Header,
+    before: usize,
+    row: &Row,
+) -> Result<u32, HoaFault>
+    requires { before ≤ edge_limit }
+    ensures part { Reads (λ n. n) (parts.plain_target (header_data header.now) before (row_data row.now)) tokens.old result tokens.new }
+    ensures room { IfOk result (λ _. before + length row.now.edges.items < edge_limit) }
+{
+    let token = tokens.advance();
+    let target = plain_target_of(token, header.states, before, row)?;
+    alone(tokens)?;
+    Ok(target)
+}
+
+/// The target of an edge without a label that a token is.
+fn plain_target_of(
+    token: Token,
+    states: Option<u32>,
+    before: usize,
+    row: &Row,
+) -> Result<u32, HoaFault>
+    requires { before ≤ edge_limit }
+    ensures sign { Takes (λ n. n) int_in (BadIn (IsBadPlainTarget states before (row_data row.now))) (piece_of token.entry) result }
+    ensures room { IfOk result (λ _. before + length row.now.edges.items < edge_limit) }
+{
+    if token.kind != Kind::Int {
+        return Err(refused(token));
+    }
+    if row.edges.len() >= EDGE_LIMIT - before {
+        return Err(fault_at(token, HoaCause::Limit));
+    }
+    let target = state_of(token, states)?;
+    match labelling_of(row) {
+        Labelling::ByEdge => Err(fault_at(token, HoaCause::Labels)),
+        _ => Ok(target),
+    }
+}
+
+/// The state that a token is.
+pub(crate) fn state_of(token: Token, states: Option<u32>) -> Result<u32, HoaFault>
+    ensures { Takes (λ n. n) int_in (BadIn (IsBadState states)) (piece_of token.entry) result }
+{
+    if token.kind != Kind::Int {
+        return Err(refused(token));
+    }
+    let Some(number) = int_of(token.text) else {
+        return Err(fault_at(token, HoaCause::Limit));
+    };
+    match states {
+        None if number >= STATE_LIMIT => Err(fault_at(token, HoaCause::Limit)),
+        Some(states) if number >= states => Err(fault_at(token, HoaCause::Range)),
+        _ => Ok(number),
+    }
+}
+
+/// No `&` stands here, behind a state.
+fn alone(tokens: &Tokens) -> Result<(), HoaFault>
+    ensures { StandsAlone (next_of (stream_of tokens.now)) result }
+{
+    let next = tokens.peek();
+    if next.kind == Kind::And {
+        return Err(fault_at(next, HoaCause::Alternating));
+    }
+    Ok(())
+}
+
+/// Reads the sets between braces, if they stand here.
+pub(crate) fn marks(
+    alloc: Global,
+    tokens: &mut Tokens,
+    header: &Header,
+) -> Result<SmallVec<u32, 4>, HoaFault>
+    ensures { Reads (λ marks. marks.items) (parts.marks (header_data header.now)) tokens.old result tokens.new }
+{
+    if tokens.is_at(Kind::LeftBrace) {
+        let count = header.sets();
+        sets(alloc, tokens, count)
+    } else {
+        Ok(SmallVec::new(alloc))
+    }
+}
+
+/// Reads sets between braces, of which there are so many.
+fn sets(alloc: Global, tokens: &mut Tokens, count: u32) -> Result<SmallVec<u32, 4>, HoaFault>
+    ensures { Reads (λ marks. marks.items) (parts.sets count) tokens.old result tokens.new }
+{
+    mark(tokens, Kind::LeftBrace)?;
+    let marks = set_numbers(alloc, tokens, count)?;
+    mark(tokens, Kind::RightBrace)?;
+    Ok(marks)
+}
+
+/// Reads sets, of which there are so many, as far as numbers stand here.
+fn set_numbers(alloc: Global, tokens: &mut Tokens, count: u32) -> Result<SmallVec<u32, 4>, HoaFault>
+    ensures { Reads (λ marks. marks.items) (many (parts.set_number count) []) tokens.old result tokens.new }
+{
+    let mut marks = SmallVec::new(alloc);
+    'more: while tokens.is_at(Kind::Int) {
+        let token = tokens.advance();
+        let set = set_of(token, count)?;
+        add_once(&mut marks, set)?;
+    }
+    Ok(marks)
+}
+
+/// The set that a token is, where there are so many.
+fn set_of(token: Token, count: u32) -> Result<u32, HoaFault>
+    ensures { Takes (λ n. n) int_in (BadIn (IsBadSet count)) (piece_of token.entry) result }
+{
+    if token.kind != Kind::Int {
+        return Err(refused(token));
+    }
+    match int_of(token.text) {
+        None => Err(fault_at(token, HoaCause::Limit)),
+        Some(number) if number >= count => Err(fault_at(token, HoaCause::Range)),
+        Some(number) => Ok(number),
+    }
+}
+
+/// Adds a number that is not there yet.
+fn add_once(numbers: &mut SmallVec<u32, 4>, number: u32) -> Result<(), AllocFailed<u32>>
+    ensures { OnOk result (numbers.new.items ≡ once numbers.old.items number) }
+{
+    if !numbers.as_slice().contains(&number) {
+        numbers.push(number)?;
+    }
+    Ok(())
+}
