@@ -10,6 +10,9 @@ pub mod LabelLaws
 pub mod ConditionLaws
 pub mod MarkReading
 pub mod RowReading
+pub mod NestedRows
+pub mod LabelNesting
+pub mod ConditionNesting
 pub mod LabelReading
 pub mod CondRows
 pub mod ConditionReading

@@ -13,6 +13,8 @@ pub mod Body
 pub mod Texts
 pub mod Values
 pub mod Reads
+pub mod LabelNesting
+pub mod ConditionNesting
 pub mod Memory
 pub mod Views
 pub mod Signs

@@ -4,10 +4,21 @@ ghost use Rattle.ps_hoa.specs.Labels as labels;
 ghost use Rattle.ps_hoa.specs.Conditions as conditions;
 ghost use Rattle.ps_text.specs.Answers.{HasOneMeaning};
 ghost use Rattle.ps_hoa.specs.Labels.{ScopeData};
-ghost use Rattle.std.specs.Prelude.{ℕ};
+ghost use Rattle.ps_hoa.specs.ConditionNesting.{IsCondition};
+ghost use Rattle.ps_hoa.specs.Conditions.{Condition};
+ghost use Rattle.ps_hoa.specs.LabelNesting.{IsLabel, Within};
+ghost use Rattle.ps_hoa.specs.Tokens.{Sign};
+ghost use Rattle.ps_label.specs.Expression.{Expression};
+ghost use Rattle.std.specs.Prelude.{ℕ, List, ◌↔◌};
 
 /// Tokens are at most one label, and at most one acceptance condition.
 pub fn one_expression()
     ensures labels { (scope : ScopeData) (room : ℕ) → HasOneMeaning (labels.label scope room).IsText }
     ensures conditions { (room : ℕ) → HasOneMeaning (conditions.condition room).IsText }
+{}
+
+/// Labels and conditions with room for so many `!` and `(` are those of the grammars without a limit in which no more of them nest.
+pub fn bounded_nesting()
+    ensures labels { (scope : ScopeData) (room : ℕ) (text : List Sign) (v : Expression) → (labels.label scope room).IsText text v ↔ Within room (IsLabel scope.names) text v }
+    ensures conditions { (room : ℕ) (text : List Sign) (v : Condition) → (conditions.condition room).IsText text v ↔ Within room IsCondition text v }
 {}

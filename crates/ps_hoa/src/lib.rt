@@ -4,6 +4,8 @@
 mod body;
 pub mod condition;
 mod edges;
+#[cfg(test)]
+mod expression_tests;
 pub mod expressions;
 pub mod fault;
 pub mod file;

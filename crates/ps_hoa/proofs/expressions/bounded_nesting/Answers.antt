@@ -1,0 +1,6 @@
+use Rattle.ps_hoa.proofs.ConditionNesting.{condition_nesting}
+use Rattle.ps_hoa.proofs.LabelNesting.{label_nesting}
+use Rattle.ps_hoa.proofs.expressions.bounded_nesting.Goals as goal
+
+pub returns : goal.returns
+returns c = record { labels = label_nesting; conditions = condition_nesting }
