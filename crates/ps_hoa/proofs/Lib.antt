@@ -34,3 +34,5 @@ pub mod IntSigns
 pub mod BodyReading
 pub mod RowTable
 pub mod StateReading
+pub mod SoundBodies
+pub mod SoundFiles

@@ -1,7 +1,7 @@
 -- A header that was read has no flaw, at most 64 propositions, and aliases that each speak of earlier ones alone.
 --     keeps_header      for each header
 --     ordered_aliases      the aliases of a header that was read, as labels want them
-use Rattle.std.proofs.Common.{◌≡◌, ℕ, zero, suc, ◌+◌, ◌<◌, ◌≤◌, ◌⊎◌, true, List, [], ◌∷◌, ◌++◌, length, codes, Some, refl, sym, subst, inl, inr, ◌∙◌, arith, length-append}
+use Rattle.std.proofs.Common.{◌≡◌, ℕ, zero, suc, ◌+◌, ◌<◌, ◌≤◌, ◌⊎◌, true, List, [], ◌∷◌, ◌++◌, length, codes, Some, refl, sym, ap, subst, inl, inr, ◌∙◌, arith, length-append}
 use Rattle.std.specs.Option.{IfSome}
 use Rattle.std.proofs.Math.Decide.{dec_lt}
 use Rattle.ps_label.specs.Expression.{Expression, AreOrderedFrom, AreOrdered}
@@ -18,7 +18,13 @@ use Rattle.ps_hoa.specs.declared.fault.HoaCause.{HoaCause}
 use Rattle.ps_hoa.specs.declared.fault.HoaCause.TheVariants as causes
 use Rattle.ps_hoa.specs.declared.tokens.Kind.{Kind}
 use Rattle.ps_hoa.specs.declared.tokens.Kind.TheVariants.{Body, Int, Text, Word}
-use Rattle.ps_hoa.proofs.Keeping.{Keeps, keeps_nothing, keeps_less, keeps_give, keeps_one, keeps_then, keeps_either, keeps_mapped, keeps_many, keeps_read}
+use Rattle.std.specs.Prelude.{◌||◌, Bool, false, cond}
+use Rattle.std.specs.Str.{bytes_eq}
+use Rattle.std.proofs.lemmas.Slice.Eq.{bytes_eq-Decides}
+use Rattle.ps_hoa.specs.Header.{is_empty, has_control}
+use Rattle.ps_hoa.specs.Sound.{AreNames}
+use Rattle.ps_hoa.proofs.OperandLaws.{false_true}
+use Rattle.ps_hoa.proofs.Keeping.{Keeps, keeps_nothing, keeps_less, keeps_give, keeps_one, keeps_then, keeps_either, keeps_mapped, keeps_times, keeps_many, keeps_read}
 use Rattle.ps_hoa.proofs.SoundLabels.{NamesBelow, within_of, keeps_label}
 use Rattle.ps_hoa.proofs.HeaderLaws.{start_name, other_name}
 
@@ -48,7 +54,7 @@ pub record AreAliases (names : List (List ℕ)) (es : List Expression) : Type 0 
 
 -- what the items so far say: the states, propositions, aliases and sets
 abbrev pub Kept : HeaderData → Type 0
-Kept h = IfSome h.states (λ n. n ≤ state_limit) × (length (names_of h) ≤ proposition_limit) × AreAliases h.alias_names h.aliases × IfSome h.acceptance (λ a. a.sets ≤ set_limit)
+Kept h = IfSome h.states (λ n. n ≤ state_limit) × ((length (names_of h) ≤ proposition_limit) × AreNames (names_of h)) × AreAliases h.alias_names h.aliases × IfSome h.acceptance (λ a. a.sets ≤ set_limit)
 
 rise_push : (k : ℕ) (es : List Expression) (e : Expression) → NamesRise k es → NamesBelow (k + length es) e → NamesRise k (es ++ e ∷ [])
 rise_push k [] e r n = (let z : k + 0 ≡ k = omega arith in subst (λ m. NamesBelow m e) z n, tt)
@@ -73,6 +79,52 @@ keeps_count (suc n) names = keeps_then (keeps_mapped (λ all. length all ≡ len
     (λ more l. keeps_less (times n proposition_name more) (λ all m. let x : length more ≡ length names + 1 = l in let y : length all ≡ length more + n = m in
     (let z : length all ≡ length names + suc n = omega (arith, x, y) in z)) (keeps_count n more))
 
+differ_back : (a b : List ℕ) → bytes_eq a b ≡ false → bytes_eq b a ≡ false
+differ_back a b e = go (bytes_eq b a) refl
+  where
+    go : (t : Bool) → bytes_eq b a ≡ t → bytes_eq b a ≡ false
+    go false h = h
+    go true h = absurd (false_true (sym e ∙ (bytes_eq-Decides a b).1 (sym ((bytes_eq-Decides b a).0 h))))
+
+-- one more name, which is none of the others
+names_push : (names : List (List ℕ)) (name : List ℕ) → AreNames names → (is_empty name || has_control name) ≡ false → is_name_among name names ≡ false → AreNames (names ++ name ∷ [])
+names_push [] name a g e = (g, refl, tt)
+names_push (other ∷ names) name a g e = go (bytes_eq name other) refl e (names_push names name a.2 g)
+  where
+    apart : (more : List (List ℕ)) → is_name_among other more ≡ false → bytes_eq other name ≡ false → is_name_among other (more ++ name ∷ []) ≡ false
+    apart [] h k = ap (λ t. cond t true false) k
+    apart (next ∷ more) h k = at (bytes_eq other next) h (apart more)
+      where
+        at : (t : Bool) → cond t true (is_name_among other more) ≡ false → (is_name_among other more ≡ false → bytes_eq other name ≡ false → is_name_among other (more ++ name ∷ []) ≡ false) →
+            cond t true (is_name_among other (more ++ name ∷ [])) ≡ false
+        at true h rest = h
+        at false h rest = rest h k
+
+    go : (t : Bool) → bytes_eq name other ≡ t → cond t true (is_name_among name names) ≡ false → (is_name_among name names ≡ false → AreNames (names ++ name ∷ [])) →
+        AreNames (other ∷ names ++ name ∷ [])
+    go true h k rest = absurd (false_true (sym k))
+    go false h k rest = (a.0, apart names a.1 (differ_back name other h), rest k)
+
+good_name : (names : List (List ℕ)) (t : Sign) (name : List ℕ) → string_in t ≡ Some name → ((f : HoaCause) → IsBadName names t f → ⊥) →
+    ((is_empty name || has_control name) ≡ false) × (is_name_among name names ≡ false)
+good_name names t name e good = go (is_empty name) (has_control name) (is_name_among name names) bad
+  where
+    bad : (is_empty name || has_control name || is_name_among name names) ≡ true → ⊥
+    bad b = good causes.Name (subst (λ o. IfSome o (λ n. ((is_empty n || has_control n || is_name_among n names) ≡ true) × (causes.Name ≡ causes.Name))) (sym e) (b, refl), λ k. none_is_some name (sym k ∙ e))
+
+    go : (x y z : Bool) → ((x || y || z) ≡ true → ⊥) → ((x || y) ≡ false) × (z ≡ false)
+    go true y z b = absurd (b refl)
+    go false true z b = absurd (b refl)
+    go false false true b = absurd (b refl)
+    go false false false b = (refl, refl)
+
+keeps_proposition_name : (names : List (List ℕ)) → AreNames names → Keeps (proposition_name names) AreNames
+keeps_proposition_name names a = keeps_mapped AreNames (with_name names) (one string_in (IsBadName names))
+    (keeps_one (λ name. AreNames (names ++ name ∷ [])) string_in (IsBadName names) (λ t name e good. let g = good_name names t name e good in names_push names name a g.0 g.1))
+
+keeps_names_good : (n : ℕ) (names : List (List ℕ)) → AreNames names → Keeps (times n proposition_name names) AreNames
+keeps_names_good n names a = keeps_times proposition_name keeps_proposition_name n names a
+
 few_more : (names : List (List ℕ)) (t : Sign) (name : List ℕ) → alias_value t.kind t.text ≡ Some name → ((f : HoaCause) → IsBadAlias names t f → ⊥) → length names < alias_limit
 few_more names t name e good = elim (dec_lt (length names) alias_limit) as (λ _. length names < alias_limit) [ yes h ↦ h | no h ↦ absurd (good causes.Limit (bad (omega arith))) ]
   where
@@ -95,7 +147,7 @@ module _ (h : HeaderData) (k : Kept h) where
   keeps_names : Keeps (names_item h) Kept
   keeps_names = keeps_then (keeps_nothing (item_name (codes "AP:"))) (λ _ _. keeps_then (keeps_int proposition_limit) (λ n l.
       keeps_mapped Kept (with_names h) (times n proposition_name [])
-      (λ text names i q. (k.0, (let m : length names ≡ 0 + n = keeps_count n [] text names i q in omega (arith, l, m)), k.2, k.3))))
+      (λ text names i q. (k.0, ((let m : length names ≡ 0 + n = keeps_count n [] text names i q in omega (arith, l, m)), keeps_names_good n [] tt text names i q), k.2, k.3))))
 
   keeps_alias : Keeps (alias_item h) Kept
   keeps_alias = keeps_then (keeps_nothing (item_name (codes "Alias:"))) (λ _ _.
@@ -145,7 +197,7 @@ keeps_body_mark h k = keeps_one (λ g. Kept g × HasNoFlaw g) (λ s. body_value 
     let p = same_header h g t.kind e in subst (λ z. Kept z × HasNoFlaw z) p.1 (k, λ f b. good f (p.0, b)))
 
 no_items_kept : Kept no_items
-no_items_kept = (tt, omega arith, record { one_each = refl; few = omega arith; rise = tt }, tt)
+no_items_kept = (tt, (omega arith, tt), record { one_each = refl; few = omega arith; rise = tt }, tt)
 
 pub keeps_header : Keeps header (λ h. Kept h × HasNoFlaw h)
 keeps_header = keeps_then (keeps_many item keeps_item no_items no_items_kept) keeps_body_mark
@@ -157,7 +209,7 @@ rise_ordered count k [] l r n = tt
 rise_ordered count k (e ∷ es) l r n = (within_of count k e l r.0 (λ h. n (inl h)), rise_ordered count (k + 1) es l r.1 (λ h. n (inr h)))
 
 pub aliases_ordered : (h : HeaderData) → Kept h → HasNoFlaw h → AreOrdered h.aliases
-aliases_ordered h k n = rise_ordered (length (names_of h)) 0 h.aliases k.1 k.2.rise (λ b. n causes.Range (out_of_range (inr (inl b))))
+aliases_ordered h k n = rise_ordered (length (names_of h)) 0 h.aliases k.1.0 k.2.rise (λ b. n causes.Range (out_of_range (inr (inl b))))
 
 pub read_kept : (old new : Stream Sign) (h : HeaderData) → Reads header old h new → Kept h × HasNoFlaw h
 read_kept old new h m = keeps_read header keeps_header (signs old.pieces) (signs new.pieces) h m.1

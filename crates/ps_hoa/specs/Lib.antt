@@ -20,3 +20,4 @@ pub mod Views
 pub mod Signs
 pub mod Ahead
 pub mod Rows
+pub mod Sound

@@ -24,5 +24,5 @@ pub mod tokens;
 pub use condition::Cond;
 pub use fault::{HoaCause, HoaFault};
 pub use file::{Edge, Guard, HoaFile, Row};
-pub use laws::one_answer;
+pub use laws::{one_answer, sound_files};
 pub use tokens::{Kind, Token, Tokens};

@@ -1,0 +1,6 @@
+-- The law is a lemma.
+use Rattle.ps_hoa.proofs.SoundFiles.{sound_file}
+use Rattle.ps_hoa.proofs.laws.sound_files.Goals as goal
+
+pub returns : goal.returns
+returns c = sound_file
