@@ -49,11 +49,11 @@ pub record Moment : Type 0 where
   pub inputs : List Bool
   pub outputs : List Bool
 
--- the moments, one after another, from these latches on
-abbrev pub GoesOn : CircuitData → List Bool → List Moment → Type 0
-GoesOn c latches [] = Unit {0}
-GoesOn c latches (m ∷ ms) =
-    (next : List Bool) × (m.latches ≡ latches) × Steps c latches m.inputs m.outputs next × GoesOn c next ms
+-- the moments, one after another, lead from these latches to those
+abbrev pub GoesOn : CircuitData → List Bool → List Moment → List Bool → Type 0
+GoesOn c latches [] last = latches ≡ last
+GoesOn c latches (m ∷ ms) last =
+    (next : List Bool) × (m.latches ≡ latches) × Steps c latches m.inputs m.outputs next × GoesOn c next ms last
 
 abbrev pub IsTrace : CircuitData → List Moment → Type 0
-IsTrace c moments = GoesOn c (resets c) moments
+IsTrace c moments = (last : List Bool) × GoesOn c (resets c) moments last

@@ -62,6 +62,13 @@ impl<'a> Simulator<'a> {
         read_all(&self.plan.nexts, &self.values, &mut self.latches);
     }
 
+    /// The values of all latches now. Takes no memory.
+    pub fn latches(&self) -> &[bool]
+        ensures { result.now ≡ self.now.latches }
+    {
+        &self.latches
+    }
+
     /// The value of a latch now. Takes no memory.
     pub fn latch(&self, number: usize) -> bool
         requires { number < length self.now.circuit.latches }

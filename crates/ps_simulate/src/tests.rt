@@ -1,15 +1,23 @@
+ghost use Rattle.std.specs.Prelude.{◌≡◌, length};
+
 use crate::{Simulator, StimulusCause, StimulusFault, parse_stimulus};
 use std::test::Fail;
 
 /// One input, one latch whose first value is 1, and three gates, none of which stands behind those that it reads.
 const FORWARD: &[u8] = b"aag 5 1 1 3 3\n2\n4 10 1\n4\n10\n1\n10 9 7\n8 5 3\n6 4 2\n";
 
-/// The outputs of each letter, with the latch's value before it.
-const STEPS: [(bool, bool, [bool; 3]); 3] = [
-    (true, true, [true, false, true]),
-    (true, false, [false, true, true]),
-    (false, true, [true, true, true]),
-];
+/// The latch's value, and then the outputs of a step.
+fn shown(simulator: &mut Simulator, input: bool) -> (bool, [bool; 3])
+    requires inputs { length simulator.old.circuit.inputs ≡ 1 }
+    requires outputs { length simulator.old.circuit.outputs ≡ 3 }
+    requires latches { length simulator.old.circuit.latches ≡ 1 }
+    ensures { simulator.new.circuit ≡ simulator.old.circuit }
+{
+    let latch = simulator.latch(0);
+    let mut outputs = [false; 3];
+    simulator.step(&[input], &mut outputs);
+    (latch, outputs)
+}
 
 #[test]
 fn gates_are_worked_out_in_their_order(rt: HostRuntime) -> Result<(), Fail> {
@@ -18,12 +26,9 @@ fn gates_are_worked_out_in_their_order(rt: HostRuntime) -> Result<(), Fail> {
     assert_eq!(rt; circuit.outputs().len(), 3);
     assert_eq!(rt; circuit.latches().len(), 1);
     let mut simulator = Simulator::new(rt.alloc(), &circuit)?;
-    for (input, latch, wanted) in STEPS {
-        let mut outputs = [false; 3];
-        assert_eq!(rt; simulator.latch(0), latch);
-        simulator.step(&[input], &mut outputs);
-        assert_eq!(rt; outputs, wanted);
-    }
+    assert_eq!(rt; shown(&mut simulator, true), (true, [true, false, true]));
+    assert_eq!(rt; shown(&mut simulator, true), (false, [false, true, true]));
+    assert_eq!(rt; shown(&mut simulator, false), (true, [true, true, true]));
     Ok(())
 }
 
