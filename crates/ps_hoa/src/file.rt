@@ -50,14 +50,14 @@ pub struct Row {
 /// An automaton as its text says it. A state without a row has no edges.
 #[derive(Drop)]
 pub struct HoaFile {
-    states: u32,
-    start: u32,
-    names: Propositions,
-    controllable: IndexSet<u32>,
-    aliases: Labels,
-    sets: u32,
-    condition: Cond,
-    rows: Vec<Row>,
+    pub(crate) states: u32,
+    pub(crate) start: u32,
+    pub(crate) names: Propositions,
+    pub(crate) controllable: IndexSet<u32>,
+    pub(crate) aliases: Labels,
+    pub(crate) sets: u32,
+    pub(crate) condition: Cond,
+    pub(crate) rows: Vec<Row>,
 }
 
 impl HoaFile {

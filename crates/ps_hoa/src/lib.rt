@@ -1,6 +1,7 @@
 //! Reads texts of the Hanoi Omega-Automata format, version 1.
 #![tactic(auto)]
 
+mod assembly;
 mod body;
 pub mod condition;
 mod edges;
