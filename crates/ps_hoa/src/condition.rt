@@ -1,17 +1,18 @@
 //! Acceptance conditions, and the reading of them.
 
 ghost use Rattle.std.specs.Prelude.{◌≡◌};
-ghost use Rattle.ps_text.specs.Parts.{NoBad, one};
+ghost use Rattle.ps_text.specs.Parts.{one};
 ghost use Rattle.ps_hoa.specs.Conditions as conditions;
-ghost use Rattle.ps_hoa.specs.Operands.{is_left, mark, mark_in, nesting_limit};
+ghost use Rattle.ps_hoa.specs.Operands.{nesting_limit};
 ghost use Rattle.ps_hoa.specs.Reads.{Reads, Takes};
 ghost use Rattle.ps_hoa.specs.Spans.{piece_of};
 ghost use Rattle.ps_hoa.specs.Values.{condition_of, set_data};
 
 use crate::fault::{HoaCause, HoaFault};
-use crate::label::{NESTING_LIMIT, right_paren};
+use crate::label::NESTING_LIMIT;
 use crate::number::int_of;
 use crate::refusal::{fault_at, refused};
+use crate::signs::mark;
 use crate::tokens::{Kind, Token, Tokens, is_same};
 use std::alloc::Global;
 
@@ -90,7 +91,7 @@ fn operand(alloc: Global, tokens: &mut Tokens, room: usize) -> Result<Cond, HoaF
     if room > 0 && tokens.is_at(Kind::LeftParen) {
         tokens.advance();
         let inner = disjunction(alloc, tokens, room - 1)?;
-        right_paren(tokens)?;
+        mark(tokens, Kind::RightParen)?;
         return Ok(inner);
     }
     atom(tokens, room)
@@ -104,9 +105,9 @@ fn atom(tokens: &mut Tokens, room: usize) -> Result<Cond, HoaFault>
         return constant(tokens, room);
     };
     tokens.advance();
-    left_paren(tokens)?;
+    mark(tokens, Kind::LeftParen)?;
     let set = any_set(tokens)?;
-    right_paren(tokens)?;
+    mark(tokens, Kind::RightParen)?;
     Ok(visits(often, set))
 }
 
@@ -183,24 +184,6 @@ fn set_of(token: Token, complemented: bool) -> Result<Set, HoaFault>
                 complemented,
             }),
         },
-        _ => Err(refused(token)),
-    }
-}
-
-/// Reads a `(`.
-fn left_paren(tokens: &mut Tokens) -> Result<(), HoaFault>
-    ensures { Reads (λ u. u) (mark is_left) tokens.old result tokens.new }
-{
-    let token = tokens.advance();
-    left_paren_of(token)
-}
-
-/// The token is a `(`.
-fn left_paren_of(token: Token) -> Result<(), HoaFault>
-    ensures { Takes (λ u. u) (mark_in is_left) NoBad (piece_of token.entry) result }
-{
-    match token.kind {
-        Kind::LeftParen => Ok(()),
         _ => Err(refused(token)),
     }
 }

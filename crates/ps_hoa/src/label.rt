@@ -2,9 +2,8 @@
 
 ghost use Rattle.std.specs.Prelude.{◌≡◌, ◌↔◌, true};
 ghost use Rattle.ps_label.specs.Expression.{expression};
-ghost use Rattle.ps_text.specs.Parts.{NoBad};
 ghost use Rattle.ps_hoa.specs.Labels as labels;
-ghost use Rattle.ps_hoa.specs.Operands.{is_right, mark, mark_in, nesting_limit};
+ghost use Rattle.ps_hoa.specs.Operands.{nesting_limit};
 ghost use Rattle.ps_hoa.specs.Reads.{Reads, Takes};
 ghost use Rattle.ps_hoa.specs.Spans.{piece_of};
 
@@ -12,6 +11,7 @@ use crate::fault::{HoaCause, HoaFault};
 use crate::names::Scope;
 use crate::number::int_of;
 use crate::refusal::{fault_at, refused};
+use crate::signs::mark;
 use crate::tokens::{Kind, Token, Tokens, is_same};
 use ps_label::Label;
 use std::alloc::Global;
@@ -90,7 +90,7 @@ fn operand(
     if room > 0 && tokens.is_at(Kind::LeftParen) {
         tokens.advance();
         let inner = disjunction(alloc, tokens, scope, room - 1)?;
-        right_paren(tokens)?;
+        mark(tokens, Kind::RightParen)?;
         return Ok(inner);
     }
     leaf(tokens, scope, room)
@@ -135,23 +135,5 @@ fn is_beyond(propositions: Option<usize>, number: u32) -> bool
     match propositions {
         None => false,
         Some(count) => count <= number as usize,
-    }
-}
-
-/// Reads a `)`.
-pub(crate) fn right_paren(tokens: &mut Tokens) -> Result<(), HoaFault>
-    ensures { Reads (λ u. u) (mark is_right) tokens.old result tokens.new }
-{
-    let token = tokens.advance();
-    right_paren_of(token)
-}
-
-/// The token is a `)`.
-fn right_paren_of(token: Token) -> Result<(), HoaFault>
-    ensures { Takes (λ u. u) (mark_in is_right) NoBad (piece_of token.entry) result }
-{
-    match token.kind {
-        Kind::RightParen => Ok(()),
-        _ => Err(refused(token)),
     }
 }

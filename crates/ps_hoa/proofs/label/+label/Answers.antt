@@ -7,7 +7,9 @@ use Rattle.ps_hoa.specs.Causes.{hoa_causes, found_of}
 use Rattle.ps_hoa.specs.Labels.{operand, conjunction, label, all_together, any_together}
 use Rattle.ps_hoa.specs.Scan.{stream_of}
 use Rattle.ps_hoa.proofs.RowReading.{first_value, last_value, first_fails, first_alone, row_starts, row_more, row_fails_later, row_done, row_shrinks}
+use Rattle.ps_hoa.specs.Operands.{is_right}
 use Rattle.ps_hoa.proofs.OperandLaws.{false_true}
+use Rattle.ps_hoa.proofs.MarkReading.{tests_right}
 use Rattle.ps_hoa.proofs.LabelReading.{and_row, or_row, not_reads, not_fails, paren_reads, paren_fails, paren_stays_open, leaf_stands}
 use Rattle.ps_hoa.proofs.label.+label.Goals as goal
 use Rattle.ps_hoa.proofs.label.+label.Goals.{operand-else-room-gt0-via-then-room-gt0+else-is_at, operand-else-room-gt0-via-else-room-gt0, operand-else-room-gt0-2-via-then-room-gt0-2+else-is_at-2, operand-else-room-gt0-2-via-else-room-gt0-2}
@@ -108,16 +110,16 @@ operand-returns-in_err-inner t c =
     (paren_fails c.args.scope.now c.args.room c.if-room-gt0-2.true _ _ (c.is_at-then-room-gt0-2.ensures.0 c.if-is_at-2.true) c.advance-then-is_at-2.ensures.rest c.in_err-inner.ensures)
     c.from_residual-in_err-inner.ensures.1
 
-pub operand-returns-in_err-right_paren : goal.operand-returns-in_err-right_paren
-operand-returns-in_err-right_paren t c =
+pub operand-returns-in_err-mark : goal.operand-returns-in_err-mark
+operand-returns-in_err-mark t c =
     exits found_of hoa_causes expression _ _ _ _ _
-    (paren_stays_open c.args.scope.now c.args.room c.if-room-gt0-2.true _ _ (c.is_at-then-room-gt0-2.ensures.0 c.if-is_at-2.true) c.advance-then-is_at-2.ensures.rest c.in_ok-inner.ensures c.in_err-right_paren.ensures)
-    c.from_residual-in_err-right_paren.ensures.1
+    (paren_stays_open c.args.scope.now c.args.room c.if-room-gt0-2.true _ _ (c.is_at-then-room-gt0-2.ensures.0 c.if-is_at-2.true) c.advance-then-is_at-2.ensures.rest c.in_ok-inner.ensures (c.in_err-mark.ensures is_right (tests_right.passes, tests_right.only)))
+    c.from_residual-in_err-mark.ensures.1
 
 pub operand-returns-then-is_at-2 : goal.operand-returns-then-is_at-2
 operand-returns-then-is_at-2 t c =
     paren_reads c.args.scope.now c.args.room c.if-room-gt0-2.true (c.is_at-then-room-gt0-2.ensures.0 c.if-is_at-2.true) c.advance-then-is_at-2.ensures.rest c.in_ok-inner.ensures
-    c.in_ok-right_paren.ensures
+    (c.in_ok-mark.ensures is_right (tests_right.passes, tests_right.only))
 
 pub operand-returns : goal.operand-returns
 operand-returns t c = leaf_stands expression c.args.scope.now c.args.room _ _ c.leaf.result
