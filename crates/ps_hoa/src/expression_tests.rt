@@ -8,7 +8,7 @@ use crate::tokens::Tokens;
 use std::alloc::{AllocError, Global};
 use std::test::Fail;
 
-/// These two names.
+/// Two names.
 fn two_names<'a>(alloc: Global, one: &'a [u8], other: &'a [u8]) -> Result<Names<'a>, HoaFault> {
     let mut names = Names::new(alloc);
     names.push(one)?;
@@ -19,12 +19,13 @@ fn two_names<'a>(alloc: Global, one: &'a [u8], other: &'a [u8]) -> Result<Names<
     Ok(names)
 }
 
-/// The label at the front of a text, behind the aliases `@x` and `@y`, where there are two propositions.
+/// The label at the front of a text, behind the aliases `@x` and `@y`.
 fn label_in(alloc: Global, text: &[u8]) -> Result<String, HoaFault> {
     let aliases = two_names(alloc, b"@x", b"@y")?;
     label_behind(alloc, text, &aliases)
 }
 
+/// The label at the front of a text, behind these aliases, where there are two propositions.
 fn label_behind(alloc: Global, text: &[u8], aliases: &Names) -> Result<String, HoaFault> {
     let scope = Scope {
         aliases,
@@ -40,7 +41,7 @@ fn condition_in(alloc: Global, text: &[u8]) -> Result<String, HoaFault> {
     Ok(format!(in alloc; "{condition:?}")?)
 }
 
-/// `front` so many times, `0`, and `back` as many times.
+/// `front` so many times, `inner`, and `back` as many times.
 fn nested(
     alloc: Global,
     count: usize,
