@@ -1,15 +1,17 @@
 -- The single signs of a header, as parts of one sign.
 --     reads_token      what is answered to the next token is the reading of its part
---     signs_mark, .., signs_string      some sign is taken, and the end of the text is neither taken nor bad
+--     signs_mark, .., signs_body      some sign is taken, and the end of the text is neither taken nor bad
 --     takes_refused, takes_bad      what is answered to a sign that can't stand, and to one that is bad
-use Rattle.std.proofs.Common.{◌≡◌, ℕ, ◌≤◌, Bool, true, false, cond, List, [], Option, None, Some, Result, Err, refl, sym, ap, subst, inl, inr, arith}
+use Rattle.std.proofs.Common.{◌≡◌, ℕ, ◌≤◌, Bool, true, false, cond, List, [], codes, Option, None, Some, Result, Err, refl, sym, ap, subst, inl, inr, arith}
 use Rattle.std.proofs.lemmas.Slice.Eq.{bytes_eq-Decides}
 use Rattle.ps_text.specs.Answers.{Piece, Stream}
 use Rattle.ps_text.specs.Parts.{one, NoBad, refusal_of}
 use Rattle.ps_text.specs.Readers.{Meets}
 use Rattle.ps_hoa.specs.Causes.{cause_number, hoa_causes, found_of}
-use Rattle.ps_hoa.specs.Header.{int_in, IsAbove, string_in}
-use Rattle.ps_hoa.specs.Operands.{mark_in}
+use Rattle.ps_hoa.specs.Flaws.{body_in}
+use Rattle.ps_hoa.specs.Header.{HeaderData, int_in, IsAbove, string_in, IsBadName, IsBadAlias, IsSecondStart, IsBadBody}
+use Rattle.ps_hoa.specs.Items.{start_name_in, alias_name_in, read_over_in, other_in}
+use Rattle.ps_hoa.specs.Operands.{mark_in, number_limit}
 use Rattle.ps_hoa.specs.Reads.{Takes}
 use Rattle.ps_hoa.specs.Scan.{next_of, behind_next}
 use Rattle.ps_hoa.specs.Signs.{IsTestOf, name_in}
@@ -18,7 +20,7 @@ use Rattle.ps_hoa.specs.declared.fault.HoaCause.{HoaCause}
 use Rattle.ps_hoa.specs.declared.fault.HoaFault.{HoaFault}
 use Rattle.ps_hoa.specs.declared.fault.HoaFault.TheVariants.{Text as Fault}
 use Rattle.ps_hoa.specs.declared.tokens.Kind.{Kind}
-use Rattle.ps_hoa.specs.declared.tokens.Kind.TheVariants.{Header, Int, Text, Finish}
+use Rattle.ps_hoa.specs.declared.tokens.Kind.TheVariants.{Header, Int, Text, Word, AliasName, Body, Finish}
 use Rattle.ps_hoa.proofs.SingleSigns.{IsOfSigns, reads_one}
 
 pub reads_token : {V X : Type 0} (view : X → V) {take : Sign → Option V} {Bad : Sign → HoaCause → Type 0} → IsOfSigns take Bad → (piece : Piece Sign) (old new : Stream Sign) (r : Result X HoaFault) →
@@ -56,6 +58,24 @@ signs_int limit = record { sign = record { kind = Int; text = [] }; value = _; t
 
 pub signs_string : IsOfSigns string_in NoBad
 signs_string = record { sign = record { kind = Text; text = [] }; value = _; taken = refl; end = refl; good = λ f b. b }
+
+pub signs_new_name : (names : List (List ℕ)) → IsOfSigns string_in (IsBadName names)
+signs_new_name names = record { sign = record { kind = Text; text = [] }; value = _; taken = refl; end = refl; good = λ f b. b.1 refl }
+
+pub signs_start : (h : HeaderData) → IsOfSigns start_name_in (IsSecondStart h)
+signs_start h = record { sign = record { kind = Header; text = codes "Start:" }; value = tt; taken = refl; end = refl; good = λ f b. b.0 refl }
+
+pub signs_alias : (names : List (List ℕ)) → IsOfSigns alias_name_in (IsBadAlias names)
+signs_alias names = record { sign = record { kind = AliasName; text = [] }; value = _; taken = refl; end = refl; good = λ f b. b.1 refl }
+
+pub signs_other : IsOfSigns other_in NoBad
+signs_other = record { sign = record { kind = Header; text = codes "a:" }; value = tt; taken = refl; end = refl; good = λ f b. b }
+
+pub signs_read_over : (h : HeaderData) → IsOfSigns (read_over_in h) (IsAbove number_limit)
+signs_read_over h = record { sign = record { kind = Word; text = [] }; value = h; taken = refl; end = refl; good = λ f b. b.1 refl }
+
+pub signs_body : (h : HeaderData) → IsOfSigns (body_in h) (IsBadBody h)
+signs_body h = record { sign = record { kind = Body; text = [] }; value = h; taken = refl; end = refl; good = λ f b. cc }
 
 -- ## What is answered to one token
 

@@ -36,3 +36,7 @@ pub mod RowTable
 pub mod StateReading
 pub mod SoundBodies
 pub mod SoundFiles
+pub mod HeaderExits
+pub mod HeaderLoops
+pub mod NewAliases
+pub mod LeastFlaws

@@ -21,3 +21,5 @@ pub mod Signs
 pub mod Ahead
 pub mod Rows
 pub mod Sound
+pub mod Items
+pub mod Flaws

@@ -36,7 +36,7 @@ fn mark_of(token: Token, kind: Kind) -> Result<(), HoaFault>
 }
 
 /// Whether a token is of a kind.
-fn is_kind(token: Token, kind: Kind) -> bool
+pub(crate) fn is_kind(token: Token, kind: Kind) -> bool
     ensures { (result ≡ true) ↔ (token.entry.kind ≡ kind) }
 {
     token.kind == kind

@@ -1,0 +1,15 @@
+use Rattle.std.proofs.Common.{◌↔◌, drop, map}
+use Rattle.ps_hoa.specs.Conditions.{row_of}
+use Rattle.ps_hoa.specs.Header.{NamesSetBeyond, SomeNamesSetBeyond}
+use Rattle.ps_hoa.specs.Values.{condition_of}
+use Rattle.ps_hoa.proofs.flaws.+names_set_beyond.Given as goal
+
+abbrev pub decreases-names_set_beyond : goal.decreases-names_set_beyond
+decreases-names_set_beyond l = goal.size-names_set_beyond l
+
+-- the operands still to come decide
+abbrev pub invariant-loop-operand : goal.invariant-loop-operand
+invariant-loop-operand l = SomeNamesSetBeyond l.count (row_of (map condition_of (drop l.operand-index l.operand-items))) ↔ NamesSetBeyond l.count (condition_of l.condition)
+
+abbrev pub invariant-loop-operand-2 : goal.invariant-loop-operand-2
+invariant-loop-operand-2 l = SomeNamesSetBeyond l.count (row_of (map condition_of (drop l.operand-index l.operand-items))) ↔ NamesSetBeyond l.count (condition_of l.condition)

@@ -1,0 +1,15 @@
+use Rattle.std.proofs.Common.{◌↔◌, drop}
+use Rattle.ps_label.specs.Expression.{expression, row_of}
+use Rattle.ps_label.specs.Truth.{expressions}
+use Rattle.ps_hoa.specs.Header.{SpeaksBeyond, SomeSpeaksBeyond}
+use Rattle.ps_hoa.proofs.flaws.+speaks_beyond.Given as goal
+
+abbrev pub decreases-speaks_beyond : goal.decreases-speaks_beyond
+decreases-speaks_beyond l = goal.size-speaks_beyond l
+
+-- the operands still to come decide
+abbrev pub invariant-loop-operand : goal.invariant-loop-operand
+invariant-loop-operand l = SomeSpeaksBeyond l.count (row_of (expressions (drop l.operand-index l.operand-items))) ↔ SpeaksBeyond l.count (expression l.label)
+
+abbrev pub invariant-loop-operand-2 : goal.invariant-loop-operand-2
+invariant-loop-operand-2 l = SomeSpeaksBeyond l.count (row_of (expressions (drop l.operand-index l.operand-items))) ↔ SpeaksBeyond l.count (expression l.label)

@@ -1,0 +1,18 @@
+-- What the code says of a header where `--BODY--` stands.
+--     IsSound h      nothing is wrong with the header
+--     IsLeastFlaw h f      f is wrong with it, and nothing of a smaller number
+use Rattle.std.specs.Prelude.{◌≤◌, Option}
+use Rattle.ps_hoa.specs.Causes.{cause_number}
+use Rattle.ps_hoa.specs.Header.{HeaderData, IsBadHeader, body_value}
+use Rattle.ps_hoa.specs.Tokens.{Sign}
+use Rattle.ps_hoa.specs.declared.fault.HoaCause.{HoaCause}
+
+abbrev pub IsSound : HeaderData → Type 0
+IsSound h = (f : HoaCause) → IsBadHeader h f → ⊥
+
+pub record IsLeastFlaw (h : HeaderData) (f : HoaCause) : Type 0 where
+  pub stands : IsBadHeader h f
+  pub least : (g : HoaCause) → IsBadHeader h g → cause_number f ≤ cause_number g
+
+abbrev pub body_in : HeaderData → Sign → Option HeaderData
+body_in h s = body_value h s.kind

@@ -1,0 +1,177 @@
+//! What is wrong with a header, where `--BODY--` stands.
+
+ghost use Rattle.std.specs.Prelude.{◌≡◌, ◌↔◌, true, MatchOption, option_map};
+ghost use Rattle.ps_label.specs.Expression.{expression};
+ghost use Rattle.ps_label.specs.Truth.{expressions};
+ghost use Rattle.ps_hoa.specs.Header as parts;
+ghost use Rattle.ps_hoa.specs.Flaws.{IsLeastFlaw, IsSound};
+ghost use Rattle.ps_hoa.specs.Values.{condition_of};
+ghost use Rattle.ps_hoa.specs.Views.{header_data, acceptance_data};
+
+use crate::condition::Cond;
+use crate::fault::HoaCause;
+use crate::header::{Acceptance, Header};
+use indexmap::IndexSet;
+use ps_label::Label;
+
+/// The greatest number of a state is below that, where `States:` does not say it.
+const STATE_LIMIT: u32 = 65_535;
+
+/// What is wrong with a header; of several flaws that with the smallest number.
+pub(crate) fn flaw(header: &Header) -> Option<HoaCause>
+    ensures { MatchOption result (IsSound (header_data header.now)) (IsLeastFlaw (header_data header.now)) }
+{
+    if header.acceptance.is_none() {
+        return Some(HoaCause::MissingAcceptance);
+    }
+    if is_start_too_large(header.states, header.start) {
+        return Some(HoaCause::Limit);
+    }
+    if header.start.is_none() {
+        return Some(HoaCause::Start);
+    }
+    if is_range_broken(header) {
+        return Some(HoaCause::Range);
+    }
+    if header.controllable.is_none() {
+        return Some(HoaCause::Controllable);
+    }
+    None
+}
+
+/// Whether the start is above the greatest state that there can be.
+fn is_start_too_large(states: Option<u32>, start: Option<u32>) -> bool
+    ensures { (result ≡ true) ↔ parts.IsStartTooLarge states start }
+{
+    match (states, start) {
+        (None, Some(start)) => start >= STATE_LIMIT,
+        _ => false,
+    }
+}
+
+/// Whether the header speaks of a state, a proposition or a set that there is not.
+fn is_range_broken(header: &Header) -> bool
+    ensures { (result ≡ true) ↔ parts.IsRangeBroken (header_data header.now) }
+{
+    let count = header.propositions();
+    if is_start_beyond(header.states, header.start) {
+        return true;
+    }
+    if is_alias_beyond(count, &header.aliases) {
+        return true;
+    }
+    if is_condition_beyond(&header.acceptance) {
+        return true;
+    }
+    is_control_beyond(count, &header.controllable)
+}
+
+/// Whether the start is no state.
+fn is_start_beyond(states: Option<u32>, start: Option<u32>) -> bool
+    ensures { (result ≡ true) ↔ parts.IsStartBeyond states start }
+{
+    match (states, start) {
+        (Some(states), Some(start)) => states <= start,
+        _ => false,
+    }
+}
+
+/// Whether an alias speaks of a proposition that there is not.
+fn is_alias_beyond(count: usize, aliases: &[Label]) -> bool
+    ensures { (result ≡ true) ↔ parts.AnAliasBeyond count (expressions aliases.now) }
+{
+    for alias in aliases {
+        if speaks_beyond(count, alias) {
+            return true;
+        }
+    }
+    false
+}
+
+/// Whether a label speaks of a proposition that there is not.
+fn speaks_beyond(count: usize, label: &Label) -> bool
+    ensures { (result ≡ true) ↔ parts.SpeaksBeyond count (expression label.now) }
+{
+    match label {
+        Label::Truth(_) => false,
+        Label::Atom(proposition) => count <= *proposition as usize,
+        Label::Named(_) => false,
+        Label::Neg(operand) => speaks_beyond(count, operand),
+        Label::Both(operands) => {
+            for operand in operands {
+                if speaks_beyond(count, operand) {
+                    return true;
+                }
+            }
+            false
+        }
+        Label::Either(operands) => {
+            for operand in operands {
+                if speaks_beyond(count, operand) {
+                    return true;
+                }
+            }
+            false
+        }
+    }
+}
+
+/// Whether the condition names a set that there is not.
+fn is_condition_beyond(acceptance: &Option<Acceptance>) -> bool
+    ensures { (result ≡ true) ↔ parts.IsConditionBeyond (option_map acceptance_data acceptance.now) }
+{
+    match acceptance {
+        None => false,
+        Some(Acceptance { sets, condition }) => names_set_beyond(*sets, condition),
+    }
+}
+
+/// Whether a condition names a set that there is not.
+fn names_set_beyond(count: u32, condition: &Cond) -> bool
+    ensures { (result ≡ true) ↔ parts.NamesSetBeyond count (condition_of condition.now) }
+{
+    match condition {
+        Cond::Always => false,
+        Cond::Never => false,
+        Cond::Inf(set, _) => count <= *set,
+        Cond::Fin(set, _) => count <= *set,
+        Cond::All(operands) => {
+            for operand in operands {
+                if names_set_beyond(count, operand) {
+                    return true;
+                }
+            }
+            false
+        }
+        Cond::Any(operands) => {
+            for operand in operands {
+                if names_set_beyond(count, operand) {
+                    return true;
+                }
+            }
+            false
+        }
+    }
+}
+
+/// Whether a proposition is controllable that there is not.
+fn is_control_beyond(count: usize, controllable: &Option<IndexSet<u32>>) -> bool
+    ensures { (result ≡ true) ↔ parts.IsControlBeyond count (option_map (λ s. s.keys) controllable.now) }
+{
+    match controllable {
+        None => false,
+        Some(indices) => is_index_beyond(count, indices.as_slice()),
+    }
+}
+
+/// Whether one of the numbers is that of no proposition.
+fn is_index_beyond(count: usize, indices: &[u32]) -> bool
+    ensures { (result ≡ true) ↔ parts.AnIndexBeyond count indices.now }
+{
+    for index in indices {
+        if count <= *index as usize {
+            return true;
+        }
+    }
+    false
+}

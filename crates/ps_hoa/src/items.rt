@@ -1,0 +1,230 @@
+//! The items of a header.
+
+ghost use Rattle.std.specs.Prelude.{◌≡◌, [], None, is_some, true};
+ghost use Rattle.ps_label.specs.Expression.{expression};
+ghost use Rattle.ps_text.specs.Parts.{one, many};
+ghost use Rattle.ps_hoa.specs.Flaws.{body_in};
+ghost use Rattle.ps_hoa.specs.Header as parts;
+ghost use Rattle.ps_hoa.specs.Header.{header as header_part, no_items};
+ghost use Rattle.ps_hoa.specs.Items.{is_item as is_item_sign, start_name_in};
+ghost use Rattle.ps_hoa.specs.Labels as labels;
+ghost use Rattle.ps_hoa.specs.Operands.{nesting_limit};
+ghost use Rattle.ps_hoa.specs.Reads.{Reads, Takes};
+ghost use Rattle.ps_hoa.specs.Scan.{next_of, stream_of};
+ghost use Rattle.ps_hoa.specs.Spans.{piece_of};
+ghost use Rattle.ps_hoa.specs.Views.{header_data};
+
+use crate::condition::condition;
+use crate::fault::{HoaCause, HoaFault};
+use crate::flaws::flaw;
+use crate::header::{Acceptance, Header};
+use crate::label::label;
+use crate::names::{Names, Scope};
+use crate::new_names::{new_alias, propositions};
+use crate::refusal::{fault_at, refused};
+use crate::signs::{int, is_item_name, is_kind, item_name, start_state};
+use crate::skipped::{is_other, name, other, tool};
+use crate::tokens::{Kind, Token, Tokens};
+use indexmap::IndexSet;
+use ps_label::Label;
+use std::alloc::Global;
+
+/// A text has at most as many states,
+const STATE_LIMIT: u32 = 65_535;
+
+/// as many propositions,
+const PROPOSITION_LIMIT: u32 = 64;
+
+/// and as many acceptance sets.
+const SET_LIMIT: u32 = 64;
+
+/// Reads a header, up to `--BODY--`.
+pub(crate) fn header<'a>(alloc: Global, tokens: &mut Tokens<'a>) -> Result<Header<'a>, HoaFault>
+    ensures { Reads header_data header_part tokens.old result tokens.new }
+{
+    let header = items(alloc, tokens)?;
+    body_mark(tokens, &header)?;
+    Ok(header)
+}
+
+/// Reads `--BODY--`, where nothing may be wrong with the header.
+fn body_mark(tokens: &mut Tokens, header: &Header) -> Result<(), HoaFault>
+    ensures { Reads (λ _. header_data header.now) (parts.body_mark (header_data header.now)) tokens.old result tokens.new }
+{
+    let token = tokens.advance();
+    body_mark_of(token, header)
+}
+
+/// The token is `--BODY--`, and nothing is wrong with the header.
+fn body_mark_of(token: Token, header: &Header) -> Result<(), HoaFault>
+    ensures { Takes (λ _. header_data header.now) (body_in (header_data header.now)) (parts.IsBadBody (header_data header.now)) (piece_of token.entry) result }
+{
+    if !is_kind(token, Kind::Body) {
+        return Err(refused(token));
+    }
+    match flaw(header) {
+        Some(cause) => Err(fault_at(token, cause)),
+        None => Ok(()),
+    }
+}
+
+/// Reads all items.
+pub(crate) fn items<'a>(alloc: Global, tokens: &mut Tokens<'a>) -> Result<Header<'a>, HoaFault>
+    ensures { Reads header_data (many parts.item no_items) tokens.old result tokens.new }
+{
+    let mut header = Header::new(alloc);
+    'items: while is_item(tokens.peek()) {
+        item(alloc, tokens, &mut header)?;
+    }
+    Ok(header)
+}
+
+/// Whether an item begins with a token.
+fn is_item(token: Token) -> bool
+    ensures { result ≡ is_item_sign token.entry.kind token.entry.text.now }
+{
+    is_item_name(token, b"States:")
+        || is_item_name(token, b"Start:")
+        || is_item_name(token, b"AP:")
+        || is_item_name(token, b"Alias:")
+        || is_item_name(token, b"Acceptance:")
+        || is_item_name(token, b"controllable-AP:")
+        || is_item_name(token, b"tool:")
+        || is_item_name(token, b"name:")
+        || is_other(token)
+}
+
+/// Reads one more item.
+fn item<'a>(alloc: Global, tokens: &mut Tokens<'a>, header: &mut Header<'a>) -> Result<(), HoaFault>
+    requires { let next = (next_of (stream_of tokens.old)).sign in is_item_sign next.kind next.text ≡ true }
+    ensures { Reads (λ _. header_data header.new) (parts.item (header_data header.old)) tokens.old result tokens.new }
+{
+    let token = tokens.peek();
+    if is_item_name(token, b"States:") {
+        states(tokens, header)
+    } else if is_item_name(token, b"Start:") {
+        start(tokens, header)
+    } else if is_item_name(token, b"AP:") {
+        names(alloc, tokens, header)
+    } else if is_item_name(token, b"Alias:") {
+        alias(alloc, tokens, header)
+    } else if is_item_name(token, b"Acceptance:") {
+        acceptance(alloc, tokens, header)
+    } else if is_item_name(token, b"controllable-AP:") {
+        controllable(alloc, tokens, header)
+    } else if is_item_name(token, b"tool:") {
+        tool(tokens)
+    } else if is_item_name(token, b"name:") {
+        name(tokens)
+    } else {
+        other(tokens)
+    }
+}
+
+/// Reads the number of states.
+fn states(tokens: &mut Tokens, header: &mut Header) -> Result<(), HoaFault>
+    ensures { Reads (λ _. header_data header.new) (parts.states_item (header_data header.old)) tokens.old result tokens.new }
+{
+    item_name(tokens, b"States:")?;
+    header.states = Some(int(tokens, STATE_LIMIT)?);
+    Ok(())
+}
+
+/// Reads the start state.
+fn start(tokens: &mut Tokens, header: &mut Header) -> Result<(), HoaFault>
+    ensures { Reads (λ _. header_data header.new) (parts.start_item (header_data header.old)) tokens.old result tokens.new }
+{
+    start_name(tokens, header)?;
+    header.start = Some(start_state(tokens)?);
+    Ok(())
+}
+
+/// Reads `Start:`, which may stand once.
+fn start_name(tokens: &mut Tokens, header: &Header) -> Result<(), HoaFault>
+    ensures { Reads (λ u. u) (one start_name_in (parts.IsSecondStart (header_data header.now))) tokens.old result tokens.new }
+{
+    let token = tokens.advance();
+    start_name_of(token, header)
+}
+
+/// The token is the first `Start:`.
+fn start_name_of(token: Token, header: &Header) -> Result<(), HoaFault>
+    ensures { Takes (λ u. u) start_name_in (parts.IsSecondStart (header_data header.now)) (piece_of token.entry) result }
+{
+    if !is_item_name(token, b"Start:") {
+        return Err(refused(token));
+    }
+    if header.start.is_some() {
+        return Err(fault_at(token, HoaCause::Start));
+    }
+    Ok(())
+}
+
+/// Reads the names of the propositions.
+fn names(alloc: Global, tokens: &mut Tokens, header: &mut Header) -> Result<(), HoaFault>
+    ensures { Reads (λ _. header_data header.new) (parts.names_item (header_data header.old)) tokens.old result tokens.new }
+{
+    item_name(tokens, b"AP:")?;
+    let count = int(tokens, PROPOSITION_LIMIT)?;
+    header.names = Some(propositions(alloc, tokens, count)?);
+    Ok(())
+}
+
+/// Reads an alias.
+fn alias<'a>(
+    alloc: Global,
+    tokens: &mut Tokens<'a>,
+    header: &mut Header<'a>,
+) -> Result<(), HoaFault>
+    ensures { Reads (λ _. header_data header.new) (parts.alias_item (header_data header.old)) tokens.old result tokens.new }
+{
+    item_name(tokens, b"Alias:")?;
+    let name = new_alias(tokens, &header.alias_names)?;
+    let label = header_label(alloc, tokens, &header.alias_names)?;
+    header.alias_names.push(name)?;
+    header.aliases.push(label)?;
+    Ok(())
+}
+
+/// Reads a label in a header, where nothing is known of the propositions.
+fn header_label(alloc: Global, tokens: &mut Tokens, names: &Names) -> Result<Label, HoaFault>
+    ensures { Reads expression (labels.label (record { names = names.now; propositions = None }) nesting_limit) tokens.old result tokens.new }
+{
+    let scope = Scope {
+        aliases: names,
+        propositions: None,
+    };
+    label(alloc, tokens, &scope)
+}
+
+/// Reads the acceptance condition.
+fn acceptance(alloc: Global, tokens: &mut Tokens, header: &mut Header) -> Result<(), HoaFault>
+    ensures { Reads (λ _. header_data header.new) (parts.acceptance_item (header_data header.old)) tokens.old result tokens.new }
+{
+    item_name(tokens, b"Acceptance:")?;
+    let sets = int(tokens, SET_LIMIT)?;
+    let condition = condition(alloc, tokens)?;
+    header.acceptance = Some(Acceptance { sets, condition });
+    Ok(())
+}
+
+/// Reads which propositions are controllable.
+fn controllable(alloc: Global, tokens: &mut Tokens, header: &mut Header) -> Result<(), HoaFault>
+    ensures { Reads (λ _. header_data header.new) (parts.controllable_item (header_data header.old)) tokens.old result tokens.new }
+{
+    item_name(tokens, b"controllable-AP:")?;
+    header.controllable = Some(indices(alloc, tokens)?);
+    Ok(())
+}
+
+/// Reads numbers, each of which counts once.
+fn indices(alloc: Global, tokens: &mut Tokens) -> Result<IndexSet<u32>, HoaFault>
+    ensures { Reads (λ indices. indices.keys) (many parts.index []) tokens.old result tokens.new }
+{
+    let mut indices = IndexSet::new(alloc);
+    'indices: while tokens.is_at(Kind::Int) {
+        let number = int(tokens, u32::MAX)?;
+        indices.insert(number)?;
+    }
+    Ok(indices)
+}

@@ -1,0 +1,107 @@
+//! Items that are read over.
+
+ghost use Rattle.std.specs.Prelude.{◌≡◌, is_some};
+ghost use Rattle.ps_text.specs.Parts.{NoBad, one};
+ghost use Rattle.ps_hoa.specs.Header as parts;
+ghost use Rattle.ps_hoa.specs.Header.{HeaderData};
+ghost use Rattle.ps_hoa.specs.Items.{is_value as is_value_kind, other_in, read_over_in};
+ghost use Rattle.ps_hoa.specs.Operands.{number_limit};
+ghost use Rattle.ps_hoa.specs.Reads.{Reads, Takes};
+ghost use Rattle.ps_hoa.specs.Spans.{piece_of};
+
+use crate::fault::{HoaCause, HoaFault};
+use crate::number::int_of;
+use crate::refusal::{begins_capital, fault_at, is_spelled, refused};
+use crate::signs::{is_item_name, item_name, quoted};
+use crate::tokens::{Kind, Token, Tokens};
+
+/// Reads over the name of a tool, and its version if it stands there.
+pub(crate) fn tool(tokens: &mut Tokens) -> Result<(), HoaFault>
+    ensures { (h : HeaderData) → Reads (λ _. h) (parts.tool_item h) tokens.old result tokens.new }
+{
+    item_name(tokens, b"tool:")?;
+    quoted(tokens)?;
+    if tokens.is_at(Kind::Text) {
+        quoted(tokens)?;
+    }
+    Ok(())
+}
+
+/// Reads over the name of the automaton.
+pub(crate) fn name(tokens: &mut Tokens) -> Result<(), HoaFault>
+    ensures { (h : HeaderData) → Reads (λ _. h) (parts.name_item h) tokens.old result tokens.new }
+{
+    item_name(tokens, b"name:")?;
+    quoted(tokens)?;
+    Ok(())
+}
+
+/// Reads over an item whose name has no meaning here.
+pub(crate) fn other(tokens: &mut Tokens) -> Result<(), HoaFault>
+    ensures { (h : HeaderData) → Reads (λ _. h) (parts.other_item h) tokens.old result tokens.new }
+{
+    other_name(tokens)?;
+    'values: while is_value(tokens.peek()) {
+        read_over(tokens)?;
+    }
+    Ok(())
+}
+
+/// Reads a name that has no meaning here.
+fn other_name(tokens: &mut Tokens) -> Result<(), HoaFault>
+    ensures { Reads (λ u. u) (one other_in NoBad) tokens.old result tokens.new }
+{
+    let token = tokens.advance();
+    other_name_of(token)
+}
+
+/// The token is a name that has no meaning here.
+fn other_name_of(token: Token) -> Result<(), HoaFault>
+    ensures { Takes (λ u. u) other_in NoBad (piece_of token.entry) result }
+{
+    if is_other(token) {
+        Ok(())
+    } else {
+        Err(refused(token))
+    }
+}
+
+/// Whether a token is a name that has no meaning here.
+pub(crate) fn is_other(token: Token) -> bool
+    ensures { result ≡ is_some (parts.other_value token.entry.kind token.entry.text.now) }
+{
+    token.kind == Kind::Header
+        && !is_spelled(token.text)
+        && !begins_capital(token.text)
+        && !is_item_name(token, b"controllable-AP:")
+        && !is_item_name(token, b"tool:")
+        && !is_item_name(token, b"name:")
+}
+
+/// Whether a token may be read over.
+fn is_value(token: Token) -> bool
+    ensures { result ≡ is_value_kind token.entry.kind }
+{
+    matches!(token.kind, Kind::Int | Kind::Text | Kind::Word)
+}
+
+/// Reads over a number, a string or a word.
+fn read_over(tokens: &mut Tokens) -> Result<(), HoaFault>
+    ensures { (h : HeaderData) → Reads (λ _. h) (parts.read_over h) tokens.old result tokens.new }
+{
+    let token = tokens.advance();
+    read_over_of(token)
+}
+
+/// The token may be read over.
+fn read_over_of(token: Token) -> Result<(), HoaFault>
+    ensures { (h : HeaderData) → Takes (λ _. h) (read_over_in h) (parts.IsAbove number_limit) (piece_of token.entry) result }
+{
+    if !is_value(token) {
+        return Err(refused(token));
+    }
+    if token.kind == Kind::Int && int_of(token.text).is_none() {
+        return Err(fault_at(token, HoaCause::Limit));
+    }
+    Ok(())
+}
