@@ -23,3 +23,4 @@ pub mod Rows
 pub mod Sound
 pub mod Items
 pub mod Flaws
+pub mod Reader

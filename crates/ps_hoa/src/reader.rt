@@ -1,0 +1,46 @@
+//! The reading of whole texts.
+
+ghost use Rattle.std.specs.Prelude.{IfOk};
+ghost use Rattle.ps_hoa.specs.Scan.{next_of, stream_of};
+ghost use Rattle.ps_hoa.specs.Sound.{IsSound};
+ghost use Rattle.ps_hoa.specs.Texts.{Answers};
+ghost use Rattle.ps_hoa.specs.Reader.{EndsHere};
+ghost use Rattle.ps_hoa.specs.Views.{file_data};
+
+use crate::assembly::file;
+use crate::body::body;
+use crate::fault::HoaFault;
+use crate::file::HoaFile;
+use crate::items::header;
+use crate::opening::opened;
+use crate::refusal::refused;
+use crate::tokens::{Kind, Tokens};
+use std::alloc::Global;
+
+/// Reads an HOA text.
+///
+/// # Errors
+///
+/// Each cause by which a text is refused is an `HoaFault::Text`, with the offset at which it stands: the first one in the
+/// text, and of several at one place the one with the smallest number. `OutOfMemory` where a growth was refused.
+pub fn read(alloc: Global, text: &[u8]) -> Result<HoaFile, HoaFault>
+    ensures answer { Answers file_data text.now result }
+    ensures sound { IfOk result (λ file. IsSound (file_data file)) }
+{
+    let mut tokens = opened(text)?;
+    let header = header(alloc, &mut tokens)?;
+    let rows = body(alloc, &mut tokens, &header)?;
+    finish(&tokens)?;
+    file(alloc, header, rows)
+}
+
+/// The text ends here.
+fn finish(tokens: &Tokens) -> Result<(), HoaFault>
+    ensures { EndsHere (stream_of tokens.now) result }
+{
+    let token = tokens.peek();
+    match token.kind {
+        Kind::Finish => Ok(()),
+        _ => Err(refused(token)),
+    }
+}
