@@ -27,6 +27,16 @@ impl StimulusCause {
         }
     }
 
+    /// The fault for this cause at that byte.
+    pub(crate) fn at(self, offset: usize) -> StimulusFault
+        ensures { result ≡ StimulusFault.Text self offset }
+    {
+        StimulusFault::Text {
+            cause: self,
+            offset,
+        }
+    }
+
     /// The name of the cause.
     pub fn name(self) -> &'static str
         ensures { result.now ≡ cause_name self }

@@ -66,7 +66,7 @@ impl<'a> Simulator<'a> {
     pub fn latches(&self) -> &[bool]
         ensures { result.now ≡ self.now.latches }
     {
-        &self.latches
+        self.latches.as_slice()
     }
 
     /// The value of a latch now. Takes no memory.

@@ -55,10 +55,7 @@ pub fn parse_stimulus(
         start = end + 1;
     }
     if split && !in_lap {
-        return Err(StimulusFault::Text {
-            cause: StimulusCause::Stimulus,
-            offset: text.len(),
-        });
+        return Err(StimulusCause::Stimulus.at(text.len()));
     }
     Ok(Stimulus { stem, lap })
 }
@@ -127,18 +124,9 @@ fn read_letter(
     ensures { ReadsLine line.now start width result }
 {
     match first_wrong(line) {
-        Some(0) => Err(StimulusFault::Text {
-            cause: StimulusCause::Stimulus,
-            offset: start,
-        }),
-        _ if line.len() != width => Err(StimulusFault::Text {
-            cause: StimulusCause::Width,
-            offset: start,
-        }),
-        Some(place) => Err(StimulusFault::Text {
-            cause: StimulusCause::Stimulus,
-            offset: start + place,
-        }),
+        Some(0) => Err(StimulusCause::Stimulus.at(start)),
+        _ if line.len() != width => Err(StimulusCause::Width.at(start)),
+        Some(place) => Err(StimulusCause::Stimulus.at(start + place)),
         None => Ok(bits_of(alloc, line)?),
     }
 }
