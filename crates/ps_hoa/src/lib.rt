@@ -12,6 +12,8 @@ pub mod fault;
 pub mod file;
 mod flaws;
 mod header;
+#[cfg(test)]
+mod header_tests;
 mod items;
 mod label;
 mod laws;
