@@ -1,3 +1,10 @@
+pub mod Runs
+pub mod TextLaws
+pub mod CursorLemmas
+pub mod NumberLemmas
+pub mod LineLemmas
+pub mod SymbolLemmas
+pub mod DraftLemmas
 pub mod Places
 pub mod Ways
 pub mod Entering

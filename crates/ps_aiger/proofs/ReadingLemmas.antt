@@ -1,9 +1,10 @@
 -- Lemmas of the reader.
-use Rattle.std.proofs.Common.{◌≡◌, ◌≢◌, ℕ, ◌+◌, ◌-◌, ◌^◌, ◌<◌, ◌≤◌, ◌⊎◌, List, [], ◌∷◌, ◌++◌, Bool, true, false, not, ◌||◌, ◌==◌, nat_eq, map, length, take, drop, get_or, set, zero, suc, refl, sym, ap, subst, ◌∙◌, arith, Some, Option, All, AllPairs, Contains, append-nil, append_assoc, flat_map, Vec}
+use Rattle.std.proofs.Common.{◌≡◌, ◌≢◌, ℕ, ◌+◌, ◌^◌, ◌<◌, ◌≤◌, ◌⊎◌, inl, inr, List, [], ◌∷◌, ◌++◌, Bool, true, false, not, ◌||◌, nat_eq, map, length, take, drop, get_or, set, zero, suc, refl, sym, ap, subst, ◌∙◌, arith, Some, Option, All, AllPairs, Contains, append-nil, append_assoc, flat_map, Vec}
 use Rattle.std.specs.List.{list_any}
-use Rattle.std.proofs.lemmas.List.{length-map, get_or-map, map-append, map-set, get_or-take, get_or-drop, length-take}
+use Rattle.std.proofs.lemmas.List.{length-map, get_or-map, map-append, map-set}
 use Rattle.std.proofs.lemmas.Bool.{eq-eqb}
-use Rattle.std.proofs.lemmas.Option.{slice_get_within}
+use Rattle.std.proofs.lemmas.Option.{slice_get_within, slice_get-get_or}
+use Rattle.std.proofs.Math.Seq.{drop-cons}
 use Rattle.std.proofs.lemmas.List.Elements.{All-append, All-push, All-set}
 use Rattle.std.proofs.lemmas.List.Quantifiers.{all_pairs_push}
 use Rattle.std.specs.Global.{Global}
@@ -12,10 +13,16 @@ use Rattle.ps_aiger.specs.declared.parts.Gate.{Gate}
 use Rattle.ps_aiger.specs.Ways.{Way, last, next}
 use Rattle.ps_aiger.specs.Circuits.{CircuitData, variable, definitions, readings, IsDefinition, IsName, IsDraft, Reads}
 use Rattle.ps_aiger.specs.Drafts.{name_bytes}
-use Rattle.ps_aiger.specs.Reading.{AddsVariable, Defines, IsKnownIn}
-use Rattle.ps_aiger.specs.declared.reader.Field.{Field}
+use Rattle.ps_aiger.specs.Ways.{IsFirstOnCycle}
+use Rattle.ps_aiger.specs.declared.fault.AigFault.{AigFault}
+use Rattle.ps_aiger.specs.declared.fault.AigFault.TheVariants.{Text}
+use Rattle.ps_aiger.specs.declared.fault.AigCause.TheVariants.{Cyclic}
+use Rattle.ps_aiger.specs.Cursors.{found_of}
+use Rattle.ps_aiger.specs.Texts.{IsDefined, IsFirstUndefined}
+use Rattle.ps_aiger.specs.Reading.{AddsVariable, Defines, IsKnownIn, TellsCyclic}
+use Rattle.ps_aiger.specs.declared.cursor.Number.{Number}
 use Rattle.std.specs.Bool.{OnTrue}
-use Rattle.std.proofs.lemmas.List.{take_more, take_all}
+use Rattle.std.proofs.lemmas.List.{take_more, take_all, take-append-drop}
 use Rattle.std.proofs.lemmas.List.Concat.{flat_map-append}
 use Rattle.indexmap.proofs.CallerLemmas.{Contains-list_any}
 use Rattle.std.proofs.lemmas.Bool.{eqb-true}
@@ -54,19 +61,6 @@ defines_more most m literal old mid new literals e d one = record {
 
 pub defines_none : (most : ℕ) (old : List ℕ) → Defines most old [] old
 defines_none most old = record { variables = sym (append-nil old); each = λ k d lt. absurd (omega arith); apart = λ h. h }
-
--- what stands from start to before stop holds no newline
-pub no_newline : (text : List ℕ) (start stop : ℕ) → ((k : ℕ) → start ≤ k → k < stop → get_or text k 0 ≡ 10 → ⊥) → stop ≤ length text → All (λ b. b ≢ 10) (take (stop - start) (drop start text))
-no_newline text start stop h within k d lt e =
-    let size = length-take (stop - start) (drop start text) in
-    let less : k < stop - start = omega arith in
-    let there = get_or-take (stop - start) (drop start text) k d less ∙ get_or-drop start text k d in
-    h (start + k) (omega arith) (omega arith) (get_or_any text (start + k) 0 d (omega arith) ∙ sym there ∙ e)
-  where
-    get_or_any : (xs : List ℕ) (i a b : ℕ) → i < length xs → get_or xs i a ≡ get_or xs i b
-    get_or_any [] i a b lt = absurd (omega arith)
-    get_or_any (x ∷ xs) zero a b lt = refl
-    get_or_any (x ∷ xs) (suc i) a b lt = get_or_any xs i a b (omega arith)
 
 -- a name put at its place
 pub names_set : (names : List (Option (Vec ℕ Global))) (i : ℕ) (name : Vec ℕ Global) → All IsName (map name_bytes names) → 0 < length name.items → All (λ b. b ≢ 10) name.items → All IsName (map name_bytes (set names i (Some name)))
@@ -130,20 +124,37 @@ pub defines_mapped : {X : Type 0} (f : X → ℕ) (xs ys : List X) (x : X) (most
 defines_mapped f xs ys x most m old mid new now e e' d one same =
     subst (λ zs. Defines most old zs now) (sym (ap (map f) e ∙ map-append f xs (x ∷ []))) (subst (λ z. Defines most old (map f xs ++ f x ∷ []) z) (sym same) (defines_more most m (f x) old mid new (map f xs) e' d one))
 
-pub known_more : (variables : List ℕ) (fields : List Field) (i : ℕ) (d : Field) → i < length fields → All (λ f. IsKnownIn variables f.literal) (take i fields) → IsKnownIn variables (get_or fields i d).literal → All (λ f. IsKnownIn variables f.literal) (take (i + 1) fields)
-known_more variables fields i d lt h k = subst (λ fs. All (λ f. IsKnownIn variables f.literal) fs) (sym (take_more fields i d lt)) (All-push (λ f. IsKnownIn variables f.literal) (take i fields) (get_or fields i d) h k)
+pub known_more : (variables : List ℕ) (fields : List Number) (i : ℕ) (d : Number) → i < length fields → All (λ f. IsKnownIn variables f.value) (take i fields) → IsKnownIn variables (get_or fields i d).value → All (λ f. IsKnownIn variables f.value) (take (i + 1) fields)
+known_more variables fields i d lt h k = subst (λ fs. All (λ f. IsKnownIn variables f.value) fs) (sym (take_more fields i d lt)) (All-push (λ f. IsKnownIn variables f.value) (take i fields) (get_or fields i d) h k)
 
-pub known_all : (variables : List ℕ) (fields : List Field) (i : ℕ) → length fields ≤ i → All (λ f. IsKnownIn variables f.literal) (take i fields) → All (λ f. IsKnownIn variables f.literal) fields
-known_all variables fields i le h = subst (λ fs. All (λ f. IsKnownIn variables f.literal) fs) (take_all i fields le) h
+pub known_all : (variables : List ℕ) (fields : List Number) (i : ℕ) → length fields ≤ i → All (λ f. IsKnownIn variables f.value) (take i fields) → All (λ f. IsKnownIn variables f.value) fields
+known_all variables fields i le h = subst (λ fs. All (λ f. IsKnownIn variables f.value) fs) (take_all i fields le) h
+
+pub contains_true : (variables : List ℕ) (v : ℕ) (b : Bool) → b ≡ list_any (nat_eq v) variables → b ≡ true → (v ≡ 0) ⊎ Contains variables v
+contains_true variables v b e t = inr (Contains-list_any nat_eq (λ x y h. eqb-true x y h) variables v (sym e ∙ t))
+
+pub contains_false : (variables : List ℕ) (v : ℕ) (b : Bool) → (v ≡ 0 → ⊥) → b ≡ list_any (nat_eq v) variables → b ≡ false → (v ≡ 0) ⊎ Contains variables v → ⊥
+contains_false variables v b nz e f (inl z) = nz z
+contains_false variables v b nz e f (inr c) = absent variables v (sym e ∙ f) c.0 v c.1 c.2
+
+-- the first of these that is not defined
+pub first_undefined : (variables : List ℕ) (readings : List Number) (i : ℕ) (d : Number) → i < length readings → All (IsDefined variables) (take i readings) → (IsDefined variables (get_or readings i d) → ⊥) → IsFirstUndefined variables readings (get_or readings i d)
+first_undefined variables readings i d l h n = record { before = take i readings; after = drop (suc i) readings; split = sym (take-append-drop i readings) ∙ ap (λ xs. take i readings ++ xs) (drop-cons readings i d l); before_defined = h; not_defined = n }
+
+pub cyclic_tells : (gates : List Gate) (starts : List ℕ) (i : ℕ) (f e : AigFault) → IsFirstOnCycle (Reads gates) i → i < length starts → f ≡ Text Cyclic (get_or starts i 0) → f ≡ e → TellsCyclic gates starts (found_of e)
+cyclic_tells gates starts i f e first l is same = subst (λ x. TellsCyclic gates starts (found_of x)) (sym is ∙ same) (i, refl, first, slice_get-get_or starts i 0 l)
 
 pub found_known : (variables : List ℕ) (v : ℕ) (b : Bool) → b ≡ list_any (nat_eq v) variables → b ≡ true → Contains variables v
 found_known variables v b e t = Contains-list_any nat_eq (λ x y h. eqb-true x y h) variables v (sym e ∙ t)
 
-not_empty : (n : ℕ) (b : Bool) → b ≡ (n == 0) → b ≡ false → 0 < n
-not_empty zero b e f = cc
-not_empty (suc n) b e f = omega arith
-
 -- a name that was read fits
-pub name_put : (names : List (Option (Vec ℕ Global))) (i : ℕ) (name : List ℕ) (v : Vec ℕ Global) (b : Bool) → All IsName (map name_bytes names) → v.items ≡ name → b ≡ (length name == 0) → b ≡ false → All (λ b. b ≢ 10) name → All IsName (map name_bytes (set names i (Some v)))
-name_put names i name v b h e test full plain =
-    names_set names i v h (subst (λ xs. 0 < length xs) (sym e) (not_empty (length name) b test full)) (subst (λ xs. All (λ b. b ≢ 10) xs) (sym e) plain)
+pub name_set : (names : List (Option (Vec ℕ Global))) (i : ℕ) (name : List ℕ) (v : Vec ℕ Global) → All IsName (map name_bytes names) → v.items ≡ name → 0 < length name → All (λ b. b ≢ 10) name → All IsName (map name_bytes (set names i (Some v)))
+name_set names i name v h e full plain =
+    names_set names i v h (subst (λ xs. 0 < length xs) (sym e) full) (subst (λ xs. All (λ b. b ≢ 10) xs) (sym e) plain)
+
+pub twice_of : (old : List ℕ) (v : ℕ) (b : Bool) → b ≡ not (list_any (nat_eq v) old) → b ≡ false → Contains old v
+twice_of old v b e f = go (list_any (nat_eq v) old) refl (sym e ∙ f)
+  where
+    go : (x : Bool) → list_any (nat_eq v) old ≡ x → not x ≡ false → Contains old v
+    go true t h = Contains-list_any nat_eq (λ x y h. eqb-true x y h) old v t
+    go false t h = absurd cc

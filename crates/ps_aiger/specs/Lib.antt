@@ -8,5 +8,6 @@ pub mod Causes
 pub mod CauseNames
 pub mod Signs
 pub mod Texts
+pub mod Cursors
 pub mod Reading
 pub mod Names

@@ -54,13 +54,6 @@ WrongDefinition most defined n f = ((¬ IsDefinition most n) × (f ≡ Literal))
 abbrev pub WrongReset : ℕ → ℕ → AigCause → Type 0
 WrongReset latch n f = ((n ≡ latch) × (f ≡ UnsetLatch)) ⊎ ((2 ≤ n) × (n ≢ latch) × (f ≡ Literal))
 
--- a literal of a new variable, and a literal that is read
-unfoldable pub definition : ℕ → List ℕ → Field Number
-definition most defined = number (WrongDefinition most defined)
-
-unfoldable pub literal : ℕ → Field Number
-literal most = number (WrongLiteral most)
-
 -- ## The first line
 
 pub record HeaderData : Type 0 where
@@ -100,7 +93,7 @@ abbrev pub no_lines : {A : Type 0} → Lines A
 no_lines = record { items = []; defined = []; readings = []; starts = [] }
 
 abbrev pub next_lines : {A B : Type 0} → Lines A → Lines B
-next_lines c = record { items = []; defined = c.defined; readings = c.readings; starts = [] }
+next_lines c = record { items = []; defined = c.defined; readings = c.readings; starts = c.starts }
 
 abbrev pub add_input : Lines ℕ → Number → Lines ℕ
 add_input c l = record { items = c.items ++ l.value ∷ []; defined = c.defined ++ variable l.value ∷ []; readings = c.readings; starts = c.starts }
@@ -125,7 +118,7 @@ add_gate c l first second = record {
 }
 
 unfoldable pub input_line : ℕ → Lines ℕ → Field (Lines ℕ)
-input_line most c = then_by (definition most c.defined) (λ l. mapped (λ _. add_input c l) line_end)
+input_line most c = then_by (number (WrongDefinition most c.defined)) (λ l. mapped (λ _. add_input c l) line_end)
 
 -- the reset of a latch, where there is one, and the end of the line; true is 1
 unfoldable pub reset : ℕ → Field Bool
@@ -133,16 +126,15 @@ reset latch = then_by more (by_more (then_by (number (WrongReset latch)) (λ n. 
 
 unfoldable pub latch_line : ℕ → Lines Latch → Field (Lines Latch)
 latch_line most c =
-    then_by (definition most c.defined) (λ l. then_by gap (λ _. then_by (literal most) (λ next.
-    mapped (λ r. add_latch c l next r) (reset l.value))))
+    then_by (number (WrongDefinition most c.defined)) (λ l. then_by (field (WrongLiteral most)) (λ next. mapped (λ r. add_latch c l next r) (reset l.value)))
 
 unfoldable pub output_line : ℕ → Lines ℕ → Field (Lines ℕ)
-output_line most c = then_by (literal most) (λ l. mapped (λ _. add_output c l) line_end)
+output_line most c = then_by (number (WrongLiteral most)) (λ l. mapped (λ _. add_output c l) line_end)
 
 unfoldable pub gate_line : ℕ → Lines Gate → Field (Lines Gate)
 gate_line most c =
-    then_by (definition most c.defined) (λ l. then_by gap (λ _. then_by (literal most) (λ first. then_by gap (λ _. then_by (literal most) (λ second.
-    mapped (λ _. add_gate c l first second) line_end)))))
+    then_by (number (WrongDefinition most c.defined)) (λ l. then_by (field (WrongLiteral most)) (λ first. then_by (field (WrongLiteral most)) (λ second.
+    mapped (λ _. add_gate c l first second) line_end)))
 
 -- ## Names
 
@@ -164,11 +156,14 @@ names_of names OfInput = names.inputs
 names_of names OfLatch = names.latches
 names_of names OfOutput = names.outputs
 
+abbrev pub put_names : NamesData → Kind → List (Option (List ℕ)) → NamesData
+put_names names OfInput list = record { inputs = list; latches = names.latches; outputs = names.outputs }
+put_names names OfLatch list = record { inputs = names.inputs; latches = list; outputs = names.outputs }
+put_names names OfOutput list = record { inputs = names.inputs; latches = names.latches; outputs = list }
+
 -- with a name for the k-th of its kind
 abbrev pub add_name : NamesData → Kind → ℕ → List ℕ → NamesData
-add_name names OfInput k name = record { inputs = slice_set names.inputs k (Some name); latches = names.latches; outputs = names.outputs }
-add_name names OfLatch k name = record { inputs = names.inputs; latches = slice_set names.latches k (Some name); outputs = names.outputs }
-add_name names OfOutput k name = record { inputs = names.inputs; latches = names.latches; outputs = slice_set names.outputs k (Some name) }
+add_name names kind k name = put_names names kind (slice_set (names_of names kind) k (Some name))
 
 -- the letters i, l and o
 abbrev pub take_kind : Seen → Option Kind
@@ -199,13 +194,13 @@ comment = either (then_by (byte 99) (λ _. anything)) (give tt)
 
 -- what was read of a text: its circuit, the variables that are defined, the literals that are read, in text order, and the
 -- offset of each gate's line
-pub record Draft : Type 0 where
+pub record DraftData : Type 0 where
   pub circuit : CircuitData
   pub defined : List ℕ
   pub readings : List Number
   pub starts : List ℕ
 
-abbrev pub draft_of : ℕ → Lines ℕ → Lines Latch → Lines ℕ → Lines Gate → NamesData → Draft
+abbrev pub draft_of : ℕ → Lines ℕ → Lines Latch → Lines ℕ → Lines Gate → NamesData → DraftData
 draft_of most i l o a names = record {
   circuit = record {
     most = most;
@@ -222,12 +217,12 @@ draft_of most i l o a names = record {
   starts = a.starts;
 }
 
-unfoldable pub symbols : ℕ → Lines ℕ → Lines Latch → Lines ℕ → Lines Gate → Field Draft
+unfoldable pub symbols : ℕ → Lines ℕ → Lines Latch → Lines ℕ → Lines Gate → Field DraftData
 symbols most i l o a =
     then_by (many symbol_line (record { inputs = no_names i.items; latches = no_names l.items; outputs = no_names o.items })) (λ names.
     mapped (λ _. draft_of most i l o a names) comment)
 
-unfoldable pub body : HeaderData → Field Draft
+unfoldable pub body : HeaderData → Field DraftData
 body h =
     then_by (times h.inputs (input_line h.most) no_lines) (λ i.
     then_by (times h.latches (latch_line h.most) (next_lines i)) (λ l.
@@ -235,31 +230,31 @@ body h =
     then_by (times h.gates (gate_line h.most) (next_lines o)) (λ a.
     symbols h.most i l o a))))
 
-unfoldable pub circuit_text : Field Draft
+unfoldable pub circuit_text : Field DraftData
 circuit_text = then_by header (λ h. body h)
 
 -- ## The answer
 
 -- the literal's variable is 0 or defined
-abbrev pub IsDefined : Draft → Number → Type 0
-IsDefined d l = (variable l.value ≡ 0) ⊎ Contains d.defined (variable l.value)
+abbrev pub IsDefined : List ℕ → Number → Type 0
+IsDefined defined l = (variable l.value ≡ 0) ⊎ Contains defined (variable l.value)
 
--- the first literal in the text whose variable is neither
-pub record IsFirstUndefined (d : Draft) (l : Number) : Type 0 where
+-- the first literal of these whose variable is neither
+pub record IsFirstUndefined (defined : List ℕ) (readings : List Number) (l : Number) : Type 0 where
   pub before : List Number
   pub after : List Number
-  pub split : d.readings ≡ before ++ l ∷ after
-  pub defined : All (IsDefined d) before
-  pub not_defined : ¬ IsDefined d l
+  pub split : readings ≡ before ++ l ∷ after
+  pub before_defined : All (IsDefined defined) before
+  pub not_defined : ¬ IsDefined defined l
 
 -- the answer to a text: its circuit, or the first cause for which it has none
 pub data Reads (text : List ℕ) (answer : Result CircuitData (Found AigCause)) : Type 0 where
   refused : (found : Found AigCause) → PartAnswers aig_causes circuit_text (stream_of text) (Err found) → answer ≡ Err found → Reads text answer
-  undefined : (d : Draft) (l : Number) → PartAnswers aig_causes circuit_text (stream_of text) (Ok d) → IsFirstUndefined d l →
+  undefined : (d : DraftData) (l : Number) → PartAnswers aig_causes circuit_text (stream_of text) (Ok d) → IsFirstUndefined d.defined d.readings l →
       answer ≡ Err (record { cause = Undefined; offset = l.offset }) → Reads text answer
-  cyclic : (d : Draft) (i start : ℕ) → PartAnswers aig_causes circuit_text (stream_of text) (Ok d) → All (IsDefined d) d.readings →
+  cyclic : (d : DraftData) (i start : ℕ) → PartAnswers aig_causes circuit_text (stream_of text) (Ok d) → All (IsDefined d.defined) d.readings →
       IsFirstOnCycle (ReadsGate d.circuit.gates) i → slice_get d.starts i ≡ Some start → answer ≡ Err (record { cause = Cyclic; offset = start }) → Reads text answer
-  meaning : (d : Draft) → PartAnswers aig_causes circuit_text (stream_of text) (Ok d) → All (IsDefined d) d.readings →
+  meaning : (d : DraftData) → PartAnswers aig_causes circuit_text (stream_of text) (Ok d) → All (IsDefined d.defined) d.readings →
       ((i : ℕ) → ¬ Way (ReadsGate d.circuit.gates) i i) → answer ≡ Ok d.circuit → Reads text answer
 
 -- what the reader answers: this, unless memory runs out

@@ -1,9 +1,16 @@
 //! The place that a reader has come to in the text of a circuit.
 
-ghost use Rattle.std.specs.Prelude.{◌≡◌, ◌≢◌, ◌<◌, ◌≤◌, length, slice_get, All};
-ghost use Rattle.std.specs.Bool.{OnTrue};
+ghost use Rattle.std.specs.Prelude.{◌≡◌, ◌≤◌, ◌<◌, ◌^◌, ◌↔◌, IsTrue, Some, [], ◌∷◌, length, take, codes, IfOk, All, ◌≢◌};
+ghost use Rattle.std.specs.List.{prefix_len};
+ghost use Rattle.ps_text.specs.Readers.{tail};
+ghost use Rattle.ps_text.specs.Digits.{decimal_value};
+ghost use Rattle.ps_aiger.specs.Signs as parts;
+ghost use Rattle.ps_aiger.specs.Signs.{stream_of, ends_line, is_digit, word, AllOf};
+ghost use Rattle.ps_aiger.specs.Cursors.{next_byte, place_of, in_class, IsAhead, Passes, Tells, TellsNumber, saturated};
+ghost use Rattle.ps_aiger.specs.declared.fault.AigCause.TheVariants.{Syntax};
 
 use crate::fault::{AigCause, AigFault};
+use std::marker::Model;
 
 /// A number of the text, and the offset of its first digit. A number beyond 64 bits counts as the greatest of 64 bits.
 #[derive(Clone, Copy)]
@@ -14,7 +21,9 @@ pub struct Number {
 
 impl Number {
     /// The refusal for this cause, at the number.
-    pub fn refused(self, cause: AigCause) -> AigFault {
+    pub fn refused(self, cause: AigCause) -> AigFault
+        ensures { result ≡ AigFault.Text cause self.offset }
+    {
         AigFault::Text {
             cause,
             offset: self.offset,
@@ -22,152 +31,250 @@ impl Number {
     }
 }
 
-/// A text, and the offset of its next byte.
+/// A class of bytes.
+#[derive(Clone, Copy)]
+pub enum Class {
+    Digit,
+    /// A space or a tab.
+    Blank,
+    /// Anything but a newline.
+    Inner,
+}
+
+impl Class {
+    fn has(self, byte: u8) -> bool
+        ensures { result ≡ in_class self byte }
+    {
+        match self {
+            Class::Digit => byte.is_ascii_digit(),
+            Class::Blank => byte == b' ' || byte == b'\t',
+            Class::Inner => byte != b'\n',
+        }
+    }
+}
+
+/// How many bytes of the class the text begins with.
+fn run_length(text: &[u8], class: Class) -> usize
+    ensures length { result ≡ prefix_len (in_class class) text.now }
+    ensures within { result ≤ length text.now }
+{
+    text.iter().take_while(|byte| class.has(**byte)).count()
+}
+
+/// The number that digits write, or the greatest of 64 bits if it is greater.
+fn value_of(digits: &[u8]) -> u64
+    requires { AllOf is_digit digits.now }
+    ensures { result ≡ saturated (decimal_value digits.now) }
+{
+    let mut value = 0u64;
+    for digit in digits {
+        value = value
+            .saturating_mul(10)
+            .saturating_add(u64::from(*digit - b'0'));
+    }
+    value
+}
+
+/// Whether the last byte is a newline.
+fn is_ended(text: &[u8]) -> bool
+    ensures { result ≡ ends_line text.now }
+{
+    !text.is_empty() && text[text.len() - 1] == b'\n'
+}
+
+/// A place in a text, and what stands from there on.
 #[derive(Drop)]
 pub struct Cursor<'a> {
-    text: &'a [u8],
     at: usize,
-    ghost within: { at ≤ length text.now },
+    rest: &'a [u8],
+    /// Whether the last line has no newline, so that one is read behind the rest.
+    unended: bool,
+}
+
+impl<'a> Model for Cursor<'a> {
+    ghost use Rattle.std.specs.Prelude.{◌+◌, ◌^◌, ◌<◌, length};
+    ghost use Rattle.ps_text.specs.Answers.{Stream};
+    ghost use Rattle.ps_aiger.specs.Signs.{Seen, pieces_at};
+    ghost use Rattle.ps_aiger.specs.Cursors.{ended};
+
+    ghost Value = { Stream Seen };
+
+    ghost view = { λ c. record { pieces = pieces_at c.at (ended c.unended c.rest.now); end = c.at + length c.rest.now } };
+
+    ghost invariant = { λ c. c.at + length c.rest.now < 2 ^ 63 };
 }
 
 impl<'a> Cursor<'a> {
-    pub fn new(text: &'a [u8]) -> Self {
-        Cursor { text, at: 0 }
-    }
-
-    /// The next byte, if there is one.
-    pub fn peek(&self) -> Option<u8>
-        ensures { result ≡ slice_get self.now.text.now self.now.at }
+    /// The beginning of a text.
+    pub fn new(text: &'a [u8]) -> Self
+        ensures stream { result ≡ stream_of text.now }
+        ensures small { length result.pieces ≤ 2 ^ 63 }
     {
-        self.text.get(self.at).copied()
-    }
-
-    /// The refusal for a byte that can't stand here, or for the end.
-    pub fn refusal(&self) -> AigFault {
-        AigFault::Text {
-            cause: AigCause::Syntax,
-            offset: self.at,
+        Cursor {
+            at: 0,
+            rest: text,
+            unended: !is_ended(text),
         }
     }
 
-    /// The offset of the next byte.
+    /// The next byte, if there is one. A last line without a newline is read with one.
+    pub fn peek(&self) -> Option<u8>
+        ensures { result ≡ next_byte self.now }
+    {
+        match self.rest {
+            [byte, ..] => Some(*byte),
+            [] => { if self.unended { Some(b'\n') } else { None } }
+        }
+    }
+
+    /// Goes behind the next byte.
+    pub fn step(&mut self)
+        ensures next { self.new ≡ tail self.old }
+        ensures ahead { IsAhead self.old }
+    {
+        match self.rest {
+            [_, rest @ ..] => {
+                self.rest = rest;
+                self.at += 1;
+            }
+            [] => self.unended = false,
+        }
+    }
+
+    /// The offset of the next byte, or of the end.
     pub fn offset(&self) -> usize
-        ensures { result ≡ self.now.at }
+        ensures { result ≡ place_of self.now }
     {
         self.at
     }
 
-    /// Passes this byte, if it is the next one.
-    pub fn pass(&mut self, byte: u8) -> bool
-        ensures text { self.new.text.now ≡ self.old.text.now }
-        ensures on { self.old.at ≤ self.new.at }
-        ensures passed { OnTrue result (self.old.at < self.new.at) }
+    /// The refusal for a byte that can't stand here, or for the end.
+    pub fn refusal(&self) -> AigFault
+        ensures { result ≡ AigFault.Text Syntax (place_of self.now) }
     {
-        if self.peek() == Some(byte) {
-            self.at += 1;
-            return true;
+        AigFault::Text {
+            cause: AigCause::Syntax,
+            offset: self.offset(),
         }
-        false
     }
 
-    /// Passes this byte, which must be the next one.
-    pub fn expect(&mut self, byte: u8) -> Result<(), AigFault>
-        ensures text { self.new.text.now ≡ self.old.text.now }
-        ensures on { self.old.at ≤ self.new.at }
+    /// Whether that byte comes next.
+    pub fn comes(&self, byte: u8) -> bool
+        ensures { IsTrue result ↔ next_byte self.now ≡ Some byte }
     {
-        if self.pass(byte) {
+        self.peek() == Some(byte)
+    }
+
+    /// Goes behind that byte, which has to come next.
+    pub fn byte(&mut self, byte: u8) -> Result<(), AigFault>
+        ensures { Tells (λ u. u) (parts.byte byte) self.old result self.new }
+    {
+        if self.comes(byte) {
+            self.step();
             return Ok(());
         }
         Err(self.refusal())
     }
 
-    /// Passes the bytes up to the next one that is no space or tab, and says whether there were any.
-    pub fn blanks(&mut self) -> bool
-        ensures text { self.new.text.now ≡ self.old.text.now }
-        ensures on { self.old.at ≤ self.new.at }
+    /// Goes behind the word with which a text begins.
+    pub fn first_word(&mut self) -> Result<(), AigFault>
+        ensures { Tells (λ u. u) (word (codes "aag")) self.old result self.new }
     {
-        let start = self.at;
-        while let Some(b' ' | b'\t') = self.peek() {
-            self.at += 1;
-        }
-        start < self.at
+        self.byte(b'a')?;
+        self.byte(b'a')?;
+        self.byte(b'g')?;
+        Ok(())
     }
 
-    /// Passes one space or tab or more.
-    pub fn gap(&mut self) -> Result<(), AigFault>
-        ensures text { self.new.text.now ≡ self.old.text.now }
-        ensures on { self.old.at ≤ self.new.at }
+    /// The longest run of bytes of the class that comes next, and goes behind it.
+    fn run(&mut self, class: Class) -> &'a [u8]
+        ensures { Passes (in_class class) self.old self.new result.now }
     {
-        if self.blanks() {
-            return Ok(());
-        }
-        Err(self.refusal())
+        let count = run_length(self.rest, class);
+        let (run, rest) = self.rest.split_at(count);
+        self.rest = rest;
+        self.at += count;
+        run
     }
 
-    /// Passes a newline, if it is next, or stands at the end. The text's last line may do without its newline.
-    pub fn ends_line(&mut self) -> bool
-        ensures text { self.new.text.now ≡ self.old.text.now }
-        ensures on { self.old.at ≤ self.new.at }
-    {
-        match self.peek() {
-            None => true,
-            Some(_) => self.pass(b'\n'),
-        }
-    }
-
-    /// Passes the end of a line, with blanks before it.
-    pub fn line_end(&mut self) -> Result<(), AigFault>
-        ensures text { self.new.text.now ≡ self.old.text.now }
-        ensures on { self.old.at ≤ self.new.at }
-    {
-        self.blanks();
-        if self.ends_line() {
-            return Ok(());
-        }
-        Err(self.refusal())
-    }
-
-    /// Passes a number, all its digits.
+    /// The number that comes next.
     pub fn number(&mut self) -> Result<Number, AigFault>
-        ensures text { self.new.text.now ≡ self.old.text.now }
-        ensures on { self.old.at ≤ self.new.at }
+        ensures { TellsNumber self.old result self.new }
     {
-        let offset = self.at;
-        let mut value = 0u64;
-        while let Some(digit @ b'0'..=b'9') = self.peek() {
-            value = value
-                .saturating_mul(10)
-                .saturating_add(u64::from(digit - b'0'));
-            self.at += 1;
+        let offset = self.offset();
+        let refusal = self.refusal();
+        let digits = self.run(Class::Digit);
+        if digits.is_empty() {
+            return Err(refusal);
         }
-        if offset == self.at {
-            return Err(self.refusal());
-        }
-        Ok(Number { value, offset })
+        Ok(Number {
+            value: value_of(digits),
+            offset,
+        })
     }
 
-    /// Passes a number behind a gap.
-    pub fn next_number(&mut self) -> Result<Number, AigFault>
-        ensures text { self.new.text.now ≡ self.old.text.now }
-        ensures on { self.old.at ≤ self.new.at }
+    /// Goes behind one space or tab or more.
+    pub fn gap(&mut self) -> Result<(), AigFault>
+        ensures { Tells (λ u. u) parts.gap self.old result self.new }
     {
+        let refusal = self.refusal();
+        if self.run(Class::Blank).is_empty() {
+            return Err(refusal);
+        }
+        Ok(())
+    }
+
+    /// What stands up to the end of the line, which has to be something.
+    pub fn rest_of_line(&mut self) -> Result<&'a [u8], AigFault>
+        ensures { Tells (λ r. r.now) parts.rest_of_line self.old result self.new }
+    {
+        let refusal = self.refusal();
+        let bytes = self.run(Class::Inner);
+        if bytes.is_empty() {
+            return Err(refusal);
+        }
+        Ok(bytes)
+    }
+
+    /// Goes behind a newline.
+    pub fn newline(&mut self) -> Result<(), AigFault>
+        ensures { Tells (λ u. u) parts.newline self.old result self.new }
+    {
+        self.byte(b'\n')
+    }
+
+    /// Goes behind the end of a line, with blanks before it or none.
+    pub fn line_end(&mut self) -> Result<(), AigFault>
+        ensures { Tells (λ u. u) parts.line_end self.old result self.new }
+    {
+        self.run(Class::Blank);
+        self.newline()
+    }
+
+    /// Goes behind the end of a line, or to the next field, and says whether one comes.
+    pub fn more(&mut self) -> Result<bool, AigFault>
+        ensures { Tells (λ b. b) parts.more self.old result self.new }
+    {
+        if self.comes(b'\n') {
+            self.newline()?;
+            return Ok(false);
+        }
         self.gap()?;
-        self.number()
+        if self.comes(b'\n') {
+            self.newline()?;
+            return Ok(false);
+        }
+        Ok(true)
     }
 
-    /// Passes the bytes up to the end of the line.
-    pub fn rest_of_line(&mut self) -> &'a [u8]
-        ensures text { self.new.text.now ≡ self.old.text.now }
-        ensures on { self.old.at ≤ self.new.at }
-        ensures no_newline { All (λ b. b ≢ 10) result.now }
+    /// Goes to the end of the text.
+    pub fn finish(&mut self)
+        ensures pieces { self.new.pieces ≡ [] }
+        ensures end { self.new.end ≡ self.old.end }
     {
-        let start = self.at;
-        while let Some(byte) = self.peek() {
-            if byte == b'\n' {
-                break;
-            }
-            self.at += 1;
-        }
-        &self.text[start..self.at]
+        let (_, rest) = self.rest.split_at(self.rest.len());
+        self.at += self.rest.len();
+        self.rest = rest;
+        self.unended = false;
     }
 }

@@ -4,7 +4,10 @@
 mod circuit;
 mod cursor;
 mod fault;
+mod header;
+mod lines;
 mod links;
+mod names;
 mod parts;
 mod reader;
 mod search;

@@ -1,6 +1,8 @@
-use Rattle.std.proofs.Common.{arith}
-use Rattle.ps_aiger.proofs.ReadingLemmas.{no_newline}
+use Rattle.ps_aiger.proofs.CursorLemmas.{rest_reads, rest_stops, is_empty_true, is_empty_false}
 use Rattle.ps_aiger.proofs.cursor.Cursor.rest_of_line.Goals as goal
 
-pub returns-clause-no_newline : goal.returns-clause-no_newline
-returns-clause-no_newline c = no_newline c.loop-byte.self.text.now c.args.self.now.at c.loop-byte.self.at c.loop-byte.invariant.plain (omega arith)
+pub returns-then-is_empty : goal.returns-then-is_empty
+returns-then-is_empty c = rest_stops c.args.self.now c.run-bytes.new.self c.run-bytes.result.now c.refusal-refusal.result c.run-bytes.ensures (is_empty_true c.run-bytes.result.now c.is_empty.result c.is_empty.ensures c.if-is_empty.true) c.refusal-refusal.ensures
+
+pub returns : goal.returns
+returns c = rest_reads c.args.self.now c.run-bytes.new.self c.run-bytes.result.now c.run-bytes.ensures (is_empty_false c.run-bytes.result.now c.is_empty.result c.is_empty.ensures c.if-is_empty.false)
