@@ -18,9 +18,6 @@ keeps_nothing part text v i q = tt
 pub keeps_less : {T V F : Type 0} {S R : V → Type 0} (part : Part T V F) → ((v : V) → S v → R v) → Keeps part S → Keeps part R
 keeps_less part h k text v i q = h v (k text v i q)
 
-pub keeps_both : {T V F : Type 0} {S R : V → Type 0} (part : Part T V F) → Keeps part S → Keeps part R → Keeps part (λ v. S v × R v)
-keeps_both part h k text v i q = (h text v i q, k text v i q)
-
 pub keeps_give : {T V F : Type 0} (S : V → Type 0) (v : V) → S v → Keeps (give {T = T} {V = V} {F = F} v) S
 keeps_give S v s text w i q = subst S (sym i.1) s
 

@@ -5,21 +5,20 @@ use Rattle.std.specs.List.{AllByRecursion}
 use Rattle.std.proofs.Math.Decide.{dec_lt}
 use Rattle.std.proofs.lemmas.Bool.Decides.{eqb_tells}
 use Rattle.ps_label.specs.Expression.{Expression}
-use Rattle.ps_text.specs.Answers.{Stream, signs}
-use Rattle.ps_text.specs.Readers.{Reads as PartReads}
+use Rattle.ps_text.specs.Answers.{signs}
 use Rattle.ps_text.specs.Parts.{by_part}
 use Rattle.ps_hoa.specs.Body.{BodyData, body}
 use Rattle.ps_hoa.specs.Conditions.{Condition}
 use Rattle.ps_hoa.specs.Conditions as conditions
 use Rattle.ps_hoa.specs.Files.{GuardData, EdgeData, RowData, FileData, stated, of_state, at_letter, greatest_target, greatest_state, count_of_states}
-use Rattle.ps_hoa.specs.Header.{HeaderData, AcceptanceData, names_of, state_limit, set_limit, IsStartBeyond, IsStartTooLarge, IsConditionBeyond, IsControlBeyond, AnIndexBeyond, NamesSetBeyond, start_too_large, no_start, out_of_range, header}
+use Rattle.ps_hoa.specs.Header.{HeaderData, AcceptanceData, names_of, state_limit, set_limit, IsStartBeyond, IsStartTooLarge, IsConditionBeyond, IsControlBeyond, AnIndexBeyond, NamesSetBeyond, start_too_large, no_start, out_of_range}
 use Rattle.ps_hoa.specs.Sound.{IsLabel, AreLabelled, IsGuard, IsSoundEdge, IsSoundRow, IsSound}
 use Rattle.ps_hoa.specs.Texts.{file_of, file, Reads, by_tokens}
-use Rattle.ps_hoa.specs.Tokens.{Sign, marked}
+use Rattle.ps_hoa.specs.Tokens.{marked}
 use Rattle.ps_hoa.specs.Scan.{fresh}
 use Rattle.ps_hoa.specs.declared.edges.Labelling.TheVariants.{ByPlace}
 use Rattle.ps_hoa.specs.declared.fault.HoaCause.TheVariants as causes
-use Rattle.ps_hoa.proofs.Keeping.{Keeps, keeps_then, keeps_mapped, keeps_read}
+use Rattle.ps_hoa.proofs.Keeping.{Keeps, keeps_then, keeps_mapped}
 use Rattle.ps_hoa.proofs.SoundBodies.{IsStateOf, IsScoped, IsGuardKept, IsEdgeKept, IsRowKept, HasRightCount, IsBodyDone, LabelledBy, way_of, way, keeps_body}
 use Rattle.ps_hoa.proofs.SoundHeaders.{Kept, HasNoFlaw, keeps_header, aliases_ordered}
 use Rattle.ps_hoa.proofs.SoundLabels.{NamesBelow, within_of}
@@ -181,9 +180,3 @@ keeps_file = keeps_then keeps_header (λ h k. keeps_mapped IsSound (file_of h) (
 pub sound_file : (text : List ℕ) (f : FileData) → Reads text (Ok f) → IsSound f
 sound_file text f (by_tokens pieces short hoa version v1 tokens answer) =
     keeps_file (signs (marked fresh pieces)) f answer.0 (λ front rest t g e c. answer.1 front (t ∷ rest) g e (by_part t refl c))
-
--- and so is the file of a header and a body that were read
-pub sound_read : (old mid new : Stream Sign) (h : HeaderData) (b : BodyData) → PartReads header old h mid → PartReads (body h) mid b new → IsSound (file_of h b)
-sound_read old mid new h b m n =
-    let k = keeps_read header keeps_header (signs old.pieces) (signs mid.pieces) h m.1 in
-    sound h b k.0 k.1 (keeps_read (body h) (keeps_body h) (signs mid.pieces) (signs new.pieces) b n.1)

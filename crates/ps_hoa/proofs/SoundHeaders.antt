@@ -1,13 +1,11 @@
 -- A header that was read has no flaw, at most 64 propositions, and aliases that each speak of earlier ones alone.
 --     keeps_header      for each header
---     ordered_aliases      the aliases of a header that was read, as labels want them
+--     aliases_ordered      its aliases, as labels want them
 use Rattle.std.proofs.Common.{◌≡◌, ℕ, zero, suc, ◌+◌, ◌<◌, ◌≤◌, ◌⊎◌, true, List, [], ◌∷◌, ◌++◌, length, codes, Some, refl, sym, ap, subst, inl, inr, ◌∙◌, arith, length-append}
 use Rattle.std.specs.Option.{IfSome}
 use Rattle.std.proofs.Math.Decide.{dec_lt}
 use Rattle.ps_label.specs.Expression.{Expression, AreOrderedFrom, AreOrdered}
 use Rattle.ps_text.specs.Parts.{one, times, many, barred}
-use Rattle.ps_text.specs.Readers.{Reads}
-use Rattle.ps_text.specs.Answers.{Stream, signs}
 use Rattle.ps_text.proofs.Simple.{none_is_some, same_some}
 use Rattle.ps_hoa.specs.Header.{HeaderData, no_items, names_of, state_limit, proposition_limit, alias_limit, set_limit, item_name, int_in, IsAbove, int, string, with_states, states_item, IsAlternating, is_name_among, with_start, start_item, string_in, IsBadName, with_name, proposition_name, with_names, names_item, alias_value, IsBadAlias, header_scope, with_alias, alias_item, with_acceptance, acceptance_item, index, with_controllable, controllable_item, unchanged, tool_item, name_item, read_over_value, read_over, item, AnAliasBeyond, IsBadHeader, out_of_range, body_value, IsBadBody, body_mark, header}
 use Rattle.ps_hoa.specs.Labels.{label}
@@ -24,7 +22,7 @@ use Rattle.std.proofs.lemmas.Slice.Eq.{bytes_eq-Decides}
 use Rattle.ps_hoa.specs.Header.{is_empty, has_control}
 use Rattle.ps_hoa.specs.Sound.{AreNames}
 use Rattle.ps_hoa.proofs.OperandLaws.{false_true}
-use Rattle.ps_hoa.proofs.Keeping.{Keeps, keeps_nothing, keeps_less, keeps_give, keeps_one, keeps_then, keeps_either, keeps_mapped, keeps_times, keeps_many, keeps_read}
+use Rattle.ps_hoa.proofs.Keeping.{Keeps, keeps_nothing, keeps_less, keeps_give, keeps_one, keeps_then, keeps_either, keeps_mapped, keeps_times, keeps_many}
 use Rattle.ps_hoa.proofs.SoundLabels.{NamesBelow, within_of, keeps_label}
 use Rattle.ps_hoa.proofs.HeaderLaws.{start_name, other_name}
 
@@ -210,9 +208,3 @@ rise_ordered count k (e ∷ es) l r n = (within_of count k e l r.0 (λ h. n (inl
 
 pub aliases_ordered : (h : HeaderData) → Kept h → HasNoFlaw h → AreOrdered h.aliases
 aliases_ordered h k n = rise_ordered (length (names_of h)) 0 h.aliases k.1.0 k.2.rise (λ b. n causes.Range (out_of_range (inr (inl b))))
-
-pub read_kept : (old new : Stream Sign) (h : HeaderData) → Reads header old h new → Kept h × HasNoFlaw h
-read_kept old new h m = keeps_read header keeps_header (signs old.pieces) (signs new.pieces) h m.1
-
-pub ordered_aliases : (old new : Stream Sign) (h : HeaderData) → Reads header old h new → AreOrdered h.aliases
-ordered_aliases old new h m = let k = read_kept old new h m in aliases_ordered h k.0 k.1
