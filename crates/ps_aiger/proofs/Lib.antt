@@ -14,3 +14,9 @@ pub mod Ending
 pub mod Stepping
 pub mod LinksLemmas
 pub mod ReadingLemmas
+pub mod WentFields
+pub mod WentLines
+pub mod WentCircuits
+pub mod WentNames
+pub mod WentText
+pub mod OneReading

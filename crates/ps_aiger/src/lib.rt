@@ -5,6 +5,7 @@ mod circuit;
 mod cursor;
 mod fault;
 mod header;
+mod laws;
 mod lines;
 mod links;
 mod names;
@@ -15,6 +16,7 @@ mod writer;
 
 pub use circuit::{Circuit, CircuitFault};
 pub use fault::{AigCause, AigFault};
+pub use laws::one_answer;
 pub use parts::{Gate, Latch, Parts};
 pub use reader::read;
 pub use writer::write;

@@ -1,6 +1,7 @@
 //! Circuits written as AIGER texts.
 
-ghost use Rattle.std.specs.Prelude.{◌≡◌, ◌++◌, ◌∷◌, [], length, map, codes, decimal, OnOk, IfOk};
+ghost use Rattle.std.specs.Prelude.{◌≡◌, ◌++◌, ◌∷◌, [], length, map, codes, decimal, OnOk, IfOk, Ok};
+ghost use Rattle.ps_aiger.specs.Texts.{Reads};
 ghost use Rattle.ps_aiger.specs.Drafts.{name_bytes};
 ghost use Rattle.ps_aiger.specs.Written.{fields, line, latch_line, literal_lines, latch_lines, gate_lines, symbol_line, symbol_lines, header_line, text_of};
 
@@ -11,7 +12,8 @@ use std::alloc::{AllocError, Global};
 
 /// Writes a circuit as an AIGER text: the header, the lines of its inputs, latches, outputs and gates, and its names.
 pub fn write(alloc: Global, circuit: &Circuit) -> Result<Vec<u8>, AllocError>
-    ensures { IfOk result (λ bytes. bytes.items ≡ text_of circuit.now) }
+    ensures bytes { IfOk result (λ bytes. bytes.items ≡ text_of circuit.now) }
+    ensures read_again { IfOk result (λ bytes. Reads bytes.items (Ok circuit.now)) }
 {
     let mut out = Vec::new(alloc);
     write_header(&mut out, circuit)?;

@@ -1,0 +1,61 @@
+#!/usr/bin/env python3
+"""Shows that the reading of circuits takes time in proportion to their gates.
+
+  bench/circuit_texts.py PROGRAM [ARGUMENTS..]
+
+Makes circuits of 10^5, 2 * 10^5, 4 * 10^5 and 10^6 gates, each in two ways, and runs the built psyn on `sim` with each of them
+and an empty stimulus, so that it reads the circuit and has nothing to print. Prints the time of each run, and its growth
+against the growth of the gates (1.00 is growth in proportion).
+    chain      each gate reads the one on the next line, so that the lines stand in falling order of what they depend on
+    drawn      each gate reads two of the inputs, latches and gates before it, drawn at random, and the lines are shuffled
+"""
+import random
+import subprocess
+import sys
+import time
+
+INPUTS = 100
+LATCHES = 100
+SIZES = (100_000, 200_000, 400_000, 1_000_000)
+
+
+def chain(gates):
+    """A chain of gates in falling order: the first line is the last gate, which the output is."""
+    lines = [f"aag {gates + 1} 1 0 1 {gates}", "2", str(2 * (gates + 1))]
+    lines += [f"{2 * gate} {2 * (gate - 1)} {2 * (gate - 1) + 1}" for gate in range(gates + 1, 1, -1)]
+    return "\n".join(lines) + "\n"
+
+
+def drawn(gates):
+    """Gates over inputs and latches, their lines shuffled, with a name for each input, latch and output."""
+    dice = random.Random(gates)
+    first = 1 + INPUTS + LATCHES
+    most = first + gates - 1
+    lines = [f"aag {most} {INPUTS} {LATCHES} {LATCHES} {gates}"]
+    lines += [str(2 * variable) for variable in range(1, INPUTS + 1)]
+    lines += [f"{2 * variable} {dice.randrange(2 * most + 2)} {variable % 2}" for variable in range(INPUTS + 1, first)]
+    lines += [str(dice.randrange(2 * most + 2)) for _ in range(LATCHES)]
+    body = [f"{2 * gate} {dice.randrange(2 * gate)} {dice.randrange(2 * gate)}" for gate in range(first, most + 1)]
+    dice.shuffle(body)
+    names = [f"i{k} in_{k}" for k in range(INPUTS)] + [f"l{k} state_{k}" for k in range(LATCHES)] + [f"o{k} out_{k}" for k in range(LATCHES)]
+    return "\n".join(lines + body + names) + "\n"
+
+
+def main():
+    program = sys.argv[1:]
+    if not program:
+        sys.exit(__doc__)
+    for family in (chain, drawn):
+        before = None
+        for gates in SIZES:
+            text = ("sim\n" + family(gates) + "%%\n").encode()
+            start = time.monotonic()
+            run = subprocess.run(program, input=text, capture_output=True, check=False)
+            seconds = time.monotonic() - start
+            growth = "" if before is None else f"  growth {seconds / before[1] * before[0] / gates:.2f}"
+            print(f"{family.__name__:6} {gates:8} gates  {len(text):9} bytes  {seconds:7.3f} s{growth}  status {run.returncode}  {run.stdout.decode().strip()[:60]}", flush=True)
+            before = (gates, seconds)
+
+
+if __name__ == "__main__":
+    main()
