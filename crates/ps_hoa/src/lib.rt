@@ -25,6 +25,8 @@ mod propositions;
 mod reader;
 mod refusal;
 mod rows;
+#[cfg(test)]
+mod samples;
 mod signs;
 mod skipped;
 pub mod tokens;
