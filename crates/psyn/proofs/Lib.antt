@@ -3,3 +3,5 @@ pub mod StreamLemmas
 pub mod ProgramLemmas
 pub mod OutcomeLemmas
 pub mod TextLemmas
+pub mod CircuitLemmas
+pub mod TraceLemmas

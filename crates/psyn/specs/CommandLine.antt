@@ -7,7 +7,7 @@ use Rattle.clap.specs.Simple.{new_shape, on_top}
 use Rattle.clap.specs.declared.error.kind.ErrorKind.{ErrorKind}
 use Rattle.clap.specs.declared.error.kind.ErrorKind.TheVariants.{DisplayHelp}
 use Rattle.psyn.specs.declared.command_line.Line.{Line}
-use Rattle.psyn.specs.declared.command_line.Line.TheVariants.{Refused, Help, Closed, Check}
+use Rattle.psyn.specs.declared.command_line.Line.TheVariants.{Refused, Help, Closed, Check, Sim}
 
 -- what stands between runs of spaces
 abbrev pub words_of : List ℕ → List Text
@@ -24,8 +24,8 @@ abbrev pub program : App
 program = on_top (λ top. record top { no_binary_name = true; disable_help_subcommand = true }) (new_app (codes "psyn"))
 
 unfoldable pub table : App
-table = with_subcommand (with_subcommand (with_subcommand program
-    (command (codes "help"))) (command (codes "closed"))) (command (codes "check"))
+table = with_subcommand (with_subcommand (with_subcommand (with_subcommand program
+    (command (codes "help"))) (command (codes "closed"))) (command (codes "check"))) (command (codes "sim"))
 
 -- ---- what the words say
 
@@ -34,6 +34,7 @@ abbrev pub line_named : Text → Line
 line_named name = if bytes_eq name (codes "help") then Help
     else if bytes_eq name (codes "closed") then Closed
     else if bytes_eq name (codes "check") then Check
+    else if bytes_eq name (codes "sim") then Sim
     else Refused
 
 -- the line of the command that the words name, if they name one
@@ -67,7 +68,8 @@ pub record Usage : Type 0 where
 abbrev pub usages : List Usage
 usages = record { name = codes "help"; flags = []; line = λ _. Help }
     ∷ record { name = codes "closed"; flags = []; line = λ _. Closed }
-    ∷ record { name = codes "check"; flags = []; line = λ _. Check } ∷ []
+    ∷ record { name = codes "check"; flags = []; line = λ _. Check }
+    ∷ record { name = codes "sim"; flags = []; line = λ _. Sim } ∷ []
 
 -- a word put at each place of a list
 abbrev pub insertions : Text → List Text → List (List Text)

@@ -7,6 +7,7 @@ pub mod Outcomes
 pub mod Program
 pub mod Refusals
 pub mod Replies
+pub mod Simulating
 pub mod Streams
 pub mod Texts
 pub mod Watched

@@ -2,7 +2,7 @@
 use Rattle.std.specs.Prelude.{◌≡◌, ◌≤◌, ◌<◌, ◌⊎◌, ℕ, Bool, true, false, List, length, Option, Result, Ok}
 use Rattle.std.specs.Io.KnownBytes.{Appends}
 use Rattle.psyn.specs.declared.command_line.Line.{Line}
-use Rattle.psyn.specs.declared.command_line.Line.TheVariants.{Refused, Help, Closed, Check}
+use Rattle.psyn.specs.declared.command_line.Line.TheVariants.{Refused, Help, Closed, Check, Sim}
 use Rattle.psyn.specs.CommandLine.{IsLine}
 use Rattle.psyn.specs.declared.fault.FaultLine.{FaultLine}
 use Rattle.psyn.specs.Checks.{AnswersClosed, AnswersCheck}
@@ -10,6 +10,7 @@ use Rattle.psyn.specs.Cut.{first_line, behind_line}
 use Rattle.psyn.specs.Input.{AgreesWith, input_limit}
 use Rattle.psyn.specs.Outcomes.{printed}
 use Rattle.psyn.specs.Replies.{Reply, usage, help, read_fault, out_of_memory}
+use Rattle.psyn.specs.Simulating.{AnswersSim}
 use Rattle.psyn.specs.Streams.{SinkState, AppendsSome, Breaks}
 
 -- the answer to a line, with what stands behind it
@@ -18,6 +19,7 @@ AnswersLine Refused texts outcome = outcome ≡ Ok usage
 AnswersLine Help texts outcome = outcome ≡ Ok help
 AnswersLine Closed texts outcome = AnswersClosed texts outcome
 AnswersLine Check texts outcome = AnswersCheck texts outcome
+AnswersLine Sim texts outcome = AnswersSim texts outcome
 
 -- the answer to an input
 abbrev pub Answers : List ℕ → Reply → Type 0

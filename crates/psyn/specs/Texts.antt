@@ -1,5 +1,5 @@
 -- The texts of the commands, as their readers answer them.
-use Rattle.std.specs.Prelude.{◌≡◌, ◌<◌, ℕ, IfSome, List, Result, Ok, Err, option_map, slice_index}
+use Rattle.std.specs.Prelude.{◌≡◌, ◌<◌, ℕ, Bool, false, IfSome, List, length, Result, Ok, Err, option_map, slice_index}
 use Rattle.ps_text.specs.Answers.{Found}
 use Rattle.ps_game.specs.Games.{NamedGameData}
 use Rattle.ps_pgsolver.specs.Reading.{Answer}
@@ -11,10 +11,20 @@ use Rattle.ps_certificate.specs.declared.flaw.Flaw.{Flaw}
 use Rattle.ps_certificate.specs.declared.flaw.Flaw.TheVariants as flaw
 use Rattle.ps_certificate.specs.Certificates.{CertificateData}
 use Rattle.ps_certificate.specs.Texts.{Reads}
+use Rattle.ps_aiger.specs.declared.fault.AigCause.{AigCause}
+use Rattle.ps_aiger.specs.declared.fault.AigCause.TheVariants as circuit
+use Rattle.ps_aiger.specs.Circuits.{CircuitData}
+use Rattle.ps_aiger.specs.Texts as circuit_text
+use Rattle.ps_simulate.specs.declared.fault.StimulusCause.{StimulusCause}
+use Rattle.ps_simulate.specs.declared.fault.StimulusCause.TheVariants as stimulus
+use Rattle.ps_simulate.specs.Stimuli.{StimulusData}
+use Rattle.ps_simulate.specs.StimulusTexts as stimulus_text
 use Rattle.psyn.specs.declared.fault.TextFault.{TextFault}
 use Rattle.psyn.specs.declared.fault.TextFault.TheVariants.{GameSyntax, NoSuccessor, UnknownSuccessor}
 use Rattle.psyn.specs.declared.fault.TextFault.TheVariants.{NodeTwice, GameNumber, GameLimit}
 use Rattle.psyn.specs.declared.fault.TextFault.TheVariants.{CertificateSyntax, OtherGame}
+use Rattle.psyn.specs.declared.fault.TextFault.TheVariants.{CircuitSyntax, Literal, DefinedTwice, Undefined, Cyclic, UnsetLatch, Sections}
+use Rattle.psyn.specs.declared.fault.TextFault.TheVariants.{Width, Stimulus}
 use Rattle.psyn.specs.declared.fault.FaultLine.{FaultLine}
 use Rattle.psyn.specs.declared.fault.FaultLine.TheVariants.{Plain, Move, Escape, Rank}
 use Rattle.psyn.specs.declared.fault.PlainFault.TheVariants.{MissingText}
@@ -57,6 +67,35 @@ abbrev pub ReadsCertified : List ℕ → Result (NamedGameData × CertificateDat
 ReadsCertified texts =
     Then (CutsInTwo texts) (λ parts. Then (ReadsGameText parts.0) (λ named.
     Then (ReadsCertificateText named parts.1) (λ certificate outcome. outcome ≡ Ok (named, certificate))))
+
+-- ---- circuit texts and stimuli
+
+abbrev pub circuit_fault : AigCause → TextFault
+circuit_fault circuit.Syntax = CircuitSyntax
+circuit_fault circuit.Literal = Literal
+circuit_fault circuit.DefinedTwice = DefinedTwice
+circuit_fault circuit.Undefined = Undefined
+circuit_fault circuit.Cyclic = Cyclic
+circuit_fault circuit.UnsetLatch = UnsetLatch
+circuit_fault circuit.Sections = Sections
+
+-- the text of a circuit
+abbrev pub ReadsCircuitText : List ℕ → Result CircuitData FaultLine → Type 0
+ReadsCircuitText text = Reading (circuit_text.Reads text) circuit_fault
+
+abbrev pub stimulus_fault : StimulusCause → TextFault
+stimulus_fault stimulus.Width = Width
+stimulus_fault stimulus.Stimulus = Stimulus
+
+-- the text of a stimulus for so many inputs, with a divider or without
+abbrev pub ReadsStimulusText : ℕ → Bool → List ℕ → Result StimulusData FaultLine → Type 0
+ReadsStimulusText width split text = Reading (stimulus_text.Reads text width split) stimulus_fault
+
+-- the text of a circuit, and that of a stimulus that is all stem
+abbrev pub ReadsSimulated : List ℕ → Result (CircuitData × StimulusData) FaultLine → Type 0
+ReadsSimulated texts =
+    Then (CutsInTwo texts) (λ parts. Then (ReadsCircuitText parts.0) (λ c.
+    Then (ReadsStimulusText (length c.inputs) false parts.1) (λ s outcome. outcome ≡ Ok (c, s))))
 
 -- ---- flaws
 

@@ -32,6 +32,8 @@ closed   a game, a certificate: `closed` where each path that follows the moves
          stays with its winner, else the first flaw
 check    a game, a certificate: `valid` where, besides, the counts show that
          the winner wins each loop, else the first flaw
+sim      a circuit, a stimulus: a line for each letter, with the latches before
+         it, the inputs and the outputs
 help     this text
 
 A game has an entry for each vertex: its id, its priority, its owner (0 or 1),
@@ -48,6 +50,19 @@ odd 1
 even 2
 0 0 1 0
 1 0 0 0
+
+A circuit has the ASCII form of AIGER 1.9. A stimulus has a line for each
+letter, with a digit 0 or 1 for each input:
+
+sim
+aag 3 2 0 1 1
+2
+4
+6
+6 4 2
+%%
+11
+01
 
 A fault is one line in place of the answer: `fault`, its number and its name,
 and where it stands. The exit status is 0 for an answer, 1 for a fault and 2 for
@@ -66,6 +81,13 @@ pub struct Answer {
 impl Answer {
     ghost use Rattle.psyn.specs.Replies.{reply_of, fault_reply, line_reply};
     ghost use Rattle.psyn.specs.Replies as reply;
+
+    /// A text.
+    pub fn text(text: Vec<u8>) -> Answer
+        ensures { reply_of result ≡ reply.text_reply text.items }
+    {
+        Answer { text, status: DONE }
+    }
 
     /// One line.
     pub fn line(alloc: Global, line: &str) -> Result<Answer, AllocError>

@@ -19,6 +19,8 @@ pub enum Line {
     Closed,
     /// Whether a certificate of a game is valid.
     Check,
+    /// What a circuit does, letter by letter.
+    Sim,
 }
 
 /// Reads the first line.
@@ -68,12 +70,14 @@ fn commands<'a>(alloc: Global) -> Result<Command<'a>, AllocError>
     let help = Command::new(alloc, "help");
     let closed = Command::new(alloc, "closed");
     let check = Command::new(alloc, "check");
+    let sim = Command::new(alloc, "sim");
     let psyn = Command::new(alloc, "psyn")
         .no_binary_name(true)
         .disable_help_subcommand(true);
     let psyn = psyn.subcommand(help)?;
     let psyn = psyn.subcommand(closed)?;
-    psyn.subcommand(check)
+    let psyn = psyn.subcommand(check)?;
+    psyn.subcommand(sim)
 }
 
 /// The line that was read.
@@ -84,6 +88,7 @@ fn line_of(matches: &ArgMatches) -> Line
         Some("help") => Line::Help,
         Some("closed") => Line::Closed,
         Some("check") => Line::Check,
+        Some("sim") => Line::Sim,
         _ => Line::Refused,
     }
 }

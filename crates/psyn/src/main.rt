@@ -11,6 +11,7 @@ pub mod program;
 pub mod reading;
 pub mod run;
 pub mod sending;
+pub mod simulating;
 pub mod stream;
 #[cfg(test)]
 mod tests;

@@ -9,6 +9,7 @@ use crate::answer::{Answer, Refusal, settle};
 use crate::checks::{check, closed};
 use crate::command_line::{Line, read_line};
 use crate::cut::first_line;
+use crate::simulating::sim;
 use std::alloc::{AllocError, Global};
 
 /// The answer to an input: to its first line, and to the texts behind it.
@@ -29,5 +30,6 @@ fn answer_line(alloc: Global, line: Line, texts: &[u8]) -> Result<Answer, Refusa
         Line::Help => Ok(Answer::help(alloc)?),
         Line::Closed => closed(alloc, texts),
         Line::Check => check(alloc, texts),
+        Line::Sim => sim(alloc, texts),
     }
 }

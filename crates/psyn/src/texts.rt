@@ -1,18 +1,20 @@
 //! The texts of the commands, read, and the lines of what is wrong with them.
 
-ghost use Rattle.std.specs.Prelude.{◌≡◌, ◌<◌, IfOk};
+ghost use Rattle.std.specs.Prelude.{◌≡◌, ◌<◌, length, All, IfOk};
 ghost use Rattle.ps_certificate.specs.Certificates.{Fits};
 ghost use Rattle.ps_game.specs.Games.{vertex_count};
 ghost use Rattle.psyn.specs.Outcomes.{Gives};
-ghost use Rattle.psyn.specs.Texts.{CutsInTwo, ReadsGameText, ReadsCertificateText, ReadsCertified, NamesVertices};
+ghost use Rattle.psyn.specs.Texts.{CutsInTwo, ReadsGameText, ReadsCertificateText, ReadsCertified, ReadsCircuitText, ReadsStimulusText, ReadsSimulated, NamesVertices};
 ghost use Rattle.psyn.specs.Texts as spec;
 
 use crate::answer::Refusal;
 use crate::cut::cut;
 use crate::fault::{FaultLine, PlainFault, TextFault};
+use ps_aiger::{AigCause, AigFault, Circuit};
 use ps_certificate::{CertCause, CertFault, Certificate, Flaw};
 use ps_game::NamedGame;
 use ps_pgsolver::{PgCause, PgFault};
+use ps_simulate::{Stimulus, StimulusCause, StimulusFault};
 use std::alloc::Global;
 
 impl From<PgFault> for Refusal {
@@ -57,6 +59,49 @@ impl From<CertFault> for Refusal {
     }
 }
 
+impl From<AigFault> for Refusal {
+    ghost use Rattle.psyn.specs.Refusals.{circuit_refusal};
+
+    ghost from_gives = { λ fault given. given ≡ circuit_refusal fault };
+
+    fn from(fault: AigFault) -> Self {
+        match fault {
+            AigFault::Text { cause, offset } => {
+                let fault = match cause {
+                    AigCause::Syntax => TextFault::CircuitSyntax,
+                    AigCause::Literal => TextFault::Literal,
+                    AigCause::DefinedTwice => TextFault::DefinedTwice,
+                    AigCause::Undefined => TextFault::Undefined,
+                    AigCause::Cyclic => TextFault::Cyclic,
+                    AigCause::UnsetLatch => TextFault::UnsetLatch,
+                    AigCause::Sections => TextFault::Sections,
+                };
+                Refusal::Fault(FaultLine::Text { fault, offset })
+            }
+            AigFault::OutOfMemory => Refusal::OutOfMemory,
+        }
+    }
+}
+
+impl From<StimulusFault> for Refusal {
+    ghost use Rattle.psyn.specs.Refusals.{stimulus_refusal};
+
+    ghost from_gives = { λ fault given. given ≡ stimulus_refusal fault };
+
+    fn from(fault: StimulusFault) -> Self {
+        match fault {
+            StimulusFault::Text { cause, offset } => {
+                let fault = match cause {
+                    StimulusCause::Width => TextFault::Width,
+                    StimulusCause::Stimulus => TextFault::Stimulus,
+                };
+                Refusal::Fault(FaultLine::Text { fault, offset })
+            }
+            StimulusFault::OutOfMemory => Refusal::OutOfMemory,
+        }
+    }
+}
+
 /// The two texts that a line `%%` parts.
 fn two_texts(texts: &[u8]) -> Result<(&[u8], &[u8]), Refusal>
     ensures { Gives (λ parts. (parts.0.now, parts.1.now)) (CutsInTwo texts.now) result }
@@ -97,6 +142,38 @@ pub fn read_certified(alloc: Global, texts: &[u8]) -> Result<(NamedGame, Certifi
     let game = read_game(alloc, first)?;
     let certificate = read_certificate(alloc, &game, second)?;
     Ok((game, certificate))
+}
+
+/// A circuit.
+fn read_circuit(alloc: Global, text: &[u8]) -> Result<Circuit, Refusal>
+    ensures { Gives (λ circuit. circuit) (ReadsCircuitText text.now) result }
+{
+    match ps_aiger::read(alloc, text) {
+        Ok(circuit) => Ok(circuit),
+        Err(fault) => Err(Refusal::from(fault)),
+    }
+}
+
+/// A stimulus for so many inputs, with a line `-` or without.
+fn read_stimulus(alloc: Global, text: &[u8], width: usize, split: bool) -> Result<Stimulus, Refusal>
+    ensures { Gives (λ stimulus. stimulus) (ReadsStimulusText width split text.now) result }
+{
+    match ps_simulate::parse_stimulus(alloc, text, width, split) {
+        Ok(stimulus) => Ok(stimulus),
+        Err(fault) => Err(Refusal::from(fault)),
+    }
+}
+
+/// A circuit, and a stimulus for it.
+pub fn read_simulated(alloc: Global, texts: &[u8]) -> Result<(Circuit, Stimulus), Refusal>
+    ensures read { Gives (λ both. (both.0, both.1)) (ReadsSimulated texts.now) result }
+    ensures fits { IfOk result (λ both. All (λ letter. length letter ≡ length both.0.inputs) both.1.stem) }
+{
+    let (text, letters) = two_texts(texts)?;
+    let circuit = read_circuit(alloc, text)?;
+    let width = circuit.inputs().len();
+    let stimulus = read_stimulus(alloc, letters, width, false)?;
+    Ok((circuit, stimulus))
 }
 
 /// The line of a flaw, which names vertices by their ids.

@@ -14,7 +14,7 @@ pub struct Row {
 }
 
 /// The rows.
-pub const ROWS: [Row; 48] = [
+pub const ROWS: [Row; 61] = [
     Row {
         name: "check of two vertices, one count",
         input: "check\nparity 1; 0 1 0 0,1; 1 2 0 0;\n%%\npsyncert 1\nvertices 2\nodd 1\neven 2\n0 0 1 0\n1 0 0 0\n",
@@ -214,10 +214,88 @@ pub const ROWS: [Row; 48] = [
         status: 1,
     },
     Row {
-        name: "not yet there: sim",
-        input: "sim\nx",
-        output: "fault usage\n",
-        status: 2,
+        name: "circuit with one latch sim",
+        input: "sim\naag 5 1 1 3 3\n2\n4 10 1\n4\n10\n1\n10 9 7\n8 5 3\n6 4 2\n%%\n1\n1\n0\n",
+        output: "1|1|101\n0|1|011\n1|0|111\n",
+        status: 0,
+    },
+    Row {
+        name: "circuit with one latch cyclic",
+        input: "sim\naag 2 0 0 1 2\n4\n2 4 4\n4 2 2\n%%\n",
+        output: "fault 65 Cyclic at 16\n",
+        status: 1,
+    },
+    Row {
+        name: "circuit with one latch unset latch",
+        input: "sim\naag 1 0 1 0 0\n2 2 2\n%%\n",
+        output: "fault 66 UnsetLatch at 18\n",
+        status: 1,
+    },
+    Row {
+        name: "sim, no inputs, one empty line",
+        input: "sim\naag 0 0 0 0 0\n%%\n\n",
+        output: "||\n",
+        status: 0,
+    },
+    Row {
+        name: "sim, a line -",
+        input: "sim\naag 5 1 1 3 3\n2\n4 10 1\n4\n10\n1\n10 9 7\n8 5 3\n6 4 2\n%%\n-\n",
+        output: "fault 73 Stimulus at 0\n",
+        status: 1,
+    },
+    Row {
+        name: "sim, width",
+        input: "sim\naag 5 1 1 3 3\n2\n4 10 1\n4\n10\n1\n10 9 7\n8 5 3\n6 4 2\n%%\n1\n11\n",
+        output: "fault 70 Width at 2\n",
+        status: 1,
+    },
+    Row {
+        name: "sim, no output line",
+        input: "sim\naag 1 1 0 1 0\n2\n%%\n",
+        output: "fault 61 Syntax at 16\n",
+        status: 1,
+    },
+    Row {
+        name: "sim, a bad section",
+        input: "sim\naag 1 1 0 0 0 1\n2\n%%\n",
+        output: "fault 67 Sections at 14\n",
+        status: 1,
+    },
+    Row {
+        name: "sim, an odd input",
+        input: "sim\naag 1 1 0 0 0\n3\n%%\n",
+        output: "fault 62 Literal at 14\n",
+        status: 1,
+    },
+    Row {
+        name: "sim, an input twice",
+        input: "sim\naag 2 2 0 0 0\n2\n2\n%%\n",
+        output: "fault 63 DefinedTwice at 16\n",
+        status: 1,
+    },
+    Row {
+        name: "sim, an undefined output",
+        input: "sim\naag 1 0 0 1 0\n2\n%%\n",
+        output: "fault 64 Undefined at 14\n",
+        status: 1,
+    },
+    Row {
+        name: "sim without a letter",
+        input: "sim\naag 5 1 1 3 3\n2\n4 10 1\n4\n10\n1\n10 9 7\n8 5 3\n6 4 2\n%%\n",
+        output: "",
+        status: 0,
+    },
+    Row {
+        name: "sim of many inputs",
+        input: "sim\naag 2147483647 2147483647 0 0 0\n2\n%%\n",
+        output: "fault 61 Syntax at 34\n",
+        status: 1,
+    },
+    Row {
+        name: "sim of a gate that reads itself",
+        input: "sim\naag 1 0 0 0 1\n2 2 2\n%%\n",
+        output: "fault 65 Cyclic at 14\n",
+        status: 1,
     },
     Row {
         name: "not yet there: lasso",

@@ -12,6 +12,8 @@ returns c =
     c.in_ok-psyn.ensures.shape (search rules) ∙ ap₂ with_subcommand top (ap (λ (a : App). a.top) c.new-help.ensures.app) in
     let second : app_of c.in_ok-psyn-2.psyn ≡ with_subcommand (with_subcommand program (command (codes "help"))) (command (codes "closed")) =
     c.in_ok-psyn-2.ensures.shape (search rules) ∙ ap₂ with_subcommand first (ap (λ (a : App). a.top) c.new-closed.ensures.app) in
-    IfOk-weaker c.subcommand-3.result _ _
-    (λ whole adds. adds.shape (search rules) ∙ ap₂ with_subcommand second (ap (λ (a : App). a.top) c.new-check.ensures.app))
-    c.subcommand-3.ensures
+    let third : app_of c.in_ok-psyn-3.psyn ≡ with_subcommand (with_subcommand (with_subcommand program (command (codes "help"))) (command (codes "closed"))) (command (codes "check")) =
+    c.in_ok-psyn-3.ensures.shape (search rules) ∙ ap₂ with_subcommand second (ap (λ (a : App). a.top) c.new-check.ensures.app) in
+    IfOk-weaker c.subcommand-4.result _ _
+    (λ whole adds. adds.shape (search rules) ∙ ap₂ with_subcommand third (ap (λ (a : App). a.top) c.new-sim.ensures.app))
+    c.subcommand-4.ensures
