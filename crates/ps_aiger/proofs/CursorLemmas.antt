@@ -47,10 +47,6 @@ last_ends (b ∷ c ∷ cs) h =
     let e' : suc (length cs) - 1 ≡ length cs = omega arith in
     last_ends (c ∷ cs) (omega arith) ∙ rw (e, e') refl
 
-pub empty_ends : (text : List ℕ) → length text ≡ 0 → ends_line text ≡ false
-empty_ends [] e = refl
-empty_ends (b ∷ bytes) e = absurd (omega (arith, e))
-
 pub new_stream : (text : List ℕ) (b : Bool) → b ≡ ends_line text → record { pieces = pieces_at 0 (ended (not b) text); end = 0 + length text } ≡ stream_of text
 new_stream text b e =
     let end : 0 + length text ≡ length text = omega arith in
@@ -275,10 +271,6 @@ pub class_line : (k : Class) → in_class k 10 ≡ false
 class_line Digit = refl
 class_line Blank = refl
 class_line Inner = refl
-
-pub not_empty_true : (r : List ℕ) (b : Bool) → b ≡ eqb (length r) 0 → not b ≡ true → 0 < length r
-not_empty_true r true e t = absurd cc
-not_empty_true r false e t = is_empty_false r false e refl
 
 pub value_step : (ds : List ℕ) (i v m f r : ℕ) → i < length ds → v ≡ saturated (decimal_value (take i ds)) → m ≡ min (v * 10) 18446744073709551615 → f ≡ get_or ds i 0 - 48 → r ≡ min (m + f) 18446744073709551615
     → r ≡ saturated (decimal_value (take (i + 1) ds))

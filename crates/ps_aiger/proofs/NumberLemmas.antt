@@ -16,7 +16,7 @@ use Rattle.ps_aiger.specs.declared.fault.AigCause.TheVariants.{Literal, Sections
 use Rattle.ps_aiger.specs.declared.fault.AigFault.{AigFault}
 use Rattle.ps_aiger.specs.declared.fault.AigFault.TheVariants.{Text}
 use Rattle.ps_aiger.specs.Causes.{cause_number}
-use Rattle.ps_aiger.specs.Signs.{Seen, Field, aig_causes, word, is_digit, number_at, number, gap, line_end, more, by_more}
+use Rattle.ps_aiger.specs.Signs.{Seen, aig_causes, word, is_digit, number_at, number, gap, line_end, more, by_more}
 use Rattle.ps_aiger.specs.Cursors.{place_of, found_of, Tells, saturated, NumberIs, TellsNumber}
 use Rattle.ps_aiger.specs.Texts.{AnyNumber, WrongMost, WrongCount, HeaderData, sections, field, header}
 use Rattle.ps_aiger.specs.Reading.{TellsField, TellsCount, TellsHeader}
@@ -68,13 +68,6 @@ unfolding field
 field_none Wrong old new e (inl m) = stops_first aig_causes (joint_field Wrong) old (found_of e) m
 field_none Wrong old new e (inr m) = stops_behind aig_causes (joint_field Wrong) m.1 (found_of e) (number_none Wrong m.0 new e m.2)
 
-pub tells_gap : (old new : Stream Seen) (e : AigFault) (r : Result Number AigFault) → Stops aig_causes gap old (found_of e) → IsErrAnd r (λ y. y ≡ e) → TellsField old r new
-tells_gap old new e r m i = let y = err_from_is_err_and r i in subst (λ z. TellsField old z new) (sym (y.1 ∙ ap Err y.2)) (inl m)
-
-pub tells_number : (old mid new : Stream Seen) (r : Result Number AigFault) → Reads gap old tt mid → TellsNumber mid r new → TellsField old r new
-tells_number old mid new (Ok n) g m = (mid, g, m)
-tells_number old mid new (Err e) g m = inr (mid, g, m)
-
 pub most_reads : (old new : Stream Seen) (n : Number) → TellsField old (Ok n) new → n.value ≤ 2147483647 → Reads (field WrongMost) old n new
 most_reads old new n m small = field_reads WrongMost old m.0 new n m.1 (number_small WrongMost m.0 new n m.2 (omega arith) (λ f w. omega (arith, w.0)))
 
@@ -90,10 +83,6 @@ pub count_fails : (old mid new : Stream Seen) (e : AigFault) (r : Result ℕ Aig
 count_fails old mid new e r m i = let y = err_from_is_err_and r i in subst (λ z. TellsCount old z new) (sym (y.1 ∙ ap Err y.2)) (field_none AnyNumber old mid e m)
 
 -- ## Sections
-
-module _ (n : ℕ) where
-  counted : Field (Unit {0})
-  counted = then_by (number WrongCount) (λ _. sections n)
 
 pub sections_end : (old new : Stream Seen) (left : ℕ) (r : Result (Unit {0}) AigFault) → left ≡ 0 → Tells (λ u. u) line_end old r new → Tells (λ u. u) (sections left) old r new
 unfolding sections

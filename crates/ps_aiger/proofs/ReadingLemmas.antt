@@ -1,5 +1,5 @@
 -- Lemmas of the reader.
-use Rattle.std.proofs.Common.{◌≡◌, ◌≢◌, ℕ, ◌+◌, ◌^◌, ◌<◌, ◌≤◌, ◌⊎◌, inl, inr, List, [], ◌∷◌, ◌++◌, Bool, true, false, not, ◌||◌, nat_eq, map, length, take, drop, get_or, set, zero, suc, refl, sym, ap, subst, ◌∙◌, arith, Some, Option, All, AllPairs, Contains, append-nil, append_assoc, flat_map, Vec}
+use Rattle.std.proofs.Common.{◌≡◌, ◌≢◌, ℕ, ◌+◌, ◌^◌, ◌<◌, ◌≤◌, ◌⊎◌, inr, List, [], ◌∷◌, ◌++◌, Bool, true, false, not, ◌||◌, nat_eq, map, length, take, drop, get_or, set, zero, suc, refl, sym, ap, subst, ◌∙◌, arith, Some, Option, All, AllPairs, Contains, append-nil, append_assoc, flat_map, Vec}
 use Rattle.std.specs.List.{list_any}
 use Rattle.std.proofs.lemmas.List.{length-map, get_or-map, map-append, map-set}
 use Rattle.std.proofs.lemmas.Bool.{eq-eqb}
@@ -133,19 +133,12 @@ known_all variables fields i le h = subst (λ fs. All (λ f. IsKnownIn variables
 pub contains_true : (variables : List ℕ) (v : ℕ) (b : Bool) → b ≡ list_any (nat_eq v) variables → b ≡ true → (v ≡ 0) ⊎ Contains variables v
 contains_true variables v b e t = inr (Contains-list_any nat_eq (λ x y h. eqb-true x y h) variables v (sym e ∙ t))
 
-pub contains_false : (variables : List ℕ) (v : ℕ) (b : Bool) → (v ≡ 0 → ⊥) → b ≡ list_any (nat_eq v) variables → b ≡ false → (v ≡ 0) ⊎ Contains variables v → ⊥
-contains_false variables v b nz e f (inl z) = nz z
-contains_false variables v b nz e f (inr c) = absent variables v (sym e ∙ f) c.0 v c.1 c.2
-
 -- the first of these that is not defined
 pub first_undefined : (variables : List ℕ) (readings : List Number) (i : ℕ) (d : Number) → i < length readings → All (IsDefined variables) (take i readings) → (IsDefined variables (get_or readings i d) → ⊥) → IsFirstUndefined variables readings (get_or readings i d)
 first_undefined variables readings i d l h n = record { before = take i readings; after = drop (suc i) readings; split = sym (take-append-drop i readings) ∙ ap (λ xs. take i readings ++ xs) (drop-cons readings i d l); before_defined = h; not_defined = n }
 
 pub cyclic_tells : (gates : List Gate) (starts : List ℕ) (i : ℕ) (f e : AigFault) → IsFirstOnCycle (Reads gates) i → i < length starts → f ≡ Text Cyclic (get_or starts i 0) → f ≡ e → TellsCyclic gates starts (found_of e)
 cyclic_tells gates starts i f e first l is same = subst (λ x. TellsCyclic gates starts (found_of x)) (sym is ∙ same) (i, refl, first, slice_get-get_or starts i 0 l)
-
-pub found_known : (variables : List ℕ) (v : ℕ) (b : Bool) → b ≡ list_any (nat_eq v) variables → b ≡ true → Contains variables v
-found_known variables v b e t = Contains-list_any nat_eq (λ x y h. eqb-true x y h) variables v (sym e ∙ t)
 
 -- a name that was read fits
 pub name_set : (names : List (Option (Vec ℕ Global))) (i : ℕ) (name : List ℕ) (v : Vec ℕ Global) → All IsName (map name_bytes names) → v.items ≡ name → 0 < length name → All (λ b. b ≢ 10) name → All IsName (map name_bytes (set names i (Some v)))

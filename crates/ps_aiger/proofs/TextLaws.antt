@@ -84,12 +84,6 @@ separates_digit t h d = digit_separates t d h
 pub digit_space : Apart AtDigit (At 32)
 digit_space t d e = test_at is_digit 32 t e d refl
 
-tail_digit : (t : Seen) → AtTail t → AtDigit t → ⊥
-tail_digit t (inl (inl e)) d = test_at is_digit 105 t e d refl
-tail_digit t (inl (inr (inl e))) d = test_at is_digit 108 t e d refl
-tail_digit t (inl (inr (inr e))) d = test_at is_digit 111 t e d refl
-tail_digit t (inr e) d = test_at is_digit 99 t e d refl
-
 tail_blank : (t : Seen) → AtTail t → AtBlank t → ⊥
 tail_blank t (inl (inl e)) d = test_at is_blank 105 t e d refl
 tail_blank t (inl (inr (inl e))) d = test_at is_blank 108 t e d refl
