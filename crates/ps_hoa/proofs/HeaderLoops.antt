@@ -26,7 +26,7 @@ use Rattle.ps_hoa.proofs.NextSign.{next_there, next_same}
 use Rattle.ps_hoa.proofs.OperandLaws.{Of, false_true}
 use Rattle.ps_hoa.proofs.SignLaws.{is_string, is_value as is_value_sign, Named, Other, FirstOf}
 
-pub enters_at : {V : Type 0} (part : Part Sign V HoaCause) (s : Stream Sign) (kind : Kind) → (next_of s).sign.kind ≡ kind → (kind ≡ Finish → ⊥) →
+enters_at : {V : Type 0} (part : Part Sign V HoaCause) (s : Stream Sign) (kind : Kind) → (next_of s).sign.kind ≡ kind → (kind ≡ Finish → ⊥) →
     ((text : List ℕ) → Enters part (Some (record { kind = kind; text = text }))) → Enters part (next_sign s)
 enters_at part s kind e proper h = subst (Enters part) (sym (next_there s (λ f. proper (sym e ∙ f)) ∙ (λ i. Some (record { kind = e i; text = (next_of s).sign.text })))) (h (next_of s).sign.text)
 
@@ -50,7 +50,7 @@ enters_string h s e = enters_at (mapped (unchanged h) string) s Text e (λ f. cc
     (λ text. enters_mapped (unchanged h) string (Some (record { kind = Text; text = text })) (enters_one string_in NoBad (record { kind = Text; text = text }) (inl (_, refl))))
 
 -- a number that is written again counts once
-pub list_any-is_among : (n : ℕ) (ns : List ℕ) → list_any (nat_eq n) ns ≡ is_among n ns
+list_any-is_among : (n : ℕ) (ns : List ℕ) → list_any (nat_eq n) ns ≡ is_among n ns
 list_any-is_among n [] = refl
 list_any-is_among n (m ∷ ms) = go (nat_eq n m) ∙ ap (λ r. cond (nat_eq n m) true r) (list_any-is_among n ms)
   where
@@ -86,7 +86,7 @@ some_unit : (o : Option (Unit {0})) → is_some o ≡ true → o ≡ Some tt
 some_unit None e = absurd (false_true e)
 some_unit (Some u) e = refl
 
-pub named_first : (name : List ℕ) (t : Sign) → is_some (name_value name t.kind t.text) ≡ true → Named name t
+named_first : (name : List ℕ) (t : Sign) → is_some (name_value name t.kind t.text) ≡ true → Named name t
 named_first name t e = some_unit (name_value name t.kind t.text) e
 
 one_of : (a b : Bool) → (a || b) ≡ true → (a ≡ true) ⊎ (b ≡ true)
@@ -115,10 +115,10 @@ none_of_names [] t e h = false_true (sym e ∙ ap is_some h)
 none_of_names (name ∷ names) t e (inl h) = false_true (sym (none_left (is_some (name_value name t.kind t.text)) (begins names t) e) ∙ ap is_some h)
 none_of_names (name ∷ names) t e (inr h) = none_of_names names t (none_right (is_some (name_value name t.kind t.text)) (begins names t) e) h
 
-pub first_item : (t : Sign) → is_item t.kind t.text ≡ true → ItemFirst t
+first_item : (t : Sign) → is_item t.kind t.text ≡ true → ItemFirst t
 first_item t e = first_of_names item_names t e
 
-pub no_item : (t : Sign) → is_item t.kind t.text ≡ false → ItemFirst t → ⊥
+no_item : (t : Sign) → is_item t.kind t.text ≡ false → ItemFirst t → ⊥
 no_item t e = none_of_names item_names t e
 
 -- an item that is none of the names is read over
@@ -135,7 +135,7 @@ is_other_item t e a b c d f g h i = some_unit (other_value t.kind t.text) (next 
         rest false p q = q
 
 -- an item is never the end of the text
-pub item_proper : (kind : Kind) (text : List ℕ) → is_item kind text ≡ true → kind ≡ Finish → ⊥
+item_proper : (kind : Kind) (text : List ℕ) → is_item kind text ≡ true → kind ≡ Finish → ⊥
 item_proper kind text e f = false_true (sym (ap (λ k. is_item k text) f) ∙ e)
 
 -- ## The next token is a name

@@ -1,7 +1,7 @@
 -- Names in a table, and what stands between quotes.
 --     list_any-is_name_among      a table has a name
 --     inside-range      a text without its first and its last byte, as a part of it
-use Rattle.std.proofs.Common.{◌≡◌, ℕ, suc, ◌-◌, ◌<◌, ◌||◌, Bool, true, false, cond, List, [], ◌∷◌, map, length, take, refl, ap, ◌∙◌, arith}
+use Rattle.std.proofs.Common.{◌≡◌, ℕ, suc, ◌-◌, ◌||◌, Bool, true, false, cond, List, [], ◌∷◌, map, length, take, refl, ap, ◌∙◌, arith}
 use Rattle.std.specs.Str.{bytes_eq}
 use Rattle.std.specs.List.{list_any, slice_range}
 use Rattle.ps_hoa.specs.Header.{is_name_among, without_last}
@@ -28,8 +28,3 @@ inside-range [] = refl
 inside-range (b ∷ bs) =
     let e : length (b ∷ bs) - 1 - 1 ≡ length bs - 1 = omega arith in
     ap (λ n. take n bs) e ∙ take-without_last bs
-
-pub inside-short : (text : List ℕ) → length text < 2 → [] ≡ inside text
-inside-short [] s = refl
-inside-short (b ∷ []) s = refl
-inside-short (b ∷ c ∷ bs) s = absurd (omega (arith, s))
