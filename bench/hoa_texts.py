@@ -1,0 +1,104 @@
+#!/usr/bin/env python3
+"""Shows that the reading of HOA texts takes time in proportion to their length.
+
+  bench/hoa_texts.py [--program PROGRAM]
+
+psyn has no command yet that reads HOA texts alone, so a program of a few lines (hoa_time.rt, beside this script) is made in a
+temporary folder, over copies of the crates with what earlier checks kept in out/. It reads one text and prints how many rows
+it has, or where it is refused. --program gives one that was made before. Texts of 1, 2, 4, 8 and 16 MiB are made in four ways:
+    edges      states with many edges, each with a short label and a set
+    labels     few edges with long labels over propositions and aliases
+    implicit   states with implicit labels over 8 propositions
+    header     unknown items with many values, strings and comments
+Prints the time of each run, and its growth against the growth of the text (1.00 is growth in proportion).
+"""
+import os
+import shutil
+import subprocess
+import sys
+import tempfile
+import time
+
+BENCH = os.path.dirname(os.path.abspath(__file__))
+TOP = os.path.dirname(BENCH)
+MIB = 1 << 20
+SIZES = (1, 2, 4, 8, 16)
+NAMES = " ".join(f'"p{k}"' for k in range(8))
+HEADER = f"HOA: v1 Start: 0 AP: 8 {NAMES} controllable-AP: 0 1 Acceptance: 2 Inf(0) | Fin(1)"
+
+
+def filled(head, size, piece_of, tail="--END--\n"):
+    """Pieces behind the head, as many as there is room for in so many bytes."""
+    parts, length, number = [head], len(head) + len(tail), 0
+    while True:
+        piece = piece_of(number)
+        if length + len(piece) > size:
+            return "".join(parts) + tail
+        parts.append(piece)
+        length += len(piece)
+        number += 1
+
+
+def edges(size):
+    return filled(HEADER + " --BODY--\n", size, lambda k: f"State: {k}\n" + "".join(f"[{e % 8}&!{(e + 1) % 8}] {(k + e) % 60000} {{{e % 2}}}\n" for e in range(32)))
+
+
+def labels(size):
+    head = HEADER + " Alias: @a 0&1 Alias: @b @a|2 --BODY--\n"
+    label = " | ".join(f"(@a & !{k % 8} & (@b | {(k + 3) % 8}))" for k in range(40))
+    return filled(head, size, lambda k: f"State: {k} [{label}] 0\n")
+
+
+def implicit(size):
+    row = "\n".join("0 {0 1} /* edge */" for _ in range(256))
+    return filled(HEADER + " --BODY--\n", size, lambda k: f"State: {k}\n{row}\n")
+
+
+def header(size):
+    return filled(HEADER + "\n", size, lambda k: f'remark-{k}: some words {k} "and a \\"string\\"" /* and /* a */ comment */ t\n', "--BODY-- --END--\n")
+
+
+def made(folder):
+    """Makes the program in a folder."""
+    crates = os.path.join(folder, "crates")
+    for name in ("ps_text", "ps_label", "ps_hoa"):
+        shutil.copytree(os.path.join(TOP, "crates", name), os.path.join(crates, name))
+    source = os.path.join(crates, "hoa_time", "src")
+    os.makedirs(source)
+    shutil.copy(os.path.join(BENCH, "hoa_time.rt"), os.path.join(source, "main.rt"))
+    shutil.copy(os.path.join(TOP, "HANDLES"), folder)
+    with open(os.path.join(TOP, "crates.txt"), encoding="utf-8") as file:
+        lines = [line for line in file if line.split(":")[0] in ("ps_text", "ps_label", "ps_hoa")]
+    with open(os.path.join(folder, "crates.txt"), "w", encoding="utf-8") as file:
+        file.writelines(lines + ["hoa_time: ps_hoa\n"])
+    subprocess.run(["git", "init", "-q"], cwd=folder, check=True)
+    subprocess.run(["rt", "run"], cwd=os.path.join(crates, "hoa_time"), check=True, input=b"", stdout=subprocess.DEVNULL)
+    return os.path.join(crates, "hoa_time", "out", "hoa_time")
+
+
+def measure(program):
+    for family in (edges, labels, implicit, header):
+        before = None
+        for size in SIZES:
+            text = family(size * MIB).encode()
+            start = time.monotonic()
+            run = subprocess.run([program], input=text, capture_output=True, check=True)
+            seconds = time.monotonic() - start
+            growth = "" if before is None else f"  growth {seconds / before[1] * before[0] / len(text):.2f}"
+            print(f"{family.__name__:8} {len(text):9} bytes  {seconds:7.3f} s{growth}  {run.stdout.decode().strip()}", flush=True)
+            before = (len(text), seconds)
+
+
+def main():
+    words = sys.argv[1:]
+    if words[:1] == ["--program"] and len(words) == 2:
+        measure(words[1])
+    elif not words:
+        with tempfile.TemporaryDirectory() as folder:
+            measure(made(folder))
+    else:
+        sys.exit(__doc__)
+
+
+if __name__ == "__main__":
+    main()
