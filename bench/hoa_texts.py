@@ -3,9 +3,9 @@
 
   bench/hoa_texts.py [--program PROGRAM]
 
-psyn has no command yet that reads HOA texts alone, so a program of a few lines (hoa_time.rt, beside this script) is made in a
-temporary folder, over copies of the crates with what earlier checks kept in out/. It reads one text and prints how many rows
-it has, or where it is refused. --program gives one that was made before. Texts of 1, 2, 4, 8 and 16 MiB are made in four ways:
+psyn has no command yet that reads HOA texts alone, so a program of a few lines (SOURCE) is made in a temporary folder, over
+copies of the crates with what earlier checks kept in out/. It reads one text and prints how many rows it has, or where it is
+refused. --program gives one that was made before. Texts of 1, 2, 4, 8 and 16 MiB are made in four ways:
     edges      states with many edges, each with a short label and a set
     labels     few edges with long labels over propositions and aliases
     implicit   states with implicit labels over 8 propositions
@@ -19,11 +19,35 @@ import sys
 import tempfile
 import time
 
-BENCH = os.path.dirname(os.path.abspath(__file__))
-TOP = os.path.dirname(BENCH)
+TOP = os.path.dirname(os.path.dirname(os.path.abspath(__file__)))
 MIB = 1 << 20
 SIZES = (1, 2, 4, 8, 16)
 NAMES = " ".join(f'"p{k}"' for k in range(8))
+SOURCE = """\
+//! Reads an HOA text from standard input, and prints how many rows it has, or where it is refused.
+#![tactic(auto)]
+
+use ps_hoa::{HoaFault, read};
+use std::io;
+use std::io::Read;
+
+fn main(rt: HostRuntime) -> io::Result<()> {
+    let mut text = Vec::new(rt.alloc());
+    let _ = rt.stdin().read_to_end(&mut text)?;
+    match read(rt.alloc(), &text) {
+        Ok(file) => {
+            let rows = file.rows().len();
+            println!(rt; "{rows} rows")?;
+        }
+        Err(HoaFault::Text { cause, offset }) => {
+            let number = cause.number();
+            println!(rt; "{number} at {offset}")?;
+        }
+        Err(HoaFault::OutOfMemory) => println!(rt; "out of memory")?,
+    }
+    Ok(())
+}
+"""
 HEADER = f"HOA: v1 Start: 0 AP: 8 {NAMES} controllable-AP: 0 1 Acceptance: 2 Inf(0) | Fin(1)"
 
 
@@ -65,7 +89,8 @@ def made(folder):
         shutil.copytree(os.path.join(TOP, "crates", name), os.path.join(crates, name))
     source = os.path.join(crates, "hoa_time", "src")
     os.makedirs(source)
-    shutil.copy(os.path.join(BENCH, "hoa_time.rt"), os.path.join(source, "main.rt"))
+    with open(os.path.join(source, "main.rt"), "w", encoding="utf-8") as file:
+        file.write(SOURCE)
     shutil.copy(os.path.join(TOP, "HANDLES"), folder)
     with open(os.path.join(TOP, "crates.txt"), encoding="utf-8") as file:
         lines = [line for line in file if line.split(":")[0] in ("ps_text", "ps_label", "ps_hoa")]
