@@ -189,6 +189,60 @@ mod tests {
         Ok(())
     }
 
+    /// The two-state text with something else in the place of a part of it.
+    fn changed(alloc: Global, part: &str, other: &str) -> Result<String, Fail> {
+        match TWO_STATES.split_once(part) {
+            Some((before, behind)) => Ok(format!(in alloc; "{before}{other}{behind}")?),
+            None => Ok(format!(in alloc; "")?),
+        }
+    }
+
+    #[test]
+    fn changed_texts(rt: HostRuntime) -> Result<(), Fail> {
+        for (part, other, cause, offset) in [
+            ("v1", "v2", HoaCause::Version, 5),
+            ("v1", "v1.1", HoaCause::Version, 5),
+            ("Start: 0", "Start: 0&1", HoaCause::Alternating, 26),
+            ("Start: 0\n", "", HoaCause::Start, 88),
+            ("controllable-AP: 1\n", "", HoaCause::Controllable, 78),
+            (
+                "--END--\n",
+                "--END--\nHOA: v1",
+                HoaCause::SeveralAutomata,
+                171,
+            ),
+            (
+                "States: 2\n",
+                "States: 2\nStates: 2\n",
+                HoaCause::HeaderTwice,
+                18,
+            ),
+        ] {
+            let text = changed(rt.alloc(), part, other)?;
+            assert_eq!(rt;
+                refused(rt.alloc(), text.as_bytes()),
+                Some((cause, offset)),
+                "{other}"
+            );
+        }
+        Ok(())
+    }
+
+    #[test]
+    fn as_many_edges_as_letters(rt: HostRuntime) -> Result<(), Fail> {
+        let head =
+            "HOA: v1\nStates: 2\nStart: 0\nAP: 2 \"r\" \"g\"\ncontrollable-AP: 1\nAcceptance: 1 Inf(0)\n--BODY--\nState: 0\n0 {0}\n1\n0 {0}\n0 {0}\nState: 1\n1\n1\n0 {0}\n";
+        let all = format!(in rt.alloc(); "{head}0 {{0}}\n--END--\n")?;
+        let file = read(rt.alloc(), all.as_bytes()).expect(&rt, "a text");
+        assert_eq!(rt; counts(&file), [2, 0, 2, 1, 0, 1, 2, 8]);
+        let fewer = format!(in rt.alloc(); "{head}--END--\n")?;
+        assert_eq!(rt;
+            refused(rt.alloc(), fewer.as_bytes()),
+            Some((HoaCause::Labels, 138))
+        );
+        Ok(())
+    }
+
     #[test]
     fn cut_texts(rt: HostRuntime) -> Result<(), Fail> {
         let text = TWO_STATES.as_bytes();
