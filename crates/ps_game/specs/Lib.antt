@@ -1,5 +1,7 @@
+pub mod Attractors
 pub mod Drafts
 pub mod Games
 pub mod Names
 pub mod Plays
 pub mod Strategies
+pub mod Subgames
