@@ -8,6 +8,7 @@ pub mod Operands
 pub mod Labels
 pub mod Conditions
 pub mod Files
+pub mod Edges
 pub mod Header
 pub mod Body
 pub mod Texts
