@@ -1,0 +1,1 @@
+"""psyn on files: inputs are put together, faults explained, games and circuits drawn."""
