@@ -5,4 +5,5 @@ pub mod LoopPriorities
 pub mod Memory
 pub mod Paths
 pub mod Repeats
+pub mod SubgameFacts
 pub mod Unknown

@@ -3,16 +3,24 @@
 
 mod arenas;
 mod builder;
+mod counts;
 mod faults;
 mod games;
 mod laws;
 mod named;
+mod regions;
+mod strategy;
+mod subgame;
 #[cfg(test)]
 mod tests;
 
 pub use arenas::Arena;
 pub use builder::GameBuilder;
+pub use counts::Counts;
 pub use faults::GameFault;
 pub use games::Game;
 pub use laws::{long_path_has_loop, no_history_wins_outside, no_memory_wins_outside};
 pub use named::NamedGame;
+pub use regions::Region;
+pub use strategy::Strategy;
+pub use subgame::Subgame;

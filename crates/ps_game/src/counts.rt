@@ -1,0 +1,7 @@
+/// How much work a solver did: how many nested calls it made on subgames with a vertex at most at one time, and how often
+/// it raised a measure of progress.
+#[derive(Clone, Copy, Debug, Default, PartialEq, Eq, Drop)]
+pub struct Counts {
+    pub depth: u64,
+    pub raises: u128,
+}
