@@ -1,0 +1,56 @@
+-- What the search has found when its path is empty.
+use Rattle.std.proofs.Common.{◌≡◌, ◌∙◌, ℕ, ◌<◌, List, length, map, refl, sym, ap, arith, Option, Some, None, get_or, slice_get}
+use Rattle.std.specs.Option.{option_map}
+use Rattle.std.proofs.lemmas.Option.{slice_get_within, slice_get-get_or, slice_get-map}
+use Rattle.std.proofs.lemmas.List.{length-map}
+use Rattle.ps_components.specs.declared.search.Mark.{Mark}
+use Rattle.ps_components.specs.declared.search.Mark.TheVariants.{Unseen, Active, Closed}
+use Rattle.ps_components.specs.declared.search.Pending.{Pending}
+use Rattle.ps_components.specs.Graphs.{Digraph}
+use Rattle.ps_components.specs.ComponentLists.{ComponentsData, IsIn, AreComponents, AreMet, AreAllMet}
+use Rattle.ps_components.specs.Searching.{IsSound, number_of}
+
+module _ (g : Digraph) (marks : List Mark) (active bounds : List ℕ) (pending : List Pending) (order : List ℕ) (s : IsSound g marks active bounds pending order) where
+  abbrev found : ComponentsData
+  found = record { numbers = map number_of marks; order = order }
+
+  closed-in : (v k : ℕ) → slice_get marks v ≡ Some (Closed k) → IsIn found v k
+  closed-in v k h = slice_get-map number_of marks v ∙ ap (option_map number_of) h
+
+  in-closed : (v k : ℕ) → IsIn found v k → slice_get marks v ≡ Some (Closed k)
+  in-closed v k h = which (slice_get marks v) refl (sym (slice_get-map number_of marks v) ∙ h)
+    where
+      which : (o : Option Mark) → slice_get marks v ≡ o → option_map number_of o ≡ Some (Some k) → slice_get marks v ≡ Some (Closed k)
+      which None is e = cc
+      which (Some Unseen) is e = cc
+      which (Some (Active p)) is e = cc
+      which (Some (Closed m)) is e = let same : m ≡ k = cc in is ∙ ap (λ x. Some (Closed x)) same
+
+  pub components-sound : AreComponents g found
+  components-sound = record {
+    counted = length-map marks number_of ∙ s.marked;
+    falls = λ v k w h l. (let m = s.closed_links v k w (in-closed v k h) l in (m.0, closed-in w m.0 m.1, m.2));
+    same = λ v w k hv hw. s.same v w k (in-closed v k hv) (in-closed w k hw);
+    below = λ v k h. s.numbered v k (in-closed v k h);
+    begins = λ v k h. (let b = s.begins v k (in-closed v k h) in (b.0, b.1, closed-in b.0 k b.2));
+    starts = λ i v k h hv. s.starts i v k h (in-closed v k hv);
+    listed = λ v k h. s.listed v k (in-closed v k h);
+    ordered = λ i v h. (let c = s.ordered i v h in (c.0, closed-in v c.0 c.1));
+    rises = λ i j v w k m lt hi hj hv hw. s.rises i j v w k m lt hi hj (in-closed v k hv) (in-closed w m hw);
+    once = s.once;
+  }
+
+  -- with an empty path, what was seen has a number
+  met : length bounds ≡ 0 → (v : ℕ) → v < g.count → (slice_get marks v ≡ Some Unseen → ⊥) → (k : ℕ) × IsIn found v k
+  met none v lt seen = which (get_or marks v Unseen) (slice_get-get_or marks v Unseen (omega (arith, s.marked)))
+    where
+      which : (m : Mark) → slice_get marks v ≡ Some m → (k : ℕ) × IsIn found v k
+      which Unseen h = absurd (seen h)
+      which (Active p) h = absurd (omega (arith, none, slice_get_within bounds 0 0 (s.bounds_start (omega (arith, slice_get_within active p v (s.marked_active p v h))))))
+      which (Closed k) h = (k, closed-in v k h)
+
+  pub all_met : length bounds ≡ 0 → ((v : ℕ) → v < g.count → slice_get marks v ≡ Some Unseen → ⊥) → AreAllMet g found
+  all_met none seen v lt = met none v lt (seen v lt)
+
+  pub roots_met : length bounds ≡ 0 → (roots : List ℕ) → ((i v : ℕ) → slice_get roots i ≡ Some v → v < g.count) → ((i v : ℕ) → slice_get roots i ≡ Some v → slice_get marks v ≡ Some Unseen → ⊥) → AreMet roots found
+  roots_met none roots within seen i v h = met none v (within i v h) (seen i v h)

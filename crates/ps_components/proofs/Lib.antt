@@ -1,0 +1,7 @@
+pub mod Places
+pub mod Ways
+pub mod Stepping
+pub mod Merging
+pub mod Entering
+pub mod Closing
+pub mod Ended

@@ -1,0 +1,35 @@
+-- The components of a graph: two vertices are in one component where each is reached from the other.
+use Rattle.std.specs.Prelude.{◌≡◌, ℕ, ◌<◌, ◌≤◌, List, length, slice_get, Option, Some}
+use Rattle.ps_components.specs.Graphs.{Digraph, Link, SameOrWay}
+
+-- for each vertex the number of its component, or none where it was not met; and the vertices that were met, in order
+pub record ComponentsData : Type 0 where
+  pub numbers : List (Option ℕ)
+  pub order : List ℕ
+
+-- the vertex v is in the component k
+abbrev pub IsIn : ComponentsData → ℕ → ℕ → Type 0
+IsIn c v k = slice_get c.numbers v ≡ Some (Some k)
+
+-- the vertices that were met stand in order, component by component, each once; a component's number is the place where it
+-- begins; links lead from what was met to what was met, in the same component or one that stands before; the vertices of
+-- a component lead to one another
+pub record AreComponents (g : Digraph) (c : ComponentsData) : Type 0 where
+  pub counted : length c.numbers ≡ g.count
+  pub falls : (v k w : ℕ) → IsIn c v k → Link g v w → (m : ℕ) × IsIn c w m × (m ≤ k)
+  pub same : (v w k : ℕ) → IsIn c v k → IsIn c w k → SameOrWay g v w
+  pub below : (v k : ℕ) → IsIn c v k → k < length c.order
+  pub begins : (v k : ℕ) → IsIn c v k → (u : ℕ) × (slice_get c.order k ≡ Some u) × IsIn c u k
+  pub starts : (i v k : ℕ) → slice_get c.order i ≡ Some v → IsIn c v k → k ≤ i
+  pub listed : (v k : ℕ) → IsIn c v k → (i : ℕ) × (slice_get c.order i ≡ Some v)
+  pub ordered : (i v : ℕ) → slice_get c.order i ≡ Some v → (k : ℕ) × IsIn c v k
+  pub rises : (i j v w k m : ℕ) → i < j → slice_get c.order i ≡ Some v → slice_get c.order j ≡ Some w → IsIn c v k → IsIn c w m → k ≤ m
+  pub once : (i j v : ℕ) → slice_get c.order i ≡ Some v → slice_get c.order j ≡ Some v → i ≡ j
+
+-- each of these vertices was met
+abbrev pub AreMet : List ℕ → ComponentsData → Type 0
+AreMet roots c = (i v : ℕ) → slice_get roots i ≡ Some v → (k : ℕ) × IsIn c v k
+
+-- each vertex of the graph was met
+abbrev pub AreAllMet : Digraph → ComponentsData → Type 0
+AreAllMet g c = (v : ℕ) → v < g.count → (k : ℕ) × IsIn c v k

@@ -1,0 +1,4 @@
+pub mod Graphs
+pub mod ComponentLists
+pub mod Searching
+pub mod Trails

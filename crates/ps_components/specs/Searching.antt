@@ -1,0 +1,92 @@
+-- What the search for components keeps true of its lists.
+use Rattle.std.specs.Prelude.{◌≡◌, ℕ, ◌+◌, ◌<◌, ◌≤◌, ◌⊎◌, List, [], ◌∷◌, ◌++◌, length, slice_get, slice_set, Option, Some, None, zero, suc}
+use Rattle.ps_components.specs.Graphs.{Digraph, Link, IsWithin, SameOrWay}
+use Rattle.ps_components.specs.declared.search.Mark.{Mark}
+use Rattle.ps_components.specs.declared.search.Mark.TheVariants.{Unseen, Active, Closed}
+use Rattle.ps_components.specs.declared.search.Pending.{Pending}
+
+-- each bound up to p is a bound up to q
+abbrev pub NoLater : List ℕ → ℕ → ℕ → Type 0
+NoLater bounds p q = (k b : ℕ) → slice_get bounds k ≡ Some b → b ≤ p → b ≤ q
+
+-- the target w of a link of the active place p is closed, or active in the same segment or a later one
+pub data IsSettled (marks : List Mark) (bounds : List ℕ) (p w : ℕ) : Type 0 where
+  closed : (k : ℕ) → slice_get marks w ≡ Some (Closed k) → IsSettled marks bounds p w
+  active : (q : ℕ) → slice_get marks w ≡ Some (Active q) → NoLater bounds p q → IsSettled marks bounds p w
+
+-- the link of the active place p to w waits
+pub record IsPending (pending : List Pending) (p w : ℕ) : Type 0 where
+  pub at : ℕ
+  pub step : Pending
+  pub is : slice_get pending at ≡ Some step
+  pub from_is : step.from ≡ p
+  pub to_is : step.to ≡ w
+
+-- the active places stand in segments, each beginning at a bound; the items of a segment lead to one another and
+-- to those of later segments; what is closed stands in order, and leads to what was closed before or with it
+pub record IsSound (g : Digraph) (marks : List Mark) (active bounds : List ℕ) (pending : List Pending) (order : List ℕ) : Type 0 where
+  pub within : IsWithin g
+  pub marked : length marks ≡ g.count
+  pub active_marked : (p v : ℕ) → slice_get active p ≡ Some v → slice_get marks v ≡ Some (Active p)
+  pub marked_active : (p v : ℕ) → slice_get marks v ≡ Some (Active p) → slice_get active p ≡ Some v
+  pub bounds_rise : (i j b c : ℕ) → slice_get bounds i ≡ Some b → slice_get bounds j ≡ Some c → i < j → b < c
+  pub bounds_within : (i b : ℕ) → slice_get bounds i ≡ Some b → b < length active
+  pub bounds_start : 0 < length active → slice_get bounds 0 ≡ Some 0
+  pub pending_links : (i : ℕ) (e : Pending) → slice_get pending i ≡ Some e → (v : ℕ) × (slice_get active e.from ≡ Some v) × Link g v e.to
+  pub pending_rise : (i j : ℕ) (e f : Pending) → slice_get pending i ≡ Some e → slice_get pending j ≡ Some f → i < j → e.from ≤ f.from
+  pub together : (p q v w : ℕ) → slice_get active p ≡ Some v → slice_get active q ≡ Some w → NoLater bounds p q → SameOrWay g v w
+  pub looked_at : (p v w : ℕ) → slice_get active p ≡ Some v → Link g v w → IsPending pending p w ⊎ IsSettled marks bounds p w
+  pub closed_links : (v k w : ℕ) → slice_get marks v ≡ Some (Closed k) → Link g v w → (m : ℕ) × (slice_get marks w ≡ Some (Closed m)) × (m ≤ k)
+  pub same : (v w k : ℕ) → slice_get marks v ≡ Some (Closed k) → slice_get marks w ≡ Some (Closed k) → SameOrWay g v w
+  pub numbered : (v k : ℕ) → slice_get marks v ≡ Some (Closed k) → k < length order
+  pub begins : (v k : ℕ) → slice_get marks v ≡ Some (Closed k) → (u : ℕ) × (slice_get order k ≡ Some u) × (slice_get marks u ≡ Some (Closed k))
+  pub starts : (i v k : ℕ) → slice_get order i ≡ Some v → slice_get marks v ≡ Some (Closed k) → k ≤ i
+  pub listed : (v k : ℕ) → slice_get marks v ≡ Some (Closed k) → (i : ℕ) × (slice_get order i ≡ Some v)
+  pub ordered : (i v : ℕ) → slice_get order i ≡ Some v → (k : ℕ) × (slice_get marks v ≡ Some (Closed k))
+  pub rises : (i j v w k m : ℕ) → i < j → slice_get order i ≡ Some v → slice_get order j ≡ Some w → slice_get marks v ≡ Some (Closed k) → slice_get marks w ≡ Some (Closed m) → k ≤ m
+  pub once : (i j v : ℕ) → slice_get order i ≡ Some v → slice_get order j ≡ Some v → i ≡ j
+
+-- the rising list up to place, and nothing of it behind
+pub record IsCut (bounds : List ℕ) (place : ℕ) (fewer : List ℕ) : Type 0 where
+  pub part : (k b : ℕ) → slice_get fewer k ≡ Some b → slice_get bounds k ≡ Some b
+  pub kept : (k b : ℕ) → slice_get bounds k ≡ Some b → b ≤ place → slice_get fewer k ≡ Some b
+  pub below : (k b : ℕ) → slice_get fewer k ≡ Some b → b ≤ place
+  pub shorter : length fewer ≤ length bounds
+
+-- the marks, with each item of the list closed in the component k
+abbrev pub close_all : List Mark → List ℕ → ℕ → List Mark
+close_all marks [] k = marks
+close_all marks (v ∷ vs) k = close_all (slice_set marks v (Closed k)) vs k
+
+-- what is marked stays marked
+abbrev pub KeepsMarks : List Mark → List Mark → Type 0
+KeepsMarks old new = (v : ℕ) → slice_get new v ≡ Some Unseen → slice_get old v ≡ Some Unseen
+
+-- what waits for one place of an item that was put at place p of the path
+abbrev pub wait_of : ℕ → Option ℕ → List Pending
+wait_of p None = []
+wait_of p (Some to) = record { from = p; to = to } ∷ []
+
+-- what waits for the first n places of the item
+abbrev pub waits : Digraph → ℕ → ℕ → ℕ → List Pending
+waits g p item zero = []
+waits g p item (suc n) = waits g p item n ++ wait_of p (g.target item n)
+
+-- a bound on the turns that are left
+abbrev pub turns_of : Digraph → ℕ → Mark → ℕ
+turns_of g item Unseen = g.degree item + 2
+turns_of g item (Active _) = 0
+turns_of g item (Closed _) = 0
+
+abbrev pub turns_from : Digraph → ℕ → List Mark → ℕ
+turns_from g item [] = 0
+turns_from g item (m ∷ ms) = turns_of g item m + turns_from g (suc item) ms
+
+abbrev pub turns : Digraph → List Mark → List ℕ → List Pending → ℕ
+turns g marks bounds pending = turns_from g 0 marks + length bounds + length pending
+
+-- the number of the component, of an item that is closed
+abbrev pub number_of : Mark → Option ℕ
+number_of Unseen = None
+number_of (Active _) = None
+number_of (Closed k) = Some k

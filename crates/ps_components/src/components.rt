@@ -1,0 +1,81 @@
+//! Components by their numbers.
+
+ghost use Rattle.std.specs.Prelude.{◌≡◌, ◌<◌, length, slice_get, Some, IfOk, All};
+ghost use Rattle.ps_components.specs.ComponentLists.{AreComponents, AreMet, AreAllMet};
+
+use crate::graph::Graph;
+use crate::search::{Mark, Search};
+use std::alloc::{AllocError, Global};
+use std::marker::Model;
+
+/// The components of the vertices of a graph that were met. A component's number is the place where it begins in the order.
+#[derive(Drop)]
+pub struct Components {
+    marks: Vec<Mark>,
+    order: Vec<usize>,
+}
+
+impl Model for Components {
+    ghost use Rattle.std.specs.Prelude.{map};
+    ghost use Rattle.ps_components.specs.ComponentLists.{ComponentsData};
+    ghost use Rattle.ps_components.specs.Searching.{number_of};
+
+    ghost Value = { ComponentsData };
+
+    ghost view = { λ c. record { numbers = map number_of c.marks.items; order = c.order.items } };
+}
+
+impl Components {
+    /// The number of a vertex's component, if the vertex was met.
+    pub fn number(&self, item: usize) -> Option<usize>
+        requires { item < length self.now.numbers }
+        ensures { slice_get self.now.numbers item ≡ Some result }
+    {
+        match self.marks[item] {
+            Mark::Closed(number) => Some(number),
+            _ => None,
+        }
+    }
+
+    /// The vertices that were met, component by component, each behind those to which it leads outside its component.
+    pub fn order(&self) -> &[usize]
+        ensures { result.now ≡ self.now.order }
+    {
+        &self.order
+    }
+}
+
+/// The components of all vertices.
+pub fn components_of<G: Graph>(alloc: Global, graph: &G) -> Result<Components, AllocError>
+    ensures components { IfOk result (AreComponents (G.graph graph.now)) }
+    ensures met { IfOk result (AreAllMet (G.graph graph.now)) }
+{
+    let mut search = Search::new(alloc, graph)?;
+    for item in 0..graph.count() {
+        search.visit(graph, item)?;
+    }
+    Ok(Components {
+        marks: search.marks,
+        order: search.order,
+    })
+}
+
+/// The components of the roots, and of all vertices to which they lead.
+pub fn components_from<G: Graph>(
+    alloc: Global,
+    graph: &G,
+    roots: &[usize],
+) -> Result<Components, AllocError>
+    requires { All (λ v. v < (G.graph graph.now).count) roots.now }
+    ensures components { IfOk result (AreComponents (G.graph graph.now)) }
+    ensures met { IfOk result (AreMet roots.now) }
+{
+    let mut search = Search::new(alloc, graph)?;
+    for &root in roots {
+        search.visit(graph, root)?;
+    }
+    Ok(Components {
+        marks: search.marks,
+        order: search.order,
+    })
+}

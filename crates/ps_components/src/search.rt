@@ -1,0 +1,214 @@
+//! The search for components along one path, as Gabow does it: items are put at the end of the path, and where a link leads
+//! back into the path, all components from there on become one.
+
+ghost use Rattle.std.specs.Prelude.{◌≡◌, ℕ, ◌<◌, ◌≤◌, ◌++◌, ◌-◌, length, slice_get, slice_set, Some, OnOk, IfOk};
+ghost use Rattle.ps_components.specs.Graphs.{Way, Link};
+ghost use Rattle.ps_components.specs.Searching.{IsSound, IsSettled, KeepsMarks, turns, waits, IsCut, close_all};
+ghost use Rattle.ps_components.specs.declared.search.Pending.{Pending};
+
+use crate::graph::Graph;
+use std::alloc::{AllocError, Global};
+
+/// What the search knows of an item.
+#[derive(Clone, Copy)]
+pub enum Mark {
+    Unseen,
+    /// On the path, at this place.
+    Active(usize),
+    /// Done, in the component of this number.
+    Closed(usize),
+}
+
+/// A link that is still to be looked at, from a place of the path.
+#[derive(Clone, Copy)]
+pub struct Pending {
+    from: usize,
+    to: usize,
+}
+
+/// A path of components, each of items that lead to one another. Each component's items stand behind its bound.
+#[derive(Drop)]
+pub struct Search {
+    pub marks: Vec<Mark>,
+    active: Vec<usize>,
+    bounds: Vec<usize>,
+    pending: Vec<Pending>,
+    pub order: Vec<usize>,
+}
+
+impl Search {
+    /// A search that has seen nothing.
+    pub fn new<G: Graph>(alloc: Global, graph: &G) -> Result<Self, AllocError>
+        ensures sound { IfOk result (λ s. IsSound (G.graph graph.now) s.marks.items s.active.items s.bounds.items s.pending.items s.order.items) }
+        ensures ended { IfOk result (λ s. length s.bounds.items ≡ 0) }
+    {
+        Ok(Search {
+            marks: vec![in alloc; Mark::Unseen; graph.count()]?,
+            active: Vec::new(alloc),
+            bounds: Vec::new(alloc),
+            pending: Vec::new(alloc),
+            order: Vec::new(alloc),
+        })
+    }
+
+    /// Looks at all that an item leads to, unless it was seen.
+    pub fn visit<G: Graph>(&mut self, graph: &G, item: usize) -> Result<(), AllocError>
+        requires within { item < (G.graph graph.now).count }
+        requires sound { IsSound (G.graph graph.now) self.old.marks.items self.old.active.items self.old.bounds.items self.old.pending.items self.old.order.items }
+        requires ended { length self.old.bounds.items ≡ 0 }
+        ensures sound { OnOk result (IsSound (G.graph graph.now) self.new.marks.items self.new.active.items self.new.bounds.items self.new.pending.items self.new.order.items) }
+        ensures ended { OnOk result (length self.new.bounds.items ≡ 0) }
+        ensures kept { OnOk result (KeepsMarks self.old.marks.items self.new.marks.items) }
+        ensures seen { OnOk result (¬ (slice_get self.new.marks.items item ≡ Some Mark.Unseen)) }
+    {
+        if let Mark::Unseen = self.marks[item] {
+            self.enter(graph, item)?;
+            self.run(graph)?;
+        }
+        Ok(())
+    }
+
+    /// Looks at all links that the path leads to.
+    fn run<G: Graph>(&mut self, graph: &G) -> Result<(), AllocError>
+        requires { IsSound (G.graph graph.now) self.old.marks.items self.old.active.items self.old.bounds.items self.old.pending.items self.old.order.items }
+        ensures sound { OnOk result (IsSound (G.graph graph.now) self.new.marks.items self.new.active.items self.new.bounds.items self.new.pending.items self.new.order.items) }
+        ensures ended { OnOk result (length self.new.bounds.items ≡ 0) }
+        ensures kept { OnOk result (KeepsMarks self.old.marks.items self.new.marks.items) }
+    {
+        while let Some(&bound) = self.bounds.last() {
+            self.step(graph, bound)?;
+        }
+        Ok(())
+    }
+
+    /// Looks at the last link that waits, if it is one of the last segment, and else closes that segment.
+    fn step<G: Graph>(&mut self, graph: &G, bound: usize) -> Result<(), AllocError>
+        requires last { slice_get self.old.bounds.items (length self.old.bounds.items - 1) ≡ Some bound }
+        requires sound { IsSound (G.graph graph.now) self.old.marks.items self.old.active.items self.old.bounds.items self.old.pending.items self.old.order.items }
+        ensures sound { OnOk result (IsSound (G.graph graph.now) self.new.marks.items self.new.active.items self.new.bounds.items self.new.pending.items self.new.order.items) }
+        ensures fewer { OnOk result (turns (G.graph graph.now) self.new.marks.items self.new.bounds.items self.new.pending.items < turns (G.graph graph.now) self.old.marks.items self.old.bounds.items self.old.pending.items) }
+        ensures kept { OnOk result (KeepsMarks self.old.marks.items self.new.marks.items) }
+    {
+        let Some(&pending) = self.pending.last() else {
+            return self.close(graph, bound);
+        };
+        if pending.from < bound {
+            return self.close(graph, bound);
+        }
+        match self.marks[pending.to] {
+            Mark::Unseen => return self.enter(graph, pending.to),
+            Mark::Active(place) => {
+                self.merge(graph, pending, place);
+                self.take(graph, pending);
+            }
+            Mark::Closed(_) => self.take(graph, pending),
+        }
+        Ok(())
+    }
+
+    /// Puts an unseen item, to which all of the path leads, at the end of the path.
+    fn enter<G: Graph>(&mut self, graph: &G, item: usize) -> Result<(), AllocError>
+        requires within { item < (G.graph graph.now).count }
+        requires unseen { slice_get self.old.marks.items item ≡ Some Mark.Unseen }
+        requires reached { (p v : ℕ) → slice_get self.old.active.items p ≡ Some v → Way (Link (G.graph graph.now)) v item }
+        requires sound { IsSound (G.graph graph.now) self.old.marks.items self.old.active.items self.old.bounds.items self.old.pending.items self.old.order.items }
+        ensures sound { OnOk result (IsSound (G.graph graph.now) self.new.marks.items self.new.active.items self.new.bounds.items self.new.pending.items self.new.order.items) }
+        ensures fewer { OnOk result (turns (G.graph graph.now) self.new.marks.items self.new.bounds.items self.new.pending.items < turns (G.graph graph.now) self.old.marks.items self.old.bounds.items self.old.pending.items) }
+        ensures kept { KeepsMarks self.old.marks.items self.new.marks.items }
+        ensures entered { OnOk result (self.new.marks.items ≡ slice_set self.old.marks.items item (Mark.Active (length self.old.active.items))) }
+    {
+        let place = self.active.len();
+        self.active.push(item)?;
+        self.bounds.push(place)?;
+        wait(&mut self.pending, graph, place, item)?;
+        self.marks[item] = Mark::Active(place);
+        Ok(())
+    }
+
+    /// Joins the last segment with those behind the place of an item to which it has a link.
+    fn merge<G: Graph>(&mut self, graph: &G, pending: Pending, place: usize)
+        requires within { pending.to < length self.old.marks.items }
+        requires linked { (v : ℕ) × (slice_get self.old.active.items pending.from ≡ Some v) × Link (G.graph graph.now) v pending.to }
+        requires last { (k b : ℕ) → slice_get self.old.bounds.items k ≡ Some b → b ≤ pending.from }
+        requires marked { slice_get self.old.marks.items pending.to ≡ Some (Mark.Active place) }
+        requires sound { IsSound (G.graph graph.now) self.old.marks.items self.old.active.items self.old.bounds.items self.old.pending.items self.old.order.items }
+        ensures sound { IsSound (G.graph graph.now) self.new.marks.items self.new.active.items self.new.bounds.items self.new.pending.items self.new.order.items }
+        ensures settled { IsSettled self.new.marks.items self.new.bounds.items pending.from pending.to }
+        ensures marks { self.new.marks.items ≡ self.old.marks.items }
+        ensures shorter { length self.new.bounds.items ≤ length self.old.bounds.items }
+        ensures pending { self.new.pending.items ≡ self.old.pending.items }
+    {
+        cut(&mut self.bounds, place);
+    }
+
+    /// Takes off the last link that waits, which leads to what is settled.
+    fn take<G: Graph>(&mut self, graph: &G, pending: Pending)
+        requires last { slice_get self.old.pending.items (length self.old.pending.items - 1) ≡ Some pending }
+        requires settled { IsSettled self.old.marks.items self.old.bounds.items pending.from pending.to }
+        requires sound { IsSound (G.graph graph.now) self.old.marks.items self.old.active.items self.old.bounds.items self.old.pending.items self.old.order.items }
+        ensures sound { IsSound (G.graph graph.now) self.new.marks.items self.new.active.items self.new.bounds.items self.new.pending.items self.new.order.items }
+        ensures fewer { turns (G.graph graph.now) self.new.marks.items self.new.bounds.items self.new.pending.items < turns (G.graph graph.now) self.old.marks.items self.old.bounds.items self.old.pending.items }
+        ensures marks { self.new.marks.items ≡ self.old.marks.items }
+    {
+        self.pending.pop();
+    }
+
+    /// Closes the last segment, which begins at this bound.
+    fn close<G: Graph>(&mut self, graph: &G, bound: usize) -> Result<(), AllocError>
+        requires last { slice_get self.old.bounds.items (length self.old.bounds.items - 1) ≡ Some bound }
+        requires done { (i : ℕ) (e : Pending) → slice_get self.old.pending.items i ≡ Some e → e.from < bound }
+        requires sound { IsSound (G.graph graph.now) self.old.marks.items self.old.active.items self.old.bounds.items self.old.pending.items self.old.order.items }
+        ensures sound { OnOk result (IsSound (G.graph graph.now) self.new.marks.items self.new.active.items self.new.bounds.items self.new.pending.items self.new.order.items) }
+        ensures fewer { OnOk result (turns (G.graph graph.now) self.new.marks.items self.new.bounds.items self.new.pending.items < turns (G.graph graph.now) self.old.marks.items self.old.bounds.items self.old.pending.items) }
+        ensures kept { OnOk result (KeepsMarks self.old.marks.items self.new.marks.items) }
+    {
+        let number = self.order.len();
+        let segment = &self.active[bound..];
+        self.order.extend_from_slice(segment)?;
+        close_items(&mut self.marks, segment, number);
+        self.active.truncate(bound);
+        self.bounds.pop();
+        Ok(())
+    }
+}
+
+/// Has each link of an item wait, which stands at this place of the path.
+fn wait<G: Graph>(
+    pending: &mut Vec<Pending>,
+    graph: &G,
+    from: usize,
+    item: usize,
+) -> Result<(), AllocError>
+    requires { item < (G.graph graph.now).count }
+    ensures { OnOk result (pending.new.items ≡ pending.old.items ++ waits (G.graph graph.now) from item ((G.graph graph.now).degree item)) }
+{
+    for place in 0..graph.degree(item) {
+        if let Some(to) = graph.target(item, place) {
+            pending.push(Pending { from, to })?;
+        }
+    }
+    Ok(())
+}
+
+/// Takes the bounds behind this place off the end.
+fn cut(bounds: &mut Vec<usize>, place: usize)
+    requires rise { (i j b c : ℕ) → slice_get bounds.old.items i ≡ Some b → slice_get bounds.old.items j ≡ Some c → i < j → b < c }
+    ensures { IsCut bounds.old.items place bounds.new.items }
+{
+    while let Some(&bound) = bounds.last() {
+        if bound <= place {
+            break;
+        }
+        bounds.pop();
+    }
+}
+
+/// Closes these items, in the component of this number.
+fn close_items(marks: &mut Vec<Mark>, items: &[usize], number: usize)
+    requires { (k v : ℕ) → slice_get items.now k ≡ Some v → v < length marks.old.items }
+    ensures { marks.new.items ≡ close_all marks.old.items items.now number }
+{
+    for &item in items {
+        marks[item] = Mark::Closed(number);
+    }
+}
