@@ -1,0 +1,34 @@
+use Rattle.std.proofs.Common.{◌≡◌, refl, sym, ◌∙◌, subst, ap, length}
+use Rattle.ps_diagram.specs.Tree.{Tree, IsFrom, IsReduced}
+use Rattle.ps_diagram.specs.Table.{Table, IsSound, Keeps, IsWithin, IsNode, tree_in, tree_of}
+use Rattle.ps_diagram.proofs.Cells.{Interned, interned}
+use Rattle.ps_diagram.proofs.Keys.{same_view, view_same}
+use Rattle.ps_diagram.proofs.store.Store.intern.Goals as goal
+
+old : goal.In_ok-place → Table
+old c = record { propositions = c.self.inside.propositions; cells = c.self.inside.cells.keys }
+
+new : goal.In_ok-place → Table
+new c = record { propositions = c.self.inside.propositions; cells = c.insert_full.new.self.keys }
+
+done : (c : goal.In_ok-place) → Interned (old c) (new c) c.args.cell c.in_ok-place.place
+unfolding old new
+done c =
+    let was : c.args.self.now ≡ old c = sym c.self.view_is in
+    let W : Table → Type 0 = λ t. IsWithin (length t.cells) c.args.cell in
+    let O : Table → Type 0 = λ t. IsFrom 0 t.propositions (tree_in t.cells c.args.cell) in
+    let R : Table → Type 0 = λ t. IsReduced (tree_in t.cells c.args.cell) in
+    interned (old c) (new c) c.args.cell c.in_ok-place.place _ same_view view_same c.self.invariant
+    (subst W was c.requires.within) (subst O was c.requires.ordered) (subst R was c.requires.reduced) refl c.in_ok-place.ensures.keys c.in_ok-place.ensures.stored
+
+pub invariant_of-self-2 : goal.invariant_of-self-2
+unfolding new
+invariant_of-self-2 c = (done c).sound
+
+pub returns-clause-keeps : goal.returns-clause-keeps
+unfolding old new
+returns-clause-keeps c = let P : Table → Type 0 = λ t. Keeps t (new c) in subst P c.self.view_is (done c).keeps
+
+pub returns-clause-tree : goal.returns-clause-tree
+unfolding old new
+returns-clause-tree c = (done c).tree ∙ ap (λ (t : Table). tree_in t.cells c.args.cell) c.self.view_is

@@ -1,0 +1,64 @@
+-- A store of diagrams as a table of cells, and the tree of each node.
+--
+--     Table              how many propositions, and the cells; a node is the place of its cell
+--     IsNode t node      the node is held
+--     tree_of t node     its tree
+--     leaf_of t node x   its leaf at the letter x
+--     Keeps old new      each node that was held is held, with the same tree, so with the same leaf at each letter
+--     IsSound            what is true of every store
+use Rattle.std.specs.Prelude.{◌≡◌, ℕ, ◌+◌, ◌<◌, ◌≤◌, Bool, Option, List, [], ◌∷◌, ◌++◌, length, fold, slice_index_or}
+use Rattle.ps_diagram.specs.declared.view.View.{View}
+use Rattle.ps_diagram.specs.declared.view.View.TheVariants.{Nothing, Leaf, Test}
+use Rattle.ps_diagram.specs.Letters.{assignment}
+use Rattle.ps_diagram.specs.Tree.{Tree, empty, final, choice, leaf_at, IsFrom, IsReduced}
+
+pub record Table : Type 0 where
+  pub propositions : ℕ
+  pub cells : List View
+
+-- the tree of a cell, where the trees of earlier cells are given
+abbrev pub tree_by : List Tree → View → Tree
+tree_by known Nothing = empty
+tree_by known (Leaf k) = final k
+tree_by known (Test p low high) = choice p (slice_index_or known low empty) (slice_index_or known high empty)
+
+-- the trees of the cells, each made from those before it
+unfoldable pub trees_of : List View → List Tree
+trees_of cells = fold (λ known cell. known ++ tree_by known cell ∷ []) [] cells
+
+abbrev pub tree_at : List View → ℕ → Tree
+tree_at cells place = slice_index_or (trees_of cells) place empty
+
+-- the tree of a cell of the store
+abbrev pub tree_in : List View → View → Tree
+tree_in cells cell = tree_by (trees_of cells) cell
+
+unfoldable pub tree_of : Table → ℕ → Tree
+tree_of t node = tree_at t.cells node
+
+abbrev pub IsNode : Table → ℕ → Type 0
+IsNode t node = node < length t.cells
+
+-- the leaf of the node at a letter
+abbrev pub leaf_of : Table → ℕ → ℕ → Option ℕ
+leaf_of t node letter = leaf_at (tree_of t node) (assignment letter)
+
+pub record Keeps (old new : Table) : Type 0 where
+  pub propositions : new.propositions ≡ old.propositions
+  pub held : (node : ℕ) → IsNode old node → IsNode new node
+  pub same : (node : ℕ) → IsNode old node → tree_of new node ≡ tree_of old node
+
+-- the nodes of a cell are below that number
+abbrev pub IsWithin : ℕ → View → Type 0
+IsWithin count Nothing = Unit {0}
+IsWithin count (Leaf k) = Unit {0}
+IsWithin count (Test p low high) = (low < count) × (high < count)
+
+-- Each tree is that of its cell, made of earlier ones, ordered and reduced; and equal trees are one node.
+pub record IsSound (t : Table) : Type 0 where
+  pub few : t.propositions ≤ 64
+  pub built : (node : ℕ) → IsNode t node → tree_of t node ≡ tree_in t.cells (slice_index_or t.cells node Nothing)
+  pub earlier : (node : ℕ) → IsNode t node → IsWithin node (slice_index_or t.cells node Nothing)
+  pub ordered : (node : ℕ) → IsNode t node → IsFrom 0 t.propositions (tree_of t node)
+  pub reduced : (node : ℕ) → IsNode t node → IsReduced (tree_of t node)
+  pub one : (a b : ℕ) → IsNode t a → IsNode t b → tree_of t a ≡ tree_of t b → a ≡ b

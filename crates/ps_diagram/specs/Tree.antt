@@ -1,0 +1,25 @@
+-- A decision diagram as a tree, and the leaf to which a letter leads.
+use Rattle.std.specs.Prelude.{◌≡◌, ℕ, ◌+◌, ◌<◌, ◌≤◌, Bool, cond, Option, Some, None}
+
+pub data Tree : Type 0 where
+  empty : Tree
+  final : ℕ → Tree
+  choice : ℕ → Tree → Tree → Tree
+
+-- the leaf to which a letter leads, if there is one: a choice goes to its low side where its proposition is false
+abbrev pub leaf_at : Tree → (ℕ → Bool) → Option ℕ
+leaf_at empty f = None
+leaf_at (final k) f = Some k
+leaf_at (choice p low high) f = cond (f p) (leaf_at high f) (leaf_at low f)
+
+-- propositions rise along each path, from that level on and below n
+abbrev pub IsFrom : ℕ → ℕ → Tree → Type 0
+IsFrom level n empty = Unit {0}
+IsFrom level n (final k) = Unit {0}
+IsFrom level n (choice p low high) = (level ≤ p) × (p < n) × IsFrom (p + 1) n low × IsFrom (p + 1) n high
+
+-- the two sides of each choice differ
+abbrev pub IsReduced : Tree → Type 0
+IsReduced empty = Unit {0}
+IsReduced (final k) = Unit {0}
+IsReduced (choice p low high) = (low ≡ high → ⊥) × IsReduced low × IsReduced high

@@ -1,0 +1,26 @@
+//! Reduced ordered decision diagrams over at most 64 propositions, with numbers as leaves.
+//!
+//! A `Store` is seen as a `Table`, a `Node` as a number. A letter is a number: proposition p is bit p. `leaf_of table
+//! node letter` is the leaf of a node at a letter, or none; what each call makes is said by it, at every letter:
+//!
+//! | Call | The leaf of the new node at a letter |
+//! |---|---|
+//! | `leaf(value)` | `value` |
+//! | `none()` | none |
+//! | `of_letter(letter)` | 1 at that letter, none elsewhere |
+//! | `of_label(labels, label)` | 1 where the label is true, none elsewhere |
+//! | `overlay(first, second)` | that of the first, or else that of the second; `Clash` exactly where two differ |
+//! | `guard(node, value)` | `value` where the node has a leaf, else none |
+//! | `fill(node, value)` | that of the node, or else `value` |
+//! | `relabel(node, values)` | `values[k]` where the node has k, else none |
+//!
+//! Each of these calls, and `classes`, keeps each node that was held, with the same leaf at each letter, also where it
+//! fails (`Keeps`). `eval`, `same` and `view` read a node and take no memory. `path_to`, `leaves` and `classes` name
+//! least letters: letters are ordered by the first proposition at which they differ, false first.
+#![tactic(auto)]
+
+pub mod store;
+pub mod view;
+
+pub use store::Store;
+pub use view::{Node, View};

@@ -1,0 +1,124 @@
+//! The store: the table of nodes, and the leaf of a node at a letter.
+
+ghost use Rattle.std.specs.Prelude.{◌≡◌, ℕ, ◌+◌, ◌^◌, ◌≤◌, ◌<◌, [], IfOk, OnOk, length, slice_index_or, Option, Some, None, cond};
+ghost use Rattle.ps_diagram.specs.Tree.{IsFrom, IsReduced};
+ghost use Rattle.ps_diagram.specs.Parts.{IsPart};
+ghost use Rattle.ps_diagram.specs.Table.{Table, IsNode, IsSound, IsWithin, Keeps, leaf_of, tree_of, tree_in};
+ghost use Rattle.ps_diagram.specs.declared.view.View.TheVariants.{Nothing};
+
+use crate::view::{Node, View};
+use indexmap::IndexSet;
+use std::alloc::{AllocError, Global};
+use std::marker::Model;
+
+/// Reduced ordered decision diagrams over at most 64 propositions, with numbers as leaves. Equal diagrams are
+/// one node.
+#[derive(Debug, Drop)]
+pub struct Store {
+    alloc: Global,
+    propositions: u32,
+    cells: IndexSet<View>,
+}
+
+impl Model for Store {
+    ghost use Rattle.ps_diagram.specs.Table.{Table, IsSound};
+
+    ghost Value = { Table };
+
+    ghost view = { λ s. record { propositions = s.propositions; cells = s.cells.keys } };
+
+    ghost invariant = { λ s. IsSound (record { propositions = s.propositions; cells = s.cells.keys }) };
+}
+
+impl Store {
+    /// A store without nodes, over that many propositions.
+    pub fn new(alloc: Global, propositions: u32) -> Self
+        requires few { propositions ≤ 64 }
+        ensures propositions { result.propositions ≡ propositions }
+        ensures empty { result.cells ≡ [] }
+    {
+        Store {
+            alloc,
+            propositions,
+            cells: IndexSet::new(alloc),
+        }
+    }
+
+    /// How many propositions there are.
+    pub fn propositions(&self) -> u32
+        ensures value { result ≡ self.now.propositions }
+        ensures few { result ≤ 64 }
+    {
+        self.propositions
+    }
+
+    /// The diagram with that leaf at each letter.
+    ///
+    /// # Errors
+    ///
+    /// Fails where a growth was refused.
+    pub fn leaf(&mut self, value: u64) -> Result<Node, AllocError>
+        ensures keeps { Keeps self.old self.new }
+        ensures held { IfOk result (λ node. IsNode self.new node) }
+        ensures leaf { IfOk result
+            (λ node. (letter : ℕ) → leaf_of self.new node letter ≡ Some value) }
+    {
+        self.intern(View::Leaf(value))
+    }
+
+    /// The diagram without leaves.
+    ///
+    /// # Errors
+    ///
+    /// Fails where a growth was refused.
+    pub fn none(&mut self) -> Result<Node, AllocError>
+        ensures keeps { Keeps self.old self.new }
+        ensures held { IfOk result (λ node. IsNode self.new node) }
+        ensures leaf { IfOk result (λ node. (letter : ℕ) → leaf_of self.new node letter ≡ None) }
+    {
+        self.intern(View::Nothing)
+    }
+
+    /// The leaf of a node at a letter.
+    pub fn eval(&self, node: Node, letter: u64) -> Option<u64>
+        requires held { IsNode self.now node }
+        ensures { result ≡ leaf_of self.now node letter }
+    {
+        let mut place = node;
+        loop {
+            match self.cell(place) {
+                View::Nothing => return None,
+                View::Leaf(value) => return Some(value),
+                View::Test {
+                    proposition,
+                    low,
+                    high,
+                } => place = if letter >> proposition & 1 == 1 { high } else { low },
+            }
+        }
+    }
+
+
+    /// The cell of a node, its nodes being earlier ones.
+    pub(crate) fn cell(&self, node: Node) -> View
+        requires held { IsNode self.now node }
+        ensures sound { IsSound self.now }
+        ensures part { IsPart self.now node result }
+    {
+        self.cells.as_slice()[node.place]
+    }
+
+    /// The node of a cell, which is made where there is none.
+    pub(crate) fn intern(&mut self, cell: View) -> Result<Node, AllocError>
+        requires within { IsWithin (length self.old.cells) cell }
+        requires ordered { IsFrom 0 self.old.propositions (tree_in self.old.cells cell) }
+        requires reduced { IsReduced (tree_in self.old.cells cell) }
+        ensures keeps { Keeps self.old self.new }
+        ensures held { IfOk result (λ node. IsNode self.new node) }
+        ensures tree { IfOk result
+            (λ node. tree_of self.new node ≡ tree_in self.old.cells cell) }
+    {
+        let (place, _) = self.cells.insert_full(cell)?;
+        Ok(Node { place })
+    }
+}
