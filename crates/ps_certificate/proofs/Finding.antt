@@ -10,7 +10,8 @@ use Rattle.ps_text.specs.Parts.{PartAnswers}
 use Rattle.ps_game.specs.Games.{NamedGameData}
 use Rattle.ps_certificate.specs.declared.fault.CertFault.{CertFault}
 use Rattle.ps_certificate.specs.declared.fault.CertFault.TheVariants.{Text, OutOfMemory}
-use Rattle.ps_certificate.specs.Certificates.{EntryData, ListsPriorities}
+use Rattle.ps_game.specs.Ranking.{ListsPriorities}
+use Rattle.ps_certificate.specs.Certificates.{EntryData}
 use Rattle.ps_certificate.specs.Known.{FindsVertices}
 use Rattle.ps_certificate.specs.Reading.{Fault, Fails, KnownData, entries_of}
 use Rattle.ps_certificate.specs.Texts.{stream_at, causes, certificate, vertex_of, Reads, IsAnswer}

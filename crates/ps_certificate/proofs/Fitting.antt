@@ -3,7 +3,8 @@ use Rattle.std.proofs.Common.{◌≡◌, ℕ, zero, suc, ◌<◌, List, [], ◌�
 use Rattle.std.specs.Prelude.{IfSome, MatchOption, All}
 use Rattle.std.proofs.lemmas.List.Elements.{All-nil, All-cons, All-get_or}
 use Rattle.ps_game.specs.Games.{ParityGame, vertex_count}
-use Rattle.ps_certificate.specs.Certificates.{EntryData, Fits, ListsPriorities, no_entry, winner_of, choice_of, counts_of, opposing}
+use Rattle.ps_game.specs.Ranking.{ListsPriorities}
+use Rattle.ps_certificate.specs.Certificates.{EntryData, Fits, no_entry, winner_of, choice_of, counts_of, opposing}
 use Rattle.ps_certificate.specs.Places.{Place}
 use Rattle.ps_certificate.specs.Reading.{Fault, ◌>>=◌, KnownData, byte_at, number_at, field_at, exactly_at, winner_at, choice_at, found_or, counts_at, count_number, entry_at, entries_at, entries_of, head_at, ended, comes}
 use Rattle.ps_certificate.specs.Known.{FindsVertices}

@@ -11,7 +11,8 @@ use Rattle.ps_game.specs.Games.{ParityGame, NamedGameData}
 use Rattle.ps_certificate.specs.declared.fault.CertCause.{CertCause}
 use Rattle.ps_certificate.specs.declared.fault.CertCause.TheVariants.{Syntax, OtherGame}
 use Rattle.ps_certificate.specs.Faults.{cause_number}
-use Rattle.ps_certificate.specs.Certificates.{CertificateData, ListsPriorities, HasPriority}
+use Rattle.ps_game.specs.Ranking.{ListsPriorities, HasPriority}
+use Rattle.ps_certificate.specs.Certificates.{CertificateData}
 use Rattle.ps_certificate.specs.Texts.{stream_at, causes, certificate, Reads}
 use Rattle.ps_certificate.proofs.TextLaws.{laws_certificate}
 

@@ -1,9 +1,8 @@
 -- Certificates of parity games: when they fit a game, when they are valid, and what is wrong with one
 -- that is not.
-use Rattle.std.specs.Prelude.{◌≡◌, ◌≢◌, ℕ, ◌%◌, ◌<◌, ◌≤◌, ◌⊎◌, List, [], length, Option, None, Some, IfSome, IsSome, IsSomeAnd, if◌then◌else◌, ◌==◌, slice_index, slice_index_or}
-use Rattle.std.specs.List.{All, Contains}
-use Rattle.std.specs.List.Sorted.{IsStrictlyIncreasing}
+use Rattle.std.specs.Prelude.{◌≡◌, ◌≢◌, ℕ, ◌<◌, ◌≤◌, ◌⊎◌, List, [], length, Option, None, IfSome, IsSome, IsSomeAnd, if◌then◌else◌, ◌==◌, slice_index, slice_index_or}
 use Rattle.ps_game.specs.Games.{ParityGame, vertex_count, owner_of, priority_of, successors_of, HasEdge}
+use Rattle.ps_game.specs.Ranking.{RemainsFor, ListsPriorities, KeepsRule}
 use Rattle.ps_certificate.specs.declared.flaw.Flaw.{Flaw}
 use Rattle.ps_certificate.specs.declared.flaw.Flaw.TheVariants.{Move, Escape, Rank}
 
@@ -36,17 +35,6 @@ counts_of certificate v = (slice_index_or certificate.entries v no_entry).counts
 unfoldable pub opposing : CertificateData → ℕ → List ℕ
 opposing certificate player = if player == 0 then certificate.odd else certificate.even
 
--- some vertex has the priority
-abbrev pub HasPriority : ParityGame → ℕ → Type 0
-HasPriority game p = (v : ℕ) × (v < vertex_count game) × (priority_of game v ≡ p)
-
--- the list has just the priorities of one parity that the game has, rising
-pub record ListsPriorities (game : ParityGame) (parity : ℕ) (list : List ℕ) : Type 0 where
-  pub rising : IsStrictlyIncreasing list
-  pub complete : (v : ℕ) → v < vertex_count game → priority_of game v % 2 ≡ parity → Contains list (priority_of game v)
-  pub right_parity : All (λ p. p % 2 ≡ parity) list
-  pub present : All (HasPriority game) list
-
 -- one entry for each vertex, winners 0 or 1, moves that are vertices, just the priorities of the game,
 -- and one count for each priority by which the winner loses
 pub record Fits (game : ParityGame) (certificate : CertificateData) : Type 0 where
@@ -58,9 +46,8 @@ pub record Fits (game : ParityGame) (certificate : CertificateData) : Type 0 whe
   pub count_each : (v : ℕ) → v < vertex_count game → length (counts_of certificate v) ≡ length (opposing certificate (winner_of certificate v))
 
 -- an edge remains when it leaves a vertex of the loser, or is the winner's move
-pub record Remains (game : ParityGame) (certificate : CertificateData) (v w : ℕ) : Type 0 where
-  pub edge : HasEdge game v w
-  pub chosen : owner_of game v ≡ winner_of certificate v → choice_of certificate v ≡ Some w
+abbrev pub Remains : ParityGame → CertificateData → ℕ → ℕ → Type 0
+Remains game certificate v w = RemainsFor game (winner_of certificate v) (choice_of certificate) v w
 
 -- a vertex that its winner owns has a move, which is a successor; one that its loser owns has none
 pub record HasRightMove (game : ParityGame) (certificate : CertificateData) (v : ℕ) : Type 0 where
@@ -76,11 +63,10 @@ pub record IsClosed (game : ParityGame) (certificate : CertificateData) : Type 0
 abbrev pub opposing_at : CertificateData → ℕ → ℕ → ℕ
 opposing_at certificate v k = slice_index (opposing certificate (winner_of certificate v)) k
 
--- the rule of counts for an edge and the opposing priority at a place: where neither end has a greater
--- priority, the count does not rise, and it falls where the edge leaves a vertex of that priority
-pub record KeepsCount (game : ParityGame) (certificate : CertificateData) (v w k : ℕ) : Type 0 where
-  pub never_rises : priority_of game v ≤ opposing_at certificate v k → priority_of game w ≤ opposing_at certificate v k → slice_index (counts_of certificate w) k ≤ slice_index (counts_of certificate v) k
-  pub falls : priority_of game v ≡ opposing_at certificate v k → priority_of game w ≤ opposing_at certificate v k → slice_index (counts_of certificate w) k < slice_index (counts_of certificate v) k
+-- an edge keeps the rule of counts for the opposing priority at a place
+abbrev pub KeepsCount : ParityGame → CertificateData → ℕ → ℕ → ℕ → Type 0
+KeepsCount game certificate v w k =
+    KeepsRule (opposing_at certificate v k) (priority_of game v) (priority_of game w) (slice_index (counts_of certificate v) k) (slice_index (counts_of certificate w) k)
 
 -- a valid certificate is closed, and each edge that remains between two vertices of one winner keeps
 -- the rule of counts for each opposing priority

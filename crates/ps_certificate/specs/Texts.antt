@@ -23,7 +23,8 @@ use Rattle.ps_certificate.specs.declared.fault.CertCause.TheVariants.{Syntax, Ot
 use Rattle.ps_certificate.specs.declared.fault.CertFault.{CertFault}
 use Rattle.ps_certificate.specs.declared.fault.CertFault.TheVariants.{Text, OutOfMemory}
 use Rattle.ps_certificate.specs.Faults.{cause_number}
-use Rattle.ps_certificate.specs.Certificates.{EntryData, CertificateData, ListsPriorities}
+use Rattle.ps_game.specs.Ranking.{ListsPriorities}
+use Rattle.ps_certificate.specs.Certificates.{EntryData, CertificateData}
 use Rattle.ps_certificate.specs.Words.{first_words, odd_word, even_word}
 
 -- a sign of the text: a byte, and what a reader sees behind it

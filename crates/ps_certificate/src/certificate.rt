@@ -47,7 +47,7 @@ impl Model for Certificate {
 #[tactic(auto, unfolding(crate::specs::Certificates::winner_of, crate::specs::Certificates::choice_of, crate::specs::Certificates::counts_of, crate::specs::Certificates::opposing))]
 impl Certificate {
     /// The winner of a vertex.
-    pub(crate) fn winner(&self, vertex: usize) -> u8
+    pub fn winner(&self, vertex: usize) -> u8
         requires { vertex < length self.now.entries }
         ensures { result ≡ winner_of self.now vertex }
     {
@@ -55,7 +55,7 @@ impl Certificate {
     }
 
     /// The move given for a vertex.
-    pub(crate) fn choice(&self, vertex: usize) -> Option<usize>
+    pub fn choice(&self, vertex: usize) -> Option<usize>
         requires { vertex < length self.now.entries }
         ensures { result ≡ choice_of self.now vertex }
     {
@@ -63,7 +63,7 @@ impl Certificate {
     }
 
     /// The counts of a vertex.
-    pub(crate) fn counts(&self, vertex: usize) -> &[u64]
+    pub fn counts(&self, vertex: usize) -> &[u64]
         requires { vertex < length self.now.entries }
         ensures { result.now ≡ counts_of self.now vertex }
     {
@@ -71,7 +71,7 @@ impl Certificate {
     }
 
     /// The priorities by which a player loses, rising.
-    pub(crate) fn opposing(&self, player: u8) -> &[u64]
+    pub fn opposing(&self, player: u8) -> &[u64]
         ensures { result.now ≡ opposing self.now player }
     {
         if player == 0 {

@@ -4,7 +4,8 @@ ghost use Rattle.std.specs.Prelude.{◌≡◌, ℕ, ◌+◌, ◌%◌, ◌<◌, �
 ghost use Rattle.std.specs.List.{All};
 ghost use Rattle.std.specs.List.Sorted.{IsStrictlyIncreasing};
 ghost use Rattle.ps_game.specs.Games.{vertex_count};
-ghost use Rattle.ps_certificate.specs.Certificates.{HasPriority, ListsPriorities, Fits};
+ghost use Rattle.ps_game.specs.Ranking.{HasPriority, ListsPriorities};
+ghost use Rattle.ps_certificate.specs.Certificates.{Fits};
 ghost use Rattle.ps_certificate.specs.Prefixes.{IsComplete, EntryFits};
 
 use crate::certificate::Certificate;

@@ -4,7 +4,8 @@ ghost use Rattle.std.specs.Prelude.{◌≡◌, ℕ, List, Result, nat_eq, IfOk};
 ghost use Rattle.indexmap.specs.IndexMap.{get};
 ghost use Rattle.ps_text.specs.Answers.{Found};
 ghost use Rattle.ps_game.specs.Games.{NamedGameData};
-ghost use Rattle.ps_certificate.specs.Certificates.{CertificateData, Fits, ListsPriorities};
+ghost use Rattle.ps_game.specs.Ranking.{ListsPriorities};
+ghost use Rattle.ps_certificate.specs.Certificates.{CertificateData, Fits};
 ghost use Rattle.ps_certificate.specs.Reading.{Gives, Moves, Tells, head_at, entry_at, entries_at, entries_of as entries_of_text};
 ghost use Rattle.ps_certificate.specs.Known.{known_data, FindsVertices};
 ghost use Rattle.ps_certificate.specs.Texts.{Reads, IsAnswer};
@@ -14,7 +15,7 @@ use crate::certificate::{Certificate, Entry};
 use crate::cursor::Cursor;
 use crate::fault::{CertCause, CertFault};
 use indexmap::IndexMap;
-use ps_game::{Arena, Game, NamedGame};
+use ps_game::{Arena, NamedGame, priorities_of};
 use std::alloc::{AllocError, Global};
 
 /// What is known of a game before the text is read.
@@ -26,22 +27,6 @@ struct Known {
     even: Vec<u64>,
     /// The vertex that has an id.
     vertices: IndexMap<u64, usize>,
-}
-
-/// The priorities of a parity that a game has, rising.
-fn priorities_of(alloc: Global, game: &Game, parity: u64) -> Result<Vec<u64>, AllocError>
-    ensures { IfOk result (λ v. ListsPriorities game.now parity v.items) }
-{
-    let mut priorities = Vec::new(alloc);
-    for vertex in 0..game.count() {
-        let priority = game.priority(vertex);
-        if priority % 2 == parity {
-            priorities.push(priority)?;
-        }
-    }
-    priorities.sort_unstable();
-    priorities.dedup();
-    Ok(priorities)
 }
 
 /// The vertices of a game by their ids.

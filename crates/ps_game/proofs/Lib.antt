@@ -4,6 +4,7 @@ pub mod Finished
 pub mod LoopPriorities
 pub mod Memory
 pub mod Paths
+pub mod Priorities
 pub mod Repeats
 pub mod SubgameFacts
 pub mod Unknown

@@ -3,6 +3,7 @@ pub mod Drafts
 pub mod Games
 pub mod Names
 pub mod Plays
+pub mod Ranking
 pub mod Regions
 pub mod Strategies
 pub mod Subgames

@@ -1,4 +1,4 @@
-use crate::{Arena, GameBuilder, GameFault, NamedGame};
+use crate::{Arena, GameBuilder, GameFault, NamedGame, priorities_of};
 use std::alloc::{AllocError, Global};
 use std::test::Fail;
 
@@ -41,6 +41,24 @@ fn a_repeated_successor_counts_once(rt: HostRuntime) -> Result<(), Fail> {
 fn no_vertex_is_a_game(rt: HostRuntime) -> Result<(), Fail> {
     let game = GameBuilder::new(rt.alloc()).finish()?;
     assert_eq!(rt; game.count(), 0);
+    Ok(())
+}
+
+#[test]
+#[tactic(auto, unfolding(crate::specs::Games::vertex_count))]
+fn each_priority_of_a_parity_is_listed_once(rt: HostRuntime) -> Result<(), Fail> {
+    let mut builder = GameBuilder::new(rt.alloc());
+    builder.vertex(0, 5)?;
+    builder.vertex(0, 3)?;
+    builder.vertex(0, 5)?;
+    builder.edge(0, 1)?;
+    builder.edge(1, 2)?;
+    builder.edge(2, 0)?;
+    let game = builder.finish()?;
+    let odd = priorities_of(rt.alloc(), &game, 1)?;
+    assert_eq!(rt; odd.as_slice(), [3, 5].as_slice());
+    let even = priorities_of(rt.alloc(), &game, 0)?;
+    assert_eq!(rt; even.len(), 0);
     Ok(())
 }
 

@@ -1,5 +1,5 @@
 use Rattle.std.proofs.Common.{ℕ, ◌-◌, ◌<◌, ◌≤◌, length, get_or}
-use Rattle.ps_certificate.specs.Certificates.{HasPriority}
+use Rattle.ps_game.specs.Ranking.{HasPriority}
 use Rattle.ps_certificate.proofs.fitted.all_present.Given as goal
 
 -- each number before the start is the priority of some vertex
