@@ -29,6 +29,8 @@ pub mod HeaderSigns
 pub mod NextSign
 pub mod Keeping
 pub mod SoundLabels
+pub mod Differences
+pub mod SoundLaws
 pub mod SoundHeaders
 pub mod IntSigns
 pub mod BodyReading

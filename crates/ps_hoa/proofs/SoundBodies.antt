@@ -1,18 +1,20 @@
 -- What the states and edges of a body that was read are.
 --     keeps_body      for each body
-use Rattle.std.proofs.Common.{◌≡◌, ℕ, suc, ◌+◌, ◌-◌, ◌<◌, ◌≤◌, ◌⊎◌, Bool, true, false, cond, List, [], ◌∷◌, ◌++◌, length, Option, None, Some, refl, sym, ap, subst, inl, inr, ◌∙◌, arith}
+use Rattle.std.proofs.Common.{◌≡◌, ℕ, suc, ◌+◌, ◌-◌, ◌<◌, ◌≤◌, ◌⊎◌, Bool, true, false, cond, List, [], ◌∷◌, ◌++◌, length, Option, None, Some, refl, sym, ap, subst, inl, inr, ◌∙◌, arith, length-append}
 use Rattle.std.specs.Option.{IfSome}
 use Rattle.std.specs.List.{AllByRecursion, slice_get}
 use Rattle.std.proofs.Math.Decide.{dec_lt}
+use Rattle.std.proofs.lemmas.List.Sums.{sum_by_push}
 use Rattle.ps_label.specs.Expression.{Expression}
 use Rattle.ps_text.specs.Parts.{one}
 use Rattle.ps_text.proofs.Simple.{none_is_some}
-use Rattle.ps_hoa.specs.Body.{BodyData, no_rows, IsBadState, IsBadSet, BadIn, sets_of, is_left_brace, is_right_brace, set_number, marks, is_left_bracket, is_right_bracket, body_scope, some_label, label_in_brackets, state_label, first_labelling, labelling, MayHaveNoLabel, MayHaveLabel, IsBadBracket, is_bracket, labelled_target, IsBadPlainTarget, guard_of, with_edge, labelled_edge, plain_edge, edge, edges, IsWrongCount, last_row, has_row, IsBadRow, state_name, empty_row, with_row, state_value, IsBadNext, state_begins, state, is_end, IsBadClose, ended, body}
-use Rattle.ps_hoa.specs.Files.{GuardData, EdgeData, RowData, stated, of_state, at_letter, is_among, once}
-use Rattle.ps_hoa.specs.Header.{HeaderData, int_in, state_limit, IsAlternating, AnIndexBeyond}
+use Rattle.ps_hoa.specs.Body.{edge_limit, BodyData, no_rows, IsBadState, IsBadSet, BadIn, sets_of, is_left_brace, is_right_brace, set_number, marks, is_left_bracket, is_right_bracket, body_scope, some_label, label_in_brackets, state_label, first_labelling, labelling, MayHaveNoLabel, MayHaveLabel, IsBadBracket, is_bracket, labelled_target, IsBadPlainTarget, guard_of, with_edge, labelled_edge, plain_edge, edge, edges, IsWrongCount, last_row, has_row, IsBadRow, state_name, empty_row, with_row, state_value, IsBadNext, state_begins, state, is_end, IsBadClose, ended, body}
+use Rattle.ps_hoa.specs.Files.{GuardData, EdgeData, RowData, stated, of_state, at_letter, once}
+use Rattle.ps_hoa.specs.Header.{HeaderData, int_in, state_limit, IsAlternating}
 use Rattle.ps_hoa.specs.Labels.{label}
 use Rattle.ps_hoa.specs.Operands.{nesting_limit, mark_in, mark}
-use Rattle.ps_hoa.specs.Sound.{IsStated, IsOfState, AreAtLetters, AreRowsOnce}
+use Rattle.ps_hoa.specs.Sound.{AreDifferent, IsStated, IsOfState, AreAtLetters, AreRowsOnce, edges_of}
+use Rattle.ps_hoa.proofs.Differences.{nat_eq_not, all_once, different_once}
 use Rattle.ps_hoa.specs.declared.edges.Labelling.{Labelling}
 use Rattle.ps_hoa.specs.declared.edges.Labelling.TheVariants.{ByState, ByEdge, ByPlace}
 use Rattle.ps_hoa.specs.declared.fault.HoaCause.{HoaCause}
@@ -20,7 +22,6 @@ use Rattle.ps_hoa.specs.declared.fault.HoaCause.TheVariants as causes
 use Rattle.ps_hoa.specs.declared.tokens.Kind.{Kind}
 use Rattle.ps_hoa.specs.declared.tokens.Kind.TheVariants.{LeftBracket}
 use Rattle.ps_hoa.proofs.Keeping.{Keeps, keeps_nothing, keeps_less, keeps_give, keeps_one, keeps_then, keeps_either, keeps_mapped, keeps_many, keeps_barred}
-use Rattle.std.proofs.lemmas.Bool.{eqb-true, eq-eqb}
 use Rattle.std.specs.Prelude.{nat_eq}
 use Rattle.ps_hoa.proofs.OperandLaws.{false_true, taken_mark}
 use Rattle.ps_hoa.proofs.SoundLabels.{InScope, keeps_label, all_push}
@@ -43,31 +44,24 @@ is_state None n good = elim (dec_lt n state_limit) as (λ _. n < state_limit) [ 
 
 -- ## Sets
 
-beyond_push : (count : ℕ) (ns : List ℕ) (n : ℕ) → (AnIndexBeyond count ns → ⊥) → (count ≤ n → ⊥) → AnIndexBeyond count (ns ++ n ∷ []) → ⊥
-beyond_push count [] n a b (inl h) = b h
-beyond_push count [] n a b (inr h) = h
-beyond_push count (m ∷ ns) n a b (inl h) = a (inl h)
-beyond_push count (m ∷ ns) n a b (inr h) = beyond_push count ns n (λ k. a (inr k)) b h
-
-pub beyond_once : (count : ℕ) (ns : List ℕ) (n : ℕ) → (AnIndexBeyond count ns → ⊥) → (count ≤ n → ⊥) → AnIndexBeyond count (once ns n) → ⊥
-beyond_once count ns n a b = go (is_among n ns)
-  where
-    go : (is : Bool) → AnIndexBeyond count (cond is ns (ns ++ n ∷ [])) → ⊥
-    go true h = a h
-    go false h = beyond_push count ns n a b h
+is_set : (count n : ℕ) → (count ≤ n → ⊥) → n < count
+is_set count n s = elim (dec_lt n count) as (λ _. n < count) [ yes h ↦ h | no h ↦ absurd (s (omega arith)) ]
 
 module _ (h : HeaderData) where
   abbrev pub AreSets : List ℕ → Type 0
-  AreSets ns = AnIndexBeyond (sets_of h) ns → ⊥
+  AreSets ns = AllByRecursion (λ n. n < sets_of h) ns × AreDifferent ns
 
   keeps_set_number : (ns : List ℕ) → AreSets ns → Keeps (set_number (sets_of h) ns) AreSets
   keeps_set_number ns a = keeps_mapped AreSets (once ns) (one int_in (BadIn (IsBadSet (sets_of h))))
-      (λ text n i q. beyond_once (sets_of h) ns n a (λ l. keeps_number (IsBadSet (sets_of h)) text n i q causes.Range (inr (l, refl))))
+      (λ text n i q. (
+        all_once (λ m. m < sets_of h) ns n a.0 (is_set (sets_of h) n (λ l. keeps_number (IsBadSet (sets_of h)) text n i q causes.Range (inr (l, refl)))),
+        different_once ns n a.1,
+      ))
 
   keeps_marks : Keeps (marks h) AreSets
   keeps_marks = keeps_either
-      (keeps_then (keeps_nothing (mark is_left_brace)) (λ _ _. keeps_then (keeps_many (set_number (sets_of h)) keeps_set_number [] (λ b. b)) (λ ns a. keeps_mapped AreSets (λ _. ns) (mark is_right_brace) (λ text u i q. a))))
-      (keeps_give AreSets [] (λ b. b))
+      (keeps_then (keeps_nothing (mark is_left_brace)) (λ _ _. keeps_then (keeps_many (set_number (sets_of h)) keeps_set_number [] (tt, tt)) (λ ns a. keeps_mapped AreSets (λ _. ns) (mark is_right_brace) (λ text u i q. a))))
+      (keeps_give AreSets [] (tt, tt))
 
   -- ## Labels between brackets
 
@@ -143,18 +137,23 @@ bracket_kind kind v e = absurd (none_is_some v e)
 
 -- behind so many edges of earlier states
 module _ (h : HeaderData) (before : ℕ) (n : ℕ) where
-  -- the row of that state
+  -- the row of that state, with no edge too many
   abbrev RowOf : RowData → Type 0
-  RowOf row = IsRowKept h row × (row.state ≡ n)
+  RowOf row = IsRowKept h row × (row.state ≡ n) × (before + length row.edges ≤ edge_limit)
 
   keeps_labelled_target : Keeps (labelled_target h) (IsStateOf h.states)
   keeps_labelled_target = keeps_barred (one int_in (BadIn (IsBadState h.states))) IsAlternating
       (keeps_less (one int_in (BadIn (IsBadState h.states))) (is_state h.states) (keeps_number (IsBadState h.states)))
 
   module _ (row : RowData) (k : RowOf row) where
+    room : (label : Option Expression) (target : ℕ) (ns : List ℕ) → (edge_limit ≤ before + length row.edges → ⊥) → before + length (with_edge row label target ns).edges ≤ edge_limit
+    room label target ns r = let l = is_set edge_limit (before + length row.edges) r in
+        let m : length (with_edge row label target ns).edges ≡ length row.edges + 1 = length-append row.edges _ in
+        let z : before + (length row.edges + 1) ≤ edge_limit = omega (arith, l) in subst (λ k. before + k ≤ edge_limit) (sym m) z
+
     one_more : (label : Option Expression) (target : ℕ) (ns : List ℕ) → IsGuardKept h (guard_of row label) → IsStateOf h.states target → AreSets h ns →
-        LabelledBy row.label (with_edge row label target ns).edges → RowOf (with_edge row label target ns)
-    one_more label target ns g t a l = (
+        (edge_limit ≤ before + length row.edges → ⊥) → LabelledBy row.label (with_edge row label target ns).edges → RowOf (with_edge row label target ns)
+    one_more label target ns g t a r l = (
       record {
         state = k.0.state;
         label = k.0.label;
@@ -163,19 +162,24 @@ module _ (h : HeaderData) (before : ℕ) (n : ℕ) where
         labelled = l;
       },
       k.1,
+      room label target ns r,
     )
 
-    keeps_bracket : Keeps (one is_bracket (IsBadBracket before row)) (λ _. (MayHaveLabel (labelling row) → ⊥) → ⊥)
-    keeps_bracket = keeps_one (λ _. (MayHaveLabel (labelling row) → ⊥) → ⊥) is_bracket (IsBadBracket before row) (λ t v e good no. good causes.Labels (bracket_kind t.kind v e, inr (no, refl)))
+    abbrev MayBegin : Unit {0} → Type 0
+    MayBegin _ = (edge_limit ≤ before + length row.edges → ⊥) × ((MayHaveLabel (labelling row) → ⊥) → ⊥)
+
+    keeps_bracket : Keeps (one is_bracket (IsBadBracket before row)) MayBegin
+    keeps_bracket = keeps_one MayBegin is_bracket (IsBadBracket before row)
+        (λ t v e good. (λ full. good causes.Limit (bracket_kind t.kind v e, inl (full, refl)), λ no. good causes.Labels (bracket_kind t.kind v e, inr (no, refl))))
 
     keeps_labelled_edge : Keeps (labelled_edge h before row) RowOf
     keeps_labelled_edge = keeps_then keeps_bracket (λ _ m. keeps_then (keeps_label_in_brackets h) (λ label l. keeps_then keeps_labelled_target (λ target t.
         keeps_mapped RowOf (with_edge row label target) (marks h) (λ text ns i q.
         let g : guard_of row label ≡ stated l.0 = ap (guard_of row) l.1 in
-        one_more label target ns (subst (IsGuardKept h) (sym g) l.2) t (keeps_marks h text ns i q) (push_stated row.label row.edges _ (l.0, g) k.0.labelled m)))))
+        one_more label target ns (subst (IsGuardKept h) (sym g) l.2) t (keeps_marks h text ns i q) m.0 (push_stated row.label row.edges _ (l.0, g) k.0.labelled m.1)))))
 
-    good_plain : (target : ℕ) → ((f : HoaCause) → IsBadPlainTarget h.states before row target f → ⊥) → IsStateOf h.states target × ((MayHaveNoLabel (labelling row) → ⊥) → ⊥)
-    good_plain target good = (is_state h.states target (λ f c. good f (inl c)), λ no. good causes.Labels (inr (inr (no, refl))))
+    good_plain : (target : ℕ) → ((f : HoaCause) → IsBadPlainTarget h.states before row target f → ⊥) → IsStateOf h.states target × ((MayHaveNoLabel (labelling row) → ⊥) → ⊥) × (edge_limit ≤ before + length row.edges → ⊥)
+    good_plain target good = (is_state h.states target (λ f c. good f (inl c)), λ no. good causes.Labels (inr (inr (no, refl))), λ full. good causes.Limit (inr (inl (full, refl))))
 
     plain_kept : (o : Option Expression) → IsGuardKept h (plain_by o (length row.edges))
     plain_kept None = tt
@@ -185,7 +189,7 @@ module _ (h : HeaderData) (before : ℕ) (n : ℕ) where
     keeps_plain_edge = keeps_then (keeps_barred (one int_in (BadIn (IsBadPlainTarget h.states before row))) IsAlternating
         (keeps_less (one int_in (BadIn (IsBadPlainTarget h.states before row))) good_plain (keeps_number (IsBadPlainTarget h.states before row)))) (λ target t.
         keeps_mapped RowOf (with_edge row None target) (marks h) (λ text ns i q.
-        one_more None target ns (plain_kept row.label) t.0 (keeps_marks h text ns i q) (push_plain row.label row.edges _ refl k.0.labelled t.1)))
+        one_more None target ns (plain_kept row.label) t.0 (keeps_marks h text ns i q) t.2 (push_plain row.label row.edges _ refl k.0.labelled t.1)))
 
     keeps_edge : Keeps (edge h before row) RowOf
     keeps_edge = keeps_either keeps_labelled_edge keeps_plain_edge
@@ -213,13 +217,6 @@ right_push h [] row a = tt
 right_push h (r ∷ []) row a = (a.0, tt)
 right_push h (r ∷ s ∷ rs) row a = (a.0, right_push h (s ∷ rs) row a.1)
 
-nat_eq_not : (a b : ℕ) → nat_eq a b ≡ false → nat_eq b a ≡ false
-nat_eq_not a b e = go (nat_eq b a) refl
-  where
-    go : (t : Bool) → nat_eq b a ≡ t → nat_eq b a ≡ false
-    go false h = h
-    go true h = absurd (let x : b ≡ a = eqb-true b a h in let y : nat_eq a b ≡ true = eq-eqb a b (sym x) in false_true (sym e ∙ y))
-
 rows_push : (rows : List RowData) (row : RowData) → AreRowsOnce rows → has_row row.state rows ≡ false → AreRowsOnce (rows ++ row ∷ [])
 rows_push [] row a e = (refl, tt)
 rows_push (r ∷ rs) row a e = go (nat_eq row.state r.state) refl e (rows_push rs row a.1)
@@ -241,11 +238,14 @@ pub record IsBodyKept (h : HeaderData) (b : BodyData) : Type 0 where
   pub rows : AllByRecursion (IsRowKept h) b.rows
   pub once : AreRowsOnce b.rows
   pub counts : AllButLast h b.rows
+  pub edges : b.edges ≡ edges_of b.rows
+  pub few : b.edges ≤ edge_limit
 
 pub record IsBodyDone (h : HeaderData) (b : BodyData) : Type 0 where
   pub rows : AllByRecursion (IsRowKept h) b.rows
   pub once : AreRowsOnce b.rows
   pub counts : AllByRecursion (HasRightCount h) b.rows
+  pub few : edges_of b.rows ≤ edge_limit
 
 module _ (h : HeaderData) (b : BodyData) where
   abbrev LastIsRight : Type 0
@@ -261,8 +261,8 @@ module _ (h : HeaderData) (b : BodyData) where
       go false e = e
       go true e = absurd (good causes.StateTwice (inr (e, refl)))
 
-  starts : (label : Option Expression) (n : ℕ) (ns : List ℕ) → IfSome label (IsScoped h) → IsStateOf h.states n → AreSets h ns → RowOf h b.edges n (empty_row n label ns)
-  starts label n ns l s a = (record { state = s; label = l; marks = a; edges = tt; labelled = none label }, refl)
+  starts : (label : Option Expression) (n : ℕ) (ns : List ℕ) → IfSome label (IsScoped h) → IsStateOf h.states n → AreSets h ns → b.edges ≤ edge_limit → RowOf h b.edges n (empty_row n label ns)
+  starts label n ns l s a few = (record { state = s; label = l; marks = a; edges = tt; labelled = none label }, refl, (let z : b.edges + 0 ≤ edge_limit = omega (arith, few) in z))
     where
       none : (o : Option Expression) → LabelledBy o []
       none None = inl tt
@@ -272,17 +272,19 @@ module _ (h : HeaderData) (b : BodyData) where
   keeps_state k = keeps_then keeps_state_begins (λ _ r. keeps_then (keeps_state_label h) (λ label l. keeps_then (keeps_number (IsBadRow h b)) (λ n g.
       keeps_then (keeps_nothing state_name) (λ _ _. keeps_then (keeps_marks h) (λ ns a.
       keeps_mapped (IsBodyKept h) (with_row b) (edges h b.edges (empty_row n label ns)) (λ text row i q.
-      let e = keeps_edges h b.edges n (empty_row n label ns) (starts label n ns l (is_state h.states n (λ f c. g f (inl c))) a) text row i q in
+      let e = keeps_edges h b.edges n (empty_row n label ns) (starts label n ns l (is_state h.states n (λ f c. g f (inl c))) a k.few) text row i q in
       record {
         rows = all_push (IsRowKept h) b.rows row k.rows e.0;
         once = rows_push b.rows row k.once (subst (λ m. has_row m b.rows ≡ false) (sym e.1) (no_row n g));
         counts = right_push h b.rows row (last_right h b.rows k.counts r);
+        edges = ap (λ m. m + length row.edges) k.edges ∙ sym (sum_by_push (λ r. length r.edges) b.rows row);
+        few = e.2;
       }))))))
 
   keeps_ended : IsBodyKept h b → Keeps (ended h b) (IsBodyDone h)
-  keeps_ended k = keeps_less (ended h b) (λ g p. subst (IsBodyDone h) p.0 (record { rows = k.rows; once = k.once; counts = last_right h b.rows k.counts p.1 }))
+  keeps_ended k = keeps_less (ended h b) (λ g p. subst (IsBodyDone h) p.0 (record { rows = k.rows; once = k.once; counts = last_right h b.rows k.counts p.1; few = subst (λ m. m ≤ edge_limit) k.edges k.few }))
       (keeps_mapped (λ g. (b ≡ g) × LastIsRight) (λ _. b) (one (mark_in is_end) (IsBadClose h b))
       (keeps_one (λ _. (b ≡ b) × LastIsRight) (mark_in is_end) (IsBadClose h b) (λ t v e good. (refl, λ row l wrong. good causes.Labels (taken_mark is_end t v e, ((row, l, wrong), refl))))))
 
 pub keeps_body : (h : HeaderData) → Keeps (body h) (IsBodyDone h)
-keeps_body h = keeps_then (keeps_many (state h) (keeps_state h) no_rows (record { rows = tt; once = tt; counts = tt })) (keeps_ended h)
+keeps_body h = keeps_then (keeps_many (state h) (keeps_state h) no_rows (record { rows = tt; once = tt; counts = tt; edges = refl; few = omega arith })) (keeps_ended h)

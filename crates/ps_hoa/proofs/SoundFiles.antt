@@ -8,20 +8,21 @@ use Rattle.ps_label.specs.Expression.{Expression}
 use Rattle.ps_text.specs.Answers.{signs}
 use Rattle.ps_text.specs.Parts.{by_part}
 use Rattle.ps_hoa.specs.Body.{BodyData, body}
-use Rattle.ps_hoa.specs.Conditions.{Condition}
+use Rattle.ps_hoa.specs.Conditions.{Condition, Conditions}
 use Rattle.ps_hoa.specs.Conditions as conditions
 use Rattle.ps_hoa.specs.Files.{GuardData, EdgeData, RowData, FileData, stated, of_state, at_letter, greatest_target, greatest_state, count_of_states}
-use Rattle.ps_hoa.specs.Header.{HeaderData, AcceptanceData, names_of, state_limit, set_limit, IsStartBeyond, IsStartTooLarge, IsConditionBeyond, IsControlBeyond, AnIndexBeyond, NamesSetBeyond, start_too_large, no_start, out_of_range}
-use Rattle.ps_hoa.specs.Sound.{IsLabel, AreLabelled, IsGuard, IsSoundEdge, IsSoundRow, IsSound}
+use Rattle.ps_hoa.specs.Header.{HeaderData, AcceptanceData, names_of, state_limit, set_limit, IsStartBeyond, IsStartTooLarge, IsConditionBeyond, IsControlBeyond, AnIndexBeyond, NamesSetBeyond, SomeNamesSetBeyond, start_too_large, no_start, out_of_range}
+use Rattle.ps_hoa.specs.Sound.{AreDifferent, IsCondition, AreConditions, AreLabelled, IsLabelOf, IsGuard, AreBelow, IsSoundEdge, IsSoundRow, IsSound}
 use Rattle.ps_hoa.specs.Texts.{file_of, file, Reads, by_tokens}
 use Rattle.ps_hoa.specs.Tokens.{marked}
 use Rattle.ps_hoa.specs.Scan.{fresh}
 use Rattle.ps_hoa.specs.declared.edges.Labelling.TheVariants.{ByPlace}
 use Rattle.ps_hoa.specs.declared.fault.HoaCause.TheVariants as causes
 use Rattle.ps_hoa.proofs.Keeping.{Keeps, keeps_then, keeps_mapped}
-use Rattle.ps_hoa.proofs.SoundBodies.{IsStateOf, IsScoped, IsGuardKept, IsEdgeKept, IsRowKept, HasRightCount, IsBodyDone, LabelledBy, way_of, way, keeps_body}
-use Rattle.ps_hoa.proofs.SoundHeaders.{Kept, HasNoFlaw, keeps_header, aliases_ordered}
-use Rattle.ps_hoa.proofs.SoundLabels.{NamesBelow, within_of}
+use Rattle.ps_hoa.proofs.SoundBodies.{AreSets, IsStateOf, IsScoped, IsGuardKept, IsEdgeKept, IsRowKept, HasRightCount, IsBodyDone, LabelledBy, way_of, way, keeps_body}
+use Rattle.ps_hoa.proofs.SoundHeaders.{Kept, HasNoFlaw, keeps_header, sound_aliases}
+use Rattle.ps_hoa.proofs.SoundLabels.{NamesBelow, label_from}
+use Rattle.ps_hoa.proofs.SoundLaws.{all_at}
 
 -- ## How many states there are
 
@@ -100,13 +101,32 @@ few_sets : (o : Option AcceptanceData) → IfSome o (λ a. a.sets ≤ set_limit)
 few_sets None l = omega arith
 few_sets (Some a) l = l
 
-condition_within : (o : Option AcceptanceData) → (IsConditionBeyond o → ⊥) → NamesSetBeyond (sets_in o) (condition_in o) → ⊥
-condition_within None b h = h
-condition_within (Some a) b h = b h
+below : (count n : ℕ) → (count ≤ n → ⊥) → n < count
+below count n s = elim (dec_lt n count) as (λ _. n < count) [ yes h ↦ h | no h ↦ absurd (s (omega arith)) ]
 
-control_within : (count : ℕ) (o : Option (List ℕ)) → (IsControlBeyond count o → ⊥) → AnIndexBeyond count (unwrap_or o []) → ⊥
-control_within count None b h = h
-control_within count (Some ns) b h = b h
+mutual
+  condition_from : (count : ℕ) (c : Condition) → (NamesSetBeyond count c → ⊥) → IsCondition count c
+  condition_from count (conditions.constant b) s = tt
+  condition_from count (conditions.infinitely set) s = below count set.number s
+  condition_from count (conditions.finitely set) s = below count set.number s
+  condition_from count (conditions.all_hold cs) s = conditions_from count cs s
+  condition_from count (conditions.any_holds cs) s = conditions_from count cs s
+
+  conditions_from : (count : ℕ) (cs : Conditions) → (SomeNamesSetBeyond count cs → ⊥) → AreConditions count cs
+  conditions_from count conditions.last s = tt
+  conditions_from count (conditions.more c cs) s = (condition_from count c (λ h. s (inl h)), conditions_from count cs (λ h. s (inr h)))
+
+condition_within : (o : Option AcceptanceData) → (IsConditionBeyond o → ⊥) → IsCondition (sets_in o) (condition_in o)
+condition_within None b = tt
+condition_within (Some a) b = condition_from a.sets a.condition b
+
+indices_from : (count : ℕ) (ns : List ℕ) → (AnIndexBeyond count ns → ⊥) → AllByRecursion (λ n. n < count) ns
+indices_from count [] b = tt
+indices_from count (n ∷ ns) b = (below count n (λ h. b (inl h)), indices_from count ns (λ h. b (inr h)))
+
+control_within : (count : ℕ) (o : Option (List ℕ)) → (IsControlBeyond count o → ⊥) → IfSome o AreDifferent → AreBelow count (unwrap_or o [])
+control_within count None b d = record { all = all_at (λ n. n < count) [] tt; different = tt }
+control_within count (Some ns) b d = record { all = all_at (λ n. n < count) ns (indices_from count ns b); different = d }
 
 -- ## Rows
 
@@ -124,21 +144,24 @@ module _ (h : HeaderData) (b : BodyData) (k : Kept h) (n : HasNoFlaw h) (d : IsB
   abbrev whole : FileData
   whole = file_of h b
 
-  is_label : (e : Expression) → IsScoped h e → IsLabel whole e
-  is_label e s = (within_of (length (names_of h)) (length h.aliases) e k.1.0 (subst (λ m. NamesBelow m e) k.2.one_each s.0) s.1, s.1)
+  is_label : (e : Expression) → IsScoped h e → IsLabelOf whole e
+  is_label e s = label_from (length (names_of h)) (length h.aliases) e (subst (λ m. NamesBelow m e) k.2.one_each s.0) s.1
 
   guard_sound : (g : GuardData) → IsGuardKept h g → IsGuard whole g
   guard_sound (stated e) s = is_label e s
   guard_sound of_state s = tt
   guard_sound (at_letter m) s = tt
 
-  label_sound : (o : Option Expression) → IfSome o (IsScoped h) → IfSome o (IsLabel whole)
+  label_sound : (o : Option Expression) → IfSome o (IsScoped h) → IfSome o (IsLabelOf whole)
   label_sound None s = tt
   label_sound (Some e) s = is_label e s
 
+  marks_sound : (ns : List ℕ) → AreSets h ns → AreBelow whole.sets ns
+  marks_sound ns a = record { all = all_at (λ n. n < whole.sets) ns a.0; different = a.1 }
+
   edges_sound : (es : List EdgeData) → AllByRecursion (IsEdgeKept h) es → AllByRecursion (λ e. e.target < whole.states) es → AllByRecursion (IsSoundEdge whole) es
   edges_sound [] a b = tt
-  edges_sound (e ∷ es) a b = (record { guard = guard_sound e.guard a.0.guard; target = b.0; marks = a.0.marks }, edges_sound es a.1 b.1)
+  edges_sound (e ∷ es) a b = (record { guard = guard_sound e.guard a.0.guard; target = b.0; marks = marks_sound e.marks a.0.marks }, edges_sound es a.1 b.1)
 
   rows_sound : (rows : List RowData) → AllByRecursion (IsRowKept h) rows → AllByRecursion (HasRightCount h) rows → AllByRecursion (IsBelow whole.states) rows → AllByRecursion (IsSoundRow whole) rows
   rows_sound [] a c l = tt
@@ -146,8 +169,8 @@ module _ (h : HeaderData) (b : BodyData) (k : Kept h) (n : HasNoFlaw h) (d : IsB
     record {
       state = l.0.0;
       label = label_sound row.label a.0.label;
-      marks = a.0.marks;
-      edges = edges_sound row.edges a.0.edges l.0.1;
+      marks = marks_sound row.marks a.0.marks;
+      edges = all_at (IsSoundEdge whole) row.edges (edges_sound row.edges a.0.edges l.0.1);
       labelled = labelled_right (length (names_of h)) row.label row.edges a.0.labelled c.0;
     },
     rows_sound rows a.1 c.1 l.1,
@@ -165,13 +188,14 @@ module _ (h : HeaderData) (b : BodyData) (k : Kept h) (n : HasNoFlaw h) (d : IsB
     start = start_below h.states (unwrap_or h.start 0) b.rows start_is;
     few_names = k.1.0;
     names = k.1.1;
-    controllable = control_within (length (names_of h)) h.controllable (λ c. n causes.Range (out_of_range (inr (inr (inr c)))));
-    aliases = aliases_ordered h k n;
-    propositions = λ c. n causes.Range (out_of_range (inr (inl c)));
+    controllable = control_within (length (names_of h)) h.controllable (λ c. n causes.Range (out_of_range (inr (inr (inr c))))) k.4;
+    few_aliases = k.2.few;
+    aliases = sound_aliases h k n;
     sets = few_sets h.acceptance k.3;
     condition = condition_within h.acceptance (λ c. n causes.Range (out_of_range (inr (inr (inl c)))));
-    rows = rows_sound b.rows d.rows d.counts (all_below h.states (unwrap_or h.start 0) b.rows rows_are);
+    rows = all_at (IsSoundRow whole) b.rows (rows_sound b.rows d.rows d.counts (all_below h.states (unwrap_or h.start 0) b.rows rows_are));
     rows_once = d.once;
+    few_edges = d.few;
   }
 
 pub keeps_file : Keeps file IsSound

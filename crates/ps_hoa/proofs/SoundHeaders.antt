@@ -1,10 +1,10 @@
 -- A header that was read has no flaw, at most 64 propositions, and aliases that each speak of earlier ones alone.
 --     keeps_header      for each header
---     aliases_ordered      its aliases, as labels want them
+--     sound_aliases      its aliases
 use Rattle.std.proofs.Common.{◌≡◌, ℕ, zero, suc, ◌+◌, ◌<◌, ◌≤◌, ◌⊎◌, true, List, [], ◌∷◌, ◌++◌, length, codes, Some, refl, sym, ap, subst, inl, inr, ◌∙◌, arith, length-append}
 use Rattle.std.specs.Option.{IfSome}
 use Rattle.std.proofs.Math.Decide.{dec_lt}
-use Rattle.ps_label.specs.Expression.{Expression, AreOrderedFrom, AreOrdered}
+use Rattle.ps_label.specs.Expression.{Expression}
 use Rattle.ps_text.specs.Parts.{one, times, many, barred}
 use Rattle.ps_text.proofs.Simple.{none_is_some, same_some}
 use Rattle.ps_hoa.specs.Header.{HeaderData, no_items, names_of, state_limit, proposition_limit, alias_limit, set_limit, item_name, int_in, IsAbove, int, string, with_states, states_item, IsAlternating, is_name_among, with_start, start_item, string_in, IsBadName, with_name, proposition_name, with_names, names_item, alias_value, IsBadAlias, header_scope, with_alias, alias_item, with_acceptance, acceptance_item, index, with_controllable, controllable_item, unchanged, tool_item, name_item, read_over_value, read_over, item, AnAliasBeyond, IsBadHeader, out_of_range, body_value, IsBadBody, body_mark, header}
@@ -20,10 +20,12 @@ use Rattle.std.specs.Prelude.{◌||◌, Bool, false, cond}
 use Rattle.std.specs.Str.{bytes_eq}
 use Rattle.std.proofs.lemmas.Slice.Eq.{bytes_eq-Decides}
 use Rattle.ps_hoa.specs.Header.{is_empty, has_control}
-use Rattle.ps_hoa.specs.Sound.{AreNames}
+use Rattle.ps_hoa.specs.Sound.{AreDifferent, AreAliases, AreNames}
+use Rattle.ps_hoa.specs.Files.{once}
+use Rattle.ps_hoa.proofs.Differences.{different_once}
 use Rattle.ps_hoa.proofs.OperandLaws.{false_true}
 use Rattle.ps_hoa.proofs.Keeping.{Keeps, keeps_nothing, keeps_less, keeps_give, keeps_one, keeps_then, keeps_either, keeps_mapped, keeps_times, keeps_many}
-use Rattle.ps_hoa.proofs.SoundLabels.{NamesBelow, within_of, keeps_label}
+use Rattle.ps_hoa.proofs.SoundLabels.{NamesBelow, label_from, keeps_label}
 use Rattle.ps_hoa.proofs.HeaderLaws.{start_name, other_name}
 
 -- ## Numbers
@@ -45,21 +47,21 @@ NamesRise k [] = Unit {0}
 NamesRise k (e ∷ es) = NamesBelow k e × NamesRise (k + 1) es
 
 -- the aliases have a name each, and speak of earlier ones alone
-pub record AreAliases (names : List (List ℕ)) (es : List Expression) : Type 0 where
+pub record HasAliases (names : List (List ℕ)) (es : List Expression) : Type 0 where
   pub one_each : length names ≡ length es
   pub few : length es ≤ alias_limit
   pub rise : NamesRise 0 es
 
--- what the items so far say: the states, propositions, aliases and sets
+-- what the items so far say: the states, propositions, aliases, sets and controllable propositions
 abbrev pub Kept : HeaderData → Type 0
-Kept h = IfSome h.states (λ n. n ≤ state_limit) × ((length (names_of h) ≤ proposition_limit) × AreNames (names_of h)) × AreAliases h.alias_names h.aliases × IfSome h.acceptance (λ a. a.sets ≤ set_limit)
+Kept h = IfSome h.states (λ n. n ≤ state_limit) × ((length (names_of h) ≤ proposition_limit) × AreNames (names_of h)) × HasAliases h.alias_names h.aliases × IfSome h.acceptance (λ a. a.sets ≤ set_limit) × IfSome h.controllable AreDifferent
 
 rise_push : (k : ℕ) (es : List Expression) (e : Expression) → NamesRise k es → NamesBelow (k + length es) e → NamesRise k (es ++ e ∷ [])
 rise_push k [] e r n = (let z : k + 0 ≡ k = omega arith in subst (λ m. NamesBelow m e) z n, tt)
 rise_push k (x ∷ es) e r n = (r.0, rise_push (k + 1) es e r.1 (let z : k + suc (length es) ≡ (k + 1) + length es = omega arith in subst (λ m. NamesBelow m e) z n))
 
-one_more_alias : (names : List (List ℕ)) (es : List Expression) (name : List ℕ) (e : Expression) → AreAliases names es → length names < alias_limit → NamesBelow (length names) e →
-    AreAliases (names ++ name ∷ []) (es ++ e ∷ [])
+one_more_alias : (names : List (List ℕ)) (es : List Expression) (name : List ℕ) (e : Expression) → HasAliases names es → length names < alias_limit → NamesBelow (length names) e →
+    HasAliases (names ++ name ∷ []) (es ++ e ∷ [])
 one_more_alias names es name e a l n =
     let x : length names ≡ length es = a.one_each in
     let y : length (names ++ name ∷ []) ≡ length names + 1 = length-append names (name ∷ []) in
@@ -132,12 +134,15 @@ few_more names t name e good = elim (dec_lt (length names) alias_limit) as (λ _
       λ k. none_is_some name (sym k ∙ e),
     )
 
+keeps_index : (ns : List ℕ) → AreDifferent ns → Keeps (index ns) AreDifferent
+keeps_index ns a = keeps_mapped AreDifferent (once ns) (int number_limit) (λ text n i q. different_once ns n a)
+
 -- ## Items
 
 module _ (h : HeaderData) (k : Kept h) where
   keeps_states : Keeps (states_item h) Kept
   keeps_states = keeps_then (keeps_nothing (item_name (codes "States:"))) (λ _ _. keeps_mapped Kept (with_states h) (int state_limit)
-      (λ text n i q. (keeps_int state_limit text n i q, k.1, k.2, k.3)))
+      (λ text n i q. (keeps_int state_limit text n i q, k.1, k.2, k.3, k.4)))
 
   keeps_start : Keeps (start_item h) Kept
   keeps_start = keeps_then (keeps_nothing (start_name h)) (λ _ _. keeps_mapped Kept (with_start h) (barred (int number_limit) IsAlternating) (λ text n i q. k))
@@ -145,20 +150,21 @@ module _ (h : HeaderData) (k : Kept h) where
   keeps_names : Keeps (names_item h) Kept
   keeps_names = keeps_then (keeps_nothing (item_name (codes "AP:"))) (λ _ _. keeps_then (keeps_int proposition_limit) (λ n l.
       keeps_mapped Kept (with_names h) (times n proposition_name [])
-      (λ text names i q. (k.0, ((let m : length names ≡ 0 + n = keeps_count n [] text names i q in omega (arith, l, m)), keeps_names_good n [] tt text names i q), k.2, k.3))))
+      (λ text names i q. (k.0, ((let m : length names ≡ 0 + n = keeps_count n [] text names i q in omega (arith, l, m)), keeps_names_good n [] tt text names i q), k.2, k.3, k.4))))
 
   keeps_alias : Keeps (alias_item h) Kept
   keeps_alias = keeps_then (keeps_nothing (item_name (codes "Alias:"))) (λ _ _.
       keeps_then (keeps_one (λ _. length h.alias_names < alias_limit) (λ s. alias_value s.kind s.text) (IsBadAlias h.alias_names) (few_more h.alias_names)) (λ name l.
       keeps_mapped Kept (with_alias h name) (label (header_scope h) nesting_limit)
-      (λ text e i q. (k.0, k.1, one_more_alias h.alias_names h.aliases name e k.2 l (keeps_label (header_scope h) nesting_limit text e i q).0, k.3))))
+      (λ text e i q. (k.0, k.1, one_more_alias h.alias_names h.aliases name e k.2 l (keeps_label (header_scope h) nesting_limit text e i q).0, k.3, k.4))))
 
   keeps_acceptance : Keeps (acceptance_item h) Kept
   keeps_acceptance = keeps_then (keeps_nothing (item_name (codes "Acceptance:"))) (λ _ _. keeps_then (keeps_int set_limit) (λ n l.
-      keeps_mapped Kept (with_acceptance h n) (condition nesting_limit) (λ text c i q. (k.0, k.1, k.2, l))))
+      keeps_mapped Kept (with_acceptance h n) (condition nesting_limit) (λ text c i q. (k.0, k.1, k.2, l, k.4))))
 
   keeps_controllable : Keeps (controllable_item h) Kept
-  keeps_controllable = keeps_then (keeps_nothing (item_name (codes "controllable-AP:"))) (λ _ _. keeps_mapped Kept (with_controllable h) (many index []) (λ text ns i q. k))
+  keeps_controllable = keeps_then (keeps_nothing (item_name (codes "controllable-AP:"))) (λ _ _. keeps_mapped Kept (with_controllable h) (many index [])
+      (λ text ns i q. (k.0, k.1, k.2, k.3, keeps_many index keeps_index [] tt text ns i q)))
 
   keeps_tool : Keeps (tool_item h) Kept
   keeps_tool = keeps_then (keeps_nothing (item_name (codes "tool:"))) (λ _ _. keeps_then (keeps_nothing string) (λ _ _.
@@ -195,16 +201,16 @@ keeps_body_mark h k = keeps_one (λ g. Kept g × HasNoFlaw g) (λ s. body_value 
     let p = same_header h g t.kind e in subst (λ z. Kept z × HasNoFlaw z) p.1 (k, λ f b. good f (p.0, b)))
 
 no_items_kept : Kept no_items
-no_items_kept = (tt, (omega arith, tt), record { one_each = refl; few = omega arith; rise = tt }, tt)
+no_items_kept = (tt, (omega arith, tt), record { one_each = refl; few = omega arith; rise = tt }, tt, tt)
 
 pub keeps_header : Keeps header (λ h. Kept h × HasNoFlaw h)
 keeps_header = keeps_then (keeps_many item keeps_item no_items no_items_kept) keeps_body_mark
 
 -- ## The aliases
 
-rise_ordered : (count k : ℕ) (es : List Expression) → count ≤ 64 → NamesRise k es → (AnAliasBeyond count es → ⊥) → AreOrderedFrom k es
-rise_ordered count k [] l r n = tt
-rise_ordered count k (e ∷ es) l r n = (within_of count k e l r.0 (λ h. n (inl h)), rise_ordered count (k + 1) es l r.1 (λ h. n (inr h)))
+rise_sound : (count k : ℕ) (es : List Expression) → NamesRise k es → (AnAliasBeyond count es → ⊥) → AreAliases k count es
+rise_sound count k [] r n = tt
+rise_sound count k (e ∷ es) r n = (label_from count k e r.0 (λ h. n (inl h)), rise_sound count (k + 1) es r.1 (λ h. n (inr h)))
 
-pub aliases_ordered : (h : HeaderData) → Kept h → HasNoFlaw h → AreOrdered h.aliases
-aliases_ordered h k n = rise_ordered (length (names_of h)) 0 h.aliases k.1.0 k.2.rise (λ b. n causes.Range (out_of_range (inr (inl b))))
+pub sound_aliases : (h : HeaderData) → Kept h → HasNoFlaw h → AreAliases 0 (length (names_of h)) h.aliases
+sound_aliases h k n = rise_sound (length (names_of h)) 0 h.aliases k.2.rise (λ b. n causes.Range (out_of_range (inr (inl b))))

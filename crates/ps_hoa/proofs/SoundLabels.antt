@@ -1,19 +1,20 @@
 -- A label that was read speaks of propositions and aliases that there are.
 --     NamesBelow count e      e speaks of aliases below that number
---     within_of      where the propositions are fewer than 64 too, that is what labels are asked for
+--     label_from      where it speaks of no proposition beyond, it is sound
 --     keeps_label      for each label in its surroundings
 use Rattle.std.proofs.Common.{◌≡◌, ℕ, zero, suc, ◌<◌, ◌≤◌, Bool, List, [], ◌∷◌, ◌++◌, length, Option, None, Some, refl, sym, subst, inl, inr, arith}
 use Rattle.std.specs.List.{AllByRecursion}
 use Rattle.std.specs.Str.{bytes_eq}
 use Rattle.std.proofs.Math.Decide.{dec_lt}
 use Rattle.std.proofs.lemmas.List.Quantifiers.{position-Some}
-use Rattle.ps_label.specs.Expression.{Expression, constant, proposition, alias, not_of, all_of, any_of, Operands, last, more, row_of, IsWithin, AreWithin}
+use Rattle.ps_label.specs.Expression.{Expression, constant, proposition, alias, not_of, all_of, any_of, Operands, last, more, row_of}
 use Rattle.ps_text.specs.Digits.{decimal_value}
 use Rattle.ps_text.specs.Parts.{Part}
 use Rattle.ps_text.proofs.Simple.{none_is_some, same_some}
 use Rattle.ps_hoa.specs.Header.{SpeaksBeyond, SomeSpeaksBeyond}
 use Rattle.ps_hoa.specs.Labels.{ScopeData, boolean_in, constant_in, alias_number, alias_in, leaf_value, leaf_in, IsBeyond, IsBadLeaf, BadLeaf, leaf, all_together, any_together, conjunction, disjunction, negation, operand, label}
 use Rattle.ps_hoa.specs.Operands.{is_not, is_and, is_or, is_left, is_right, mark, before, inner, single, with_last, joined, further, operands, row}
+use Rattle.ps_hoa.specs.Sound.{IsLabel, AreLabels}
 use Rattle.ps_hoa.specs.Tokens.{Sign}
 use Rattle.ps_hoa.specs.declared.fault.HoaCause.{HoaCause}
 use Rattle.ps_hoa.specs.declared.fault.HoaCause.TheVariants as causes
@@ -34,22 +35,22 @@ abbrev mutual
   AllNamesBelow count last = Unit {0}
   AllNamesBelow count (more e es) = NamesBelow count e × AllNamesBelow count es
 
-below : (count p : ℕ) → count ≤ 64 → (count ≤ p → ⊥) → p < 64
-below count p l s = elim (dec_lt p 64) as (λ _. p < 64) [ yes h ↦ h | no h ↦ absurd (s (omega arith)) ]
+below : (count p : ℕ) → (count ≤ p → ⊥) → p < count
+below count p s = elim (dec_lt p count) as (λ _. p < count) [ yes h ↦ h | no h ↦ absurd (s (omega arith)) ]
 
--- what labels are asked for, from what is read of them
+-- what a label is, from what is read of it
 mutual
-  pub within_of : (count names : ℕ) (e : Expression) → count ≤ 64 → NamesBelow names e → (SpeaksBeyond count e → ⊥) → IsWithin names e
-  within_of count names (constant b) l n s = tt
-  within_of count names (proposition p) l n s = below count p l s
-  within_of count names (alias k) l n s = n
-  within_of count names (not_of e) l n s = within_of count names e l n s
-  within_of count names (all_of es) l n s = all_within_of count names es l n s
-  within_of count names (any_of es) l n s = all_within_of count names es l n s
+  pub label_from : (count names : ℕ) (e : Expression) → NamesBelow names e → (SpeaksBeyond count e → ⊥) → IsLabel names count e
+  label_from count names (constant b) n s = tt
+  label_from count names (proposition p) n s = below count p s
+  label_from count names (alias k) n s = n
+  label_from count names (not_of e) n s = label_from count names e n s
+  label_from count names (all_of es) n s = labels_from count names es n s
+  label_from count names (any_of es) n s = labels_from count names es n s
 
-  all_within_of : (count names : ℕ) (es : Operands) → count ≤ 64 → AllNamesBelow names es → (SomeSpeaksBeyond count es → ⊥) → AreWithin names es
-  all_within_of count names last l n s = tt
-  all_within_of count names (more e es) l n s = (within_of count names e l n.0 (λ h. s (inl h)), all_within_of count names es l n.1 (λ h. s (inr h)))
+  labels_from : (count names : ℕ) (es : Operands) → AllNamesBelow names es → (SomeSpeaksBeyond count es → ⊥) → AreLabels names count es
+  labels_from count names last n s = tt
+  labels_from count names (more e es) n s = (label_from count names e n.0 (λ h. s (inl h)), labels_from count names es n.1 (λ h. s (inr h)))
 
 -- ## Rows of operands
 

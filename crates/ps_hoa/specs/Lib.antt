@@ -18,6 +18,8 @@ pub mod LabelNesting
 pub mod ConditionNesting
 pub mod Memory
 pub mod Views
+pub mod FileViews
+pub mod Codes
 pub mod Signs
 pub mod Ahead
 pub mod Rows

@@ -1,16 +1,54 @@
--- What holds of each file that was read: every number is that of a state, a proposition, a set or an earlier alias, and the edges of
--- a state are labelled in one of three ways.
+-- What holds of each file that was read: every number is that of a state, a proposition, a set or an earlier alias; the numbers of a
+-- list, names and rows differ; the edges of a state are labelled in one of three ways; and nothing is beyond the limits of texts.
 --     IsSound file
-use Rattle.std.specs.Prelude.{◌≡◌, ℕ, ◌+◌, ◌^◌, ◌<◌, ◌≤◌, ◌⊎◌, ◌||◌, false, List, [], ◌∷◌, length, Option, None, Some, IfSome}
+--     IsLabel aliases propositions e      e speaks of that many aliases and propositions alone
+use Rattle.std.specs.Prelude.{◌≡◌, ℕ, ◌+◌, ◌^◌, ◌<◌, ◌≤◌, ◌⊎◌, ◌||◌, false, List, [], ◌∷◌, length, All, sum_by, Option, None, Some, IfSome}
 use Rattle.std.specs.List.{AllByRecursion}
-use Rattle.ps_label.specs.Expression.{Expression, IsWithin, AreOrdered}
-use Rattle.ps_hoa.specs.Files.{GuardData, EdgeData, RowData, FileData, stated, of_state, at_letter}
-use Rattle.ps_hoa.specs.Header.{state_limit, proposition_limit, set_limit, has_control, is_empty, is_name_among, SpeaksBeyond, AnAliasBeyond, NamesSetBeyond, AnIndexBeyond}
-use Rattle.ps_hoa.specs.Body.{has_row}
+use Rattle.ps_label.specs.Expression.{Expression, constant, proposition, alias, not_of, all_of, any_of, Operands, last, more}
+use Rattle.ps_hoa.specs.Conditions as conditions
+use Rattle.ps_hoa.specs.Conditions.{Condition, Conditions}
+use Rattle.ps_hoa.specs.Files.{GuardData, EdgeData, RowData, FileData, stated, of_state, at_letter, is_among}
+use Rattle.ps_hoa.specs.Header.{state_limit, proposition_limit, set_limit, alias_limit, has_control, is_empty, is_name_among}
+use Rattle.ps_hoa.specs.Body.{edge_limit, has_row}
 
--- a label speaks of aliases and propositions that there are
-abbrev pub IsLabel : FileData → Expression → Type 0
-IsLabel file e = IsWithin (length file.aliases) e × (SpeaksBeyond (length file.names) e → ⊥)
+-- none of the numbers stands twice
+abbrev pub AreDifferent : List ℕ → Type 0
+AreDifferent [] = Unit {0}
+AreDifferent (n ∷ ns) = (is_among n ns ≡ false) × AreDifferent ns
+
+-- ## Labels and conditions
+
+abbrev mutual
+  pub IsLabel : ℕ → ℕ → Expression → Type 0
+  IsLabel aliases propositions (constant b) = Unit {0}
+  IsLabel aliases propositions (proposition p) = p < propositions
+  IsLabel aliases propositions (alias k) = k < aliases
+  IsLabel aliases propositions (not_of e) = IsLabel aliases propositions e
+  IsLabel aliases propositions (all_of es) = AreLabels aliases propositions es
+  IsLabel aliases propositions (any_of es) = AreLabels aliases propositions es
+
+  pub AreLabels : ℕ → ℕ → Operands → Type 0
+  AreLabels aliases propositions last = Unit {0}
+  AreLabels aliases propositions (more e es) = IsLabel aliases propositions e × AreLabels aliases propositions es
+
+-- each of these aliases, the first of which has the number given, speaks of earlier ones alone
+abbrev pub AreAliases : ℕ → ℕ → List Expression → Type 0
+AreAliases k propositions [] = Unit {0}
+AreAliases k propositions (e ∷ es) = IsLabel k propositions e × AreAliases (k + 1) propositions es
+
+abbrev mutual
+  pub IsCondition : ℕ → Condition → Type 0
+  IsCondition sets (conditions.constant b) = Unit {0}
+  IsCondition sets (conditions.infinitely s) = s.number < sets
+  IsCondition sets (conditions.finitely s) = s.number < sets
+  IsCondition sets (conditions.all_hold cs) = AreConditions sets cs
+  IsCondition sets (conditions.any_holds cs) = AreConditions sets cs
+
+  pub AreConditions : ℕ → Conditions → Type 0
+  AreConditions sets conditions.last = Unit {0}
+  AreConditions sets (conditions.more c cs) = IsCondition sets c × AreConditions sets cs
+
+-- ## How the edges of a state are labelled
 
 abbrev pub IsStated : EdgeData → Type 0
 IsStated e = (label : Expression) × (e.guard ≡ stated label)
@@ -28,20 +66,30 @@ abbrev pub AreLabelled : ℕ → Option Expression → List EdgeData → Type 0
 AreLabelled propositions (Some e) es = AllByRecursion IsOfState es
 AreLabelled propositions None es = AllByRecursion IsStated es ⊎ (AreAtLetters 0 es × (length es ≡ 2 ^ propositions))
 
+-- ## The parts of a file
+
+abbrev pub IsLabelOf : FileData → Expression → Type 0
+IsLabelOf file e = IsLabel (length file.aliases) (length file.names) e
+
 abbrev pub IsGuard : FileData → GuardData → Type 0
-IsGuard file (stated e) = IsLabel file e
+IsGuard file (stated e) = IsLabelOf file e
 IsGuard file guard = Unit {0}
+
+-- numbers below that, each once
+pub record AreBelow (count : ℕ) (ns : List ℕ) : Type 0 where
+  pub all : All (λ n. n < count) ns
+  pub different : AreDifferent ns
 
 pub record IsSoundEdge (file : FileData) (e : EdgeData) : Type 0 where
   pub guard : IsGuard file e.guard
   pub target : e.target < file.states
-  pub marks : AnIndexBeyond file.sets e.marks → ⊥
+  pub marks : AreBelow file.sets e.marks
 
 pub record IsSoundRow (file : FileData) (row : RowData) : Type 0 where
   pub state : row.state < file.states
-  pub label : IfSome row.label (IsLabel file)
-  pub marks : AnIndexBeyond file.sets row.marks → ⊥
-  pub edges : AllByRecursion (IsSoundEdge file) row.edges
+  pub label : IfSome row.label (IsLabelOf file)
+  pub marks : AreBelow file.sets row.marks
+  pub edges : All (IsSoundEdge file) row.edges
   pub labelled : AreLabelled (length file.names) row.label row.edges
 
 -- names are not empty, have no control bytes, and differ
@@ -54,15 +102,19 @@ abbrev pub AreRowsOnce : List RowData → Type 0
 AreRowsOnce [] = Unit {0}
 AreRowsOnce (row ∷ rows) = (has_row row.state rows ≡ false) × AreRowsOnce rows
 
+abbrev pub edges_of : List RowData → ℕ
+edges_of rows = sum_by (λ row. length row.edges) rows
+
 pub record IsSound (file : FileData) : Type 0 where
   pub states : file.states ≤ state_limit
   pub start : file.start < file.states
   pub few_names : length file.names ≤ proposition_limit
   pub names : AreNames file.names
-  pub controllable : AnIndexBeyond (length file.names) file.controllable → ⊥
-  pub aliases : AreOrdered file.aliases
-  pub propositions : AnAliasBeyond (length file.names) file.aliases → ⊥
+  pub controllable : AreBelow (length file.names) file.controllable
+  pub few_aliases : length file.aliases ≤ alias_limit
+  pub aliases : AreAliases 0 (length file.names) file.aliases
   pub sets : file.sets ≤ set_limit
-  pub condition : NamesSetBeyond file.sets file.condition → ⊥
-  pub rows : AllByRecursion (IsSoundRow file) file.rows
+  pub condition : IsCondition file.sets file.condition
+  pub rows : All (IsSoundRow file) file.rows
   pub rows_once : AreRowsOnce file.rows
+  pub few_edges : edges_of file.rows ≤ edge_limit

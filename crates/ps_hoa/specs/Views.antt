@@ -1,17 +1,16 @@
 -- What the grammar sees of the values of the code.
---     guard_data, edge_data, row_data, file_data      of the parts of a whole text, and of the whole
+--     guard_data, edge_data, row_data      of the parts of a body
 --     header_data      of a header
 use Rattle.std.specs.Prelude.{map, option_map}
 use Rattle.ps_label.specs.Expression.{expression}
 use Rattle.ps_label.specs.Truth.{expressions}
-use Rattle.ps_hoa.specs.Files.{GuardData, EdgeData, RowData, FileData, stated, of_state, at_letter}
+use Rattle.ps_hoa.specs.Files.{GuardData, EdgeData, RowData, stated, of_state, at_letter}
 use Rattle.ps_hoa.specs.Header.{AcceptanceData, HeaderData}
 use Rattle.ps_hoa.specs.Values.{condition_of}
 use Rattle.ps_hoa.specs.declared.file.Guard.{Guard}
 use Rattle.ps_hoa.specs.declared.file.Guard.TheVariants.{Stated, OfState, Letter}
 use Rattle.ps_hoa.specs.declared.file.Edge.{Edge}
 use Rattle.ps_hoa.specs.declared.file.Row.{Row}
-use Rattle.ps_hoa.specs.declared.file.HoaFile.{HoaFile}
 use Rattle.ps_hoa.specs.declared.header.Acceptance.{Acceptance}
 use Rattle.ps_hoa.specs.declared.header.Header.{Header}
 
@@ -25,18 +24,6 @@ edge_data e = record { guard = guard_data e.guard; target = e.target; marks = e.
 
 abbrev pub row_data : Row → RowData
 row_data r = record { state = r.state; label = option_map expression r.label; marks = r.marks.items; edges = map edge_data r.edges.items }
-
-abbrev pub file_data : HoaFile → FileData
-file_data f = record {
-  states = f.states;
-  start = f.start;
-  names = f.names;
-  controllable = f.controllable.keys;
-  aliases = expressions f.aliases;
-  sets = f.sets;
-  condition = condition_of f.condition;
-  rows = map row_data f.rows.items;
-}
 
 abbrev pub acceptance_data : Acceptance → AcceptanceData
 acceptance_data a = record { sets = a.sets; condition = condition_of a.condition }

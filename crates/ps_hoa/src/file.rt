@@ -4,51 +4,53 @@ ghost use Rattle.std.specs.Prelude.{◌≡◌, map};
 ghost use Rattle.ps_label.specs.Truth.{expressions};
 ghost use Rattle.ps_hoa.specs.Values.{condition_of};
 ghost use Rattle.ps_hoa.specs.Memory.{bytes_of};
-ghost use Rattle.ps_hoa.specs.Views.{file_data, row_data};
+ghost use Rattle.ps_hoa.specs.Sound.{IsSound};
+ghost use Rattle.ps_hoa.specs.Views.{row_data};
 
 use crate::condition::Cond;
 use crate::propositions::Propositions;
 use indexmap::IndexSet;
 use ps_label::{Label, Labels};
 use smallvec::SmallVec;
+use std::marker::Model;
 
 /// At which letters an edge is taken.
-#[derive(Drop)]
+#[derive(Debug, Drop)]
 pub enum Guard {
     /// Those at which this label is true.
     Stated(Label),
     /// Those at which the label of the edge's state is true.
     OfState,
-    /// This letter alone, in which proposition `i` is bit `i`.
+    /// This letter alone, in which proposition `i` is bit `i`. It is also the place of the edge in its row, from 0.
     Letter(u64),
 }
 
 /// An edge of a state.
-#[derive(Drop)]
+#[derive(Debug, Drop)]
 pub struct Edge {
     /// When it is taken.
     pub guard: Guard,
     /// The state behind it.
     pub target: u32,
-    /// The sets that it is in, each once.
+    /// The sets that it is in, each once, in the order in which the text first names them.
     pub marks: SmallVec<u32, 4>,
 }
 
 /// What is written of a state.
-#[derive(Drop)]
+#[derive(Debug, Drop)]
 pub struct Row {
     /// The state's number.
     pub state: u32,
     /// The label of all its edges, if it has one.
     pub label: Option<Label>,
-    /// The sets that the state is in, each once.
+    /// The sets that the state is in, each once, in the order in which the text first names them.
     pub marks: SmallVec<u32, 4>,
-    /// Its edges, in order.
+    /// Its edges, in the order of the text.
     pub edges: Vec<Edge>,
 }
 
 /// An automaton as its text says it. A state without a row has no edges.
-#[derive(Drop)]
+#[derive(Debug, Drop)]
 pub struct HoaFile {
     pub(crate) states: u32,
     pub(crate) start: u32,
@@ -60,59 +62,83 @@ pub struct HoaFile {
     pub(crate) rows: Vec<Row>,
 }
 
+impl Model for HoaFile {
+    ghost use Rattle.ps_hoa.specs.Files.{FileData};
+    ghost use Rattle.ps_hoa.specs.Codes.{file_code};
+
+    ghost Value = { FileData };
+
+    ghost coded = { file_code };
+
+    ghost use Rattle.ps_hoa.specs.FileViews.{file_data};
+    ghost use Rattle.ps_hoa.specs.Sound.{IsSound};
+
+    ghost view = { file_data };
+
+    ghost invariant = { λ f. IsSound (file_data f) };
+}
+
 impl HoaFile {
     /// The number of states.
     pub fn states(&self) -> u32
-        ensures { result ≡ (file_data self.now).states }
+        ensures value { result ≡ self.now.states }
+        ensures well_formed { IsSound self.now }
     {
         self.states
     }
 
     /// The start state.
     pub fn start(&self) -> u32
-        ensures { result ≡ (file_data self.now).start }
+        ensures value { result ≡ self.now.start }
+        ensures well_formed { IsSound self.now }
     {
         self.start
     }
 
     /// The names of the propositions.
     pub fn names(&self) -> &[Vec<u8>]
-        ensures { map bytes_of result.now ≡ (file_data self.now).names }
+        ensures value { map bytes_of result.now ≡ self.now.names }
+        ensures well_formed { IsSound self.now }
     {
         self.names.as_slice()
     }
 
-    /// The propositions that are controllable, each once.
+    /// The propositions that are controllable, each once, in the order in which the text first names them.
     pub fn controllable(&self) -> &[u32]
-        ensures { result.now ≡ (file_data self.now).controllable }
+        ensures value { result.now ≡ self.now.controllable }
+        ensures well_formed { IsSound self.now }
     {
         self.controllable.as_slice()
     }
 
     /// The aliases, in the order of their definitions.
     pub fn aliases(&self) -> &Labels
-        ensures { expressions result.now ≡ (file_data self.now).aliases }
+        ensures value { expressions result.now ≡ self.now.aliases }
+        ensures well_formed { IsSound self.now }
     {
         &self.aliases
     }
 
     /// The number of acceptance sets.
     pub fn sets(&self) -> u32
-        ensures { result ≡ (file_data self.now).sets }
+        ensures value { result ≡ self.now.sets }
+        ensures well_formed { IsSound self.now }
     {
         self.sets
     }
 
     /// When a run is accepted.
     pub fn condition(&self) -> &Cond
-        ensures { condition_of result.now ≡ (file_data self.now).condition }
+        ensures value { condition_of result.now ≡ self.now.condition }
+        ensures well_formed { IsSound self.now }
     {
         &self.condition
     }
 
     /// The rows of the states that have one, in the order of the text.
     pub fn rows(&self) -> &[Row]
-        ensures { map row_data result.now ≡ (file_data self.now).rows }
+        ensures value { map row_data result.now ≡ self.now.rows }
+        ensures well_formed { IsSound self.now }
     {
         self.rows.as_slice()
     }

@@ -34,6 +34,6 @@ pub mod tokens;
 pub use condition::Cond;
 pub use fault::{HoaCause, HoaFault};
 pub use file::{Edge, Guard, HoaFile, Row};
-pub use laws::{one_answer, sound_files};
+pub use laws::{one_answer, sound_files, sound_labels, sound_parts};
 pub use reader::read;
 pub use tokens::{Kind, Token, Tokens};

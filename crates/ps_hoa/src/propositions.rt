@@ -9,7 +9,7 @@ use std::alloc::{AllocFailed, Global};
 use std::marker::Model;
 
 /// The names of the propositions in order, each once; a table finds the names.
-#[derive(Drop)]
+#[derive(Debug, Drop)]
 pub struct Propositions {
     table: IndexSet<Vec<u8>>,
 }

@@ -5,7 +5,6 @@ ghost use Rattle.ps_hoa.specs.Scan.{next_of, stream_of};
 ghost use Rattle.ps_hoa.specs.Sound.{IsSound};
 ghost use Rattle.ps_hoa.specs.Texts.{Answers};
 ghost use Rattle.ps_hoa.specs.Reader.{EndsHere};
-ghost use Rattle.ps_hoa.specs.Views.{file_data};
 
 use crate::assembly::file;
 use crate::body::body;
@@ -24,8 +23,8 @@ use std::alloc::Global;
 /// Each cause by which a text is refused is an `HoaFault::Text`, with the offset at which it stands: the first one in the
 /// text, and of several at one place the one with the smallest number. `OutOfMemory` where a growth was refused.
 pub fn read(alloc: Global, text: &[u8]) -> Result<HoaFile, HoaFault>
-    ensures answer { Answers file_data text.now result }
-    ensures sound { IfOk result (λ file. IsSound (file_data file)) }
+    ensures answer { Answers (λ file. file) text.now result }
+    ensures sound { IfOk result IsSound }
 {
     let mut tokens = opened(text)?;
     let header = header(alloc, &mut tokens)?;

@@ -454,7 +454,8 @@ impl<'a> Model for Tokens<'a> {
 }
 
 impl<'a> Tokens<'a> {
-    /// The tokens from a place of a text on.
+    /// The tokens from a place of a text on, which is behind its version: a `HOA:` that is still to come is a second one, also
+    /// where the place is 0.
     pub fn new(source: &'a [u8], from: usize) -> Self
         requires { from ≤ length source.now }
         ensures pieces { (pieces : List (Piece Sign)) → AreTokens from (drop from source.now) pieces → (stream_of result).pieces ≡ marked fresh pieces }

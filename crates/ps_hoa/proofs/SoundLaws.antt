@@ -1,0 +1,70 @@
+-- What follows of a sound file, for the crates above.
+--     label_within      its labels are what the truth of a label asks for
+--     aliases_ordered      so are its aliases
+--     sound_row, sound_edge      each row is sound, and so is each edge
+--     row_of_state      so is the row of a state, and it is of that state
+use Rattle.std.proofs.Common.{◌≡◌, ℕ, zero, suc, ◌+◌, ◌<◌, ◌≤◌, Bool, true, false, cond, List, [], ◌∷◌, length, Option, None, Some, refl, sym, ap, subst, ◌∙◌, arith, get_or}
+use Rattle.std.specs.List.{All, AllByRecursion, slice_get}
+use Rattle.std.specs.Option.{IfSome}
+use Rattle.std.specs.Prelude.{nat_eq}
+use Rattle.std.proofs.lemmas.Bool.{eqb-true}
+use Rattle.ps_label.specs.Expression.{Expression, constant, proposition, alias, not_of, all_of, any_of, Operands, last, more, IsWithin, AreWithin, AreOrderedFrom, AreOrdered}
+use Rattle.ps_text.proofs.Simple.{none_is_some, same_some}
+use Rattle.ps_hoa.specs.Edges.{row_among, row_of}
+use Rattle.ps_hoa.specs.Files.{GuardData, EdgeData, RowData, FileData, stated, of_state, at_letter}
+use Rattle.ps_hoa.specs.Sound.{IsLabel, AreLabels, AreAliases, IsGuard, IsSoundEdge, IsSoundRow, IsSound}
+
+mutual
+  pub label_within : (names count : ℕ) (e : Expression) → count ≤ 64 → IsLabel names count e → IsWithin names e
+  label_within names count (constant b) l i = tt
+  label_within names count (proposition p) l i = let h : p < count = i in omega (arith, l, h)
+  label_within names count (alias k) l i = i
+  label_within names count (not_of e) l i = label_within names count e l i
+  label_within names count (all_of es) l i = labels_within names count es l i
+  label_within names count (any_of es) l i = labels_within names count es l i
+
+  labels_within : (names count : ℕ) (es : Operands) → count ≤ 64 → AreLabels names count es → AreWithin names es
+  labels_within names count last l i = tt
+  labels_within names count (more e es) l i = (label_within names count e l i.0, labels_within names count es l i.1)
+
+pub aliases_ordered : (k count : ℕ) (es : List Expression) → count ≤ 64 → AreAliases k count es → AreOrderedFrom k es
+aliases_ordered k count [] l a = tt
+aliases_ordered k count (e ∷ es) l a = (label_within k count e l a.0, aliases_ordered (k + 1) count es l a.1)
+
+pub all_at : {X : Type 0} (P : X → Type 0) (xs : List X) → AllByRecursion P xs → All P xs
+all_at P [] a k d l = absurd (let z : k < 0 = l in omega (arith, z))
+all_at P (x ∷ xs) a zero d l = a.0
+all_at P (x ∷ xs) a (suc k) d l = all_at P xs a.1 k d (let z : suc k < suc (length xs) = l in omega (arith, z))
+
+pub all_get : {X : Type 0} (P : X → Type 0) (xs : List X) → All P xs → (k : ℕ) (x : X) → slice_get xs k ≡ Some x → P x
+all_get P [] a k x e = absurd (none_is_some x e)
+all_get P (y ∷ xs) a zero x e = subst P (same_some y x e) (a 0 y (omega arith))
+all_get P (y ∷ xs) a (suc k) x e = all_get P xs (λ n d l. a (suc n) d (omega (arith, l))) k x e
+
+pub sound_edge : (file : FileData) (row : RowData) → IsSoundRow file row → (j : ℕ) (edge : EdgeData) → slice_get row.edges j ≡ Some edge → IsSoundEdge file edge
+sound_edge file row r j edge e = all_get (IsSoundEdge file) row.edges r.edges j edge e
+
+module _ (file : FileData) (s : IsSound file) where
+  pub sound_aliases_ordered : AreOrdered file.aliases
+  sound_aliases_ordered = aliases_ordered 0 (length file.names) file.aliases s.few_names s.aliases
+
+  pub sound_row : (k : ℕ) (row : RowData) → slice_get file.rows k ≡ Some row → IsSoundRow file row
+  sound_row k row e = all_get (IsSoundRow file) file.rows s.rows k row e
+
+  pub edge_label : (edge : EdgeData) → IsSoundEdge file edge → (e : Expression) → edge.guard ≡ stated e → IsWithin (length file.aliases) e
+  edge_label edge i e g = label_within (length file.aliases) (length file.names) e s.few_names (subst (IsGuard file) g i.guard)
+
+  pub state_label : (row : RowData) → IsSoundRow file row → (e : Expression) → row.label ≡ Some e → IsWithin (length file.aliases) e
+  state_label row r e l = label_within (length file.aliases) (length file.names) e s.few_names (subst (λ o. IfSome o (IsLabel (length file.aliases) (length file.names))) l r.label)
+
+  among : (rows : List RowData) (q : ℕ) (row : RowData) → All (IsSoundRow file) rows → row_among rows q ≡ Some row → IsSoundRow file row × (row.state ≡ q)
+  among [] q row a e = absurd (none_is_some row e)
+  among (r ∷ rows) q row a e = go (nat_eq q r.state) refl e (among rows q row (λ k d l. a (suc k) d (omega (arith, l))))
+    where
+      go : (t : Bool) → nat_eq q r.state ≡ t → cond t (Some r) (row_among rows q) ≡ Some row →
+          (row_among rows q ≡ Some row → IsSoundRow file row × (row.state ≡ q)) → IsSoundRow file row × (row.state ≡ q)
+      go true n h rest = let same : r ≡ row = same_some r row h in (subst (IsSoundRow file) same (a 0 r (omega arith)), ap (λ z. z.state) (sym same) ∙ sym (eqb-true q r.state n))
+      go false n h rest = rest h
+
+  pub row_of_state : (q : ℕ) (row : RowData) → row_of file q ≡ Some row → IsSoundRow file row × (row.state ≡ q)
+  row_of_state q row e = among file.rows q row s.rows e

@@ -1,0 +1,12 @@
+-- The laws are lemmas.
+use Rattle.ps_hoa.proofs.SoundLaws.{sound_aliases_ordered, state_label, edge_label}
+use Rattle.ps_hoa.proofs.laws.sound_labels.Goals as goal
+
+pub returns-clause-aliases : goal.returns-clause-aliases
+returns-clause-aliases c = sound_aliases_ordered
+
+pub returns-clause-row : goal.returns-clause-row
+returns-clause-row c = state_label
+
+pub returns-clause-edge : goal.returns-clause-edge
+returns-clause-edge c = edge_label
