@@ -5,3 +5,4 @@ pub mod Merging
 pub mod Entering
 pub mod Closing
 pub mod Ended
+pub mod Spreads

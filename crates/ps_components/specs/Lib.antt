@@ -1,4 +1,5 @@
 pub mod Graphs
 pub mod ComponentLists
-pub mod Searching
 pub mod Trails
+pub mod Searching
+pub mod Spreading

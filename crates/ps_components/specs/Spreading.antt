@@ -1,0 +1,31 @@
+-- What the search for a trail keeps true of its lists.
+use Rattle.std.specs.Prelude.{◌≡◌, ℕ, ◌<◌, List, [], ◌∷◌, length, slice_get, Bool, true, false, Some, suc}
+use Rattle.ps_components.specs.Graphs.{Digraph, Link, IsWithin}
+use Rattle.ps_components.specs.declared.trail.Step.{Step}
+
+-- each step but the first comes by a link from an earlier one
+abbrev pub ComeBack : Digraph → List Step → Type 0
+ComeBack g steps = (i : ℕ) (s : Step) → 0 < i → slice_get steps i ≡ Some s → (t : Step) × (s.from < i) × (slice_get steps s.from ≡ Some t) × Link g t.item s.item
+
+-- the vertices of the steps are those that were seen; where those before a place lead was seen
+pub record IsSpread (g : Digraph) (seen : List Bool) (steps : List Step) (place : ℕ) : Type 0 where
+  pub within : IsWithin g
+  pub counted : length seen ≡ g.count
+  pub back : ComeBack g steps
+  pub reached : (v : ℕ) → slice_get seen v ≡ Some true → (i : ℕ) × (s : Step) × (slice_get steps i ≡ Some s) × (s.item ≡ v)
+  pub seen_steps : (i : ℕ) (s : Step) → slice_get steps i ≡ Some s → slice_get seen s.item ≡ Some true
+  pub looked : (i w : ℕ) (s : Step) → i < place → slice_get steps i ≡ Some s → Link g s.item w → slice_get seen w ≡ Some true
+
+-- the steps stay, and others come behind them
+abbrev pub KeepsSteps : List Step → List Step → Type 0
+KeepsSteps old new = (i : ℕ) (s : Step) → slice_get old i ≡ Some s → slice_get new i ≡ Some s
+
+-- what was seen stays seen
+abbrev pub KeepsSeen : List Bool → List Bool → Type 0
+KeepsSeen old new = (v : ℕ) → slice_get old v ≡ Some true → slice_get new v ≡ Some true
+
+-- how many were not seen
+abbrev pub unseen : List Bool → ℕ
+unseen [] = 0
+unseen (true ∷ bs) = unseen bs
+unseen (false ∷ bs) = suc (unseen bs)

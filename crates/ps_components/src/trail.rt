@@ -1,0 +1,125 @@
+//! Trails from one vertex back to another, found breadth first.
+
+ghost use Rattle.std.specs.Prelude.{◌≡◌, ℕ, ◌+◌, ◌<◌, ◌≤◌, length, slice_get, true, Some, OnOk, IfOk, IfSome, IfNone};
+ghost use Rattle.ps_components.specs.Graphs.{SameOrWay, Link};
+ghost use Rattle.ps_components.specs.Trails.{IsTrail};
+ghost use Rattle.ps_components.specs.Spreading.{IsSpread, ComeBack, KeepsSteps, KeepsSeen, unseen};
+ghost use Rattle.ps_components.specs.declared.trail.Step.{Step};
+
+use crate::graph::Graph;
+use std::alloc::{AllocError, Global};
+
+/// A vertex that was reached, and the place of the step from which it was.
+#[derive(Clone, Copy)]
+pub struct Step {
+    item: usize,
+    from: usize,
+}
+
+/// The vertices that were reached so far, in the order in which they were.
+#[derive(Drop)]
+struct Spread {
+    seen: Vec<bool>,
+    steps: Vec<Step>,
+}
+
+/// A trail from the end of a way back to its start, if there is a way from the start to the end.
+pub fn way_back<G: Graph>(
+    alloc: Global,
+    graph: &G,
+    start: usize,
+    end: usize,
+) -> Result<Option<Vec<usize>>, AllocError>
+    requires { start < (G.graph graph.now).count }
+    ensures found { IfOk result (λ o. IfSome o (λ trail. IsTrail (G.graph graph.now) trail.items end start)) }
+    ensures none { IfOk result (λ o. IfNone o (¬ SameOrWay (G.graph graph.now) start end)) }
+{
+    let mut spread = Spread::new(alloc, graph, start)?;
+    let mut place = 0;
+    while place < spread.steps.len() {
+        if spread.steps[place].item == end {
+            let trail = trail_from(alloc, graph, &spread.steps, place)?;
+            return Ok(Some(trail));
+        }
+        spread.reach_from(graph, place)?;
+        place += 1;
+    }
+    Ok(None)
+}
+
+impl Spread {
+    /// The start alone.
+    fn new<G: Graph>(alloc: Global, graph: &G, start: usize) -> Result<Self, AllocError>
+        requires { start < (G.graph graph.now).count }
+        ensures spread { IfOk result (λ s. IsSpread (G.graph graph.now) s.seen.items s.steps.items 0) }
+        ensures first { IfOk result (λ s. slice_get s.steps.items 0 ≡ Some (record { item = start; from = 0 })) }
+    {
+        let mut seen = vec![in alloc; false; graph.count()]?;
+        seen[start] = true;
+        let mut steps = Vec::new(alloc);
+        steps.push(Step {
+            item: start,
+            from: 0,
+        })?;
+        Ok(Spread { seen, steps })
+    }
+
+    /// Reaches each vertex to which that at a place has a link.
+    fn reach_from<G: Graph>(&mut self, graph: &G, place: usize) -> Result<(), AllocError>
+        requires place { place < length self.old.steps.items }
+        requires spread { IsSpread (G.graph graph.now) self.old.seen.items self.old.steps.items place }
+        ensures spread { OnOk result (IsSpread (G.graph graph.now) self.new.seen.items self.new.steps.items (place + 1)) }
+        ensures kept { OnOk result (KeepsSteps self.old.steps.items self.new.steps.items) }
+        ensures fewer { OnOk result (unseen self.new.seen.items + length self.new.steps.items ≤ unseen self.old.seen.items + length self.old.steps.items) }
+    {
+        let item = self.steps[place].item;
+        for number in 0..graph.degree(item) {
+            if let Some(to) = graph.target(item, number) {
+                self.reach(graph, to, place)?;
+            }
+        }
+        Ok(())
+    }
+
+    /// Reaches a vertex from a place, unless it was reached before.
+    fn reach<G: Graph>(&mut self, graph: &G, to: usize, place: usize) -> Result<(), AllocError>
+        requires to { to < length self.old.seen.items }
+        requires linked { (s : Step) × (slice_get self.old.steps.items place ≡ Some s) × Link (G.graph graph.now) s.item to }
+        requires spread { IsSpread (G.graph graph.now) self.old.seen.items self.old.steps.items place }
+        ensures spread { OnOk result (IsSpread (G.graph graph.now) self.new.seen.items self.new.steps.items place) }
+        ensures kept { OnOk result (KeepsSteps self.old.steps.items self.new.steps.items) }
+        ensures seen { OnOk result (KeepsSeen self.old.seen.items self.new.seen.items) }
+        ensures reached { OnOk result (slice_get self.new.seen.items to ≡ Some true) }
+        ensures fewer { OnOk result (unseen self.new.seen.items + length self.new.steps.items ≤ unseen self.old.seen.items + length self.old.steps.items) }
+    {
+        if !self.seen[to] {
+            self.seen[to] = true;
+            self.steps.push(Step {
+                item: to,
+                from: place,
+            })?;
+        }
+        Ok(())
+    }
+}
+
+/// The items from a step back to the first one.
+fn trail_from<G: Graph>(
+    alloc: Global,
+    graph: &G,
+    steps: &[Step],
+    place: usize,
+) -> Result<Vec<usize>, AllocError>
+    requires place { place < length steps.now }
+    requires back { ComeBack (G.graph graph.now) steps.now }
+    ensures { (e s : Step) → slice_get steps.now place ≡ Some e → slice_get steps.now 0 ≡ Some s → IfOk result (λ trail. IsTrail (G.graph graph.now) trail.items e.item s.item) }
+{
+    let mut items = Vec::new(alloc);
+    items.push(steps[place].item)?;
+    let mut at = place;
+    while at > 0 {
+        at = steps[at].from;
+        items.push(steps[at].item)?;
+    }
+    Ok(items)
+}
