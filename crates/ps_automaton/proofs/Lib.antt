@@ -1,0 +1,4 @@
+pub mod ChainLaws
+pub mod Gatherings
+pub mod Orbits
+pub mod Accepting

@@ -1,0 +1,29 @@
+-- When an automaton, as its text says it, accepts a word that repeats.
+--     IsRun file w count states sets      a run over the first letters of a word
+--     IsAccepted file stem lap      some run reads the stem and some laps to a state, and some more laps, at least one, back to it; and
+--                                   the condition is true of the sets that are met in that last part
+use Rattle.std.specs.Prelude.{◌≡◌, ℕ, zero, suc, ◌+◌, ◌*◌, ◌<◌, Bool, IsTrue, List, [], ◌∷◌, length}
+use Rattle.ps_hoa.specs.Files.{FileData}
+use Rattle.ps_hoa.specs.Edges.{Goes}
+use Rattle.ps_automaton.specs.Chains.{holds, is_met}
+use Rattle.ps_automaton.specs.Words.{word}
+
+-- the state before each place, and the sets of the edge that is taken there
+pub record IsRun (file : FileData) (w : ℕ → ℕ) (count : ℕ) (states : ℕ → ℕ) (sets : ℕ → ℕ → Bool) : Type 0 where
+  pub begins : states 0 ≡ file.start
+  pub goes : (t : ℕ) → t < count → Goes file (states t) (w t) (sets t) (states (t + 1))
+
+-- what stands at so many places from one on
+abbrev pub part : (ℕ → ℕ → Bool) → ℕ → ℕ → List (ℕ → Bool)
+part sets from zero = []
+part sets from (suc count) = sets from ∷ part sets (from + 1) count
+
+pub record IsAccepted (file : FileData) (stem lap : List ℕ) : Type 0 where
+  pub before : ℕ
+  pub laps : ℕ
+  pub some : 0 < laps
+  pub states : ℕ → ℕ
+  pub sets : ℕ → ℕ → Bool
+  pub run : IsRun file (word stem lap) (length stem + (before + laps) * length lap) states sets
+  pub returns : states (length stem + before * length lap) ≡ states (length stem + (before + laps) * length lap)
+  pub met : IsTrue (holds (is_met (part sets (length stem + before * length lap) (laps * length lap))) file.condition)

@@ -1,0 +1,143 @@
+-- Conditions that are chains, and the numbers that a chain gives to edges.
+-- A chain is a list of links, each a set and whether meeting that set accepts, and a base. Of a part of a run, the first link whose set
+-- is met decides; where none is, the base does.
+--     chain_of condition      the chain that the condition is, if it is one
+--     level chain has      the number of an edge: of the first link whose set it has, or of the base
+use Rattle.std.specs.Prelude.{ℕ, ◌+◌, ◌%◌, max, Bool, true, false, not, List, [], ◌∷◌, ◌++◌, Option, None, Some, if◌then◌else◌, nat_eq}
+use Rattle.ps_hoa.specs.Conditions.{SetData, Condition, Conditions, constant, infinitely, finitely, all_hold, any_holds, last, more}
+
+-- a set, and whether meeting it accepts
+pub record Link : Type 0 where
+  pub colour : ℕ
+  pub accepts : Bool
+
+pub record Chain : Type 0 where
+  pub links : List Link
+  pub base : Bool
+
+-- ## The chain of a condition
+
+abbrev pub base_alone : Bool → Option Chain
+base_alone base = Some (record { links = []; base = base })
+
+abbrev pub link_to : Bool → SetData → Option Link
+link_to accepts set = if set.complemented then None else Some (record { colour = set.number; accepts = accepts })
+
+-- the link that an operand of a disjunction (`Inf`) or of a conjunction (`Fin`) is
+abbrev pub link_of : Bool → Condition → Option Link
+link_of true (infinitely set) = link_to true set
+link_of false (finitely set) = link_to false set
+link_of accepts c = None
+
+-- the links that all these operands are
+abbrev pub links_of : Bool → Conditions → Option (List Link)
+links_of accepts last = Some []
+links_of accepts (more c cs) = elim (link_of accepts c) [
+  | None ↦ None
+  | Some link ↦ elim (links_of accepts cs) [ None ↦ None | Some links ↦ Some (link ∷ links) ]
+]
+
+-- links in front of a chain
+abbrev pub in_front : Option (List Link) → Option Chain → Option Chain
+in_front None chain = None
+in_front (Some links) None = None
+in_front (Some links) (Some chain) = Some (record { links = links ++ chain.links; base = chain.base })
+
+abbrev pub one_link : Option Link → Option (List Link)
+one_link None = None
+one_link (Some link) = Some (link ∷ [])
+
+-- `t` and `f` are a base alone. `Inf` of a set is one link with the base f, `Fin` one link with the base t. In a disjunction all operands
+-- but at most one are `Inf`: their links in order, then the chain of the remaining operand, or else the base f. A conjunction is the
+-- same with `Fin` and t.
+abbrev mutual
+  pub chain_of : Condition → Option Chain
+  chain_of (constant base) = base_alone base
+  chain_of (infinitely set) = in_front (one_link (link_to true set)) (base_alone false)
+  chain_of (finitely set) = in_front (one_link (link_to false set)) (base_alone true)
+  chain_of (any_holds cs) = chain_of_all true cs
+  chain_of (all_hold cs) = chain_of_all false cs
+
+  pub chain_of_all : Bool → Conditions → Option Chain
+  chain_of_all accepts last = base_alone (not accepts)
+  chain_of_all accepts (more c cs) = elim (link_of accepts c) [
+    | Some link ↦ in_front (Some (link ∷ [])) (chain_of_all accepts cs)
+    | None ↦ in_front (links_of accepts cs) (chain_of c)
+  ]
+
+-- ## Complemented sets
+
+-- somewhere in the condition a complemented set stands
+abbrev mutual
+  pub has_complement : Condition → Bool
+  has_complement (constant b) = false
+  has_complement (infinitely set) = set.complemented
+  has_complement (finitely set) = set.complemented
+  has_complement (all_hold cs) = some_has_complement cs
+  has_complement (any_holds cs) = some_has_complement cs
+
+  pub some_has_complement : Conditions → Bool
+  some_has_complement last = false
+  some_has_complement (more c cs) = if has_complement c then true else some_has_complement cs
+
+-- ## The truth of a condition
+
+-- the truth where these sets are met infinitely often and no others; complemented sets have no meaning here
+abbrev mutual
+  pub holds : (ℕ → Bool) → Condition → Bool
+  holds met (constant b) = b
+  holds met (infinitely set) = met set.number
+  holds met (finitely set) = not (met set.number)
+  holds met (all_hold cs) = all_of_them met cs
+  holds met (any_holds cs) = one_of_them met cs
+
+  pub all_of_them : (ℕ → Bool) → Conditions → Bool
+  all_of_them met last = true
+  all_of_them met (more c cs) = if holds met c then all_of_them met cs else false
+
+  pub one_of_them : (ℕ → Bool) → Conditions → Bool
+  one_of_them met last = false
+  one_of_them met (more c cs) = if holds met c then true else one_of_them met cs
+
+-- the truth that a chain gives: that of the first link whose set is met
+abbrev pub chain_holds : Bool → List Link → (ℕ → Bool) → Bool
+chain_holds base [] met = base
+chain_holds base (link ∷ links) met = if met link.colour then link.accepts else chain_holds base links met
+
+-- ## Numbers
+
+abbrev pub is_even : ℕ → Bool
+is_even n = nat_eq (n % 2) 0
+
+-- an accepting number is even
+abbrev pub base_number : Bool → ℕ
+base_number base = if base then 0 else 1
+
+-- the next one's number if it accepts alike, else one more
+abbrev pub raised : Bool → ℕ → ℕ
+raised true next = if is_even next then next else next + 1
+raised false next = if is_even next then next + 1 else next
+
+-- the number of the first link, or of the base; given from the end of the chain
+abbrev pub first_number : Bool → List Link → ℕ
+first_number base [] = base_number base
+first_number base (link ∷ links) = raised link.accepts (first_number base links)
+
+-- the number of the first link whose set an edge has, or of the base
+abbrev pub level_by : Bool → List Link → (ℕ → Bool) → ℕ
+level_by base [] has = base_number base
+level_by base (link ∷ links) has = if has link.colour then first_number base (link ∷ links) else level_by base links has
+
+abbrev pub level : Chain → (ℕ → Bool) → ℕ
+level chain has = level_by chain.base chain.links has
+
+-- ## Parts of a run
+
+-- the sets that are met along edges, of which each is given by the sets that it has
+abbrev pub is_met : List (ℕ → Bool) → ℕ → Bool
+is_met [] set = false
+is_met (has ∷ edges) set = if has set then true else is_met edges set
+
+abbrev pub greatest_level : Chain → List (ℕ → Bool) → ℕ
+greatest_level chain [] = 0
+greatest_level chain (has ∷ edges) = max (level chain has) (greatest_level chain edges)

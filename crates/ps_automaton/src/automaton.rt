@@ -1,0 +1,188 @@
+//! Automata whose steps stand in decision diagrams.
+
+ghost use Rattle.std.specs.Prelude.{◌≡◌, ◌+◌, ◌^◌, ◌<◌, ◌≤◌, ◌↔◌, All, IfOk, IsTrue, length, map};
+ghost use Rattle.ps_diagram.specs.Table.{IsNode};
+ghost use Rattle.ps_hoa.specs.Files.{FileData};
+ghost use Rattle.ps_hoa.specs.Memory.{bytes_of};
+ghost use Rattle.ps_automaton.specs.Acceptance.{IsAccepted};
+ghost use Rattle.ps_automaton.specs.Automata.{IsBuiltFrom, auto_of, node_of, pair_of, step_of};
+ghost use Rattle.ps_automaton.specs.Autos.{greatest_along, greatest_of_laps, state_after, state_behind};
+ghost use Rattle.ps_automaton.specs.Chains.{Chain};
+ghost use Rattle.ps_automaton.specs.Returning.{Returns};
+
+use crate::step::Step;
+use ps_diagram::{Node, Store};
+use std::alloc::{AllocError, Global};
+use std::marker::Model;
+
+/// A total, deterministic automaton with a priority on each edge. Where the text has no edge a step leads to the
+/// sink, which is the state numbered by the count of states.
+#[derive(Drop)]
+pub struct Automaton {
+    alloc: Global,
+    names: Vec<Vec<u8>>,
+    controllable: Vec<u32>,
+    states: u32,
+    start: u32,
+    store: Store,
+    nodes: Vec<Node>,
+    steps: Vec<Step>,
+}
+
+impl Model for Automaton {
+    ghost use Rattle.std.specs.Prelude.{map};
+    ghost use Rattle.ps_hoa.specs.Memory.{bytes_of};
+    ghost use Rattle.ps_automaton.specs.Automata.{AutomatonData, IsWhole};
+
+    ghost Value = { AutomatonData };
+
+    ghost view = { λ a. record { names = map bytes_of a.names.items; controllable = a.controllable.items; states = a.states; start = a.start; store = a.store; nodes = a.nodes.items; steps = a.steps.items } };
+
+    ghost invariant = { λ a. IsWhole (record { names = map bytes_of a.names.items; controllable = a.controllable.items; states = a.states; start = a.start; store = a.store; nodes = a.nodes.items; steps = a.steps.items }) };
+}
+
+impl Automaton {
+    /// The names of the propositions.
+    pub fn names(&self) -> &[Vec<u8>]
+        ensures { map bytes_of result.now ≡ self.now.names }
+    {
+        self.names.as_slice()
+    }
+
+    /// The propositions that are controllable, each once.
+    pub fn controllable(&self) -> &[u32]
+        ensures { result.now ≡ self.now.controllable }
+    {
+        self.controllable.as_slice()
+    }
+
+    /// The number of states; the sink is none of them.
+    pub fn states(&self) -> u32
+        ensures { result ≡ self.now.states }
+    {
+        self.states
+    }
+
+    /// The start state.
+    pub fn start(&self) -> u32
+        ensures start { result ≡ self.now.start }
+        ensures state { result < self.now.states }
+    {
+        self.start
+    }
+
+    /// The store of the diagrams.
+    pub fn store(&self) -> &Store
+        ensures { result.now ≡ self.now.store }
+    {
+        &self.store
+    }
+
+    /// The diagram of a state, or of the sink: its leaf at a letter names the step, by `pair`.
+    pub fn node(&self, state: u32) -> Node
+        requires { state ≤ self.now.states }
+        ensures node { result ≡ node_of self.now state }
+        ensures held { IsNode self.now.store result }
+    {
+        self.nodes[state as usize]
+    }
+
+    /// The step that a leaf names.
+    pub fn pair(&self, leaf: u64) -> Step
+        requires { leaf < length self.now.steps }
+        ensures pair { result ≡ pair_of self.now leaf }
+        ensures within { result.state ≤ self.now.states }
+    {
+        self.steps[leaf as usize]
+    }
+
+    /// The step from a state, or from the sink, by a letter.
+    pub fn step(&self, state: u32, letter: u64) -> Step
+        requires { state ≤ self.now.states }
+        ensures step { result ≡ step_of self.now state letter }
+        ensures within { result.state ≤ self.now.states }
+    {
+        match self.store.eval(self.nodes[state as usize], letter) {
+            Some(leaf) => self.steps[leaf as usize],
+            None => unreachable!(),
+        }
+    }
+
+    /// Whether the word of a stem and then a lap again and again is accepted.
+    ///
+    /// # Errors
+    ///
+    /// Fails where a growth was refused.
+    pub fn accepts(&self, stem: &[u64], lap: &[u64]) -> Result<bool, AllocError>
+        requires some { 0 < length lap.now }
+        requires stem { All (λ letter. letter < 2 ^ length self.now.names) stem.now }
+        requires lap { All (λ letter. letter < 2 ^ length self.now.names) lap.now }
+        ensures { IfOk result (λ accepted. (file : FileData) (chain : Chain) → IsBuiltFrom file chain self.now → (IsTrue accepted ↔ IsAccepted file stem.now lap.now)) }
+    {
+        let first = self.read(self.start(), stem).state;
+        let orbit = self.returning(first, lap)?;
+        Ok(self.greatest_of_laps(orbit.state, lap, orbit.laps) % 2 == 0)
+    }
+
+    /// The state behind letters, and the greatest priority along them.
+    fn read(&self, state: u32, letters: &[u64]) -> Step
+        requires { state ≤ self.now.states }
+        ensures state { result.state ≡ state_behind (auto_of self.now) state letters.now }
+        ensures greatest { result.priority ≡ greatest_along (auto_of self.now) state letters.now }
+        ensures within { result.state ≤ self.now.states }
+    {
+        let mut reached = state;
+        let mut greatest = 0;
+        for letter in letters {
+            let step = self.step(reached, *letter);
+            reached = step.state;
+            greatest = step.priority.max(greatest);
+        }
+        Step {
+            state: reached,
+            priority: greatest,
+        }
+    }
+
+    /// Some state to which laps lead from a state, and how many more laps lead back to it.
+    fn returning(&self, first: u32, lap: &[u64]) -> Result<Orbit, AllocError>
+        requires { first ≤ self.now.states }
+        ensures returns { IfOk result (λ orbit. Returns (auto_of self.now) first lap.now orbit.state orbit.laps) }
+        ensures within { IfOk result (λ orbit. orbit.state ≤ self.now.states) }
+    {
+        let mut seen = vec![in self.alloc; 0usize; self.states as usize + 1]?;
+        let mut state = first;
+        let mut laps = 0;
+        while seen[state as usize] == 0 {
+            laps += 1;
+            seen[state as usize] = laps;
+            state = self.read(state, lap).state;
+        }
+        Ok(Orbit {
+            state,
+            laps: laps + 1 - seen[state as usize],
+        })
+    }
+
+    /// The greatest priority along so many laps.
+    fn greatest_of_laps(&self, state: u32, lap: &[u64], laps: usize) -> u64
+        requires { state ≤ self.now.states }
+        ensures { result ≡ greatest_of_laps (auto_of self.now) state lap.now laps }
+    {
+        let mut reached = state;
+        let mut greatest = 0;
+        for _round in 0..laps {
+            let step = self.read(reached, lap);
+            reached = step.state;
+            greatest = step.priority.max(greatest);
+        }
+        greatest
+    }
+}
+
+/// A state, and how many laps lead back to it.
+#[derive(Clone, Copy)]
+struct Orbit {
+    state: u32,
+    laps: usize,
+}

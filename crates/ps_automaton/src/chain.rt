@@ -1,0 +1,140 @@
+//! The chain of a condition, and the numbers that it gives to edges.
+
+ghost use Rattle.std.specs.Prelude.{◌≡◌, IfOk, Some, map, not, option_map};
+ghost use Rattle.ps_hoa.specs.Values.{condition_of};
+ghost use Rattle.ps_automaton.specs.Chains as chains;
+ghost use Rattle.ps_automaton.specs.Chains.{base_alone, has_complement, in_front, link_to};
+ghost use Rattle.ps_automaton.specs.Gathering.{IsGathered, with_base};
+ghost use Rattle.ps_automaton.specs.Views.{chain_data, link_data};
+
+use ps_hoa::Cond;
+use std::alloc::{AllocError, Global};
+
+/// A set, and whether meeting it accepts.
+#[derive(Clone, Copy)]
+pub(crate) struct Link {
+    pub set: u32,
+    pub accepts: bool,
+}
+
+/// The first link whose set is met decides; where none is, the base does.
+#[derive(Drop)]
+pub(crate) struct Chain {
+    pub links: Vec<Link>,
+    pub base: bool,
+}
+
+/// Whether a complemented set stands in a condition.
+pub(crate) fn is_complemented(condition: &Cond) -> bool
+    ensures { result ≡ has_complement (condition_of condition.now) }
+{
+    match condition {
+        Cond::Always => false,
+        Cond::Never => false,
+        Cond::Inf(_, complemented) => *complemented,
+        Cond::Fin(_, complemented) => *complemented,
+        Cond::All(operands) => {
+            for operand in operands {
+                if is_complemented(operand) {
+                    return true;
+                }
+            }
+            false
+        }
+        Cond::Any(operands) => {
+            for operand in operands {
+                if is_complemented(operand) {
+                    return true;
+                }
+            }
+            false
+        }
+    }
+}
+
+/// The chain that a condition is, if it is one.
+pub(crate) fn chain_of(alloc: Global, condition: &Cond) -> Result<Option<Chain>, AllocError>
+    ensures { IfOk result (λ chain. option_map chain_data chain ≡ chains.chain_of (condition_of condition.now)) }
+{
+    let mut links = Vec::new(alloc);
+    let base = base_behind(condition, &mut links)?;
+    Ok(base.map(|base| Chain { links, base }))
+}
+
+/// Puts the links of a condition behind others, and gives its base, if it is a chain.
+fn base_behind(condition: &Cond, links: &mut Vec<Link>) -> Result<Option<bool>, AllocError>
+    ensures { IfOk result (λ base. with_base links.new.items base ≡ in_front (Some (map link_data links.old.items)) (chains.chain_of (condition_of condition.now))) }
+{
+    match condition {
+        Cond::Always => Ok(Some(true)),
+        Cond::Never => Ok(Some(false)),
+        Cond::Inf(set, complemented) => one_link(*set, *complemented, true, links),
+        Cond::Fin(set, complemented) => one_link(*set, *complemented, false, links),
+        Cond::Any(operands) => match gather(operands, true, links)? {
+            Gathered::All => Ok(Some(false)),
+            Gathered::AllBut(k) => base_behind(&operands[k], links),
+            Gathered::TooFew => Ok(None),
+        },
+        Cond::All(operands) => match gather(operands, false, links)? {
+            Gathered::All => Ok(Some(true)),
+            Gathered::AllBut(k) => base_behind(&operands[k], links),
+            Gathered::TooFew => Ok(None),
+        },
+    }
+}
+
+/// Which operands of a disjunction (or of a conjunction) are links.
+#[derive(Clone, Copy)]
+enum Gathered {
+    /// All.
+    All,
+    /// All but the one at that place.
+    AllBut(usize),
+    /// At least two are none.
+    TooFew,
+}
+
+/// Puts the links that the operands of a disjunction (or of a conjunction) are behind others.
+fn gather(operands: &[Cond], accepts: bool, links: &mut Vec<Link>) -> Result<Gathered, AllocError>
+    ensures { IfOk result (λ gathered. IsGathered accepts operands.now links.old.items links.new.items gathered) }
+{
+    let mut remaining = None;
+    for (k, operand) in operands.iter().enumerate() {
+        match link_of(operand, accepts) {
+            Some(link) => links.push(link)?,
+            None if remaining.is_some() => return Ok(Gathered::TooFew),
+            None => remaining = Some(k),
+        }
+    }
+    Ok(match remaining {
+        None => Gathered::All,
+        Some(k) => Gathered::AllBut(k),
+    })
+}
+
+/// The link that an operand of a disjunction (or of a conjunction) is.
+fn link_of(operand: &Cond, accepts: bool) -> Option<Link>
+    ensures { option_map link_data result ≡ chains.link_of accepts (condition_of operand.now) }
+{
+    match operand {
+        Cond::Inf(set, false) if accepts => Some(Link { set: *set, accepts }),
+        Cond::Fin(set, false) if !accepts => Some(Link { set: *set, accepts }),
+        _ => None,
+    }
+}
+
+/// Puts the link to a set behind others, and gives the base behind it.
+fn one_link(
+    set: u32,
+    complemented: bool,
+    accepts: bool,
+    links: &mut Vec<Link>,
+) -> Result<Option<bool>, AllocError>
+    ensures { IfOk result (λ base. with_base links.new.items base ≡ in_front (Some (map link_data links.old.items)) (in_front (chains.one_link (link_to accepts (record { number = set; complemented = complemented }))) (base_alone (not accepts)))) }
+{
+    if complemented {
+        return Ok(None);
+    }
+    links.push(Link { set, accepts })?;
+    Ok(Some(!accepts))
+}
