@@ -1,0 +1,66 @@
+-- What a player aims at within the tables, and what was reached: the attractor to the vertices that stand in the trail from
+-- a place on. A vertex is free where its level is a stated one: it is in the subgame and not in the set yet.
+use Rattle.std.specs.Prelude.{◌≡◌, ◌≢◌, ℕ, ◌<◌, ◌≤◌, ◌⊎◌, length, drop, Option, Bool, IsTrue, slice_index}
+use Rattle.ps_game.specs.Games.{ParityGame, vertex_count}
+use Rattle.ps_game.specs.Subgames.{IsWithin, LeadsInto, IsSubgame}
+use Rattle.ps_game.specs.Attractors.{IsClosed, Falls, IsLeast}
+use Rattle.ps_attractor.specs.declared.aim.Aim.{Aim}
+use Rattle.ps_attractor.specs.Tables.{TablesData, level_of, place_in}
+
+-- the vertex stands in the trail, from a place on
+pub record StandsFrom (tables : TablesData) (from v : ℕ) : Type 0 where
+  pub place : ℕ
+  pub after : from ≤ place
+  pub within : place < length tables.trail
+  pub is : slice_index tables.trail place ≡ v
+
+-- the vertices of the subgame are the free ones and those of the target, which stand in the trail
+pub record IsPosed (game : ParityGame) (aim : Aim) (tables : TablesData) (subgame target : ℕ → Bool) : Type 0 where
+  pub is_subgame : IsSubgame game subgame
+  pub split : (v : ℕ) → IsTrue (subgame v) → (level_of tables v ≡ aim.free) ⊎ IsTrue (target v)
+  pub frees : (v : ℕ) → v < vertex_count game → level_of tables v ≡ aim.free → IsTrue (subgame v)
+  pub target_within : IsWithin target subgame
+  pub target_placed : (v : ℕ) → IsTrue (target v) → level_of tables v ≢ aim.free
+  pub target_stands : (v : ℕ) → IsTrue (target v) → StandsFrom tables aim.begin v
+  pub only_target : (j : ℕ) → aim.begin ≤ j → j < length tables.trail → IsTrue (target (slice_index tables.trail j))
+
+-- the set is of the vertices of the subgame that are not free
+pub record IsTaken (aim : Aim) (tables : TablesData) (subgame set : ℕ → Bool) : Type 0 where
+  pub within : IsWithin set subgame
+  pub placed : (v : ℕ) → IsTrue (set v) → level_of tables v ≢ aim.free
+  pub all : (v : ℕ) → IsTrue (subgame v) → level_of tables v ≢ aim.free → IsTrue (set v)
+
+-- a vertex outside the set has a successor in the subgame outside the set
+pub record StaysOut (game : ParityGame) (subgame set : ℕ → Bool) (v : ℕ) : Type 0 where
+  pub to : ℕ
+  pub leads : LeadsInto game subgame v to
+  pub outside : ¬ IsTrue (set to)
+
+-- the set is the attractor: closed, falling by the table, and so the least; what is left is a subgame
+pub record IsAttracted (game : ParityGame) (subgame : ℕ → Bool) (player : ℕ) (target set : ℕ → Bool) (table : ℕ → Option ℕ) (rank : ℕ → ℕ) : Type 0 where
+  pub closed : IsClosed game subgame player target set
+  pub falls : Falls game subgame player target set table rank
+  pub least : IsLeast game subgame player target set
+  pub goes_on : (v : ℕ) → IsTrue (subgame v) → ¬ IsTrue (set v) → StaysOut game subgame set v
+
+-- a vertex's level and move stay
+pub record IsSameAt (old new : TablesData) (v : ℕ) : Type 0 where
+  pub level : level_of new v ≡ level_of old v
+  pub move : slice_index new.moves v ≡ slice_index old.moves v
+
+-- a vertex was free, has its level now, and stands in the trail behind what stood there
+pub record IsPlaced (aim : Aim) (old new : TablesData) (v : ℕ) : Type 0 where
+  pub was_free : level_of old v ≡ aim.free
+  pub level : level_of new v ≡ aim.mark
+  pub stands : StandsFrom new (length old.trail) v
+
+-- each vertex is as it was, or is placed; the trail goes on with placed vertices alone
+pub record IsGrown (aim : Aim) (old new : TablesData) : Type 0 where
+  pub longer : length old.trail ≤ length new.trail
+  pub front : (j : ℕ) → j < length old.trail → slice_index new.trail j ≡ slice_index old.trail j
+  pub each : (v : ℕ) → IsSameAt old new v ⊎ IsPlaced aim old new v
+  pub behind : (j : ℕ) → length old.trail ≤ j → j < length new.trail → IsPlaced aim old new (slice_index new.trail j)
+
+-- the place of a vertex in the trail, counted from where the target begins
+abbrev pub rank_of : Aim → TablesData → ℕ → ℕ
+rank_of aim tables v = place_in (drop aim.begin tables.trail) v

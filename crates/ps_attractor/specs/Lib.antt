@@ -1,0 +1,4 @@
+pub mod Aims
+pub mod Sources
+pub mod Steps
+pub mod Tables

@@ -1,0 +1,12 @@
+/// What a player aims at within the tables of an attractor.
+#[derive(Clone, Copy)]
+pub struct Aim {
+    /// The player, 0 or 1.
+    pub player: u8,
+    /// Where the target begins in the trail.
+    pub begin: usize,
+    /// The level that a vertex gets when it is placed.
+    pub mark: usize,
+    /// The level of the vertices that are free: in the subgame, and not in the set yet.
+    pub free: usize,
+}

@@ -1,0 +1,11 @@
+//! Attractors: from which vertices of a subgame a player can lead every play to a target, and by which moves.
+#![tactic(auto)]
+
+mod aim;
+mod sources;
+mod tables;
+mod worklist;
+
+pub use aim::Aim;
+pub use sources::Sources;
+pub use tables::Tables;

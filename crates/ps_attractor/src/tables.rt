@@ -1,0 +1,129 @@
+ghost use Rattle.std.specs.Prelude.{◌≡◌, ◌<◌, ◌≤◌, [], IfOk, OnOk, OnErr, length, replicate, take, slice_index, slice_set};
+ghost use Rattle.ps_attractor.specs.Steps.{with_placed, with_move};
+
+use std::alloc::{AllocError, Global};
+use std::marker::Model;
+
+/// A level and a move for each vertex, and the trail: the vertices that were placed, in order.
+#[derive(Drop)]
+pub struct Tables {
+    level: Vec<usize>,
+    moves: Vec<usize>,
+    watch: Vec<usize>,
+    trail: Vec<usize>,
+}
+
+impl Model for Tables {
+    ghost use Rattle.std.specs.Prelude.{◌≡◌, length};
+    ghost use Rattle.ps_attractor.specs.Tables.{TablesData};
+
+    ghost Value = { TablesData };
+
+    ghost view = { λ t. record { level = t.level.items; moves = t.moves.items; trail = t.trail.items } };
+
+    ghost invariant = { λ t. length t.watch.items ≡ length t.level.items };
+}
+
+impl Tables {
+    /// Each vertex at one level, and none placed. There is room for each vertex in the trail.
+    pub fn new(alloc: Global, count: usize, level: usize) -> Result<Tables, AllocError>
+        ensures levels { IfOk result (λ tables. tables.level ≡ replicate count level) }
+        ensures moves { IfOk result (λ tables. tables.moves ≡ replicate count 0) }
+        ensures trail { IfOk result (λ tables. tables.trail ≡ []) }
+    {
+        let level = vec![in alloc; level; count]?;
+        let moves = vec![in alloc; 0; count]?;
+        let watch = vec![in alloc; 0; count]?;
+        let trail = Vec::with_capacity(alloc, count)?;
+        Ok(Tables {
+            level,
+            moves,
+            watch,
+            trail,
+        })
+    }
+
+    /// The level of a vertex.
+    pub fn level(&self, vertex: usize) -> usize
+        requires { vertex < length self.now.level }
+        ensures { result ≡ slice_index self.now.level vertex }
+    {
+        self.level[vertex]
+    }
+
+    /// The move of a vertex.
+    pub fn chosen(&self, vertex: usize) -> usize
+        requires { vertex < length self.now.moves }
+        ensures { result ≡ slice_index self.now.moves vertex }
+    {
+        self.moves[vertex]
+    }
+
+    /// How many vertices stand in the trail.
+    pub fn placed(&self) -> usize
+        ensures { result ≡ length self.now.trail }
+    {
+        self.trail.len()
+    }
+
+    /// The vertex at a place of the trail.
+    pub fn vertex_at(&self, place: usize) -> usize
+        requires { place < length self.now.trail }
+        ensures { result ≡ slice_index self.now.trail place }
+    {
+        self.trail[place]
+    }
+
+    /// Gives a vertex a level.
+    pub fn set_level(&mut self, vertex: usize, level: usize)
+        requires { vertex < length self.old.level }
+        ensures level { self.new.level ≡ slice_set self.old.level vertex level }
+        ensures moves { self.new.moves ≡ self.old.moves }
+        ensures trail { self.new.trail ≡ self.old.trail }
+    {
+        self.level[vertex] = level;
+    }
+
+    /// Gives a vertex a move.
+    pub fn choose(&mut self, vertex: usize, successor: usize)
+        requires { vertex < length self.old.moves }
+        ensures { self.new ≡ with_move self.old vertex successor }
+    {
+        self.moves[vertex] = successor;
+    }
+
+    /// Puts a vertex at the end of the trail, and gives it a level. For want of memory nothing changes.
+    pub fn place(&mut self, vertex: usize, level: usize) -> Result<(), AllocError>
+        requires { vertex < length self.old.level }
+        ensures ok { OnOk result (self.new ≡ with_placed self.old vertex level) }
+        ensures err { OnErr result (self.new ≡ self.old) }
+    {
+        self.trail.push(vertex)?;
+        self.level[vertex] = level;
+        Ok(())
+    }
+
+    /// Keeps so many vertices of the trail, and drops the rest.
+    pub fn cut(&mut self, placed: usize)
+        ensures trail { self.new.trail ≡ take placed self.old.trail }
+        ensures level { self.new.level ≡ self.old.level }
+        ensures moves { self.new.moves ≡ self.old.moves }
+    {
+        self.trail.truncate(placed);
+    }
+
+    /// The number of the successor at which the last search from a vertex ended.
+    pub(crate) fn watched(&self, vertex: usize) -> usize
+        requires { vertex < length self.now.level }
+    {
+        self.watch[vertex]
+    }
+
+    /// Keeps the number of the successor at which a search from a vertex ended.
+    pub(crate) fn watch(&mut self, vertex: usize, number: usize)
+        requires { vertex < length self.old.level }
+        ensures { self.new ≡ self.old }
+    {
+        self.watch[vertex] = number;
+    }
+}

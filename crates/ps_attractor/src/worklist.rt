@@ -1,0 +1,144 @@
+ghost use Rattle.std.specs.Prelude.{◌≡◌, ◌≢◌, ◌+◌, ◌<◌, ◌≤◌, ℕ, Bool, IfSome, IfNone, OnOk, OnErr, IsTrue, false, length, slice_index};
+ghost use Rattle.ps_game.specs.Games.{IsGame, HasEdge, vertex_count, successors_of};
+ghost use Rattle.ps_attractor.specs.Sources.{IsSourcesOf};
+ghost use Rattle.ps_attractor.specs.Tables.{TablesData, FitsGame, level_of, moves_of};
+ghost use Rattle.ps_attractor.specs.Aims.{IsPosed, IsTaken, IsAttracted, IsGrown, rank_of};
+ghost use Rattle.ps_attractor.specs.Steps.{HasFree, Look, Reaching, From, free_count};
+
+use crate::aim::Aim;
+use crate::sources::Sources;
+use crate::tables::Tables;
+use ps_game::Arena;
+use std::alloc::AllocError;
+
+impl Tables {
+    /// Attracts to the vertices that stand in the trail from a place on: the trail is walked to its end, and each free
+    /// vertex from which the player can lead every play there is put behind it. Takes time in proportion to the edges into
+    /// the vertices that stand there, and those of the other player's vertices among their sources.
+    pub fn attract<A: Arena>(
+        &mut self,
+        arena: &A,
+        sources: &Sources,
+        aim: Aim,
+    ) -> Result<(), AllocError>
+        requires game { IsGame (A.game arena.now) }
+        requires sources { IsSourcesOf (A.game arena.now) sources.now }
+        requires fits { FitsGame (A.game arena.now) self.old }
+        requires differ { aim.mark ≢ aim.free }
+        requires begin { aim.begin ≤ length self.old.trail }
+        ensures fits { FitsGame (A.game arena.now) self.new }
+        ensures grown { OnOk result (IsGrown aim self.old self.new) }
+        ensures attracted { OnOk result ((subgame target set : ℕ → Bool) →
+            IsPosed (A.game arena.now) aim self.old subgame target → IsTaken aim self.new subgame set →
+            IsAttracted (A.game arena.now) subgame aim.player target set (moves_of self.new) (rank_of aim self.new)) }
+    {
+        let mut place = aim.begin;
+        while place < self.placed() {
+            self.spread(arena, sources, aim, place)?;
+            place += 1;
+        }
+        Ok(())
+    }
+
+    /// Looks at each edge into the vertex at a place of the trail.
+    fn spread<A: Arena>(
+        &mut self,
+        arena: &A,
+        sources: &Sources,
+        aim: Aim,
+        place: usize,
+    ) -> Result<(), AllocError>
+        requires game { IsGame (A.game arena.now) }
+        requires sources { IsSourcesOf (A.game arena.now) sources.now }
+        requires fits { FitsGame (A.game arena.now) self.old }
+        requires differ { aim.mark ≢ aim.free }
+        requires after { aim.begin ≤ place }
+        requires within { place < length self.old.trail }
+        ensures fits { FitsGame (A.game arena.now) self.new }
+        ensures longer { OnOk result (length self.old.trail ≤ length self.new.trail) }
+        ensures frees { OnOk result (free_count aim self.new + length self.new.trail ≡ free_count aim self.old + length self.old.trail) }
+        ensures reaching { OnOk result ((start : TablesData) → aim.begin ≤ length start.trail →
+            Reaching (A.game arena.now) aim start self.old (From place) → Reaching (A.game arena.now) aim start self.new (From (place + 1))) }
+    {
+        let reached = self.vertex_at(place);
+        for source in sources.at(reached) {
+            self.look(arena, aim, *source, reached)?;
+        }
+        Ok(())
+    }
+
+    /// Looks at an edge into a vertex that was reached.
+    fn look<A: Arena>(
+        &mut self,
+        arena: &A,
+        aim: Aim,
+        source: usize,
+        reached: usize,
+    ) -> Result<(), AllocError>
+        requires game { IsGame (A.game arena.now) }
+        requires fits { FitsGame (A.game arena.now) self.old }
+        requires vertex { source < vertex_count (A.game arena.now) }
+        ensures fits { FitsGame (A.game arena.now) self.new }
+        ensures looked { OnOk result (Look (A.game arena.now) aim self.old self.new source reached) }
+    {
+        if self.level(source) != aim.free {
+            return Ok(());
+        }
+        if arena.owner(source) == aim.player {
+            self.choose(source, reached);
+        } else if self.has_free(arena, source, aim.free) {
+            return Ok(());
+        }
+        self.place(source, aim.mark)
+    }
+
+    /// Whether a vertex has a free successor. The search begins where the last one ended.
+    fn has_free<A: Arena>(&mut self, arena: &A, vertex: usize, free: usize) -> bool
+        requires game { IsGame (A.game arena.now) }
+        requires fits { FitsGame (A.game arena.now) self.old }
+        requires vertex { vertex < vertex_count (A.game arena.now) }
+        ensures same { self.new ≡ self.old }
+        ensures found { IsTrue result → HasFree (A.game arena.now) free self.old vertex }
+        ensures none { result ≡ false → (w : ℕ) → HasEdge (A.game arena.now) vertex w → level_of self.old w ≢ free }
+    {
+        let degree = arena.degree(vertex);
+        let watched = self.watched(vertex).min(degree);
+        let found = match self.first_free(arena, vertex, watched, degree, free) {
+            Some(number) => Some(number),
+            None => self.first_free(arena, vertex, 0, watched, free),
+        };
+        match found {
+            Some(number) => {
+                self.watch(vertex, number);
+                true
+            }
+            None => false,
+        }
+    }
+
+    /// The first free successor of a vertex among those from a number up to another.
+    fn first_free<A: Arena>(
+        &self,
+        arena: &A,
+        vertex: usize,
+        from: usize,
+        to: usize,
+        free: usize,
+    ) -> Option<usize>
+        requires game { IsGame (A.game arena.now) }
+        requires fits { FitsGame (A.game arena.now) self.now }
+        requires vertex { vertex < vertex_count (A.game arena.now) }
+        requires order { from ≤ to }
+        requires within { to ≤ length (successors_of (A.game arena.now) vertex) }
+        ensures below { IfSome result (λ number. number < to) }
+        ensures some { IfSome result (λ number. level_of self.now (slice_index (successors_of (A.game arena.now) vertex) number) ≡ free) }
+        ensures none { IfNone result ((k : ℕ) → from ≤ k → k < to → level_of self.now (slice_index (successors_of (A.game arena.now) vertex) k) ≢ free) }
+    {
+        for number in from..to {
+            if self.level(arena.successor(vertex, number)) == free {
+                return Some(number);
+            }
+        }
+        None
+    }
+}
