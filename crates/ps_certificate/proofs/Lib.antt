@@ -17,3 +17,4 @@ pub mod OneReading
 pub mod TextLaws
 pub mod Told
 pub mod Windows
+pub mod Writing

@@ -7,3 +7,4 @@ pub mod Reading
 pub mod Regions
 pub mod Texts
 pub mod Words
+pub mod Written

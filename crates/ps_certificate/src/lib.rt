@@ -15,6 +15,7 @@ mod rising;
 mod text;
 #[cfg(test)]
 mod text_tests;
+mod writer;
 
 pub use certificate::{Certificate, Entry};
 pub use checking::check;
@@ -26,3 +27,4 @@ pub use laws::{
     closed_regions_are_kept, first_flaw_is_one, no_strategy_wins_outside, valid_regions_are_held,
 };
 pub use text::{certificate_text_has_one_answer, read};
+pub use writer::write;

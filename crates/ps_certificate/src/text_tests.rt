@@ -1,4 +1,4 @@
-use crate::{CertCause, CertFault, Certificate, read};
+use crate::{CertCause, CertFault, Certificate, read, write};
 use ps_game::{Arena, GameBuilder, NamedGame};
 use std::alloc::Global;
 use std::test::Fail;
@@ -40,6 +40,15 @@ fn a_certificate_is_read(rt: HostRuntime) -> Result<(), Fail> {
     assert_eq!(rt; entries[0].counts.as_slice(), [0].as_slice());
     assert_eq!(rt; (entries[1].winner, entries[1].choice), (1, None));
     assert_eq!(rt; entries[1].counts.as_slice(), [12].as_slice());
+    Ok(())
+}
+
+#[test]
+fn a_certificate_is_written_as_it_was_read(rt: HostRuntime) -> Result<(), Fail> {
+    let game = game(rt.alloc())?;
+    let certificate = read(rt.alloc(), TEXT, &game)?;
+    let text = write(rt.alloc(), &certificate, &game)?;
+    assert_eq!(rt; text.as_slice(), TEXT);
     Ok(())
 }
 
