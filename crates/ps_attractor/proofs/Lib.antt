@@ -1,5 +1,8 @@
 pub mod Attracted
+pub mod Counts
+pub mod Edges
 pub mod FreeCounts
+pub mod Grouping
 pub mod Least
 pub mod Parts
 pub mod PlaceIn
