@@ -3,6 +3,7 @@ pub mod Distinct
 pub mod Finished
 pub mod LoopPriorities
 pub mod Memory
+pub mod OnPaths
 pub mod Paths
 pub mod Priorities
 pub mod Repeats

@@ -20,7 +20,10 @@ pub use builder::GameBuilder;
 pub use counts::Counts;
 pub use faults::GameFault;
 pub use games::Game;
-pub use laws::{long_path_has_loop, no_history_wins_outside, no_memory_wins_outside};
+pub use laws::{
+    holds_on_paths, long_path_has_loop, loop_priority_is_top, no_history_wins_outside,
+    no_memory_wins_outside, only_own_moves_matter,
+};
 pub use named::NamedGame;
 pub use ranking::priorities_of;
 pub use regions::Region;

@@ -7,7 +7,11 @@ use crate::arenas::Arena;
 use std::alloc::{AllocError, Global};
 
 /// The priorities of a parity, 0 or 1, that a game has, rising.
-pub fn priorities_of<A: Arena>(alloc: Global, arena: &A, parity: u64) -> Result<Vec<u64>, AllocError>
+pub fn priorities_of<A: Arena>(
+    alloc: Global,
+    arena: &A,
+    parity: u64,
+) -> Result<Vec<u64>, AllocError>
     ensures { IfOk result (λ v. ListsPriorities (A.game arena.now) parity v.items) }
 {
     let mut priorities = Vec::new(alloc);
