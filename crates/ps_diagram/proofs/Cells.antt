@@ -1,5 +1,5 @@
 -- A table with one cell more.
-use Rattle.std.proofs.Common.{◌≡◌, ℕ, suc, zero, ◌+◌, ◌<◌, ◌≤◌, Bool, true, false, List, [], ◌∷◌, ◌++◌, length, get_or, refl, ap, sym, subst, ◌∙◌, arith, length-append, inl, inr, ◌⊎◌, fold, ltb, Option, Some, None, cond}
+use Rattle.std.proofs.Common.{◌≡◌, ℕ, ◌+◌, ◌<◌, ◌≤◌, Bool, true, false, List, [], ◌∷◌, ◌++◌, length, get_or, refl, ap, sym, subst, ◌∙◌, arith, length-append, inl, inr, ◌⊎◌, fold, ltb, Option, Some, None, cond}
 use Rattle.std.proofs.lemmas.List.{get_or_append_left, get_or_push}
 use Rattle.std.proofs.lemmas.List.Sums.{fold_push}
 use Rattle.std.proofs.lemmas.Option.{slice_get_within, slice_get-get_or}
@@ -10,7 +10,7 @@ use Rattle.indexmap.specs.IndexSet.{insert_key}
 use Rattle.ps_diagram.specs.declared.view.View.{View}
 use Rattle.ps_diagram.specs.declared.view.View.TheVariants.{Nothing, Leaf, Test}
 use Rattle.ps_diagram.specs.Tree.{Tree, empty, final, choice, IsFrom, IsReduced}
-use Rattle.ps_diagram.specs.Parts.{IsChoice, IsPart}
+use Rattle.ps_diagram.specs.Parts.{IsPart}
 use Rattle.ps_diagram.specs.Table.{Table, tree_by, trees_of, tree_at, tree_in, tree_of, IsNode, IsWithin, IsSound, Keeps}
 
 -- the table with one cell more
@@ -150,32 +150,39 @@ sound_more t cell s w o r new =
     let made_old : (k : ℕ) → k < n → tree_at (t.cells ++ cell ∷ []) k ≡ tree_at t.cells k = tree_at-old t.cells cell in
     let made_new : tree_at (t.cells ++ cell ∷ []) n ≡ tree_in t.cells cell = tree_at-new t.cells cell in
     let apart : (k : ℕ) → k < n → tree_in t.cells cell ≡ tree_at t.cells k → ⊥ =
-      λ k h e. new k h (same_cell t s cell (get_or t.cells k Nothing) w (within-weaker k n _ (omega (arith, h)) (s.earlier k h)) (e ∙ s.built k h)) in
+    λ k h e. new k h (same_cell t s cell (get_or t.cells k Nothing) w (within-weaker k n _ (omega (arith, h)) (s.earlier k h)) (e ∙ s.built k h)) in
     record {
       few = s.few;
       built = λ k h. elim (either k h) [
-          inl old ↦ made_old k old ∙ s.built k old ∙ sym (tree_in-old t.cells cell _ (within-weaker k n _ (omega (arith, old)) (s.earlier k old))) ∙ ap (λ c. tree_in (t.cells ++ cell ∷ []) c) (sym (at_old k old))
+        | inl old ↦ made_old k old ∙ s.built k old ∙ sym (tree_in-old t.cells cell _ (within-weaker k n _ (omega (arith, old)) (s.earlier k old))) ∙ ap (λ c. tree_in (t.cells ++ cell ∷ []) c) (sym (at_old k old))
         | inr e ↦ let P : ℕ → Type 0 = λ j. tree_at (t.cells ++ cell ∷ []) j ≡ tree_in (t.cells ++ cell ∷ []) (get_or (t.cells ++ cell ∷ []) j Nothing) in
-            subst P (sym e) (made_new ∙ sym (tree_in-old t.cells cell cell w) ∙ ap (λ c. tree_in (t.cells ++ cell ∷ []) c) (sym at_new)) ];
+            subst P (sym e) (made_new ∙ sym (tree_in-old t.cells cell cell w) ∙ ap (λ c. tree_in (t.cells ++ cell ∷ []) c) (sym at_new))
+      ];
       earlier = λ k h. elim (either k h) [
-          inl old ↦ let P : View → Type 0 = λ c. IsWithin k c in subst P (sym (at_old k old)) (s.earlier k old)
+        | inl old ↦ let P : View → Type 0 = λ c. IsWithin k c in subst P (sym (at_old k old)) (s.earlier k old)
         | inr e ↦ let P : ℕ → Type 0 = λ j. IsWithin j (get_or (t.cells ++ cell ∷ []) j Nothing) in let Q : View → Type 0 = λ c. IsWithin n c in
-            subst P (sym e) (subst Q (sym at_new) w) ];
+            subst P (sym e) (subst Q (sym at_new) w)
+      ];
       ordered = λ k h. elim (either k h) [
-          inl old ↦ let P : Tree → Type 0 = λ u. IsFrom 0 t.propositions u in subst P (sym (made_old k old)) (s.ordered k old)
+        | inl old ↦ let P : Tree → Type 0 = λ u. IsFrom 0 t.propositions u in subst P (sym (made_old k old)) (s.ordered k old)
         | inr e ↦ let P : ℕ → Type 0 = λ j. IsFrom 0 t.propositions (tree_at (t.cells ++ cell ∷ []) j) in let Q : Tree → Type 0 = λ u. IsFrom 0 t.propositions u in
-            subst P (sym e) (subst Q (sym made_new) o) ];
+            subst P (sym e) (subst Q (sym made_new) o)
+      ];
       reduced = λ k h. elim (either k h) [
-          inl old ↦ let P : Tree → Type 0 = λ u. IsReduced u in subst P (sym (made_old k old)) (s.reduced k old)
+        | inl old ↦ let P : Tree → Type 0 = λ u. IsReduced u in subst P (sym (made_old k old)) (s.reduced k old)
         | inr e ↦ let P : ℕ → Type 0 = λ j. IsReduced (tree_at (t.cells ++ cell ∷ []) j) in let Q : Tree → Type 0 = λ u. IsReduced u in
-            subst P (sym e) (subst Q (sym made_new) r) ];
+            subst P (sym e) (subst Q (sym made_new) r)
+      ];
       one = λ a b ha hb e. elim (either a ha) [
-          inl olda ↦ elim (either b hb) [
-              inl oldb ↦ s.one a b olda oldb (sym (made_old a olda) ∙ e ∙ made_old b oldb)
-            | inr isb ↦ absurd (apart a olda (sym made_new ∙ ap (λ j. tree_at (t.cells ++ cell ∷ []) j) (sym isb) ∙ sym e ∙ made_old a olda)) ]
+        | inl olda ↦ elim (either b hb) [
+          | inl oldb ↦ s.one a b olda oldb (sym (made_old a olda) ∙ e ∙ made_old b oldb)
+          | inr isb ↦ absurd (apart a olda (sym made_new ∙ ap (λ j. tree_at (t.cells ++ cell ∷ []) j) (sym isb) ∙ sym e ∙ made_old a olda))
+        ]
         | inr isa ↦ elim (either b hb) [
-              inl oldb ↦ absurd (apart b oldb (sym made_new ∙ ap (λ j. tree_at (t.cells ++ cell ∷ []) j) (sym isa) ∙ e ∙ made_old b oldb))
-            | inr isb ↦ isa ∙ sym isb ] ];
+          | inl oldb ↦ absurd (apart b oldb (sym made_new ∙ ap (λ j. tree_at (t.cells ++ cell ∷ []) j) (sym isa) ∙ e ∙ made_old b oldb))
+          | inr isb ↦ isa ∙ sym isb
+        ]
+      ];
     }
 
 -- the table after a cell is interned, and its place
@@ -201,16 +208,17 @@ interned t u cell place eq sound_eq refl_eq s w o r props keys stored =
     let e : slice_get u.cells place ≡ Some cell = stored.1 ∙ ap (λ k. Some k) (sym (sound_eq cell stored.0 stored.2)) in
     let known = list_any (eq cell) t.cells in
     elim (bool_cases known) [
-      inl is ↦
-        let same : u ≡ t = table_eq u t props (keys ∙ ap (λ b. cond b t.cells (t.cells ++ cell ∷ [])) is) in
-        let P : Table → Type 0 = λ v. slice_get v.cells place ≡ Some cell → Interned t v cell place in
-        subst P (sym same) (λ at. at_place t t cell place s (keeps_refl t) w refl at) e
-    | inr is ↦
-        let same : u ≡ more t cell = table_eq u (more t cell) props (keys ∙ ap (λ b. cond b t.cells (t.cells ++ cell ∷ [])) is) in
-        let new : (k : ℕ) → k < length t.cells → cell ≡ get_or t.cells k Nothing → ⊥ =
+      | inl is ↦
+          let same : u ≡ t = table_eq u t props (keys ∙ ap (λ b. cond b t.cells (t.cells ++ cell ∷ [])) is) in
+          let P : Table → Type 0 = λ v. slice_get v.cells place ≡ Some cell → Interned t v cell place in
+          subst P (sym same) (λ at. at_place t t cell place s (keeps_refl t) w refl at) e
+      | inr is ↦
+          let same : u ≡ more t cell = table_eq u (more t cell) props (keys ∙ ap (λ b. cond b t.cells (t.cells ++ cell ∷ [])) is) in
+          let new : (k : ℕ) → k < length t.cells → cell ≡ get_or t.cells k Nothing → ⊥ =
           λ k h same_cell. true_is_not_false (sym (list_any_at (eq cell) t.cells k Nothing h (ap (λ c. eq cell c) (sym same_cell) ∙ refl_eq cell)) ∙ is) in
-        let P : Table → Type 0 = λ v. slice_get v.cells place ≡ Some cell → Interned t v cell place in
-        subst P (sym same) (λ at. at_place t (more t cell) cell place (sound_more t cell s w o r new) (keeps_more t cell) w (tree_in-old t.cells cell cell w) at) e ]
+          let P : Table → Type 0 = λ v. slice_get v.cells place ≡ Some cell → Interned t v cell place in
+          subst P (sym same) (λ at. at_place t (more t cell) cell place (sound_more t cell s w o r new) (keeps_more t cell) w (tree_in-old t.cells cell cell w) at) e
+    ]
 
 pub part_of : (t : Table) (node : ℕ) (cell : View) → IsSound t → IsNode t node → get_or t.cells node Nothing ≡ cell → IsPart t node cell
 unfolding tree_of

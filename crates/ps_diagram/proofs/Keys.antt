@@ -1,5 +1,5 @@
 -- Equality of cells as the table of nodes tests it.
-use Rattle.std.proofs.Common.{◌≡◌, ℕ, Bool, true, false, refl, ap, sym, ◌∙◌, rules, eqb, ◌&&◌}
+use Rattle.std.proofs.Common.{◌≡◌, Bool, true, false, refl, ap, sym, ◌∙◌, rules, eqb, ◌&&◌}
 use Rattle.std.proofs.lemmas.Bool.{eqb-true}
 use Rattle.ps_diagram.proofs.Cells.{true_is_not_false}
 use Rattle.ps_diagram.specs.declared.view.View.{View}

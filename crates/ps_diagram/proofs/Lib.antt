@@ -1,2 +1,10 @@
 pub mod Cells
 pub mod Keys
+pub mod Canon
+pub mod Sides
+pub mod Joining
+pub mod KnownLemmas
+pub mod Letters
+pub mod Clashing
+pub mod Seeing
+pub mod Mapping

@@ -11,3 +11,8 @@ abbrev pub AreAlike : Option ℕ → Option ℕ → Type 0
 AreAlike None second = Unit {0}
 AreAlike (Some k) None = Unit {0}
 AreAlike (Some k) (Some m) = k ≡ m
+
+-- 1 where there is no leaf, and none where there is one
+abbrev pub opposite : Option ℕ → Option ℕ
+opposite None = Some 1
+opposite (Some k) = None

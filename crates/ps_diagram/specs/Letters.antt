@@ -1,5 +1,5 @@
 -- Letters, as numbers and as functions, and their order.
-use Rattle.std.specs.Prelude.{◌≡◌, ℕ, zero, suc, ◌+◌, ◌^◌, ◌<◌, ◌⊎◌, Bool, true, false, cond}
+use Rattle.std.specs.Prelude.{◌≡◌, ℕ, zero, suc, ◌+◌, ◌^◌, ◌<◌, Bool, true, false, cond}
 use Rattle.ps_label.specs.Truth.{is_in}
 
 -- the letter of a number: proposition p is bit p, the lowest bit being bit 0

@@ -3,3 +3,7 @@ pub mod Tree
 pub mod Table
 pub mod Parts
 pub mod Leaves
+pub mod Split
+pub mod Known
+pub mod Clashes
+pub mod Views

@@ -2,7 +2,7 @@
 use Rattle.std.specs.Prelude.{◌≡◌, ℕ, ◌+◌, ◌<◌, ◌≤◌}
 use Rattle.ps_diagram.specs.declared.view.View.{View}
 use Rattle.ps_diagram.specs.declared.view.View.TheVariants.{Nothing, Leaf, Test}
-use Rattle.ps_diagram.specs.Tree.{Tree, empty, final, choice, IsFrom}
+use Rattle.ps_diagram.specs.Tree.{empty, final, choice, IsFrom}
 use Rattle.ps_diagram.specs.Table.{Table, IsNode, tree_of}
 
 -- The node tests that proposition, and then goes to the one or the other: two earlier nodes, of different trees over

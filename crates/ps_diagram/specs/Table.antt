@@ -6,7 +6,7 @@
 --     leaf_of t node x   its leaf at the letter x
 --     Keeps old new      each node that was held is held, with the same tree, so with the same leaf at each letter
 --     IsSound            what is true of every store
-use Rattle.std.specs.Prelude.{◌≡◌, ℕ, ◌+◌, ◌<◌, ◌≤◌, Bool, Option, List, [], ◌∷◌, ◌++◌, length, fold, slice_index_or}
+use Rattle.std.specs.Prelude.{◌≡◌, ℕ, ◌<◌, ◌≤◌, Option, List, [], ◌∷◌, ◌++◌, length, fold, slice_index_or}
 use Rattle.ps_diagram.specs.declared.view.View.{View}
 use Rattle.ps_diagram.specs.declared.view.View.TheVariants.{Nothing, Leaf, Test}
 use Rattle.ps_diagram.specs.Letters.{assignment}

@@ -23,3 +23,14 @@ abbrev pub IsReduced : Tree → Type 0
 IsReduced empty = Unit {0}
 IsReduced (final k) = Unit {0}
 IsReduced (choice p low high) = (low ≡ high → ⊥) × IsReduced low × IsReduced high
+
+-- only propositions from the level on matter
+abbrev pub IsBlind : ℕ → Tree → Type 0
+IsBlind level t = (f g : ℕ → Bool) → ((q : ℕ) → level ≤ q → f q ≡ g q) → leaf_at t f ≡ leaf_at t g
+
+abbrev pub HaveSameLeaves : Tree → Tree → Type 0
+HaveSameLeaves t u = (f : ℕ → Bool) → leaf_at t f ≡ leaf_at u f
+
+-- the leaves of the tree are those of low where the proposition is false, and those of high where it is true
+abbrev pub IsTestOf : ℕ → Tree → Tree → Tree → Type 0
+IsTestOf p low high t = (f : ℕ → Bool) → leaf_at t f ≡ cond (f p) (leaf_at high f) (leaf_at low f)

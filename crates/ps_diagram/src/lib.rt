@@ -19,8 +19,13 @@
 //! least letters: letters are ordered by the first proposition at which they differ, false first.
 #![tactic(auto)]
 
+mod fault;
+mod maps;
+mod overlay;
+mod split;
 pub mod store;
 pub mod view;
 
+pub use fault::OverlayError;
 pub use store::Store;
 pub use view::{Node, View};

@@ -1,9 +1,10 @@
 //! The store: the table of nodes, and the leaf of a node at a letter.
 
-ghost use Rattle.std.specs.Prelude.{◌≡◌, ℕ, ◌+◌, ◌^◌, ◌≤◌, ◌<◌, [], IfOk, OnOk, length, slice_index_or, Option, Some, None, cond};
-ghost use Rattle.ps_diagram.specs.Tree.{IsFrom, IsReduced};
+ghost use Rattle.std.specs.Prelude.{◌≡◌, ◌↔◌, IsTrue, ℕ, ◌+◌, ◌^◌, ◌≤◌, ◌<◌, [], IfOk, OnOk, length, slice_index_or, Option, Some, None, cond};
+ghost use Rattle.ps_diagram.specs.Tree.{IsBlind, IsFrom, IsReduced, IsTestOf};
 ghost use Rattle.ps_diagram.specs.Parts.{IsPart};
 ghost use Rattle.ps_diagram.specs.Table.{Table, IsNode, IsSound, IsWithin, Keeps, leaf_of, tree_of, tree_in};
+ghost use Rattle.ps_diagram.specs.Views.{Sees};
 ghost use Rattle.ps_diagram.specs.declared.view.View.TheVariants.{Nothing};
 
 use crate::view::{Node, View};
@@ -93,11 +94,56 @@ impl Store {
                     proposition,
                     low,
                     high,
-                } => place = if letter >> proposition & 1 == 1 { high } else { low },
+                } => place = if letter >> proposition & 1 == 1 {
+                    high
+                } else {
+                    low
+                },
             }
         }
     }
 
+    /// The allocator of the store.
+    pub(crate) fn allocator(&self) -> Global
+        ensures sound { IsSound self.now }
+    {
+        self.alloc
+    }
+
+    /// Whether two diagrams have the same leaf at each letter.
+    pub fn same(&self, first: Node, second: Node) -> bool
+        requires first { IsNode self.now first }
+        requires second { IsNode self.now second }
+        ensures { IsTrue result
+            ↔ ((letter : ℕ) → letter < 2 ^ self.now.propositions → leaf_of self.now first letter ≡ leaf_of self.now second letter) }
+    {
+        let _ = &self.propositions;
+        first == second
+    }
+
+    /// A node by its parts.
+    pub fn view(&self, node: Node) -> View
+        requires held { IsNode self.now node }
+        ensures { Sees self.now node result }
+    {
+        self.cell(node)
+    }
+
+    /// A store with the same nodes.
+    ///
+    /// # Errors
+    ///
+    /// Fails where a growth was refused.
+    pub fn copy(&self) -> Result<Self, AllocError>
+        ensures { IfOk result (λ store. store ≡ self.now) }
+    {
+        let cells = self.cells.clone()?;
+        Ok(Store {
+            alloc: self.alloc,
+            propositions: self.propositions,
+            cells,
+        })
+    }
 
     /// The cell of a node, its nodes being earlier ones.
     pub(crate) fn cell(&self, node: Node) -> View
@@ -106,6 +152,34 @@ impl Store {
         ensures part { IsPart self.now node result }
     {
         self.cells.as_slice()[node.place]
+    }
+
+    /// The diagram that goes to `low` where the proposition is false, and to `high` where it is true.
+    pub(crate) fn test(
+        &mut self,
+        proposition: u32,
+        low: Node,
+        high: Node,
+    ) -> Result<Node, AllocError>
+        requires named { proposition < self.old.propositions }
+        requires low_held { IsNode self.old low }
+        requires high_held { IsNode self.old high }
+        requires low_later { IsBlind (proposition + 1) (tree_of self.old low) }
+        requires high_later { IsBlind (proposition + 1) (tree_of self.old high) }
+        ensures keeps { Keeps self.old self.new }
+        ensures held { IfOk result (λ node. IsNode self.new node) }
+        ensures leaf { IfOk result
+            (λ node. IsTestOf proposition (tree_of self.old low) (tree_of self.old high) (tree_of self.new node)) }
+    {
+        let _ = &self.propositions;
+        if low == high {
+            return Ok(low);
+        }
+        self.intern(View::Test {
+            proposition,
+            low,
+            high,
+        })
     }
 
     /// The node of a cell, which is made where there is none.

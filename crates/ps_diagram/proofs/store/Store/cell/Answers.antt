@@ -1,6 +1,5 @@
-use Rattle.std.proofs.Common.{subst, ◌≡◌, ◌∙◌, ap, sym, length, List, get_or, ◌<◌, ℕ}
+use Rattle.std.proofs.Common.{subst, ◌≡◌, ◌∙◌, ap, sym, get_or}
 use Rattle.std.proofs.lemmas.List.{get_or_default}
-use Rattle.ps_diagram.specs.declared.view.View.{View}
 use Rattle.ps_diagram.specs.declared.view.View.TheVariants.{Nothing}
 use Rattle.ps_diagram.specs.Parts.{IsPart}
 use Rattle.ps_diagram.specs.Table.{Table, IsNode}
@@ -14,6 +13,6 @@ returns-clause-part c =
     let H : Table → Type 0 = λ u. IsNode u c.args.node in
     let held : IsNode t c.args.node = subst H (sym c.self.view_is) c.requires.held in
     let is : get_or t.cells c.args.node Nothing ≡ r =
-      get_or_default t.cells c.args.node Nothing r held ∙ ap (λ k. get_or t.cells k r) (sym c.node.view_is) ∙ ap (λ xs. get_or xs c.node.inside.place r) (sym c.as_slice.ensures.keys) ∙ sym c.index-as_slice-node.is in
+    get_or_default t.cells c.args.node Nothing r held ∙ ap (λ k. get_or t.cells k r) (sym c.node.view_is) ∙ ap (λ xs. get_or xs c.node.inside.place r) (sym c.as_slice.ensures.keys) ∙ sym c.index-as_slice-node.is in
     let P : Table → Type 0 = λ u. IsPart u c.args.node r in
     subst P c.self.view_is (part_of t c.args.node r c.self.invariant held is)

@@ -1,6 +1,6 @@
 use Rattle.std.proofs.Common.{◌≡◌, refl, sym, ◌∙◌, subst, ap, length}
-use Rattle.ps_diagram.specs.Tree.{Tree, IsFrom, IsReduced}
-use Rattle.ps_diagram.specs.Table.{Table, IsSound, Keeps, IsWithin, IsNode, tree_in, tree_of}
+use Rattle.ps_diagram.specs.Tree.{IsFrom, IsReduced}
+use Rattle.ps_diagram.specs.Table.{Table, Keeps, IsWithin, tree_in}
 use Rattle.ps_diagram.proofs.Cells.{Interned, interned}
 use Rattle.ps_diagram.proofs.Keys.{same_view, view_same}
 use Rattle.ps_diagram.proofs.store.Store.intern.Goals as goal

@@ -1,0 +1,76 @@
+-- What is known stays known as the table grows, and one more is known.
+use Rattle.std.proofs.Common.{◌≡◌, ℕ, cond, eqb, Option, Some, None, ap, sym, subst, ◌∙◌, inl, inr}
+use Rattle.std.proofs.lemmas.Bool.{eqb-true}
+use Rattle.ps_diagram.specs.Tree.{Tree}
+use Rattle.ps_diagram.specs.Table.{Table, IsNode, Keeps, tree_of}
+use Rattle.ps_diagram.specs.Known.{Knows, KnowsPairs, pair_eq}
+use Rattle.ps_diagram.proofs.Cells.{bool_cases}
+use Rattle.ps_diagram.proofs.Keys.{and_both}
+
+pub keeps_trans : (t u v : Table) → Keeps t u → Keeps u v → Keeps t v
+keeps_trans t u v a b = record {
+  propositions = b.propositions ∙ a.propositions;
+  held = λ node h. b.held node (a.held node h);
+  same = λ node h. b.same node (a.held node h) ∙ a.same node h;
+}
+
+pub kept : (P : Tree → Type 0) (t u : Table) → Keeps t u → (node : ℕ) → IsNode t node → P (tree_of t node) → P (tree_of u node)
+kept P t u k node h p = subst P (sym (k.same node h)) p
+
+pub back : (P : Tree → Type 0) (t u : Table) → Keeps t u → (node : ℕ) → IsNode t node → P (tree_of u node) → P (tree_of t node)
+back P t u k node h p = subst P (k.same node h) p
+
+nat_in : Option ℕ → ℕ
+nat_in None = 0
+nat_in (Some k) = k
+
+pub some_nat : (x y : ℕ) → Some x ≡ Some y → x ≡ y
+unfolding nat_in
+some_nat x y e = ap nat_in e
+
+pub knows_kept : (R : Tree → Tree → Type 0) (t u : Table) (known : ℕ → Option ℕ) → Keeps t u → Knows R t known → Knows R u known
+knows_kept R t u known k h node made e =
+    let r = h node made e in
+    (k.held node r.0, k.held made r.1, kept (λ x. R x (tree_of u made)) t u k node r.0 (kept (λ y. R (tree_of t node) y) t u k made r.1 r.2))
+
+pub knows_more : (R : Tree → Tree → Type 0) (t : Table) (known new : ℕ → Option ℕ) (key value : ℕ) → ((q : ℕ) → new q ≡ cond (eqb key q) (Some value) (known q)) →
+    Knows R t known → IsNode t key → IsNode t value → R (tree_of t key) (tree_of t value) → Knows R t new
+knows_more R t known new key value update h hk hv r node made e =
+    elim (bool_cases (eqb key node)) [
+      | inl is ↦
+          let same : key ≡ node = eqb-true key node is in
+          let value_is : value ≡ made = some_nat value made (sym (update node ∙ ap (λ b. cond b (Some value) (known node)) is) ∙ e) in
+          let P : ℕ → Type 0 = λ k. IsNode t k × IsNode t made × R (tree_of t k) (tree_of t made) in
+          let Q : ℕ → Type 0 = λ v. IsNode t key × IsNode t v × R (tree_of t key) (tree_of t v) in
+          subst P same (subst Q value_is (hk, hv, r))
+      | inr isnt ↦ h node made (sym (update node ∙ ap (λ b. cond b (Some value) (known node)) isnt) ∙ e)
+    ]
+
+pub pairs_kept : (R : Tree → Tree → Tree → Type 0) (t u : Table) (known : ℕ × ℕ → Option ℕ) → Keeps t u → KnowsPairs R t known → KnowsPairs R u known
+pairs_kept R t u known k h a b made e =
+    let r = h a b made e in (
+      k.held a r.0,
+      k.held b r.1,
+      k.held made r.2,
+      kept (λ x. R x (tree_of u b) (tree_of u made)) t u k a r.0 (kept (λ y. R (tree_of t a) y (tree_of u made)) t u k b r.1 (kept (λ z. R (tree_of t a) (tree_of t b) z) t u k made r.2 r.3)),
+    )
+
+pub pairs_more : (R : Tree → Tree → Tree → Type 0) (t : Table) (known new : ℕ × ℕ → Option ℕ) (x y value : ℕ) → ((q : ℕ × ℕ) → new q ≡ cond (pair_eq (x, y) q) (Some value) (known q)) →
+    KnowsPairs R t known → IsNode t x → IsNode t y → IsNode t value → R (tree_of t x) (tree_of t y) (tree_of t value) → KnowsPairs R t new
+pairs_more R t known new x y value update h hx hy hv r a b made e =
+    elim (bool_cases (pair_eq (x, y) (a, b))) [
+      | inl is ↦
+          let both = and_both (eqb x a) (eqb y b) is in
+          let value_is : value ≡ made = some_nat value made (sym (update (a, b) ∙ ap (λ c. cond c (Some value) (known (a, b))) is) ∙ e) in
+          let P : ℕ → Type 0 = λ k. IsNode t k × IsNode t b × IsNode t made × R (tree_of t k) (tree_of t b) (tree_of t made) in
+          let Q : ℕ → Type 0 = λ k. IsNode t x × IsNode t k × IsNode t made × R (tree_of t x) (tree_of t k) (tree_of t made) in
+          let V : ℕ → Type 0 = λ v. IsNode t x × IsNode t y × IsNode t v × R (tree_of t x) (tree_of t y) (tree_of t v) in
+          subst P (eqb-true x a both.0) (subst Q (eqb-true y b both.1) (subst V value_is (hx, hy, hv, r)))
+      | inr isnt ↦ h a b made (sym (update (a, b) ∙ ap (λ c. cond c (Some value) (known (a, b))) isnt) ∙ e)
+    ]
+
+pub pairs_same : (R : Tree → Tree → Tree → Type 0) (t : Table) (known new : ℕ × ℕ → Option ℕ) → ((q : ℕ × ℕ) → new q ≡ known q) → KnowsPairs R t known → KnowsPairs R t new
+pairs_same R t known new e h a b made is = h a b made (sym (e (a, b)) ∙ is)
+
+pub knows_same : (R : Tree → Tree → Type 0) (t : Table) (known new : ℕ → Option ℕ) → ((q : ℕ) → new q ≡ known q) → Knows R t known → Knows R t new
+knows_same R t known new e h a made is = h a made (sym (e a) ∙ is)

@@ -1,0 +1,76 @@
+use Rattle.std.proofs.Common.{sym, ap, ℕ, Option, nat_eq, Bool, false, subst, rules}
+use Rattle.indexmap.specs.IndexMap.{get}
+use Rattle.ps_diagram.specs.Tree.{leaf_at}
+use Rattle.ps_diagram.specs.Table.{Keeps, tree_of}
+use Rattle.ps_diagram.specs.Known.{IsMapped}
+use Rattle.ps_diagram.proofs.Sides.{sides_of_test}
+use Rattle.ps_diagram.proofs.KnownLemmas.{keeps_trans, kept, back, knows_kept, knows_more}
+use Rattle.ps_diagram.proofs.Mapping.{mapped_test, mapped_blind, on_low, on_high}
+use Rattle.ps_diagram.proofs.store.Store.+mapped_by.Goals as goal
+
+pub returns-in-Some-clause-held : goal.returns-in-Some-clause-held
+returns-in-Some-clause-held g t c = (c.requires.known c.args.node c.in-Some.changed.now (sym c.in-Some.ensures.value)).1
+
+pub returns-in-Some-clause-leaf : goal.returns-in-Some-clause-leaf
+returns-in-Some-clause-leaf g t c = (c.requires.known c.args.node c.in-Some.changed.now (sym c.in-Some.ensures.value)).2
+
+pub changed-requires : goal.changed-requires
+changed-requires g t c =
+    let P : Option ℕ → Type 0 = λ x. g.R.LeafRule.fits c.args.rule.now x in
+    subst P (ap (λ u. leaf_at u (λ _. false)) c.in-Nothing.ensures.part) (c.requires.fits (λ _. false))
+
+pub changed-requires-in-Leaf : goal.changed-requires-in-Leaf
+changed-requires-in-Leaf g t c =
+    let P : Option ℕ → Type 0 = λ x. g.R.LeafRule.fits c.args.rule.now x in
+    subst P (ap (λ u. leaf_at u (λ _. false)) c.in-Leaf.ensures.part) (c.requires.fits (λ _. false))
+
+pub mapped_by-requires : goal.mapped_by-requires
+mapped_by-requires g t c =
+    λ κs b.
+    let s = sides_of_test _ _ _ _ _ c.in-Test.ensures.part in
+    (search rules, (search rules, (s.low_held, (on_low (λ x. g.R.LeafRule.fits c.args.rule.now x) _ _ _ _ _ s c.requires.fits, c.requires.known))))
+
+pub mapped_by-requires-in-Test : goal.mapped_by-requires-in-Test
+mapped_by-requires-in-Test g t c =
+    λ κs b.
+    let s = sides_of_test _ _ _ _ _ c.in-Test.ensures.part in
+    let now = c.args.self.now in
+    let then = c.mapped_by.new.self in
+    let k = c.mapped_by.ensures.keeps in (
+      search rules,
+      (
+        search rules,
+        (
+          k.held _ s.high_held,
+          (
+            kept (λ u. (f : ℕ → Bool) → g.R.LeafRule.fits c.args.rule.now (leaf_at u f)) now then k c.in-Test.high s.high_held (on_high (λ x. g.R.LeafRule.fits c.args.rule.now x) _ _ _ _ _ s c.requires.fits),
+            c.mapped_by.ensures.known,
+          ),
+        ),
+      ),
+    )
+
+pub test-requires-clause-low_later : goal.test-requires-clause-low_later
+test-requires-clause-low_later g t c =
+    let s = sides_of_test _ _ _ _ _ c.in-Test.ensures.part in
+    mapped_blind (g.R.LeafRule.rule c.args.rule.now) _ _ _ (kept (λ u. IsMapped (g.R.LeafRule.rule c.args.rule.now) (tree_of c.args.self.now c.in-Test.low) u) c.mapped_by.new.self c.mapped_by-in-Test.new.self c.mapped_by-in-Test.ensures.keeps c.in_ok-low-in-Test.low c.in_ok-low-in-Test.ensures.held c.in_ok-low-in-Test.ensures.leaf) s.low_later
+
+pub test-requires-clause-high_later : goal.test-requires-clause-high_later
+test-requires-clause-high_later g t c =
+    let s = sides_of_test _ _ _ _ _ c.in-Test.ensures.part in
+    mapped_blind (g.R.LeafRule.rule c.args.rule.now) _ _ _ (back (λ u. IsMapped (g.R.LeafRule.rule c.args.rule.now) u (tree_of c.mapped_by-in-Test.new.self c.in_ok-high-in-Test.high)) c.args.self.now c.mapped_by.new.self c.mapped_by.ensures.keeps c.in-Test.high s.high_held c.in_ok-high-in-Test.ensures.leaf) s.high_later
+
+pub returns-in_ok-insert-in-Test-clause-known : goal.returns-in_ok-insert-in-Test-clause-known
+returns-in_ok-insert-in-Test-clause-known g t c =
+    let rule = g.R.LeafRule.rule c.args.rule.now in
+    let s = sides_of_test _ _ _ _ _ c.in-Test.ensures.part in
+    let now = c.args.self.now in
+    let last = c.test.new.self in
+    let k : Keeps now last = keeps_trans _ _ _ (keeps_trans _ _ _ c.mapped_by.ensures.keeps c.mapped_by-in-Test.ensures.keeps) c.test.ensures.keeps in
+    let low = kept (λ u. IsMapped rule (tree_of now c.in-Test.low) u) c.mapped_by.new.self c.mapped_by-in-Test.new.self c.mapped_by-in-Test.ensures.keeps c.in_ok-low-in-Test.low c.in_ok-low-in-Test.ensures.held c.in_ok-low-in-Test.ensures.leaf in
+    let high = back (λ u. IsMapped rule u (tree_of c.mapped_by-in-Test.new.self c.in_ok-high-in-Test.high)) now c.mapped_by.new.self c.mapped_by.ensures.keeps c.in-Test.high s.high_held c.in_ok-high-in-Test.ensures.leaf in
+    let made = mapped_test rule c.in-Test.proposition (tree_of now c.args.node) (tree_of now c.in-Test.low) (tree_of now c.in-Test.high) (tree_of last c.in_ok-changed-in-Test.changed) _ _ s.leaf c.in_ok-changed-in-Test.ensures.leaf low high in
+    knows_more (IsMapped rule) last (get nat_eq c.mapped_by-in-Test.new.known) (get nat_eq c.insert.new.self) c.args.node c.in_ok-changed-in-Test.changed c.in_ok-insert-in-Test.ensures.updates.0
+    (knows_kept (IsMapped rule) c.mapped_by-in-Test.new.self last (get nat_eq c.mapped_by-in-Test.new.known) c.test.ensures.keeps c.mapped_by-in-Test.ensures.known)
+    (k.held c.args.node c.requires.held) c.in_ok-changed-in-Test.ensures.held
+    (kept (λ u. IsMapped rule u (tree_of last c.in_ok-changed-in-Test.changed)) now last k c.args.node c.requires.held made)

@@ -1,0 +1,32 @@
+-- What a table of diagrams made already knows, and how a new diagram stands to those that it is made of.
+use Rattle.std.specs.Prelude.{◌≡◌, ◌≢◌, ℕ, Bool, ◌&&◌, nat_eq, Option, Some}
+use Rattle.ps_diagram.specs.declared.fault.OverlayError.{OverlayError}
+use Rattle.ps_diagram.specs.declared.fault.OverlayError.TheVariants.{Clash, OutOfMemory}
+use Rattle.ps_diagram.specs.Leaves.{joined, AreAlike}
+use Rattle.ps_diagram.specs.Tree.{Tree, leaf_at}
+use Rattle.ps_diagram.specs.Table.{Table, IsNode, tree_of}
+
+-- each known node is held, as is the one made of it, and their trees stand in the relation
+abbrev pub Knows : (Tree → Tree → Type 0) → Table → (ℕ → Option ℕ) → Type 0
+Knows R t known = (node made : ℕ) → known node ≡ Some made → IsNode t node × IsNode t made × R (tree_of t node) (tree_of t made)
+
+-- the same of pairs of nodes
+abbrev pub KnowsPairs : (Tree → Tree → Tree → Type 0) → Table → (ℕ × ℕ → Option ℕ) → Type 0
+KnowsPairs R t known =
+    (first second made : ℕ) → known (first, second) ≡ Some made → IsNode t first × IsNode t second × IsNode t made × R (tree_of t first) (tree_of t second) (tree_of t made)
+
+abbrev pub pair_eq : ℕ × ℕ → ℕ × ℕ → Bool
+pair_eq a b = nat_eq a.0 b.0 && nat_eq a.1 b.1
+
+-- each leaf of the second tree is what the rule makes of that of the first
+abbrev pub IsMapped : (Option ℕ → Option ℕ) → Tree → Tree → Type 0
+IsMapped rule t u = (f : ℕ → Bool) → leaf_at u f ≡ rule (leaf_at t f)
+
+-- the third tree has the leaves of the first and of the second, which nowhere differ
+abbrev pub IsOverlay : Tree → Tree → Tree → Type 0
+IsOverlay a b c = (f : ℕ → Bool) → AreAlike (leaf_at a f) (leaf_at b f) × (leaf_at c f ≡ joined (leaf_at a f) (leaf_at b f))
+
+-- a clash is told of two leaves at one letter
+abbrev pub IsClash : Tree → Tree → OverlayError → Type 0
+IsClash a b (Clash x y) = (f : ℕ → Bool) × (leaf_at a f ≡ Some x) × (leaf_at b f ≡ Some y) × (x ≢ y)
+IsClash a b OutOfMemory = Unit {0}

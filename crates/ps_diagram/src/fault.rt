@@ -1,0 +1,34 @@
+//! What can go wrong where two diagrams are joined.
+
+ghost use Rattle.ps_diagram.specs.declared.fault.OverlayError.TheVariants.{OutOfMemory};
+ghost use Rattle.std.specs.Prelude.{◌≡◌};
+
+use std::alloc::{AllocError, AllocFailed};
+use thiserror::Error;
+
+/// Two diagrams are not joined.
+#[derive(Debug, Drop, Error)]
+pub enum OverlayError {
+    /// At some letter the first has the one leaf, the second the other.
+    #[error("two different leaves, {first} and {second}, at one letter")]
+    Clash { first: u64, second: u64 },
+    /// A growth was refused.
+    #[error("out of memory")]
+    OutOfMemory,
+}
+
+impl From<AllocError> for OverlayError {
+    ghost from_gives = { λ _ fault. fault ≡ OutOfMemory };
+
+    fn from(_error: AllocError) -> OverlayError {
+        OverlayError::OutOfMemory
+    }
+}
+
+impl<T: Drop> From<AllocFailed<T>> for OverlayError {
+    ghost from_gives = { λ _ fault. fault ≡ OutOfMemory };
+
+    fn from(_error: AllocFailed<T>) -> OverlayError {
+        OverlayError::OutOfMemory
+    }
+}

@@ -1,0 +1,216 @@
+//! Diagrams with their leaves changed by a rule.
+
+ghost use Rattle.std.specs.Prelude.{◌≡◌, ℕ, ◌+◌, ◌^◌, ◌<◌, Bool, Option, Some, None, IfOk, IfSome, length, nat_eq, option_map, unwrap_or, slice_index, is_none, cond};
+ghost use Rattle.indexmap.specs.IndexMap.{get, index_of};
+ghost use Rattle.ps_diagram.specs.Tree.{leaf_at};
+ghost use Rattle.ps_diagram.specs.Table.{IsNode, Keeps, leaf_of, tree_of};
+ghost use Rattle.ps_diagram.specs.Known.{IsMapped, Knows};
+
+use crate::store::Store;
+use crate::view::{Node, View};
+use indexmap::IndexMap;
+use std::alloc::AllocError;
+
+/// What becomes of each leaf, and of none.
+trait LeafRule {
+    ghost fits: { Self → Option ℕ → Type 0 };
+
+    ghost rule: { Self → Option ℕ → Option ℕ };
+
+    fn changed(&self, leaf: Option<u64>) -> Option<u64>
+        requires { fits self.now leaf }
+        ensures { result ≡ rule self.now leaf };
+}
+
+/// That leaf wherever there is one.
+#[derive(Drop)]
+struct Guarded(u64);
+
+impl LeafRule for Guarded {
+    ghost fits = { λ _ _. Unit {0} };
+
+    ghost rule = { λ s leaf. option_map (λ _. s.0) leaf };
+
+    fn changed(&self, leaf: Option<u64>) -> Option<u64> {
+        match leaf {
+            None => None,
+            Some(_) => Some(self.0),
+        }
+    }
+}
+
+/// That leaf wherever there is none.
+#[derive(Drop)]
+struct Filled(u64);
+
+impl LeafRule for Filled {
+    ghost fits = { λ _ _. Unit {0} };
+
+    ghost rule = { λ s leaf. Some (unwrap_or leaf s.0) };
+
+    fn changed(&self, leaf: Option<u64>) -> Option<u64> {
+        match leaf {
+            None => Some(self.0),
+            Some(value) => Some(value),
+        }
+    }
+}
+
+/// The leaf at its place in a table.
+#[derive(Drop)]
+struct Relabelled<'a>(&'a [u64]);
+
+impl LeafRule for Relabelled<'_> {
+    ghost fits = { λ s leaf. IfSome leaf (λ k. k < length s.0.now) };
+
+    ghost rule = { λ s leaf. option_map (λ k. slice_index s.0.now k) leaf };
+
+    fn changed(&self, leaf: Option<u64>) -> Option<u64> {
+        match leaf {
+            None => None,
+            Some(k) => Some(self.0[k as usize]),
+        }
+    }
+}
+
+/// 1 where there is no leaf, and none where there is one.
+#[derive(Drop)]
+struct Negated;
+
+impl LeafRule for Negated {
+    ghost use Rattle.ps_diagram.specs.Leaves.{opposite};
+
+    ghost fits = { λ _ _. Unit {0} };
+
+    ghost rule = { λ _ leaf. opposite leaf };
+
+    fn changed(&self, leaf: Option<u64>) -> Option<u64> {
+        match leaf {
+            None => Some(1),
+            Some(_) => None,
+        }
+    }
+}
+
+impl Store {
+    ghost use Rattle.ps_diagram.specs.Leaves.{opposite};
+
+    /// The diagram with that leaf wherever the node has one.
+    ///
+    /// # Errors
+    ///
+    /// Fails where a growth was refused.
+    pub fn guard(&mut self, node: Node, value: u64) -> Result<Node, AllocError>
+        requires held { IsNode self.old node }
+        ensures keeps { Keeps self.old self.new }
+        ensures held { IfOk result (λ made. IsNode self.new made) }
+        ensures leaf { IfOk result
+            (λ made. (letter : ℕ) → leaf_of self.new made letter ≡ option_map (λ _. value) (leaf_of self.old node letter)) }
+    {
+        self.mapped(node, &Guarded(value))
+    }
+
+    /// The diagram with the node's leaves, and with that leaf wherever it has none.
+    ///
+    /// # Errors
+    ///
+    /// Fails where a growth was refused.
+    pub fn fill(&mut self, node: Node, value: u64) -> Result<Node, AllocError>
+        requires held { IsNode self.old node }
+        ensures keeps { Keeps self.old self.new }
+        ensures held { IfOk result (λ made. IsNode self.new made) }
+        ensures leaf { IfOk result
+            (λ made. (letter : ℕ) → leaf_of self.new made letter ≡ Some (unwrap_or (leaf_of self.old node letter) value)) }
+    {
+        self.mapped(node, &Filled(value))
+    }
+
+    /// The diagram with `values[k]` wherever the node has the leaf k.
+    ///
+    /// # Errors
+    ///
+    /// Fails where a growth was refused.
+    pub fn relabel(&mut self, node: Node, values: &[u64]) -> Result<Node, AllocError>
+        requires held { IsNode self.old node }
+        requires within { (letter : ℕ) → letter < 2 ^ self.old.propositions → IfSome (leaf_of self.old node letter) (λ k. k < length values.now) }
+        ensures keeps { Keeps self.old self.new }
+        ensures held { IfOk result (λ made. IsNode self.new made) }
+        ensures leaf { IfOk result
+            (λ made. (letter : ℕ) → leaf_of self.new made letter ≡ option_map (λ k. slice_index values.now k) (leaf_of self.old node letter)) }
+    {
+        let _ = self.allocator();
+        self.mapped(node, &Relabelled(values))
+    }
+
+    /// The diagram with 1 wherever the node has no leaf.
+    pub(crate) fn negated(&mut self, node: Node) -> Result<Node, AllocError>
+        requires held { IsNode self.old node }
+        ensures keeps { Keeps self.old self.new }
+        ensures held { IfOk result (λ made. IsNode self.new made) }
+        ensures leaf { IfOk result
+            (λ made. (letter : ℕ) → leaf_of self.new made letter ≡ opposite (leaf_of self.old node letter)) }
+    {
+        self.mapped(node, &Negated)
+    }
+
+    fn mapped<R: LeafRule>(&mut self, node: Node, rule: &R) -> Result<Node, AllocError>
+        requires held { IsNode self.old node }
+        requires fits { (f : ℕ → Bool) → R.fits rule.now (leaf_at (tree_of self.old node) f) }
+        ensures keeps { Keeps self.old self.new }
+        ensures held { IfOk result (λ made. IsNode self.new made) }
+        ensures leaf { IfOk result
+            (λ made. IsMapped (R.rule rule.now) (tree_of self.old node) (tree_of self.new made)) }
+    {
+        let mut known = IndexMap::new(self.allocator());
+        self.mapped_by(node, rule, &mut known)
+    }
+
+    /// The same, where the table has what was changed already.
+    fn mapped_by<R: LeafRule>(
+        &mut self,
+        node: Node,
+        rule: &R,
+        known: &mut IndexMap<Node, Node>,
+    ) -> Result<Node, AllocError>
+        requires held { IsNode self.old node }
+        requires fits { (f : ℕ → Bool) → R.fits rule.now (leaf_at (tree_of self.old node) f) }
+        requires known { Knows (IsMapped (R.rule rule.now)) self.old (get nat_eq known.old) }
+        ensures keeps { Keeps self.old self.new }
+        ensures known { Knows (IsMapped (R.rule rule.now)) self.new (get nat_eq known.new) }
+        ensures held { IfOk result (λ made. IsNode self.new made) }
+        ensures leaf { IfOk result
+            (λ made. IsMapped (R.rule rule.now) (tree_of self.old node) (tree_of self.new made)) }
+    {
+        match self.cell(node) {
+            View::Nothing => self.constant(rule.changed(None)),
+            View::Leaf(value) => self.constant(rule.changed(Some(value))),
+            View::Test {
+                proposition,
+                low,
+                high,
+            } => {
+                if let Some(changed) = known.get(&node) {
+                    return Ok(*changed);
+                }
+                let low = self.mapped_by(low, rule, known)?;
+                let high = self.mapped_by(high, rule, known)?;
+                let changed = self.test(proposition, low, high)?;
+                let _ = known.insert(node, changed)?;
+                Ok(changed)
+            }
+        }
+    }
+
+    /// The diagram with that leaf, or none, at each letter.
+    fn constant(&mut self, leaf: Option<u64>) -> Result<Node, AllocError>
+        ensures keeps { Keeps self.old self.new }
+        ensures held { IfOk result (λ made. IsNode self.new made) }
+        ensures leaf { IfOk result
+            (λ made. (f : ℕ → Bool) → leaf_at (tree_of self.new made) f ≡ leaf) }
+    {
+        match leaf {
+            None => self.intern(View::Nothing),
+            Some(value) => self.intern(View::Leaf(value)),
+        }
+    }
+}

@@ -1,0 +1,103 @@
+//! Two diagrams joined.
+
+ghost use Rattle.std.specs.Prelude.{◌≡◌, ◌≢◌, ℕ, ◌+◌, ◌^◌, ◌<◌, IfOk, IfErr, OnOk, Some};
+ghost use Rattle.indexmap.specs.IndexMap.{get};
+ghost use Rattle.ps_diagram.specs.Table.{IsNode, Keeps, leaf_of, tree_of};
+ghost use Rattle.ps_diagram.specs.Split.{IsConstant};
+ghost use Rattle.ps_diagram.specs.Leaves.{AreAlike, joined};
+ghost use Rattle.ps_diagram.specs.Known.{IsClash, IsOverlay, KnowsPairs, pair_eq};
+ghost use Rattle.ps_diagram.specs.Clashes.{TellsClash};
+
+use crate::fault::OverlayError;
+use crate::split::Split;
+use crate::store::Store;
+use crate::view::Node;
+use indexmap::IndexMap;
+
+impl Store {
+    /// The diagram that has the leaf of the first, or else that of the second.
+    ///
+    /// # Errors
+    ///
+    /// Fails at a letter at which they have two different leaves, or where a growth was refused.
+    pub fn overlay(&mut self, first: Node, second: Node) -> Result<Node, OverlayError>
+        requires first { IsNode self.old first }
+        requires second { IsNode self.old second }
+        ensures keeps { Keeps self.old self.new }
+        ensures held { IfOk result (λ node. IsNode self.new node) }
+        ensures leaf { IfOk result
+            (λ node. (letter : ℕ) → leaf_of self.new node letter ≡ joined (leaf_of self.old first letter) (leaf_of self.old second letter)) }
+        ensures alike { OnOk result ((letter : ℕ) → AreAlike (leaf_of self.old first letter) (leaf_of self.old second letter)) }
+        ensures clash { IfErr result (TellsClash self.old first second) }
+    {
+        let mut known = IndexMap::new(self.allocator());
+        self.overlaid(first, second, &mut known)
+    }
+
+    /// The same, where the table has what was joined already.
+    fn overlaid(
+        &mut self,
+        first: Node,
+        second: Node,
+        known: &mut IndexMap<(Node, Node), Node>,
+    ) -> Result<Node, OverlayError>
+        requires first { IsNode self.old first }
+        requires second { IsNode self.old second }
+        requires known { KnowsPairs IsOverlay self.old (get pair_eq known.old) }
+        ensures keeps { Keeps self.old self.new }
+        ensures known { KnowsPairs IsOverlay self.new (get pair_eq known.new) }
+        ensures held { IfOk result (λ node. IsNode self.new node) }
+        ensures leaf { IfOk result
+            (λ node. IsOverlay (tree_of self.old first) (tree_of self.old second) (tree_of self.new node)) }
+        ensures clash { IfErr result (IsClash (tree_of self.old first) (tree_of self.old second)) }
+    {
+        if self.is_nothing(first) {
+            return Ok(second);
+        }
+        if self.is_nothing(second) || first == second {
+            return Ok(first);
+        }
+        if let Some(node) = known.get(&(first, second)) {
+            return Ok(*node);
+        }
+        let Some(split) = self.split(first, second) else {
+            return self.overlaid_leaves(first, second);
+        };
+        let Split {
+            proposition,
+            left,
+            right,
+        } = split;
+        let low = self.overlaid(left.low, right.low, known)?;
+        let high = self.overlaid(left.high, right.high, known)?;
+        let node = self.test(proposition, low, high)?;
+        known.insert((first, second), node)?;
+        Ok(node)
+    }
+
+    /// The same of two diagrams that test nothing.
+    fn overlaid_leaves(&self, first: Node, second: Node) -> Result<Node, OverlayError>
+        requires first { IsNode self.now first }
+        requires second { IsNode self.now second }
+        requires first_constant { IsConstant (tree_of self.now first) }
+        requires second_constant { IsConstant (tree_of self.now second) }
+        ensures held { IfOk result (λ node. IsNode self.now node) }
+        ensures leaf { IfOk result
+            (λ node. IsOverlay (tree_of self.now first) (tree_of self.now second) (tree_of self.now node)) }
+        ensures clash { IfErr result (IsClash (tree_of self.now first) (tree_of self.now second)) }
+    {
+        let Some(one) = self.eval(first, 0) else {
+            return Ok(second);
+        };
+        let Some(other) = self.eval(second, 0) else {
+            return Ok(first);
+        };
+        if one == other {
+            return Ok(first);
+        }
+        Err(OverlayError::Clash {
+            first: one,
+            second: other,
+        })
+    }
+}
