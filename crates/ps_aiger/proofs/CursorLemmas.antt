@@ -20,8 +20,8 @@ use Rattle.ps_text.proofs.Exits.{exits, reads_next, reads_give, reads_mapped, re
 use Rattle.ps_text.proofs.Branches.{Stands, left_entered, left_otherwise, right_otherwise, reads_as, stops_as_well}
 use Rattle.ps_aiger.specs.declared.fault.AigCause.{AigCause}
 use Rattle.ps_aiger.specs.declared.fault.AigCause.TheVariants.{Syntax}
-use Rattle.ps_aiger.specs.declared.fault.AigFault.{AigFault}
-use Rattle.ps_aiger.specs.declared.fault.AigFault.TheVariants.{Text, OutOfMemory}
+use Rattle.ps_aiger.specs.Causes.{AigFault}
+use Rattle.ps_text.specs.declared.faults.Fault.TheVariants.{Text, OutOfMemory}
 use Rattle.ps_aiger.specs.Signs.{Seen, pieces_at, ends_line, stream_of, aig_causes, Field, take_byte, byte, word, AllOf, StopsBefore, is_blank, is_inner, gap, rest_of_line, newline, line_end, more, NoBadRun}
 use Rattle.ps_aiger.specs.declared.cursor.Class.{Class}
 use Rattle.ps_aiger.specs.declared.cursor.Class.TheVariants.{Digit, Blank, Inner}

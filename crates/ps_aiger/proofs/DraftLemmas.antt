@@ -21,8 +21,8 @@ use Rattle.ps_aiger.specs.declared.parts.Latch.{Latch}
 use Rattle.ps_aiger.specs.declared.parts.Gate.{Gate}
 use Rattle.ps_aiger.specs.declared.fault.AigCause.{AigCause}
 use Rattle.ps_aiger.specs.declared.fault.AigCause.TheVariants.{Syntax}
-use Rattle.ps_aiger.specs.declared.fault.AigFault.{AigFault}
-use Rattle.ps_aiger.specs.declared.fault.AigFault.TheVariants.{Text, OutOfMemory}
+use Rattle.ps_aiger.specs.Causes.{AigFault}
+use Rattle.ps_text.specs.declared.faults.Fault.TheVariants.{Text, OutOfMemory}
 use Rattle.ps_aiger.specs.Ways.{Way}
 use Rattle.ps_aiger.specs.Circuits.{CircuitData, readings, IsName, IsDraft, IsCircuit, Reads as ReadsGate}
 use Rattle.ps_aiger.specs.Signs.{Seen, Field, aig_causes, stream_of}

@@ -14,8 +14,8 @@ use Rattle.ps_aiger.specs.declared.parts.Latch.{Latch}
 use Rattle.ps_aiger.specs.declared.parts.Gate.{Gate}
 use Rattle.ps_aiger.specs.declared.fault.AigCause.{AigCause}
 use Rattle.ps_aiger.specs.declared.fault.AigCause.TheVariants.{Literal, DefinedTwice, UnsetLatch}
-use Rattle.ps_aiger.specs.declared.fault.AigFault.{AigFault}
-use Rattle.ps_aiger.specs.declared.fault.AigFault.TheVariants.{Text}
+use Rattle.ps_aiger.specs.Causes.{AigFault}
+use Rattle.ps_text.specs.declared.faults.Fault.TheVariants.{Text}
 use Rattle.ps_aiger.specs.Causes.{cause_number}
 use Rattle.ps_aiger.specs.Circuits.{variable, IsDefinition}
 use Rattle.ps_aiger.specs.Signs.{Seen, Field, aig_causes, number, line_end, more, by_more}

@@ -13,8 +13,8 @@ use Rattle.ps_aiger.specs.declared.cursor.Number.{Number}
 use Rattle.ps_aiger.specs.declared.header.Header.{Header}
 use Rattle.ps_aiger.specs.declared.fault.AigCause.{AigCause}
 use Rattle.ps_aiger.specs.declared.fault.AigCause.TheVariants.{Literal, Sections}
-use Rattle.ps_aiger.specs.declared.fault.AigFault.{AigFault}
-use Rattle.ps_aiger.specs.declared.fault.AigFault.TheVariants.{Text}
+use Rattle.ps_aiger.specs.Causes.{AigFault}
+use Rattle.ps_text.specs.declared.faults.Fault.TheVariants.{Text}
 use Rattle.ps_aiger.specs.Causes.{cause_number}
 use Rattle.ps_aiger.specs.Signs.{Seen, aig_causes, word, is_digit, number_at, number, gap, line_end, more, by_more}
 use Rattle.ps_aiger.specs.Cursors.{place_of, found_of, Tells, saturated, NumberIs, TellsNumber}

@@ -14,8 +14,8 @@ use Rattle.ps_aiger.specs.Ways.{Way, last, next}
 use Rattle.ps_aiger.specs.Circuits.{CircuitData, variable, definitions, readings, IsDefinition, IsName, IsDraft, Reads}
 use Rattle.ps_aiger.specs.Drafts.{name_bytes}
 use Rattle.ps_aiger.specs.Ways.{IsFirstOnCycle}
-use Rattle.ps_aiger.specs.declared.fault.AigFault.{AigFault}
-use Rattle.ps_aiger.specs.declared.fault.AigFault.TheVariants.{Text}
+use Rattle.ps_aiger.specs.Causes.{AigFault}
+use Rattle.ps_text.specs.declared.faults.Fault.TheVariants.{Text}
 use Rattle.ps_aiger.specs.declared.fault.AigCause.TheVariants.{Cyclic}
 use Rattle.ps_aiger.specs.Cursors.{found_of}
 use Rattle.ps_aiger.specs.Texts.{IsDefined, IsFirstUndefined}

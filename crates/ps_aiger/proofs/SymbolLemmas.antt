@@ -19,8 +19,8 @@ use Rattle.ps_text.proofs.Branches.{reads_as, left_entered, right_otherwise, man
 use Rattle.ps_aiger.specs.declared.cursor.Number.{Number}
 use Rattle.ps_aiger.specs.declared.fault.AigCause.{AigCause}
 use Rattle.ps_aiger.specs.declared.fault.AigCause.TheVariants.{Syntax}
-use Rattle.ps_aiger.specs.declared.fault.AigFault.{AigFault}
-use Rattle.ps_aiger.specs.declared.fault.AigFault.TheVariants.{Text}
+use Rattle.ps_aiger.specs.Causes.{AigFault}
+use Rattle.ps_text.specs.declared.faults.Fault.TheVariants.{Text}
 use Rattle.ps_aiger.specs.Drafts.{name_bytes}
 use Rattle.ps_aiger.specs.Signs.{Seen, pieces_at, bytes_of, aig_causes, AllOf, StopsBefore, is_digit, is_inner, take_byte, byte, number, rest_of_line, newline}
 use Rattle.ps_aiger.specs.Cursors.{next_byte, place_of, found_of, Passes, IsAhead, NumberIs, TellsNumber}

@@ -5,6 +5,7 @@ use Rattle.std.specs.Prelude.{◌≡◌, ℕ, ◌+◌, ◌-◌, ◌^◌, ◌<◌
 use Rattle.std.specs.Option.{option_map}
 use Rattle.ps_text.specs.Answers.{Stream, Found, offset_of, next_of}
 use Rattle.ps_text.specs.Readers.{Meets}
+pub use Rattle.ps_text.specs.Faults.{found_of}
 use Rattle.ps_text.specs.Digits.{decimal_value}
 use Rattle.ps_aiger.specs.Signs.{Seen, Field, pieces_at, aig_causes, AllOf, StopsBefore, is_digit, is_blank, is_inner}
 use Rattle.ps_aiger.specs.declared.cursor.Class.{Class}
@@ -12,8 +13,8 @@ use Rattle.ps_aiger.specs.declared.cursor.Class.TheVariants.{Digit, Blank, Inner
 use Rattle.ps_aiger.specs.declared.cursor.Number.{Number}
 use Rattle.ps_aiger.specs.declared.fault.AigCause.{AigCause}
 use Rattle.ps_aiger.specs.declared.fault.AigCause.TheVariants.{Syntax}
-use Rattle.ps_aiger.specs.declared.fault.AigFault.{AigFault}
-use Rattle.ps_aiger.specs.declared.fault.AigFault.TheVariants.{Text, OutOfMemory}
+use Rattle.ps_aiger.specs.Causes.{AigFault}
+use Rattle.ps_text.specs.declared.faults.Fault.TheVariants.{Text, OutOfMemory}
 
 -- the bytes to come, with a newline behind them where the last line is open
 abbrev pub ended : Bool → List ℕ → List ℕ
@@ -34,11 +35,6 @@ abbrev pub in_class : Class → ℕ → Bool
 in_class Digit = is_digit
 in_class Blank = is_blank
 in_class Inner = is_inner
-
--- what an error says of the text: nothing, where memory ran out
-abbrev pub found_of : AigFault → Option (Found AigCause)
-found_of (Text cause offset) = Some (record { cause = cause; offset = offset })
-found_of OutOfMemory = None
 
 -- the part was read from old, and new is left, or its first fault was found
 abbrev pub Tells : {V X : Type 0} → (X → V) → Field V → Stream Seen → Result X AigFault → Stream Seen → Type 0

@@ -2,8 +2,8 @@
 use Rattle.std.specs.Prelude.{◌≡◌, ℕ, Bool, false, ◌==◌, ◌||◌, [], map, replicate, All, vec_len, Option, None, Some, Result, Ok, Err}
 use Rattle.ps_text.specs.Answers.{Stream}
 use Rattle.ps_text.specs.Readers.{Reads}
-use Rattle.ps_aiger.specs.declared.fault.AigFault.{AigFault}
-use Rattle.ps_aiger.specs.declared.fault.AigFault.TheVariants.{Text}
+use Rattle.ps_aiger.specs.Causes.{AigFault}
+use Rattle.ps_text.specs.declared.faults.Fault.TheVariants.{Text}
 use Rattle.ps_aiger.specs.declared.fault.AigCause.TheVariants.{Syntax}
 use Rattle.ps_aiger.specs.declared.names.Names.{Names}
 use Rattle.ps_aiger.specs.Circuits.{IsName}

@@ -14,8 +14,8 @@ use Rattle.ps_aiger.specs.Signs.{Seen, aig_causes, gap, stream_of}
 use Rattle.ps_aiger.specs.Cursors.{found_of, saturated, NumberIs, TellsNumber}
 use Rattle.ps_aiger.specs.Texts.{AnyNumber, HeaderData, header, field, Lines, add_input, add_latch, add_output, add_gate, DraftData, circuit_text, IsFirstUndefined, IsDefined}
 use Rattle.ps_aiger.specs.declared.cursor.Number.{Number}
-use Rattle.ps_aiger.specs.declared.fault.AigFault.{AigFault}
-use Rattle.ps_aiger.specs.declared.fault.AigFault.TheVariants.{Text}
+use Rattle.ps_aiger.specs.Causes.{AigFault}
+use Rattle.ps_text.specs.declared.faults.Fault.TheVariants.{Text}
 use Rattle.ps_aiger.specs.declared.fault.AigCause.{AigCause}
 use Rattle.ps_aiger.specs.declared.fault.AigCause.TheVariants.{Cyclic, Undefined}
 use Rattle.ps_aiger.specs.declared.parts.Latch.{Latch}

@@ -29,8 +29,8 @@ use Rattle.ps_aiger.specs.Signs.{Seen, stream_of, aig_causes, Field, BeginsRun, 
 use Rattle.ps_aiger.specs.declared.cursor.Number.{Number}
 use Rattle.ps_aiger.specs.declared.fault.AigCause.{AigCause}
 use Rattle.ps_aiger.specs.declared.fault.AigCause.TheVariants.{Syntax, Literal, DefinedTwice, Undefined, Cyclic, UnsetLatch, Sections}
-use Rattle.ps_aiger.specs.declared.fault.AigFault.{AigFault}
-use Rattle.ps_aiger.specs.declared.fault.AigFault.TheVariants.{Text, OutOfMemory}
+use Rattle.ps_aiger.specs.Causes.{AigFault}
+use Rattle.ps_text.specs.Faults.{UnlessMemory}
 use Rattle.ps_aiger.specs.declared.parts.Latch.{Latch}
 use Rattle.ps_aiger.specs.declared.parts.Gate.{Gate}
 
@@ -259,6 +259,4 @@ pub data Reads (text : List ℕ) (answer : Result CircuitData (Found AigCause)) 
 
 -- what the reader answers: this, unless memory runs out
 abbrev pub IsAnswer : List ℕ → Result CircuitData AigFault → Type 0
-IsAnswer text (Ok circuit) = Reads text (Ok circuit)
-IsAnswer text (Err (Text cause offset)) = Reads text (Err (record { cause = cause; offset = offset }))
-IsAnswer text (Err OutOfMemory) = Unit {0}
+IsAnswer text result = UnlessMemory (Reads text) result

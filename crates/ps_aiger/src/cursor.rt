@@ -1,6 +1,7 @@
 //! The place that a reader has come to in the text of a circuit.
 
 ghost use Rattle.std.specs.Prelude.{◌≡◌, ◌≤◌, ◌<◌, ◌^◌, ◌↔◌, IsTrue, Some, [], ◌∷◌, length, take, codes, IfOk, All, ◌≢◌};
+ghost use Rattle.ps_text.specs.declared.faults.Fault.TheVariants as faults;
 ghost use Rattle.std.specs.List.{prefix_len};
 ghost use Rattle.ps_text.specs.Readers.{tail};
 ghost use Rattle.ps_text.specs.Digits.{decimal_value};
@@ -22,7 +23,7 @@ pub struct Number {
 impl Number {
     /// The refusal for this cause, at the number.
     pub fn refused(self, cause: AigCause) -> AigFault
-        ensures { result ≡ AigFault.Text cause self.offset }
+        ensures { result ≡ faults.Text cause self.offset }
     {
         AigFault::Text {
             cause,
@@ -150,7 +151,7 @@ impl<'a> Cursor<'a> {
 
     /// The refusal for a byte that can't stand here, or for the end.
     pub fn refusal(&self) -> AigFault
-        ensures { result ≡ AigFault.Text Syntax (place_of self.now) }
+        ensures { result ≡ faults.Text Syntax (place_of self.now) }
     {
         AigFault::Text {
             cause: AigCause::Syntax,

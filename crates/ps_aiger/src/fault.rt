@@ -1,12 +1,9 @@
 //! Why the text of a circuit is refused.
 
-ghost use Rattle.ps_aiger.specs.declared.fault.AigFault.TheVariants.{OutOfMemory};
 ghost use Rattle.ps_aiger.specs.CauseNames.{cause_name};
 ghost use Rattle.ps_aiger.specs.Causes.{cause_number};
-ghost use Rattle.std.specs.Prelude.{◌≡◌};
 
-use std::alloc::{AllocError, AllocFailed};
-use thiserror::Error;
+use ps_text::faults::{Cause, Fault};
 
 /// What is wrong with the text of a circuit.
 #[derive(Clone, Copy, Debug, PartialEq, Eq)]
@@ -27,11 +24,15 @@ pub enum AigCause {
     Sections,
 }
 
-impl AigCause {
-    /// The cause's number in psyn's list of faults.
-    pub fn number(self) -> u8
-        ensures { result ≡ cause_number self }
-    {
+/// Why a circuit was not read.
+pub type AigFault = Fault<AigCause>;
+
+impl Cause for AigCause {
+    ghost number = { cause_number };
+
+    ghost name = { cause_name };
+
+    fn number(self) -> u8 {
         match self {
             AigCause::Syntax => 61,
             AigCause::Literal => 62,
@@ -43,10 +44,7 @@ impl AigCause {
         }
     }
 
-    /// The cause's name.
-    pub fn name(self) -> &'static str
-        ensures { result.now ≡ cause_name self }
-    {
+    fn name(self) -> &'static str {
         match self {
             AigCause::Syntax => "Syntax",
             AigCause::Literal => "Literal",
@@ -56,37 +54,5 @@ impl AigCause {
             AigCause::UnsetLatch => "UnsetLatch",
             AigCause::Sections => "Sections",
         }
-    }
-}
-
-/// Why a circuit was not read.
-#[derive(Clone, Copy, Debug, PartialEq, Eq, Error)]
-pub enum AigFault {
-    /// The text is refused.
-    #[error("{} at byte {offset}", .cause.name())]
-    Text {
-        /// What is wrong.
-        cause: AigCause,
-        /// The byte at which it stands, from 0; at the end of the text it is the text's length.
-        offset: usize,
-    },
-    /// Memory ran out.
-    #[error("out of memory")]
-    OutOfMemory,
-}
-
-impl From<AllocError> for AigFault {
-    ghost from_gives = { λ _ fault. fault ≡ OutOfMemory };
-
-    fn from(_error: AllocError) -> AigFault {
-        AigFault::OutOfMemory
-    }
-}
-
-impl<T: Drop> From<AllocFailed<T>> for AigFault {
-    ghost from_gives = { λ _ fault. fault ≡ OutOfMemory };
-
-    fn from(_error: AllocFailed<T>) -> AigFault {
-        AigFault::OutOfMemory
     }
 }

@@ -7,7 +7,7 @@ ghost use Rattle.ps_aiger.specs.Circuits.{IsDefinition};
 ghost use Rattle.ps_aiger.specs.Cursors.{Tells, saturated};
 ghost use Rattle.ps_aiger.specs.Reading.{AddsVariable, Defines, lines_of, AddsInput, AddsLatch, AddsOutput, AddsGate, Grown};
 ghost use Rattle.ps_aiger.specs.Signs as signs;
-ghost use Rattle.ps_aiger.specs.declared.fault.AigFault.TheVariants.{OutOfMemory};
+ghost use Rattle.ps_text.specs.declared.faults.Fault.TheVariants.{OutOfMemory};
 ghost use Rattle.ps_aiger.specs.Texts as parts;
 ghost use Rattle.ps_aiger.specs.Texts.{WrongDefinition, WrongLiteral};
 

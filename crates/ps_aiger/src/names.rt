@@ -8,7 +8,7 @@ ghost use Rattle.ps_aiger.specs.Cursors.{Tells};
 ghost use Rattle.ps_aiger.specs.Drafts.{name_bytes};
 ghost use Rattle.ps_aiger.specs.Names.{AreNames, AreNone, TellsComment, is_kind, names_data};
 ghost use Rattle.ps_aiger.specs.Signs.{Seen};
-ghost use Rattle.ps_aiger.specs.declared.fault.AigFault.TheVariants.{OutOfMemory};
+ghost use Rattle.ps_text.specs.declared.faults.Fault.TheVariants.{OutOfMemory};
 ghost use Rattle.ps_aiger.specs.Texts as parts;
 ghost use Rattle.ps_aiger.specs.Texts.{Kind, NamesData, names_of, put_names, take_kind};
 

@@ -1,6 +1,8 @@
 //! Circuits read from AIGER texts.
 
 ghost use Rattle.std.specs.Prelude.{◌≡◌, ◌≢◌, ℕ, ◌<◌, ◌≤◌, ◌+◌, ◌*◌, ◌^◌, List, [], ◌∷◌, ◌++◌, length, map, vec_len, IfOk, Result, Err, All, Contains, IsTrue, ◌⊎◌, false, slice_index};
+ghost use Rattle.ps_text.specs.declared.faults.Fault.{Fault};
+ghost use Rattle.ps_text.specs.declared.faults.Fault.TheVariants as faults;
 ghost use Rattle.ps_text.specs.Answers.{Found};
 ghost use Rattle.ps_aiger.specs.Circuits.{CircuitData, IsDraft, IsCircuit};
 ghost use Rattle.ps_aiger.specs.Cursors.{found_of};
@@ -96,7 +98,7 @@ fn is_defined(variables: &IndexSet<u64>, variable: u64) -> bool
 /// The refusal of a gate that depends on itself, at its line.
 fn cyclic(starts: &[usize], gate: usize) -> AigFault
     requires { gate < length starts.now }
-    ensures { result ≡ AigFault.Text AigCause.Cyclic (slice_index starts.now gate) }
+    ensures { result ≡ faults.Text AigCause.Cyclic (slice_index starts.now gate) }
 {
     AigFault::Text {
         cause: AigCause::Cyclic,
@@ -110,7 +112,7 @@ fn assembled(alloc: Global, parts: Parts, starts: &[usize]) -> Result<Circuit, A
     requires starts { length starts.now ≡ length parts.gates.items }
     ensures ok { IfOk result (λ c. c ≡ data_of parts) }
     ensures well_formed { IfOk result (λ c. IsCircuit c) }
-    ensures cyclic { (e : AigFault) → result ≡ Err e → TellsCyclic parts.gates.items starts.now (found_of e) }
+    ensures cyclic { (e : Fault AigCause) → result ≡ Err e → TellsCyclic parts.gates.items starts.now (found_of e) }
 {
     match Circuit::new(alloc, parts) {
         Ok(circuit) => Ok(circuit),

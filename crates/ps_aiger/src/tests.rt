@@ -3,6 +3,7 @@
 use crate::fault::AigFault;
 use crate::reader::read;
 use crate::writer::write;
+use ps_text::faults::Cause;
 use std::alloc::Global;
 use std::test::Fail;
 

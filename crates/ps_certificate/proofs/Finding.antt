@@ -8,8 +8,8 @@ use Rattle.std.proofs.lemmas.List.Elements.{Contains-get_or}
 use Rattle.std.proofs.lemmas.List.Sums.{position_or_len_is}
 use Rattle.ps_text.specs.Parts.{PartAnswers}
 use Rattle.ps_game.specs.Games.{NamedGameData}
-use Rattle.ps_certificate.specs.declared.fault.CertFault.{CertFault}
-use Rattle.ps_certificate.specs.declared.fault.CertFault.TheVariants.{Text, OutOfMemory}
+use Rattle.ps_certificate.specs.Faults.{CertFault}
+use Rattle.ps_text.specs.declared.faults.Fault.TheVariants.{Text, OutOfMemory}
 use Rattle.ps_game.specs.Ranking.{ListsPriorities}
 use Rattle.ps_certificate.specs.Certificates.{EntryData}
 use Rattle.ps_certificate.specs.Known.{FindsVertices}

@@ -8,8 +8,8 @@ use Rattle.std.proofs.lemmas.Bool.{cases_Bool, cases_eq, eq-eqb, ne_eqb, le-ltb,
 use Rattle.std.proofs.lemmas.List.Elements.{All-nil, All-cons}
 use Rattle.std.proofs.lemmas.List.Sums.{take_while-cons}
 use Rattle.std.proofs.lemmas.List.{append-nil, drop_more, drop_all, at_drop_all}
-use Rattle.ps_certificate.specs.declared.fault.CertFault.{CertFault}
-use Rattle.ps_certificate.specs.declared.fault.CertFault.TheVariants.{Text, OutOfMemory}
+use Rattle.ps_certificate.specs.Faults.{CertFault}
+use Rattle.ps_text.specs.declared.faults.Fault.TheVariants.{Text, OutOfMemory}
 use Rattle.ps_certificate.specs.Places.{Place}
 use Rattle.ps_certificate.specs.declared.fault.CertCause.TheVariants.{OtherGame}
 use Rattle.ps_certificate.specs.Reading.{Fault, ◌>>=◌, Fails, KnownData, comes, byte_at, number_at, exactly_at, priorities_at, counts_at, entries_at, entry_at, value_from, numeral, numeral_value}

@@ -20,8 +20,8 @@ use Rattle.ps_text.specs.Digits.{IsPlainNumber, decimal_value}
 use Rattle.ps_game.specs.Games.{NamedGameData}
 use Rattle.ps_certificate.specs.declared.fault.CertCause.{CertCause}
 use Rattle.ps_certificate.specs.declared.fault.CertCause.TheVariants.{Syntax, OtherGame}
-use Rattle.ps_certificate.specs.declared.fault.CertFault.{CertFault}
-use Rattle.ps_certificate.specs.declared.fault.CertFault.TheVariants.{Text, OutOfMemory}
+use Rattle.ps_certificate.specs.Faults.{CertFault}
+use Rattle.ps_text.specs.Faults.{UnlessMemory}
 use Rattle.ps_certificate.specs.Faults.{cause_number}
 use Rattle.ps_game.specs.Ranking.{ListsPriorities}
 use Rattle.ps_certificate.specs.Certificates.{EntryData, CertificateData}
@@ -159,6 +159,4 @@ pub record Reads (game : NamedGameData) (text : List ℕ) (answer : Result Certi
 
 -- what the reader answers: this, unless memory runs out
 abbrev pub IsAnswer : NamedGameData → List ℕ → Result CertificateData CertFault → Type 0
-IsAnswer game text (Ok certificate) = Reads game text (Ok certificate)
-IsAnswer game text (Err (Text cause offset)) = Reads game text (Err (record { cause = cause; offset = offset }))
-IsAnswer game text (Err OutOfMemory) = Unit {0}
+IsAnswer game text result = UnlessMemory (Reads game text) result

@@ -1,6 +1,7 @@
 //! A place in the text of a certificate, and the fields that are read from there on.
 
 ghost use Rattle.std.specs.Prelude.{◌≡◌, ◌==◌, ◌≤◌, [], length, nat_eq, All, take_while};
+ghost use Rattle.ps_text.specs.declared.faults.Fault.TheVariants as faults;
 ghost use Rattle.std.specs.Char.{is_ascii_digit};
 ghost use Rattle.indexmap.specs.IndexMap.{get};
 ghost use Rattle.ps_certificate.specs.Reading.{Gives, Moves, byte_at, word_at, number_at, field_at, exactly_at, priorities_at, winner_at, choice_at, counts_at, comes, numeral, numeral_value, behind};
@@ -39,7 +40,7 @@ impl<'a> Cursor<'a> {
 
     /// That cause, at this place.
     pub(crate) fn fault(&self, cause: CertCause) -> CertFault
-        ensures { result ≡ CertFault.Text cause self.now.at }
+        ensures { result ≡ faults.Text cause self.now.at }
     {
         CertFault::Text {
             cause,

@@ -19,8 +19,8 @@ use Rattle.ps_hoa.specs.Scan.{next_of}
 use Rattle.ps_hoa.specs.Texts.{file_of, file, Reads, IsRefusedAs, IsFaultOf, Answers}
 use Rattle.ps_hoa.specs.Tokens.{Sign}
 use Rattle.ps_hoa.specs.declared.fault.HoaCause.{HoaCause}
-use Rattle.ps_hoa.specs.declared.fault.HoaFault.{HoaFault}
-use Rattle.ps_hoa.specs.declared.fault.HoaFault.TheVariants.{Text, OutOfMemory}
+use Rattle.ps_hoa.specs.Causes.{HoaFault}
+use Rattle.ps_text.specs.declared.faults.Fault.TheVariants.{Text, OutOfMemory}
 use Rattle.ps_hoa.proofs.FileLaws.{laws_file, joint_file}
 
 module _ {X : Type 0} (view : X → FileData) (text : List ℕ) where

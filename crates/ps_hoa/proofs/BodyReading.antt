@@ -27,7 +27,7 @@ use Rattle.ps_hoa.specs.Signs.{IsTestOf}
 use Rattle.ps_hoa.specs.Ahead.{StandsAlone}
 use Rattle.ps_hoa.specs.declared.fault.HoaCause.{HoaCause}
 use Rattle.ps_hoa.specs.declared.fault.HoaCause.TheVariants.{Alternating}
-use Rattle.ps_hoa.specs.declared.fault.HoaFault.{HoaFault}
+use Rattle.ps_hoa.specs.Causes.{HoaFault}
 use Rattle.ps_hoa.specs.declared.tokens.Kind.{Kind}
 use Rattle.ps_hoa.specs.declared.tokens.Kind.TheVariants.{Int, Text, And, LeftBracket, RightBracket, LeftBrace, RightBrace, Finish}
 use Rattle.ps_hoa.proofs.OperandLaws.{Of, false_true}

@@ -14,7 +14,7 @@ use Rattle.ps_hoa.specs.Operands.{is_not, is_and, is_or, is_left, is_right, mark
 use Rattle.ps_hoa.specs.Scan.{next_of, behind_next}
 use Rattle.ps_hoa.specs.Tokens.{Sign}
 use Rattle.ps_hoa.specs.declared.fault.HoaCause.{HoaCause}
-use Rattle.ps_hoa.specs.declared.fault.HoaFault.{HoaFault}
+use Rattle.ps_hoa.specs.Causes.{HoaFault}
 use Rattle.ps_hoa.specs.declared.tokens.Kind.TheVariants.{Word, Int, Not, And, Or as OrSign, LeftParen}
 use Rattle.ps_hoa.proofs.OperandLaws.{Odd, Of, nothing_apart, joint_mark}
 use Rattle.ps_hoa.proofs.LabelLaws.{is_start, AndMore, AndOrMore, laws_not, laws_and, laws_or, laws_left, laws_both, laws_either_row, laws_nested, apart_or, apart_right}

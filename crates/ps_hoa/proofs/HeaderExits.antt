@@ -11,7 +11,7 @@ use Rattle.ps_text.proofs.Exits.{exits, stops_first, stops_behind, stops_mapped}
 use Rattle.ps_hoa.specs.Causes.{found_of, hoa_causes}
 use Rattle.ps_hoa.specs.Tokens.{Sign}
 use Rattle.ps_hoa.specs.declared.fault.HoaCause.{HoaCause}
-use Rattle.ps_hoa.specs.declared.fault.HoaFault.{HoaFault}
+use Rattle.ps_hoa.specs.Causes.{HoaFault}
 
 pub exit : {V X : Type 0} (view : X → V) (part : Part Sign V HoaCause) (old new : Stream Sign) (e : HoaFault) (r : Result X HoaFault) →
     Stops hoa_causes part old (found_of e) → IsErrAnd r (λ y. y ≡ e) → Meets found_of hoa_causes view part old r new

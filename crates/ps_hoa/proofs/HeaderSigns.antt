@@ -17,8 +17,8 @@ use Rattle.ps_hoa.specs.Scan.{next_of, behind_next}
 use Rattle.ps_hoa.specs.Signs.{IsTestOf, name_in}
 use Rattle.ps_hoa.specs.Tokens.{Sign}
 use Rattle.ps_hoa.specs.declared.fault.HoaCause.{HoaCause}
-use Rattle.ps_hoa.specs.declared.fault.HoaFault.{HoaFault}
-use Rattle.ps_hoa.specs.declared.fault.HoaFault.TheVariants.{Text as Fault}
+use Rattle.ps_hoa.specs.Causes.{HoaFault}
+use Rattle.ps_text.specs.declared.faults.Fault.TheVariants.{Text as Fault}
 use Rattle.ps_hoa.specs.declared.tokens.Kind.{Kind}
 use Rattle.ps_hoa.specs.declared.tokens.Kind.TheVariants.{Header, Int, Text, Word, AliasName, Body, Finish}
 use Rattle.ps_hoa.proofs.SingleSigns.{IsOfSigns, reads_one}

@@ -12,8 +12,8 @@ use Rattle.ps_hoa.specs.Header.{int_in}
 use Rattle.ps_hoa.specs.Body.{BadIn}
 use Rattle.ps_hoa.specs.Reads.{Takes, IsTaken, IsWorst, IsRefusal}
 use Rattle.ps_hoa.specs.declared.fault.HoaCause.{HoaCause}
-use Rattle.ps_hoa.specs.declared.fault.HoaFault.{HoaFault}
-use Rattle.ps_hoa.specs.declared.fault.HoaFault.TheVariants.{Text, OutOfMemory}
+use Rattle.ps_hoa.specs.Causes.{HoaFault}
+use Rattle.ps_text.specs.declared.faults.Fault.TheVariants.{Text, OutOfMemory}
 
 -- what holds of the number that is there
 there : (o : Option ℕ) (P : ℕ → Type 0) → IfSome o P → (o ≡ None → ⊥) → (n : ℕ) × (o ≡ Some n) × P n

@@ -10,8 +10,8 @@ use Rattle.ps_hoa.specs.Reads.{Takes, IsWorst, IsRefusal}
 use Rattle.ps_hoa.specs.Scan.{next_of, behind_next}
 use Rattle.ps_hoa.specs.Tokens.{Sign}
 use Rattle.ps_hoa.specs.declared.fault.HoaCause.{HoaCause}
-use Rattle.ps_hoa.specs.declared.fault.HoaFault.{HoaFault}
-use Rattle.ps_hoa.specs.declared.fault.HoaFault.TheVariants.{Text, OutOfMemory}
+use Rattle.ps_hoa.specs.Causes.{HoaFault}
+use Rattle.ps_text.specs.declared.faults.Fault.TheVariants.{Text, OutOfMemory}
 use Rattle.ps_hoa.specs.declared.tokens.Kind.TheVariants.{Finish}
 
 -- what stands at the end of a text

@@ -4,15 +4,18 @@
 --     found_of      what an error says of the text
 use Rattle.std.specs.Prelude.{ℕ, ◌&&◌, Bool, true, false, List, [], ◌∷◌, codes, if◌then◌else◌, nat_le, Option, None, Some}
 use Rattle.std.specs.Str.{bytes_eq}
-use Rattle.ps_text.specs.Answers.{Found}
 use Rattle.ps_text.specs.Parts.{Causes}
+pub use Rattle.ps_text.specs.Faults.{found_of}
 use Rattle.ps_hoa.specs.Tokens.{Sign}
 use Rattle.ps_hoa.specs.declared.tokens.Kind.{Kind}
 use Rattle.ps_hoa.specs.declared.tokens.Kind.TheVariants as kinds
+use Rattle.ps_text.specs.declared.faults.Fault.{Fault}
 use Rattle.ps_hoa.specs.declared.fault.HoaCause.{HoaCause}
 use Rattle.ps_hoa.specs.declared.fault.HoaCause.TheVariants as causes
-use Rattle.ps_hoa.specs.declared.fault.HoaFault.{HoaFault}
-use Rattle.ps_hoa.specs.declared.fault.HoaFault.TheVariants as faults
+
+-- a cause and its place, or out of memory
+abbrev pub HoaFault : Type 0
+HoaFault = Fault HoaCause
 
 abbrev pub cause_number : HoaCause → ℕ
 cause_number causes.NotHoa = 1
@@ -67,8 +70,3 @@ own_cause kind text = None
 
 abbrev pub hoa_causes : Causes Sign HoaCause
 hoa_causes = record { number = cause_number; own = λ s. own_cause s.kind s.text; syntax = causes.Syntax }
-
--- what an error says of the text: nothing, where memory ran out
-abbrev pub found_of : HoaFault → Option (Found HoaCause)
-found_of (faults.Text cause offset) = Some (record { cause = cause; offset = offset })
-found_of faults.OutOfMemory = None

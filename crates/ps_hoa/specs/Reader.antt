@@ -5,8 +5,8 @@ use Rattle.ps_text.specs.Parts.{refusal_of}
 use Rattle.ps_hoa.specs.Causes.{hoa_causes}
 use Rattle.ps_hoa.specs.Scan.{next_of}
 use Rattle.ps_hoa.specs.Tokens.{Sign}
-use Rattle.ps_hoa.specs.declared.fault.HoaFault.{HoaFault}
-use Rattle.ps_hoa.specs.declared.fault.HoaFault.TheVariants.{Text}
+use Rattle.ps_hoa.specs.Causes.{HoaFault}
+use Rattle.ps_text.specs.declared.faults.Fault.TheVariants.{Text}
 
 -- nothing more stands in the text, or what stands next can't
 abbrev pub EndsHere : Stream Sign → Result (Unit {0}) HoaFault → Type 0

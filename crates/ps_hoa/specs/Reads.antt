@@ -10,8 +10,8 @@ use Rattle.ps_hoa.specs.Causes.{cause_number, hoa_causes, found_of}
 use Rattle.ps_hoa.specs.Scan.{Reading, stream_of}
 use Rattle.ps_hoa.specs.Tokens.{Sign}
 use Rattle.ps_hoa.specs.declared.fault.HoaCause.{HoaCause}
-use Rattle.ps_hoa.specs.declared.fault.HoaFault.{HoaFault}
-use Rattle.ps_hoa.specs.declared.fault.HoaFault.TheVariants as faults
+use Rattle.ps_hoa.specs.Causes.{HoaFault}
+use Rattle.ps_text.specs.declared.faults.Fault.TheVariants as faults
 
 abbrev pub Reads : {V X : Type 0} → (X → V) → Part Sign V HoaCause → Reading → Result X HoaFault → Reading → Type 0
 Reads view part old result new = Meets found_of hoa_causes view part (stream_of old) result (stream_of new)

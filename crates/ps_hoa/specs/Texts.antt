@@ -19,8 +19,8 @@ use Rattle.ps_hoa.specs.Header.{HeaderData, names_of, header}
 use Rattle.ps_hoa.specs.Body.{BodyData, body, sets_of}
 use Rattle.ps_hoa.specs.declared.fault.HoaCause.{HoaCause}
 use Rattle.ps_hoa.specs.declared.fault.HoaCause.TheVariants as causes
-use Rattle.ps_hoa.specs.declared.fault.HoaFault.{HoaFault}
-use Rattle.ps_hoa.specs.declared.fault.HoaFault.TheVariants as faults
+use Rattle.ps_hoa.specs.Causes.{HoaFault}
+use Rattle.ps_text.specs.declared.faults.Fault.TheVariants as faults
 
 abbrev pub condition_of : HeaderData → Condition
 condition_of h = elim h.acceptance [ None ↦ conditions.constant true | Some a ↦ a.condition ]

@@ -1,6 +1,7 @@
 //! The file that a header and a body make.
 
 ghost use Rattle.std.specs.Prelude.{◌≡◌, ◌≤◌, IfErr, IfOk, map, option_map};
+ghost use Rattle.ps_text.specs.declared.faults.Fault.TheVariants as faults;
 ghost use Rattle.ps_label.specs.Expression.{AreOrdered};
 ghost use Rattle.ps_label.specs.Truth.{expressions};
 ghost use Rattle.ps_hoa.specs.Body.{sets_of};
@@ -25,7 +26,7 @@ use std::alloc::{AllocError, Global};
 pub(crate) fn file(alloc: Global, header: Header, rows: Rows) -> Result<HoaFile, HoaFault>
     requires { IsSound (file_of (header_data header) (body_data rows)) }
     ensures value { IfOk result (λ file. file ≡ file_of (header_data header.entry) (body_data rows)) }
-    ensures memory { IfErr result (λ fault. fault ≡ HoaFault.OutOfMemory) }
+    ensures memory { IfErr result (λ fault. fault ≡ faults.OutOfMemory) }
 {
     let Header {
         states,

@@ -1,12 +1,9 @@
 //! What is wrong with an HOA text.
 
-ghost use Rattle.ps_hoa.specs.declared.fault.HoaFault.TheVariants.{OutOfMemory};
 ghost use Rattle.ps_hoa.specs.CauseNames.{cause_name};
 ghost use Rattle.ps_hoa.specs.Causes.{cause_number};
-ghost use Rattle.std.specs.Prelude.{◌≡◌};
 
-use std::alloc::{AllocError, AllocFailed};
-use thiserror::Error;
+use ps_text::faults::{Cause, Fault};
 
 /// Why an HOA text is refused.
 #[derive(Clone, Copy, Debug, PartialEq, Eq)]
@@ -51,11 +48,15 @@ pub enum HoaCause {
     SeveralAutomata,
 }
 
-impl HoaCause {
-    /// The cause's number in psyn's list of faults.
-    pub fn number(self) -> u8
-        ensures { result ≡ cause_number self }
-    {
+/// Why an HOA text was not read.
+pub type HoaFault = Fault<HoaCause>;
+
+impl Cause for HoaCause {
+    ghost number = { cause_number };
+
+    ghost name = { cause_name };
+
+    fn number(self) -> u8 {
         match self {
             HoaCause::NotHoa => 1,
             HoaCause::Version => 2,
@@ -79,10 +80,7 @@ impl HoaCause {
         }
     }
 
-    /// The cause's name.
-    pub fn name(self) -> &'static str
-        ensures { result.now ≡ cause_name self }
-    {
+    fn name(self) -> &'static str {
         match self {
             HoaCause::NotHoa => "NotHoa",
             HoaCause::Version => "Version",
@@ -104,37 +102,5 @@ impl HoaCause {
             HoaCause::Name => "Name",
             HoaCause::SeveralAutomata => "SeveralAutomata",
         }
-    }
-}
-
-/// Why an HOA text was not read.
-#[derive(Clone, Copy, Debug, PartialEq, Eq, Error)]
-pub enum HoaFault {
-    /// The text is refused.
-    #[error("{} at byte {offset}", .cause.name())]
-    Text {
-        /// What is wrong.
-        cause: HoaCause,
-        /// The byte at which it stands, from 0; at the end of the text it is the text's length.
-        offset: usize,
-    },
-    /// Memory ran out.
-    #[error("out of memory")]
-    OutOfMemory,
-}
-
-impl From<AllocError> for HoaFault {
-    ghost from_gives = { λ _ fault. fault ≡ OutOfMemory };
-
-    fn from(_error: AllocError) -> HoaFault {
-        HoaFault::OutOfMemory
-    }
-}
-
-impl<T: Drop> From<AllocFailed<T>> for HoaFault {
-    ghost from_gives = { λ _ fault. fault ≡ OutOfMemory };
-
-    fn from(_error: AllocFailed<T>) -> HoaFault {
-        HoaFault::OutOfMemory
     }
 }

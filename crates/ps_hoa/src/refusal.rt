@@ -1,6 +1,7 @@
 //! The fault of a token.
 
 ghost use Rattle.std.specs.Prelude.{◌≡◌, Some};
+ghost use Rattle.ps_text.specs.declared.faults.Fault.TheVariants as faults;
 ghost use Rattle.ps_text.specs.Parts.{refusal_of};
 ghost use Rattle.ps_hoa.specs.Causes.{begins_capital, hoa_causes, is_spelled, is_unknown_capital, own_cause};
 ghost use Rattle.ps_hoa.specs.Spans.{piece_of};
@@ -10,7 +11,7 @@ use crate::tokens::{Kind, Token, is_same};
 
 /// A fault of that cause at a token.
 pub(crate) fn fault_at(token: Token, cause: HoaCause) -> HoaFault
-    ensures { result ≡ HoaFault.Text cause token.entry.start }
+    ensures { result ≡ faults.Text cause token.entry.start }
 {
     HoaFault::Text {
         cause,
@@ -20,7 +21,7 @@ pub(crate) fn fault_at(token: Token, cause: HoaCause) -> HoaFault
 
 /// The fault of a token that can't stand where it stands.
 pub(crate) fn refused(token: Token) -> HoaFault
-    ensures { result ≡ HoaFault.Text (refusal_of hoa_causes (Some (piece_of token.entry).sign)) token.entry.start }
+    ensures { result ≡ faults.Text (refusal_of hoa_causes (Some (piece_of token.entry).sign)) token.entry.start }
 {
     fault_at(token, refusal(token))
 }

@@ -15,8 +15,8 @@ use Rattle.ps_pgsolver.specs.Signs.{Sign}
 use Rattle.ps_pgsolver.specs.declared.fault.PgCause.{PgCause}
 use Rattle.ps_pgsolver.specs.Nodes.{NodeData, KnowsAll, ids_of}
 use Rattle.ps_pgsolver.specs.Reading.{Answer, Answers, HasTokens, text_limit, too_long, refused, unknown, meaning}
-use Rattle.ps_pgsolver.specs.declared.fault.PgFault.{PgFault}
-use Rattle.ps_pgsolver.specs.declared.fault.PgFault.TheVariants as faults
+use Rattle.ps_pgsolver.specs.Causes.{PgFault}
+use Rattle.ps_text.specs.declared.faults.Fault.TheVariants as faults
 use Rattle.ps_pgsolver.proofs.GameTokens.{tokens_found, only_tokens}
 use Rattle.ps_pgsolver.proofs.Sound.{knows_all, same_nodes}
 

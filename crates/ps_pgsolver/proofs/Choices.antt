@@ -13,7 +13,7 @@ use Rattle.ps_pgsolver.specs.Heads.{is_number, is_comma, name_of}
 use Rattle.ps_pgsolver.specs.Nodes.{NodeData, ids_of}
 use Rattle.ps_pgsolver.specs.Signs.{Sign, Number, Word, Name, Comma, Semicolon, OpenName, Wrong}
 use Rattle.ps_pgsolver.specs.declared.fault.PgCause.{PgCause}
-use Rattle.ps_pgsolver.specs.declared.fault.PgFault.{PgFault}
+use Rattle.ps_pgsolver.specs.Causes.{PgFault}
 use Rattle.ps_pgsolver.proofs.Exits.{Done, Halts, stops_right, done_then}
 use Rattle.ps_pgsolver.proofs.PartLaws.{IsKind, kind_of, laws_line, laws_no_line, joint_line, line, takes_word, laws_one_name, laws_no_name, joint_more, joint_id, from_priority, another, laws_more, laws_entry}
 

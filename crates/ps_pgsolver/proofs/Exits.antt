@@ -15,7 +15,7 @@ use Rattle.ps_pgsolver.specs.Answered.{Reads, found_of}
 use Rattle.ps_pgsolver.specs.GameTexts.{pg_causes}
 use Rattle.ps_pgsolver.specs.Signs.{Sign}
 use Rattle.ps_pgsolver.specs.declared.fault.PgCause.{PgCause}
-use Rattle.ps_pgsolver.specs.declared.fault.PgFault.{PgFault}
+use Rattle.ps_pgsolver.specs.Causes.{PgFault}
 
 abbrev pub Done : {V : Type 0} → Part Sign V PgCause → Stream Sign → V → Stream Sign → Type 0
 Done part old v new = IsSuffix old new × IsRead part (signs old.pieces) v (signs new.pieces)

@@ -14,8 +14,8 @@ use Rattle.ps_pgsolver.specs.Nodes.{is_member}
 use Rattle.ps_pgsolver.specs.Signs.{Sign, Number, Word, Name, Comma, Semicolon, OpenName, Wrong}
 use Rattle.ps_pgsolver.specs.declared.fault.PgCause.{PgCause}
 use Rattle.ps_pgsolver.specs.declared.fault.PgCause.TheVariants as causes
-use Rattle.ps_pgsolver.specs.declared.fault.PgFault.{PgFault}
-use Rattle.ps_pgsolver.specs.declared.fault.PgFault.TheVariants as faults
+use Rattle.ps_pgsolver.specs.Causes.{PgFault}
+use Rattle.ps_text.specs.declared.faults.Fault.TheVariants as faults
 
 -- the answer to a sign at an offset
 pub data Fits {V : Type 0} (take : Sign → Option V) (Bad : Sign → PgCause → Type 0) (t : Sign) (at : ℕ) (r : Result V PgFault) : Type 0 where

@@ -9,8 +9,8 @@ use Rattle.ps_pgsolver.specs.GameTexts.{game}
 use Rattle.ps_pgsolver.specs.Nodes.{NodeData}
 use Rattle.ps_pgsolver.specs.Signs.{Sign}
 use Rattle.ps_pgsolver.specs.declared.fault.PgCause.TheVariants as causes
-use Rattle.ps_pgsolver.specs.declared.fault.PgFault.{PgFault}
-use Rattle.ps_pgsolver.specs.declared.fault.PgFault.TheVariants as faults
+use Rattle.ps_pgsolver.specs.Causes.{PgFault}
+use Rattle.ps_text.specs.declared.faults.Fault.TheVariants as faults
 use Rattle.ps_pgsolver.proofs.Exits.{Done, Halts}
 use Rattle.ps_pgsolver.proofs.PartLaws.{laws_game}
 

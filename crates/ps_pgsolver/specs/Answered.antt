@@ -3,18 +3,14 @@ use Rattle.std.specs.Prelude.{ℕ, Bool, true, List, Option, None, Some, Result,
 use Rattle.ps_text.specs.Answers.{Stream, Found}
 use Rattle.ps_text.specs.Parts.{Part, PartAnswers}
 use Rattle.ps_text.specs.Readers.{Meets}
+pub use Rattle.ps_text.specs.Faults.{found_of}
 use Rattle.ps_pgsolver.specs.GameTexts.{pg_causes, too_large, game}
 use Rattle.ps_pgsolver.specs.Nodes.{NodeData, is_member}
 use Rattle.ps_pgsolver.specs.Signs.{Sign, Number, Name, Comma, Semicolon, OpenName}
 use Rattle.ps_pgsolver.specs.declared.fault.PgCause.{PgCause}
 use Rattle.ps_pgsolver.specs.declared.fault.PgCause.TheVariants as causes
-use Rattle.ps_pgsolver.specs.declared.fault.PgFault.{PgFault}
-use Rattle.ps_pgsolver.specs.declared.fault.PgFault.TheVariants as faults
-
--- what an error says of the text: nothing, where memory ran out
-abbrev pub found_of : PgFault → Option (Found PgCause)
-found_of (faults.Text cause offset) = Some (record { cause = cause; offset = offset })
-found_of faults.OutOfMemory = None
+use Rattle.ps_pgsolver.specs.Causes.{PgFault}
+use Rattle.ps_text.specs.declared.faults.Fault.TheVariants as faults
 
 -- the part was read from old, and new is left, or its first fault was found
 abbrev pub Reads : {V X : Type 0} → (X → V) → Part Sign V PgCause → Stream Sign → Result X PgFault → Stream Sign → Type 0

@@ -1,9 +1,13 @@
 -- The causes by which a game text is refused, and their numbers in psyn's list of faults.
 use Rattle.std.specs.Prelude.{ℕ, ◌≤◌, List, codes}
+use Rattle.ps_text.specs.declared.faults.Fault.{Fault}
 use Rattle.ps_pgsolver.specs.declared.fault.PgCause.{PgCause}
 use Rattle.ps_pgsolver.specs.declared.fault.PgCause.TheVariants as causes
-use Rattle.ps_pgsolver.specs.declared.fault.PgFault.{PgFault}
-use Rattle.ps_pgsolver.specs.declared.fault.PgFault.TheVariants as faults
+use Rattle.ps_text.specs.declared.faults.Fault.TheVariants as faults
+
+-- a cause and its place, or out of memory
+abbrev pub PgFault : Type 0
+PgFault = Fault PgCause
 
 abbrev pub cause_number : PgCause → ℕ
 cause_number causes.Syntax = 30

@@ -10,8 +10,8 @@ use Rattle.ps_pgsolver.specs.Nodes.{NodeData, ids_of}
 use Rattle.ps_pgsolver.specs.Signs.{Sign}
 use Rattle.ps_pgsolver.specs.declared.fault.PgCause.{PgCause}
 use Rattle.ps_pgsolver.specs.declared.fault.PgCause.TheVariants as causes
-use Rattle.ps_pgsolver.specs.declared.fault.PgFault.{PgFault}
-use Rattle.ps_pgsolver.specs.declared.fault.PgFault.TheVariants as faults
+use Rattle.ps_pgsolver.specs.Causes.{PgFault}
+use Rattle.ps_text.specs.Faults.{UnlessMemory}
 
 -- the greatest length of a text, in bytes
 abbrev pub text_limit : ℕ
@@ -37,6 +37,4 @@ pub data Answer (text : List ℕ) (answer : Result NamedGameData (Found PgCause)
 
 -- what a call answers is that, unless memory ran out
 abbrev pub Answers : List ℕ → Result NamedGameData PgFault → Type 0
-Answers text (Ok named) = Answer text (Ok named)
-Answers text (Err (faults.Text cause offset)) = Answer text (Err (record { cause = cause; offset = offset }))
-Answers text (Err faults.OutOfMemory) = Unit {0}
+Answers text result = UnlessMemory (Answer text) result

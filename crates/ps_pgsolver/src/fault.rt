@@ -1,11 +1,8 @@
 //! What is wrong with a game text.
 
-ghost use Rattle.ps_pgsolver.specs.declared.fault.PgFault.TheVariants.{OutOfMemory};
 ghost use Rattle.ps_pgsolver.specs.Causes.{cause_name, cause_number};
-ghost use Rattle.std.specs.Prelude.{◌≡◌};
 
-use std::alloc::{AllocError, AllocFailed};
-use thiserror::Error;
+use ps_text::faults::{Cause, Fault};
 
 /// Why a game text is refused.
 #[derive(Clone, Copy, Debug, PartialEq, Eq)]
@@ -24,11 +21,15 @@ pub enum PgCause {
     Limit,
 }
 
-impl PgCause {
-    /// The cause's number in psyn's list of faults.
-    pub fn number(self) -> u8
-        ensures { result ≡ cause_number self }
-    {
+/// Why a game was not read.
+pub type PgFault = Fault<PgCause>;
+
+impl Cause for PgCause {
+    ghost number = { cause_number };
+
+    ghost name = { cause_name };
+
+    fn number(self) -> u8 {
         match self {
             PgCause::Syntax => 30,
             PgCause::NoSuccessor => 31,
@@ -39,10 +40,7 @@ impl PgCause {
         }
     }
 
-    /// The cause's name.
-    pub fn name(self) -> &'static str
-        ensures { result.now ≡ cause_name self }
-    {
+    fn name(self) -> &'static str {
         match self {
             PgCause::Syntax => "Syntax",
             PgCause::NoSuccessor => "NoSuccessor",
@@ -51,37 +49,5 @@ impl PgCause {
             PgCause::Number => "Number",
             PgCause::Limit => "Limit",
         }
-    }
-}
-
-/// Why a game was not read.
-#[derive(Clone, Copy, Debug, PartialEq, Eq, Error)]
-pub enum PgFault {
-    /// The text is refused.
-    #[error("{} at byte {offset}", .cause.name())]
-    Text {
-        /// What is wrong.
-        cause: PgCause,
-        /// The byte at which it stands, from 0; at the end of the text it is the text's length.
-        offset: usize,
-    },
-    /// Memory ran out.
-    #[error("out of memory")]
-    OutOfMemory,
-}
-
-impl From<AllocError> for PgFault {
-    ghost from_gives = { λ _ fault. fault ≡ OutOfMemory };
-
-    fn from(_error: AllocError) -> PgFault {
-        PgFault::OutOfMemory
-    }
-}
-
-impl<T: Drop> From<AllocFailed<T>> for PgFault {
-    ghost from_gives = { λ _ fault. fault ≡ OutOfMemory };
-
-    fn from(_error: AllocFailed<T>) -> PgFault {
-        PgFault::OutOfMemory
     }
 }

@@ -1,6 +1,7 @@
 //! The game of the nodes of a text.
 
 ghost use Rattle.std.specs.Prelude.{◌≡◌, ◌<◌, ◌++◌, ◌∷◌, [], IfOk, IfErr, OnOk, Contains, map};
+ghost use Rattle.ps_text.specs.declared.faults.Fault.TheVariants as faults;
 ghost use Rattle.std.specs.List.{All};
 ghost use Rattle.ps_pgsolver.specs.GamesOf.{game_of, named_game_of, place_of, vertex_made};
 ghost use Rattle.ps_pgsolver.specs.Nodes.{IsNode, KnowsAll, ids_of};
@@ -15,7 +16,7 @@ use std::alloc::{AllocError, Global};
 pub fn named_game(alloc: Global, nodes: Nodes) -> Result<NamedGame, PgFault>
     requires { KnowsAll (ids_of nodes) nodes }
     ensures value { IfOk result (λ named. named ≡ named_game_of nodes) }
-    ensures memory { IfErr result (λ fault. fault ≡ PgFault.OutOfMemory) }
+    ensures memory { IfErr result (λ fault. fault ≡ faults.OutOfMemory) }
 {
     let game = game(alloc, nodes.entries(), nodes.ids())?;
     let (ids, names) = nodes.into_labels(alloc)?;
@@ -28,7 +29,7 @@ fn game(alloc: Global, nodes: &[Node], ids: &Ids) -> Result<Game, PgFault>
     requires table { ids.now ≡ ids_of nodes.now }
     requires known { KnowsAll ids.now nodes.now }
     ensures value { IfOk result (λ game. game ≡ game_of nodes.now) }
-    ensures memory { IfErr result (λ fault. fault ≡ PgFault.OutOfMemory) }
+    ensures memory { IfErr result (λ fault. fault ≡ faults.OutOfMemory) }
 {
     let mut builder = GameBuilder::new(alloc);
     for node in nodes {

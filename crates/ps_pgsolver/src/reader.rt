@@ -1,6 +1,7 @@
 //! The reading of a game text.
 
 ghost use Rattle.std.specs.Prelude.{◌≡◌, ◌≤◌, ◌<◌, Some, None, IfOk, vec_len, option_copied, nat_lt, if◌then◌else◌, IfErr, length};
+ghost use Rattle.ps_text.specs.declared.faults.Fault.TheVariants as faults;
 ghost use Rattle.std.specs.List.{AllPass, Contains};
 ghost use Rattle.ps_text.specs.Answers.{next_of, offset_of};
 ghost use Rattle.ps_game.specs.Games.{HasNoQuote};
@@ -46,7 +47,7 @@ pub fn read(alloc: Global, text: &[u8]) -> Result<NamedGame, PgFault>
 
 /// What is wrong at a token.
 fn fault(cause: PgCause, token: Token) -> PgFault
-    ensures { result ≡ PgFault.Text cause token.entry.start }
+    ensures { result ≡ faults.Text cause token.entry.start }
 {
     PgFault::Text {
         cause,

@@ -10,8 +10,8 @@ use Rattle.std.proofs.lemmas.Bool.{cases_order}
 use Rattle.ps_simulate.specs.declared.fault.StimulusCause.{StimulusCause}
 use Rattle.ps_simulate.specs.declared.fault.StimulusCause.TheVariants.{Stimulus}
 use Rattle.ps_simulate.specs.Faults.{rank}
-use Rattle.ps_simulate.specs.declared.fault.StimulusFault.{StimulusFault}
-use Rattle.ps_simulate.specs.declared.fault.StimulusFault.TheVariants.{Text, OutOfMemory}
+use Rattle.ps_simulate.specs.Faults.{StimulusFault}
+use Rattle.ps_text.specs.declared.faults.Fault.TheVariants.{Text, OutOfMemory}
 use Rattle.ps_simulate.specs.Stimuli.{StimulusData, letters_of}
 use Rattle.ps_simulate.specs.StimulusTexts.{lines_of, extent, start_of, digits_of, divider, spelled, Divides, StandsInLine, StandsInLetter, MissesDivider, Stands, IsFirst, IsStimulus, IsAnswer}
 use Rattle.ps_simulate.specs.StimulusReading.{HasRead, ReadsLine}

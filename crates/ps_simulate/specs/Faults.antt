@@ -1,7 +1,12 @@
 -- What may be wrong with the text of a stimulus: the number and the name of each cause, and which goes first at one byte.
 use Rattle.std.specs.Prelude.{ℕ, List, codes}
+use Rattle.ps_text.specs.declared.faults.Fault.{Fault}
 use Rattle.ps_simulate.specs.declared.fault.StimulusCause.{StimulusCause}
 use Rattle.ps_simulate.specs.declared.fault.StimulusCause.TheVariants.{Width, Stimulus}
+
+-- a cause and its place, or out of memory
+abbrev pub StimulusFault : Type 0
+StimulusFault = Fault StimulusCause
 
 abbrev pub cause_number : StimulusCause → ℕ
 cause_number Width = 70

@@ -1,8 +1,8 @@
 -- What the reader of stimuli keeps true.
 use Rattle.std.specs.Prelude.{◌≡◌, ℕ, Bool, true, false, List, [], ◌++◌, length, drop, All, Result, Ok, Err, Vec}
 use Rattle.std.specs.Global.{Global}
-use Rattle.ps_simulate.specs.declared.fault.StimulusFault.{StimulusFault}
-use Rattle.ps_simulate.specs.declared.fault.StimulusFault.TheVariants.{Text, OutOfMemory}
+use Rattle.ps_simulate.specs.Faults.{StimulusFault}
+use Rattle.ps_text.specs.declared.faults.Fault.TheVariants.{Text, OutOfMemory}
 use Rattle.ps_simulate.specs.Stimuli.{StimulusData}
 use Rattle.ps_simulate.specs.StimulusTexts.{lines_of, extent, spelled, digits_of, StandsInLine, IsFirst}
 

@@ -9,8 +9,8 @@ use Rattle.std.specs.Prelude.{◌≡◌, ◌≢◌, ℕ, ◌+◌, ◌<◌, ◌�
 use Rattle.ps_text.specs.Answers.{Found}
 use Rattle.ps_simulate.specs.declared.fault.StimulusCause.{StimulusCause}
 use Rattle.ps_simulate.specs.declared.fault.StimulusCause.TheVariants.{Width, Stimulus}
-use Rattle.ps_simulate.specs.declared.fault.StimulusFault.{StimulusFault}
-use Rattle.ps_simulate.specs.declared.fault.StimulusFault.TheVariants.{Text, OutOfMemory}
+use Rattle.ps_simulate.specs.Faults.{StimulusFault}
+use Rattle.ps_text.specs.Faults.{UnlessMemory}
 use Rattle.ps_simulate.specs.Faults.{rank}
 use Rattle.ps_simulate.specs.Stimuli.{StimulusData}
 
@@ -106,9 +106,7 @@ Reads text width split (Err found) = IsFirst (Stands text width split) found.cau
 
 -- what the reader answers: this, unless memory runs out
 abbrev pub IsAnswer : List ℕ → ℕ → Bool → Result StimulusData StimulusFault → Type 0
-IsAnswer text width split (Ok s) = Reads text width split (Ok s)
-IsAnswer text width split (Err (Text cause offset)) = Reads text width split (Err (record { cause = cause; offset = offset }))
-IsAnswer text width split (Err OutOfMemory) = Unit {0}
+IsAnswer text width split result = UnlessMemory (Reads text width split) result
 
 abbrev pub HasOneAnswer : List ℕ → ℕ → Bool → Type 0
 HasOneAnswer text width split =

@@ -1,4 +1,5 @@
 pub mod Answers
+pub mod Faults
 pub mod Parts
 pub mod Readers
 pub mod Digits

@@ -3,6 +3,7 @@
 #![tactic(auto)]
 
 pub mod answers;
+pub mod faults;
 #[cfg(test)]
 mod tests;
 pub mod tokens;

@@ -1,22 +1,35 @@
 -- A command's outcome, step by step.
-use Rattle.std.proofs.Common.{◌≡◌, Result, Ok, Err, IsErrAnd, subst, sym}
+use Rattle.std.proofs.Common.{◌≡◌, ℕ, List, Result, Ok, Err, IsErrAnd, subst, sym}
+use Rattle.ps_text.specs.Answers.{Found}
+use Rattle.ps_text.specs.Faults.{UnlessMemory}
+use Rattle.ps_text.specs.declared.faults.Fault.{Fault}
+use Rattle.ps_text.specs.declared.faults.Fault.TheVariants as fault
 use Rattle.psyn.specs.declared.answer.Answer.{Answer}
 use Rattle.psyn.specs.declared.answer.Refusal.{Refusal}
 use Rattle.psyn.specs.declared.answer.Refusal.TheVariants as refusal
-use Rattle.psyn.specs.declared.fault.FaultLine.{FaultLine}
-use Rattle.psyn.specs.Outcomes.{Gives, Settles, printed}
+use Rattle.psyn.specs.Faults.{fault_text}
+use Rattle.psyn.specs.Outcomes.{Gives, Reading, Settles, printed}
+use Rattle.psyn.specs.Refusals.{IsRefusalOf}
 use Rattle.psyn.specs.Replies.{Reply, reply_of}
 
 -- what is printed for an outcome that the command may give
-pub settles_gives : (step : Result Reply FaultLine → Type 0) (outcome : Result Answer Refusal) (answer : Answer)
-    → Gives reply_of step outcome → Settles outcome answer → (told : Result Reply FaultLine) × step told × (reply_of answer ≡ printed told)
+pub settles_gives : (step : Result Reply (List ℕ) → Type 0) (outcome : Result Answer Refusal) (answer : Answer)
+    → Gives reply_of step outcome → Settles outcome answer → (told : Result Reply (List ℕ)) × step told × (reply_of answer ≡ printed told)
 settles_gives step (Ok given) answer h same = (Ok (reply_of given), h, same)
-settles_gives step (Err (refusal.Fault fault)) answer h same = (Err fault, h, same)
+settles_gives step (Err (refusal.Fault fault)) answer h same = (Err (fault_text fault), h, same)
 settles_gives step (Err refusal.OutOfMemory) answer h same = absurd same
 
 -- a fault that is passed on
-pub gives_passed : {X V : Type 0} (view : X → V) (step : Result V FaultLine → Type 0) (outcome : Result X Refusal) (fault : Refusal)
+pub gives_passed : {X V : Type 0} (view : X → V) (step : Result V (List ℕ) → Type 0) (outcome : Result X Refusal) (fault : Refusal)
     → IsErrAnd outcome (λ given. given ≡ fault) → Gives view step (Err fault) → Gives view step outcome
 gives_passed view step (Ok given) fault passed h = absurd passed
 gives_passed {X} view step (Err given) fault passed h =
     subst (λ (refusal : Refusal). Gives {X = X} view step (Err refusal)) (sym passed) h
+
+-- what is refused by a reader is refused by its line
+pub gives_fault : {C X V : Type 0} (number : C → ℕ) (name : C → List ℕ) (reads : Result V (Found C) → Type 0) (view : X → V) (given : Fault C) (refused : Refusal)
+    → UnlessMemory reads (Err given) → IsRefusalOf number name given refused → Gives view (Reading number name reads) (Err refused)
+gives_fault number name reads view (fault.Text cause offset) (refusal.Fault line) answer same = (record { cause = cause; offset = offset }, answer, same)
+gives_fault number name reads view (fault.Text cause offset) refusal.OutOfMemory answer same = absurd same
+gives_fault number name reads view fault.OutOfMemory (refusal.Fault line) answer same = absurd same
+gives_fault number name reads view fault.OutOfMemory refusal.OutOfMemory answer same = tt

@@ -1,31 +1,14 @@
 -- Faults of texts, and the vertices of flaws.
 use Rattle.std.proofs.Common.{◌<◌, ℕ, List, length, Option, IfSome, Ok, Err, refl, inl, inr, subst}
 use Rattle.ps_game.specs.Games.{ParityGame, NamedGameData, IsGame, vertex_count}
-use Rattle.ps_pgsolver.specs.Reading.{Answers}
-use Rattle.ps_pgsolver.specs.declared.fault.PgFault.{PgFault}
-use Rattle.ps_pgsolver.specs.declared.fault.PgFault.TheVariants as game
-use Rattle.ps_certificate.specs.declared.fault.CertFault.{CertFault}
-use Rattle.ps_certificate.specs.declared.fault.CertFault.TheVariants as certificate
 use Rattle.ps_certificate.specs.declared.flaw.Flaw.{Flaw}
 use Rattle.ps_certificate.specs.declared.flaw.Flaw.TheVariants as flaw
 use Rattle.ps_certificate.specs.Certificates.{CertificateData, Fits, Remains, IsFlaw}
-use Rattle.ps_certificate.specs.Texts.{IsAnswer}
 use Rattle.psyn.specs.declared.answer.Refusal.{Refusal}
 use Rattle.psyn.specs.declared.answer.Refusal.TheVariants as refusal
+use Rattle.psyn.specs.Faults.{fault_text}
 use Rattle.psyn.specs.Outcomes.{Gives}
-use Rattle.psyn.specs.Refusals.{game_refusal, certificate_refusal}
 use Rattle.psyn.specs.Texts.{CutsInTwo, ReadsGameText, ReadsCertificateText, ReadsCertified, NamesVertices}
-
--- what is refused by a reader is refused by its line
-pub gives_game_fault : (text : List ℕ) (fault : PgFault) → Answers text (Err fault)
-    → Gives {X = NamedGameData} (λ named. named) (ReadsGameText text) (Err (game_refusal fault))
-gives_game_fault text (game.Text cause offset) answer = (record { cause = cause; offset = offset }, answer, refl)
-gives_game_fault text game.OutOfMemory answer = tt
-
-pub gives_certificate_fault : (named : NamedGameData) (text : List ℕ) (fault : CertFault) → IsAnswer named text (Err fault)
-    → Gives {X = CertificateData} (λ given. given) (ReadsCertificateText named text) (Err (certificate_refusal fault))
-gives_certificate_fault named text (certificate.Text cause offset) answer = (record { cause = cause; offset = offset }, answer, refl)
-gives_certificate_fault named text certificate.OutOfMemory answer = tt
 
 -- a flaw speaks of vertices of the game
 remains_within : (game : ParityGame) (given : CertificateData) (v w : ℕ) → IsGame game → Remains game given v w
@@ -49,7 +32,7 @@ both_view both = (both.0, both.1)
 -- the fault of a game text is the fault of both texts
 pub certified_game_fault : (texts first second : List ℕ) (fault : Refusal) → CutsInTwo texts (Ok (first, second))
     → Gives {X = NamedGameData} (λ named. named) (ReadsGameText first) (Err fault) → Gives both_view (ReadsCertified texts) (Err fault)
-certified_game_fault texts first second (refusal.Fault fault) cuts h = inr ((first, second), cuts, inl (fault, h, refl))
+certified_game_fault texts first second (refusal.Fault fault) cuts h = inr ((first, second), cuts, inl (fault_text fault, h, refl))
 certified_game_fault texts first second refusal.OutOfMemory cuts h = tt
 
 -- so is the fault of a certificate text behind a game text
@@ -57,5 +40,5 @@ pub certified_certificate_fault : (texts first second : List ℕ) (named : Named
     → ReadsGameText first (Ok named) → Gives {X = CertificateData} (λ given. given) (ReadsCertificateText named second) (Err fault)
     → Gives both_view (ReadsCertified texts) (Err fault)
 certified_certificate_fault texts first second named (refusal.Fault fault) cuts reads h =
-    inr ((first, second), cuts, inr (named, reads, inl (fault, h, refl)))
+    inr ((first, second), cuts, inr (named, reads, inl (fault_text fault, h, refl)))
 certified_certificate_fault texts first second named refusal.OutOfMemory cuts reads h = tt

@@ -3,21 +3,20 @@ use Rattle.std.specs.Prelude.{◌≡◌, ℕ, List, Result, Ok, Err, codes}
 use Rattle.ps_game.specs.Games.{ParityGame, NamedGameData}
 use Rattle.ps_certificate.specs.declared.flaw.Flaw.{Flaw}
 use Rattle.ps_certificate.specs.Certificates.{CertificateData, IsClosed, IsValid, IsFirstFlaw}
-use Rattle.psyn.specs.declared.fault.FaultLine.{FaultLine}
 use Rattle.psyn.specs.Outcomes.{Then}
 use Rattle.psyn.specs.Replies.{Reply, line_reply}
-use Rattle.psyn.specs.Texts.{ReadsCertified, flaw_line}
+use Rattle.psyn.specs.Texts.{ReadsCertified, flaw_text}
 
 -- one word where the certificate is good, and else its first flaw
-abbrev pub Tests : (ParityGame → CertificateData → Type 0) → List ℕ → NamedGameData → CertificateData → Result Reply FaultLine → Type 0
+abbrev pub Tests : (ParityGame → CertificateData → Type 0) → List ℕ → NamedGameData → CertificateData → Result Reply (List ℕ) → Type 0
 Tests IsGood word named certificate (Ok reply) = IsGood named.game certificate × (reply ≡ line_reply word)
-Tests IsGood word named certificate (Err fault) = ¬ (IsGood named.game certificate)
-    × ((flaw : Flaw) × IsFirstFlaw named.game certificate flaw × (fault ≡ flaw_line named flaw))
+Tests IsGood word named certificate (Err line) = ¬ (IsGood named.game certificate)
+    × ((flaw : Flaw) × IsFirstFlaw named.game certificate flaw × (line ≡ flaw_text named flaw))
 
 -- `closed`
-abbrev pub AnswersClosed : List ℕ → Result Reply FaultLine → Type 0
+abbrev pub AnswersClosed : List ℕ → Result Reply (List ℕ) → Type 0
 AnswersClosed texts = Then (ReadsCertified texts) (λ both. Tests IsClosed (codes "closed") both.0 both.1)
 
 -- `check`
-abbrev pub AnswersCheck : List ℕ → Result Reply FaultLine → Type 0
+abbrev pub AnswersCheck : List ℕ → Result Reply (List ℕ) → Type 0
 AnswersCheck texts = Then (ReadsCertified texts) (λ both. Tests IsValid (codes "valid") both.0 both.1)

@@ -4,7 +4,6 @@ use Rattle.std.specs.Io.KnownBytes.{Appends}
 use Rattle.psyn.specs.declared.command_line.Line.{Line}
 use Rattle.psyn.specs.declared.command_line.Line.TheVariants.{Refused, Help, Closed, Check, Sim}
 use Rattle.psyn.specs.CommandLine.{IsLine}
-use Rattle.psyn.specs.declared.fault.FaultLine.{FaultLine}
 use Rattle.psyn.specs.Checks.{AnswersClosed, AnswersCheck}
 use Rattle.psyn.specs.Cut.{first_line, behind_line}
 use Rattle.psyn.specs.Input.{AgreesWith, input_limit}
@@ -14,7 +13,7 @@ use Rattle.psyn.specs.Simulating.{AnswersSim}
 use Rattle.psyn.specs.Streams.{SinkState, AppendsSome, Breaks}
 
 -- the answer to a line, with what stands behind it
-abbrev pub AnswersLine : Line → List ℕ → Result Reply FaultLine → Type 0
+abbrev pub AnswersLine : Line → List ℕ → Result Reply (List ℕ) → Type 0
 AnswersLine Refused texts outcome = outcome ≡ Ok usage
 AnswersLine Help texts outcome = outcome ≡ Ok help
 AnswersLine Closed texts outcome = AnswersClosed texts outcome
@@ -25,7 +24,7 @@ AnswersLine Sim texts outcome = AnswersSim texts outcome
 abbrev pub Answers : List ℕ → Reply → Type 0
 Answers input reply =
     (line : Line) × IsLine (first_line input) line
-    × ((outcome : Result Reply FaultLine) × AnswersLine line (behind_line input) outcome × (reply ≡ printed outcome))
+    × ((outcome : Result Reply (List ℕ)) × AnswersLine line (behind_line input) outcome × (reply ≡ printed outcome))
 
 -- the same, of an input that may be too long
 abbrev pub AnswersWhole : List ℕ → Reply → Type 0

@@ -2,10 +2,6 @@
 use Rattle.std.specs.Prelude.{ℕ, List, ◌++◌, codes}
 use Rattle.psyn.specs.declared.answer.TheConstants.{HELP}
 use Rattle.psyn.specs.declared.answer.Answer.{Answer}
-use Rattle.psyn.specs.declared.fault.FaultLine.{FaultLine}
-use Rattle.psyn.specs.declared.fault.FaultLine.TheVariants.{Usage, Plain}
-use Rattle.psyn.specs.declared.fault.PlainFault.TheVariants.{OutOfMemory, ReadFault}
-use Rattle.psyn.specs.Faults.{fault_line}
 
 -- the bytes that are written, and the exit status
 pub record Reply : Type 0 where
@@ -24,20 +20,20 @@ abbrev pub line_reply : List ℕ → Reply
 line_reply line = text_reply (line ++ codes "\n")
 
 -- the line of a fault
-abbrev pub fault_reply : FaultLine → Reply
-fault_reply fault = record { text = fault_line fault; status = 1 }
+abbrev pub fault_reply : List ℕ → Reply
+fault_reply line = record { text = line ++ codes "\n"; status = 1 }
 
 -- the command line is refused
 abbrev pub usage : Reply
-usage = record { text = fault_line Usage; status = 2 }
+usage = record { text = codes "fault usage\n"; status = 2 }
 
 -- what psyn can do
 abbrev pub help : Reply
 help = text_reply HELP.now
 
 abbrev pub out_of_memory : Reply
-out_of_memory = fault_reply (Plain OutOfMemory)
+out_of_memory = fault_reply (codes "fault 24 OutOfMemory")
 
 -- a read failed, or the input is too long
 abbrev pub read_fault : Reply
-read_fault = fault_reply (Plain ReadFault)
+read_fault = fault_reply (codes "fault 25 ReadFault")

@@ -4,7 +4,6 @@ use Rattle.ps_aiger.specs.Circuits.{CircuitData}
 use Rattle.ps_simulate.specs.StimulusTexts.{digits_of}
 use Rattle.ps_simulate.specs.Values.{Moment, Steps, IsTrace, GoesOn, resets}
 use Rattle.ps_simulate.specs.Simulations.{Simulation}
-use Rattle.psyn.specs.declared.fault.FaultLine.{FaultLine}
 use Rattle.psyn.specs.Outcomes.{Then}
 use Rattle.psyn.specs.Replies.{Reply, text_reply}
 use Rattle.psyn.specs.Texts.{ReadsSimulated}
@@ -21,7 +20,7 @@ pub record PrintsTrace (c : CircuitData) (letters : List (List Bool)) (text : Li
   pub text_is : text ≡ flat_map moment_line moments
 
 -- `sim`
-abbrev pub AnswersSim : List ℕ → Result Reply FaultLine → Type 0
+abbrev pub AnswersSim : List ℕ → Result Reply (List ℕ) → Type 0
 AnswersSim texts = Then (ReadsSimulated texts) (λ both outcome.
     (text : List ℕ) × PrintsTrace both.0 both.1.stem text × (outcome ≡ Ok (text_reply text)))
 

@@ -4,6 +4,7 @@ ghost use Rattle.std.specs.Prelude.{◌≡◌, IfOk};
 ghost use Rattle.psyn.specs.Outcomes.{Settles};
 
 use crate::fault::FaultLine;
+use ps_text::faults::{Cause, Fault};
 use std::alloc::{AllocError, Global};
 
 /// The status of an answer.
@@ -79,6 +80,7 @@ pub struct Answer {
 }
 
 impl Answer {
+    ghost use Rattle.psyn.specs.Faults.{fault_text};
     ghost use Rattle.psyn.specs.Replies.{reply_of, fault_reply, line_reply};
     ghost use Rattle.psyn.specs.Replies as reply;
 
@@ -99,7 +101,7 @@ impl Answer {
 
     /// The line of a fault.
     pub fn fault(alloc: Global, fault: &FaultLine) -> Result<Answer, AllocError>
-        ensures { IfOk result (λ answer. reply_of answer ≡ fault_reply fault.now) }
+        ensures { IfOk result (λ answer. reply_of answer ≡ fault_reply (fault_text fault.now)) }
     {
         let text = format!(in alloc; "{fault}\n")?.into_bytes();
         Ok(Answer {
@@ -145,6 +147,24 @@ impl From<AllocError> for Refusal {
 
     fn from(_: AllocError) -> Self {
         Refusal::OutOfMemory
+    }
+}
+
+/// A text's fault is answered by the number and the name of its cause.
+impl<C: Cause> From<Fault<C>> for Refusal {
+    ghost use Rattle.psyn.specs.Refusals.{IsRefusalOf};
+
+    ghost from_gives = { IsRefusalOf C.number C.name };
+
+    fn from(fault: Fault<C>) -> Self {
+        match fault {
+            Fault::Text { cause, offset } => Refusal::Fault(FaultLine::Text {
+                number: cause.number(),
+                name: cause.name(),
+                offset,
+            }),
+            Fault::OutOfMemory => Refusal::OutOfMemory,
+        }
     }
 }
 

@@ -1,46 +1,5 @@
 //! The faults that the program answers, each in one line.
 
-/// A fault that stands at a byte of a text.
-#[derive(Clone, Copy, Debug)]
-pub enum TextFault {
-    NotHoa,
-    Version,
-    Token,
-    HoaSyntax,
-    HoaNumber,
-    HeaderTwice,
-    MissingAcceptance,
-    UnknownHeader,
-    HoaLimit,
-    Aborted,
-    Alternating,
-    Start,
-    Range,
-    Alias,
-    Labels,
-    StateTwice,
-    Controllable,
-    Name,
-    SeveralAutomata,
-    GameSyntax,
-    NoSuccessor,
-    UnknownSuccessor,
-    NodeTwice,
-    GameNumber,
-    GameLimit,
-    CertificateSyntax,
-    OtherGame,
-    CircuitSyntax,
-    Literal,
-    DefinedTwice,
-    Undefined,
-    Cyclic,
-    UnsetLatch,
-    Sections,
-    Width,
-    Stimulus,
-}
-
 /// A fault of no place.
 #[derive(Clone, Copy, Debug)]
 pub enum PlainFault {
@@ -60,9 +19,10 @@ pub enum PlainFault {
 pub enum FaultLine {
     /// The command line is refused.
     Usage,
-    /// A fault at a byte of a text, counted from 0.
+    /// A fault at a byte of a text, counted from 0, by the number and the name of its cause.
     Text {
-        fault: TextFault,
+        number: u8,
+        name: &'static str,
         offset: usize,
     },
     /// A fault of no place.

@@ -1,57 +1,10 @@
 //! The bytes of a fault's line.
 
 ghost use Rattle.std.specs.Prelude.{Some};
-ghost use Rattle.psyn.specs.Faults.{text_label, plain_label, fault_text, ids_text};
+ghost use Rattle.psyn.specs.Faults.{plain_label, fault_text, ids_text};
 
-use crate::fault::{FaultLine, PlainFault, TextFault};
+use crate::fault::{FaultLine, PlainFault};
 use std::fmt;
-
-/// The fault's number and name.
-impl fmt::Display for TextFault {
-    ghost output = { λ fault. Some (text_label fault) };
-
-    fn fmt<W: fmt::Write>(&self, f: &mut fmt::Formatter<W>) -> fmt::Result {
-        let label = match self {
-            TextFault::NotHoa => "1 NotHoa",
-            TextFault::Version => "2 Version",
-            TextFault::Token => "3 Token",
-            TextFault::HoaSyntax => "4 Syntax",
-            TextFault::HoaNumber => "5 Number",
-            TextFault::HeaderTwice => "6 HeaderTwice",
-            TextFault::MissingAcceptance => "7 MissingAcceptance",
-            TextFault::UnknownHeader => "8 UnknownHeader",
-            TextFault::HoaLimit => "9 Limit",
-            TextFault::Aborted => "10 Aborted",
-            TextFault::Alternating => "11 Alternating",
-            TextFault::Start => "12 Start",
-            TextFault::Range => "13 Range",
-            TextFault::Alias => "14 Alias",
-            TextFault::Labels => "15 Labels",
-            TextFault::StateTwice => "16 StateTwice",
-            TextFault::Controllable => "19 Controllable",
-            TextFault::Name => "20 Name",
-            TextFault::SeveralAutomata => "22 SeveralAutomata",
-            TextFault::GameSyntax => "30 Syntax",
-            TextFault::NoSuccessor => "31 NoSuccessor",
-            TextFault::UnknownSuccessor => "32 UnknownSuccessor",
-            TextFault::NodeTwice => "33 NodeTwice",
-            TextFault::GameNumber => "34 Number",
-            TextFault::GameLimit => "35 Limit",
-            TextFault::CertificateSyntax => "53 Syntax",
-            TextFault::OtherGame => "54 OtherGame",
-            TextFault::CircuitSyntax => "61 Syntax",
-            TextFault::Literal => "62 Literal",
-            TextFault::DefinedTwice => "63 DefinedTwice",
-            TextFault::Undefined => "64 Undefined",
-            TextFault::Cyclic => "65 Cyclic",
-            TextFault::UnsetLatch => "66 UnsetLatch",
-            TextFault::Sections => "67 Sections",
-            TextFault::Width => "70 Width",
-            TextFault::Stimulus => "73 Stimulus",
-        };
-        f.write_str(label)
-    }
-}
 
 /// The fault's number and name.
 impl fmt::Display for PlainFault {
@@ -95,7 +48,11 @@ impl fmt::Display for FaultLine {
     fn fmt<W: fmt::Write>(&self, f: &mut fmt::Formatter<W>) -> fmt::Result {
         match self {
             FaultLine::Usage => write!(f, "fault usage"),
-            FaultLine::Text { fault, offset } => write!(f, "fault {fault} at {offset}"),
+            FaultLine::Text {
+                number,
+                name,
+                offset,
+            } => write!(f, "fault {number} {name} at {offset}"),
             FaultLine::Plain(fault) => write!(f, "fault {fault}"),
             FaultLine::Nondeterministic {
                 state,

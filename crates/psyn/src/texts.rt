@@ -3,104 +3,18 @@
 ghost use Rattle.std.specs.Prelude.{◌≡◌, ◌<◌, length, All, IfOk};
 ghost use Rattle.ps_certificate.specs.Certificates.{Fits};
 ghost use Rattle.ps_game.specs.Games.{vertex_count};
+ghost use Rattle.psyn.specs.Faults.{fault_text};
 ghost use Rattle.psyn.specs.Outcomes.{Gives};
-ghost use Rattle.psyn.specs.Texts.{CutsInTwo, ReadsGameText, ReadsCertificateText, ReadsCertified, ReadsCircuitText, ReadsStimulusText, ReadsSimulated, NamesVertices};
-ghost use Rattle.psyn.specs.Texts as spec;
+ghost use Rattle.psyn.specs.Texts.{CutsInTwo, ReadsGameText, ReadsCertificateText, ReadsCertified, ReadsCircuitText, ReadsStimulusText, ReadsSimulated, NamesVertices, flaw_text};
 
 use crate::answer::Refusal;
 use crate::cut::cut;
-use crate::fault::{FaultLine, PlainFault, TextFault};
-use ps_aiger::{AigCause, AigFault, Circuit};
-use ps_certificate::{CertCause, CertFault, Certificate, Flaw};
+use crate::fault::{FaultLine, PlainFault};
+use ps_aiger::Circuit;
+use ps_certificate::{Certificate, Flaw};
 use ps_game::NamedGame;
-use ps_pgsolver::{PgCause, PgFault};
-use ps_simulate::{Stimulus, StimulusCause, StimulusFault};
+use ps_simulate::Stimulus;
 use std::alloc::Global;
-
-impl From<PgFault> for Refusal {
-    ghost use Rattle.psyn.specs.Refusals.{game_refusal};
-
-    ghost from_gives = { λ fault given. given ≡ game_refusal fault };
-
-    fn from(fault: PgFault) -> Self {
-        match fault {
-            PgFault::Text { cause, offset } => {
-                let fault = match cause {
-                    PgCause::Syntax => TextFault::GameSyntax,
-                    PgCause::NoSuccessor => TextFault::NoSuccessor,
-                    PgCause::UnknownSuccessor => TextFault::UnknownSuccessor,
-                    PgCause::NodeTwice => TextFault::NodeTwice,
-                    PgCause::Number => TextFault::GameNumber,
-                    PgCause::Limit => TextFault::GameLimit,
-                };
-                Refusal::Fault(FaultLine::Text { fault, offset })
-            }
-            PgFault::OutOfMemory => Refusal::OutOfMemory,
-        }
-    }
-}
-
-impl From<CertFault> for Refusal {
-    ghost use Rattle.psyn.specs.Refusals.{certificate_refusal};
-
-    ghost from_gives = { λ fault given. given ≡ certificate_refusal fault };
-
-    fn from(fault: CertFault) -> Self {
-        match fault {
-            CertFault::Text { cause, offset } => {
-                let fault = match cause {
-                    CertCause::Syntax => TextFault::CertificateSyntax,
-                    CertCause::OtherGame => TextFault::OtherGame,
-                };
-                Refusal::Fault(FaultLine::Text { fault, offset })
-            }
-            CertFault::OutOfMemory => Refusal::OutOfMemory,
-        }
-    }
-}
-
-impl From<AigFault> for Refusal {
-    ghost use Rattle.psyn.specs.Refusals.{circuit_refusal};
-
-    ghost from_gives = { λ fault given. given ≡ circuit_refusal fault };
-
-    fn from(fault: AigFault) -> Self {
-        match fault {
-            AigFault::Text { cause, offset } => {
-                let fault = match cause {
-                    AigCause::Syntax => TextFault::CircuitSyntax,
-                    AigCause::Literal => TextFault::Literal,
-                    AigCause::DefinedTwice => TextFault::DefinedTwice,
-                    AigCause::Undefined => TextFault::Undefined,
-                    AigCause::Cyclic => TextFault::Cyclic,
-                    AigCause::UnsetLatch => TextFault::UnsetLatch,
-                    AigCause::Sections => TextFault::Sections,
-                };
-                Refusal::Fault(FaultLine::Text { fault, offset })
-            }
-            AigFault::OutOfMemory => Refusal::OutOfMemory,
-        }
-    }
-}
-
-impl From<StimulusFault> for Refusal {
-    ghost use Rattle.psyn.specs.Refusals.{stimulus_refusal};
-
-    ghost from_gives = { λ fault given. given ≡ stimulus_refusal fault };
-
-    fn from(fault: StimulusFault) -> Self {
-        match fault {
-            StimulusFault::Text { cause, offset } => {
-                let fault = match cause {
-                    StimulusCause::Width => TextFault::Width,
-                    StimulusCause::Stimulus => TextFault::Stimulus,
-                };
-                Refusal::Fault(FaultLine::Text { fault, offset })
-            }
-            StimulusFault::OutOfMemory => Refusal::OutOfMemory,
-        }
-    }
-}
 
 /// The two texts that a line `%%` parts.
 fn two_texts(texts: &[u8]) -> Result<(&[u8], &[u8]), Refusal>
@@ -179,7 +93,7 @@ pub fn read_simulated(alloc: Global, texts: &[u8]) -> Result<(Circuit, Stimulus)
 /// The line of a flaw, which names vertices by their ids.
 pub fn flaw_line(game: &NamedGame, flaw: Flaw) -> FaultLine
     requires { NamesVertices (vertex_count game.now.game) flaw }
-    ensures { result ≡ spec.flaw_line game.now flaw }
+    ensures { fault_text result ≡ flaw_text game.now flaw }
 {
     match flaw {
         Flaw::Move { vertex, choice } => FaultLine::Move {

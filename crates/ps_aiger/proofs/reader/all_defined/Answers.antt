@@ -1,7 +1,7 @@
 use Rattle.std.proofs.Common.{◌≡◌, List, get_or, take, length, All, sym, ap, subst, arith}
 use Rattle.ps_aiger.specs.declared.cursor.Number.{Number}
 use Rattle.ps_aiger.specs.declared.fault.AigCause.TheVariants.{Undefined}
-use Rattle.ps_aiger.specs.declared.fault.AigFault.TheVariants.{Text}
+use Rattle.ps_text.specs.declared.faults.Fault.TheVariants.{Text}
 use Rattle.ps_aiger.specs.Texts.{IsDefined, IsFirstUndefined}
 use Rattle.ps_aiger.proofs.ReadingLemmas.{known_more, known_all, first_undefined}
 use Rattle.ps_aiger.proofs.reader.all_defined.Goals as goal

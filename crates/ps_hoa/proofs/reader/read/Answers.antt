@@ -9,8 +9,8 @@ use Rattle.ps_hoa.specs.Rows.{body_data}
 use Rattle.ps_hoa.specs.Scan.{next_of, stream_of}
 use Rattle.ps_hoa.specs.Sound.{IsSound}
 use Rattle.ps_hoa.specs.Texts.{file_of, file, Answers, IsFaultOf}
-use Rattle.ps_hoa.specs.declared.fault.HoaFault.{HoaFault}
-use Rattle.ps_hoa.specs.declared.fault.HoaFault.TheVariants.{OutOfMemory}
+use Rattle.ps_hoa.specs.Causes.{HoaFault}
+use Rattle.ps_text.specs.declared.faults.Fault.TheVariants.{OutOfMemory}
 use Rattle.ps_hoa.specs.declared.file.HoaFile.{HoaFile}
 use Rattle.ps_hoa.specs.Tokens.{Sign}
 use Rattle.ps_hoa.specs.Views.{header_data}

@@ -6,7 +6,7 @@ use Rattle.ps_hoa.specs.Header.{IsAlternating}
 use Rattle.ps_hoa.specs.Operands.{number_limit}
 use Rattle.ps_hoa.specs.Scan.{stream_of, next_of}
 use Rattle.ps_hoa.specs.declared.fault.HoaCause.TheVariants.{Alternating}
-use Rattle.ps_hoa.specs.declared.fault.HoaFault.TheVariants.{Text}
+use Rattle.ps_text.specs.declared.faults.Fault.TheVariants.{Text}
 use Rattle.ps_hoa.proofs.HeaderSigns.{least_same}
 use Rattle.ps_hoa.proofs.NextSign.{next_there, next_same, start_there}
 use Rattle.ps_hoa.proofs.OperandLaws.{nothing_apart}

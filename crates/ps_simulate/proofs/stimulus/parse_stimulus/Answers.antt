@@ -2,7 +2,7 @@ use Rattle.std.proofs.Common.{◌≡◌, ◌∙◌, ◌+◌, ◌-◌, ◌≤◌,
 use Rattle.std.specs.Global.{Global}
 use Rattle.std.proofs.lemmas.Result.{err_from_is_err_and}
 use Rattle.ps_simulate.specs.Stimuli.{StimulusData, letters_of}
-use Rattle.ps_simulate.specs.declared.fault.StimulusFault.{StimulusFault}
+use Rattle.ps_simulate.specs.Faults.{StimulusFault}
 use Rattle.ps_simulate.specs.StimulusTexts.{lines_of, spelled, divider, IsAnswer}
 use Rattle.ps_simulate.proofs.StimulusSteps.{HasRead-letter, HasRead-divider, HasRead-same, IsFirst-end, IsAnswer-line, at_line, letters_of-push}
 use Rattle.ps_simulate.proofs.stimulus.parse_stimulus.Goals as goal
