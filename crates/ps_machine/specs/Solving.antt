@@ -1,0 +1,44 @@
+-- What a solver's answer for a game is worth.
+--     IsCertified game c      the certificate fits the game and is valid
+--     AnswersSurely game r      what a sure solver answers: such a certificate, or that memory ran out
+--     NamesVertices game r      a cycle that is answered has vertices of the game only
+--     KeepsText text old new      what a solver holds once it was fed a text
+--     Replays game fed r      the answer is that of reading the text that was fed
+use Rattle.std.specs.Prelude.{◌≡◌, ℕ, ◌<◌, List, Option, None, Some, Result, Ok, Err}
+use Rattle.std.specs.List.{All}
+use Rattle.ps_game.specs.Games.{NamedGameData, vertex_count}
+use Rattle.ps_certificate.specs.Certificates.{CertificateData, Fits, IsValid}
+use Rattle.ps_certificate.specs.Texts.{Reads}
+use Rattle.ps_machine.specs.declared.fault.SolveFault.{SolveFault}
+use Rattle.ps_machine.specs.declared.fault.SolveFault.TheVariants.{BadCycle, Text, OutOfMemory}
+
+pub record IsCertified (game : NamedGameData) (certificate : CertificateData) : Type 0 where
+  pub fits : Fits game.game certificate
+  pub valid : IsValid game.game certificate
+
+abbrev pub AnswersSurely : NamedGameData → Result CertificateData SolveFault → Type 0
+AnswersSurely game (Ok certificate) = IsCertified game certificate
+AnswersSurely game (Err OutOfMemory) = Unit {0}
+AnswersSurely game (Err (BadCycle cycle)) = ⊥
+AnswersSurely game (Err (Text cause offset)) = ⊥
+
+abbrev pub NamesVertices : NamedGameData → Result CertificateData SolveFault → Type 0
+NamesVertices game (Ok certificate) = Unit {0}
+NamesVertices game (Err OutOfMemory) = Unit {0}
+NamesVertices game (Err (BadCycle cycle)) = All (λ v. v < vertex_count game.game) cycle.items
+NamesVertices game (Err (Text cause offset)) = Unit {0}
+
+abbrev pub ReplaysText : NamedGameData → List ℕ → Result CertificateData SolveFault → Type 0
+ReplaysText game text (Ok certificate) = Reads game text (Ok certificate)
+ReplaysText game text (Err OutOfMemory) = Unit {0}
+ReplaysText game text (Err (BadCycle cycle)) = ⊥
+ReplaysText game text (Err (Text cause offset)) = Reads game text (Err (record { cause = cause; offset = offset }))
+
+abbrev pub Replays : NamedGameData → Option (List ℕ) → Result CertificateData SolveFault → Type 0
+Replays game None r = ⊥
+Replays game (Some text) r = ReplaysText game text r
+
+-- a solver that keeps texts keeps that one in the place of the one before
+abbrev pub KeepsText : List ℕ → Option (List ℕ) → Option (List ℕ) → Type 0
+KeepsText text None new = new ≡ None
+KeepsText text (Some old) new = new ≡ Some text

@@ -1,0 +1,54 @@
+//! A solver that answers what it was fed.
+
+ghost use Rattle.std.specs.Prelude.{◌≡◌, [], Some};
+ghost use Rattle.ps_machine.specs.Solving.{Replays};
+
+use crate::fault::SolveFault;
+use crate::solver::Solver;
+use ps_certificate::{CertFault, Certificate, read};
+use ps_game::NamedGame;
+use std::alloc::{AllocError, Global};
+
+/// Reads the text of a certificate that it was fed, and is not sure: what it gives fits the game, and may be wrong.
+#[derive(Drop)]
+pub struct Replay {
+    alloc: Global,
+    text: Vec<u8>,
+}
+
+impl Replay {
+    /// A solver that was fed the empty text.
+    pub fn new(alloc: Global) -> Self
+        ensures { ⟦<Replay as Solver>⟧.fed result ≡ Some [] }
+    {
+        Replay {
+            alloc,
+            text: Vec::new(alloc),
+        }
+    }
+}
+
+impl Solver for Replay {
+    ghost use Rattle.std.specs.Prelude.{false, Some};
+    ghost use Rattle.ps_machine.specs.Solving.{Replays};
+
+    ghost is_sure = { λ _. false };
+
+    ghost fed = { λ r. Some r.text.items };
+
+    ghost may_answer = { λ _ text game answer. Replays game text answer };
+
+    fn feed(&mut self, text: &[u8]) -> Result<(), AllocError> {
+        let kept = text.to_vec(self.alloc)?;
+        self.text = kept;
+        Ok(())
+    }
+
+    fn solve(&mut self, game: &NamedGame) -> Result<Certificate, SolveFault> {
+        match read(self.alloc, &self.text, game) {
+            Ok(certificate) => Ok(certificate),
+            Err(CertFault::Text { cause, offset }) => Err(SolveFault::Text { cause, offset }),
+            Err(CertFault::OutOfMemory) => Err(SolveFault::OutOfMemory),
+        }
+    }
+}
