@@ -1,8 +1,9 @@
-pub mod Attracted
 pub mod Counts
 pub mod Edges
+pub mod Ends
 pub mod FreeCounts
 pub mod Grouping
+pub mod LaidOut
 pub mod Least
 pub mod Parts
 pub mod PlaceIn

@@ -1,4 +1,5 @@
 pub mod Aims
+pub mod Results
 pub mod Sources
 pub mod Steps
 pub mod Tables

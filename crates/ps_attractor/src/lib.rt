@@ -2,10 +2,12 @@
 #![tactic(auto)]
 
 mod aim;
+mod attractor;
 mod sources;
 mod tables;
 mod worklist;
 
 pub use aim::Aim;
+pub use attractor::{Attracted, attract};
 pub use sources::Sources;
 pub use tables::Tables;

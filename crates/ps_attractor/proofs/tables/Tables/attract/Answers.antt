@@ -1,6 +1,6 @@
 use Rattle.std.proofs.Common.{◌≡◌, ◌≤◌, ℕ, length, subst, arith}
 use Rattle.ps_attractor.specs.Steps.{Reaching, From}
-use Rattle.ps_attractor.proofs.Attracted.{attracted}
+use Rattle.ps_attractor.proofs.Ends.{attracted}
 use Rattle.ps_attractor.proofs.tables.Tables.attract.Goals as goal
 
 pub returns-clause-attracted : goal.returns-clause-attracted

@@ -1,0 +1,39 @@
+-- From tables to a region, moves and ranks: what the public answer has of what the worklist left.
+use Rattle.std.specs.Prelude.{◌≡◌, ◌≢◌, ℕ, ◌<◌, ◌≤◌, List, [], length, Option, Some, None, Bool, true, false, IsTrue, slice_index}
+use Rattle.ps_game.specs.Games.{ParityGame, vertex_count, owner_of}
+use Rattle.ps_game.specs.Regions.{has, move_at}
+use Rattle.ps_attractor.specs.declared.attractor.TheConstants.{OUTSIDE, PLACED, FREE}
+use Rattle.ps_attractor.specs.Tables.{TablesData, level_of, place_in}
+use Rattle.ps_attractor.specs.Aims.{StandsFrom}
+
+-- the vertices before n have their levels, and those of the target among them stand in the trail
+pub record AreLaidOut (subgame target : List Bool) (n : ℕ) (tables : TablesData) : Type 0 where
+  pub targets : (v : ℕ) → v < n → IsTrue (has target v) → level_of tables v ≡ PLACED
+  pub frees : (v : ℕ) → v < n → has target v ≡ false → IsTrue (has subgame v) → level_of tables v ≡ FREE
+  pub outside : (v : ℕ) → v < n → has target v ≡ false → has subgame v ≡ false → level_of tables v ≡ OUTSIDE
+  pub later : (v : ℕ) → n ≤ v → level_of tables v ≡ OUTSIDE
+  pub stands : (v : ℕ) → v < n → IsTrue (has target v) → StandsFrom tables 0 v
+  pub only : (j : ℕ) → j < length tables.trail → IsTrue (has target (slice_index tables.trail j))
+  pub before : (j : ℕ) → j < length tables.trail → slice_index tables.trail j < n
+
+-- of the vertices before n the region has just those that were placed
+pub record IsRegionTo (tables : TablesData) (n : ℕ) (region : List Bool) : Type 0 where
+  pub placed : (v : ℕ) → v < n → IsTrue (has region v) → level_of tables v ≡ PLACED
+  pub all : (v : ℕ) → v < n → level_of tables v ≡ PLACED → IsTrue (has region v)
+  pub later : (v : ℕ) → n ≤ v → has region v ≡ false
+
+-- the player's vertices that were placed, outside the target
+pub record Moves (game : ParityGame) (tables : TablesData) (player : ℕ) (target : List Bool) (v : ℕ) : Type 0 where
+  pub placed : level_of tables v ≡ PLACED
+  pub owns : owner_of game v ≡ player
+  pub outside : has target v ≡ false
+
+-- of the vertices before n just those have a move, the one of the tables
+pub record AreMovesTo (game : ParityGame) (tables : TablesData) (player : ℕ) (target : List Bool) (n : ℕ) (moves : List (Option ℕ)) : Type 0 where
+  pub given : (v : ℕ) → v < n → Moves game tables player target v → move_at moves v ≡ Some (slice_index tables.moves v)
+  pub only : (v : ℕ) → v < n → ¬ Moves game tables player target v → move_at moves v ≡ None
+  pub later : (v : ℕ) → n ≤ v → move_at moves v ≡ None
+
+-- the rank of a vertex by a list
+abbrev pub rank_at : List ℕ → ℕ → ℕ
+rank_at rank v = slice_index rank v

@@ -1,0 +1,158 @@
+ghost use Rattle.std.specs.Prelude.{◌≡◌, ◌≢◌, ◌+◌, ◌<◌, ◌≤◌, ℕ, List, [], Bool, false, IfOk, OnOk, IsSome, IsTrue, length, slice_index};
+ghost use Rattle.ps_game.specs.Games.{IsGame, vertex_count, owner_of};
+ghost use Rattle.ps_game.specs.Subgames.{IsWithin, IsSubgame};
+ghost use Rattle.ps_game.specs.Attractors.{IsClosed, Falls, IsLeast};
+ghost use Rattle.ps_game.specs.Regions.{has, move_at};
+ghost use Rattle.ps_attractor.specs.Tables.{FitsGame, level_of, place_in};
+ghost use Rattle.ps_attractor.specs.Aims.{StandsFrom};
+ghost use Rattle.ps_attractor.specs.Results.{AreLaidOut, IsRegionTo, AreMovesTo, rank_at};
+
+use crate::aim::Aim;
+use crate::sources::Sources;
+use crate::tables::Tables;
+use ps_game::{Arena, Region, Strategy, Subgame};
+use std::alloc::{AllocError, Global};
+
+/// The level of the vertices outside the subgame.
+const OUTSIDE: usize = 0;
+
+/// The level of the vertices in the set.
+const PLACED: usize = 1;
+
+/// The level of the other vertices of the subgame.
+const FREE: usize = 2;
+
+/// From where a player can lead every play within a subgame to a target, by which moves, and how far from it.
+#[derive(Drop)]
+pub struct Attracted {
+    /// The vertices from where the player can.
+    pub region: Region,
+    /// A move at each of the player's vertices in the region outside the target.
+    pub moves: Strategy,
+    /// For each vertex of the region a number that falls along the moves.
+    pub rank: Vec<usize>,
+}
+
+/// The attractor of a player to a target within a subgame: the least set with the target, each vertex of the player with
+/// an edge into the set, and each vertex of the other player from which all edges within the subgame lead into it.
+pub fn attract<A: Arena>(
+    alloc: Global,
+    arena: &A,
+    subgame: &Subgame,
+    player: u8,
+    target: &Region,
+) -> Result<Attracted, AllocError>
+    requires subgame { IsSubgame (A.game arena.now) (has subgame.now) }
+    requires target { IsWithin (has target.now) (has subgame.now) }
+    requires subgame_places { length subgame.now ≡ vertex_count (A.game arena.now) }
+    requires target_places { length target.now ≡ vertex_count (A.game arena.now) }
+    ensures places { IfOk result (λ attracted. length attracted.region ≡ vertex_count (A.game arena.now)) }
+    ensures within { IfOk result (λ attracted. IsWithin (has attracted.region) (has subgame.now)) }
+    ensures closed { IfOk result (λ attracted.
+        IsClosed (A.game arena.now) (has subgame.now) player (has target.now) (has attracted.region)) }
+    ensures least { IfOk result (λ attracted.
+        IsLeast (A.game arena.now) (has subgame.now) player (has target.now) (has attracted.region)) }
+    ensures moves { IfOk result (λ attracted. (v : ℕ) → IsSome (move_at attracted.moves v) →
+        IsTrue (has attracted.region v) × (owner_of (A.game arena.now) v ≡ player) × (has target.now v ≡ false)) }
+    ensures falls { IfOk result (λ attracted. Falls (A.game arena.now) (has subgame.now) player (has target.now)
+        (has attracted.region) (move_at attracted.moves) (rank_at attracted.rank.items)) }
+{
+    let count = arena.count();
+    let sources = Sources::of(alloc, arena)?;
+    let mut tables = Tables::new(alloc, count, OUTSIDE)?;
+    lay_out(&mut tables, count, subgame.region(), target)?;
+    let aim = Aim {
+        player,
+        begin: 0,
+        mark: PLACED,
+        free: FREE,
+    };
+    tables.attract(arena, &sources, aim)?;
+    let region = placed_region(alloc, &tables, count)?;
+    let moves = placed_moves(alloc, arena, &tables, player, target)?;
+    let rank = first_places(alloc, &tables, count)?;
+    Ok(Attracted {
+        region,
+        moves,
+        rank,
+    })
+}
+
+/// Gives each vertex its level, and puts those of the target on the trail.
+fn lay_out(
+    tables: &mut Tables,
+    count: usize,
+    subgame: &Region,
+    target: &Region,
+) -> Result<(), AllocError>
+    requires levels { length tables.old.level ≡ count }
+    requires moves { length tables.old.moves ≡ count }
+    requires subgame { length subgame.now ≡ count }
+    requires target { length target.now ≡ count }
+    requires outside { (v : ℕ) → level_of tables.old v ≡ OUTSIDE }
+    requires empty { tables.old.trail ≡ [] }
+    ensures levels { OnOk result (length tables.new.level ≡ count) }
+    ensures moves { OnOk result (length tables.new.moves ≡ count) }
+    ensures laid_out { OnOk result (AreLaidOut subgame.now target.now count tables.new) }
+{
+    for vertex in 0..count {
+        if target.contains(vertex) {
+            tables.place(vertex, PLACED)?;
+        } else if subgame.contains(vertex) {
+            tables.set_level(vertex, FREE);
+        }
+    }
+    Ok(())
+}
+
+/// The vertices that were placed.
+fn placed_region(alloc: Global, tables: &Tables, count: usize) -> Result<Region, AllocError>
+    requires { length tables.now.level ≡ count }
+    ensures places { IfOk result (λ region. length region ≡ count) }
+    ensures placed { IfOk result (IsRegionTo tables.now count) }
+{
+    let mut region = Region::empty(alloc, count)?;
+    for vertex in 0..count {
+        if tables.level(vertex) == PLACED {
+            region.insert(vertex);
+        }
+    }
+    Ok(region)
+}
+
+/// The moves of the player's vertices that were placed, outside the target.
+fn placed_moves<A: Arena>(
+    alloc: Global,
+    arena: &A,
+    tables: &Tables,
+    player: u8,
+    target: &Region,
+) -> Result<Strategy, AllocError>
+    requires levels { length tables.now.level ≡ vertex_count (A.game arena.now) }
+    requires moves { length tables.now.moves ≡ vertex_count (A.game arena.now) }
+    requires target { length target.now ≡ vertex_count (A.game arena.now) }
+    ensures { IfOk result (AreMovesTo (A.game arena.now) tables.now player target.now (vertex_count (A.game arena.now))) }
+{
+    let count = arena.count();
+    let mut moves = Strategy::empty(alloc, count)?;
+    for vertex in 0..count {
+        let placed = tables.level(vertex) == PLACED;
+        if placed && arena.owner(vertex) == player && !target.contains(vertex) {
+            moves.set(vertex, tables.chosen(vertex));
+        }
+    }
+    Ok(moves)
+}
+
+/// The first place of each vertex that stands in the trail.
+fn first_places(alloc: Global, tables: &Tables, count: usize) -> Result<Vec<usize>, AllocError>
+    requires { (j : ℕ) → j < length tables.now.trail → slice_index tables.now.trail j < count }
+    ensures { IfOk result (λ places. (v : ℕ) → StandsFrom tables.now 0 v →
+        slice_index places.items v ≡ place_in tables.now.trail v) }
+{
+    let mut places = vec![in alloc; 0; count]?;
+    for place in (0..tables.placed()).rev() {
+        places[tables.vertex_at(place)] = place;
+    }
+    Ok(places)
+}
