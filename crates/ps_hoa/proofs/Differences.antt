@@ -16,7 +16,7 @@ nat_eq_not a b e = go (nat_eq b a) refl
     go false h = h
     go true h = absurd (let x : b ≡ a = eqb-true b a h in let y : nat_eq a b ≡ true = eq-eqb a b (sym x) in false_true (sym e ∙ y))
 
-different_push : (ns : List ℕ) (n : ℕ) → AreDifferent ns → is_among n ns ≡ false → AreDifferent (ns ++ n ∷ [])
+pub different_push : (ns : List ℕ) (n : ℕ) → AreDifferent ns → is_among n ns ≡ false → AreDifferent (ns ++ n ∷ [])
 different_push [] n a e = (refl, tt)
 different_push (m ∷ ns) n a e = go (nat_eq n m) refl e (different_push ns n a.1)
   where

@@ -10,7 +10,7 @@ use Rattle.ps_text.specs.Answers.{Piece, Stream, next_of as next_sign}
 use Rattle.ps_text.specs.Parts.{Part, NoBad, mapped}
 use Rattle.ps_text.proofs.Covered.{Avoids, Enters, enters_one, enters_mapped}
 use Rattle.ps_text.proofs.Branches.{Stands}
-use Rattle.ps_hoa.specs.Files.{is_among, once}
+use Rattle.ps_hoa.specs.Header.{kept}
 use Rattle.ps_hoa.specs.Header.{HeaderData, name_value, other_value, int, int_in, IsAbove, string, string_in, index, unchanged, read_over, read_over_value, item}
 use Rattle.ps_hoa.specs.Items.{is_item, is_value}
 use Rattle.ps_hoa.specs.Operands.{number_limit}
@@ -43,23 +43,11 @@ only_string k e = absurd (false_true e)
 
 pub enters_index : (ns : List ℕ) (s : Stream Sign) → (next_of s).sign.kind ≡ Int → Enters (index ns) (next_sign s)
 enters_index ns s e = enters_at (index ns) s Int e (λ f. cc)
-    (λ text. enters_mapped (once ns) (int number_limit) (Some (record { kind = Int; text = text })) (enters_one int_in (IsAbove number_limit) (record { kind = Int; text = text }) (inl (_, refl))))
+    (λ text. enters_mapped (kept ns) (int number_limit) (Some (record { kind = Int; text = text })) (enters_one int_in (IsAbove number_limit) (record { kind = Int; text = text }) (inl (_, refl))))
 
 pub enters_string : (h : HeaderData) (s : Stream Sign) → (next_of s).sign.kind ≡ Text → Enters (mapped (unchanged h) string) (next_sign s)
 enters_string h s e = enters_at (mapped (unchanged h) string) s Text e (λ f. cc)
     (λ text. enters_mapped (unchanged h) string (Some (record { kind = Text; text = text })) (enters_one string_in NoBad (record { kind = Text; text = text }) (inl (_, refl))))
-
--- a number that is written again counts once
-list_any-is_among : (n : ℕ) (ns : List ℕ) → list_any (nat_eq n) ns ≡ is_among n ns
-list_any-is_among n [] = refl
-list_any-is_among n (m ∷ ms) = go (nat_eq n m) ∙ ap (λ r. cond (nat_eq n m) true r) (list_any-is_among n ms)
-  where
-    go : (b : Bool) → (b || list_any (nat_eq n) ms) ≡ cond b true (list_any (nat_eq n) ms)
-    go true = refl
-    go false = refl
-
-pub once-insert : (ns : List ℕ) (n : ℕ) → once ns n ≡ cond (list_any (nat_eq n) ns) ns (ns ++ n ∷ [])
-once-insert ns n = ap (λ b. cond b ns (ns ++ n ∷ [])) (sym (list_any-is_among n ns))
 
 -- what is read over
 read_over_at : (h : HeaderData) (kind : Kind) (text : List ℕ) → is_value kind ≡ true → Enters (read_over h) (Some (record { kind = kind; text = text }))

@@ -3,6 +3,7 @@ pub mod Streams
 pub mod Relation
 pub mod Openings
 pub mod SingleSigns
+pub mod Positions
 pub mod NameLemmas
 pub mod NumberLemmas
 pub mod OperandLaws
@@ -30,6 +31,7 @@ pub mod NextSign
 pub mod Keeping
 pub mod SoundLabels
 pub mod Differences
+pub mod Places
 pub mod SoundLaws
 pub mod SoundHeaders
 pub mod IntSigns

@@ -21,8 +21,8 @@ use Rattle.std.specs.Str.{bytes_eq}
 use Rattle.std.proofs.lemmas.Slice.Eq.{bytes_eq-Decides}
 use Rattle.ps_hoa.specs.Header.{is_empty, has_control}
 use Rattle.ps_hoa.specs.Sound.{AreDifferent, AreAliases, AreNames}
-use Rattle.ps_hoa.specs.Files.{once}
-use Rattle.ps_hoa.proofs.Differences.{different_once}
+use Rattle.ps_hoa.specs.Header.{kept}
+use Rattle.ps_hoa.proofs.Places.{different_kept}
 use Rattle.ps_hoa.proofs.OperandLaws.{false_true}
 use Rattle.ps_hoa.proofs.Keeping.{Keeps, keeps_nothing, keeps_less, keeps_give, keeps_one, keeps_then, keeps_either, keeps_mapped, keeps_times, keeps_many}
 use Rattle.ps_hoa.proofs.SoundLabels.{NamesBelow, label_from, keeps_label}
@@ -135,7 +135,7 @@ few_more names t name e good = elim (dec_lt (length names) alias_limit) as (λ _
     )
 
 keeps_index : (ns : List ℕ) → AreDifferent ns → Keeps (index ns) AreDifferent
-keeps_index ns a = keeps_mapped AreDifferent (once ns) (int number_limit) (λ text n i q. different_once ns n a)
+keeps_index ns a = keeps_mapped AreDifferent (kept ns) (int number_limit) (λ text n i q. different_kept ns n a)
 
 -- ## Items
 

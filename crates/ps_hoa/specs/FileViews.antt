@@ -11,9 +11,9 @@ file_data f = record {
   states = f.states;
   start = f.start;
   names = f.names;
-  controllable = f.controllable.keys;
+  controllable = f.controllable;
   aliases = expressions f.aliases;
   sets = f.sets;
   condition = condition_of f.condition;
-  rows = map row_data f.rows.items;
+  rows = map row_data f.rows.rows.items;
 }

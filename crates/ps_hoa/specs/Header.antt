@@ -19,7 +19,6 @@ use Rattle.ps_hoa.specs.Labels as labels
 use Rattle.ps_hoa.specs.Labels.{ScopeData}
 use Rattle.ps_hoa.specs.Conditions as conditions
 use Rattle.ps_hoa.specs.Conditions.{Condition, Conditions}
-use Rattle.ps_hoa.specs.Files.{once}
 use Rattle.ps_hoa.specs.declared.fault.HoaCause.{HoaCause}
 use Rattle.ps_hoa.specs.declared.fault.HoaCause.TheVariants as causes
 use Rattle.ps_hoa.specs.declared.tokens.Kind.{Kind}
@@ -186,8 +185,20 @@ with_acceptance h n c = record h { acceptance = Some (record { sets = n; conditi
 abbrev pub acceptance_item : HeaderData → Part Sign HeaderData HoaCause
 acceptance_item h = then_by (item_name (codes "Acceptance:")) (λ _. then_by (int set_limit) (λ n. mapped (with_acceptance h n) (conditions.condition nesting_limit)))
 
+-- Each proposition has a place, and all numbers that are no proposition's have one together: of them it matters only that there is one.
+abbrev pub place_of : ℕ → ℕ
+place_of n = if nat_lt n proposition_limit then n else proposition_limit
+
+abbrev pub has_place : ℕ → List ℕ → Bool
+has_place place [] = false
+has_place place (n ∷ ns) = if nat_eq place (place_of n) then true else has_place place ns
+
+-- a number is kept where its place is free, so a proposition that is named again counts once
+abbrev pub kept : List ℕ → ℕ → List ℕ
+kept ns n = if has_place (place_of n) ns then ns else ns ++ n ∷ []
+
 abbrev pub index : List ℕ → Part Sign (List ℕ) HoaCause
-index ns = mapped (once ns) (int number_limit)
+index ns = mapped (kept ns) (int number_limit)
 
 abbrev pub with_controllable : HeaderData → List ℕ → HeaderData
 with_controllable h ns = record h { controllable = Some ns }

@@ -22,6 +22,7 @@ pub mod FileViews
 pub mod Codes
 pub mod Signs
 pub mod Ahead
+pub mod RowPlaces
 pub mod Rows
 pub mod Sound
 pub mod Items

@@ -16,9 +16,9 @@ use crate::condition::Cond;
 use crate::fault::HoaFault;
 use crate::file::{Edge, HoaFile, Row};
 use crate::header::{Acceptance, Header};
+use crate::indices::Indices;
 use crate::propositions::Propositions;
 use crate::rows::Rows;
-use indexmap::IndexSet;
 use ps_label::{Label, Labels};
 use std::alloc::{AllocError, Global};
 
@@ -38,8 +38,7 @@ pub(crate) fn file(alloc: Global, header: Header, rows: Rows) -> Result<HoaFile,
         acceptance,
     } = header;
     let start = start.unwrap_or(0);
-    let rows = rows.into_rows();
-    let states = count_of_states(states, start, &rows);
+    let states = count_of_states(states, start, rows.as_slice());
     let aliases = labels(alloc, aliases)?;
     let Acceptance { sets, condition } = acceptance.unwrap_or(Acceptance {
         sets: 0,
@@ -49,7 +48,7 @@ pub(crate) fn file(alloc: Global, header: Header, rows: Rows) -> Result<HoaFile,
         states,
         start,
         names: names.unwrap_or(Propositions::new(alloc)),
-        controllable: controllable.unwrap_or(IndexSet::new(alloc)),
+        controllable: controllable.unwrap_or(Indices::new(alloc)),
         aliases,
         sets,
         condition,

@@ -1,15 +1,17 @@
 //! An automaton as its text says it.
 
-ghost use Rattle.std.specs.Prelude.{◌≡◌, map};
+ghost use Rattle.std.specs.Prelude.{◌≡◌, map, option_copied, option_map};
 ghost use Rattle.ps_label.specs.Truth.{expressions};
+ghost use Rattle.ps_hoa.specs.Edges.{row_of};
 ghost use Rattle.ps_hoa.specs.Values.{condition_of};
 ghost use Rattle.ps_hoa.specs.Memory.{bytes_of};
 ghost use Rattle.ps_hoa.specs.Sound.{IsSound};
 ghost use Rattle.ps_hoa.specs.Views.{row_data};
 
 use crate::condition::Cond;
+use crate::indices::Indices;
 use crate::propositions::Propositions;
-use indexmap::IndexSet;
+use crate::rows::Rows;
 use ps_label::{Label, Labels};
 use smallvec::SmallVec;
 use std::marker::Model;
@@ -55,11 +57,11 @@ pub struct HoaFile {
     pub(crate) states: u32,
     pub(crate) start: u32,
     pub(crate) names: Propositions,
-    pub(crate) controllable: IndexSet<u32>,
+    pub(crate) controllable: Indices,
     pub(crate) aliases: Labels,
     pub(crate) sets: u32,
     pub(crate) condition: Cond,
-    pub(crate) rows: Vec<Row>,
+    pub(crate) rows: Rows,
 }
 
 impl Model for HoaFile {
@@ -141,5 +143,13 @@ impl HoaFile {
         ensures well_formed { IsSound self.now }
     {
         self.rows.as_slice()
+    }
+
+    /// The row of a state, if it has one.
+    pub fn row(&self, state: u32) -> Option<&Row>
+        ensures value { option_map row_data (option_copied result) ≡ row_of self.now state }
+        ensures well_formed { IsSound self.now }
+    {
+        self.rows.of_state(state)
     }
 }

@@ -11,7 +11,7 @@ ghost use Rattle.ps_hoa.specs.Views.{header_data, acceptance_data};
 use crate::condition::Cond;
 use crate::fault::HoaCause;
 use crate::header::{Acceptance, Header};
-use indexmap::IndexSet;
+use crate::indices::Indices;
 use ps_label::Label;
 
 /// The greatest number of a state is below that, where `States:` does not say it.
@@ -155,8 +155,8 @@ fn names_set_beyond(count: u32, condition: &Cond) -> bool
 }
 
 /// Whether a proposition is controllable that there is not.
-fn is_control_beyond(count: usize, controllable: &Option<IndexSet<u32>>) -> bool
-    ensures { (result ≡ true) ↔ parts.IsControlBeyond count (option_map (λ s. s.keys) controllable.now) }
+fn is_control_beyond(count: usize, controllable: &Option<Indices>) -> bool
+    ensures { (result ≡ true) ↔ parts.IsControlBeyond count controllable.now }
 {
     match controllable {
         None => false,

@@ -6,9 +6,9 @@ ghost use Rattle.ps_hoa.specs.Body.{body_scope, sets_of};
 ghost use Rattle.ps_hoa.specs.Views.{header_data};
 
 use crate::condition::Cond;
+use crate::indices::Indices;
 use crate::names::{Names, Scope};
 use crate::propositions::Propositions;
-use indexmap::IndexSet;
 use ps_label::Label;
 use std::alloc::Global;
 
@@ -25,7 +25,7 @@ pub(crate) struct Header<'a> {
     pub(crate) states: Option<u32>,
     pub(crate) start: Option<u32>,
     pub(crate) names: Option<Propositions>,
-    pub(crate) controllable: Option<IndexSet<u32>>,
+    pub(crate) controllable: Option<Indices>,
     pub(crate) alias_names: Names<'a>,
     pub(crate) aliases: Vec<Label>,
     pub(crate) acceptance: Option<Acceptance>,
@@ -68,7 +68,7 @@ impl<'a> Header<'a> {
     }
 
     /// What a label of the body may speak of.
-    pub(crate) fn scope(&self) -> Scope<'_>
+    pub(crate) fn scope(&self) -> Scope<'_, 'a>
         ensures { result ≡ body_scope (header_data self.now) }
     {
         Scope {

@@ -18,6 +18,7 @@ use crate::condition::condition;
 use crate::fault::{HoaCause, HoaFault};
 use crate::flaws::flaw;
 use crate::header::{Acceptance, Header};
+use crate::indices::Indices;
 use crate::label::label;
 use crate::names::{Names, Scope};
 use crate::new_names::{new_alias, propositions};
@@ -25,7 +26,6 @@ use crate::refusal::{fault_at, refused};
 use crate::signs::{int, is_item_name, is_kind, item_name, start_state};
 use crate::skipped::{is_other, name, other, tool};
 use crate::tokens::{Kind, Token, Tokens};
-use indexmap::IndexSet;
 use ps_label::Label;
 use std::alloc::Global;
 
@@ -217,14 +217,14 @@ fn controllable(alloc: Global, tokens: &mut Tokens, header: &mut Header) -> Resu
     Ok(())
 }
 
-/// Reads numbers, each of which counts once.
-fn indices(alloc: Global, tokens: &mut Tokens) -> Result<IndexSet<u32>, HoaFault>
-    ensures { Reads (λ indices. indices.keys) (many parts.index []) tokens.old result tokens.new }
+/// Reads numbers, as far as they are wanted.
+fn indices(alloc: Global, tokens: &mut Tokens) -> Result<Indices, HoaFault>
+    ensures { Reads (λ indices. indices) (many parts.index []) tokens.old result tokens.new }
 {
-    let mut indices = IndexSet::new(alloc);
+    let mut indices = Indices::new(alloc);
     'indices: while tokens.is_at(Kind::Int) {
         let number = int(tokens, u32::MAX)?;
-        indices.insert(number)?;
+        indices.add(number)?;
     }
     Ok(indices)
 }

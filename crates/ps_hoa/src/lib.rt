@@ -14,6 +14,7 @@ mod flaws;
 mod header;
 #[cfg(test)]
 mod header_tests;
+mod indices;
 mod items;
 mod label;
 mod laws;

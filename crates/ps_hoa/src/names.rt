@@ -1,24 +1,31 @@
 //! Names in the order in which they came, each once.
 
-ghost use Rattle.std.specs.Prelude.{◌≡◌, ◌++◌, ◌∷◌, [], None, OnOk, length};
+ghost use Rattle.std.specs.Prelude.{◌≡◌, ◌++◌, ◌∷◌, [], None, OnOk, OnErr, length};
 ghost use Rattle.ps_hoa.specs.Labels.{alias_number};
 
-use indexmap::IndexSet;
-use std::alloc::{AllocFailed, Global};
+use std::alloc::{AllocError, Global};
+use std::collections::BTreeMap;
 use std::marker::Model;
 
-/// Names that are parts of one text, in order; a table finds the number of each.
+/// Names that are parts of one text, in order; an ordered table finds the number of each, whatever the names are.
 #[derive(Drop)]
 pub(crate) struct Names<'a> {
-    table: IndexSet<&'a [u8]>,
+    names: Vec<&'a [u8]>,
+    numbers: BTreeMap<&'a [u8], usize>,
 }
 
 impl<'a> Model for Names<'a> {
-    ghost use Rattle.std.specs.Prelude.{ℕ, List, map};
+    ghost use Rattle.std.specs.BTreeMap.{get_by};
+    ghost use Rattle.std.specs.Cmp.Lexicographic.{slice_cmp};
+    ghost use Rattle.std.specs.Ordering.{nat_cmp};
+    ghost use Rattle.std.specs.Prelude.{ℕ, List, map, ◌≡◌};
+    ghost use Rattle.ps_hoa.specs.Labels.{alias_number};
 
     ghost Value = { List (List ℕ) };
 
-    ghost view = { λ n. map (λ name. name.now) n.table.keys };
+    ghost view = { λ n. map (λ name. name.now) n.names.items };
+
+    ghost invariant = { λ n. (name : List ℕ) → get_by (λ k. slice_cmp nat_cmp name k.now) n.numbers ≡ alias_number (map (λ k. k.now) n.names.items) name };
 }
 
 impl<'a> Names<'a> {
@@ -27,7 +34,8 @@ impl<'a> Names<'a> {
         ensures { result ≡ [] }
     {
         Names {
-            table: IndexSet::new(alloc),
+            names: Vec::new(alloc),
+            numbers: BTreeMap::new(alloc),
         }
     }
 
@@ -35,36 +43,39 @@ impl<'a> Names<'a> {
     pub(crate) fn len(&self) -> usize
         ensures { result ≡ length self.now }
     {
-        self.table.len()
+        self.names.len()
     }
 
     /// The number of a name, if it is one of them.
     pub(crate) fn number(&self, name: &[u8]) -> Option<usize>
         ensures { result ≡ alias_number self.now name.now }
     {
-        self.table.get_index_of(&name)
+        self.numbers.get(name).copied()
     }
 
     /// Adds a name that is none of them.
-    pub(crate) fn push(&mut self, name: &'a [u8]) -> Result<(), AllocFailed<&'a [u8]>>
+    pub(crate) fn push(&mut self, name: &'a [u8]) -> Result<(), AllocError>
         requires { alias_number self.old name.now ≡ None }
-        ensures { OnOk result (self.new ≡ self.old ++ name.now ∷ []) }
+        ensures ok { OnOk result (self.new ≡ self.old ++ name.now ∷ []) }
+        ensures err { OnErr result (self.new ≡ self.old) }
     {
-        let _added = self.table.insert(name)?;
+        self.names.reserve(1)?;
+        self.numbers.insert(name, self.names.len())?;
+        self.names.push(name).unwrap();
         Ok(())
     }
 }
 
 /// What the aliases and propositions of a label may be.
 #[derive(Drop)]
-pub(crate) struct Scope<'a> {
+pub(crate) struct Scope<'s, 'a> {
     /// The aliases that are defined before the label.
-    pub(crate) aliases: &'a Names<'a>,
+    pub(crate) aliases: &'s Names<'a>,
     /// The number of propositions, where it is known.
     pub(crate) propositions: Option<usize>,
 }
 
-impl<'a> Model for Scope<'a> {
+impl<'s, 'a> Model for Scope<'s, 'a> {
     ghost use Rattle.ps_hoa.specs.Labels.{ScopeData};
 
     ghost Value = { ScopeData };

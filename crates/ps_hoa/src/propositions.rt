@@ -4,14 +4,14 @@ ghost use Rattle.std.specs.Prelude.{◌≡◌, ◌++◌, ◌∷◌, [], false, O
 ghost use Rattle.ps_hoa.specs.Header.{is_name_among};
 ghost use Rattle.ps_hoa.specs.Memory.{bytes_of};
 
-use indexmap::IndexSet;
+use crate::tokens::is_same;
 use std::alloc::{AllocFailed, Global};
 use std::marker::Model;
 
-/// The names of the propositions in order, each once; a table finds the names.
+/// The names of the propositions in order, each once. They are few, so that they are looked through.
 #[derive(Debug, Drop)]
 pub struct Propositions {
-    table: IndexSet<Vec<u8>>,
+    names: Vec<Vec<u8>>,
 }
 
 impl Model for Propositions {
@@ -20,7 +20,7 @@ impl Model for Propositions {
 
     ghost Value = { List (List ℕ) };
 
-    ghost view = { λ p. map bytes_of p.table.keys };
+    ghost view = { λ p. map bytes_of p.names.items };
 }
 
 impl Propositions {
@@ -29,7 +29,7 @@ impl Propositions {
         ensures { result ≡ [] }
     {
         Propositions {
-            table: IndexSet::new(alloc),
+            names: Vec::new(alloc),
         }
     }
 
@@ -37,21 +37,21 @@ impl Propositions {
     pub fn len(&self) -> usize
         ensures { result ≡ length self.now }
     {
-        self.table.len()
+        self.names.len()
     }
 
     /// Their names, in order.
     pub fn as_slice(&self) -> &[Vec<u8>]
         ensures { map bytes_of result.now ≡ self.now }
     {
-        self.table.as_slice()
+        self.names.as_slice()
     }
 
     /// Whether one of them has this name.
     pub fn has(&self, name: &[u8]) -> bool
         ensures { result ≡ is_name_among name.now self.now }
     {
-        self.table.contains(name)
+        is_among(name, &self.names)
     }
 
     /// Adds one of a new name.
@@ -60,7 +60,19 @@ impl Propositions {
         ensures ok { OnOk result (self.new ≡ self.old ++ name.items ∷ []) }
         ensures err { OnErr result (self.new ≡ self.old) }
     {
-        let _added = self.table.insert(name)?;
+        self.names.push(name)?;
         Ok(())
     }
+}
+
+/// Whether one of the names is this one.
+fn is_among(name: &[u8], names: &[Vec<u8>]) -> bool
+    ensures { result ≡ is_name_among name.now (map bytes_of names.now) }
+{
+    for other in names {
+        if is_same(name, other) {
+            return true;
+        }
+    }
+    false
 }

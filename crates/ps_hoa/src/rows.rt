@@ -1,20 +1,24 @@
 //! The rows of a body.
 
-ghost use Rattle.std.specs.Prelude.{◌≡◌, ◌+◌, ◌≤◌, OnOk, false, length, map, option_map, option_copied};
+ghost use Rattle.std.specs.BTreeMap.{get};
+ghost use Rattle.std.specs.Ordering.{nat_cmp};
+ghost use Rattle.std.specs.Prelude.{◌≡◌, ℕ, ◌+◌, ◌≤◌, OnOk, false, length, map, option_map, option_copied, slice_get};
 ghost use Rattle.ps_hoa.specs.Body.{edge_limit};
+ghost use Rattle.ps_hoa.specs.Edges.{row_among};
+ghost use Rattle.ps_hoa.specs.RowPlaces.{row_place};
 ghost use Rattle.ps_hoa.specs.Views.{row_data};
 
 use crate::file::Row;
-use indexmap::IndexSet;
 use std::alloc::{AllocError, Global};
+use std::collections::BTreeMap;
 
-/// The rows of a body so far, with a table of their states and the number of their edges.
-#[derive(Drop)]
+/// The rows of a body so far, with a table of their places by state, and the number of their edges.
+#[derive(Debug, Drop)]
 pub(crate) struct Rows {
     rows: Vec<Row>,
-    states: IndexSet<u32>,
+    places: BTreeMap<u32, usize>,
     edges: usize,
-    ghost states_are: { states.keys ≡ map (λ row. row.state) rows.items },
+    ghost places_are: { (state : ℕ) → get nat_cmp places state ≡ row_place state (map row_data rows.items) },
     ghost within: { edges ≤ edge_limit },
 }
 
@@ -28,7 +32,7 @@ impl Rows {
     {
         Rows {
             rows: Vec::new(alloc),
-            states: IndexSet::new(alloc),
+            places: BTreeMap::new(alloc),
             edges: 0,
         }
     }
@@ -45,7 +49,7 @@ impl Rows {
     pub(crate) fn has(&self, state: u32) -> bool
         ensures { result ≡ has_row state (body_data self.now).rows }
     {
-        self.states.contains(&state)
+        self.places.contains_key(&state)
     }
 
     /// The last one, if there is one.
@@ -62,16 +66,31 @@ impl Rows {
         ensures { OnOk result (body_data self.new ≡ with_row (body_data self.old) (row_data row)) }
     {
         self.rows.reserve(1)?;
-        self.states.insert(row.state)?;
+        self.places.insert(row.state, self.rows.len())?;
         self.edges += row.edges.len();
         self.rows.push(row).unwrap();
         Ok(())
     }
 
     /// The rows, in order.
-    pub(crate) fn into_rows(self) -> Vec<Row>
-        ensures { map row_data result.items ≡ (body_data self).rows }
+    pub(crate) fn as_slice(&self) -> &[Row]
+        ensures { map row_data result.now ≡ (body_data self.now).rows }
     {
-        self.rows
+        self.rows.as_slice()
     }
+
+    /// The row of a state, if it has one.
+    pub(crate) fn of_state(&self, state: u32) -> Option<&Row>
+        ensures { option_map row_data (option_copied result) ≡ row_among (body_data self.now).rows state }
+    {
+        let place = *self.places.get(&state)?;
+        row_at(&self.rows, place)
+    }
+}
+
+/// The row at a place, if there is one.
+fn row_at(rows: &[Row], place: usize) -> Option<&Row>
+    ensures { option_copied result ≡ slice_get rows.now place }
+{
+    rows.get(place)
 }

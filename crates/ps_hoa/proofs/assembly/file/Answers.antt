@@ -31,17 +31,13 @@ condition_is : (o : Option Acceptance) → condition_of (unwrap_or o nothing).co
 condition_is None = refl
 condition_is (Some a) = refl
 
-keys_are : {S : Type 0} (keys : S → List ℕ) (o : Option S) (d : S) → keys d ≡ [] → keys (unwrap_or o d) ≡ unwrap_or (option_map keys o) []
-keys_are keys None d e = e
-keys_are keys (Some s) d e = refl
-
 -- the number of states, from what the calls gave
 counted : (states : Option ℕ) (start start' : ℕ) (rows rows' : List RowData) → start ≡ start' → rows ≡ rows' → count_of_states states start rows ≡ count_of_states states start' rows'
 counted states start start' rows rows' e f = λ i. count_of_states states (e i) (f i)
 
 pub count_of_states-states-requires : goal.count_of_states-states-requires
 count_of_states-states-requires c =
-    let rows = ap (map row_data) c.deref.ensures.value ∙ c.into_rows-rows.ensures in
+    let rows = c.as_slice.ensures in
     subst (λ n. n ≤ state_limit) (sym (counted c.args.header.states _ _ _ _ c.unwrap_or-start.ensures rows)) c.requires.states
 
 pub labels-requires : goal.labels-requires
@@ -49,8 +45,8 @@ labels-requires c = aliases_ordered 0 (length (names_of (header_data c.args.head
 
 -- the file is that of the header and the rows where each field is
 file_is : (h : Header) (b : BodyData) (f : Inside) → (let v = file_of (header_data h) b in f.states ≡ v.states) → f.start ≡ unwrap_or h.start 0 → f.names ≡ unwrap_or h.names [] →
-    f.controllable.keys ≡ unwrap_or (option_map (λ s. s.keys) h.controllable) [] → expressions f.aliases ≡ expressions h.aliases.items → f.sets ≡ sets_in (option_map acceptance_data h.acceptance) →
-    condition_of f.condition ≡ condition_in (option_map acceptance_data h.acceptance) → map row_data f.rows.items ≡ b.rows → file_data f ≡ file_of (header_data h) b
+    f.controllable ≡ unwrap_or h.controllable [] → expressions f.aliases ≡ expressions h.aliases.items → f.sets ≡ sets_in (option_map acceptance_data h.acceptance) →
+    condition_of f.condition ≡ condition_in (option_map acceptance_data h.acceptance) → map row_data f.rows.rows.items ≡ b.rows → file_data f ≡ file_of (header_data h) b
 file_is h b f states start names controllable aliases sets condition rows = λ i. record {
   states = states i;
   start = start i;
@@ -64,7 +60,7 @@ file_is h b f states start names controllable aliases sets condition rows = λ i
 
 pub invariant_of-result : goal.invariant_of-result
 invariant_of-result c =
-    let rows = ap (map row_data) c.deref.ensures.value ∙ c.into_rows-rows.ensures in
+    let rows = c.as_slice.ensures in
     let start = c.unwrap_or-start.ensures in
     subst IsSound (sym (file_is c.args.header (body_data c.args.rows) (record {
       states = c.count_of_states-states.result;
@@ -74,20 +70,20 @@ invariant_of-result c =
       aliases = c.in_ok-aliases.aliases;
       sets = c.unwrap_or-sets.result.sets;
       condition = c.unwrap_or-sets.result.condition;
-      rows = c.into_rows-rows.result;
+      rows = c.args.rows;
     })
     (c.count_of_states-states.ensures ∙ counted c.args.header.states _ _ _ _ start rows)
     start
     (c.unwrap_or.ensures ∙ ap (unwrap_or c.args.header.names) c.new.ensures)
-    (ap (λ s. s.keys) c.unwrap_or-2.ensures ∙ keys_are (λ s. s.keys) c.args.header.controllable c.new-2.result c.new-2.ensures.empty)
+    (c.unwrap_or-2.ensures ∙ ap (unwrap_or c.args.header.controllable) c.new-2.ensures)
     (ap expressions c.in_ok-aliases.ensures)
     (ap (λ a. a.sets) c.unwrap_or-sets.ensures ∙ sets_are c.args.header.acceptance)
     (ap (λ a. condition_of a.condition) c.unwrap_or-sets.ensures ∙ condition_is c.args.header.acceptance)
-    c.into_rows-rows.ensures)) c.requires
+    refl)) c.requires
 
 pub returns-clause-value : goal.returns-clause-value
 returns-clause-value c =
-    let rows = ap (map row_data) c.deref.ensures.value ∙ c.into_rows-rows.ensures in
+    let rows = c.as_slice.ensures in
     let start = c.unwrap_or-start.ensures in
     file_is c.args.header (body_data c.args.rows) (record {
       states = c.count_of_states-states.result;
@@ -97,13 +93,13 @@ returns-clause-value c =
       aliases = c.in_ok-aliases.aliases;
       sets = c.unwrap_or-sets.result.sets;
       condition = c.unwrap_or-sets.result.condition;
-      rows = c.into_rows-rows.result;
+      rows = c.args.rows;
     })
     (c.count_of_states-states.ensures ∙ counted c.args.header.states _ _ _ _ start rows)
     start
     (c.unwrap_or.ensures ∙ ap (unwrap_or c.args.header.names) c.new.ensures)
-    (ap (λ s. s.keys) c.unwrap_or-2.ensures ∙ keys_are (λ s. s.keys) c.args.header.controllable c.new-2.result c.new-2.ensures.empty)
+    (c.unwrap_or-2.ensures ∙ ap (unwrap_or c.args.header.controllable) c.new-2.ensures)
     (ap expressions c.in_ok-aliases.ensures)
     (ap (λ a. a.sets) c.unwrap_or-sets.ensures ∙ sets_are c.args.header.acceptance)
     (ap (λ a. condition_of a.condition) c.unwrap_or-sets.ensures ∙ condition_is c.args.header.acceptance)
-    c.into_rows-rows.ensures
+    refl

@@ -36,7 +36,7 @@ returns-then-is_none-3 c =
     (λ e. let wrong : true ≡ false = sym (c.is_start_too_large.ensures.1 e) ∙ c.if-is_start_too_large.false in cc)
     (is_said_some h.start (c.is_none-2.ensures ∙ ap not c.if-is_none-2.false))
     (λ e. let wrong : true ≡ false = sym (c.is_range_broken.ensures.1 e) ∙ c.if-is_range_broken.false in cc)
-    (said_none (λ s. s.keys) h.controllable (c.is_none-3.ensures ∙ ap not c.if-is_none-3.true))
+    (is_said_none h.controllable (c.is_none-3.ensures ∙ ap not c.if-is_none-3.true))
 
 pub returns : goal.returns
 returns c =
@@ -45,4 +45,4 @@ returns c =
     (λ e. let wrong : true ≡ false = sym (c.is_start_too_large.ensures.1 e) ∙ c.if-is_start_too_large.false in cc)
     (is_said_some h.start (c.is_none-2.ensures ∙ ap not c.if-is_none-2.false))
     (λ e. let wrong : true ≡ false = sym (c.is_range_broken.ensures.1 e) ∙ c.if-is_range_broken.false in cc)
-    (said_some (λ s. s.keys) h.controllable (c.is_none-3.ensures ∙ ap not c.if-is_none-3.false))
+    (is_said_some h.controllable (c.is_none-3.ensures ∙ ap not c.if-is_none-3.false))

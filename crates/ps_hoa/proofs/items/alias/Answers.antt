@@ -24,7 +24,7 @@ returns-in_err-label c = let h = header_data c.args.header.now in
 
 pub returns : goal.returns
 returns c = let h = header_data c.args.header.now in
-    let names : h.alias_names ++ c.in_ok-name.name.now ∷ [] ≡ c.push.new.self = sym c.in_ok-push.ensures in
+    let names : h.alias_names ++ c.in_ok-name.name.now ∷ [] ≡ c.push.new.self = sym c.in_ok-push.ensures.ok in
     let labels : h.aliases ++ expression c.in_ok-label.label ∷ [] ≡ map expression c.push-2.new.self.items =
     sym (ap (map expression) c.in_ok-push-2.ensures.items ∙ map-append expression c.args.header.now.aliases.items (c.in_ok-label.label ∷ [])) in
     value_is (alias_item h) _ _ _ _ (λ i. record h { alias_names = names i; aliases = labels i })

@@ -1,16 +1,28 @@
-use Rattle.std.proofs.Common.{◌≡◌, false, cond, ◌∷◌, [], ◌++◌, map, None, sym, ap, subst, ◌∙◌}
-use Rattle.std.specs.List.{list_any}
+-- One more name, and its number in the table.
+use Rattle.std.proofs.Common.{◌≡◌, ◌<◌, true, cond, Bool, ◌++◌, ◌∷◌, [], None, Some, length, map, ap, sym, subst, ◌∙◌, arith}
 use Rattle.std.specs.Str.{bytes_eq}
-use Rattle.std.proofs.lemmas.List.{map-append}
+use Rattle.std.specs.Vec.{vec_len, vec_capacity}
+use Rattle.std.specs.Result.{is_ok}
+use Rattle.std.proofs.lemmas.List.{map-append, length-map}
+use Rattle.std.proofs.lemmas.Map.Text.{btree_map_updates_str}
+use Rattle.std.proofs.lemmas.Slice.Eq.{bytes_eq-Decides}
 use Rattle.ps_hoa.specs.Labels.{alias_number}
-use Rattle.ps_hoa.proofs.NameLemmas.{list_any-alias_number}
+use Rattle.ps_hoa.proofs.Positions.{pushed_position}
 use Rattle.ps_hoa.proofs.names.Names.push.Goals as goal
 
-pub returns : goal.returns
-returns c =
-    let old = c.self.inside.table.keys in
-    let name = c.args.name in
-    let no : list_any (λ x. bytes_eq name.now x.now) old ≡ false =
-    list_any-alias_number (λ x. x.now) name.now old (subst (λ names. alias_number names name.now ≡ None) (sym c.self.view_is) c.requires) in
-    let pushed : c.insert.new.self.keys ≡ old ++ name ∷ [] = c.in_ok-_added.ensures.keys ∙ ap (λ b. cond b old (old ++ name ∷ [])) no in
-    ap (map (λ x. x.now)) pushed ∙ map-append (λ x. x.now) old (name ∷ []) ∙ ap (λ names. names ++ name.now ∷ []) c.self.view_is
+pub invariant_of-self-2 : goal.invariant_of-self-2
+invariant_of-self-2 c = λ other.
+    let old = c.self.inside.names.items in
+    let name = c.args.name.now in
+    let names = map (λ k. k.now) old in
+    let room : vec_len c.reserve.new.self < vec_capacity c.reserve.new.self = omega (arith, c.in_ok-reserve.ensures.ok) in
+    let done : is_ok c.push.result ≡ true = c.push.ensures.succeeds room in
+    let pushed : c.push.new.self.items ≡ old ++ c.args.name ∷ [] =
+    c.push.ensures.items ∙ ap (λ (b : Bool). cond b (c.reserve.new.self.items ++ c.args.name ∷ []) c.reserve.new.self.items) done ∙ ap (λ ns. ns ++ c.args.name ∷ []) c.in_ok-reserve.ensures.items in
+    let same : length c.reserve.new.self.items ≡ length old = ap length c.in_ok-reserve.ensures.items in
+    let count : c.len.result ≡ length names = omega (arith, c.len.ensures, c.reserve.new.self.ok.0, same, length-map old (λ k. k.now)) in
+    let free : alias_number names name ≡ None = subst (λ ns. alias_number ns name ≡ None) (sym c.self.view_is) c.requires in
+    btree_map_updates_str name c.self.inside.numbers c.insert.new.self (Some c.len.result) c.in_ok-insert.ensures.updates other
+    ∙ (λ i. cond (bytes_eq name other) (Some (count i)) (c.self.invariant other i))
+    ∙ pushed_position (λ n. bytes_eq n other) names name (λ e. subst (λ z. alias_number names z ≡ None) ((bytes_eq-Decides name other).0 e) free)
+    ∙ ap (λ ns. alias_number ns other) (sym (map-append (λ k. k.now) old (c.args.name ∷ [])) ∙ sym (ap (map (λ k. k.now)) pushed))

@@ -1,16 +1,26 @@
-use Rattle.std.proofs.Common.{◌≡◌, ◌<◌, true, cond, Bool, ◌++◌, ◌∷◌, [], ap, ◌∙◌, arith}
+-- One more row, and its place in the table.
+use Rattle.std.proofs.Common.{◌≡◌, ◌<◌, true, cond, Bool, ◌++◌, ◌∷◌, [], Some, length, map, ap, sym, ◌∙◌, arith}
 use Rattle.std.specs.Vec.{vec_len, vec_capacity}
 use Rattle.std.specs.Result.{is_ok}
-use Rattle.ps_hoa.proofs.RowTable.{pushed_row}
+use Rattle.std.proofs.lemmas.List.{map-append, length-map}
+use Rattle.ps_hoa.specs.RowPlaces.{row_place}
+use Rattle.ps_hoa.specs.Views.{row_data}
+use Rattle.ps_hoa.proofs.RowTable.{nat_same, place_push}
 use Rattle.ps_hoa.proofs.rows.Rows.push.Goals as goal
 
-pub invariant_of-self-2-clause-states_are : goal.invariant_of-self-2-clause-states_are
-invariant_of-self-2-clause-states_are c =
+pub invariant_of-self-2-clause-places_are : goal.invariant_of-self-2-clause-places_are
+invariant_of-self-2-clause-places_are c = λ state.
+    let rows = c.args.self.now.rows.items in
     let room : vec_len c.reserve.new.self < vec_capacity c.reserve.new.self = omega (arith, c.in_ok-reserve.ensures.ok) in
     let done : is_ok c.push.result ≡ true = c.push.ensures.succeeds room in
-    pushed_row c.args.self.now.rows.items c.push.new.self.items c.args.row c.args.self.now.states.keys c.insert.new.self.keys c.args.self.now.states_are
-    (c.push.ensures.items ∙ ap (λ (b : Bool). cond b (c.reserve.new.self.items ++ c.args.row ∷ []) c.reserve.new.self.items) done ∙ ap (λ rows. rows ++ c.args.row ∷ []) c.in_ok-reserve.ensures.items)
-    c.requires.new c.in_ok-insert.ensures.keys
+    let pushed : c.push.new.self.items ≡ rows ++ c.args.row ∷ [] =
+    c.push.ensures.items ∙ ap (λ (b : Bool). cond b (c.reserve.new.self.items ++ c.args.row ∷ []) c.reserve.new.self.items) done ∙ ap (λ rs. rs ++ c.args.row ∷ []) c.in_ok-reserve.ensures.items in
+    let same : length c.reserve.new.self.items ≡ length rows = ap length c.in_ok-reserve.ensures.items in
+    let count : c.len.result ≡ length (map row_data rows) = omega (arith, c.len.ensures, c.reserve.new.self.ok.0, same, length-map rows row_data) in
+    c.in_ok-insert.ensures.updates.0 state
+    ∙ (λ i. cond (nat_same c.args.row.state state i) (Some (count i)) (c.args.self.now.places_are state i))
+    ∙ place_push state (map row_data rows) (row_data c.args.row) c.requires.new
+    ∙ ap (row_place state) (sym (map-append row_data rows (c.args.row ∷ [])) ∙ sym (ap (map row_data) pushed))
 
 pub invariant_of-self-2-clause-within : goal.invariant_of-self-2-clause-within
-invariant_of-self-2-clause-within c = omega (arith, c.requires.within, c.len.ensures, c.args.row.edges.ok.0)
+invariant_of-self-2-clause-within c = omega (arith, c.requires.within, c.len-2.ensures, c.args.row.edges.ok.0)
