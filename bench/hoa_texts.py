@@ -5,11 +5,15 @@
 
 psyn has no command yet that reads HOA texts alone, so a program of a few lines (SOURCE) is made in a temporary folder, over
 copies of the crates with what earlier checks kept in out/. It reads one text and prints how many rows it has, or where it is
-refused. --program gives one that was made before. Texts of 1, 2, 4, 8 and 16 MiB are made in four ways:
+refused. --program gives one that was made before. Texts of 1, 2, 4, 8 and 16 MiB are made in these ways:
     edges      states with many edges, each with a short label and a set
     labels     few edges with long labels over propositions and aliases
     implicit   states with implicit labels over 8 propositions
     header     unknown items with many values, strings and comments
+    aliases    4,096 aliases of short names, and labels that use them
+    alike      the same with long names that differ in their last bytes alone
+    repeated   `controllable-AP:` with the same numbers again and again
+    numbers    `controllable-AP:` with numbers that all differ
 Prints the time of each run, and its growth against the growth of the text (1.00 is growth in proportion).
 """
 import os
@@ -28,6 +32,7 @@ SOURCE = """\
 #![tactic(auto)]
 
 use ps_hoa::{HoaFault, read};
+use ps_text::faults::Cause;
 use std::io;
 use std::io::Read;
 
@@ -82,6 +87,33 @@ def header(size):
     return filled(HEADER + "\n", size, lambda k: f'remark-{k}: some words {k} "and a \\"string\\"" /* and /* a */ comment */ t\n', "--BODY-- --END--\n")
 
 
+def uses(size, name_of):
+    """Aliases of these names, and labels with them as far as the text goes."""
+    head = HEADER + "\n" + "".join(f"Alias: {name_of(k)} {k % 8}\n" for k in range(4096)) + "--BODY--\n"
+    return filled(head, size, lambda k: f"State: {k} [{' & '.join(name_of((k * 61 + e * 997) % 4096) for e in range(16))}] 0\n")
+
+
+def aliases(size):
+    return uses(size, lambda k: f"@{k}")
+
+
+def alike(size):
+    return uses(size, lambda k: "@" + "n" * 100 + f"{k:04}")
+
+
+def listed(size, number_of):
+    head = HEADER.replace("controllable-AP: 0 1 ", "") + " controllable-AP:"
+    return filled(head, size, lambda k: f" {number_of(k)}", "\n--BODY-- --END--\n")
+
+
+def repeated(size):
+    return listed(size, lambda k: 1000000000 + k % 64)
+
+
+def numbers(size):
+    return listed(size, lambda k: 1000000000 + k)
+
+
 def made(folder):
     """Makes the program in a folder."""
     crates = os.path.join(folder, "crates")
@@ -95,14 +127,14 @@ def made(folder):
     with open(os.path.join(TOP, "crates.txt"), encoding="utf-8") as file:
         lines = [line for line in file if line.split(":")[0] in ("ps_text", "ps_label", "ps_hoa")]
     with open(os.path.join(folder, "crates.txt"), "w", encoding="utf-8") as file:
-        file.writelines(lines + ["hoa_time: ps_hoa\n"])
+        file.writelines(lines + ["hoa_time: ps_hoa ps_text\n"])
     subprocess.run(["git", "init", "-q"], cwd=folder, check=True)
     subprocess.run(["rt", "run"], cwd=os.path.join(crates, "hoa_time"), check=True, input=b"", stdout=subprocess.DEVNULL)
     return os.path.join(crates, "hoa_time", "out", "hoa_time")
 
 
 def measure(program):
-    for family in (edges, labels, implicit, header):
+    for family in (edges, labels, implicit, header, aliases, alike, repeated, numbers):
         before = None
         for size in SIZES:
             text = family(size * MIB).encode()

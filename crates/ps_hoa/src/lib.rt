@@ -21,7 +21,7 @@ mod laws;
 mod names;
 mod new_names;
 mod number;
-pub mod opening;
+mod opening;
 mod propositions;
 mod reader;
 mod refusal;

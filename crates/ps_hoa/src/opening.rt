@@ -34,7 +34,7 @@ fn version_at(bytes: &[u8]) -> usize
 ///
 /// `Limit` where the text is too long, `NotHoa` where it does not begin with `HOA:`, and `Version` where
 /// the version is not `v1`.
-pub fn opened(text: &[u8]) -> Result<Tokens<'_>, HoaFault>
+pub(crate) fn opened(text: &[u8]) -> Result<Tokens<'_>, HoaFault>
     // What the tokens mean, or the first cause in them, is the answer to the text.
     ensures tokens { IfOk result (λ tokens. (answer : Result FileData (Found HoaCause)) → PartAnswers hoa_causes file (stream_of tokens) answer → Reads text.now answer) }
     // A refusal is the first cause of the text.

@@ -486,6 +486,8 @@ impl<'a> Tokens<'a> {
         ensures rest { stream_of self.new ≡ behind_next (stream_of self.old) }
         ensures text { IsSpan self.old.source result }
         ensures source { self.new.source ≡ self.old.source }
+        // So a token starts no sooner than the one before it stops.
+        ensures start { result.start ≡ self.old.at }
         ensures rises { result.stop ≤ self.new.at }
     {
         let (kind, stop) = self.found();
