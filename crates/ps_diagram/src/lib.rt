@@ -7,16 +7,13 @@
 //! |---|---|
 //! | `leaf(value)` | `value` |
 //! | `none()` | none |
-//! | `of_letter(letter)` | 1 at that letter, none elsewhere |
-//! | `of_label(labels, label)` | 1 where the label is true, none elsewhere |
 //! | `overlay(first, second)` | that of the first, or else that of the second; `Clash` exactly where two differ |
 //! | `guard(node, value)` | `value` where the node has a leaf, else none |
 //! | `fill(node, value)` | that of the node, or else `value` |
 //! | `relabel(node, values)` | `values[k]` where the node has k, else none |
 //!
-//! Each of these calls, and `classes`, keeps each node that was held, with the same leaf at each letter, also where it
-//! fails (`Keeps`). `eval`, `same` and `view` read a node and take no memory. `path_to`, `leaves` and `classes` name
-//! least letters: letters are ordered by the first proposition at which they differ, false first.
+//! Each of these calls keeps each node that was held, with the same leaf at each letter, also where it fails (`Keeps`).
+//! `eval`, `same` and `view` read a node and take no memory. `copy` is a store of the same value.
 #![tactic(auto)]
 
 mod fault;
@@ -29,3 +26,6 @@ pub mod view;
 pub use fault::OverlayError;
 pub use store::Store;
 pub use view::{Node, View};
+
+#[cfg(test)]
+mod tests;
