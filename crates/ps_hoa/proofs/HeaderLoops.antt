@@ -3,9 +3,7 @@
 --     enters_index, enters_string, enters_read_over      the parts that a kind decides
 --     named_at, not_named_at      the next sign is a name, or is not; is_other_item, if it is none of those of items
 --     stands_at, enters_next, avoids_item      an item begins, or none does
-use Rattle.std.proofs.Common.{◌≡◌, ◌⊎◌, ◌||◌, ℕ, Bool, true, false, cond, List, [], ◌∷◌, ◌++◌, codes, Option, None, Some, is_some, refl, sym, ap, subst, inl, inr, ⊎_elim, ◌∙◌}
-use Rattle.std.specs.List.{list_any}
-use Rattle.std.specs.Prelude.{nat_eq}
+use Rattle.std.proofs.Common.{◌≡◌, ◌⊎◌, ◌||◌, ℕ, Bool, true, false, List, [], ◌∷◌, codes, Option, None, Some, is_some, refl, sym, ap, subst, inl, inr, ⊎_elim, ◌∙◌}
 use Rattle.ps_text.specs.Answers.{Piece, Stream, next_of as next_sign}
 use Rattle.ps_text.specs.Parts.{Part, NoBad, mapped}
 use Rattle.ps_text.proofs.Covered.{Avoids, Enters, enters_one, enters_mapped}

@@ -1,7 +1,7 @@
 -- The first place that passes a test, behind one more element.
 --     pushed_position      the place is found as before, or it is the new one
 --     passed_any      there is one where some element passes
-use Rattle.std.proofs.Common.{◌≡◌, ℕ, suc, ◌+◌, ◌<◌, ◌≤◌, Bool, true, false, cond, not, eqb, List, [], ◌∷◌, ◌++◌, length, None, Some, refl, sym, ap, ◌∙◌, arith, length-append}
+use Rattle.std.proofs.Common.{◌≡◌, ℕ, suc, ◌+◌, ◌≤◌, Bool, true, false, cond, not, eqb, List, [], ◌∷◌, ◌++◌, length, None, Some, refl, sym, ap, ◌∙◌, arith, length-append}
 use Rattle.std.specs.List.{position, position_or_len}
 use Rattle.std.specs.Prelude.{nat_lt, Option}
 use Rattle.std.proofs.lemmas.List.Folds.{position_or_len_push}

@@ -3,7 +3,7 @@
 --     aliases_ordered      so are its aliases
 --     sound_row, sound_edge      each row is sound, and so is each edge
 --     row_of_state      so is the row of a state, and it is of that state
-use Rattle.std.proofs.Common.{◌≡◌, ℕ, zero, suc, ◌+◌, ◌<◌, ◌≤◌, Bool, true, false, cond, List, [], ◌∷◌, length, Option, None, Some, refl, sym, ap, subst, ◌∙◌, arith, get_or}
+use Rattle.std.proofs.Common.{◌≡◌, ℕ, zero, suc, ◌+◌, ◌<◌, ◌≤◌, Bool, true, false, cond, List, [], ◌∷◌, length, Some, refl, sym, ap, subst, ◌∙◌, arith}
 use Rattle.std.specs.List.{All, AllByRecursion, slice_get}
 use Rattle.std.specs.Option.{IfSome}
 use Rattle.std.specs.Prelude.{nat_eq}
@@ -11,7 +11,7 @@ use Rattle.std.proofs.lemmas.Bool.{eqb-true}
 use Rattle.ps_label.specs.Expression.{Expression, constant, proposition, alias, not_of, all_of, any_of, Operands, last, more, IsWithin, AreWithin, AreOrderedFrom, AreOrdered}
 use Rattle.ps_text.proofs.Simple.{none_is_some, same_some}
 use Rattle.ps_hoa.specs.Edges.{row_among, row_of}
-use Rattle.ps_hoa.specs.Files.{GuardData, EdgeData, RowData, FileData, stated, of_state, at_letter}
+use Rattle.ps_hoa.specs.Files.{EdgeData, RowData, FileData, stated}
 use Rattle.ps_hoa.specs.Sound.{IsLabel, AreLabels, AreAliases, IsGuard, IsSoundEdge, IsSoundRow, IsSound}
 
 mutual
