@@ -6,7 +6,7 @@ use Rattle.ps_automaton.specs.Chains.{Link, Chain, chain_of, chain_of_all, link_
 
 -- ## The greatest number
 
-raised_more : (accepts : Bool) (next : ℕ) → next ≤ raised accepts next
+pub raised_more : (accepts : Bool) (next : ℕ) → next ≤ raised accepts next
 raised_more true next = elim (is_even next) as (λ b. next ≤ cond b next (next + 1)) [ true ↦ omega arith | false ↦ omega arith ]
 raised_more false next = elim (is_even next) as (λ b. next ≤ cond b (next + 1) next) [ true ↦ omega arith | false ↦ omega arith ]
 
@@ -29,7 +29,7 @@ base_even : (base : Bool) → is_even (base_number base) ≡ base
 base_even true = refl
 base_even false = refl
 
-level_below_first : (base : Bool) (links : List Link) (has : ℕ → Bool) → level_by base links has ≤ first_number base links
+pub level_below_first : (base : Bool) (links : List Link) (has : ℕ → Bool) → level_by base links has ≤ first_number base links
 level_below_first base [] has = omega arith
 level_below_first base (link ∷ links) has =
     let below : level_by base links has ≤ first_number base links = level_below_first base links has in

@@ -6,3 +6,5 @@ pub mod Autos
 pub mod Acceptance
 pub mod Automata
 pub mod Returning
+pub mod Numbering
+pub mod Targets

@@ -174,7 +174,7 @@ impl Automaton {
         for _round in 0..laps {
             let step = self.read(reached, lap);
             reached = step.state;
-            greatest = step.priority.max(greatest);
+            greatest = greatest.max(step.priority);
         }
         greatest
     }

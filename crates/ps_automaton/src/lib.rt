@@ -4,7 +4,9 @@
 mod automaton;
 mod chain;
 mod laws;
+mod numbers;
 mod step;
+mod targets;
 
 pub use automaton::Automaton;
 pub use laws::greatest_level_decides;

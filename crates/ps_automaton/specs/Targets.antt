@@ -1,0 +1,11 @@
+-- What an edge leads to: a state, and sets as a mask. (Of private functions.)
+use Rattle.std.specs.Prelude.{◌≡◌, ℕ, ◌^◌, ◌<◌}
+use Rattle.ps_label.specs.Truth.{is_in}
+use Rattle.ps_hoa.specs.Files.{EdgeData, RowData}
+use Rattle.ps_hoa.specs.Edges.{is_marked}
+use Rattle.ps_automaton.specs.declared.targets.Target.{Target}
+
+pub record IsTargetOf (row : RowData) (edge : EdgeData) (target : Target) : Type 0 where
+  pub state : target.state ≡ edge.target
+  pub few : target.sets < 2 ^ 64
+  pub sets : (set : ℕ) → set < 64 → is_in set target.sets ≡ is_marked row edge set

@@ -1,0 +1,80 @@
+//! The numbers that a chain gives to edges.
+
+ghost use Rattle.std.specs.Prelude.{◌≡◌, ◌^◌, ◌<◌};
+ghost use Rattle.ps_label.specs.Truth as labels;
+ghost use Rattle.ps_automaton.specs.Chains as chains;
+ghost use Rattle.ps_automaton.specs.Chains.{level, raised};
+ghost use Rattle.ps_automaton.specs.Numbering.{AreSetsBelow, IsTable};
+ghost use Rattle.ps_automaton.specs.Views.{chain_data};
+
+use crate::chain::Chain;
+
+/// How many sets there may be.
+const SETS: usize = 64;
+
+/// The number of an edge that has none of a chain's sets, and that of an edge with one set alone.
+#[derive(Clone, Copy)]
+pub(crate) struct Numbers {
+    base: u64,
+    by_set: [u64; SETS],
+}
+
+/// The numbers of a chain, from its end forwards.
+pub(crate) fn table_of(chain: &Chain) -> Numbers
+    requires { AreSetsBelow 64 (chain_data chain.now).links }
+    ensures { IsTable (chain_data chain.now) result.base result.by_set }
+{
+    let base = base_number(chain.base);
+    let mut by_set = [base; SETS];
+    let mut number = base;
+    let mut k = chain.links.len();
+    while k > 0 {
+        k -= 1;
+        let link = chain.links[k];
+        number = raised_number(link.accepts, number);
+        by_set[link.set as usize] = number;
+    }
+    Numbers { base, by_set }
+}
+
+/// The number of a base.
+fn base_number(base: bool) -> u64
+    ensures { result ≡ chains.base_number base }
+{
+    if base { 0 } else { 1 }
+}
+
+/// Whether a set is in a mask.
+fn is_in(set: usize, sets: u64) -> bool
+    requires { set < 64 }
+    ensures { result ≡ labels.is_in set sets }
+{
+    sets >> set & 1 == 1
+}
+
+/// The number of a link in front of one with that number.
+fn raised_number(accepts: bool, next: u64) -> u64
+    requires { next < 2 ^ 63 }
+    ensures { result ≡ raised accepts next }
+{
+    if (next % 2 == 0) == accepts {
+        next
+    } else {
+        next + 1
+    }
+}
+
+impl Numbers {
+    /// The number of an edge with the sets of a mask.
+    pub(crate) fn level(&self, sets: u64) -> u64
+        ensures { (chain : chains.Chain) → AreSetsBelow 64 chain.links → IsTable chain self.now.base self.now.by_set → result ≡ level chain (λ set. labels.is_in set sets) }
+    {
+        let mut greatest = self.base;
+        for (set, number) in self.by_set.iter().enumerate() {
+            if is_in(set, sets) {
+                greatest = greatest.max(*number);
+            }
+        }
+        greatest
+    }
+}

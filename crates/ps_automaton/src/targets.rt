@@ -1,0 +1,40 @@
+//! What an edge leads to.
+
+ghost use Rattle.std.specs.Prelude.{◌≡◌, ℕ, ◌<◌, ◌||◌, All};
+ghost use Rattle.ps_label.specs.Truth.{is_in};
+ghost use Rattle.ps_hoa.specs.Files.{is_among};
+ghost use Rattle.ps_hoa.specs.Views.{edge_data, row_data};
+ghost use Rattle.ps_automaton.specs.Targets.{IsTargetOf};
+
+use ps_hoa::{Edge, Row};
+
+/// A state, and the sets of the edge that leads to it and of the edge's state, as a mask.
+#[derive(Clone, Copy, PartialEq, Eq, Hash)]
+pub(crate) struct Target {
+    pub state: u32,
+    pub sets: u64,
+}
+
+/// What an edge of a row leads to.
+pub(crate) fn target_of(row: &Row, edge: &Edge) -> Target
+    requires row { All (λ set. set < 64) row.now.marks.items }
+    requires edge { All (λ set. set < 64) edge.now.marks.items }
+    ensures { IsTargetOf (row_data row.now) (edge_data edge.now) result }
+{
+    Target {
+        state: edge.target,
+        sets: mask_of(row.marks.as_slice()) | mask_of(edge.marks.as_slice()),
+    }
+}
+
+/// Sets as a mask: each is a bit.
+fn mask_of(sets: &[u32]) -> u64
+    requires { All (λ set. set < 64) sets.now }
+    ensures { (set : ℕ) → set < 64 → is_in set result ≡ is_among set sets.now }
+{
+    let mut mask = 0;
+    for set in sets {
+        mask |= 1 << *set;
+    }
+    mask
+}
