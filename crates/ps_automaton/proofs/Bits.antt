@@ -1,5 +1,5 @@
 -- Sets as the bits of a number.
-use Rattle.std.proofs.Common.{◌≡◌, ℕ, ◌+◌, ◌*◌, ◌^◌, ◌%◌, ◌<◌, ◌⊎◌, inl, inr, max, suc, zero, Bool, true, false, cond, List, [], ◌∷◌, length, drop, get_or, refl, ap, sym, ◌∙◌, arith, add-one, drop-cons, bit_or}
+use Rattle.std.proofs.Common.{◌≡◌, ℕ, ◌+◌, ◌*◌, ◌^◌, ◌%◌, ◌<◌, inl, inr, max, suc, zero, Bool, true, false, cond, List, ◌∷◌, length, drop, get_or, refl, ap, sym, ◌∙◌, arith, add-one, drop-cons, bit_or}
 use Rattle.std.specs.Prelude.{◌||◌, nat_eq}
 use Rattle.std.specs.Int.{bit_at}
 use Rattle.std.proofs.lemmas.Bool.{cases_eq, eq-eqb, ne_eqb}
@@ -34,8 +34,8 @@ or_shuffled false false c = refl
 pub one_set_more : (set mask m : ℕ) (rest : List ℕ) → m < 64 → (is_in set (bit_or mask (1 * 2 ^ m % 2 ^ 64)) || is_among set rest) ≡ (is_in set mask || is_among set (m ∷ rest))
 one_set_more set mask m rest small =
     ap (λ n. is_in set (bit_or mask n) || is_among set rest) (one_shl m 64 small)
-        ∙ ap (λ (b : Bool). b || is_among set rest) (in_or set mask (2 ^ m) ∙ ap (λ (b : Bool). is_in set mask || b) (in_power set m))
-        ∙ or_shuffled (is_in set mask) (nat_eq set m) (is_among set rest)
+    ∙ ap (λ (b : Bool). b || is_among set rest) (in_or set mask (2 ^ m) ∙ ap (λ (b : Bool). is_in set mask || b) (in_power set m))
+    ∙ or_shuffled (is_in set mask) (nat_eq set m) (is_among set rest)
 
 pub from_place : (sets : List ℕ) (k : ℕ) → k < length sets → drop k sets ≡ get_or sets k 0 ∷ drop (k + 1) sets
 from_place sets k within = drop-cons sets k 0 within ∙ ap (λ n. get_or sets k 0 ∷ drop n sets) (sym (add-one k))

@@ -97,6 +97,7 @@ attained base (link ∷ links) has small = by_first (has link.colour) refl (atta
     by_set set not_first is =
         let other : nat_eq link.colour set ≡ false = ne_eqb link.colour set (λ e. let wrong : false ≡ true = sym not_first ∙ ap has e ∙ is in cc) in
         ap (λ (b : Bool). cond b (first_number base (link ∷ links)) (alone base links set)) other
+
     by_first : (b : Bool) → has link.colour ≡ b → (level_by base links has ≡ base_number base) ⊎ Attained base links has →
         (cond b (first_number base (link ∷ links)) (level_by base links has) ≡ base_number base) ⊎ Attained base (link ∷ links) has
     by_first true first before = inr (record {
@@ -118,7 +119,7 @@ pub most_is_level : (chain : Chain) (base : ℕ) (numbers : List ℕ) (has : ℕ
 most_is_level chain base numbers has small table =
     let low : base ≤ level chain has = (let is = table.base_is in let below = base_below_level chain.base chain.links has in omega (arith, is, below)) in
     let above : most base numbers has 64 ≤ level chain has = most_below base numbers has 64 (level chain has) low (λ s h is.
-        let value = table.by_set_is s h in let below = alone_below_level chain.base chain.links has s is in omega (arith, value, below)) in
+    let value = table.by_set_is s h in let below = alone_below_level chain.base chain.links has s is in omega (arith, value, below)) in
     let below : level chain has ≤ most base numbers has 64 = elim (attained chain.base chain.links has small) [
       | inl is ↦ (let e = table.base_is in let l = base_below_most base numbers has 64 in omega (arith, is, e, l))
       | inr a ↦ (let e = table.by_set_is a.set a.small in let l = set_below_most base numbers has 64 a.set a.small a.has_it in let is = a.is in omega (arith, is, e, l))
@@ -139,9 +140,9 @@ link_before links k link some within is =
     let low : k - 1 < length links = omega arith in
     let next : suc (k - 1) ≡ k = omega arith in
     drop-map link_data (k - 1) links ∙ ap (map link_data) (drop-cons links (k - 1) link low)
-        ∙ ap (λ (l : code.Link). link_data l ∷ map link_data (drop (suc (k - 1)) links)) (sym is)
-        ∙ ap (λ n. link_data link ∷ map link_data (drop n links)) next
-        ∙ ap (λ (xs : List Link). link_data link ∷ xs) (sym (drop-map link_data k links))
+    ∙ ap (λ (l : code.Link). link_data l ∷ map link_data (drop (suc (k - 1)) links)) (sym is)
+    ∙ ap (λ n. link_data link ∷ map link_data (drop n links)) next
+    ∙ ap (λ (xs : List Link). link_data link ∷ xs) (sym (drop-map link_data k links))
 
 pub set_of_link : (links : List code.Link) (k : ℕ) (link : code.Link) → AreSetsBelow 64 (map link_data links) → k < length links → link ≡ get_or links k link → link.set < 64
 set_of_link links k link small within is =
@@ -154,6 +155,7 @@ table_step base link rest numbers number s size small is before = by_colour (nat
   where
     inside : link.colour < length numbers
     inside = omega (arith, size, small)
+
     by_colour : (b : Bool) → nat_eq link.colour s ≡ b → get_or (set numbers link.colour number) s 0 ≡ cond b (first_number base (link ∷ rest)) (alone base rest s)
     by_colour true same =
         let e : s ≡ link.colour = sym (eqb-true link.colour s same) in

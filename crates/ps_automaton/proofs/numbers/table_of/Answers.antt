@@ -1,4 +1,4 @@
-use Rattle.std.proofs.Common.{Bool, List, ℕ, ◌-◌, ◌≤◌, ap, sym, ◌∙◌, refl, arith, map, drop, nat_eq}
+use Rattle.std.proofs.Common.{List, ◌-◌, ◌≤◌, ap, sym, ◌∙◌, refl, arith, map, drop, nat_eq}
 use Rattle.ps_automaton.specs.Chains.{Link, base_number, first_number, level_by, raised}
 use Rattle.std.proofs.lemmas.List.{get_or-replicate, length-set}
 use Rattle.ps_automaton.specs.Views.{link_data}

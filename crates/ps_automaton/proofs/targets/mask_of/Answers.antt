@@ -10,5 +10,5 @@ loop-set-preserved c = λ set small.
     let sets = c.args.sets.now in
     let k = c.loop-set.set-index in
     one_set_more set c.loop-set.mask (get_or sets k 0) (drop (k + 1) sets) (c.requires k 0 c.loop-set-test.true)
-        ∙ ap (λ (xs : List ℕ). is_in set c.loop-set.mask || is_among set xs) (sym (from_place sets k c.loop-set-test.true))
-        ∙ c.loop-set.invariant set small
+    ∙ ap (λ (xs : List ℕ). is_in set c.loop-set.mask || is_among set xs) (sym (from_place sets k c.loop-set-test.true))
+    ∙ c.loop-set.invariant set small

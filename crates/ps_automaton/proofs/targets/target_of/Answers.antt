@@ -1,7 +1,5 @@
-use Rattle.std.proofs.Common.{Bool, List, ℕ, ap, ◌∙◌, refl}
-use Rattle.std.specs.Prelude.{◌||◌}
+use Rattle.std.proofs.Common.{◌∙◌, refl}
 use Rattle.std.proofs.lemmas.Nat.{or_lt}
-use Rattle.ps_hoa.specs.Files.{is_among}
 use Rattle.ps_automaton.proofs.Bits.{in_or, both_among}
 use Rattle.ps_automaton.proofs.targets.target_of.Goals as goal
 
@@ -11,5 +9,5 @@ returns c = record {
   few = or_lt 64 c.mask_of.result c.mask_of-2.result c.mask_of.type_inv c.mask_of-2.type_inv;
   sets = λ set small. in_or set c.mask_of.result c.mask_of-2.result
       ∙ both_among set c.mask_of.result c.mask_of-2.result c.as_slice.result.now c.as_slice-2.result.now c.args.row.now.marks.items c.args.edge.now.marks.items
-          (c.mask_of.ensures set small) (c.mask_of-2.ensures set small) c.as_slice.ensures c.as_slice-2.ensures;
+      (c.mask_of.ensures set small) (c.mask_of-2.ensures set small) c.as_slice.ensures c.as_slice-2.ensures;
 }
