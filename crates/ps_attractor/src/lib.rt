@@ -5,6 +5,8 @@ mod aim;
 mod attractor;
 mod sources;
 mod tables;
+#[cfg(test)]
+mod tests;
 mod worklist;
 
 pub use aim::Aim;
