@@ -1,5 +1,5 @@
 -- The levels and the trail that the public function begins with, and what is read off at the end.
-use Rattle.std.proofs.Common.{◌≡◌, ◌≢◌, ℕ, zero, suc, ◌+◌, ◌-◌, ◌<◌, ◌≤◌, ◌⊎◌, inl, inr, List, [], ◌∷◌, ◌++◌, Bool, true, false, cond, eqb, IsTrue, Option, Some, None, IsSome, IsSomeAnd, length, get_or, drop, refl, subst, sym, ap, ◌∙◌, arith}
+use Rattle.std.proofs.Common.{◌≡◌, ◌≢◌, ℕ, ◌+◌, ◌<◌, ◌≤◌, ◌⊎◌, inl, inr, List, [], ◌∷◌, ◌++◌, Bool, true, false, cond, eqb, IsTrue, Option, Some, None, IsSome, IsSomeAnd, length, get_or, drop, refl, subst, sym, ap, ◌∙◌, arith}
 use Rattle.std.specs.Prelude.{slice_set}
 use Rattle.std.proofs.lemmas.Bool.{cases_eq, cases_lt, false≢true, eq-eqb}
 use Rattle.std.proofs.lemmas.Bool.Decides.{nat_tests}
@@ -11,9 +11,9 @@ use Rattle.ps_game.specs.Regions.{has, move_at}
 use Rattle.ps_attractor.specs.declared.aim.Aim.{Aim}
 use Rattle.ps_attractor.specs.declared.attractor.TheConstants.{OUTSIDE, PLACED, FREE}
 use Rattle.ps_attractor.specs.Tables.{TablesData, level_of, moves_of, place_in}
-use Rattle.ps_attractor.specs.Aims.{StandsFrom, IsPosed, IsTaken, IsAttracted, IsGrown, rank_of}
+use Rattle.ps_attractor.specs.Aims.{StandsFrom, IsPosed, IsTaken, IsGrown, rank_of}
 use Rattle.ps_attractor.specs.Steps.{with_placed}
-use Rattle.ps_attractor.specs.Results.{AreLaidOut, IsRegionTo, Moves, AreMovesTo, rank_at}
+use Rattle.ps_attractor.specs.Results.{AreLaidOut, IsRegionTo, AreMovesTo, rank_at}
 
 pub laid_placed : (subgame target : List Bool) (n : ℕ) (old : TablesData) → n < length old.level → IsTrue (has target n) → AreLaidOut subgame target n old → AreLaidOut subgame target (n + 1) (with_placed old n PLACED)
 laid_placed subgame target n old within there laid =

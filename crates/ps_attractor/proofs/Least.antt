@@ -1,8 +1,8 @@
 -- A set in which ranks fall to the target lies in each closed set.
-use Rattle.std.proofs.Common.{◌≡◌, ◌≢◌, ℕ, zero, suc, ◌+◌, ◌<◌, inl, inr, Bool, true, false, Option, Some, None, IsSomeAnd, IsTrue, refl, sym, ◌∙◌, arith}
+use Rattle.std.proofs.Common.{◌≡◌, ℕ, zero, suc, ◌<◌, inl, inr, Bool, true, false, Option, Some, None, IsSomeAnd, IsTrue, refl, sym, ◌∙◌, arith}
 use Rattle.std.proofs.lemmas.Bool.{cases_eq, false≢true}
 use Rattle.ps_game.specs.Games.{ParityGame, owner_of}
-use Rattle.ps_game.specs.Subgames.{IsWithin, LeadsInto}
+use Rattle.ps_game.specs.Subgames.{IsWithin}
 use Rattle.ps_game.specs.Attractors.{IsClosed, LeadsDown, Falls, IsLeast}
 
 -- what a move that is there says

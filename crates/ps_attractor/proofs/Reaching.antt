@@ -1,6 +1,5 @@
 -- The walk along the trail: how it starts, how a place is entered and left, and one look.
 use Rattle.std.proofs.Common.{◌≡◌, ◌≢◌, ℕ, ◌+◌, ◌<◌, ◌≤◌, ◌⊎◌, inl, inr, List, [], ◌∷◌, ◌++◌, length, get_or, refl, subst, sym, ap, ◌∙◌, arith}
-use Rattle.std.specs.Prelude.{slice_set}
 use Rattle.std.proofs.Math.Nat.{le_refl}
 use Rattle.std.proofs.lemmas.Bool.{cases_eq, cases_lt}
 use Rattle.std.proofs.lemmas.List.{get_or_append_left, get_or_push, length_push, get_or-set_same, get_or-set_other, get_or_default}
@@ -8,8 +7,8 @@ use Rattle.ps_game.specs.Games.{ParityGame, owner_of, HasEdge}
 use Rattle.ps_attractor.specs.Sources.{sources_of, IsSourcesOf}
 use Rattle.ps_attractor.specs.declared.aim.Aim.{Aim}
 use Rattle.ps_attractor.specs.Tables.{TablesData, level_of}
-use Rattle.ps_attractor.specs.Aims.{StandsFrom, IsSameAt, IsPlaced, IsGrown}
-use Rattle.ps_attractor.specs.Steps.{HasFree, Look, NotFree, Escapes, Own, Others, GoesOn, IsPending, CanGoOn, StandsBefore, LeadsBack, Reaching, From, FromSource, StandsAmong, with_placed, with_move}
+use Rattle.ps_attractor.specs.Aims.{StandsFrom, IsPlaced, IsGrown}
+use Rattle.ps_attractor.specs.Steps.{HasFree, Look, NotFree, Escapes, Own, Others, CanGoOn, StandsBefore, LeadsBack, Reaching, From, FromSource, StandsAmong, with_placed, with_move}
 
 pub grown_start : (aim : Aim) (tables : TablesData) → IsGrown aim tables tables
 grown_start aim tables = record {

@@ -1,9 +1,9 @@
 -- From tables to a region, moves and ranks: what the public answer has of what the worklist left.
-use Rattle.std.specs.Prelude.{◌≡◌, ◌≢◌, ℕ, ◌<◌, ◌≤◌, List, [], length, Option, Some, None, Bool, true, false, IsTrue, slice_index}
-use Rattle.ps_game.specs.Games.{ParityGame, vertex_count, owner_of}
+use Rattle.std.specs.Prelude.{◌≡◌, ℕ, ◌<◌, ◌≤◌, List, length, Option, Some, None, Bool, false, IsTrue, slice_index}
+use Rattle.ps_game.specs.Games.{ParityGame, owner_of}
 use Rattle.ps_game.specs.Regions.{has, move_at}
 use Rattle.ps_attractor.specs.declared.attractor.TheConstants.{OUTSIDE, PLACED, FREE}
-use Rattle.ps_attractor.specs.Tables.{TablesData, level_of, place_in}
+use Rattle.ps_attractor.specs.Tables.{TablesData, level_of}
 use Rattle.ps_attractor.specs.Aims.{StandsFrom}
 
 -- the vertices before n have their levels, and those of the target among them stand in the trail

@@ -1,6 +1,6 @@
 -- The steps of the worklist: what is known while the trail is walked from the target on. These are the facts on the way; the
 -- public contracts speak of `IsGrown` and `IsAttracted`.
-use Rattle.std.specs.Prelude.{◌≡◌, ◌≢◌, ℕ, ◌+◌, ◌<◌, ◌≤◌, ◌⊎◌, List, ◌∷◌, [], ◌++◌, length, slice_index, slice_set, ◌==◌, count_by}
+use Rattle.std.specs.Prelude.{◌≡◌, ◌≢◌, ℕ, ◌<◌, ◌≤◌, ◌⊎◌, List, ◌∷◌, [], ◌++◌, length, slice_index, slice_set, ◌==◌, count_by}
 use Rattle.ps_game.specs.Games.{ParityGame, owner_of, HasEdge}
 use Rattle.ps_attractor.specs.declared.aim.Aim.{Aim}
 use Rattle.ps_attractor.specs.Tables.{TablesData, level_of}

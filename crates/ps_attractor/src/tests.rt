@@ -22,7 +22,12 @@ fn small_game(rt: &HostRuntime) -> Result<Game, Fail> {
 }
 
 /// The attractor within the whole of an arena to some of its vertices.
-fn attract_to<A: Arena>(alloc: Global, arena: &A, player: u8, vertices: &[usize]) -> Result<Attracted, AllocError> {
+fn attract_to<A: Arena>(
+    alloc: Global,
+    arena: &A,
+    player: u8,
+    vertices: &[usize],
+) -> Result<Attracted, AllocError> {
     let mut target = Region::empty(alloc, arena.count())?;
     for vertex in vertices {
         if *vertex < target.places() {

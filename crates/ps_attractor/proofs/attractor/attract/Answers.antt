@@ -1,12 +1,8 @@
-use Rattle.std.proofs.Common.{◌≡◌, ◌<◌, ℕ, List, Bool, inl, inr, false, IsTrue, length, subst, sym, ap, ◌∙◌, arith}
-use Rattle.std.proofs.lemmas.Bool.{cases_eq, cases_lt, false≢true}
-use Rattle.ps_game.specs.Games.{ParityGame, vertex_count}
-use Rattle.ps_game.specs.Regions.{has, move_at}
-use Rattle.ps_game.specs.Subgames.{IsWithin, IsSubgame}
-use Rattle.ps_attractor.specs.Tables.{TablesData, moves_of, place_in}
-use Rattle.ps_attractor.specs.Aims.{StandsFrom, IsAttracted, rank_of}
-use Rattle.ps_attractor.specs.Results.{AreLaidOut, IsRegionTo, AreMovesTo}
-use Rattle.ps_attractor.proofs.LaidOut.{Answer, the_aim, answer_posed, answer_taken, answer_falls, only_moves}
+use Rattle.std.proofs.Common.{ℕ, List, Bool, subst}
+use Rattle.ps_game.specs.Games.{vertex_count}
+use Rattle.ps_game.specs.Regions.{has}
+use Rattle.ps_attractor.specs.Results.{AreLaidOut, IsRegionTo}
+use Rattle.ps_attractor.proofs.LaidOut.{Answer, answer_posed, answer_taken, answer_falls, only_moves}
 use Rattle.ps_attractor.proofs.attractor.attract.Goals as goal
 
 pub returns-clause-within : goal.returns-clause-within

@@ -1,4 +1,4 @@
-use Rattle.std.proofs.Common.{◌≡◌, ◌≢◌, ◌+◌, ◌<◌, ◌≤◌, ℕ, length, get_or, sym, ap, ◌∙◌, refl, arith}
+use Rattle.std.proofs.Common.{◌<◌, ◌≤◌, length, get_or, sym, ap, ◌∙◌, refl, arith}
 use Rattle.ps_game.specs.Games.{vertex_count}
 use Rattle.ps_attractor.specs.Sources.{sources_of}
 use Rattle.ps_attractor.proofs.Reaching.{reaching_leave}

@@ -1,4 +1,4 @@
-use Rattle.std.proofs.Common.{◌≡◌, ◌+◌, ◌<◌, ◌≤◌, length, get_or}
+use Rattle.std.proofs.Common.{◌≡◌, ◌+◌, ◌≤◌, length, get_or}
 use Rattle.ps_attractor.specs.Sources.{sources_of}
 use Rattle.ps_attractor.specs.Tables.{TablesData, FitsGame}
 use Rattle.ps_attractor.specs.Steps.{Reaching, From, FromSource, free_count}
