@@ -1,0 +1,10 @@
+pub mod Chaining
+pub mod Edges
+pub mod Growing
+pub mod Held
+pub mod Least
+pub mod Passing
+pub mod Rows
+pub mod Steps
+pub mod Summing
+pub mod Whole

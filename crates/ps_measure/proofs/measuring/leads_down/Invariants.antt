@@ -1,0 +1,7 @@
+use Rattle.std.proofs.Common.{◌≡◌, ◌<◌, ◌≤◌, ℕ, Some}
+use Rattle.ps_components.specs.Graphs.{Link}
+use Rattle.ps_measure.proofs.Edges.{NoneLow}
+use Rattle.ps_measure.proofs.measuring.leads_down.Given as goal
+
+abbrev pub invariant-loop-place : goal.invariant-loop-place
+invariant-loop-place g l = NoneLow (g.G.Graph.graph l.graph) l.low l.vertex l.place

@@ -1,0 +1,7 @@
+pub mod Chains
+pub mod Columns
+pub mod Filling
+pub mod Outcomes
+pub mod Ranks
+pub mod Remaining
+pub mod Sums

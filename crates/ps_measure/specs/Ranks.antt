@@ -1,0 +1,81 @@
+-- The least counts of a player's region, by the priorities by which the player loses; and a cycle that the player loses.
+use Rattle.std.specs.Prelude.{◌≡◌, ℕ, ◌+◌, ◌-◌, ◌*◌, ◌%◌, ◌<◌, ◌≤◌, ◌&&◌, ◌==◌, List, length, map, Option, None, Some, Bool, IsTrue, Vec, nat_lt, slice_get, slice_index}
+use Rattle.std.specs.Global.{Global}
+use Rattle.ps_game.specs.Games.{ParityGame, vertex_count, priority_of}
+use Rattle.ps_game.specs.Plays.{greatest, other_player}
+use Rattle.ps_game.specs.Ranking.{RemainsWithin, ListsPriorities, KeepRuleWithin}
+use Rattle.ps_measure.specs.declared.fault.MeasureFault.{MeasureFault}
+use Rattle.ps_measure.specs.declared.fault.MeasureFault.TheVariants.{BadCycle, OutOfMemory}
+use Rattle.ps_measure.specs.Sums.{sum_below, count_below}
+
+-- how many vertices of a set have a priority
+abbrev pub count_with : ParityGame → (ℕ → Bool) → ℕ → ℕ
+count_with game set p = count_below (λ v. (priority_of game v == p) && set v) (vertex_count game)
+
+-- counts for one priority that keep the rule on each edge that remains within the set, the least that do; 0 outside the set
+-- and above the priority; each at most the number of the set's vertices of that priority
+pub record AreLeastFor (game : ParityGame) (player : ℕ) (set : ℕ → Bool) (table : ℕ → Option ℕ) (p : ℕ) (count : ℕ → ℕ) : Type 0 where
+  pub keep : KeepRuleWithin game player set table p count
+  pub least : (other : ℕ → ℕ) → KeepRuleWithin game player set table p other → (v : ℕ) → count v ≤ other v
+  pub outside : (v : ℕ) → ¬ IsTrue (set v) → count v ≡ 0
+  pub above : (v : ℕ) → p < priority_of game v → count v ≡ 0
+  pub bounded : (v : ℕ) → count v ≤ count_with game set p
+
+-- the count of a vertex at a place of its row
+abbrev pub count_in : Option (Vec ℕ Global) → ℕ → ℕ
+count_in None k = 0
+count_in (Some row) k = slice_index row.items k
+
+abbrev pub count_of : List (Vec ℕ Global) → ℕ → ℕ → ℕ
+count_of rows v k = count_in (slice_get rows v) k
+
+-- how many counts the row of a vertex has
+abbrev pub width_in : Option (Vec ℕ Global) → ℕ
+width_in None = 0
+width_in (Some row) = length row.items
+
+abbrev pub width_of : List (Vec ℕ Global) → ℕ → ℕ
+width_of rows v = width_in (slice_get rows v)
+
+-- so many rows of one length
+pub record AreRows (rows : List (Vec ℕ Global)) (count width : ℕ) : Type 0 where
+  pub each : length rows ≡ count
+  pub wide : (v : ℕ) → v < count → width_of rows v ≡ width
+
+-- the opposing priorities of the game, rising, and for each vertex a row with one count for each of them
+pub record AreRanks (game : ParityGame) (player : ℕ) (set : ℕ → Bool) (table : ℕ → Option ℕ) (priorities : List ℕ) (rows : List (Vec ℕ Global)) : Type 0 where
+  pub listed : ListsPriorities game (other_player player) priorities
+  pub shape : AreRows rows (vertex_count game) (length priorities)
+  pub columns : (k : ℕ) → k < length priorities → AreLeastFor game player set table (slice_index priorities k) (λ v. count_of rows v k)
+
+-- the sum of all counts
+abbrev pub total_of : List (Vec ℕ Global) → ℕ → ℕ → ℕ
+total_of rows count width = sum_below (λ k. sum_below (λ v. count_of rows v k) count) width
+
+-- how many counts are not 0
+abbrev pub raised_of : List (Vec ℕ Global) → ℕ → ℕ → ℕ
+raised_of rows count width = sum_below (λ k. count_below (λ v. nat_lt 0 (count_of rows v k)) count) width
+
+-- for each of the priorities, the vertices of the set times those of them that have the priority
+abbrev pub most_raises : ParityGame → (ℕ → Bool) → List ℕ → ℕ
+most_raises game set priorities =
+    sum_below (λ k. count_below set (vertex_count game) * count_with game set (slice_index priorities k)) (length priorities)
+
+-- a cycle of edges that remain within the set, each vertex leading to the next and the last to the first, whose greatest
+-- priority is of the other player's parity
+pub record IsLostCycle (game : ParityGame) (player : ℕ) (set : ℕ → Bool) (table : ℕ → Option ℕ) (cycle : List ℕ) : Type 0 where
+  pub some : 0 < length cycle
+  pub vertices : (k : ℕ) → k < length cycle → slice_index cycle k < vertex_count game
+  pub edges : (k : ℕ) → k + 1 < length cycle → RemainsWithin game player set table (slice_index cycle k) (slice_index cycle (k + 1))
+  pub closes : RemainsWithin game player set table (slice_index cycle (length cycle - 1)) (slice_index cycle 0)
+  pub lost : greatest (map (priority_of game) cycle) % 2 ≡ other_player player
+
+-- what is said of a refusal: the cycle is one that the player loses; that memory ran out says nothing
+abbrev pub IsRefusal : ParityGame → ℕ → (ℕ → Bool) → (ℕ → Option ℕ) → MeasureFault → Type 0
+IsRefusal game player set table (BadCycle cycle) = IsLostCycle game player set table cycle.items
+IsRefusal game player set table OutOfMemory = Unit {0}
+
+-- memory ran out
+abbrev pub IsOutOfMemory : MeasureFault → Type 0
+IsOutOfMemory (BadCycle cycle) = ⊥
+IsOutOfMemory OutOfMemory = Unit {0}

@@ -1,0 +1,87 @@
+-- The graph of the edges that remain within a region, and the links against them between vertices that do not pass a priority.
+use Rattle.std.specs.Prelude.{◌≡◌, ℕ, ◌+◌, ◌-◌, ◌<◌, ◌≤◌, List, length, Option, None, Some, Bool, not, ◌&&◌, ◌||◌, ◌==◌, nat_le, false, if◌then◌else◌, slice_index}
+use Rattle.ps_components.specs.Graphs.{Digraph, Link}
+use Rattle.ps_game.specs.Games.{ParityGame, vertex_count, owner_of, successors_of}
+use Rattle.ps_game.specs.Regions.{has, move_at}
+use Rattle.ps_measure.specs.Sums.{counted}
+
+-- a game, a player, and the player's region and moves
+pub record RemainingData : Type 0 where
+  pub game : ParityGame
+  pub player : ℕ
+  pub region : List Bool
+  pub strategy : List (Option ℕ)
+
+-- there is a place for each vertex
+pub record IsRemaining (r : RemainingData) : Type 0 where
+  pub region_fits : length r.region ≡ vertex_count r.game
+  pub strategy_fits : length r.strategy ≡ vertex_count r.game
+
+-- the move is this vertex
+abbrev pub is_move : Option ℕ → ℕ → Bool
+is_move None w = false
+is_move (Some move) w = move == w
+
+-- an edge from v to w would remain, with both ends in the region
+abbrev pub may_remain : RemainingData → ℕ → ℕ → Bool
+may_remain r v w =
+    has r.region v && has r.region w && (not (owner_of r.game v == r.player) || is_move (move_at r.strategy v) w)
+
+-- the edges that remain within the region
+abbrev pub remaining_graph : RemainingData → Digraph
+remaining_graph r = record {
+  count = vertex_count r.game;
+  degree = λ v. length (successors_of r.game v);
+  target = λ v k. let w = slice_index (successors_of r.game v) k in if may_remain r v w then Some w else None;
+}
+
+-- the targets of all vertices, one vertex behind the other, and where those of each vertex begin; the end stands last
+pub record StarData : Type 0 where
+  pub count : ℕ
+  pub starts : List ℕ
+  pub targets : List ℕ
+
+-- each vertex has a part of the targets, which are vertices
+pub record IsStar (star : StarData) : Type 0 where
+  pub long : length star.starts ≡ star.count + 1
+  pub rises : (v : ℕ) → v < star.count → slice_index star.starts v ≤ slice_index star.starts (v + 1)
+  pub ends : (v : ℕ) → v ≤ star.count → slice_index star.starts v ≤ length star.targets
+  pub within : (i : ℕ) → i < length star.targets → slice_index star.targets i < star.count
+
+-- the graph that is kept so
+abbrev pub star_graph : StarData → Digraph
+star_graph star = record {
+  count = star.count;
+  degree = λ v. slice_index star.starts (v + 1) - slice_index star.starts v;
+  target = λ v k. Some (slice_index star.targets (slice_index star.starts v + k));
+}
+
+-- the second graph has the links of the first one, turned round
+pub record IsReverse (g r : Digraph) : Type 0 where
+  pub count : r.count ≡ g.count
+  pub there : (v w : ℕ) → Link g v w → Link r w v
+  pub back : (v w : ℕ) → Link r w v → Link g v w
+
+-- a star, a region of its vertices, a level for each of them, and a priority
+pub record LowData : Type 0 where
+  pub star : StarData
+  pub region : List Bool
+  pub levels : List ℕ
+  pub priority : ℕ
+
+-- there is a place for each vertex
+pub record IsLow (low : LowData) : Type 0 where
+  pub region_fits : length low.region ≡ low.star.count
+  pub levels_fit : length low.levels ≡ low.star.count
+
+-- the links between vertices whose levels do not pass the priority
+abbrev pub low_graph : LowData → Digraph
+low_graph low = record {
+  count = low.star.count;
+  degree = λ v. if nat_le (slice_index low.levels v) low.priority then (star_graph low.star).degree v else 0;
+  target = λ v k. let w = slice_index low.star.targets (slice_index low.star.starts v + k) in if nat_le (slice_index low.levels w) low.priority then Some w else None;
+}
+
+-- 1 at each vertex of the region whose level is the priority
+abbrev pub low_weight : LowData → ℕ → ℕ
+low_weight low v = counted ((slice_index low.levels v == low.priority) && has low.region v)

@@ -1,0 +1,137 @@
+//! The least counts for one priority, by the components of the links against the edges that remain.
+
+ghost use Rattle.std.specs.Prelude.{◌≡◌, ℕ, ◌<◌, length, IfOk, IfNone, IfSome};
+ghost use Rattle.std.specs.Bool.{OnFalse, OnTrue};
+ghost use Rattle.ps_components.specs.Graphs.{Link};
+ghost use Rattle.ps_components.specs.ComponentLists.{AreMet, IsIn};
+ghost use Rattle.ps_measure.specs.Remaining.{low_graph, low_weight};
+ghost use Rattle.ps_measure.specs.Columns.{AreRoots, AreRaised, IsCounting, IsPassed, GrowsBelow, ArePassedFrom, IsLost, value_of};
+ghost use Rattle.ps_measure.specs.Outcomes.{IsOutcome};
+
+use crate::low::Low;
+use ps_components::{Components, Graph, components_from};
+use std::alloc::{AllocError, Global};
+
+/// A count for each component of the vertices that were met.
+#[derive(Drop)]
+pub(crate) struct Column {
+    components: Components,
+    values: Vec<u64>,
+}
+
+/// The least counts, or a link that leads back to where a way to it began, and to a vertex with the priority.
+#[derive(Drop)]
+pub(crate) enum Outcome {
+    Counts(Column),
+    Lost { from: usize, to: usize },
+}
+
+/// The least counts for the priority of a graph.
+pub(crate) fn column_of(alloc: Global, low: &Low, roots: &[usize]) -> Result<Outcome, AllocError>
+    requires { AreRoots (low_graph low.now) (low_weight low.now) roots.now }
+    ensures { IfOk result (IsOutcome (low_graph low.now) (low_weight low.now)) }
+{
+    let mut column = Column::of(alloc, low, roots)?;
+    match column.settle(low) {
+        Some((from, to)) => Ok(Outcome::Lost { from, to }),
+        None => Ok(Outcome::Counts(column)),
+    }
+}
+
+impl Column {
+    /// The components of what the roots lead to, with the values 1 at the roots and 0 else.
+    fn of(alloc: Global, low: &Low, roots: &[usize]) -> Result<Self, AllocError>
+        requires { AreRoots (low_graph low.now) (low_weight low.now) roots.now }
+        ensures counting { IfOk result (λ c. IsCounting (low_graph low.now) (low_weight low.now) c.components c.values.items) }
+        ensures met { IfOk result (λ c. AreMet roots.now c.components) }
+        ensures raised { IfOk result (λ c. AreRaised c.components c.values.items roots.now) }
+    {
+        let _vertices = low.count();
+        let components = components_from(alloc, low, roots)?;
+        let mut values = vec![in alloc; 0; components.order().len()]?;
+        for root in roots {
+            if let Some(number) = components.number(*root) {
+                values[number] = 1;
+            }
+        }
+        Ok(Column { components, values })
+    }
+
+    /// The count of a vertex.
+    pub(crate) fn count(&self, vertex: usize) -> u64
+        requires { vertex < length self.now.components.numbers }
+        ensures { result ≡ value_of self.now.components self.now.values.items vertex }
+    {
+        match self.components.number(vertex) {
+            Some(number) if number < self.values.len() => self.values[number],
+            _ => 0,
+        }
+    }
+
+    /// Takes a link into account. True where it stays in a component and leads to a vertex with the priority.
+    fn pass(&mut self, low: &Low, from: usize, number: usize, to: usize) -> bool
+        requires counting { IsCounting (low_graph low.now) (low_weight low.now) self.old.components self.old.values.items }
+        requires link { Link (low_graph low.now) from to }
+        requires number { IsIn self.old.components from number }
+        ensures counting { IsCounting (low_graph low.now) (low_weight low.now) self.new.components self.new.values.items }
+        ensures components { self.new.components ≡ self.old.components }
+        ensures grows { GrowsBelow self.old.values.items self.new.values.items number }
+        ensures passed { OnFalse result (IsPassed (low_weight low.now) self.new.components self.new.values.items from to) }
+        ensures lost { OnTrue result (IsLost (low_graph low.now) (low_weight low.now) self.new.components from to) }
+    {
+        let _vertices = low.count();
+        let weight = low.weight(to);
+        let before = self.components.number(to).unwrap_or(number);
+        if before < number {
+            let value = self.values[number] + weight;
+            if self.values[before] < value {
+                self.values[before] = value;
+            }
+            false
+        } else {
+            weight == 1
+        }
+    }
+
+    /// Takes each link of a vertex into account, up to one that is lost, whose end is answered.
+    fn pass_all(&mut self, low: &Low, from: usize, number: usize) -> Option<usize>
+        requires counting { IsCounting (low_graph low.now) (low_weight low.now) self.old.components self.old.values.items }
+        requires number { IsIn self.old.components from number }
+        ensures counting { IsCounting (low_graph low.now) (low_weight low.now) self.new.components self.new.values.items }
+        ensures components { self.new.components ≡ self.old.components }
+        ensures grows { GrowsBelow self.old.values.items self.new.values.items number }
+        ensures passed { IfNone result ((to : ℕ) → Link (low_graph low.now) from to → IsPassed (low_weight low.now) self.new.components self.new.values.items from to) }
+        ensures lost { IfSome result (IsLost (low_graph low.now) (low_weight low.now) self.new.components from) }
+    {
+        for place in 0..low.degree(from) {
+            if let Some(to) = low.target(from, place) {
+                if self.pass(low, from, number, to) {
+                    return Some(to);
+                }
+            }
+        }
+        None
+    }
+
+    /// Takes all links into account, from the last vertex in the order to the first, up to one that is lost.
+    fn settle(&mut self, low: &Low) -> Option<(usize, usize)>
+        requires { IsCounting (low_graph low.now) (low_weight low.now) self.old.components self.old.values.items }
+        ensures counting { IsCounting (low_graph low.now) (low_weight low.now) self.new.components self.new.values.items }
+        ensures components { self.new.components ≡ self.old.components }
+        ensures grows { GrowsBelow self.old.values.items self.new.values.items (length self.old.components.order) }
+        ensures passed { IfNone result (ArePassedFrom (low_graph low.now) (low_weight low.now) self.new.components self.new.values.items 0) }
+        ensures lost { IfSome result (λ link. IsLost (low_graph low.now) (low_weight low.now) self.new.components link.0 link.1) }
+    {
+        let mut place = self.components.order().len();
+        while place > 0 {
+            place -= 1;
+            let from = self.components.order()[place];
+            if let Some(number) = self.components.number(from) {
+                if let Some(to) = self.pass_all(low, from, number) {
+                    return Some((from, to));
+                }
+            }
+        }
+        None
+    }
+}

@@ -1,0 +1,37 @@
+//! Why no counts were found.
+
+ghost use Rattle.std.specs.Prelude.{◌≡◌};
+ghost use Rattle.ps_measure.specs.declared.fault.MeasureFault.TheVariants.{OutOfMemory};
+
+use std::alloc::{AllocError, AllocFailed};
+use thiserror::Error;
+
+/// Why there are no counts for a region.
+#[derive(Debug, Drop, Error)]
+pub enum MeasureFault {
+    /// The player loses a cycle of edges that remain within the region.
+    #[error("the player loses a cycle of {} vertices", .cycle.len())]
+    BadCycle {
+        /// Its vertices, each leading to the next, and the last to the first.
+        cycle: Vec<usize>,
+    },
+    /// Memory ran out.
+    #[error("out of memory")]
+    OutOfMemory,
+}
+
+impl From<AllocError> for MeasureFault {
+    ghost from_gives = { λ _ e. e ≡ OutOfMemory };
+
+    fn from(_e: AllocError) -> MeasureFault {
+        MeasureFault::OutOfMemory
+    }
+}
+
+impl<T: Drop> From<AllocFailed<T>> for MeasureFault {
+    ghost from_gives = { λ _ e. e ≡ OutOfMemory };
+
+    fn from(_e: AllocFailed<T>) -> MeasureFault {
+        MeasureFault::OutOfMemory
+    }
+}

@@ -1,0 +1,59 @@
+//! The edges that remain within a region, as a graph.
+
+ghost use Rattle.std.specs.Prelude.{◌≡◌, ◌<◌};
+ghost use Rattle.ps_game.specs.Games.{vertex_count};
+ghost use Rattle.ps_measure.specs.Remaining.{remaining_graph, may_remain};
+
+use ps_components::Graph;
+use ps_game::{Arena, Region, Strategy};
+use std::marker::Model;
+
+/// The edges that remain for a player within a region.
+#[derive(Drop)]
+pub(crate) struct Remaining<'a, A: Arena> {
+    pub(crate) arena: &'a A,
+    pub(crate) player: u8,
+    pub(crate) region: &'a Region,
+    pub(crate) strategy: &'a Strategy,
+}
+
+impl<'a, A: Arena> Model for Remaining<'a, A> {
+    ghost use Rattle.ps_measure.specs.Remaining.{RemainingData, IsRemaining};
+
+    ghost Value = { RemainingData };
+
+    ghost view = { λ r. record { game = A.game r.arena.now; player = r.player; region = r.region.now; strategy = r.strategy.now } };
+
+    ghost invariant = { λ r. IsRemaining (record { game = A.game r.arena.now; player = r.player; region = r.region.now; strategy = r.strategy.now }) };
+}
+
+impl<'a, A: Arena> Remaining<'a, A> {
+    /// Whether an edge from one vertex to another remains, with both in the region.
+    fn keeps(&self, from: usize, to: usize) -> bool
+        requires from { from < vertex_count self.now.game }
+        requires to { to < vertex_count self.now.game }
+        ensures { result ≡ may_remain self.now from to }
+    {
+        self.region.contains(from)
+            && self.region.contains(to)
+            && (self.arena.owner(from) != self.player || self.strategy.get(from) == Some(to))
+    }
+}
+
+impl<'a, A: Arena> Graph for Remaining<'a, A> {
+    ghost graph = { λ r. remaining_graph r };
+
+    fn count(&self) -> usize {
+        self.arena.count()
+    }
+
+    fn degree(&self, item: usize) -> usize {
+        self.arena.degree(item)
+    }
+
+    fn target(&self, item: usize, place: usize) -> Option<usize> {
+        let _vertices = self.arena.count();
+        let to = self.arena.successor(item, place);
+        if self.keeps(item, to) { Some(to) } else { None }
+    }
+}
