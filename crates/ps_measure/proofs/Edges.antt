@@ -1,17 +1,17 @@
 -- Links of the graphs, and the edges that remain.
-use Rattle.std.proofs.Common.{◌≡◌, ◌≢◌, ℕ, ◌+◌, ◌-◌, ◌<◌, ◌≤◌, ◌∙◌, ◌↔◌, List, [], ◌∷◌, ◌++◌, length, get_or, inl, inr, refl, sym, ap, subst, arith, Option, None, Some, Bool, true, false, cond, nat_le, not, ◌&&◌, ◌||◌}
-use Rattle.std.specs.Prelude.{slice_index, slice_get, IsTrue, ◌==◌}
+use Rattle.std.proofs.Common.{◌≡◌, ℕ, ◌+◌, ◌-◌, ◌<◌, ◌≤◌, ◌∙◌, List, [], ◌∷◌, ◌++◌, length, inl, inr, refl, sym, ap, subst, arith, Option, None, Some, Bool, true, false, cond, nat_le, not, ◌&&◌, ◌||◌}
+use Rattle.std.specs.Prelude.{slice_index, slice_get, ◌==◌}
 use Rattle.std.specs.List.{Contains}
-use Rattle.std.proofs.lemmas.Bool.{cases_Bool, cases_eq, cases_lt, eqb-true, eq-eqb, ne_eqb, and_parts, and_from, or_cases, or_left, or_right, leb-true, leb-false, le-leb, lt-leb, not-true, not_from_false, false_from_ne_true}
+use Rattle.std.proofs.lemmas.Bool.{cases_eq, eqb-true, eq-eqb, ne_eqb, and_parts, and_from, or_cases, or_left, or_right, leb-true, leb-false, le-leb, not-true, not_from_false}
 use Rattle.std.proofs.lemmas.List.{get_or_default}
 use Rattle.std.proofs.lemmas.Option.{slice_get_within}
 use Rattle.ps_components.specs.Graphs.{Digraph, Link}
 use Rattle.ps_components.proofs.Places.{slice_get-append_left, slice_get-push, slice_get-push_cases}
-use Rattle.ps_game.specs.Games.{ParityGame, IsGame, vertex_count, owner_of, priority_of, successors_of, HasEdge}
+use Rattle.ps_game.specs.Games.{ParityGame, IsGame, vertex_count, owner_of, successors_of}
 use Rattle.ps_game.specs.Regions.{has, move_at}
-use Rattle.ps_game.specs.Ranking.{RemainsFor, RemainsWithin}
+use Rattle.ps_game.specs.Ranking.{RemainsWithin}
 use Rattle.ps_measure.specs.Columns.{AreRoots}
-use Rattle.ps_measure.specs.Remaining.{RemainingData, is_move, may_remain, remaining_graph, StarData, star_graph, IsReverse, LowData, low_graph, low_weight}
+use Rattle.ps_measure.specs.Remaining.{RemainingData, is_move, may_remain, remaining_graph, star_graph, IsReverse, LowData, low_graph, low_weight}
 
 -- the edges that remain within the region, of the data of a graph
 abbrev pub Remains : RemainingData → ℕ → ℕ → Type 0
@@ -95,10 +95,11 @@ below_degree false k n e below = absurd cc
 pub low_link : (low : LowData) (w v : ℕ) → Link (low_graph low) w v → Link (star_graph low.star) w v × (slice_index low.levels w ≤ low.priority) × (slice_index low.levels v ≤ low.priority)
 low_link low w v link =
     let at = nothing_below_zero (nat_le (slice_index low.levels w) low.priority) link.place (slice_index low.star.starts (w + 1) - slice_index low.star.starts w) link.at in
-    let to = cond_some (nat_le (slice_index low.levels (slice_index low.star.targets (slice_index low.star.starts w + link.place))) low.priority) (slice_index low.star.targets (slice_index low.star.starts w + link.place)) v link.target in
-    (record { from = link.from; place = link.place; at = at.1; target = ap Some to.1 },
-    leb-true (slice_index low.levels w) low.priority at.0,
-    leb-true (slice_index low.levels v) low.priority (subst (λ x. nat_le (slice_index low.levels x) low.priority ≡ true) to.1 to.0))
+    let to = cond_some (nat_le (slice_index low.levels (slice_index low.star.targets (slice_index low.star.starts w + link.place))) low.priority) (slice_index low.star.targets (slice_index low.star.starts w + link.place)) v link.target in (
+      record { from = link.from; place = link.place; at = at.1; target = ap Some to.1 },
+      leb-true (slice_index low.levels w) low.priority at.0,
+      leb-true (slice_index low.levels v) low.priority (subst (λ x. nat_le (slice_index low.levels x) low.priority ≡ true) to.1 to.0),
+    )
 
 pub link_low : (low : LowData) (w v : ℕ) → Link (star_graph low.star) w v → slice_index low.levels w ≤ low.priority → slice_index low.levels v ≤ low.priority → Link (low_graph low) w v
 link_low low w v link from to = record {

@@ -1,19 +1,17 @@
 -- The least counts of the graph of low vertices are those of the game; a way back to a link's source is a cycle of the game.
-use Rattle.std.proofs.Common.{◌≡◌, ◌≢◌, ℕ, zero, suc, ◌+◌, ◌-◌, ◌*◌, ◌%◌, ◌<◌, ◌≤◌, ◌∙◌, max, List, [], ◌∷◌, length, map, get_or, inl, inr, refl, sym, ap, subst, arith, Option, None, Some, Bool, true, false, cond, nat_le, nat_lt, ◌&&◌}
-use Rattle.std.specs.Prelude.{slice_index, slice_get, IsTrue, ◌==◌}
-use Rattle.std.proofs.lemmas.Bool.{cases_Bool, cases_eq, cases_lt, eqb-true, eq-eqb, ne_eqb, and_parts, and_from, leb-true, le-leb, lt-leb, lt-ltb, le-ltb}
+use Rattle.std.proofs.Common.{◌≡◌, ◌≢◌, ℕ, zero, suc, ◌+◌, ◌-◌, ◌%◌, ◌<◌, ◌≤◌, ◌∙◌, List, [], ◌∷◌, length, map, get_or, inl, inr, refl, sym, ap, subst, arith, Bool, true, false, cond, nat_le, nat_lt, ◌&&◌}
+use Rattle.std.specs.Prelude.{slice_index, IsTrue, ◌==◌}
+use Rattle.std.proofs.lemmas.Bool.{cases_Bool, cases_eq, cases_lt, eqb-true, eq-eqb, ne_eqb, and_from, le-leb, lt-leb, lt-ltb, le-ltb}
 use Rattle.std.proofs.lemmas.List.{length-map, get_or-map}
 use Rattle.std.proofs.lemmas.Option.{slice_get_within, slice_get-get_or, get_or_from_slice_get}
-use Rattle.ps_components.specs.Graphs.{Digraph, Link}
-use Rattle.ps_components.specs.Trails.{IsTrail}
-use Rattle.ps_game.specs.Games.{ParityGame, IsGame, vertex_count, owner_of, priority_of, successors_of, HasEdge}
+use Rattle.ps_components.specs.Graphs.{Link}
+use Rattle.ps_game.specs.Games.{IsGame, vertex_count, priority_of}
 use Rattle.ps_game.specs.Plays.{greatest, other_player}
 use Rattle.ps_game.specs.Regions.{has, move_at}
-use Rattle.ps_game.specs.Ranking.{RemainsFor, RemainsWithin, KeepsRule, KeepRuleWithin}
+use Rattle.ps_game.specs.Ranking.{KeepRuleWithin}
 use Rattle.ps_measure.specs.Sums.{sum_below, counted}
-use Rattle.ps_measure.specs.Remaining.{RemainingData, remaining_graph, StarData, star_graph, IsReverse, LowData, low_graph, low_weight}
+use Rattle.ps_measure.specs.Remaining.{RemainingData, remaining_graph, star_graph, IsReverse, LowData, low_graph, low_weight}
 use Rattle.ps_measure.specs.Columns.{AreCounts, AreLeast}
-use Rattle.ps_measure.specs.Outcomes.{IsClosing}
 use Rattle.ps_measure.specs.Filling.{IsLowCycle, AreLevels}
 use Rattle.ps_measure.specs.Ranks.{count_with, AreLeastFor, IsLostCycle}
 use Rattle.ps_measure.proofs.Summing.{sum_below-le}
@@ -83,9 +81,9 @@ module _ (r : RemainingData) (low : LowData) (is_game : IsGame r.game) (levels :
   to_rule d counts v w remains = record {
     never_rises = λ from to. (let h : d w + low_weight low v ≤ d v = counts w v (low_remains v w remains to from) in omega arith);
     falls = λ is to.
-      (let h : d w + low_weight low v ≤ d v = counts w v (low_remains v w remains to (omega (arith, is))) in
-      let one : low_weight low v ≡ 1 = heavy_one v remains.remains.edge.0 is remains.from in
-      omega arith);
+        (let h : d w + low_weight low v ≤ d v = counts w v (low_remains v w remains to (omega (arith, is))) in
+        let one : low_weight low v ≡ 1 = heavy_one v remains.remains.edge.0 is remains.from in
+        omega arith);
   }
 
   -- the counts, 0 where the test fails

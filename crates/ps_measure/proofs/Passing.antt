@@ -1,14 +1,14 @@
 -- Passing links from the last vertex of the order to the first: each value is final before it is used.
-use Rattle.std.proofs.Common.{◌≡◌, ◌≢◌, ℕ, ◌+◌, ◌<◌, ◌≤◌, ◌∙◌, ◌⊎◌, List, length, get_or, set, inl, inr, sym, ap, subst, arith, refl, Option, None, Some, replicate}
+use Rattle.std.proofs.Common.{◌≡◌, ◌≢◌, ℕ, ◌+◌, ◌<◌, ◌≤◌, ◌∙◌, List, length, inl, inr, sym, ap, subst, arith, refl, Option, None, Some}
 use Rattle.std.specs.Prelude.{slice_get, slice_index, slice_set}
-use Rattle.std.proofs.lemmas.Bool.{cases_eq, cases_lt}
-use Rattle.std.proofs.lemmas.List.{get_or-set_same, get_or-set_other, length-set, get_or_past}
+use Rattle.std.proofs.lemmas.Bool.{cases_eq}
+use Rattle.std.proofs.lemmas.List.{get_or-set_same, get_or-set_other, length-set}
 use Rattle.std.proofs.lemmas.Option.{slice_get_within}
 use Rattle.ps_components.specs.Graphs.{Digraph, Link}
 use Rattle.ps_components.specs.ComponentLists.{ComponentsData, AreComponents, AreMet, IsIn}
 use Rattle.ps_measure.specs.Sums.{sum_below}
 use Rattle.ps_measure.specs.Columns.{AreCounts, AreRoots, weights_from, IsColumn, AreRaised, IsPassed, inside, across, GrowsBelow, ArePassedFrom, value_at, value_of, AreLeast}
-use Rattle.ps_measure.proofs.Growing.{one_number, one_count, met_below, weights_from-more, weights_from-least, weights_from-bound}
+use Rattle.ps_measure.proofs.Growing.{one_number, one_count, weights_from-more, weights_from-least, weights_from-bound}
 
 -- ---- values that grow
 

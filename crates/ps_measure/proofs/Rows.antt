@@ -1,5 +1,5 @@
 -- Rows of counts: one count written, one column filled, and all of them.
-use Rattle.std.proofs.Common.{◌≡◌, ◌≢◌, ℕ, zero, suc, ◌+◌, ◌-◌, ◌*◌, ◌<◌, ◌≤◌, ◌∙◌, ◌++◌, ◌∷◌, [], List, length, get_or, set, inl, inr, refl, sym, ap, subst, arith, Option, None, Some, Bool, true, false, cond, nat_lt, replicate, Vec}
+use Rattle.std.proofs.Common.{◌≡◌, ◌≢◌, ℕ, zero, suc, ◌+◌, ◌*◌, ◌<◌, ◌≤◌, ◌∙◌, ◌++◌, ◌∷◌, [], List, length, get_or, set, inl, inr, refl, sym, ap, subst, arith, Option, Some, Bool, true, false, nat_lt, replicate, Vec}
 use Rattle.std.specs.Prelude.{slice_get, slice_index, slice_set}
 use Rattle.std.specs.Global.{Global}
 use Rattle.std.proofs.Math.Nat.{mul-le-mul_left}
@@ -8,7 +8,7 @@ use Rattle.std.proofs.lemmas.List.{get_or-set_same, get_or-set_other, get_or-rep
 use Rattle.std.proofs.lemmas.Option.{slice_get_within, slice_get-get_or, slice_get_past}
 use Rattle.ps_components.proofs.Places.{slice_get-set_same, slice_get-set_other, slice_get-append_left, slice_get-push}
 use Rattle.ps_components.specs.Graphs.{Digraph, Link}
-use Rattle.ps_game.specs.Games.{ParityGame, vertex_count, priority_of}
+use Rattle.ps_game.specs.Games.{ParityGame, vertex_count}
 use Rattle.ps_measure.specs.Sums.{sum_below, counted, count_below}
 use Rattle.ps_measure.specs.Ranks.{count_of, count_in, width_of, width_in, total_of, raised_of, most_raises, count_with, AreRows, AreLeastFor}
 use Rattle.ps_measure.specs.Filling.{IsEmptyAt, Fills, IsFilled}
@@ -188,9 +188,9 @@ ranked_more game player set table priorities old new place raises raised counts 
   ];
   empty = λ k from v. fills.others v k (λ e. omega (arith, e, from)) ∙ so_far.empty k (omega (arith, from)) v;
   raises_is =
-    let before : raised_of new (vertex_count game) place ≡ raised_of old (vertex_count game) place = sum_below-same (λ k. count_below (λ v. nat_lt 0 (count_of new v k)) (vertex_count game)) (λ k. count_below (λ v. nat_lt 0 (count_of old v k)) (vertex_count game)) place (λ k below. sum_below-same (λ v. counted (nat_lt 0 (count_of new v k))) (λ v. counted (nat_lt 0 (count_of old v k))) (vertex_count game) (λ v _. ap (λ n. counted (nat_lt 0 n)) (fills.others v k (λ e. omega (arith, e, below))))) in
-    let last : count_below (λ v. nat_lt 0 (count_of new v place)) (vertex_count game) ≡ count_below (λ v. nat_lt 0 (counts v)) (vertex_count game) = sum_below-same (λ v. counted (nat_lt 0 (count_of new v place))) (λ v. counted (nat_lt 0 (counts v))) (vertex_count game) (λ v below. ap (λ n. counted (nat_lt 0 n)) (fills.here v below)) in
-    omega (arith, so_far.raises_is, fills.raised_is, before, last, sum_below-next (λ k. count_below (λ v. nat_lt 0 (count_of new v k)) (vertex_count game)) place);
+      let before : raised_of new (vertex_count game) place ≡ raised_of old (vertex_count game) place = sum_below-same (λ k. count_below (λ v. nat_lt 0 (count_of new v k)) (vertex_count game)) (λ k. count_below (λ v. nat_lt 0 (count_of old v k)) (vertex_count game)) place (λ k below. sum_below-same (λ v. counted (nat_lt 0 (count_of new v k))) (λ v. counted (nat_lt 0 (count_of old v k))) (vertex_count game) (λ v _. ap (λ n. counted (nat_lt 0 n)) (fills.others v k (λ e. omega (arith, e, below))))) in
+      let last : count_below (λ v. nat_lt 0 (count_of new v place)) (vertex_count game) ≡ count_below (λ v. nat_lt 0 (counts v)) (vertex_count game) = sum_below-same (λ v. counted (nat_lt 0 (count_of new v place))) (λ v. counted (nat_lt 0 (counts v))) (vertex_count game) (λ v below. ap (λ n. counted (nat_lt 0 n)) (fills.here v below)) in
+      omega (arith, so_far.raises_is, fills.raised_is, before, last, sum_below-next (λ k. count_below (λ v. nat_lt 0 (count_of new v k)) (vertex_count game)) place);
 }
   where
     here : (v : ℕ) → count_of new v place ≡ counts v
@@ -208,19 +208,20 @@ ranked_fits game player set table priorities rows place raises small ranked =
 -- ---- rows of zeros
 
 pub rows_push : (rows : List Row) (row : Row) (n width : ℕ) → row.items ≡ replicate width 0 → AreRows rows n width → ((k : ℕ) → IsEmptyAt rows k) → AreRows (rows ++ row ∷ []) (n + 1) width × ((k : ℕ) → IsEmptyAt (rows ++ row ∷ []) k)
-rows_push rows row n width zeros shape empty =
-    (record {
-      each = omega (arith, length_push rows row, shape.each);
-      wide = λ v below. elim (cases_lt v n) [
-        | inl less ↦ ap width_in (at_old v (omega (arith, less, shape.each))) ∙ shape.wide v less
-        | inr more ↦ ap width_in (at_new v (omega (arith, below, more, shape.each))) ∙ ap length zeros ∙ length-replicate {A = ℕ} width 0
-      ];
-    },
-    λ k v. elim (cases_order v (length rows)) [
-      | inl same ↦ ap (λ o. count_in o k) (at_new v same) ∙ ap (λ l. slice_index l k) zeros ∙ zero_at k
-      | inr (inl less) ↦ ap (λ o. count_in o k) (at_old v less) ∙ empty k v
-      | inr (inr more) ↦ ap (λ o. count_in o k) (slice_get_past (rows ++ row ∷ []) v (omega (arith, more, length_push rows row)))
-    ])
+rows_push rows row n width zeros shape empty = (
+  record {
+    each = omega (arith, length_push rows row, shape.each);
+    wide = λ v below. elim (cases_lt v n) [
+      | inl less ↦ ap width_in (at_old v (omega (arith, less, shape.each))) ∙ shape.wide v less
+      | inr more ↦ ap width_in (at_new v (omega (arith, below, more, shape.each))) ∙ ap length zeros ∙ length-replicate {A = ℕ} width 0
+    ];
+  },
+  λ k v. elim (cases_order v (length rows)) [
+    | inl same ↦ ap (λ o. count_in o k) (at_new v same) ∙ ap (λ l. slice_index l k) zeros ∙ zero_at k
+    | inr (inl less) ↦ ap (λ o. count_in o k) (at_old v less) ∙ empty k v
+    | inr (inr more) ↦ ap (λ o. count_in o k) (slice_get_past (rows ++ row ∷ []) v (omega (arith, more, length_push rows row)))
+  ],
+)
   where
     at_old : (v : ℕ) → v < length rows → slice_get (rows ++ row ∷ []) v ≡ slice_get rows v
     at_old v less = slice_get-append_left rows (row ∷ []) v (get_or rows v row) (slice_get-get_or rows v row less) ∙ sym (slice_get-get_or rows v row less)
@@ -235,9 +236,10 @@ rows_push rows row n width zeros shape empty =
     ]
 
 pub rows_none : (width : ℕ) (rows : List Row) → rows ≡ [] → AreRows rows 0 width × ((k : ℕ) → IsEmptyAt rows k)
-rows_none width rows none =
-    (record { each = ap length none; wide = λ v below. absurd (omega (arith, below)) },
-    λ k v. ap (λ (l : List Row). count_of l v k) none)
+rows_none width rows none = (
+  record { each = ap length none; wide = λ v below. absurd (omega (arith, below)) },
+  λ k v. ap (λ (l : List Row). count_of l v k) none,
+)
 
 -- ---- no root
 

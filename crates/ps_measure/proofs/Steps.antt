@@ -1,11 +1,11 @@
 -- The steps of the pass over all links, on plain data.
-use Rattle.std.proofs.Common.{◌≡◌, ◌≢◌, ℕ, ◌+◌, ◌-◌, ◌*◌, ◌<◌, ◌≤◌, ◌∙◌, List, length, get_or, set, inl, inr, sym, ap, subst, arith, refl, Option, None, Some, Bool, true, false, cond, eqb, unwrap_or}
+use Rattle.std.proofs.Common.{◌≡◌, ℕ, ◌+◌, ◌-◌, ◌*◌, ◌<◌, ◌≤◌, ◌∙◌, List, length, get_or, inl, inr, sym, ap, subst, arith, Option, None, Some, Bool, true, false, eqb, unwrap_or}
 use Rattle.std.specs.Prelude.{slice_get, slice_index, slice_set}
 use Rattle.std.specs.Bool.{OnFalse, OnTrue}
-use Rattle.std.proofs.lemmas.Bool.{cases_eq, cases_lt, OnFalse_from, OnTrue_from, eqb-true, eqb-false}
+use Rattle.std.proofs.lemmas.Bool.{cases_eq, OnFalse_from, OnTrue_from, eqb-true, eqb-false}
 use Rattle.std.proofs.lemmas.List.{get_or_read, get_or-set_same, get_or-set_other}
 use Rattle.std.proofs.lemmas.Option.{slice_get-get_or, get_or_from_slice_get}
-use Rattle.ps_components.specs.Graphs.{Digraph, Link, SameOrWay}
+use Rattle.ps_components.specs.Graphs.{Digraph, Link}
 use Rattle.ps_components.specs.ComponentLists.{ComponentsData, AreComponents, AreMet, IsIn}
 use Rattle.ps_measure.specs.Sums.{sum_below, counted}
 use Rattle.ps_measure.specs.Remaining.{LowData, low_graph, low_weight}
@@ -166,15 +166,15 @@ root_step low roots c values i number components are within is column raised =
     more j v k below at in_k = elim (cases_eq k number) [
       | inl same ↦ at_number k same
       | inr apart ↦ elim (cases_eq j i) [
-          | inl here ↦
-              let e : get_or roots i 0 ≡ v = get_or_from_slice_get roots i v 0 (subst (λ n. slice_get roots n ≡ Some v) here at) in
-              let in_number : IsIn c v number = subst (λ x. IsIn c x number) e is in
-              absurd (apart (one_number c v k number in_k in_number))
-          | inr earlier ↦
-              let e : slice_index (slice_set values number 1) k ≡ slice_index values k = get_or-set_other values number k 1 0 apart in
-              let h : 1 ≤ slice_index values k = raised.raised j v k (omega (arith, below, earlier)) at in_k in
-              omega arith
-        ]
+        | inl here ↦
+            let e : get_or roots i 0 ≡ v = get_or_from_slice_get roots i v 0 (subst (λ n. slice_get roots n ≡ Some v) here at) in
+            let in_number : IsIn c v number = subst (λ x. IsIn c x number) e is in
+            absurd (apart (one_number c v k number in_k in_number))
+        | inr earlier ↦
+            let e : slice_index (slice_set values number 1) k ≡ slice_index values k = get_or-set_other values number k 1 0 apart in
+            let h : 1 ≤ slice_index values k = raised.raised j v k (omega (arith, below, earlier)) at in_k in
+            omega arith
+      ]
     ]
 
 -- a root has a number
@@ -190,9 +190,10 @@ root_met roots c i o met within is none =
 
 pub settled : (low : LowData) (roots : List ℕ) (c c' : ComponentsData) (old new : List ℕ) (n : ℕ) → AreRoots (low_graph low) (low_weight low) roots → AreMet roots c → AreRaised c old roots → c' ≡ c → IsCounting (low_graph low) (low_weight low) c' new → GrowsBelow old new n → ArePassedFrom (low_graph low) (low_weight low) c' new 0
     → (length c'.numbers ≡ low.star.count) × AreLeast (low_graph low) (low_weight low) (value_of c' new)
-settled low roots c c' old new n are met raised same counting grown passed =
-    (counting.components.counted,
-    least_counts (low_graph low) (low_weight low) c' new roots (weight_light low) counting.components are (subst (AreMet roots) (sym same) met) counting.column (subst (λ d. AreRaised d new roots) (sym same) (raised_before c old new roots n grown raised)) passed)
+settled low roots c c' old new n are met raised same counting grown passed = (
+  counting.components.counted,
+  least_counts (low_graph low) (low_weight low) c' new roots (weight_light low) counting.components are (subst (AreMet roots) (sym same) met) counting.column (subst (λ d. AreRaised d new roots) (sym same) (raised_before c old new roots n grown raised)) passed,
+)
 
 -- what stands in the order has a number
 pub order_met : (g : Digraph) (c : ComponentsData) (i v : ℕ) (o : Option ℕ) → AreComponents g c → slice_get c.order i ≡ Some v → slice_get c.numbers v ≡ Some o → ((n : ℕ) → o ≡ Some n → ⊥) → ⊥

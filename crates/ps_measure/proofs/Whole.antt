@@ -1,9 +1,7 @@
 -- One priority more, and what is said of all of them.
-use Rattle.std.proofs.Common.{◌≡◌, ℕ, ◌+◌, ◌*◌, ◌%◌, ◌<◌, ◌≤◌, ◌∙◌, List, length, refl, sym, ap, subst, arith, Bool, Option, Some, None}
+use Rattle.std.proofs.Common.{◌≡◌, ℕ, ◌+◌, ◌%◌, ◌<◌, ◌≤◌, ◌∙◌, List, length, refl, sym, ap, subst, arith, Bool, Option}
 use Rattle.std.specs.Prelude.{slice_index}
-use Rattle.std.specs.List.{All}
 use Rattle.std.proofs.lemmas.List.Elements.{All-get_or}
-use Rattle.ps_components.specs.Graphs.{Digraph}
 use Rattle.ps_game.specs.Games.{ParityGame, IsGame, vertex_count}
 use Rattle.ps_game.specs.Plays.{other_player}
 use Rattle.ps_game.specs.Regions.{has, move_at}
@@ -14,7 +12,7 @@ use Rattle.ps_measure.specs.Remaining.{RemainingData, remaining_graph, star_grap
 use Rattle.ps_measure.specs.Filling.{IsEmptyAt, Fills, IsFilled, IsLowRefusal, AreLevels}
 use Rattle.ps_measure.specs.Ranks.{AreRanks, AreRows, AreLeastFor, IsRefusal, count_of, width_of, total_of, raised_of, most_raises}
 use Rattle.ps_measure.proofs.Least.{least_for, lost_cycle, zero_past}
-use Rattle.ps_measure.proofs.Rows.{Row, AreRanked, ranked_more, ranked_fits, raised-le-total, raised-le-most}
+use Rattle.ps_measure.proofs.Rows.{Row, AreRanked, ranked_more, raised-le-total, raised-le-most}
 
 -- the graph for the priority at a place
 pub record IsAtPlace (r : RemainingData) (low : LowData) (priorities : List ℕ) (place : ℕ) : Type 0 where
@@ -42,10 +40,11 @@ refused r low priorities place OutOfMemory at listed way = tt
 -- the rows are ready for the next priority
 pub rows_ready : (r : RemainingData) (low : LowData) (priorities : List ℕ) (rows : List Row) (place raises : ℕ) → IsAtPlace r low priorities place → AreRanked r.game r.player (has r.region) (move_at r.strategy) priorities rows place raises
     → (length rows ≡ low.star.count) × ((v : ℕ) → v < length rows → place < width_of rows v) × IsEmptyAt rows place
-rows_ready r low priorities rows place raises at so_far =
-    (so_far.shape.each ∙ sym at.reverse.count,
-    (λ v below. (let e : width_of rows v ≡ length priorities = so_far.shape.wide v (omega (arith, below, so_far.shape.each)) in omega (arith, at.within))),
-    so_far.empty place (omega arith))
+rows_ready r low priorities rows place raises at so_far = (
+  so_far.shape.each ∙ sym at.reverse.count,
+  (λ v below. (let e : width_of rows v ≡ length priorities = so_far.shape.wide v (omega (arith, below, so_far.shape.each)) in omega (arith, at.within))),
+  so_far.empty place (omega arith),
+)
 
 pub ranked_none : (game : ParityGame) (player : ℕ) (set : ℕ → Bool) (table : ℕ → Option ℕ) (priorities : List ℕ) (rows : List Row) → AreRows rows (vertex_count game) (length priorities) → ((k : ℕ) → IsEmptyAt rows k) → AreRanked game player set table priorities rows 0 0
 ranked_none game player set table priorities rows shape empty = record {
@@ -60,8 +59,9 @@ pub whole : (game : ParityGame) (player : ℕ) (set : ℕ → Bool) (table : ℕ
     → AreRanks game player set table priorities rows × (raised_of rows (vertex_count game) (length priorities) ≤ raises) × (raises ≤ total_of rows (vertex_count game) (length priorities)) × (raises ≤ most_raises game set priorities)
 whole game player set table priorities rows place raises end listed ranked =
     let columns : (k : ℕ) → k < length priorities → AreLeastFor game player set table (slice_index priorities k) (λ v. count_of rows v k) = λ k below. ranked.columns k (omega (arith, below, end)) in
-    let is : raises ≡ raised_of rows (vertex_count game) (length priorities) = ranked.raises_is ∙ ap (raised_of rows (vertex_count game)) end in
-    (record { listed = listed; shape = ranked.shape; columns = columns },
-    omega (arith, is),
-    omega (arith, is, raised-le-total rows (vertex_count game) (length priorities)),
-    omega (arith, is, raised-le-most game player set table priorities rows columns))
+    let is : raises ≡ raised_of rows (vertex_count game) (length priorities) = ranked.raises_is ∙ ap (raised_of rows (vertex_count game)) end in (
+      record { listed = listed; shape = ranked.shape; columns = columns },
+      omega (arith, is),
+      omega (arith, is, raised-le-total rows (vertex_count game) (length priorities)),
+      omega (arith, is, raised-le-most game player set table priorities rows columns),
+    )

@@ -1,6 +1,4 @@
-use Rattle.std.proofs.Common.{refl, arith, ◌≡◌, ◌<◌, ◌∙◌, sym, Some, ℕ, subst, ap}
-use Rattle.std.specs.Prelude.{slice_index}
-use Rattle.std.proofs.lemmas.Bool.{leb-false}
+use Rattle.std.proofs.Common.{refl, arith, ◌∙◌, sym}
 use Rattle.ps_measure.proofs.Edges.{leads_low, leads_nowhere, none_low_next, high_target}
 use Rattle.ps_measure.proofs.measuring.leads_down.Goals as goal
 use Rattle.ps_measure.proofs.measuring.leads_down.Goals.{in-Some+else-is_low, in_default}

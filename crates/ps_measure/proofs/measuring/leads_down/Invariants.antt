@@ -1,5 +1,3 @@
-use Rattle.std.proofs.Common.{◌≡◌, ◌<◌, ◌≤◌, ℕ, Some}
-use Rattle.ps_components.specs.Graphs.{Link}
 use Rattle.ps_measure.proofs.Edges.{NoneLow}
 use Rattle.ps_measure.proofs.measuring.leads_down.Given as goal
 

@@ -10,9 +10,9 @@ loop-vertex-preserved g c = elim c.if-weight-eq1.branch [
       let down = w.leads_down.ensures.0 w.if-leads_down.true in
       rw (w.roots-is, w.in_ok-push.ensures.items) (roots_more c.args.low.now c.loop-vertex.roots.items c.loop-vertex.vertex down.0 down.1 (sym c.weight.ensures ∙ w.if-weight-eq1.true) c.loop-vertex.invariant)
   | else-weight-eq1 w ↦ rw w.roots-is (elim w.else-weight-eq1.branch [
-      | else-weight-eq1-via-then-weight-eq1+else-leads_down u ↦ roots_skip c.args.low.now c.loop-vertex.roots.items c.loop-vertex.vertex (λ x link heavy. both_ways u.leads_down.result u.if-leads_down.false (u.leads_down.ensures.1 (x, link))) c.loop-vertex.invariant
-      | else-weight-eq1-via-else-weight-eq1 u ↦ roots_skip c.args.low.now c.loop-vertex.roots.items c.loop-vertex.vertex (λ x link heavy. u.if-weight-eq1.false (c.weight.ensures ∙ heavy)) c.loop-vertex.invariant
-    ])
+    | else-weight-eq1-via-then-weight-eq1+else-leads_down u ↦ roots_skip c.args.low.now c.loop-vertex.roots.items c.loop-vertex.vertex (λ x link heavy. both_ways u.leads_down.result u.if-leads_down.false (u.leads_down.ensures.1 (x, link))) c.loop-vertex.invariant
+    | else-weight-eq1-via-else-weight-eq1 u ↦ roots_skip c.args.low.now c.loop-vertex.roots.items c.loop-vertex.vertex (λ x link heavy. u.if-weight-eq1.false (c.weight.ensures ∙ heavy)) c.loop-vertex.invariant
+  ])
 ]
 
 pub returns : goal.returns

@@ -1,4 +1,4 @@
-use Rattle.std.proofs.Common.{rules, arith, ◌≡◌, ◌<◌, ℕ, replicate, subst}
+use Rattle.std.proofs.Common.{rules, arith, ◌≡◌, ℕ, replicate, subst}
 use Rattle.ps_measure.specs.Ranks.{AreRows}
 use Rattle.ps_measure.proofs.Rows.{rows_push, rows_none}
 use Rattle.ps_measure.proofs.measuring.rows_of.Goals as goal

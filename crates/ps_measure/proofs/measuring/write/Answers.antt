@@ -1,10 +1,10 @@
-use Rattle.std.proofs.Common.{arith, nat_lt, refl, ap, sym, ◌<◌, ◌≡◌, ◌≤◌, length, set, ℕ}
+use Rattle.std.proofs.Common.{arith, nat_lt, refl, ap, ◌<◌, length, set, ℕ}
 use Rattle.std.proofs.lemmas.Option.{slice_get_read}
 use Rattle.std.specs.Vec.{with_item}
 use Rattle.ps_measure.specs.Columns.{value_of}
 use Rattle.ps_measure.specs.Ranks.{width_of}
 use Rattle.ps_measure.proofs.Summing.{count_below-bound}
-use Rattle.ps_measure.proofs.Rows.{fills_more, fills_skip, IsRowSet}
+use Rattle.ps_measure.proofs.Rows.{fills_more, fills_skip}
 use Rattle.ps_measure.proofs.measuring.write.Goals as goal
 use Rattle.ps_measure.proofs.measuring.write.Goals.{then-count-gt0, else-count-gt0}
 

@@ -1,4 +1,3 @@
-use Rattle.std.proofs.Common.{◌≤◌, length}
 use Rattle.ps_measure.specs.Columns.{value_of}
 use Rattle.ps_measure.specs.Filling.{Fills}
 use Rattle.ps_measure.proofs.measuring.write.Given as goal

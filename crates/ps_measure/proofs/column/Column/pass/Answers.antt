@@ -1,8 +1,6 @@
-use Rattle.std.proofs.Common.{arith, refl, ℕ, ◌≡◌, ◌+◌, ◌≤◌, ◌<◌, get_or, length, sym, ◌∙◌, rules}
-use Rattle.std.specs.Prelude.{slice_index}
+use Rattle.std.proofs.Common.{arith, ◌<◌, get_or, length}
 use Rattle.std.proofs.lemmas.List.{get_or_default}
-use Rattle.ps_measure.specs.Columns.{IsCounting}
-use Rattle.ps_measure.proofs.Steps.{IsStep, step_fits, step_counting, step_grows, step_raised, step_enough, step_inside, step_lost, step_read}
+use Rattle.ps_measure.proofs.Steps.{IsStep, step_fits, step_counting, step_raised, step_enough, step_inside, step_lost, step_read}
 use Rattle.ps_measure.proofs.column.Column.pass.Goals as goal
 
 pub weight-weight-requires : goal.weight-weight-requires

@@ -1,4 +1,4 @@
-use Rattle.std.proofs.Common.{arith, ℕ, ◌<◌, ◌≡◌, ◌∙◌, sym, subst}
+use Rattle.std.proofs.Common.{arith, ◌∙◌, sym, subst}
 use Rattle.std.proofs.lemmas.Bool.{OnFalse_at}
 use Rattle.ps_components.specs.ComponentLists.{ComponentsData, IsIn}
 use Rattle.ps_measure.proofs.Passing.{grows_on}
@@ -19,11 +19,11 @@ loop-place-preserved c =
             passed = pass_one c.args.low.now c.loop-place.self.components w.pass.new.self.components c.loop-place.self.values.items w.pass.new.self.values.items c.args.from c.args.number c.loop-place.place w.in-Some.to w.pass.ensures.components here inv.passed (sym w.in-Some.ensures.target) w.pass.ensures.grows (OnFalse_at w.if-pass.false w.pass.ensures.passed);
           })
       | in_default w ↦ rw w.self-is (record {
-          counting = inv.counting;
-          components = inv.components;
-          grows = inv.grows;
-          passed = pass_none c.args.low.now c.loop-place.self.components c.loop-place.self.values.items c.args.from c.loop-place.place inv.passed (sym c.target.ensures.target ∙ w.in_default.is);
-        })
+        counting = inv.counting;
+        components = inv.components;
+        grows = inv.grows;
+        passed = pass_none c.args.low.now c.loop-place.self.components c.loop-place.self.values.items c.args.from c.loop-place.place inv.passed (sym c.target.ensures.target ∙ w.in_default.is);
+      })
     ]
 
 pub returns-clause-passed : goal.returns-clause-passed

@@ -1,4 +1,4 @@
-use Rattle.std.proofs.Common.{arith, ℕ, ◌<◌, ◌≤◌, ◌≡◌, ◌∙◌, ◌-◌, Some, get_or, length, List, sym, subst, ap}
+use Rattle.std.proofs.Common.{arith, ℕ, ◌<◌, ◌≡◌, ◌∙◌, ◌-◌, Some, get_or, length, List, sym, subst, ap}
 use Rattle.std.specs.Prelude.{slice_get}
 use Rattle.std.proofs.lemmas.Option.{slice_get-get_or}
 use Rattle.ps_components.specs.ComponentLists.{ComponentsData, IsIn}
