@@ -1,6 +1,6 @@
-//! What no clause says: that memory is enough, and counts and cycles of small games that were found by hand.
+//! What no clause says: that memory is enough, and counts of small games that were found by hand.
 
-use crate::{MeasureFault, ranks};
+use crate::ranks;
 use ps_game::{Arena, Counts, Game, GameBuilder, Region, Strategy};
 use std::alloc::Global;
 use std::test::Fail;
@@ -38,24 +38,6 @@ fn each_count_is_raised_once(rt: HostRuntime) -> Result<(), Fail> {
     assert_eq!(rt; found.counts[1].as_slice(), [0].as_slice());
     assert_eq!(rt; found.counts[2].as_slice(), [1].as_slice());
     assert_eq!(rt; (counts.depth, counts.raises), (3, 2));
-    Ok(())
-}
-
-#[test]
-fn a_cycle_that_the_player_loses_is_found(rt: HostRuntime) -> Result<(), Fail> {
-    let game = game(rt.alloc())?;
-    let region = Region::full(rt.alloc(), game.count())?;
-    let mut strategy = Strategy::empty(rt.alloc(), game.count())?;
-    if 0 < strategy.places() {
-        strategy.set(0, 1);
-    }
-    let mut counts = Counts::default();
-    match ranks(rt.alloc(), &game, 0, &region, &strategy, &mut counts) {
-        Err(MeasureFault::BadCycle { cycle }) => {
-            assert_eq!(rt; cycle.as_slice(), [1].as_slice());
-        }
-        _ => assert!(rt; false, "a cycle"),
-    }
     Ok(())
 }
 
