@@ -6,3 +6,4 @@ pub mod Entering
 pub mod Closing
 pub mod Ended
 pub mod Spreads
+pub mod Knots

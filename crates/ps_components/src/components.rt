@@ -43,6 +43,13 @@ impl Components {
     {
         &self.order
     }
+
+    /// That order alone.
+    pub fn into_order(self) -> Vec<usize>
+        ensures { result.items ≡ self.order }
+    {
+        self.order
+    }
 }
 
 /// The components of all vertices.

@@ -1,0 +1,62 @@
+//! Orders of vertices in which each stands behind those to which it has a link.
+
+ghost use Rattle.std.specs.Prelude.{◌≡◌, ℕ, ◌<◌, ◌↔◌, IfOk, IfSome, IfNone, IsTrue};
+ghost use Rattle.ps_components.specs.ComponentLists.{AreComponents, AreAllMet};
+ghost use Rattle.ps_components.specs.Orders.{IsArrangement, IsKnot};
+
+use crate::components::{Components, components_of};
+use crate::graph::Graph;
+use std::alloc::{AllocError, Global};
+
+/// An order in which each vertex stands behind those to which it has a link, or the first vertex that leads back to itself.
+#[derive(Drop)]
+pub enum Arrangement {
+    Order(Vec<usize>),
+    Cyclic(usize),
+}
+
+/// Arranges the vertices of a graph by their links.
+pub fn arrange<G: Graph>(alloc: Global, graph: &G) -> Result<Arrangement, AllocError>
+    ensures { IfOk result (IsArrangement (G.graph graph.now)) }
+{
+    let components = components_of(alloc, graph)?;
+    match first_knot(graph, &components) {
+        Some(item) => Ok(Arrangement::Cyclic(item)),
+        None => Ok(Arrangement::Order(components.into_order())),
+    }
+}
+
+/// The first vertex with a link into its own component.
+fn first_knot<G: Graph>(graph: &G, components: &Components) -> Option<usize>
+    requires components { AreComponents (G.graph graph.now) components.now }
+    requires met { AreAllMet (G.graph graph.now) components.now }
+    ensures none { IfNone result ((i : ℕ) → i < (G.graph graph.now).count → ¬ IsKnot (G.graph graph.now) components.now i) }
+    ensures knot { IfSome result (IsKnot (G.graph graph.now) components.now) }
+    ensures first { IfSome result (λ i. (j : ℕ) → j < i → ¬ IsKnot (G.graph graph.now) components.now j) }
+{
+    for item in 0..graph.count() {
+        if is_knot(graph, components, item) {
+            return Some(item);
+        }
+    }
+    None
+}
+
+/// Whether a vertex has a link into its own component.
+fn is_knot<G: Graph>(graph: &G, components: &Components, item: usize) -> bool
+    requires item { item < (G.graph graph.now).count }
+    requires components { AreComponents (G.graph graph.now) components.now }
+    requires met { AreAllMet (G.graph graph.now) components.now }
+    ensures { IsTrue result ↔ IsKnot (G.graph graph.now) components.now item }
+{
+    let here = components.number(item);
+    for place in 0..graph.degree(item) {
+        if let Some(to) = graph.target(item, place) {
+            let there = components.number(to);
+            if there == here {
+                return true;
+            }
+        }
+    }
+    false
+}
