@@ -23,7 +23,7 @@ use Rattle.ps_aiger.specs.declared.fault.AigCause.{AigCause}
 use Rattle.ps_aiger.specs.declared.fault.AigCause.TheVariants.{Syntax}
 use Rattle.ps_aiger.specs.Causes.{AigFault}
 use Rattle.ps_text.specs.declared.faults.Fault.TheVariants.{Text, OutOfMemory}
-use Rattle.ps_aiger.specs.Ways.{Way}
+use Rattle.ps_components.specs.Graphs.{Way}
 use Rattle.ps_aiger.specs.Circuits.{CircuitData, readings, IsName, IsDraft, IsCircuit, Reads as ReadsGate}
 use Rattle.ps_aiger.specs.Signs.{Seen, Field, aig_causes, stream_of}
 use Rattle.ps_aiger.specs.Cursors.{next_byte, place_of, found_of}

@@ -5,13 +5,6 @@ pub mod NumberLemmas
 pub mod LineLemmas
 pub mod SymbolLemmas
 pub mod DraftLemmas
-pub mod Places
-pub mod Ways
-pub mod Entering
-pub mod Merging
-pub mod Closing
-pub mod Ending
-pub mod Stepping
 pub mod LinksLemmas
 pub mod ReadingLemmas
 pub mod WentFields

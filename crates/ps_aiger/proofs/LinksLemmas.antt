@@ -1,15 +1,16 @@
 -- Links stand for the gates that a gate reads.
-use Rattle.std.proofs.Common.{◌≡◌, ◌≢◌, ℕ, ◌+◌, ◌<◌, inl, inr, List, [], ◌∷◌, ◌++◌, map, length, get_or, refl, sym, ap, subst, ◌∙◌, arith, Bool, true, false, cond, nat_eq, Some, None, Option, slice_get, suc, AllPairs, length-append, option_map}
+use Rattle.std.proofs.Common.{◌≡◌, ◌≢◌, ℕ, ◌+◌, ◌<◌, IfSome, inl, inr, List, [], ◌∷◌, ◌++◌, map, length, get_or, refl, sym, ap, subst, ◌∙◌, arith, Bool, true, false, cond, nat_eq, Some, None, Option, slice_get, suc, zero, ◌⊎◌, AllPairs, length-append, option_map}
 use Rattle.std.proofs.lemmas.Option.{slice_get_within, slice_get-map, get_or_from_slice_get}
 use Rattle.std.proofs.lemmas.List.{length-map, get_or-map, get_or-append-add}
 use Rattle.std.proofs.lemmas.Bool.{cases_eq, cases_lt, eq-eqb, eqb-true}
-use Rattle.ps_aiger.specs.declared.search.Links.{Links}
+use Rattle.ps_aiger.specs.declared.links.Links.{Links}
 use Rattle.ps_aiger.specs.declared.parts.Gate.{Gate}
-use Rattle.ps_aiger.specs.Ways.{Way, IsOrder, IsFirstOnCycle}
-use Rattle.ps_aiger.specs.Search.{Link}
+use Rattle.ps_components.specs.Graphs.{Way, Link, IsWithin}
+use Rattle.ps_components.specs.Orders.{IsOrder, IsFirstOnCycle}
 use Rattle.ps_aiger.specs.Circuits.{CircuitData, variable, definitions, Reads}
-use Rattle.ps_aiger.specs.Drafts.{ArePlaces, links_by, AreLinksOf}
-use Rattle.ps_aiger.proofs.Ways.{Way-map}
+use Rattle.ps_aiger.specs.Drafts.{ArePlaces, links_by}
+use Rattle.ps_aiger.specs.GateGraphs.{side_of, target_of, graph_of, AreLinksOf}
+use Rattle.ps_components.proofs.Ways.{Way-map}
 
 eqb_false : (a b : ℕ) → (a ≡ b → ⊥) → nat_eq a b ≡ false
 eqb_false a b ne = which (nat_eq a b) refl
@@ -62,8 +63,8 @@ length-links_by place_of (g ∷ gates) = ap suc (length-links_by place_of gates)
 pub links-by_places : (gates : List Gate) (place_of : ℕ → Option ℕ) (links : List Links) → ArePlaces gates (length gates) place_of → links ≡ links_by place_of gates → AreLinksOf gates links
 links-by_places gates place_of links a e = record {
   each = ap length e ∙ length-links_by place_of gates;
-  link_reads = λ i j l. reads i j (subst (λ ls. Link ls i j) e l);
-  reads_link = λ i j r. subst (λ ls. Link ls i j) (sym e) (linked i j r);
+  link_reads = λ i j l. reads i j (subst (λ ls. Link (graph_of ls) i j) e l);
+  reads_link = λ i j r. subst (λ ls. Link (graph_of ls) i j) (sym e) (linked i j r);
 }
   where
     there : (i : ℕ) (sides : Links) → slice_get (links_by place_of gates) i ≡ Some sides → (g : Gate) × ((slice_get gates i ≡ Some g) × (place_of (variable g.first) ≡ sides.first) × (place_of (variable g.second) ≡ sides.second))
@@ -73,26 +74,33 @@ links-by_places gates place_of links a e = record {
         found None is e = cc
         found (Some g) is e = (g, (is, cc, cc))
 
-    reads : (i j : ℕ) → Link (links_by place_of gates) i j → Reads gates i j
-    reads i j l =
-        let g = there i l.sides l.there in
-        elim l.target [
-          | inl t ↦ (let h = a.back (variable g.0.first) j (g.1.1 ∙ t) in record { reader = g.0; read = h.0; at_i = g.1.0; at_j = h.1; side = inl (sym h.2) })
-          | inr t ↦ (let h = a.back (variable g.0.second) j (g.1.2 ∙ t) in record { reader = g.0; read = h.0; at_i = g.1.0; at_j = h.1; side = inr (sym h.2) })
+    read_by : (i j : ℕ) (g h : Gate) → slice_get gates i ≡ Some g → (side : ℕ) → (variable side ≡ variable g.first) ⊎ (variable side ≡ variable g.second) → (slice_get gates j ≡ Some h) × (variable h.literal ≡ variable side) → Reads gates i j
+    read_by i j g h at_i side (inl e) r = record { reader = g; read = h; at_i = at_i; at_j = r.0; side = inl (sym e ∙ sym r.1) }
+    read_by i j g h at_i side (inr e) r = record { reader = g; read = h; at_i = at_i; at_j = r.0; side = inr (sym e ∙ sym r.1) }
+
+    reads : (i j : ℕ) → Link (graph_of (links_by place_of gates)) i j → Reads gates i j
+    reads i j l = found (slice_get (links_by place_of gates) i) refl l.place l.at l.target
+      where
+        found : (o : Option Links) → slice_get (links_by place_of gates) i ≡ o → (place : ℕ) → place < 2 → target_of o place ≡ Some j → Reads gates i j
+        found None is place lt t = cc
+        found (Some sides) is zero lt t = (let g = there i sides is in let h = a.back (variable g.0.first) j (g.1.1 ∙ t) in read_by i j g.0 h.0 g.1.0 g.0.first (inl refl) (h.1, h.2))
+        found (Some sides) is (suc place) lt t = (let g = there i sides is in let h = a.back (variable g.0.second) j (g.1.2 ∙ t) in read_by i j g.0 h.0 g.1.0 g.0.second (inr refl) (h.1, h.2))
+
+    linked : (i j : ℕ) → Reads gates i j → Link (graph_of (links_by place_of gates)) i j
+    linked i j r =
+        let sides : Links = record { first = place_of (variable r.reader.first); second = place_of (variable r.reader.second) } in
+        let at : slice_get (links_by place_of gates) i ≡ Some sides = slice_get-map _ gates i ∙ (rw r.at_i) in
+        let from : i < length (links_by place_of gates) = slice_get_within (links_by place_of gates) i sides at in
+        elim r.side [
+          | inl e ↦ record { from = from; place = 0; at = omega arith; target = ap (λ o. target_of o 0) at ∙ ap place_of e ∙ a.forth j r.read r.at_j (slice_get_within gates j _ r.at_j) }
+          | inr e ↦ record { from = from; place = 1; at = omega arith; target = ap (λ o. target_of o 1) at ∙ ap place_of e ∙ a.forth j r.read r.at_j (slice_get_within gates j _ r.at_j) }
         ]
 
-    linked : (i j : ℕ) → Reads gates i j → Link (links_by place_of gates) i j
-    linked i j r = record {
-      sides = record { first = place_of (variable r.reader.first); second = place_of (variable r.reader.second) };
-      there = slice_get-map _ gates i ∙ (rw r.at_i);
-      target = elim r.side [ inl e ↦ inl (ap place_of e ∙ a.forth j r.read r.at_j (slice_get_within gates j _ r.at_j)) | inr e ↦ inr (ap place_of e ∙ a.forth j r.read r.at_j (slice_get_within gates j _ r.at_j)) ];
-    }
-
 module _ (gates : List Gate) (links : List Links) (a : AreLinksOf gates links) where
-  pub links_within : (i j : ℕ) → Link links i j → j < length links
+  pub links_within : IsWithin (graph_of links)
   links_within i j l = omega (arith, a.each, slice_get_within gates j _ (a.link_reads i j l).at_j)
 
-  pub order-of_links : (order : List ℕ) → IsOrder (Link links) (length links) order → IsOrder (Reads gates) (length gates) order
+  pub order-of_links : (order : List ℕ) → IsOrder (Link (graph_of links)) (length links) order → IsOrder (Reads gates) (length gates) order
   order-of_links order o = record {
     within = λ k i h. omega (arith, o.within k i h, a.each);
     once = o.once;
@@ -100,10 +108,10 @@ module _ (gates : List Gate) (links : List Links) (a : AreLinksOf gates links) w
     behind = λ k l i j hk hl r. o.behind k l i j hk hl (a.reads_link i j r);
   }
 
-  pub acyclic-of_links : ((i : ℕ) → Way (Link links) i i → ⊥) → (i : ℕ) → Way (Reads gates) i i → ⊥
+  pub acyclic-of_links : ((i : ℕ) → Way (Link (graph_of links)) i i → ⊥) → (i : ℕ) → Way (Reads gates) i i → ⊥
   acyclic-of_links none i w = none i (Way-map a.reads_link w)
 
-  pub cyclic-of_links : (i : ℕ) → IsFirstOnCycle (Link links) i → IsFirstOnCycle (Reads gates) i
+  pub cyclic-of_links : (i : ℕ) → IsFirstOnCycle (Link (graph_of links)) i → IsFirstOnCycle (Reads gates) i
   cyclic-of_links i c = record { cyclic = Way-map a.link_reads c.cyclic; first = λ j w. c.first j (Way-map a.reads_link w) }
 
 -- no two gates of a circuit have one variable
@@ -117,3 +125,11 @@ gates_once c once i j d lt within e =
   where
     at_gate : (i : ℕ) (d : Gate) → i < length c.gates → get_or (definitions c) (length (c.inputs ++ map (λ l. l.literal) c.latches) + i) 0 ≡ (get_or c.gates i d).literal
     at_gate i d lt = get_or-append-add (c.inputs ++ map (λ l. l.literal) c.latches) (map (λ g. g.literal) c.gates) i 0 ∙ get_or-map (λ g. g.literal) c.gates i d 0 lt
+
+-- where a side of a gate leads is a gate
+pub side_within : (links : List Links) (item place : ℕ) (sides : Links) → IsWithin (graph_of links) → slice_get links item ≡ Some sides → place < 2 → IfSome (side_of sides place) (λ to. to < length links)
+side_within links item place sides within at lt = which (side_of sides place) refl
+  where
+    which : (o : Option ℕ) → side_of sides place ≡ o → IfSome o (λ to. to < length links)
+    which None e = tt
+    which (Some to) e = within item to (record { from = slice_get_within links item sides at; place = place; at = lt; target = ap (λ o. target_of o place) at ∙ e })

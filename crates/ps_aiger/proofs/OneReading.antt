@@ -11,7 +11,8 @@ use Rattle.ps_aiger.specs.declared.cursor.Number.{Number}
 use Rattle.ps_aiger.specs.declared.fault.AigCause.{AigCause}
 use Rattle.ps_aiger.specs.declared.fault.AigCause.TheVariants as causes
 use Rattle.ps_aiger.specs.Causes.{cause_number}
-use Rattle.ps_aiger.specs.Ways.{Way, IsFirstOnCycle}
+use Rattle.ps_components.specs.Graphs.{Way}
+use Rattle.ps_components.specs.Orders.{IsFirstOnCycle}
 use Rattle.ps_aiger.specs.Circuits.{CircuitData, Reads as ReadsGate}
 use Rattle.ps_aiger.specs.Signs.{stream_of, aig_causes}
 use Rattle.ps_aiger.specs.Texts.{DraftData, circuit_text, IsDefined, IsFirstUndefined, Reads, refused, undefined, cyclic, meaning}

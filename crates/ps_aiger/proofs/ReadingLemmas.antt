@@ -10,10 +10,10 @@ use Rattle.std.proofs.lemmas.List.Quantifiers.{all_pairs_push}
 use Rattle.std.specs.Global.{Global}
 use Rattle.indexmap.specs.IndexSet.{insert_key}
 use Rattle.ps_aiger.specs.declared.parts.Gate.{Gate}
-use Rattle.ps_aiger.specs.Ways.{Way, last, next}
+use Rattle.ps_components.specs.Graphs.{Way, last, next}
 use Rattle.ps_aiger.specs.Circuits.{CircuitData, variable, definitions, readings, IsDefinition, IsName, IsDraft, Reads}
 use Rattle.ps_aiger.specs.Drafts.{name_bytes}
-use Rattle.ps_aiger.specs.Ways.{IsFirstOnCycle}
+use Rattle.ps_components.specs.Orders.{IsFirstOnCycle}
 use Rattle.ps_aiger.specs.Causes.{AigFault}
 use Rattle.ps_text.specs.declared.faults.Fault.TheVariants.{Text}
 use Rattle.ps_aiger.specs.declared.fault.AigCause.TheVariants.{Cyclic}

@@ -12,7 +12,7 @@ use Rattle.ps_aiger.specs.declared.cursor.Number.{Number}
 use Rattle.ps_aiger.specs.declared.parts.Latch.{Latch}
 use Rattle.ps_aiger.specs.declared.parts.Gate.{Gate}
 use Rattle.ps_aiger.specs.Circuits.{CircuitData, variable, definitions, readings, IsCircuit, Reads as ReadsGate}
-use Rattle.ps_aiger.specs.Ways.{Way}
+use Rattle.ps_components.specs.Graphs.{Way}
 use Rattle.ps_aiger.specs.Signs.{stream_of, ends_line, closed, aig_causes, pieces_at}
 use Rattle.ps_aiger.specs.Texts.{Lines, no_lines, next_lines, OfInput, OfLatch, OfOutput, NamesData, no_names, symbol_line, DraftData, draft_of, symbols, body, circuit_text, IsDefined, Reads, meaning}
 use Rattle.ps_aiger.specs.Written.{fields, line, latch_line as latch_line_of, symbol_line as symbol_line_of, header_line, literal_lines, latch_lines, gate_lines, symbol_lines, text_of}

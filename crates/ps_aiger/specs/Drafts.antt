@@ -1,12 +1,11 @@
 -- What a contract sees of the parts of a circuit.
-use Rattle.std.specs.Prelude.{◌≡◌, ℕ, ◌<◌, List, map, length, slice_get, Option, Some, Vec}
+use Rattle.std.specs.Prelude.{◌≡◌, ℕ, ◌<◌, List, map, slice_get, Option, Some, Vec}
 use Rattle.std.specs.Option.{option_map}
 use Rattle.std.specs.Global.{Global}
 use Rattle.ps_aiger.specs.declared.parts.Gate.{Gate}
 use Rattle.ps_aiger.specs.declared.parts.Parts.{Parts}
-use Rattle.ps_aiger.specs.declared.search.Links.{Links}
-use Rattle.ps_aiger.specs.Search.{Link}
-use Rattle.ps_aiger.specs.Circuits.{CircuitData, Reads, variable}
+use Rattle.ps_aiger.specs.declared.links.Links.{Links}
+use Rattle.ps_aiger.specs.Circuits.{CircuitData, variable}
 
 abbrev pub name_bytes : Option (Vec ℕ Global) → Option (List ℕ)
 name_bytes name = option_map (λ bytes. bytes.items) name
@@ -31,8 +30,3 @@ links_by place_of gates = map (λ g. record { first = place_of (variable g.first
 pub record ArePlaces (gates : List Gate) (n : ℕ) (place_of : ℕ → Option ℕ) : Type 0 where
   pub back : (v k : ℕ) → place_of v ≡ Some k → (g : Gate) × (slice_get gates k ≡ Some g) × (variable g.literal ≡ v)
   pub forth : (k : ℕ) (g : Gate) → slice_get gates k ≡ Some g → k < n → place_of (variable g.literal) ≡ Some k
-
-pub record AreLinksOf (gates : List Gate) (links : List Links) : Type 0 where
-  pub each : length links ≡ length gates
-  pub link_reads : (i j : ℕ) → Link links i j → Reads gates i j
-  pub reads_link : (i j : ℕ) → Reads gates i j → Link links i j

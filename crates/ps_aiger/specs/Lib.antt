@@ -1,7 +1,6 @@
-pub mod Ways
-pub mod Search
-pub mod Arrangements
 pub mod Circuits
+pub mod Values
+pub mod GateGraphs
 pub mod Drafts
 pub mod Written
 pub mod Causes

@@ -7,7 +7,7 @@ use Rattle.std.specs.Prelude.{◌≡◌, ◌≢◌, ℕ, ◌<◌, ◌⊎◌, Boo
 use Rattle.ps_text.specs.Answers.{Stream, Found}
 use Rattle.ps_text.specs.Parts.{PartAnswers}
 use Rattle.ps_text.specs.Readers.{Reads as ReadsPart, Stops}
-use Rattle.ps_aiger.specs.Ways.{IsFirstOnCycle}
+use Rattle.ps_components.specs.Orders.{IsFirstOnCycle}
 use Rattle.ps_aiger.specs.Circuits.{variable, IsDefinition, IsDraft, Reads}
 use Rattle.ps_aiger.specs.Drafts.{data_of}
 use Rattle.ps_aiger.specs.Signs.{Seen, aig_causes, gap, stream_of}

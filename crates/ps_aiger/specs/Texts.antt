@@ -23,7 +23,8 @@ use Rattle.std.specs.Prelude.{◌≡◌, ◌≢◌, ℕ, zero, suc, ◌+◌, ◌
 use Rattle.ps_text.specs.Answers.{Found}
 use Rattle.ps_text.specs.Parts.{PartAnswers, NoBad, give, one, then_by, either, times, many, mapped}
 use Rattle.ps_text.specs.Digits.{decimal_value}
-use Rattle.ps_aiger.specs.Ways.{Way, IsFirstOnCycle}
+use Rattle.ps_components.specs.Graphs.{Way}
+use Rattle.ps_components.specs.Orders.{IsFirstOnCycle}
 use Rattle.ps_aiger.specs.Circuits.{CircuitData, IsDefinition, variable, Reads as ReadsGate}
 use Rattle.ps_aiger.specs.Signs.{Seen, stream_of, aig_causes, Field, BeginsRun, is_digit, byte, word, number, gap, rest_of_line, newline, line_end, more, by_more}
 use Rattle.ps_aiger.specs.declared.cursor.Number.{Number}

@@ -2,13 +2,14 @@
 
 ghost use Rattle.std.specs.Prelude.{◌≡◌, ℕ, ◌<◌, length, map, slice_index_or, IfOk, None};
 ghost use Rattle.std.specs.Option.{option_copied};
-ghost use Rattle.ps_aiger.specs.Ways.{IsOrder, IsFirstOnCycle};
+ghost use Rattle.ps_components.specs.Orders.{IsOrder, IsFirstOnCycle};
 ghost use Rattle.ps_aiger.specs.Circuits.{CircuitData, IsDraft, IsCircuit, Reads};
 ghost use Rattle.ps_aiger.specs.Drafts.{data_of, name_bytes};
 
+use crate::gate_graph::GateGraph;
 use crate::links::links_of;
 use crate::parts::{Gate, Latch, Parts};
-use crate::search::{Arrangement, arrange};
+use ps_components::{Arrangement, arrange};
 use std::alloc::{AllocError, Global};
 use std::marker::Model;
 
@@ -49,14 +50,15 @@ impl Model for Circuit {
 
 impl Circuit {
     /// Makes a circuit of its parts, unless a gate depends on itself.
-    pub fn new(alloc: Global, parts: Parts) -> Result<Self, CircuitFault>
+    pub(crate) fn new(alloc: Global, parts: Parts) -> Result<Self, CircuitFault>
         requires { IsDraft (data_of parts) }
         ensures ok { IfOk result (λ c. c ≡ data_of parts) }
         ensures well_formed { IfOk result (λ c. IsCircuit c) }
         ensures cyclic { (i : ℕ) → result ≡ Err (CircuitFault.Cyclic i) → IsFirstOnCycle (Reads parts.gates.items) i }
     {
         let links = links_of(alloc, &parts.gates)?;
-        let arrangement = arrange(alloc, &links)?;
+        let graph = GateGraph { links };
+        let arrangement = arrange(alloc, &graph)?;
         match arrangement {
             Arrangement::Order(order) => Ok(Circuit { parts, order }),
             Arrangement::Cyclic(gate) => Err(CircuitFault::Cyclic { gate }),

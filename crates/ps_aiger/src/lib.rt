@@ -4,6 +4,7 @@
 mod circuit;
 mod cursor;
 mod fault;
+mod gate_graph;
 mod header;
 mod laws;
 mod lines;
@@ -11,13 +12,12 @@ mod links;
 mod names;
 mod parts;
 mod reader;
-mod search;
 mod writer;
 
-pub use circuit::{Circuit, CircuitFault};
+pub use circuit::Circuit;
 pub use fault::{AigCause, AigFault};
 pub use laws::one_answer;
-pub use parts::{Gate, Latch, Parts};
+pub use parts::{Gate, Latch};
 pub use reader::read;
 pub use writer::write;
 

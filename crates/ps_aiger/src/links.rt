@@ -2,13 +2,20 @@
 
 ghost use Rattle.std.specs.Prelude.{◌≡◌, ◌≢◌, ℕ, length, IfOk, AllPairs, nat_eq};
 ghost use Rattle.ps_aiger.specs.Circuits.{variable};
-ghost use Rattle.ps_aiger.specs.Drafts.{AreLinksOf, ArePlaces, links_by};
+ghost use Rattle.ps_aiger.specs.Drafts.{ArePlaces, links_by};
+ghost use Rattle.ps_aiger.specs.GateGraphs.{AreLinksOf};
 ghost use Rattle.indexmap.specs.IndexMap.{get};
 
 use crate::parts::Gate;
-use crate::search::Links;
 use indexmap::IndexMap;
 use std::alloc::{AllocError, Global};
+
+/// The places of the gates that a gate reads.
+#[derive(Clone, Copy)]
+pub struct Links {
+    pub first: Option<usize>,
+    pub second: Option<usize>,
+}
 
 /// For each gate, the places of the gates that it reads.
 pub fn links_of(alloc: Global, gates: &[Gate]) -> Result<Vec<Links>, AllocError>

@@ -6,7 +6,7 @@ use Rattle.ps_aiger.specs.declared.parts.Latch.{Latch}
 use Rattle.ps_aiger.specs.Circuits.{CircuitData, IsCircuit}
 use Rattle.ps_simulate.specs.declared.plan.Wire.{Wire}
 use Rattle.ps_simulate.specs.declared.plan.Plan.{Plan}
-use Rattle.ps_simulate.specs.Values.{AreValues, Steps, bit_of}
+use Rattle.ps_aiger.specs.Values.{AreValues, Steps, bit_of}
 use Rattle.ps_simulate.specs.Plans.{IsPlan, IsWithin, IsWorkedOut, read, wire_of, variables}
 use Rattle.ps_simulate.specs.Tables.{IsTable}
 use Rattle.ps_simulate.proofs.PlacesLemmas.{place_known, output_known, next_known}

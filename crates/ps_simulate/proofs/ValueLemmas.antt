@@ -9,7 +9,7 @@ use Rattle.std.proofs.lemmas.Bool.{ne_eqb}
 use Rattle.ps_aiger.specs.declared.parts.Latch.{Latch}
 use Rattle.ps_aiger.specs.Circuits.{CircuitData, IsCircuit, IsDefinition, IsKnown, variable, definitions}
 use Rattle.ps_simulate.specs.declared.plan.Row.{Row}
-use Rattle.ps_simulate.specs.Values.{AreValues, MeetsGate, value_of, bit_of}
+use Rattle.ps_aiger.specs.Values.{AreValues, MeetsGate, value_of, bit_of}
 use Rattle.ps_simulate.specs.Plans.{variables, place_of, wire_of, row_at, no_gate, AreRows, Holds, read, work_out}
 use Rattle.ps_simulate.proofs.PlacesLemmas.{place_of-at, sides_known}
 use Rattle.ps_simulate.proofs.RowLemmas.{no_latch, length-definitions, length-variables, definitions_input, definitions_latch, definitions_gate, place_of-definition, row_is, row_of_gate, target_is, IsScheduled-rows, IsWithin-row}

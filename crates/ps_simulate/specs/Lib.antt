@@ -1,4 +1,3 @@
-pub mod Values
 pub mod Simulations
 pub mod Plans
 pub mod Tables

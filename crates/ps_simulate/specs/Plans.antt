@@ -4,7 +4,7 @@ use Rattle.std.specs.Prelude.{◌≡◌, ℕ, ◌+◌, ◌<◌, ◌%◌, ◌==�
 use Rattle.std.specs.List.{position_or_len}
 use Rattle.ps_aiger.specs.declared.parts.Gate.{Gate}
 use Rattle.ps_aiger.specs.Circuits.{CircuitData, variable, definitions, Reads}
-use Rattle.ps_aiger.specs.Ways.{IsOrder}
+use Rattle.ps_components.specs.Orders.{IsOrder}
 use Rattle.ps_simulate.specs.declared.plan.Wire.{Wire}
 use Rattle.ps_simulate.specs.declared.plan.Row.{Row}
 use Rattle.ps_simulate.specs.declared.plan.Plan.{Plan}

@@ -1,6 +1,6 @@
 //! Laws of circuits.
 
-ghost use Rattle.ps_simulate.specs.Values.{HasOneValues};
+ghost use Rattle.ps_aiger.specs.Values.{HasOneValues};
 
 use ps_aiger::Circuit;
 

@@ -31,7 +31,7 @@ impl<'a> Model for Simulator<'a> {
 }
 
 impl<'a> Simulator<'a> {
-    ghost use Rattle.ps_simulate.specs.Values.{Steps, resets};
+    ghost use Rattle.ps_aiger.specs.Values.{Steps, resets};
     ghost use Rattle.ps_simulate.specs.Plans.{variables};
 
     /// Starts a circuit, its latches at their resets.

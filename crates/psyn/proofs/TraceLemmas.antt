@@ -5,7 +5,7 @@ use Rattle.std.proofs.lemmas.List.{map_push, flat_map_more, take_more, get_or-ma
 use Rattle.ps_aiger.specs.Circuits.{CircuitData}
 use Rattle.ps_simulate.specs.Simulations.{Simulation}
 use Rattle.ps_simulate.specs.Stimuli.{letters_of}
-use Rattle.ps_simulate.specs.Values.{Moment, Steps, GoesOn, resets}
+use Rattle.ps_aiger.specs.Values.{Moment, Steps, GoesOn, resets}
 use Rattle.psyn.specs.Simulating.{moment_line, HasPrinted, PrintsStep, PrintsTrace}
 
 -- one more step

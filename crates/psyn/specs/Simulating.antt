@@ -2,7 +2,7 @@
 use Rattle.std.specs.Prelude.{◌≡◌, ℕ, Bool, List, ◌++◌, map, flat_map, codes, Result, Ok}
 use Rattle.ps_aiger.specs.Circuits.{CircuitData}
 use Rattle.ps_simulate.specs.StimulusTexts.{digits_of}
-use Rattle.ps_simulate.specs.Values.{Moment, Steps, IsTrace, GoesOn, resets}
+use Rattle.ps_aiger.specs.Values.{Moment, Steps, IsTrace, GoesOn, resets}
 use Rattle.ps_simulate.specs.Simulations.{Simulation}
 use Rattle.psyn.specs.Outcomes.{Then}
 use Rattle.psyn.specs.Replies.{Reply, text_reply}
