@@ -13,3 +13,4 @@ pub mod WentCircuits
 pub mod WentNames
 pub mod WentText
 pub mod OneReading
+pub mod Ordered

@@ -1,6 +1,6 @@
 //! Circuits.
 
-ghost use Rattle.std.specs.Prelude.{◌≡◌, ℕ, ◌<◌, length, map, slice_index_or, IfOk, None};
+ghost use Rattle.std.specs.Prelude.{◌≡◌, ℕ, ◌<◌, length, map, slice_index, slice_index_or, IfOk, None};
 ghost use Rattle.std.specs.Option.{option_copied};
 ghost use Rattle.ps_components.specs.Orders.{IsOrder, IsFirstOnCycle};
 ghost use Rattle.ps_aiger.specs.Circuits.{CircuitData, IsDraft, IsCircuit, Reads};
@@ -63,6 +63,17 @@ impl Circuit {
             Arrangement::Order(order) => Ok(Circuit { parts, order }),
             Arrangement::Cyclic(gate) => Err(CircuitFault::Cyclic { gate }),
         }
+    }
+
+    /// Makes a circuit of its parts, whose gates each stand behind those that they read.
+    pub(crate) fn in_order(alloc: Global, parts: Parts) -> Result<Self, AllocError>
+        requires draft { IsDraft (data_of parts) }
+        requires ordered { (i j : ℕ) → Reads parts.gates.items i j → j < i }
+        ensures ok { IfOk result (λ c. c ≡ data_of parts) }
+        ensures well_formed { IfOk result (λ c. IsCircuit c) }
+    {
+        let order = places_up_to(alloc, parts.gates.len())?;
+        Ok(Circuit { parts, order })
     }
 
     /// The greatest variable that the circuit may use.
@@ -163,4 +174,16 @@ impl Circuit {
             None => None,
         }
     }
+}
+
+/// The places before this one.
+fn places_up_to(alloc: Global, count: usize) -> Result<Vec<usize>, AllocError>
+    ensures count { IfOk result (λ places. length places.items ≡ count) }
+    ensures each { IfOk result (λ places. (k : ℕ) → k < count → slice_index places.items k ≡ k) }
+{
+    let mut places = Vec::new(alloc);
+    for place in 0..count {
+        places.push(place)?;
+    }
+    Ok(places)
 }
