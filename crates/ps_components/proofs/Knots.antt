@@ -52,17 +52,17 @@ module _ (g : Digraph) (c : ComponentsData) (a : AreComponents g c) (met : AreAl
     once = λ k l i hk hl. a.once k l i hk hl;
     each = λ i lt. (let k = met i lt in a.listed i k.0 k.1);
     behind = λ k l i j hk hl r.
-      (let o = a.ordered k i hk in
-      let m = a.falls i o.0 j o.1 r in
-      let knot : m.0 ≡ o.0 → IsKnot g c i = λ e. knot_at i j o.0 m.0 r o.1 m.1 e in
-      elim (cases_lt l k) [
-        | inl lt ↦ lt
-        | inr le ↦ elim (cases_eq k l) [
-          | inl e ↦ (let here : slice_get c.order l ≡ Some i = subst (λ x. slice_get c.order x ≡ Some i) e hk in
-              let same : i ≡ j = cc in
-              let at : IsIn c i m.0 = subst (λ x. IsIn c x m.0) (sym same) m.1 in
-              absurd (none i r.from (knot (let was = o.1 in cc))))
-          | inr ne ↦ absurd (none i r.from (knot (omega (arith, m.2, a.rises k l i j o.0 m.0 (omega arith) hk hl o.1 m.1))))
-        ]
-      ]);
+        (let o = a.ordered k i hk in
+        let m = a.falls i o.0 j o.1 r in
+        let knot : m.0 ≡ o.0 → IsKnot g c i = λ e. knot_at i j o.0 m.0 r o.1 m.1 e in
+        elim (cases_lt l k) [
+          | inl lt ↦ lt
+          | inr le ↦ elim (cases_eq k l) [
+            | inl e ↦ (let here : slice_get c.order l ≡ Some i = subst (λ x. slice_get c.order x ≡ Some i) e hk in
+                let same : i ≡ j = cc in
+                let at : IsIn c i m.0 = subst (λ x. IsIn c x m.0) (sym same) m.1 in
+                absurd (none i r.from (knot (let was = o.1 in cc))))
+            | inr ne ↦ absurd (none i r.from (knot (omega (arith, m.2, a.rises k l i j o.0 m.0 (omega arith) hk hl o.1 m.1))))
+          ]
+        ]);
   }

@@ -8,8 +8,7 @@ pub invariant_of-result : goal.invariant_of-result
 invariant_of-result c =
     let gates = c.args.parts.gates.items in
     let n : c.len.result ≡ length gates = c.len.ensures ∙ c.args.parts.gates.ok.0 in
-    let within : (i j : ℕ) → Reads gates i j → i < length gates = λ i j r. slice_get_within gates i _ r.at_i in
-    (
+    let within : (i j : ℕ) → Reads gates i j → i < length gates = λ i j r. slice_get_within gates i _ r.at_i in (
       record { draft = c.requires.draft; acyclic = acyclic (Reads gates) (length gates) c.requires.ordered within },
       order-of_places (Reads gates) (length gates) c.requires.ordered within c.in_ok-order.order.items (c.in_ok-order.ensures.count ∙ n) (λ k lt. c.in_ok-order.ensures.each k (subst (λ m. k < m) (sym n) lt)),
     )
