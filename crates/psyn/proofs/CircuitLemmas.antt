@@ -1,5 +1,5 @@
 -- Texts of circuits and of stimuli.
-use Rattle.std.proofs.Common.{ℕ, Bool, false, List, length, Ok, Err, refl, inl, inr}
+use Rattle.std.proofs.Common.{ℕ, false, List, length, Ok, Err, refl, inl, inr}
 use Rattle.ps_aiger.specs.Circuits.{CircuitData}
 use Rattle.ps_simulate.specs.Stimuli.{StimulusData}
 use Rattle.psyn.specs.declared.answer.Refusal.{Refusal}

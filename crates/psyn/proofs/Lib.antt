@@ -5,3 +5,6 @@ pub mod OutcomeLemmas
 pub mod TextLemmas
 pub mod CircuitLemmas
 pub mod TraceLemmas
+pub mod KindLemmas
+pub mod OneTrace
+pub mod OneAnswer

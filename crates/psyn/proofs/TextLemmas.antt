@@ -1,5 +1,5 @@
 -- Faults of texts, and the vertices of flaws.
-use Rattle.std.proofs.Common.{◌<◌, ℕ, List, length, Option, IfSome, Ok, Err, refl, inl, inr, subst}
+use Rattle.std.proofs.Common.{◌<◌, ℕ, List, Option, IfSome, Ok, Err, refl, inl, inr, subst}
 use Rattle.ps_game.specs.Games.{ParityGame, NamedGameData, IsGame, vertex_count}
 use Rattle.ps_certificate.specs.declared.flaw.Flaw.{Flaw}
 use Rattle.ps_certificate.specs.declared.flaw.Flaw.TheVariants as flaw

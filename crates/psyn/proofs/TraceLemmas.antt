@@ -1,5 +1,5 @@
 -- Traces that are printed, letter by letter.
-use Rattle.std.proofs.Common.{◌≡◌, ◌∙◌, ◌+◌, ◌<◌, ℕ, Bool, List, [], ◌∷◌, ◌++◌, Vec, All, map, length, take, get_or, refl, sym, ap, subst, arith}
+use Rattle.std.proofs.Common.{◌≡◌, ◌∙◌, ◌+◌, ◌<◌, ℕ, Bool, List, [], ◌∷◌, ◌++◌, Vec, All, length, take, get_or, refl, sym, ap, subst, arith}
 use Rattle.std.specs.Global.{Global}
 use Rattle.std.proofs.lemmas.List.{map_push, flat_map_more, take_more, get_or-map, length-map}
 use Rattle.ps_aiger.specs.Circuits.{CircuitData}

@@ -1,16 +1,16 @@
 -- The commands that test a certificate of a game.
 use Rattle.std.specs.Prelude.{◌≡◌, ℕ, List, Result, Ok, Err, codes}
-use Rattle.ps_game.specs.Games.{ParityGame, NamedGameData}
+use Rattle.ps_game.specs.Games.{ParityGame, NamedGameData, IsGame}
 use Rattle.ps_certificate.specs.declared.flaw.Flaw.{Flaw}
 use Rattle.ps_certificate.specs.Certificates.{CertificateData, IsClosed, IsValid, IsFirstFlaw}
 use Rattle.psyn.specs.Outcomes.{Then}
 use Rattle.psyn.specs.Replies.{Reply, line_reply}
 use Rattle.psyn.specs.Texts.{ReadsCertified, flaw_text}
 
--- one word where the certificate is good, and else its first flaw
+-- one word where the certificate is good, and else its first flaw in the game
 abbrev pub Tests : (ParityGame → CertificateData → Type 0) → List ℕ → NamedGameData → CertificateData → Result Reply (List ℕ) → Type 0
 Tests IsGood word named certificate (Ok reply) = IsGood named.game certificate × (reply ≡ line_reply word)
-Tests IsGood word named certificate (Err line) = ¬ (IsGood named.game certificate)
+Tests IsGood word named certificate (Err line) = IsGame named.game × ¬ (IsGood named.game certificate)
     × ((flaw : Flaw) × IsFirstFlaw named.game certificate flaw × (line ≡ flaw_text named flaw))
 
 -- `closed`

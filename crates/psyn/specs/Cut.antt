@@ -1,5 +1,5 @@
 -- How the input falls into its first line and its texts.
-use Rattle.std.specs.Prelude.{◌≡◌, ◌+◌, ◌-◌, ◌<◌, ◌==◌, ◌&&◌, ◌||◌, ℕ, Bool, true, false, List, length, take, drop, slice_index, nat_le}
+use Rattle.std.specs.Prelude.{◌≡◌, ◌⊎◌, ◌+◌, ◌-◌, ◌<◌, ◌==◌, ◌&&◌, ◌||◌, ℕ, zero, suc, Bool, true, false, List, [], ◌∷◌, length, take, drop, slice_index, nat_le}
 use Rattle.std.specs.List.{before_first, after_first}
 
 -- the first line, without its newline
@@ -35,3 +35,15 @@ pub record Cuts (text first second : List ℕ) : Type 0 where
   pub none_before : (place : ℕ) → place < mark → is_mark text place ≡ false
   pub before : first ≡ take mark text
   pub behind : second ≡ drop (mark + 3) text
+
+-- the texts of an input, parted by its first lines `%%`; further such lines belong to the last text
+abbrev pub AreTexts : List ℕ → List (List ℕ) → Type 0
+AreTexts input [] = ⊥
+AreTexts input (last ∷ []) = last ≡ input
+AreTexts input (first ∷ second ∷ more) = (rest : List ℕ) × Cuts input first rest × AreTexts rest (second ∷ more)
+
+-- fewer lines `%%` than that
+abbrev pub HasFewerMarks : ℕ → List ℕ → Type 0
+HasFewerMarks zero input = ⊥
+HasFewerMarks (suc count) input =
+    HasNoMark input ⊎ ((first : List ℕ) × (rest : List ℕ) × Cuts input first rest × HasFewerMarks count rest)

@@ -1,6 +1,7 @@
 pub mod Checks
 pub mod CommandLine
 pub mod Cut
+pub mod Determined
 pub mod Faults
 pub mod Input
 pub mod Outcomes

@@ -31,6 +31,10 @@ abbrev pub AnswersWhole : List ℕ → Reply → Type 0
 AnswersWhole input reply = ((input_limit < length input) × (reply ≡ read_fault))
     ⊎ ((length input ≤ input_limit) × Answers input reply)
 
+-- the same, where any growth may have been refused
+abbrev pub RepliesTo : List ℕ → Reply → Type 0
+RepliesTo input reply = (reply ≡ out_of_memory) ⊎ AnswersWhole input reply
+
 -- the answer to what a source has, where a read failed or none did: any growth may have been refused
 abbrev pub Replies : Option (List ℕ) → Bool → Reply → Type 0
 Replies known true reply = reply ≡ read_fault
@@ -40,14 +44,14 @@ Replies known false reply = (reply ≡ out_of_memory)
 -- the answer went out whole and was flushed
 pub record WritesAll (before after : SinkState) (reply : Reply) (status : ℕ) : Type 0 where
   pub sound : after.has_failed ≡ false
-  pub steady : after.stall_count ≡ before.stall_count
+  pub moving : after.has_stalled ≡ false
   pub text : Appends before.contents after.contents reply.text
   pub flushed : after.is_flushed ≡ true
   pub answered : status ≡ reply.status
 
 -- a write or the flush failed, or a write took no bytes: a beginning of the answer went out
 pub record WritesPart (before after : SinkState) (reply : Reply) (status : ℕ) : Type 0 where
-  pub broken : Breaks before.stall_count after.stall_count after.has_failed after.is_stalled
+  pub broken : Breaks after.has_failed after.has_stalled
   pub text : AppendsSome before.contents after.contents reply.text
   pub refused : status ≡ 1
 

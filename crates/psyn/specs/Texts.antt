@@ -1,5 +1,5 @@
 -- The texts of the commands, as their readers answer them.
-use Rattle.std.specs.Prelude.{◌≡◌, ◌<◌, ℕ, Bool, false, IfSome, List, ◌++◌, codes, length, Result, Ok, Err, option_map, slice_index}
+use Rattle.std.specs.Prelude.{◌≡◌, ◌<◌, ℕ, Bool, false, IfSome, List, [], ◌∷◌, ◌++◌, codes, length, Result, Ok, Err, option_map, slice_index}
 use Rattle.ps_game.specs.Games.{NamedGameData}
 use Rattle.ps_pgsolver.specs.Causes as game
 use Rattle.ps_pgsolver.specs.Reading.{Answer}
@@ -15,7 +15,7 @@ use Rattle.ps_aiger.specs.Texts as circuit_text
 use Rattle.ps_simulate.specs.Faults as stimulus
 use Rattle.ps_simulate.specs.Stimuli.{StimulusData}
 use Rattle.ps_simulate.specs.StimulusTexts as stimulus_text
-use Rattle.psyn.specs.Cut.{HasNoMark, Cuts}
+use Rattle.psyn.specs.Cut.{AreTexts, HasFewerMarks}
 use Rattle.psyn.specs.Faults.{spaced, choice_text}
 use Rattle.psyn.specs.Outcomes.{Then, Reading}
 
@@ -24,10 +24,15 @@ use Rattle.psyn.specs.Outcomes.{Then, Reading}
 abbrev pub missing_text : List ℕ
 missing_text = codes "fault 27 MissingText"
 
--- the two texts that a line `%%` parts
+-- two texts
 abbrev pub CutsInTwo : List ℕ → Result (List ℕ × List ℕ) (List ℕ) → Type 0
-CutsInTwo texts (Ok parts) = Cuts texts parts.0 parts.1
-CutsInTwo texts (Err line) = HasNoMark texts × (line ≡ missing_text)
+CutsInTwo texts (Ok parts) = AreTexts texts (parts.0 ∷ parts.1 ∷ [])
+CutsInTwo texts (Err line) = HasFewerMarks 1 texts × (line ≡ missing_text)
+
+-- three texts; each missing one is told before any is read
+abbrev pub CutsInThree : List ℕ → Result (List ℕ × List ℕ × List ℕ) (List ℕ) → Type 0
+CutsInThree texts (Ok parts) = AreTexts texts (parts.0 ∷ parts.1 ∷ parts.2 ∷ [])
+CutsInThree texts (Err line) = HasFewerMarks 2 texts × (line ≡ missing_text)
 
 -- ---- game texts
 

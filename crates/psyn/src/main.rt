@@ -7,6 +7,8 @@ pub mod command_line;
 pub mod cut;
 pub mod fault;
 pub mod fault_text;
+pub mod laws;
+pub mod memory;
 pub mod program;
 pub mod reading;
 pub mod run;

@@ -21,12 +21,13 @@ use std::alloc::Global;
 pub fn run<R: Source, W: Sink>(alloc: Global, reader: &mut R, writer: &mut W) -> u8
     requires reader { R.has_failed reader.old ≡ false }
     requires writer { W.has_failed writer.old ≡ false }
+    requires moving { W.has_stalled writer.old ≡ false }
     ensures consumed { ConsumesAtMost (R.remaining reader.old) (R.remaining reader.new)
         (input_limit + 1) }
     ensures answered { (reply : Reply)
         × Replies (R.remaining reader.old) (R.has_failed reader.new) reply
-        × Writes (sink_state W.contents W.has_failed W.stall_count W.is_stalled W.is_flushed writer.old)
-        (sink_state W.contents W.has_failed W.stall_count W.is_stalled W.is_flushed writer.new)
+        × Writes (sink_state W.contents W.has_failed W.has_stalled W.is_flushed writer.old)
+        (sink_state W.contents W.has_failed W.has_stalled W.is_flushed writer.new)
         reply result }
 {
     match read_input(alloc, reader) {
@@ -41,10 +42,11 @@ pub fn run<R: Source, W: Sink>(alloc: Global, reader: &mut R, writer: &mut W) ->
 
 /// Writes an answer, and gives the exit status.
 fn write_reply<W: Sink>(writer: &mut W, text: &[u8], status: u8) -> u8
-    requires { W.has_failed writer.old ≡ false }
+    requires sound { W.has_failed writer.old ≡ false }
+    requires moving { W.has_stalled writer.old ≡ false }
     ensures { Writes
-        (sink_state W.contents W.has_failed W.stall_count W.is_stalled W.is_flushed writer.old)
-        (sink_state W.contents W.has_failed W.stall_count W.is_stalled W.is_flushed writer.new)
+        (sink_state W.contents W.has_failed W.has_stalled W.is_flushed writer.old)
+        (sink_state W.contents W.has_failed W.has_stalled W.is_flushed writer.new)
         (record { text = text.now; status = status }) result }
 {
     match send(writer, text) {

@@ -1,6 +1,6 @@
 //! Writes an answer to a sink.
 
-ghost use Rattle.std.specs.Prelude.{◌≡◌, ◌+◌, true, false, IsOk, OnOk, OnErr};
+ghost use Rattle.std.specs.Prelude.{◌≡◌, true, false, IsOk, OnOk, OnErr};
 ghost use Rattle.std.specs.Io.KnownBytes.{Appends};
 ghost use Rattle.psyn.specs.Streams.{AppendsSome, Breaks};
 
@@ -14,15 +14,15 @@ pub struct WriteFault;
 /// Writes all of `text`, then flushes. Nothing is written after a fault, or after a write that
 /// took no bytes.
 pub fn send<W: Sink>(writer: &mut W, text: &[u8]) -> Result<(), WriteFault>
-    requires { W.has_failed writer.old ≡ false }
+    requires sound { W.has_failed writer.old ≡ false }
+    requires moving { W.has_stalled writer.old ≡ false }
     ensures whole { OnOk result (Appends (W.contents writer.old) (W.contents writer.new) text.now) }
     ensures sound { OnOk result (W.has_failed writer.new ≡ false) }
-    ensures steady { OnOk result (W.stall_count writer.new ≡ W.stall_count writer.old) }
+    ensures moving { OnOk result (W.has_stalled writer.new ≡ false) }
     ensures flushed { OnOk result (W.is_flushed writer.new ≡ true) }
     ensures part { OnErr result
         (AppendsSome (W.contents writer.old) (W.contents writer.new) text.now) }
-    ensures broken { OnErr result (Breaks (W.stall_count writer.old) (W.stall_count writer.new)
-        (W.has_failed writer.new) (W.is_stalled writer.new)) }
+    ensures broken { OnErr result (Breaks (W.has_failed writer.new) (W.has_stalled writer.new)) }
 {
     let mut sent = 0;
     'chunks: while sent < text.len() {

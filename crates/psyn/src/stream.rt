@@ -1,9 +1,10 @@
-//! What the program reads from and writes to, and what each of the two tells of its faults.
+//! What the program reads from and writes to, and what each of the two tells of its faults. Nothing is read or written after
+//! a fault, nor written after a write that took no bytes.
 
-ghost use Rattle.std.specs.Prelude.{◌≡◌, ◌+◌, ℕ, Bool, List, Option, true, false, is_err, IsOk, OnOk};
+ghost use Rattle.std.specs.Prelude.{◌≡◌, ℕ, Bool, List, Option, true, false, is_err, IsOk, OnOk};
 ghost use Rattle.std.specs.Io.{ReadsAtMost, WritesAtMost};
 ghost use Rattle.std.specs.Io.KnownBytes.{ReadConsumes, WriteAppends, Keeps};
-ghost use Rattle.psyn.specs.Streams.{stalls, stall_of};
+ghost use Rattle.psyn.specs.Streams.{stalls};
 
 use std::io;
 
@@ -36,32 +37,29 @@ pub trait Sink {
     // A call answered a fault.
     ghost has_failed: { Self → Bool };
 
-    // How many writes took none of the bytes that they were given.
-    ghost stall_count: { Self → ℕ };
-
-    // The last call was such a write, so nothing was written after it.
-    ghost is_stalled: { Self → Bool };
+    // A write took none of the bytes that it was given.
+    ghost has_stalled: { Self → Bool };
 
     // The last call was a flush that succeeded.
     ghost is_flushed: { Self → Bool };
 
     /// Writes some of `buf`, from its front, and answers how many bytes went out.
     fn write(&mut self, buf: &[u8]) -> io::Result<usize>
-        requires { has_failed self.old ≡ false }
+        requires sound { has_failed self.old ≡ false }
+        requires moving { has_stalled self.old ≡ false }
         ensures bound { WritesAtMost result buf.now }
         ensures bytes { WriteAppends (contents self.old) (contents self.new) result buf.now }
         ensures told { has_failed self.new ≡ is_err result }
-        ensures counted { stall_count self.new ≡ stall_count self.old + stall_of result buf.now }
-        ensures stalled { is_stalled self.new ≡ stalls result buf.now }
+        ensures stalled { has_stalled self.new ≡ stalls result buf.now }
         ensures unflushed { is_flushed self.new ≡ false };
 
     /// Sends on what the writer keeps back.
     fn flush(&mut self) -> io::Result<()>
-        requires { has_failed self.old ≡ false }
+        requires sound { has_failed self.old ≡ false }
+        requires moving { has_stalled self.old ≡ false }
         ensures bytes { Keeps (contents self.old) (contents self.new) }
         ensures told { has_failed self.new ≡ is_err result }
-        ensures counted { stall_count self.new ≡ stall_count self.old }
-        ensures stalled { is_stalled self.new ≡ false }
+        ensures stalled { has_stalled self.new ≡ false }
         ensures flushed { OnOk result (is_flushed self.new ≡ true) };
 
     /// Whether a call has answered a fault.

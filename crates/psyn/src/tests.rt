@@ -3,10 +3,12 @@
 mod rows;
 mod streams;
 
+use crate::memory::run_in_memory;
 use crate::run::run;
+use crate::watched::Watched;
 use rows::ROWS;
 use std::test::Fail;
-use streams::{Endless, Script, Written};
+use streams::{Endless, Kept, Script, Written};
 
 /// A game whose certificate is closed.
 const EXAMPLE: &str =
@@ -30,16 +32,14 @@ const UNREADABLE: &[u8] = b"fault 25 ReadFault\n";
 #[test]
 fn worked_rows(rt: HostRuntime) -> Result<(), Fail> {
     for row in ROWS.iter() {
-        let mut reader = Script::new(row.input.as_bytes());
-        let mut writer = Written::new(rt.alloc());
-        let status = run(rt.alloc(), &mut reader, &mut writer);
+        let answer = run_in_memory(rt.alloc(), row.input.as_bytes())?;
         assert_eq!(rt;
-            writer.text.as_slice(),
+            answer.text.as_slice(),
             row.output.as_bytes(),
             "{}",
             row.name
         );
-        assert_eq!(rt; status, row.status, "{}", row.name);
+        assert_eq!(rt; answer.status, row.status, "{}", row.name);
     }
     Ok(())
 }
@@ -51,16 +51,38 @@ fn certificates_cut_short(rt: HostRuntime) -> Result<(), Fail> {
         for end in 0..=CERTIFICATE.len() {
             let mut input = game.as_bytes().to_vec(rt.alloc())?;
             input.extend_from_slice(&CERTIFICATE.as_bytes()[..end])?;
-            let mut reader = Script::new(input.as_slice());
-            let mut writer = Written::new(rt.alloc());
-            let status = run(rt.alloc(), &mut reader, &mut writer);
             let refused = format!(in rt.alloc(); "fault 53 Syntax at {end}\n")?;
             let is_whole = end == CERTIFICATE.len();
             let expected = if is_whole { answer } else { refused.as_str() };
-            assert_eq!(rt; writer.text.as_slice(), expected.as_bytes(), "cut at {end}");
-            assert_eq!(rt; status, u8::from(!is_whole), "cut at {end}");
+            let given = run_in_memory(rt.alloc(), input.as_slice())?;
+            assert_eq!(rt; given.text.as_slice(), expected.as_bytes(), "cut at {end}");
+            assert_eq!(rt; given.status, u8::from(!is_whole), "cut at {end}");
         }
     }
+    Ok(())
+}
+
+#[test]
+fn more_than_a_buffer(rt: HostRuntime) -> Result<(), Fail> {
+    // One input that is the output, for 5,000 letters: 10 KB are read and 25 KB written.
+    let mut input = b"sim\naag 1 1 0 1 0\n2\n2\n%%\n".to_vec(rt.alloc())?;
+    let mut expected = Vec::new(rt.alloc());
+    for letter in 0..5_000u32 {
+        let (digit, line) = if letter % 3 == 0 {
+            (b"1\n", b"|1|1\n")
+        } else {
+            (b"0\n", b"|0|0\n")
+        };
+        input.extend_from_slice(digit)?;
+        expected.extend_from_slice(line)?;
+    }
+    let mut reader = Watched::new(input.as_slice());
+    let mut writer = Watched::new(Kept {
+        text: Vec::new(rt.alloc()),
+    });
+    let status = run(rt.alloc(), &mut reader, &mut writer);
+    assert_eq!(rt; writer.inner().text.as_slice(), expected.as_slice());
+    assert_eq!(rt; status, 0);
     Ok(())
 }
 

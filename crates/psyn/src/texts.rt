@@ -1,11 +1,12 @@
 //! The texts of the commands, read, and the lines of what is wrong with them.
 
 ghost use Rattle.std.specs.Prelude.{◌≡◌, ◌<◌, length, All, IfOk};
+ghost use Rattle.ps_aiger.specs.Circuits.{IsCircuit};
 ghost use Rattle.ps_certificate.specs.Certificates.{Fits};
 ghost use Rattle.ps_game.specs.Games.{vertex_count};
 ghost use Rattle.psyn.specs.Faults.{fault_text};
 ghost use Rattle.psyn.specs.Outcomes.{Gives};
-ghost use Rattle.psyn.specs.Texts.{CutsInTwo, ReadsGameText, ReadsCertificateText, ReadsCertified, ReadsCircuitText, ReadsStimulusText, ReadsSimulated, NamesVertices, flaw_text};
+ghost use Rattle.psyn.specs.Texts.{CutsInTwo, CutsInThree, ReadsGameText, ReadsCertificateText, ReadsCertified, ReadsCircuitText, ReadsStimulusText, ReadsSimulated, NamesVertices, flaw_text};
 
 use crate::answer::Refusal;
 use crate::cut::cut;
@@ -16,7 +17,7 @@ use ps_game::NamedGame;
 use ps_simulate::Stimulus;
 use std::alloc::Global;
 
-/// The two texts that a line `%%` parts.
+/// Two texts.
 fn two_texts(texts: &[u8]) -> Result<(&[u8], &[u8]), Refusal>
     ensures { Gives (λ parts. (parts.0.now, parts.1.now)) (CutsInTwo texts.now) result }
 {
@@ -24,6 +25,18 @@ fn two_texts(texts: &[u8]) -> Result<(&[u8], &[u8]), Refusal>
         Some(parts) => Ok(parts),
         None => Err(Refusal::Fault(FaultLine::Plain(PlainFault::MissingText))),
     }
+}
+
+/// Three texts. A missing one is told before any text is read.
+pub fn three_texts(texts: &[u8]) -> Result<(&[u8], &[u8], &[u8]), Refusal>
+    ensures { Gives (λ parts. (parts.0.now, parts.1.now, parts.2.now)) (CutsInThree texts.now) result }
+{
+    if let Some((first, rest)) = cut(texts)
+        && let Some((second, third)) = cut(rest)
+    {
+        return Ok((first, second, third));
+    }
+    Err(Refusal::Fault(FaultLine::Plain(PlainFault::MissingText)))
 }
 
 /// A game.
@@ -82,6 +95,7 @@ fn read_stimulus(alloc: Global, text: &[u8], width: usize, split: bool) -> Resul
 pub fn read_simulated(alloc: Global, texts: &[u8]) -> Result<(Circuit, Stimulus), Refusal>
     ensures read { Gives (λ both. (both.0, both.1)) (ReadsSimulated texts.now) result }
     ensures fits { IfOk result (λ both. All (λ letter. length letter ≡ length both.0.inputs) both.1.stem) }
+    ensures circuit { IfOk result (λ both. IsCircuit both.0) }
 {
     let (text, letters) = two_texts(texts)?;
     let circuit = read_circuit(alloc, text)?;

@@ -1,18 +1,19 @@
 //! Readers and writers of the tests.
 
-ghost use Rattle.std.specs.Prelude.{◌≡◌, None, true, false};
+ghost use Rattle.std.specs.Prelude.{◌≡◌, ⊤, None, Some, true, false, min, length};
 
 use crate::stream::{Sink, Source};
+use crate::watched::{Reader, Writer};
 use std::alloc::Global;
 use std::io;
-use std::io::ErrorKind;
+use std::io::{ErrorKind, Read, Write};
 
 /// Gives some bytes, and fails at a call.
 #[derive(Drop)]
 pub struct Script<'a> {
     /// The bytes that are left.
     left: &'a [u8],
-    /// How many bytes a call gives at most.
+    /// How many bytes a call gives at most, and one where this is none.
     pub most: usize,
     /// How many calls succeed.
     pub calls_left: u64,
@@ -35,7 +36,7 @@ impl<'a> Script<'a> {
 }
 
 impl Source for Script<'_> {
-    ghost remaining = { λ _. None };
+    ghost remaining = { λ script. Some script.left.now };
 
     ghost has_failed = { λ script. script.has_failed };
 
@@ -45,7 +46,7 @@ impl Source for Script<'_> {
             return Err(io::Error::from(ErrorKind::Other));
         }
         self.calls_left -= 1;
-        let count = self.left.len().min(buf.len()).min(self.most);
+        let count = self.left.len().min(buf.len()).min(self.most.max(1));
         buf[..count].copy_from_slice(&self.left[..count]);
         self.left = &self.left[count..];
         Ok(count)
@@ -92,15 +93,15 @@ pub struct Written {
     pub calls: u64,
     /// A call has failed.
     pub has_failed: bool,
-    stall_count: u64,
-    is_stalled: bool,
+    has_stalled: bool,
     is_flushed: bool,
 }
 
 impl Written {
     /// Takes all bytes, and never fails.
     pub fn new(alloc: Global) -> Self
-        ensures { result.has_failed ≡ false }
+        ensures sound { result.has_failed ≡ false }
+        ensures moving { result.has_stalled ≡ false }
     {
         Written {
             text: Vec::new(alloc),
@@ -108,8 +109,7 @@ impl Written {
             calls_left: u64::MAX,
             calls: 0,
             has_failed: false,
-            stall_count: 0,
-            is_stalled: false,
+            has_stalled: false,
             is_flushed: false,
         }
     }
@@ -124,21 +124,18 @@ impl Written {
 }
 
 impl Sink for Written {
-    ghost contents = { λ _. None };
+    ghost contents = { λ written. Some written.text.items };
 
     ghost has_failed = { λ written. written.has_failed };
 
-    ghost stall_count = { λ written. written.stall_count };
-
-    ghost is_stalled = { λ written. written.is_stalled };
+    ghost has_stalled = { λ written. written.has_stalled };
 
     ghost is_flushed = { λ written. written.is_flushed };
 
     fn write(&mut self, buf: &[u8]) -> io::Result<usize> {
         self.calls = self.calls.saturating_add(1);
         self.is_flushed = false;
-        self.is_stalled = false;
-        if self.calls_left == 0 || self.stall_count == u64::MAX {
+        if self.calls_left == 0 {
             return Err(self.refuse());
         }
         self.calls_left -= 1;
@@ -146,16 +143,12 @@ impl Sink for Written {
         if self.text.extend_from_slice(&buf[..count]).is_err() {
             return Err(self.refuse());
         }
-        self.is_stalled = count == 0 && !buf.is_empty();
-        if self.is_stalled {
-            self.stall_count += 1;
-        }
+        self.has_stalled = count == 0 && !buf.is_empty();
         Ok(count)
     }
 
     fn flush(&mut self) -> io::Result<()> {
         self.calls = self.calls.saturating_add(1);
-        self.is_stalled = false;
         self.is_flushed = false;
         if self.calls_left == 0 {
             return Err(self.refuse());
@@ -166,5 +159,46 @@ impl Sink for Written {
 
     fn failed(&self) -> bool {
         self.has_failed
+    }
+}
+
+impl Reader for &[u8] {
+    ghost read_gives = { λ before buf answer after filled. answer ≡ Some (min (length before.now) (length buf)) };
+
+    fn read_once(&mut self, buf: &mut [u8]) -> io::Result<usize> {
+        self.read(buf)
+    }
+}
+
+/// Keeps what is written.
+#[derive(Drop)]
+pub struct Kept {
+    /// What went out.
+    pub text: Vec<u8>,
+}
+
+impl Write for Kept {
+    ghost contents = { λ kept. Some kept.text.items };
+
+    fn write(&mut self, buf: &[u8]) -> io::Result<usize> {
+        self.text.write(buf)
+    }
+
+    fn flush(&mut self) -> io::Result<()> {
+        self.text.flush()
+    }
+}
+
+impl Writer for Kept {
+    ghost write_gives = { λ _ _ _ _. ⊤ };
+
+    ghost flush_gives = { λ _ answer _. answer ≡ Some tt };
+
+    fn write_once(&mut self, buf: &[u8]) -> io::Result<usize> {
+        self.write(buf)
+    }
+
+    fn flush_once(&mut self) -> io::Result<()> {
+        self.text.flush()
     }
 }

@@ -24,6 +24,7 @@ returns c = inr (
   (c.in_ok-game.game, c.in_ok-game.certificate),
   c.in_ok-game.ensures.read,
   (
+    c.game-2.ensures.well_formed.is_game,
     (λ good. let bad : false ≡ true = c.in-Err.ensures.exact.1 (subst (λ (arena : ParityGame). IsValid arena c.in_ok-game.certificate) (sym c.game-2.ensures.game) good) in cc),
     (
       c.in-Err.flaw,

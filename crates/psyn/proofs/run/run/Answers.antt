@@ -7,7 +7,7 @@ use Rattle.psyn.proofs.run.run.Goals as goal
 
 pub returns-in-Ok-answer_to-clause-answered : goal.returns-in-Ok-answer_to-clause-answered
 returns-in-Ok-answer_to-clause-answered g c =
-    let state = sink_state g.W.Sink.contents g.W.Sink.has_failed g.W.Sink.stall_count g.W.Sink.is_stalled g.W.Sink.is_flushed in
+    let state = sink_state g.W.Sink.contents g.W.Sink.has_failed g.W.Sink.has_stalled g.W.Sink.is_flushed in
     let answer = c.in-Ok-answer_to.answer in
     let read = c.in-Ok.ensures.read in (
       reply_of answer,

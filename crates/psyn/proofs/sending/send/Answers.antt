@@ -6,6 +6,6 @@ pub chunks-preserved : goal.chunks-preserved
 chunks-preserved g c = record {
   within = search rules;
   sound = search rules;
-  steady = search rules;
+  moving = search rules;
   appended = Appends-next _ _ _ _ _ _ c.chunks.invariant.appended c.in-Ok.ensures.bytes;
 }

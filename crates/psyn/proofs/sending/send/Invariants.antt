@@ -7,7 +7,7 @@ abbrev pub invariant-chunks : goal.invariant-chunks
 invariant-chunks g l = record {
   within : l.sent ≤ length l.text;
   sound : g.W.Sink.has_failed l.writer ≡ false;
-  steady : g.W.Sink.stall_count l.writer ≡ g.W.Sink.stall_count l.initial.writer;
+  moving : g.W.Sink.has_stalled l.writer ≡ false;
   appended : Appends (g.W.Sink.contents l.initial.writer) (g.W.Sink.contents l.writer) (take l.sent l.text);
 }
 

@@ -1,9 +1,8 @@
-use Rattle.std.proofs.Common.{◌≡◌, ◌∙◌, Bool, List, Vec, length, take, refl, sym, ap, subst, arith}
-use Rattle.std.specs.Global.{Global}
+use Rattle.std.proofs.Common.{◌≡◌, ◌∙◌, Bool, List, length, take, sym, ap, subst}
 use Rattle.std.proofs.lemmas.List.{take_all}
 use Rattle.ps_aiger.specs.Circuits.{CircuitData}
 use Rattle.ps_simulate.specs.Stimuli.{StimulusData, letters_of}
-use Rattle.psyn.specs.Simulating.{PrintsTrace, HasPrinted}
+use Rattle.psyn.specs.Simulating.{PrintsTrace}
 use Rattle.psyn.proofs.TraceLemmas.{HasPrinted-start, HasPrinted-letter, PrintsTrace-end, letter_fits}
 use Rattle.psyn.proofs.simulating.trace_text.Goals as goal
 use Rattle.psyn.proofs.simulating.trace_text.Goals.{After-deref-letter-items}

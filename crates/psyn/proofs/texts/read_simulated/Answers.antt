@@ -1,4 +1,4 @@
-use Rattle.std.proofs.Common.{◌∙◌, ℕ, List, false, refl, inr, ap, length, subst, Ok, Err}
+use Rattle.std.proofs.Common.{ℕ, false, refl, inr, ap, length, subst, Ok, Err}
 use Rattle.ps_simulate.specs.Stimuli.{StimulusData}
 use Rattle.psyn.specs.Outcomes.{Gives}
 use Rattle.psyn.specs.Texts.{ReadsSimulated, ReadsStimulusText}

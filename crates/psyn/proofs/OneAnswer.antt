@@ -1,0 +1,202 @@
+-- Two answers to one input are one.
+use Rattle.std.proofs.Common.{◌≡◌, ◌∙◌, ◌+◌, ℕ, Bool, true, false, List, [], take, drop, length, Result, Ok, Err, refl, sym, ap, ap₂, subst, inl, inr, arith}
+use Rattle.std.proofs.lemmas.Bool.{cases_order}
+use Rattle.std.specs.Prelude.{codes}
+use Rattle.ps_text.specs.Answers.{Found}
+use Rattle.ps_game.specs.Games.{ParityGame, NamedGameData, IsGame}
+use Rattle.ps_pgsolver.specs.Reading.{Answer}
+use Rattle.ps_pgsolver.specs.Causes as game
+use Rattle.ps_pgsolver.specs.declared.fault.PgCause.{PgCause}
+use Rattle.ps_certificate.specs.Certificates.{CertificateData, IsClosed, IsValid, IsFirstFlaw}
+use Rattle.ps_certificate.specs.Faults as certificate
+use Rattle.ps_certificate.specs.Texts as certificate_text
+use Rattle.ps_certificate.specs.declared.fault.CertCause.{CertCause}
+use Rattle.ps_certificate.specs.declared.flaw.Flaw.{Flaw}
+use Rattle.ps_aiger.specs.CauseNames as circuit_names
+use Rattle.ps_aiger.specs.Causes as circuit
+use Rattle.ps_aiger.specs.Circuits.{CircuitData}
+use Rattle.ps_aiger.specs.Texts as circuit_text
+use Rattle.ps_aiger.specs.declared.fault.AigCause.{AigCause}
+use Rattle.ps_simulate.specs.Faults as stimulus
+use Rattle.ps_simulate.specs.StimulusTexts as stimulus_text
+use Rattle.clap.specs.Simple.{built}
+use Rattle.clap.specs.Words.{Text, IsAmong, fault_of}
+use Rattle.clap.specs.declared.error.kind.ErrorKind.{ErrorKind}
+use Rattle.clap.proofs.OnLiterals.{clap_on_literals}
+use Rattle.psyn.specs.declared.command_line.Line.{Line}
+use Rattle.psyn.specs.declared.command_line.Line.TheVariants as line
+use Rattle.psyn.specs.Checks.{Tests}
+use Rattle.psyn.specs.CommandLine.{table, words_of, Says, IsLine}
+use Rattle.psyn.specs.Cut.{Cuts, HasNoMark, first_line, behind_line}
+use Rattle.psyn.specs.Determined.{HasOneAnswer}
+use Rattle.psyn.specs.Faults.{text_line}
+use Rattle.psyn.specs.Outcomes.{Then, Reading, printed}
+use Rattle.psyn.specs.Program.{Answers, AnswersLine}
+use Rattle.psyn.specs.Replies.{Reply, text_reply}
+use Rattle.psyn.specs.Simulating.{AnswersSim}
+use Rattle.psyn.specs.Texts.{CutsInTwo, ReadsCertified, ReadsSimulated, flaw_text}
+use Rattle.psyn.proofs.KindLemmas.{one_fault}
+use Rattle.psyn.proofs.OneTrace.{traces_agree}
+
+abbrev ok_of : {V E : Type 0} → V → Result V E
+ok_of v = Ok v
+
+abbrev err_of : {V E : Type 0} → E → Result V E
+err_of e = Err e
+
+-- at most one value
+abbrev pub IsOne : {V : Type 0} → (V → Type 0) → Type 0
+IsOne {V} P = (x y : V) → P x → P y → x ≡ y
+
+abbrev is_ok : {V E : Type 0} → Result V E → Bool
+is_ok (Ok v) = true
+is_ok (Err e) = false
+
+ok_is_not_err : {V E : Type 0} (v : V) (e : E) → ok_of {V = V} {E = E} v ≡ Err e → ⊥
+ok_is_not_err v e same = let bad : true ≡ false = ap (λ r. is_ok r) same in cc
+
+abbrev ok_or : {V E : Type 0} → V → Result V E → V
+ok_or other (Ok v) = v
+ok_or other (Err e) = other
+
+abbrev err_or : {V E : Type 0} → E → Result V E → E
+err_or other (Ok v) = other
+err_or other (Err e) = e
+
+-- ---- steps
+
+then_one : {V W : Type 0} (step : Result V (List ℕ) → Type 0) (next : V → Result W (List ℕ) → Type 0) → IsOne step → ((v : V) → IsOne (next v))
+    → IsOne (Then step next)
+then_one {V} {W} step next one more x y (inl (l, s, e)) (inl (m, t, f)) =
+    let same : l ≡ m = ap (err_or l) (one (Err l) (Err m) s t) in e ∙ ap (err_of {V = W}) same ∙ sym f
+then_one step next one more x y (inl (l, s, e)) (inr (v, t, n)) = absurd (ok_is_not_err v l (one (Ok v) (Err l) t s))
+then_one step next one more x y (inr (v, s, n)) (inl (l, t, e)) = absurd (ok_is_not_err v l (one (Ok v) (Err l) s t))
+then_one {V} {W} step next one more x y (inr (v, s, n)) (inr (w, t, m)) =
+    let same : v ≡ w = ap (ok_or v) (one (Ok v) (Ok w) s t) in
+    more v x y n (subst (λ (u : V). next u y) (sym same) m)
+
+ended_one : {W : Type 0} (end : Result W (List ℕ)) → IsOne {V = Result W (List ℕ)} (λ outcome. outcome ≡ end)
+ended_one end x y a b = a ∙ sym b
+
+-- ---- texts
+
+module _ {V C : Type 0} (number : C → ℕ) (name : C → List ℕ) (reads : Result V (Found C) → Type 0) where
+  abbrev lined : Result V (Found C) → Result V (List ℕ)
+  lined (Ok v) = Ok v
+  lined (Err found) = Err (text_line (number found.cause) (name found.cause) found.offset)
+
+  as_read : (outcome : Result V (List ℕ)) → Reading number name reads outcome → (answer : Result V (Found C)) × reads answer × (outcome ≡ lined answer)
+  as_read (Ok v) h = (Ok v, h, refl)
+  as_read (Err l) (found, h, e) = (Err found, h, ap (err_of {V = V}) e)
+
+  reading_one : IsOne reads → IsOne (Reading number name reads)
+  reading_one one x y h k =
+      let a = as_read x h in
+      let b = as_read y k in
+      a.2 ∙ ap lined (one a.0 b.0 a.1 b.1) ∙ sym b.2
+
+-- ---- the cut
+
+marks_one : (input first rest first' rest' : List ℕ) (a : Cuts input first rest) (b : Cuts input first' rest') → a.mark ≡ b.mark
+marks_one input first rest first' rest' a b = elim (cases_order a.mark b.mark) [
+  | inl equal ↦ equal
+  | inr (inl below) ↦ let bad : true ≡ false = sym a.stands ∙ b.none_before a.mark below in cc
+  | inr (inr above) ↦ let bad : true ≡ false = sym b.stands ∙ a.none_before b.mark above in cc
+]
+
+no_cut : (input first rest : List ℕ) → HasNoMark input → Cuts input first rest → ⊥
+no_cut input first rest none a = let bad : true ≡ false = sym a.stands ∙ none a.mark a.within in cc
+
+cut_one : (texts : List ℕ) → IsOne (CutsInTwo texts)
+cut_one texts (Ok p) (Ok q) (rest, a, last) (rest', b, last') =
+    let marks = marks_one texts p.0 rest q.0 rest' a b in
+    let firsts : p.0 ≡ q.0 = a.before ∙ ap (λ (n : ℕ). take n texts) marks ∙ sym b.before in
+    let seconds : p.1 ≡ q.1 = last ∙ a.behind ∙ ap (λ (n : ℕ). drop (n + 3) texts) marks ∙ sym b.behind ∙ sym last' in
+    ap₂ (λ (first second : List ℕ). ok_of {V = List ℕ × List ℕ} {E = List ℕ} (first, second)) firsts seconds
+cut_one texts (Ok p) (Err l) (rest, a, last) (inl none, e) = absurd (no_cut texts p.0 rest none a)
+cut_one texts (Ok p) (Err l) h (inr (first, rest, cuts, none), e) = absurd none
+cut_one texts (Err l) (Ok q) (inl none, e) (rest, a, last) = absurd (no_cut texts q.0 rest none a)
+cut_one texts (Err l) (Ok q) (inr (first, rest, cuts, none), e) h = absurd none
+cut_one texts (Err l) (Err m) h k = ap (err_of {V = List ℕ × List ℕ}) (h.1 ∙ sym k.1)
+
+-- ---- the laws of the readers
+
+abbrev pub OneGame : Type 0
+OneGame = (text : List ℕ) (a b : Result NamedGameData (Found PgCause)) → Answer text a → Answer text b → a ≡ b
+
+abbrev pub OneCertificate : Type 0
+OneCertificate = (named : NamedGameData) (text : List ℕ) (a b : Result CertificateData (Found CertCause)) → certificate_text.Reads named text a
+    → certificate_text.Reads named text b → a ≡ b
+
+abbrev pub OneFlaw : Type 0
+OneFlaw = (arena : ParityGame) (given : CertificateData) (flaw other : Flaw) → IsGame arena → IsFirstFlaw arena given flaw → IsFirstFlaw arena given other → flaw ≡ other
+
+abbrev pub OneCircuit : Type 0
+OneCircuit = (text : List ℕ) (a b : Result CircuitData (Found AigCause)) → circuit_text.Reads text a → circuit_text.Reads text b → a ≡ b
+
+abbrev pub OneStimulus : Type 0
+OneStimulus = (text : List ℕ) (width : ℕ) (split : Bool) → stimulus_text.HasOneAnswer text width split
+
+module _ (games : OneGame) (certificates : OneCertificate) (flaws : OneFlaw) (circuits : OneCircuit) (stimuli : OneStimulus) where
+  certified_one : (texts : List ℕ) → IsOne (ReadsCertified texts)
+  certified_one texts = then_one _ _ (cut_one texts) (λ parts. then_one _ _ (reading_one game.cause_number game.cause_name (Answer parts.0) (games parts.0))
+      (λ named. then_one _ _ (reading_one certificate.cause_number certificate.cause_name (certificate_text.Reads named parts.1) (certificates named parts.1))
+      (λ given. ended_one (Ok (named, given)))))
+
+  tests_one : (IsGood : ParityGame → CertificateData → Type 0) (word : List ℕ) (named : NamedGameData) (given : CertificateData) → IsOne (Tests IsGood word named given)
+  tests_one IsGood word named given (Ok r) (Ok s) h k = ap (ok_of {V = Reply} {E = List ℕ}) (h.1 ∙ sym k.1)
+  tests_one IsGood word named given (Ok r) (Err m) h k = absurd (k.1 h.0)
+  tests_one IsGood word named given (Err l) (Ok s) h k = absurd (h.1 k.0)
+  tests_one IsGood word named given (Err l) (Err m) (is_game, bad, (flaw, first, e)) (is_game', bad', (flaw', first', e')) =
+      ap (err_of {V = Reply}) (e ∙ ap (flaw_text named) (flaws named.game given flaw flaw' is_game first first') ∙ sym e')
+
+  simulated_one : (texts : List ℕ) → IsOne (ReadsSimulated texts)
+  simulated_one texts = then_one _ _ (cut_one texts) (λ parts. then_one _ _ (reading_one circuit.cause_number circuit_names.cause_name (circuit_text.Reads parts.0) (circuits parts.0))
+      (λ c. then_one _ _ (reading_one stimulus.cause_number stimulus.cause_name (stimulus_text.Reads parts.1 (length c.inputs) false) (stimuli parts.1 (length c.inputs) false))
+      (λ s. ended_one (Ok (c, s)))))
+
+  sim_one : (texts : List ℕ) → IsOne (AnswersSim texts)
+  sim_one texts = then_one _ _ (simulated_one texts) (λ both x y h k.
+      h.2.2 ∙ ap (λ (text : List ℕ). ok_of {V = Reply} {E = List ℕ} (text_reply text)) (traces_agree both.0 h.0 h.1 both.1.stem h.2.0 k.2.0 h.2.1 k.2.1) ∙ sym k.2.2)
+
+  line_one : (l : Line) (texts : List ℕ) → IsOne (AnswersLine l texts)
+  line_one line.Refused texts = ended_one _
+  line_one line.Help texts = ended_one _
+  line_one line.Closed texts = then_one _ _ (certified_one texts) (λ both. tests_one IsClosed (codes "closed") both.0 both.1)
+  line_one line.Check texts = then_one _ _ (certified_one texts) (λ both. tests_one IsValid (codes "valid") both.0 both.1)
+  line_one line.Sim texts = sim_one texts
+
+  -- ---- the line
+
+  no_help_command : (built table).top.disable_help_subcommand ≡ true
+  unfolding table clap_on_literals
+  no_help_command = refl
+
+  none_among : (words : List Text) (kind : ErrorKind) → fault_of table words ≡ [] → IsAmong kind (fault_of table words) → ⊥
+  none_among words kind none among = subst (IsAmong kind) none among
+
+  said_one : (words : List Text) → IsOne (Says words)
+  said_one words a b (inl (none, e)) (inl (none', e')) = e ∙ sym e'
+  said_one words a b (inl (none, e)) (inr (kind, among, e')) = absurd (none_among words kind none among)
+  said_one words a b (inr (kind, among, e)) (inl (none, e')) = absurd (none_among words kind none among)
+  said_one words a b (inr (kind, among, e)) (inr (kind', among', e')) =
+      let one = one_fault table words no_help_command in
+      e ∙ one.same kind among ∙ sym (one.same kind' among') ∙ sym e'
+
+  is_line_one : (first : List ℕ) → IsOne (IsLine first)
+  is_line_one first a b (inl (utf8, h)) (inl (utf8', k)) = said_one (words_of first) a b h k
+  is_line_one first a b (inl (utf8, h)) (inr (not, k)) = absurd (not utf8)
+  is_line_one first a b (inr (not, h)) (inl (utf8, k)) = absurd (not utf8)
+  is_line_one first a b (inr (not, h)) (inr (not', k)) = h ∙ sym k
+
+  answers_one : (input : List ℕ) → IsOne (Answers input)
+  answers_one input a b (l, is_line, (outcome, answers, e)) (l', is_line', (outcome', answers', e')) =
+      let same : l ≡ l' = is_line_one (first_line input) l l' is_line is_line' in
+      let there : AnswersLine l (behind_line input) outcome' = subst (λ (k : Line). AnswersLine k (behind_line input) outcome') (sym same) answers' in
+      e ∙ ap printed (line_one l (behind_line input) outcome outcome' answers there) ∙ sym e'
+
+  pub whole_one : HasOneAnswer
+  whole_one input a b (inl (long, e)) (inl (long', e')) = e ∙ sym e'
+  whole_one input a b (inl (long, e)) (inr (short, h)) = absurd (omega (arith, long, short))
+  whole_one input a b (inr (short, h)) (inl (long, e)) = absurd (omega (arith, long, short))
+  whole_one input a b (inr (short, h)) (inr (short', k)) = answers_one input a b h k

@@ -1,0 +1,5 @@
+use Rattle.psyn.proofs.OneAnswer.{whole_one}
+use Rattle.psyn.proofs.laws.one_answer.Goals as goal
+
+pub returns : goal.returns
+returns c = whole_one c.one_answer.ensures c.certificate_text_has_one_answer.ensures c.first_flaw_is_one.ensures c.one_answer-2.ensures c.stimulus_text_has_one_answer.ensures

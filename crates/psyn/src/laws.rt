@@ -1,0 +1,15 @@
+//! The law that the program's answer is determined.
+
+ghost use Rattle.psyn.specs.Determined.{HasOneAnswer};
+
+/// An input has one answer at most: whoever meets the definitions writes the same bytes and ends with the same status, or
+/// wants memory.
+pub fn one_answer()
+    ensures { HasOneAnswer }
+{
+    ps_pgsolver::one_answer();
+    ps_certificate::certificate_text_has_one_answer();
+    ps_certificate::first_flaw_is_one();
+    ps_aiger::one_answer();
+    ps_simulate::stimulus_text_has_one_answer();
+}
