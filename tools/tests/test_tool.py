@@ -85,6 +85,15 @@ class Commands(OnFiles):
         for line in (b"$var wire 1 ! lamp $end", b'$var wire 1 " push $end', b"$var wire 1 # dark $end", b"#0\n1!\n1\"\n", b"#3\n"):
             self.assertIn(line, done.stdout)
 
+    @unittest.skipUnless(shutil.which("vcd2fst") and shutil.which("fst2vcd"), "no reader of VCD files is installed")
+    def test_a_wave_is_read_by_a_wave_viewers_reader(self):
+        done = self.tool("wave", self.file("circuit", CIRCUIT), "-", given=b"1\n1\n0\n")
+        wave, packed = self.file("wave.vcd", done.stdout), os.path.join(self.room, "wave.fst")
+        subprocess.run(["vcd2fst", wave, packed], capture_output=True, check=True)
+        again = subprocess.run(["fst2vcd", packed], capture_output=True, check=True).stdout
+        for line in (b"$var wire 1 ! lamp $end", b"$scope module outputs $end", b"#2\n"):
+            self.assertIn(line, again)
+
     def test_another_solvers_answer_is_judged_by_closed(self):
         game = self.file("game", GAME)
         made = self.tool("certificate", game, "-", given=b"paritysol 1;\n0 1 1;\n1 1 1;\n")
