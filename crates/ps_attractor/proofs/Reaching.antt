@@ -180,7 +180,7 @@ placed_new aim old mid new u marks places grown = record {
   };
 }
 
-grown_on : (aim : Aim) (old mid new : TablesData) (u : ℕ) → aim.mark ≢ aim.free → Places aim mid new u → IsGrown aim old mid → IsGrown aim old new
+pub grown_on : (aim : Aim) (old mid new : TablesData) (u : ℕ) → aim.mark ≢ aim.free → Places aim mid new u → IsGrown aim old mid → IsGrown aim old new
 grown_on aim old mid new u marks places grown =
     let longer : length old.trail ≤ length mid.trail = grown.longer in
     let size : length new.trail ≡ length mid.trail + 1 = trail_length aim mid new u places in

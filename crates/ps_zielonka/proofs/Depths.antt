@@ -1,0 +1,94 @@
+-- How many priorities a subgame has, by the turns on it; and what the first turn leaves.
+use Rattle.std.proofs.Common.{◌≡◌, ◌≢◌, ℕ, zero, suc, ◌+◌, ◌%◌, ◌<◌, ◌≤◌, List, [], ◌∷◌, length, get_or, Bool, Option, sym, ap, ◌∙◌, arith}
+use Rattle.std.specs.Prelude.{IsTrue}
+use Rattle.std.specs.List.{Contains}
+use Rattle.std.proofs.lemmas.Bool.{ltb-true, lt-ltb}
+use Rattle.std.proofs.lemmas.List.{get_or_default}
+use Rattle.ps_game.specs.Games.{ParityGame, vertex_count, priority_of}
+use Rattle.ps_game.specs.Subgames.{IsWithin, LeadsInto}
+use Rattle.ps_game.specs.Attractors.{IsClosed}
+use Rattle.ps_attractor.proofs.Least.{falls_least}
+use Rattle.ps_zielonka.specs.Turns.{IsTurned}
+use Rattle.ps_zielonka.specs.Depths.{is_vertex, HasPriorities, IsClosedToTops}
+
+-- a list without the number at a place
+drop_at : List ℕ → ℕ → List ℕ
+drop_at [] k = []
+drop_at (x ∷ xs) zero = xs
+drop_at (x ∷ xs) (suc k) = x ∷ drop_at xs k
+
+length-drop_at : (xs : List ℕ) (k : ℕ) → k < length xs → length (drop_at xs k) + 1 ≡ length xs
+unfolding drop_at
+length-drop_at [] k within = absurd (omega arith)
+length-drop_at (x ∷ xs) zero within = omega arith
+length-drop_at (x ∷ xs) (suc k) within = let shorter : length (drop_at xs k) + 1 ≡ length xs = length-drop_at xs k (omega arith) in omega arith
+
+Contains-drop_at : (xs : List ℕ) (k x j : ℕ) → j < length xs → get_or xs j x ≡ x → (get_or xs k x ≡ x → ⊥) → Contains (drop_at xs k) x
+unfolding drop_at
+Contains-drop_at [] k x j within is other = absurd (omega arith)
+Contains-drop_at (y ∷ ys) zero x zero within is other = absurd (other is)
+Contains-drop_at (y ∷ ys) zero x (suc j) within is other = (j, omega arith, is)
+Contains-drop_at (y ∷ ys) (suc k) x zero within is other = (0, omega arith, is)
+Contains-drop_at (y ∷ ys) (suc k) x (suc j) within is other =
+    let found = Contains-drop_at ys k x j (omega arith) is other in
+    (suc found.0, omega (arith, found.1), found.2)
+
+-- a set with a vertex has a priority
+pub one_priority : (game : ParityGame) (set : ℕ → Bool) (v : ℕ) → IsTrue (set v) → HasPriorities game set 1
+one_priority game set v inside = record {
+  many = λ list all. let found = all v inside in omega (arith, found.1);
+}
+
+-- a larger set has no fewer
+pub HasPriorities-larger : (game : ParityGame) (smaller larger : ℕ → Bool) (n : ℕ) → IsWithin smaller larger → HasPriorities game smaller n → HasPriorities game larger n
+HasPriorities-larger game smaller larger n within has_n = record {
+  many = λ list all. has_n.many list (λ v inside. all v (within v inside));
+}
+
+-- one more than a part without one of its priorities
+HasPriorities-more : (game : ParityGame) (smaller larger : ℕ → Bool) (n top : ℕ) → IsWithin smaller larger → IsTrue (larger top) → ((v : ℕ) → IsTrue (smaller v) → priority_of game v ≢ priority_of game top) → HasPriorities game smaller n → HasPriorities game larger (n + 1)
+HasPriorities-more game smaller larger n top within inside differ has_n = record {
+  many = λ list all. (
+      let found = all top inside in
+      let d : ℕ = priority_of game top in
+      let is_there : found.0 < length list = found.1 in
+      let shorter : length (drop_at list found.0) + 1 ≡ length list = length-drop_at list found.0 is_there in
+      let fewer : n ≤ length (drop_at list found.0) = has_n.many (drop_at list found.0) (λ v in_smaller.
+      let here = all v (within v in_smaller) in
+      Contains-drop_at list found.0 (priority_of game v) here.0 here.1 here.2
+      (λ same. differ v in_smaller (sym same ∙ get_or_default list found.0 (priority_of game v) d is_there ∙ found.2))) in
+      omega arith);
+}
+
+-- the rest of a turn has fewer priorities
+pub HasPriorities-turned : (game : ParityGame) (open_part rest : ℕ → Bool) (player : ℕ) (win : ℕ → ℕ) (table : ℕ → Option ℕ) (n : ℕ) → IsTurned game open_part rest player win table → HasPriorities game rest n → HasPriorities game open_part (n + 1)
+HasPriorities-turned game open_part rest player win table n turned has_n =
+    let (top, is_top) = turned.some_top in
+    HasPriorities-more game rest open_part n top turned.left.within (turned.within top (turned.closed.holds top is_top))
+    (λ v inside same. turned.left.outside v inside (turned.closed.holds v (turned.all_top v (turned.left.within v inside) (same ∙ turned.top top is_top)))) has_n
+
+-- what such a set leaves out, the first turn leaves to be solved
+pub left_out : (game : ParityGame) (whole rest set : ℕ → Bool) (player : ℕ) (win : ℕ → ℕ) (table : ℕ → Option ℕ) (v : ℕ) → ((u : ℕ) → u < vertex_count game → IsTrue (whole u)) → ((u : ℕ) → IsTrue (whole u) → u < vertex_count game)
+    → IsTurned game whole rest player win table → IsClosedToTops game set → v < vertex_count game → ¬ IsTrue (set v) → IsTrue (rest v)
+left_out game whole rest set player win table v all only turned tops below outside =
+    let (top, is_top) = turned.some_top in
+    let top_inside : IsTrue (whole top) = turned.within top (turned.closed.holds top is_top) in
+    let top_is : priority_of game top ≡ turned.greatest = turned.top top is_top in
+    let top_below : priority_of game top ≤ tops.greatest = tops.is_greatest.bounds top (only top top_inside) in
+    let (great, great_vertex, great_is) = tops.is_greatest.stands in
+    let great_below : priority_of game great ≤ turned.greatest = turned.most great (all great great_vertex) in
+    let same : turned.greatest ≡ tops.greatest = omega arith in
+    let parity : player ≡ tops.greatest % 2 = sym turned.parity ∙ ap (λ n. n % 2) same in
+    let to_vertex = λ (u w : ℕ) (leads : LeadsInto game whole u w). (
+    let there : LeadsInto game (is_vertex game) u w = record { edge = leads.edge; inside = lt-ltb w (vertex_count game) (only w leads.inside) } in there) in
+    let to_whole = λ (u w : ℕ) (leads : LeadsInto game (is_vertex game) u w). (
+    let there : LeadsInto game whole u w = record { edge = leads.edge; inside = all w (ltb-true w (vertex_count game) leads.inside) } in there) in
+    let closed : IsClosed game whole player turned.tops set = record {
+      holds = λ u is_top. (
+          let is_vertex : u < vertex_count game = only u (turned.within u (turned.closed.holds u is_top)) in
+          tops.closed.holds u ((tops.is_target u is_vertex).1 (turned.top u is_top ∙ same)));
+      own = λ u w inside owns leads in_set. tops.closed.own u w (lt-ltb u (vertex_count game) (only u inside)) (owns ∙ parity) (to_vertex u w leads) in_set;
+      other = λ u inside others leads. tops.closed.other u (lt-ltb u (vertex_count game) (only u inside)) (λ owns. others (owns ∙ sym parity)) (λ w on. leads w (to_whole u w on));
+    } in
+    let least : IsWithin turned.attracted set = falls_least game whole player turned.tops turned.attracted table turned.rank turned.within turned.falls set closed in
+    turned.left.all v (all v below) (λ pulled. outside (least v pulled))

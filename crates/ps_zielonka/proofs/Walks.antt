@@ -1,0 +1,69 @@
+-- Walks that come back to where they began: a number that never rises along their steps is the same at each place, and a
+-- set that no step leaves has all of their places or none.
+use Rattle.std.proofs.Common.{◌≡◌, ℕ, zero, suc, ◌+◌, ◌<◌, ◌≤◌, ◌⊎◌, inl, inr, Bool, true, false, cond, refl, ap, ◌∙◌, arith}
+use Rattle.std.specs.Prelude.{IsTrue}
+use Rattle.std.proofs.lemmas.Bool.{cases_eq, cases_Bool}
+
+falling : (y : ℕ → ℕ) (k : ℕ) → ((t : ℕ) → t < k → y (t + 1) ≤ y t) → (t j : ℕ) → t ≤ j → j ≤ k → y j ≤ y t
+falling y k steps t zero after within = let same : y t ≡ y 0 = ap y (omega arith) in omega arith
+falling y k steps t (suc j) after within = elim (cases_eq t (suc j)) [
+  | inl is ↦ (let same : y t ≡ y (suc j) = ap y is in omega arith)
+  | inr other ↦ (
+      let next : y (j + 1) ≡ y (suc j) = ap y (omega arith) in
+      let step : y (j + 1) ≤ y j = steps j (omega arith) in
+      let before : y j ≤ y t = falling y k steps t j (omega arith) (omega arith) in
+      omega arith)
+]
+
+-- a number that never rises along the steps is the same at each place
+pub level : (y : ℕ → ℕ) (k : ℕ) → y k ≡ y 0 → ((t : ℕ) → t < k → y (t + 1) ≤ y t) → (t : ℕ) → t ≤ k → y t ≡ y 0
+level y k closes steps t within =
+    let down : y t ≤ y 0 = falling y k steps 0 t (omega arith) within in
+    let up : y k ≤ y t = falling y k steps t k within (omega arith) in
+    omega arith
+
+-- no number falls at each step
+pub no_descent : (rank : ℕ → ℕ) (walk : ℕ → ℕ) (k : ℕ) → 0 < k → walk k ≡ walk 0 → ((t : ℕ) → t < k → rank (walk (t + 1)) < rank (walk t)) → ⊥
+no_descent rank walk k some closes falls =
+    let same : rank (walk 1) ≡ rank (walk 0) = level (λ t. rank (walk t)) k (ap rank closes) (λ t less. let step : rank (walk (t + 1)) < rank (walk t) = falls t less in omega arith) 1 some in
+    let first : rank (walk 1) < rank (walk 0) = falls 0 some in
+    omega arith
+
+-- 0 for true, 1 for false
+abbrev distance : Bool → ℕ
+distance b = cond b 0 1
+
+distance-le : (a b : Bool) → (a ≡ true → b ≡ true) → distance b ≤ distance a
+distance-le true b more = let same : distance b ≡ 0 = ap distance (more refl) in omega arith
+distance-le false true more = omega arith
+distance-le false false more = omega arith
+
+distance-same : (a b : Bool) → distance a ≡ distance b → a ≡ b
+distance-same true true same = refl
+distance-same true false same = absurd (omega arith)
+distance-same false true same = absurd (omega arith)
+distance-same false false same = refl
+
+-- a set that no step leaves has all places or none
+pub all_or_none : (set : ℕ → Bool) (walk : ℕ → ℕ) (k : ℕ) → walk k ≡ walk 0 → ((t : ℕ) → t < k → IsTrue (set (walk t)) → IsTrue (set (walk (t + 1))))
+    → ((t : ℕ) → t < k → IsTrue (set (walk t))) ⊎ ((t : ℕ) → t < k → set (walk t) ≡ false)
+all_or_none set walk k closes steps =
+    let same = λ (t : ℕ) (less : t < k). distance-same (set (walk t)) (set (walk 0)) (level (λ t. distance (set (walk t))) k (ap (λ v. distance (set v)) closes) (λ t less. distance-le (set (walk t)) (set (walk (t + 1))) (steps t less)) t (omega arith)) in
+    elim (cases_Bool (set (walk 0))) [
+      | inl there ↦ inl (λ t less. same t less ∙ there)
+      | inr not_there ↦ inr (λ t less. same t less ∙ not_there)
+    ]
+
+-- one of the first k places is in the set, or none is
+pub some_or_none : (set : ℕ → Bool) (walk : ℕ → ℕ) (k : ℕ) → ((t : ℕ) × (t < k) × IsTrue (set (walk t))) ⊎ ((t : ℕ) → t < k → set (walk t) ≡ false)
+some_or_none set walk zero = inr (λ t less. absurd (omega arith))
+some_or_none set walk (suc k) = elim (some_or_none set walk k) [
+  | inl found ↦ inl (found.0, omega (arith, found.1), found.2)
+  | inr none ↦ elim (cases_Bool (set (walk k))) [
+    | inl here ↦ inl (k, omega arith, here)
+    | inr not_here ↦ inr (λ t less. elim (cases_eq t k) [
+      | inl is ↦ ap (λ n. set (walk n)) is ∙ not_here
+      | inr other ↦ none t (omega arith)
+    ])
+  ]
+]

@@ -1,0 +1,71 @@
+use Rattle.std.proofs.Common.{◌≡◌, ℕ, ◌+◌, ◌-◌, ◌*◌, ◌%◌, ◌<◌, List, true, length, subst, arith}
+use Rattle.ps_attractor.specs.Tables.{FitsGame}
+use Rattle.ps_zielonka.specs.declared.board.TheConstants.{UNPLACED}
+use Rattle.ps_zielonka.specs.Nests.{IsGiven}
+use Rattle.ps_zielonka.proofs.Frames.{Reached, going_on, fits_reopened, last_waits, last_low, on_nest, on_falls}
+use Rattle.ps_zielonka.proofs.nest.Nest.go_on.Goals as goal
+
+pub overflow_sub-aim : goal.overflow_sub-aim
+overflow_sub-aim g c =
+    let turned = (last_waits (g.A.Arena.game c.args.arena.now) c.args.self.now.board.tables c.args.self.now.board.winner.items c.args.self.now.order.items c.args.self.now.frames.items c.args.frame c.args.self.now.cursor true c.requires.nest).prepared in
+    let parity : turned.greatest % 2 ≡ c.args.frame.player = turned.parity in
+    omega arith
+
+pub attract-requires-clause-fits : goal.attract-requires-clause-fits
+attract-requires-clause-fits g c =
+    let game = g.A.Arena.game c.args.arena.now in
+    let waits = last_waits game c.args.self.now.board.tables c.args.self.now.board.winner.items c.args.self.now.order.items c.args.self.now.frames.items c.args.frame c.args.self.now.cursor true c.requires.nest in
+    fits_reopened game c.args.self.now.board.winner.items c.args.frame.player c.args.level c.args.frame.turn c.args.self.now.board.tables c.reopen.new.self.tables waits.segment.within c.requires.nest.sound.fits c.in_ok-reopen.ensures.reopened
+
+pub attract-requires-clause-differ : goal.attract-requires-clause-differ
+attract-requires-clause-differ g c same =
+    let low : 2 * length c.args.self.now.frames.items + 2 < UNPLACED = last_low (g.A.Arena.game c.args.arena.now) c.args.self.now.board.tables c.args.self.now.board.winner.items c.args.self.now.order.items c.args.self.now.frames.items c.args.frame c.args.self.now.cursor true c.requires.nest in
+    omega (arith, c.requires.level)
+
+pub returns-clause-stack : goal.returns-clause-stack
+returns-clause-stack g c =
+    let game = g.A.Arena.game c.args.arena.now in
+    let frame = c.args.frame in
+    let frames = c.args.self.now.frames.items in
+    let cursor = c.args.self.now.cursor in
+    let order = c.args.self.now.order.items in
+    let old = c.args.self.now.board.tables in
+    let mid = c.reopen.new.self.tables in
+    let new = c.attract.new.self.tables in
+    let winner = c.args.self.now.board.winner.items in
+    let winner_now = c.attract.new.self.winner.items in
+    let Given : List ℕ → Type 0 = λ won. IsGiven (record { player = 1 - frame.player; begin = frame.turn; mark = c.args.level; free = UNPLACED }) new won winner_now in
+    let waits = last_waits game old winner order frames frame cursor true c.requires.nest in
+    let fits_mid : FitsGame game mid = fits_reopened game winner frame.player c.args.level frame.turn old mid waits.segment.within c.requires.nest.sound.fits c.in_ok-reopen.ensures.reopened in
+    let reached : Reached game c.args.level frame old mid new winner winner_now = record {
+      reopened = c.in_ok-reopen.ensures.reopened;
+      grown = c.in_ok-attract.ensures.grown;
+      given = subst Given c.reopen.ensures.winner c.in_ok-attract.ensures.given;
+      attracted = c.in_ok-attract.ensures.attracted;
+    } in
+    let going = going_on game c.args.level old mid new winner winner_now order frames frame cursor c.requires.nest c.requires.level fits_mid c.in_ok-attract.ensures.fits reached in
+    on_nest game old mid new winner winner_now order frames frame cursor c.requires.nest going c.in_ok-attract.ensures.fits c.in_ok-attract.ensures.winners
+
+pub returns-clause-falls : goal.returns-clause-falls
+returns-clause-falls g c =
+    let game = g.A.Arena.game c.args.arena.now in
+    let frame = c.args.frame in
+    let frames = c.args.self.now.frames.items in
+    let cursor = c.args.self.now.cursor in
+    let order = c.args.self.now.order.items in
+    let old = c.args.self.now.board.tables in
+    let mid = c.reopen.new.self.tables in
+    let new = c.attract.new.self.tables in
+    let winner = c.args.self.now.board.winner.items in
+    let winner_now = c.attract.new.self.winner.items in
+    let Given : List ℕ → Type 0 = λ won. IsGiven (record { player = 1 - frame.player; begin = frame.turn; mark = c.args.level; free = UNPLACED }) new won winner_now in
+    let waits = last_waits game old winner order frames frame cursor true c.requires.nest in
+    let fits_mid : FitsGame game mid = fits_reopened game winner frame.player c.args.level frame.turn old mid waits.segment.within c.requires.nest.sound.fits c.in_ok-reopen.ensures.reopened in
+    let reached : Reached game c.args.level frame old mid new winner winner_now = record {
+      reopened = c.in_ok-reopen.ensures.reopened;
+      grown = c.in_ok-attract.ensures.grown;
+      given = subst Given c.reopen.ensures.winner c.in_ok-attract.ensures.given;
+      attracted = c.in_ok-attract.ensures.attracted;
+    } in
+    let going = going_on game c.args.level old mid new winner winner_now order frames frame cursor c.requires.nest c.requires.level fits_mid c.in_ok-attract.ensures.fits reached in
+    on_falls game c.args.level c.requires.lost.0 old mid new winner winner_now order frames frame cursor c.requires.nest c.requires.level going c.requires.lost.1 c.requires.lost.2

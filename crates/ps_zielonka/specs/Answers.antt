@@ -1,0 +1,25 @@
+-- From winners and moves to a region and strategies.
+use Rattle.std.specs.Prelude.{◌≡◌, ℕ, ◌<◌, ◌≤◌, List, Option, Some, None, Bool, false, IsTrue, not, slice_index}
+use Rattle.ps_game.specs.Games.{ParityGame, owner_of}
+use Rattle.ps_game.specs.Regions.{has, move_at}
+
+-- the vertices that are not in a region
+abbrev pub others : List Bool → ℕ → Bool
+others region v = not (has region v)
+
+-- of the vertices before n the region has just those that player 0 wins
+pub record IsRegionTo (winner : List ℕ) (n : ℕ) (region : List Bool) : Type 0 where
+  pub won : (v : ℕ) → v < n → IsTrue (has region v) → slice_index winner v ≡ 0
+  pub all : (v : ℕ) → v < n → slice_index winner v ≡ 0 → IsTrue (has region v)
+  pub later : (v : ℕ) → n ≤ v → has region v ≡ false
+
+-- the player wins the vertex and owns it
+pub record MovesAt (game : ParityGame) (winner : List ℕ) (player v : ℕ) : Type 0 where
+  pub wins : slice_index winner v ≡ player
+  pub owns : owner_of game v ≡ player
+
+-- of the vertices before n just those that the player wins and owns have a move
+pub record AreMovesTo (game : ParityGame) (moves winner : List ℕ) (player n : ℕ) (strategy : List (Option ℕ)) : Type 0 where
+  pub given : (v : ℕ) → v < n → MovesAt game winner player v → move_at strategy v ≡ Some (slice_index moves v)
+  pub only : (v : ℕ) → v < n → ¬ MovesAt game winner player v → move_at strategy v ≡ None
+  pub later : (v : ℕ) → n ≤ v → move_at strategy v ≡ None

@@ -1,0 +1,53 @@
+-- How many priorities a set has, and what the player of the greatest one attracts.
+use Rattle.std.specs.Prelude.{◌≡◌, ◌↔◌, ℕ, ◌%◌, ◌<◌, ◌≤◌, ◌⊎◌, List, length, Bool, false, IsTrue, slice_index, nat_lt}
+use Rattle.std.specs.List.{Contains}
+use Rattle.ps_game.specs.Games.{ParityGame, vertex_count, priority_of}
+use Rattle.ps_game.specs.Attractors.{IsClosed}
+use Rattle.ps_zielonka.specs.declared.board.TheConstants.{UNPLACED}
+
+-- all vertices
+abbrev pub is_vertex : ParityGame → ℕ → Bool
+is_vertex game v = nat_lt v (vertex_count game)
+
+-- each list that has all priorities of the set is at least so long
+pub record HasPriorities (game : ParityGame) (set : ℕ → Bool) (least : ℕ) : Type 0 where
+  pub many : (list : List ℕ) → ((v : ℕ) → IsTrue (set v) → Contains list (priority_of game v)) → least ≤ length list
+
+-- the greatest priority of the game
+pub record IsGreatest (game : ParityGame) (greatest : ℕ) : Type 0 where
+  pub bounds : (v : ℕ) → v < vertex_count game → priority_of game v ≤ greatest
+  pub stands : (v : ℕ) × (v < vertex_count game) × (priority_of game v ≡ greatest)
+
+-- the set is closed for the player who wins the greatest priority, and holds all vertices of that priority, as the attractor does
+pub record IsClosedToTops (game : ParityGame) (set : ℕ → Bool) : Type 0 where
+  pub greatest : ℕ
+  pub is_greatest : IsGreatest game greatest
+  pub target : ℕ → Bool
+  pub is_target : (v : ℕ) → v < vertex_count game → IsTrue (target v) ↔ (priority_of game v ≡ greatest)
+  pub closed : IsClosed game (is_vertex game) (greatest % 2) target set
+
+-- how many calls wait at most at one time: no more than there are priorities, at least one where there is a vertex, and at
+-- least two where such a set leaves a vertex out
+pub record IsDepth (game : ParityGame) (depth : ℕ) : Type 0 where
+  pub most : HasPriorities game (is_vertex game) depth
+  pub some : (v : ℕ) → v < vertex_count game → 1 ≤ depth
+  pub two : (set : ℕ → Bool) → IsClosedToTops game set → (v : ℕ) → v < vertex_count game → ¬ IsTrue (set v) → 2 ≤ depth
+
+-- ## On the way there
+
+-- nothing has begun yet
+pub record IsFresh (game : ParityGame) (levels : List ℕ) (calls : ℕ) (solved : Bool) : Type 0 where
+  pub none : calls ≡ 0
+  pub unsolved : solved ≡ false
+  pub unplaced : (v : ℕ) → v < vertex_count game → slice_index levels v ≡ UNPLACED
+
+-- the first call waits alone, and a vertex is left to the next one
+pub record IsSecondCall (levels : List ℕ) (calls : ℕ) (solved : Bool) (v : ℕ) : Type 0 where
+  pub one : calls ≡ 1
+  pub unsolved : solved ≡ false
+  pub unplaced : slice_index levels v ≡ UNPLACED
+
+pub record IsDepthSoFar (game : ParityGame) (levels : List ℕ) (calls : ℕ) (solved : Bool) (depth : ℕ) : Type 0 where
+  pub most : HasPriorities game (is_vertex game) depth
+  pub some : (v : ℕ) → v < vertex_count game → (1 ≤ depth) ⊎ IsFresh game levels calls solved
+  pub two : (set : ℕ → Bool) → IsClosedToTops game set → (v : ℕ) → v < vertex_count game → ¬ IsTrue (set v) → (2 ≤ depth) ⊎ (IsFresh game levels calls solved ⊎ IsSecondCall levels calls solved v)

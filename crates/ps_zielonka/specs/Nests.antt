@@ -1,0 +1,182 @@
+-- The calls of the solver that wait, told by one number for each vertex. A call of depth k, counted from 0, is about the vertices
+-- of level 2k + 1 or more. Those of level 2k + 1 are decided in it; those of level 2k + 2 were attracted in its present turn; the
+-- others are left to the next call. Vertices that are not placed have the greatest level of all.
+use Rattle.std.specs.Prelude.{◌≡◌, ◌≢◌, ℕ, zero, suc, ◌+◌, ◌*◌, ◌<◌, ◌≤◌, ◌⊎◌, Bool, true, false, IsTrue, cond, List, [], ◌∷◌, length, slice_index, slice_index_or, nat_le}
+use Rattle.std.specs.List.{All, Contains}
+use Rattle.ps_game.specs.Games.{ParityGame, IsGame, vertex_count, owner_of, priority_of, HasEdge}
+use Rattle.ps_game.specs.Subgames.{IsSubgame}
+use Rattle.ps_attractor.specs.declared.aim.Aim.{Aim}
+use Rattle.ps_attractor.specs.Tables.{TablesData, FitsGame, level_of, moves_of}
+use Rattle.ps_attractor.specs.Aims.{StandsFrom, IsGrown, IsPlaced}
+use Rattle.ps_zielonka.specs.declared.board.TheConstants.{UNPLACED}
+use Rattle.ps_zielonka.specs.declared.frame.Frame.{Frame}
+use Rattle.ps_zielonka.specs.Turns.{Progress, Solved, IsTurned}
+
+-- the vertices of a level or a higher one
+unfoldable pub from : List ℕ → ℕ → ℕ → Bool
+from levels c v = nat_le c (slice_index levels v)
+
+-- how many they are
+abbrev pub size_from : ℕ → List ℕ → ℕ
+size_from c [] = 0
+size_from c (level ∷ levels) = cond (nat_le c level) 1 0 + size_from c levels
+
+-- who wins a vertex, by a list
+abbrev pub winner_of : List ℕ → ℕ → ℕ
+winner_of winner v = slice_index winner v
+
+-- the vertices of a game by falling priority
+pub record IsOrder (game : ParityGame) (order : List ℕ) : Type 0 where
+  pub vertices : (j : ℕ) → j < length order → slice_index order j < vertex_count game
+  pub all : (v : ℕ) → v < vertex_count game → (j : ℕ) × (j < length order) × (slice_index order j ≡ v)
+  pub falls : (i j : ℕ) → i ≤ j → j < length order → priority_of game (slice_index order j) ≤ priority_of game (slice_index order i)
+
+-- the first places of the order are below a level
+pub record IsCursor (order levels : List ℕ) (cursor c : ℕ) : Type 0 where
+  pub within : cursor ≤ length order
+  pub below : (j : ℕ) → j < cursor → slice_index levels (slice_index order j) < c
+
+-- of a level or a higher one are, among the placed vertices, just those that stand in the trail from a place on
+pub record IsSegment (tables : TablesData) (m c : ℕ) : Type 0 where
+  pub within : m ≤ length tables.trail
+  pub above : (j : ℕ) → m ≤ j → j < length tables.trail → c ≤ level_of tables (slice_index tables.trail j)
+  pub stands : (v : ℕ) → c ≤ level_of tables v → level_of tables v < UNPLACED → StandsFrom tables m v
+
+-- the vertex stands in the trail from a place up to another
+pub record StandsBetween (tables : TablesData) (from to v : ℕ) : Type 0 where
+  pub place : ℕ
+  pub after : from ≤ place
+  pub before : place < to
+  pub is : slice_index tables.trail place ≡ v
+
+-- a call of depth a / 2 waits for the next one
+pub record Waits (game : ParityGame) (tables : TablesData) (winner order : List ℕ) (a : ℕ) (frame : Frame) : Type 0 where
+  pub alive : IsSubgame game (from tables.level (a + 2))
+  pub progress : Progress game (from tables.level (a + 1)) (from tables.level (a + 2)) (winner_of winner) (moves_of tables)
+  pub prepared : IsTurned game (from tables.level (a + 2)) (from tables.level (a + 3)) frame.player (winner_of winner) (moves_of tables)
+  pub room : a + 2 * size_from (a + 1) tables.level ≤ 2 * length tables.level
+  pub segment : IsSegment tables frame.turn (a + 2)
+  pub some : frame.turn ≤ frame.top
+  pub end : frame.top ≤ length tables.trail
+  pub tops : (v : ℕ) → IsTrue (prepared.tops v) → StandsBetween tables frame.turn frame.top v
+  pub only_tops : (v : ℕ) → StandsBetween tables frame.turn frame.top v → IsTrue (prepared.tops v)
+  pub front : IsCursor order tables.level frame.cursor (a + 2)
+
+-- a call of depth a / 2 looks for its next turn: what is left to it is not placed
+pub record Searches (game : ParityGame) (tables : TablesData) (winner order : List ℕ) (a cursor : ℕ) : Type 0 where
+  pub alive : IsSubgame game (from tables.level (a + 2))
+  pub progress : Progress game (from tables.level (a + 1)) (from tables.level (a + 2)) (winner_of winner) (moves_of tables)
+  pub room : a + 2 * size_from (a + 1) tables.level ≤ 2 * length tables.level
+  pub unplaced : (v : ℕ) → a + 2 ≤ level_of tables v → level_of tables v ≡ UNPLACED
+  pub front : IsCursor order tables.level cursor (a + 2)
+
+-- a call of depth a / 2 has its answer, and each vertex is placed
+pub record HasAnswer (game : ParityGame) (tables : TablesData) (winner : List ℕ) (a : ℕ) : Type 0 where
+  pub solved : Solved game (from tables.level (a + 1)) (winner_of winner) (moves_of tables)
+  pub placed : (v : ℕ) → level_of tables v < UNPLACED
+
+-- a call that waits, by its depth
+abbrev pub frame_at : List Frame → ℕ → Frame
+frame_at frames i = slice_index_or frames i (record { cursor = 0; player = 0; turn = 0; top = 0 })
+
+-- what fits a game at all times
+pub record IsSound (game : ParityGame) (tables : TablesData) (winner order : List ℕ) : Type 0 where
+  pub is_game : IsGame game
+  pub fits : FitsGame game tables
+  pub winners : length winner ≡ vertex_count game
+  pub is_order : IsOrder game order
+  pub high : 2 * vertex_count game + 4 ≤ UNPLACED
+  pub levels : (v : ℕ) → v < vertex_count game → 1 ≤ level_of tables v
+  pub most : (v : ℕ) → level_of tables v ≤ UNPLACED
+
+-- all calls but the present one wait, and the present one looks for its next turn or has its answer
+pub record IsNest (game : ParityGame) (tables : TablesData) (winner order : List ℕ) (frames : List Frame) (cursor : ℕ) (solved : Bool) : Type 0 where
+  pub sound : IsSound game tables winner order
+  pub waits : (i : ℕ) → i < length frames → Waits game tables winner order (2 * i) (frame_at frames i)
+  pub rises : (i j : ℕ) → i < j → j < length frames → (frame_at frames i).top ≤ (frame_at frames j).turn
+  pub searches : solved ≡ false → Searches game tables winner order (2 * length frames) cursor
+  pub done : solved ≡ true → HasAnswer game tables winner (2 * length frames)
+
+-- ## How many steps are left at most, by the number of vertices that are left open in each call
+
+abbrev pub steps : ℕ → ℕ
+steps zero = 1
+steps (suc m) = 2 + (steps m + steps m)
+
+abbrev pub rest_of : ℕ → ℕ
+rest_of zero = 1
+rest_of (suc m) = 1 + steps m
+
+-- of the first k calls
+abbrev pub waiting_steps : List ℕ → ℕ → ℕ
+waiting_steps levels zero = 0
+waiting_steps levels (suc k) = waiting_steps levels k + rest_of (size_from (2 * k + 2) levels)
+
+abbrev pub steps_left : List ℕ → ℕ → Bool → ℕ
+steps_left levels k solved = waiting_steps levels k + cond solved 0 (steps (size_from (2 * k + 2) levels))
+
+-- ## The parts of a step
+
+-- the vertices of the greatest priority that are not placed yet are placed; they stand in the order from a place up to another
+pub record ArePlaced (game : ParityGame) (aim : Aim) (old new : TablesData) (order : List ℕ) (cursor behind : ℕ) : Type 0 where
+  pub grown : IsGrown aim old new
+  pub after : cursor ≤ behind
+  pub within : behind ≤ length order
+  pub tops : (v : ℕ) → IsPlaced aim old new v → priority_of game v ≡ priority_of game (slice_index order cursor)
+  pub all : (j : ℕ) → cursor ≤ j → j < behind → level_of new (slice_index order j) ≢ UNPLACED
+
+-- the player wins all that stand in the trail from a place on, and each other vertex is as it was
+pub record IsGiven (aim : Aim) (tables : TablesData) (old new : List ℕ) : Type 0 where
+  pub given : (v : ℕ) → StandsFrom tables aim.begin v → slice_index new v ≡ aim.player
+  pub kept : (v : ℕ) → (slice_index new v ≡ slice_index old v) ⊎ StandsFrom tables aim.begin v
+
+-- an edge leads from v to w, which is above a level and won by the player
+pub record IsWonStep (game : ParityGame) (tables : TablesData) (winner : List ℕ) (level player v w : ℕ) : Type 0 where
+  pub edge : HasEdge game v w
+  pub above : level < level_of tables w
+  pub won : slice_index winner w ≡ player
+
+-- the player's vertex has a move to what the player won, and no edge of the other player's leads to what the other one won
+pub record IsKeptAt (game : ParityGame) (tables : TablesData) (winner : List ℕ) (level player other v : ℕ) : Type 0 where
+  pub own : owner_of game v ≡ player → IsWonStep game tables winner level player v (slice_index tables.moves v)
+  pub foreign : owner_of game v ≢ player → (w : ℕ) → HasEdge game v w → level < level_of tables w → slice_index winner w ≢ other
+
+-- the player's vertex has no edge to what the player won, or the other player's has one to what that one won
+pub record IsLostAt (game : ParityGame) (tables : TablesData) (winner : List ℕ) (level player other v : ℕ) : Type 0 where
+  pub own : owner_of game v ≡ player → (w : ℕ) → HasEdge game v w → level < level_of tables w → slice_index winner w ≢ player
+  pub foreign : owner_of game v ≢ player → (w : ℕ) × IsWonStep game tables winner level other v w
+
+-- nothing but the moves of some vertices changes
+pub record IsMoved (old new : TablesData) (Some : ℕ → Type 0) : Type 0 where
+  pub level : new.level ≡ old.level
+  pub trail : new.trail ≡ old.trail
+  pub choices : length new.moves ≡ length old.moves
+  pub moves : (v : ℕ) → (slice_index new.moves v ≡ slice_index old.moves v) ⊎ Some v
+
+-- the vertex stands in the list before a place
+pub record StandsBefore (list : List ℕ) (end v : ℕ) : Type 0 where
+  pub place : ℕ
+  pub before : place < end
+  pub is : slice_index list place ≡ v
+
+-- the spare vertices are those that stood in the trail from a place on
+pub record IsTakenOff (turn : ℕ) (trail spare : List ℕ) : Type 0 where
+  pub all : length spare + turn ≡ length trail
+  pub same : (j : ℕ) → j < length spare → slice_index spare j ≡ slice_index trail (turn + j)
+
+-- of some vertices those that the player won are not placed any more; the others stand in the trail from the turn on, alone, and
+-- have the level
+pub record IsReopened (winner : List ℕ) (player level turn : ℕ) (Off : ℕ → Type 0) (old new : TablesData) : Type 0 where
+  pub longer : turn ≤ length new.trail
+  pub front : (j : ℕ) → j < turn → slice_index new.trail j ≡ slice_index old.trail j
+  pub behind : (j : ℕ) → turn ≤ j → j < length new.trail → Off (slice_index new.trail j) × (slice_index winner (slice_index new.trail j) ≢ player)
+  pub lost : (v : ℕ) → Off v → slice_index winner v ≢ player → (level_of new v ≡ level) × StandsFrom new turn v
+  pub freed : (v : ℕ) → Off v → slice_index winner v ≡ player → level_of new v ≡ UNPLACED
+  pub same : (v : ℕ) → (level_of new v ≡ level_of old v) ⊎ Off v
+  pub moves : new.moves ≡ old.moves
+  pub sizes : length new.level ≡ length old.level
+
+-- the vertices before n, each behind a number that falls with its priority
+pub record AreRanked (game : ParityGame) (n : ℕ) (ranked : List (ℕ × ℕ)) : Type 0 where
+  pub each : All (λ pair. (pair.1 < n) × (pair.0 + priority_of game pair.1 ≡ UNPLACED)) ranked
+  pub stands : (v : ℕ) → v < n → (rank : ℕ) × Contains ranked (rank, v)

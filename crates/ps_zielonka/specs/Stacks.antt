@@ -1,0 +1,25 @@
+-- The state of the solver between two steps, and what it leaves at the end.
+use Rattle.std.specs.Prelude.{◌≡◌, ℕ, ◌≤◌, ◌<◌, List, length}
+use Rattle.ps_game.specs.Games.{ParityGame, vertex_count}
+use Rattle.ps_attractor.specs.Tables.{TablesData, level_of, moves_of}
+use Rattle.ps_zielonka.specs.declared.nest.Nest.{Nest}
+use Rattle.ps_zielonka.specs.Depths.{IsDepthSoFar}
+use Rattle.ps_zielonka.specs.Turns.{Solved}
+use Rattle.ps_zielonka.specs.Nests.{IsNest, from, winner_of, steps_left}
+
+abbrev pub IsStack : ParityGame → Nest → Type 0
+IsStack game nest = IsNest game nest.board.tables nest.board.winner.items nest.order.items nest.frames.items nest.cursor nest.solved
+
+abbrev pub steps_of : Nest → ℕ
+steps_of nest = steps_left nest.board.tables.level (length nest.frames.items) nest.solved
+
+-- the tables solve the whole game
+pub record IsSolvedBy (game : ParityGame) (tables : TablesData) (winner : List ℕ) : Type 0 where
+  pub winners : length winner ≡ vertex_count game
+  pub levels : length tables.level ≡ vertex_count game
+  pub choices : length tables.moves ≡ vertex_count game
+  pub all : (v : ℕ) → v < vertex_count game → 1 ≤ level_of tables v
+  pub solved : Solved game (from tables.level 1) (winner_of winner) (moves_of tables)
+
+abbrev pub IsDeep : ParityGame → Nest → Type 0
+IsDeep game nest = IsDepthSoFar game nest.board.tables.level (length nest.frames.items) nest.solved nest.depth

@@ -1,0 +1,44 @@
+ghost use Rattle.std.specs.Prelude.{◌≡◌, IfOk, length};
+ghost use Rattle.ps_game.specs.Games.{vertex_count};
+ghost use Rattle.ps_zielonka.specs.Answers.{IsRegionTo, AreMovesTo};
+
+use ps_attractor::Tables;
+use ps_game::{Arena, Region, Strategy};
+use std::alloc::{AllocError, Global};
+
+/// The vertices that player 0 wins.
+pub fn region_of(alloc: Global, winner: &[u8]) -> Result<Region, AllocError>
+    ensures places { IfOk result (λ region. length region ≡ length winner.now) }
+    ensures won { IfOk result (IsRegionTo winner.now (length winner.now)) }
+{
+    let mut region = Region::empty(alloc, winner.len())?;
+    for (vertex, player) in winner.iter().enumerate() {
+        if *player == 0 {
+            region.insert(vertex);
+        }
+    }
+    Ok(region)
+}
+
+/// The moves of a player at its vertices that it wins.
+pub fn strategy_of<A: Arena>(
+    alloc: Global,
+    arena: &A,
+    tables: &Tables,
+    winner: &[u8],
+    player: u8,
+) -> Result<Strategy, AllocError>
+    requires moves { length tables.now.moves ≡ vertex_count (A.game arena.now) }
+    requires winners { length winner.now ≡ vertex_count (A.game arena.now) }
+    ensures places { IfOk result (λ strategy. length strategy ≡ vertex_count (A.game arena.now)) }
+    ensures given { IfOk result (AreMovesTo (A.game arena.now) tables.now.moves winner.now player (vertex_count (A.game arena.now))) }
+{
+    let count = arena.count();
+    let mut strategy = Strategy::empty(alloc, count)?;
+    for vertex in 0..count {
+        if winner[vertex] == player && arena.owner(vertex) == player {
+            strategy.set(vertex, tables.chosen(vertex));
+        }
+    }
+    Ok(strategy)
+}

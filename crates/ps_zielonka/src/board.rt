@@ -1,0 +1,182 @@
+ghost use Rattle.std.specs.Prelude.{◌≡◌, ◌≢◌, ◌+◌, ◌-◌, ◌<◌, ◌≤◌, ℕ, Bool, false, IfSome, IfNone, OnOk, IsTrue, length, take, slice_index};
+ghost use Rattle.ps_game.specs.Games.{IsGame, vertex_count, HasEdge};
+ghost use Rattle.ps_attractor.specs.Sources.{IsSourcesOf};
+ghost use Rattle.ps_attractor.specs.Tables.{FitsGame, level_of, moves_of};
+ghost use Rattle.ps_attractor.specs.Aims.{IsPosed, IsTaken, IsAttracted, IsGrown, StandsFrom, rank_of};
+ghost use Rattle.ps_zielonka.specs.Nests.{IsGiven, IsWonStep, IsKeptAt, IsLostAt, IsMoved, StandsBetween, IsTakenOff, IsReopened};
+
+use crate::frame::Frame;
+use ps_attractor::{Aim, Sources, Tables};
+use ps_game::Arena;
+use std::alloc::AllocError;
+
+/// The level of the vertices that are not placed.
+pub const UNPLACED: usize = usize::MAX;
+
+/// What is decided of each vertex.
+#[derive(Drop)]
+pub struct Board {
+    /// The level of each vertex, its move, and the vertices that were placed.
+    pub tables: Tables,
+    /// Who wins each vertex that was placed.
+    pub winner: Vec<u8>,
+    /// Vertices that are taken off the trail.
+    pub spare: Vec<usize>,
+}
+
+impl Board {
+    /// Attracts to the vertices that stand in the trail from a place on, and gives all that then stand there to the player.
+    pub fn attract<A: Arena>(
+        &mut self,
+        arena: &A,
+        sources: &Sources,
+        aim: Aim,
+    ) -> Result<(), AllocError>
+        requires game { IsGame (A.game arena.now) }
+        requires sources { IsSourcesOf (A.game arena.now) sources.now }
+        requires fits { FitsGame (A.game arena.now) self.old.tables }
+        requires winners { length self.old.winner.items ≡ vertex_count (A.game arena.now) }
+        requires differ { aim.mark ≢ aim.free }
+        requires begin { aim.begin ≤ length self.old.tables.trail }
+        ensures fits { OnOk result (FitsGame (A.game arena.now) self.new.tables) }
+        ensures winners { OnOk result (length self.new.winner.items ≡ vertex_count (A.game arena.now)) }
+        ensures grown { OnOk result (IsGrown aim self.old.tables self.new.tables) }
+        ensures attracted { OnOk result ((subgame target set : ℕ → Bool) →
+            IsPosed (A.game arena.now) aim self.old.tables subgame target → IsTaken aim self.new.tables subgame set →
+            IsAttracted (A.game arena.now) subgame aim.player target set (moves_of self.new.tables) (rank_of aim self.new.tables)) }
+        ensures given { OnOk result (IsGiven aim self.new.tables self.old.winner.items self.new.winner.items) }
+    {
+        self.tables.attract(arena, sources, aim)?;
+        self.give(aim);
+        Ok(())
+    }
+
+    /// Gives all that stand in the trail from a place on to the player.
+    fn give(&mut self, aim: Aim)
+        requires begin { aim.begin ≤ length self.old.tables.trail }
+        requires winners { (j : ℕ) → j < length self.old.tables.trail → slice_index self.old.tables.trail j < length self.old.winner.items }
+        ensures tables { self.new.tables ≡ self.old.tables }
+        ensures winners { length self.new.winner.items ≡ length self.old.winner.items }
+        ensures given { IsGiven aim self.new.tables self.old.winner.items self.new.winner.items }
+    {
+        for place in aim.begin..self.tables.placed() {
+            self.winner[self.tables.vertex_at(place)] = aim.player;
+        }
+    }
+
+    /// Whether the player keeps all that the other one did not win, at each vertex of the greatest priority too. Writes the
+    /// moves there.
+    pub fn is_kept<A: Arena>(&mut self, arena: &A, frame: Frame, level: usize) -> bool
+        requires game { IsGame (A.game arena.now) }
+        requires fits { FitsGame (A.game arena.now) self.old.tables }
+        requires winners { length self.old.winner.items ≡ vertex_count (A.game arena.now) }
+        requires player { frame.player < 2 }
+        requires end { frame.top ≤ length self.old.tables.trail }
+        ensures moved { IsMoved self.old.tables self.new.tables (StandsBetween self.old.tables frame.turn frame.top) }
+        ensures winner { self.new.winner.items ≡ self.old.winner.items }
+        ensures fits { FitsGame (A.game arena.now) self.new.tables }
+        ensures kept { IsTrue result → (v : ℕ) → StandsBetween self.old.tables frame.turn frame.top v →
+            IsKeptAt (A.game arena.now) self.new.tables self.old.winner.items level frame.player (1 - frame.player) v }
+        ensures lost { result ≡ false → (v : ℕ) × StandsBetween self.old.tables frame.turn frame.top v ×
+            IsLostAt (A.game arena.now) self.old.tables self.old.winner.items level frame.player (1 - frame.player) v }
+    {
+        for place in frame.turn..frame.top {
+            let vertex = self.tables.vertex_at(place);
+            if !self.keeps(arena, frame.player, level, vertex) {
+                return false;
+            }
+        }
+        true
+    }
+
+    /// Whether a vertex of the greatest priority stays with the player. Writes its move.
+    fn keeps<A: Arena>(&mut self, arena: &A, player: u8, level: usize, vertex: usize) -> bool
+        requires game { IsGame (A.game arena.now) }
+        requires fits { FitsGame (A.game arena.now) self.old.tables }
+        requires winners { length self.old.winner.items ≡ vertex_count (A.game arena.now) }
+        requires player { player < 2 }
+        requires vertex { vertex < vertex_count (A.game arena.now) }
+        ensures moved { IsMoved self.old.tables self.new.tables (λ v. v ≡ vertex) }
+        ensures winner { self.new.winner.items ≡ self.old.winner.items }
+        ensures fits { FitsGame (A.game arena.now) self.new.tables }
+        ensures kept { IsTrue result → IsKeptAt (A.game arena.now) self.new.tables self.old.winner.items level player (1 - player) vertex }
+        ensures lost { result ≡ false → IsLostAt (A.game arena.now) self.old.tables self.old.winner.items level player (1 - player) vertex }
+    {
+        if arena.owner(vertex) != player {
+            return self
+                .won_successor(arena, vertex, level, 1 - player)
+                .is_none();
+        }
+        match self.won_successor(arena, vertex, level, player) {
+            Some(successor) => {
+                self.tables.choose(vertex, successor);
+                true
+            }
+            None => false,
+        }
+    }
+
+    /// A successor of a vertex above a level that a player won.
+    fn won_successor<A: Arena>(
+        &self,
+        arena: &A,
+        vertex: usize,
+        level: usize,
+        player: u8,
+    ) -> Option<usize>
+        requires game { IsGame (A.game arena.now) }
+        requires fits { FitsGame (A.game arena.now) self.now.tables }
+        requires winners { length self.now.winner.items ≡ vertex_count (A.game arena.now) }
+        requires vertex { vertex < vertex_count (A.game arena.now) }
+        ensures some { IfSome result (IsWonStep (A.game arena.now) self.now.tables self.now.winner.items level player vertex) }
+        ensures none { IfNone result ((w : ℕ) → HasEdge (A.game arena.now) vertex w →
+            level < level_of self.now.tables w → slice_index self.now.winner.items w ≢ player) }
+    {
+        for number in 0..arena.degree(vertex) {
+            let successor = arena.successor(vertex, number);
+            if self.tables.level(successor) > level && self.winner[successor] == player {
+                return Some(successor);
+            }
+        }
+        None
+    }
+
+    /// Leaves in the trail, of what stands there from the turn on, just what the player did not win, and gives that the level.
+    pub fn reopen(&mut self, frame: Frame, level: usize) -> Result<(), AllocError>
+        requires vertices { (j : ℕ) → j < length self.old.tables.trail → slice_index self.old.tables.trail j < length self.old.tables.level }
+        requires winners { length self.old.winner.items ≡ length self.old.tables.level }
+        requires turn { frame.turn ≤ length self.old.tables.trail }
+        requires level { level ≢ UNPLACED }
+        ensures winner { self.new.winner.items ≡ self.old.winner.items }
+        ensures reopened { OnOk result (IsReopened self.old.winner.items frame.player level frame.turn
+            (StandsFrom self.old.tables frame.turn) self.old.tables self.new.tables) }
+    {
+        self.take_off(frame.turn)?;
+        for place in 0..self.spare.len() {
+            let vertex = self.spare[place];
+            if self.winner[vertex] == frame.player {
+                self.tables.set_level(vertex, UNPLACED);
+            } else {
+                self.tables.place(vertex, level)?;
+            }
+        }
+        Ok(())
+    }
+
+    /// Takes off the trail what stands there from a place on.
+    fn take_off(&mut self, turn: usize) -> Result<(), AllocError>
+        requires { turn ≤ length self.old.tables.trail }
+        ensures winner { self.new.winner.items ≡ self.old.winner.items }
+        ensures level { self.new.tables.level ≡ self.old.tables.level }
+        ensures moves { self.new.tables.moves ≡ self.old.tables.moves }
+        ensures trail { OnOk result (self.new.tables.trail ≡ take turn self.old.tables.trail) }
+        ensures spare { OnOk result (IsTakenOff turn self.old.tables.trail self.new.spare.items) }
+    {
+        self.spare.clear();
+        for place in turn..self.tables.placed() {
+            self.spare.push(self.tables.vertex_at(place))?;
+        }
+        self.tables.cut(turn);
+        Ok(())
+    }
+}

@@ -1,0 +1,12 @@
+/// A call that waits for the part of its subgame that is left by the attractor of its present turn.
+#[derive(Clone, Copy)]
+pub struct Frame {
+    /// How many vertices at the front of the order are closed for this call.
+    pub cursor: usize,
+    /// Who wins the greatest priority of the open part.
+    pub player: u8,
+    /// Where the vertices of that priority begin in the trail, and behind them those that were attracted.
+    pub turn: usize,
+    /// Where the vertices of that priority end.
+    pub top: usize,
+}

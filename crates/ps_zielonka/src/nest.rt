@@ -1,0 +1,185 @@
+ghost use Rattle.std.specs.Prelude.{◌≡◌, ◌≢◌, ◌+◌, ◌-◌, ◌*◌, ◌<◌, ◌≤◌, ℕ, Bool, true, false, [], ◌∷◌, ◌++◌, IfOk, OnOk, IsTrue, length, slice_index};
+ghost use Rattle.ps_game.specs.Games.{IsGame, vertex_count};
+ghost use Rattle.ps_attractor.specs.Sources.{IsSourcesOf};
+ghost use Rattle.ps_attractor.specs.Tables.{FitsGame, level_of, moves_of};
+ghost use Rattle.ps_zielonka.specs.Depths.{IsDepth};
+ghost use Rattle.ps_zielonka.specs.Stacks.{IsStack, IsDeep, IsSolvedBy, steps_of};
+ghost use Rattle.ps_zielonka.specs.Nests.{IsNest, IsLostAt, StandsBetween, steps_left};
+
+use crate::board::{Board, UNPLACED};
+use crate::frame::Frame;
+use crate::order::{falling_order, first_unplaced, place_tops};
+use ps_attractor::{Aim, Sources, Tables};
+use ps_game::Arena;
+use std::alloc::{AllocError, Global};
+
+/// The calls that wait, what is decided, and where the search for the next turn stands.
+#[derive(Drop)]
+pub struct Nest {
+    /// What is decided of each vertex.
+    pub board: Board,
+    /// The vertices by falling priority.
+    pub order: Vec<usize>,
+    /// The calls that wait.
+    pub frames: Vec<Frame>,
+    /// How many vertices at the front of the order are closed for the present call.
+    pub cursor: usize,
+    /// Whether the present call has an answer.
+    pub solved: bool,
+    /// The greatest number of calls that waited at one time.
+    pub depth: usize,
+}
+
+impl Nest {
+    /// No vertex is decided, and no call waits.
+    pub fn new<A: Arena>(alloc: Global, arena: &A) -> Result<Nest, AllocError>
+        ensures stack { IfOk result (IsStack (A.game arena.now)) }
+        ensures deep { IfOk result (IsDeep (A.game arena.now)) }
+    {
+        let count = arena.count();
+        let order = falling_order(alloc, arena)?;
+        let tables = Tables::new(alloc, count, UNPLACED)?;
+        let winner = vec![in alloc; 0; count]?;
+        let board = Board {
+            tables,
+            winner,
+            spare: Vec::new(alloc),
+        };
+        Ok(Nest {
+            board,
+            order,
+            frames: Vec::new(alloc),
+            cursor: 0,
+            solved: false,
+            depth: 0,
+        })
+    }
+
+    /// Decides each vertex.
+    pub fn solve<A: Arena>(&mut self, arena: &A, sources: &Sources) -> Result<(), AllocError>
+        requires sources { IsSourcesOf (A.game arena.now) sources.now }
+        requires stack { IsStack (A.game arena.now) self.old }
+        requires deep { IsDeep (A.game arena.now) self.old }
+        ensures solved { OnOk result (IsSolvedBy (A.game arena.now) self.new.board.tables self.new.board.winner.items) }
+        ensures depth { OnOk result (IsDepth (A.game arena.now) self.new.depth) }
+    {
+        'steps: while !self.solved || !self.frames.is_empty() {
+            if self.solved {
+                self.climb(arena, sources)?;
+            } else {
+                self.descend(arena, sources)?;
+            }
+        }
+        Ok(())
+    }
+
+    /// Begins a turn where a vertex is left, and else has the answer.
+    fn descend<A: Arena>(&mut self, arena: &A, sources: &Sources) -> Result<(), AllocError>
+        requires sources { IsSourcesOf (A.game arena.now) sources.now }
+        requires stack { IsStack (A.game arena.now) self.old }
+        requires searches { self.old.solved ≡ false }
+        ensures stack { OnOk result (IsStack (A.game arena.now) self.new) }
+        ensures falls { OnOk result (steps_of self.new < steps_of self.old) }
+        ensures deep { OnOk result (IsDeep (A.game arena.now) self.old → IsDeep (A.game arena.now) self.new) }
+    {
+        let cursor = first_unplaced(&self.board.tables, &self.order, self.cursor);
+        if cursor < self.order.len() {
+            self.begin_turn(arena, sources, cursor)
+        } else {
+            self.solved = true;
+            Ok(())
+        }
+    }
+
+    /// The player of the greatest priority, which stands at a place of the order, attracts to all vertices of that priority.
+    fn begin_turn<A: Arena>(
+        &mut self,
+        arena: &A,
+        sources: &Sources,
+        cursor: usize,
+    ) -> Result<(), AllocError>
+        requires sources { IsSourcesOf (A.game arena.now) sources.now }
+        requires stack { IsStack (A.game arena.now) self.old }
+        requires searches { self.old.solved ≡ false }
+        requires within { cursor < length self.old.order.items }
+        requires unplaced { level_of self.old.board.tables (slice_index self.old.order.items cursor) ≡ UNPLACED }
+        requires first { (j : ℕ) → j < cursor → level_of self.old.board.tables (slice_index self.old.order.items j) ≢ UNPLACED }
+        ensures stack { OnOk result (IsStack (A.game arena.now) self.new) }
+        ensures falls { OnOk result (steps_of self.new < steps_of self.old) }
+        ensures deep { OnOk result (IsDeep (A.game arena.now) self.old → IsDeep (A.game arena.now) self.new) }
+    {
+        let player = (arena.priority(self.order[cursor]) % 2) as u8;
+        let turn = self.board.tables.placed();
+        let aim = Aim {
+            player,
+            begin: turn,
+            mark: 2 * self.frames.len() + 2,
+            free: UNPLACED,
+        };
+        let behind = place_tops(arena, &mut self.board.tables, &self.order, aim, cursor)?;
+        let top = self.board.tables.placed();
+        self.board.attract(arena, sources, aim)?;
+        self.frames.push(Frame {
+            cursor,
+            player,
+            turn,
+            top,
+        })?;
+        self.cursor = behind;
+        self.depth = self.depth.max(self.frames.len());
+        Ok(())
+    }
+
+    /// Goes back to the last call that waits: it has its answer, or goes on with what is left open.
+    fn climb<A: Arena>(&mut self, arena: &A, sources: &Sources) -> Result<(), AllocError>
+        requires sources { IsSourcesOf (A.game arena.now) sources.now }
+        requires stack { IsStack (A.game arena.now) self.old }
+        requires done { self.old.solved ≡ true }
+        requires some { 0 < length self.old.frames.items }
+        ensures stack { OnOk result (IsStack (A.game arena.now) self.new) }
+        ensures falls { OnOk result (steps_of self.new < steps_of self.old) }
+        ensures deep { OnOk result (IsDeep (A.game arena.now) self.old → IsDeep (A.game arena.now) self.new) }
+    {
+        let Some(frame) = self.frames.pop() else {
+            return Ok(());
+        };
+        let level = 2 * self.frames.len() + 1;
+        if self.board.is_kept(arena, frame, level) {
+            Ok(())
+        } else {
+            self.go_on(arena, sources, frame, level)
+        }
+    }
+
+    /// Decides what the other player won and attracts to, and searches what is left open of the call.
+    fn go_on<A: Arena>(
+        &mut self,
+        arena: &A,
+        sources: &Sources,
+        frame: Frame,
+        level: usize,
+    ) -> Result<(), AllocError>
+        requires sources { IsSourcesOf (A.game arena.now) sources.now }
+        requires nest { IsNest (A.game arena.now) self.old.board.tables self.old.board.winner.items self.old.order.items
+            (self.old.frames.items ++ frame ∷ []) self.old.cursor true }
+        requires level { level ≡ 2 * length self.old.frames.items + 1 }
+        requires lost { (v : ℕ) × StandsBetween self.old.board.tables frame.turn frame.top v ×
+            IsLostAt (A.game arena.now) self.old.board.tables self.old.board.winner.items level frame.player (1 - frame.player) v }
+        ensures stack { OnOk result (IsStack (A.game arena.now) self.new) }
+        ensures falls { OnOk result (steps_of self.new <
+            steps_left self.old.board.tables.level (length self.old.frames.items + 1) true) }
+        ensures depth { OnOk result (self.new.depth ≡ self.old.depth) }
+    {
+        self.board.reopen(frame, level)?;
+        let aim = Aim {
+            player: 1 - frame.player,
+            begin: frame.turn,
+            mark: level,
+            free: UNPLACED,
+        };
+        self.board.attract(arena, sources, aim)?;
+        self.cursor = frame.cursor;
+        self.solved = false;
+        Ok(())
+    }
+}

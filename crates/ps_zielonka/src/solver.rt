@@ -1,0 +1,37 @@
+ghost use Rattle.std.specs.Prelude.{◌≡◌, IfOk, OnOk, length};
+ghost use Rattle.ps_game.specs.Games.{vertex_count};
+ghost use Rattle.ps_game.specs.Plays.{Holds};
+ghost use Rattle.ps_game.specs.Regions.{has, move_at};
+ghost use Rattle.ps_zielonka.specs.Answers.{others};
+ghost use Rattle.ps_zielonka.specs.Depths.{IsDepth};
+
+use crate::answer::{region_of, strategy_of};
+use crate::nest::Nest;
+use ps_attractor::Sources;
+use ps_game::{Arena, Counts, Region, Strategy};
+use std::alloc::{AllocError, Global};
+
+/// Which vertices player 0 wins, the moves by which it does, and those by which player 1 wins the others.
+pub fn regions<A: Arena>(
+    alloc: Global,
+    arena: &A,
+    counts: &mut Counts,
+) -> Result<(Region, Strategy, Strategy), AllocError>
+    ensures region_places { IfOk result (λ answer. length answer.0 ≡ vertex_count (A.game arena.now)) }
+    ensures first_places { IfOk result (λ answer. length answer.1 ≡ vertex_count (A.game arena.now)) }
+    ensures second_places { IfOk result (λ answer. length answer.2 ≡ vertex_count (A.game arena.now)) }
+    ensures first_holds { IfOk result (λ answer. Holds (A.game arena.now) 0 (has answer.0) (move_at answer.1)) }
+    ensures second_holds { IfOk result (λ answer. Holds (A.game arena.now) 1 (others answer.0) (move_at answer.2)) }
+    ensures depth { OnOk result (IsDepth (A.game arena.now) counts.new.depth) }
+    ensures raises { counts.new.raises ≡ counts.old.raises }
+{
+    let sources = Sources::of(alloc, arena)?;
+    let mut nest = Nest::new(alloc, arena)?;
+    nest.solve(arena, &sources)?;
+    counts.depth = nest.depth as u64;
+    let board = &nest.board;
+    let region = region_of(alloc, &board.winner)?;
+    let first = strategy_of(alloc, arena, &board.tables, &board.winner, 0)?;
+    let second = strategy_of(alloc, arena, &board.tables, &board.winner, 1)?;
+    Ok((region, first, second))
+}
