@@ -1,6 +1,6 @@
 //! What no clause says: that memory is enough, and counts of small games that were found by hand.
 
-use crate::ranks;
+use crate::{MeasureFault, ranks};
 use ps_game::{Arena, Counts, Game, GameBuilder, Region, Strategy};
 use std::alloc::Global;
 use std::test::Fail;
@@ -55,5 +55,23 @@ fn outside_the_region_counts_are_zero(rt: HostRuntime) -> Result<(), Fail> {
     assert_eq!(rt; found.counts.len(), 3);
     assert_eq!(rt; found.counts[2].as_slice(), [0].as_slice());
     assert_eq!(rt; counts.raises, 0);
+    Ok(())
+}
+
+#[test]
+fn a_lost_cycle_is_shown(rt: HostRuntime) -> Result<(), Fail> {
+    let game = game(rt.alloc())?;
+    let region = Region::full(rt.alloc(), game.count())?;
+    let mut strategy = Strategy::empty(rt.alloc(), game.count())?;
+    if 2 < strategy.places() {
+        strategy.set(2, 0);
+    }
+    let mut counts = Counts::default();
+    let refused = ranks(rt.alloc(), &game, 0, &region, &strategy, &mut counts).err();
+    let mut shown = Vec::new(rt.alloc());
+    if let Some(MeasureFault::BadCycle { cycle }) = refused {
+        shown = cycle;
+    }
+    assert_eq!(rt; shown.as_slice(), [1].as_slice());
     Ok(())
 }

@@ -4,7 +4,7 @@ use Rattle.ps_measure.proofs.Rows.{rows_push, rows_none}
 use Rattle.ps_measure.proofs.measuring.rows_of.Goals as goal
 
 pub loop-row-init : goal.loop-row-init
-loop-row-init c = let none = rows_none c.args.width c.new-rows.result.items c.new-rows.ensures.items in record { shape = none.0; empty = none.1 }
+loop-row-init c = let none = rows_none c.args.width c.in_ok-rows.rows.items c.in_ok-rows.ensures.items in record { shape = none.0; empty = none.1 }
 
 pub loop-row-preserved : goal.loop-row-preserved
 loop-row-preserved c =
