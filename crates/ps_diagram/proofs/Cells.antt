@@ -126,7 +126,7 @@ get_or_of_some : (xs : List View) (k : ℕ) (d x : View) → slice_get xs k ≡ 
 get_or_of_some xs k d x e = some_one _ _ (sym (slice_get-get_or xs k d (slice_get_within xs k x e)) ∙ e)
 
 -- a place of the longer list is an old one or the new one
-old_or_new : (k n : ℕ) → k < n + 1 → (k < n) ⊎ (k ≡ n)
+pub old_or_new : (k n : ℕ) → k < n + 1 → (k < n) ⊎ (k ≡ n)
 old_or_new k n h = elim (bool_cases (ltb k n)) [ inl is ↦ inl (let t = ltb-true k n is in t) | inr is ↦ inr (let f = ltb-false k n is in omega (arith, f, h)) ]
 
 pub keeps_more : (t : Table) (cell : View) → Keeps t (more t cell)

@@ -8,3 +8,9 @@ pub mod Letters
 pub mod Clashing
 pub mod Seeing
 pub mod Mapping
+pub mod Alone
+pub mod Truths
+pub mod Gathering
+pub mod Dividing
+pub mod Numbering
+pub mod Classing

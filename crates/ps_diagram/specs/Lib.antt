@@ -3,7 +3,12 @@ pub mod Tree
 pub mod Table
 pub mod Parts
 pub mod Leaves
+pub mod Labels
 pub mod Split
 pub mod Known
 pub mod Clashes
 pub mod Views
+pub mod Reached
+pub mod Rests
+pub mod Numbered
+pub mod Classes

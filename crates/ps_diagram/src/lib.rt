@@ -7,25 +7,36 @@
 //! |---|---|
 //! | `leaf(value)` | `value` |
 //! | `none()` | none |
+//! | `of_label(labels, label)` | 1 where the label is true, else none |
+//! | `of_letter(letter)` | 1 at that letter alone |
 //! | `overlay(first, second)` | that of the first, or else that of the second; `Clash` exactly where two differ |
 //! | `guard(node, value)` | `value` where the node has a leaf, else none |
 //! | `fill(node, value)` | that of the node, or else `value` |
 //! | `relabel(node, values)` | `values[k]` where the node has k, else none |
 //!
 //! Each of these calls keeps each node that was held, with the same leaf at each letter, also where it fails (`Keeps`).
-//! `eval`, `same` and `view` read a node and take no memory. `copy` is a store of the same value.
+//! `eval`, `same` and `view` read a node and take no memory. `leaves` lists the leaves of a node with the least letter of
+//! each, `path_to` finds that of one leaf. `classes` divides the letters over some propositions into those that lead alike
+//! (`AreClasses`), and keeps each node too. `copy` is a store of the same value.
 #![tactic(auto)]
 
+mod classes;
 mod fault;
+mod labels;
+mod letter;
 mod maps;
 mod overlay;
+mod paths;
 mod split;
 pub mod store;
 pub mod view;
 
+pub use classes::{Class, Classes};
 pub use fault::OverlayError;
 pub use store::Store;
 pub use view::{Node, View};
 
+#[cfg(test)]
+mod label_tests;
 #[cfg(test)]
 mod tests;

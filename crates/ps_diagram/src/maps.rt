@@ -1,6 +1,6 @@
 //! Diagrams with their leaves changed by a rule.
 
-ghost use Rattle.std.specs.Prelude.{◌≡◌, ℕ, ◌+◌, ◌^◌, ◌<◌, Bool, Option, Some, None, IfOk, IfSome, length, nat_eq, option_map, unwrap_or, slice_index, is_none, cond};
+ghost use Rattle.std.specs.Prelude.{◌≡◌, ℕ, ◌+◌, ◌^◌, ◌<◌, Bool, Option, Some, None, IfOk, IfSome, length, nat_eq, option_map, option_and_then, unwrap_or, slice_index, is_none, cond};
 ghost use Rattle.indexmap.specs.IndexMap.{get, index_of};
 ghost use Rattle.ps_diagram.specs.Tree.{leaf_at};
 ghost use Rattle.ps_diagram.specs.Table.{IsNode, Keeps, leaf_of, tree_of};
@@ -69,6 +69,23 @@ impl LeafRule for Relabelled<'_> {
         match leaf {
             None => None,
             Some(k) => Some(self.0[k as usize]),
+        }
+    }
+}
+
+/// What a table has at the leaf.
+#[derive(Drop)]
+struct Placed<'a>(&'a IndexMap<u64, u64>);
+
+impl LeafRule for Placed<'_> {
+    ghost fits = { λ _ _. Unit {0} };
+
+    ghost rule = { λ s leaf. option_and_then (λ k. get nat_eq s.0.now k) leaf };
+
+    fn changed(&self, leaf: Option<u64>) -> Option<u64> {
+        match leaf {
+            None => None,
+            Some(k) => self.0.get(&k).copied(),
         }
     }
 }
@@ -153,6 +170,21 @@ impl Store {
         self.mapped(node, &Negated)
     }
 
+    /// The diagram with what the table has at the node's leaf.
+    pub(crate) fn placed(
+        &mut self,
+        node: Node,
+        places: &IndexMap<u64, u64>,
+    ) -> Result<Node, AllocError>
+        requires held { IsNode self.old node }
+        ensures keeps { Keeps self.old self.new }
+        ensures held { IfOk result (λ made. IsNode self.new made) }
+        ensures leaf { IfOk result
+            (λ made. IsMapped (λ leaf. option_and_then (λ k. get nat_eq places.now k) leaf) (tree_of self.old node) (tree_of self.new made)) }
+    {
+        self.mapped(node, &Placed(places))
+    }
+
     fn mapped<R: LeafRule>(&mut self, node: Node, rule: &R) -> Result<Node, AllocError>
         requires held { IsNode self.old node }
         requires fits { (f : ℕ → Bool) → R.fits rule.now (leaf_at (tree_of self.old node) f) }
@@ -202,7 +234,7 @@ impl Store {
     }
 
     /// The diagram with that leaf, or none, at each letter.
-    fn constant(&mut self, leaf: Option<u64>) -> Result<Node, AllocError>
+    pub(crate) fn constant(&mut self, leaf: Option<u64>) -> Result<Node, AllocError>
         ensures keeps { Keeps self.old self.new }
         ensures held { IfOk result (λ made. IsNode self.new made) }
         ensures leaf { IfOk result

@@ -46,3 +46,16 @@ fn a_clash_has_both_leaves(rt: HostRuntime) -> Result<(), Fail> {
     );
     Ok(())
 }
+
+#[test]
+fn letters_are_in_two_classes(rt: HostRuntime) -> Result<(), Fail> {
+    let mut store = Store::new(rt.alloc(), 2);
+    let both = store.of_letter(3)?;
+    let classes = store.classes(both, 1)?;
+    assert_eq!(rt; classes.list.len(), 2);
+    assert_eq!(rt; classes.list[0].letter, 0);
+    assert_eq!(rt; classes.list[1].letter, 1);
+    assert_eq!(rt; store.eval(classes.places, 2), Some(0));
+    assert_eq!(rt; store.eval(classes.places, 3), Some(1));
+    Ok(())
+}

@@ -1,0 +1,4 @@
+use Rattle.ps_diagram.proofs.store.Store.+gather.Given as goal
+
+abbrev pub decreases-gather : goal.decreases-gather
+decreases-gather l = l.node

@@ -1,0 +1,25 @@
+use Rattle.std.proofs.Common.{sym, ◌≡◌, ◌∙◌, arith, true, false, ◌+◌}
+use Rattle.std.proofs.lemmas.Result.{IfOk-weaker}
+use Rattle.std.proofs.lemmas.Bool.{eq-eqb, ne_eqb}
+use Rattle.std.proofs.lemmas.Nat.Bits.{shr_and_one}
+use Rattle.ps_label.specs.Truth.{is_in}
+use Rattle.ps_diagram.specs.Table.{tree_of}
+use Rattle.ps_diagram.proofs.Dividing.{divided_in, divided_off, leads_kept}
+use Rattle.ps_diagram.proofs.store.Store.divided_test.Goals as goal
+
+pub overflow_shr-split : goal.overflow_shr-split
+overflow_shr-split c = let n = c.requires.named in let m = c.allocator.ensures.sound.few in omega (arith, n, m)
+
+pub returns-then-split-proposition-eq1-clause-leaf : goal.returns-then-split-proposition-eq1-clause-leaf
+returns-then-split-proposition-eq1-clause-leaf c =
+    let now = c.args.self.now in
+    let then = c.test.new.self in
+    let k = c.test.ensures.keeps in
+    let is : is_in c.args.proposition c.args.split ≡ true = eq-eqb _ 1 (sym (shr_and_one c.args.split c.args.proposition) ∙ c.if-split-proposition-eq1.true) in
+    IfOk-weaker c.test.result _ _ (λ made e. divided_in then c.args.split c.args.proposition (c.args.proposition + 1) (tree_of now c.args.low) (tree_of now c.args.high) (tree_of then made) is
+    (leads_kept now then k _ _ c.requires.low_leads) (leads_kept now then k _ _ c.requires.high_leads) e) c.test.ensures.leaf
+
+pub returns-clause-leaf : goal.returns-clause-leaf
+returns-clause-leaf c =
+    let isnt : is_in c.args.proposition c.args.split ≡ false = ne_eqb _ 1 (λ e. c.if-split-proposition-eq1.false (shr_and_one c.args.split c.args.proposition ∙ e)) in
+    IfOk-weaker c.tested.result _ _ (λ made e. divided_off c.tested.new.self c.args.split c.args.proposition (tree_of c.args.self.now c.args.low) (tree_of c.args.self.now c.args.high) (tree_of c.tested.new.self made) isnt e) c.tested.ensures.leaf

@@ -1,0 +1,55 @@
+-- The leaves of a node, and the least letter that leads to each.
+--
+--     LeadsTo t node leaf letter     the letter leads from the node to the leaf
+--     AreLeaves t node found         all its leaves, each with the least letter, in the order of these
+use Rattle.std.specs.Prelude.{◌≡◌, ℕ, ◌^◌, ◌<◌, Bool, true, List, [], ◌∷◌, ◌++◌, All, AllPairs, Any, Some, None, nat_eq}
+use Rattle.std.specs.List.{AllByRecursion}
+use Rattle.std.specs.Map.{lookup}
+use Rattle.ps_label.specs.Truth.{is_in}
+use Rattle.ps_diagram.specs.Letters.{assignment, IsBefore, IsLeast}
+use Rattle.ps_diagram.specs.Split.{root_of}
+use Rattle.ps_diagram.specs.Table.{Table, IsNode, tree_of, leaf_of}
+use Rattle.ps_diagram.specs.Tree.{Tree, leaf_at}
+
+abbrev pub LeadsTo : Table → ℕ → ℕ → ℕ → Type 0
+LeadsTo t node leaf letter = (letter < 2 ^ t.propositions) × (leaf_of t node letter ≡ Some leaf)
+
+-- pairs of a leaf and of its least letter
+pub record AreLeaves (t : Table) (node : ℕ) (found : List (ℕ × ℕ)) : Type 0 where
+  pub least : All (λ pair. IsLeast (LeadsTo t node pair.0) pair.1) found
+  pub each : (leaf letter : ℕ) → LeadsTo t node leaf letter → Any (λ pair. pair.0 ≡ leaf) found
+  pub rising : AllPairs (λ a b. IsBefore a.1 b.1) found
+
+-- ## As they are gathered: below a node to which the beginning of a letter leads
+
+abbrev pub IsFound : List (ℕ × ℕ) → ℕ → Type 0
+IsFound found leaf = (letter : ℕ) × (lookup (nat_eq leaf) found ≡ Some letter)
+
+-- The place leads to the leaf. It begins as the letter does; and what comes before it and leads there too differs
+-- first where the letter is true.
+pub record IsFirst (n : ℕ) (t : Tree) (letter leaf place : ℕ) : Type 0 where
+  pub within : place < 2 ^ n
+  pub there : leaf_at t (assignment place) ≡ Some leaf
+  pub same : (q : ℕ) → q < root_of n t → is_in q place ≡ is_in q letter
+  pub least : (x : ℕ) → leaf_at t (assignment x) ≡ Some leaf → (before : IsBefore x place) → is_in before.first letter ≡ true
+
+abbrev pub AreRising : List (ℕ × ℕ) → Type 0
+AreRising [] = Unit {0}
+AreRising (pair ∷ pairs) = AllByRecursion (λ later. IsBefore pair.1 later.1) pairs × AreRising pairs
+
+-- the leaves of the tree that were not found before are added
+pub record Gathers (n : ℕ) (t : Tree) (letter : ℕ) (old new : List (ℕ × ℕ)) : Type 0 where
+  pub added : List (ℕ × ℕ)
+  pub is : new ≡ old ++ added
+  pub first : AllByRecursion (λ pair. IsFirst n t letter pair.0 pair.1) added
+  pub fresh : AllByRecursion (λ pair. lookup (nat_eq pair.0) old ≡ None) added
+  pub rising : AreRising added
+  pub whole : (f : ℕ → Bool) (leaf : ℕ) → leaf_at t f ≡ Some leaf → IsFound new leaf
+
+pub record IsGathered (t : Table) (node : ℕ) (found : List (ℕ × ℕ)) : Type 0 where
+  pub held : IsNode t node
+  pub all : Gathers t.propositions (tree_of t node) 0 [] found
+
+-- the leaves of these nodes are found
+abbrev pub HaveFound : Table → (ℕ → Bool) → List (ℕ × ℕ) → Type 0
+HaveFound t seen found = (node : ℕ) → seen node ≡ true → (f : ℕ → Bool) (leaf : ℕ) → leaf_at (tree_of t node) f ≡ Some leaf → IsFound found leaf

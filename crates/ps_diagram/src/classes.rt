@@ -1,0 +1,229 @@
+//! The classes of the letters over some of the propositions.
+
+ghost use Rattle.std.specs.Prelude.{◌≡◌, ◌≢◌, ℕ, ◌+◌, ◌<◌, Bool, AllPairs, IfOk, IsSome, Some, length, nat_eq};
+ghost use Rattle.indexmap.specs.IndexMap.{get};
+ghost use Rattle.ps_diagram.specs.Tree.{IsBlind, leaf_at};
+ghost use Rattle.ps_diagram.specs.Table.{IsNode, Keeps, tree_of};
+ghost use Rattle.ps_diagram.specs.Known.{Knows};
+ghost use Rattle.ps_diagram.specs.Split.{IsConstant};
+ghost use Rattle.ps_diagram.specs.Classes.{AreClasses};
+ghost use Rattle.ps_diagram.specs.Numbered.{AreOf, IsPlaced};
+ghost use Rattle.ps_diagram.specs.Rests.{IsDivided, IsDividedTest, IsTested, KnowsTests, LeadsToNodes, test_eq};
+
+use crate::split::Split;
+use crate::store::Store;
+use crate::view::{Node, View};
+use indexmap::IndexMap;
+use std::alloc::{AllocError, Global};
+
+/// Letters over some propositions that each letter over the others leads to the same leaves.
+#[derive(Debug, Clone, Copy, PartialEq, Eq)]
+pub struct Class {
+    /// The least of them.
+    pub letter: u64,
+    /// The diagram over the other propositions that they share.
+    pub rest: Node,
+}
+
+/// The classes of the letters over some propositions.
+#[derive(Debug, Drop)]
+pub struct Classes {
+    /// Each class, rising by letters.
+    pub list: Vec<Class>,
+    /// The diagram whose leaf at a letter is the place of its class in the list.
+    pub places: Node,
+}
+
+impl Store {
+    /// The classes of the letters over the propositions of `split`: two are in one class exactly where each letter over
+    /// the others leads both to the same leaf, or both to none.
+    ///
+    /// # Errors
+    ///
+    /// Fails where a growth was refused.
+    pub fn classes(&mut self, node: Node, split: u64) -> Result<Classes, AllocError>
+        requires held { IsNode self.old node }
+        ensures keeps { Keeps self.old self.new }
+        ensures classes { IfOk result (λ c. AreClasses self.new node split c.places c.list.items) }
+    {
+        let alloc = self.allocator();
+        let mut known = IndexMap::new(alloc);
+        let mut tests = IndexMap::new(alloc);
+        let divided = self.divided(node, split, &mut known, &mut tests)?;
+        let leaves = self.leaves(divided)?;
+        let (list, places) = numbered(alloc, &leaves)?;
+        let places = self.placed(divided, &places)?;
+        let _ = self.allocator();
+        Ok(Classes { list, places })
+    }
+
+    /// The diagram over the propositions of `split` whose leaf at a letter is the place of a node: of the one that
+    /// has, at each letter over the others, the leaf at the two together. The tables have what was made already.
+    fn divided(
+        &mut self,
+        node: Node,
+        split: u64,
+        known: &mut IndexMap<Node, Node>,
+        tests: &mut IndexMap<(u32, Node, Node), Node>,
+    ) -> Result<Node, AllocError>
+        requires held { IsNode self.old node }
+        requires known { Knows (IsDivided self.old split) self.old (get nat_eq known.old) }
+        requires tests { KnowsTests self.old (get test_eq tests.old) }
+        ensures keeps { Keeps self.old self.new }
+        ensures known { Knows (IsDivided self.new split) self.new (get nat_eq known.new) }
+        ensures tests { KnowsTests self.new (get test_eq tests.new) }
+        ensures held { IfOk result (λ made. IsNode self.new made) }
+        ensures leaf { IfOk result
+            (λ made. IsDivided self.new split (tree_of self.old node) (tree_of self.new made)) }
+    {
+        match self.cell(node) {
+            View::Nothing => self.intern(View::Leaf(node.place as u64)),
+            View::Leaf(_) => self.intern(View::Leaf(node.place as u64)),
+            View::Test {
+                proposition,
+                low,
+                high,
+            } => {
+                if let Some(made) = known.get(&node) {
+                    return Ok(*made);
+                }
+                let low = self.divided(low, split, known, tests)?;
+                let high = self.divided(high, split, known, tests)?;
+                let _ = self.allocator();
+                let made = self.divided_test(proposition, low, high, split, tests)?;
+                let _ = known.insert(node, made)?;
+                Ok(made)
+            }
+        }
+    }
+
+    /// The same of a test, its two sides being divided.
+    fn divided_test(
+        &mut self,
+        proposition: u32,
+        low: Node,
+        high: Node,
+        split: u64,
+        tests: &mut IndexMap<(u32, Node, Node), Node>,
+    ) -> Result<Node, AllocError>
+        requires named { proposition < self.old.propositions }
+        requires low_held { IsNode self.old low }
+        requires high_held { IsNode self.old high }
+        requires low_later { IsBlind (proposition + 1) (tree_of self.old low) }
+        requires high_later { IsBlind (proposition + 1) (tree_of self.old high) }
+        requires low_leads { LeadsToNodes self.old (proposition + 1) (tree_of self.old low) }
+        requires high_leads { LeadsToNodes self.old (proposition + 1) (tree_of self.old high) }
+        requires tests { KnowsTests self.old (get test_eq tests.old) }
+        ensures keeps { Keeps self.old self.new }
+        ensures tests { KnowsTests self.new (get test_eq tests.new) }
+        ensures held { IfOk result (λ made. IsNode self.new made) }
+        ensures leaf { IfOk result
+            (λ made. IsDividedTest self.new split proposition (tree_of self.old low) (tree_of self.old high) (tree_of self.new made)) }
+    {
+        let _ = self.allocator();
+        if split >> proposition & 1 == 1 {
+            return self.test(proposition, low, high);
+        }
+        self.tested(proposition, low, high, tests)
+    }
+
+    /// The diagram whose leaf at a letter is the place of the test of the proposition between the nodes at the places
+    /// that `low` and `high` have there.
+    fn tested(
+        &mut self,
+        proposition: u32,
+        low: Node,
+        high: Node,
+        tests: &mut IndexMap<(u32, Node, Node), Node>,
+    ) -> Result<Node, AllocError>
+        requires named { proposition < self.old.propositions }
+        requires low_held { IsNode self.old low }
+        requires high_held { IsNode self.old high }
+        requires low_leads { LeadsToNodes self.old (proposition + 1) (tree_of self.old low) }
+        requires high_leads { LeadsToNodes self.old (proposition + 1) (tree_of self.old high) }
+        requires tests { KnowsTests self.old (get test_eq tests.old) }
+        ensures keeps { Keeps self.old self.new }
+        ensures tests { KnowsTests self.new (get test_eq tests.new) }
+        ensures held { IfOk result (λ made. IsNode self.new made) }
+        ensures leaf { IfOk result
+            (λ made. IsTested self.new proposition (tree_of self.old low) (tree_of self.old high) (tree_of self.new made)) }
+    {
+        if low == high {
+            return Ok(low);
+        }
+        if let Some(made) = tests.get(&(proposition, low, high)) {
+            return Ok(*made);
+        }
+        let Some(split) = self.split(low, high) else {
+            return self.tested_leaves(proposition, low, high);
+        };
+        let Split {
+            proposition: first,
+            left,
+            right,
+        } = split;
+        let on_low = self.tested(proposition, left.low, right.low, tests)?;
+        let on_high = self.tested(proposition, left.high, right.high, tests)?;
+        let _ = self.allocator();
+        let made = self.test(first, on_low, on_high)?;
+        let _ = tests.insert((proposition, low, high), made)?;
+        Ok(made)
+    }
+
+    /// The same of two diagrams that test nothing.
+    fn tested_leaves(&mut self, proposition: u32, low: Node, high: Node) -> Result<Node, AllocError>
+        requires named { proposition < self.old.propositions }
+        requires low_held { IsNode self.old low }
+        requires high_held { IsNode self.old high }
+        requires low_constant { IsConstant (tree_of self.old low) }
+        requires high_constant { IsConstant (tree_of self.old high) }
+        requires low_leads { LeadsToNodes self.old (proposition + 1) (tree_of self.old low) }
+        requires high_leads { LeadsToNodes self.old (proposition + 1) (tree_of self.old high) }
+        ensures keeps { Keeps self.old self.new }
+        ensures held { IfOk result (λ made. IsNode self.new made) }
+        ensures leaf { IfOk result
+            (λ made. IsTested self.new proposition (tree_of self.old low) (tree_of self.old high) (tree_of self.new made)) }
+    {
+        let one = self.node_at(low);
+        let other = self.node_at(high);
+        let made = self.test(proposition, one, other)?;
+        self.intern(View::Leaf(made.place as u64))
+    }
+
+    /// The node to whose place a diagram leads that tests nothing.
+    fn node_at(&self, node: Node) -> Node
+        requires held { IsNode self.now node }
+        requires constant { IsConstant (tree_of self.now node) }
+        requires names { (f : ℕ → Bool) → IsSome (leaf_at (tree_of self.now node) f) }
+        ensures { (f : ℕ → Bool) → leaf_at (tree_of self.now node) f ≡ Some result }
+    {
+        let place = self.eval(node, 0).unwrap();
+        Node {
+            place: place as usize,
+        }
+    }
+}
+
+/// The classes of leaves with their least letters, and the place of each leaf.
+fn numbered(
+    alloc: Global,
+    leaves: &[(u64, u64)],
+) -> Result<(Vec<Class>, IndexMap<u64, u64>), AllocError>
+    requires differ { AllPairs (λ a b. a.0 ≢ b.0) leaves.now }
+    ensures list { IfOk result (λ r. AreOf leaves.now (length leaves.now) r.0.items) }
+    ensures places { IfOk result (λ r. IsPlaced (get nat_eq r.1) r.0.items) }
+{
+    let mut list = Vec::new(alloc);
+    let mut places = IndexMap::new(alloc);
+    for pair in leaves {
+        let _ = places.insert(pair.0, list.len() as u64)?;
+        let rest = Node {
+            place: pair.0 as usize,
+        };
+        list.push(Class {
+            letter: pair.1,
+            rest,
+        })?;
+    }
+    Ok((list, places))
+}

@@ -1,0 +1,147 @@
+//! The diagrams of labels.
+
+ghost use Rattle.std.specs.Prelude.{◌≡◌, ℕ, ◌<◌, Bool, List, IfOk, length};
+ghost use Rattle.ps_label.specs.Expression.{Expression, expression};
+ghost use Rattle.ps_label.specs.Truth.{expressions, is_in, label_truth, truth};
+ghost use Rattle.ps_diagram.specs.Table.{IsNode, Keeps, leaf_of};
+ghost use Rattle.ps_diagram.specs.Labels.{AreNodesOf, AreOverFrom, HaveTruths, IsOneOrNone, IsOver, one_where};
+ghost use Rattle.ps_diagram.specs.Leaves.{joined};
+
+use crate::fault::OverlayError;
+use crate::store::Store;
+use crate::view::Node;
+use ps_label::{Label, Labels};
+use std::alloc::AllocError;
+
+impl Store {
+    /// The diagram with the leaf 1 at the letters at which the label is true, and without a leaf elsewhere. Each
+    /// alias is gone through once; where many labels have the same aliases, make those once, by `of_aliases`.
+    ///
+    /// # Errors
+    ///
+    /// Fails where a growth was refused.
+    pub fn of_label(&mut self, labels: &Labels, label: &Label) -> Result<Node, AllocError>
+        requires aliases { AreOverFrom 0 self.old.propositions (expressions labels.now) }
+        requires within { IsOver (length labels.now) self.old.propositions (expression label.now) }
+        ensures keeps { Keeps self.old self.new }
+        ensures held { IfOk result (λ node. IsNode self.new node) }
+        ensures leaf { IfOk result
+            (λ node. (letter : ℕ) → leaf_of self.new node letter ≡ one_where (label_truth (expressions labels.now) letter (expression label.now))) }
+    {
+        let aliases = self.of_aliases(labels)?;
+        self.of_label_by(&aliases, label)
+    }
+
+    /// The diagrams of the aliases, in their order.
+    ///
+    /// # Errors
+    ///
+    /// Fails where a growth was refused.
+    pub fn of_aliases(&mut self, labels: &Labels) -> Result<Vec<Node>, AllocError>
+        requires aliases { AreOverFrom 0 self.old.propositions (expressions labels.now) }
+        ensures keeps { Keeps self.old self.new }
+        ensures nodes { IfOk result (λ nodes. AreNodesOf self.new (expressions labels.now) nodes.items) }
+    {
+        let mut nodes = Vec::new(self.allocator());
+        for alias in labels.as_slice() {
+            let node = self.truth_by(&nodes, alias)?;
+            nodes.push(node)?;
+        }
+        Ok(nodes)
+    }
+
+    /// The diagram of a label, from the nodes of its aliases.
+    ///
+    /// # Errors
+    ///
+    /// Fails where a growth was refused.
+    pub fn of_label_by(&mut self, aliases: &[Node], label: &Label) -> Result<Node, AllocError>
+        requires aliases { (names : List Expression) × AreNodesOf self.old names aliases.now }
+        requires within { IsOver (length aliases.now) self.old.propositions (expression label.now) }
+        ensures keeps { Keeps self.old self.new }
+        ensures held { IfOk result (λ node. IsNode self.new node) }
+        ensures leaf { IfOk result
+            (λ node. (names : List Expression) → AreNodesOf self.old names aliases.now → (letter : ℕ) → leaf_of self.new node letter ≡ one_where (label_truth names letter (expression label.now))) }
+    {
+        self.truth_by(aliases, label)
+    }
+
+    /// The same, whatever the nodes' truths are.
+    fn truth_by(&mut self, aliases: &[Node], label: &Label) -> Result<Node, AllocError>
+        requires aliases { (known : ℕ → List Bool) × HaveTruths self.old aliases.now known }
+        requires within { IsOver (length aliases.now) self.old.propositions (expression label.now) }
+        ensures keeps { Keeps self.old self.new }
+        ensures held { IfOk result (λ node. IsNode self.new node) }
+        ensures leaf { IfOk result
+            (λ node. (known : ℕ → List Bool) → HaveTruths self.old aliases.now known → (letter : ℕ) → leaf_of self.new node letter ≡ one_where (truth (known letter) letter (expression label.now))) }
+    {
+        match label {
+            Label::Truth(value) => self.of_truth(*value),
+            Label::Atom(proposition) => self.of_proposition(*proposition),
+            Label::Named(alias) => Ok(aliases[*alias]),
+            Label::Neg(operand) => {
+                let node = self.truth_by(aliases, operand)?;
+                self.negated(node)
+            }
+            Label::Both(operands) => {
+                // some operand is false
+                let mut any = self.none()?;
+                for operand in operands {
+                    let node = self.truth_by(aliases, operand)?;
+                    let not = self.negated(node)?;
+                    any = self.either(any, not)?;
+                }
+                self.negated(any)
+            }
+            Label::Either(operands) => {
+                let mut any = self.none()?;
+                for operand in operands {
+                    let node = self.truth_by(aliases, operand)?;
+                    any = self.either(any, node)?;
+                }
+                Ok(any)
+            }
+        }
+    }
+
+    /// The diagram of a constant.
+    fn of_truth(&mut self, value: bool) -> Result<Node, AllocError>
+        ensures keeps { Keeps self.old self.new }
+        ensures held { IfOk result (λ node. IsNode self.new node) }
+        ensures leaf { IfOk result
+            (λ node. (letter : ℕ) → leaf_of self.new node letter ≡ one_where value) }
+    {
+        if value { self.leaf(1) } else { self.none() }
+    }
+
+    /// The diagram of a proposition.
+    fn of_proposition(&mut self, proposition: u32) -> Result<Node, AllocError>
+        requires named { proposition < self.old.propositions }
+        ensures keeps { Keeps self.old self.new }
+        ensures held { IfOk result (λ node. IsNode self.new node) }
+        ensures leaf { IfOk result
+            (λ node. (letter : ℕ) → leaf_of self.new node letter ≡ one_where (is_in proposition letter)) }
+    {
+        let none = self.constant(None)?;
+        let one = self.constant(Some(1))?;
+        self.test(proposition, none, one)
+    }
+
+    /// The diagram that has the leaf 1 wherever one of the two has it.
+    fn either(&mut self, first: Node, second: Node) -> Result<Node, AllocError>
+        requires first { IsNode self.old first }
+        requires second { IsNode self.old second }
+        requires first_truth { (letter : ℕ) → IsOneOrNone (leaf_of self.old first letter) }
+        requires second_truth { (letter : ℕ) → IsOneOrNone (leaf_of self.old second letter) }
+        ensures keeps { Keeps self.old self.new }
+        ensures held { IfOk result (λ node. IsNode self.new node) }
+        ensures leaf { IfOk result
+            (λ node. (letter : ℕ) → leaf_of self.new node letter ≡ joined (leaf_of self.old first letter) (leaf_of self.old second letter)) }
+    {
+        match self.overlay(first, second) {
+            Ok(node) => Ok(node),
+            Err(OverlayError::OutOfMemory) => Err(AllocError),
+            Err(OverlayError::Clash { .. }) => unreachable!(),
+        }
+    }
+}

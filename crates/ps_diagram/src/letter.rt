@@ -1,0 +1,35 @@
+//! The diagram of one letter.
+
+ghost use Rattle.std.specs.Prelude.{◌≡◌, ℕ, ◌^◌, ◌<◌, IfOk, nat_eq};
+ghost use Rattle.ps_diagram.specs.Labels.{one_where};
+ghost use Rattle.ps_diagram.specs.Table.{IsNode, Keeps, leaf_of};
+
+use crate::store::Store;
+use crate::view::Node;
+use std::alloc::AllocError;
+
+impl Store {
+    /// The diagram with the leaf 1 at that letter alone.
+    ///
+    /// # Errors
+    ///
+    /// Fails where a growth was refused.
+    pub fn of_letter(&mut self, letter: u64) -> Result<Node, AllocError>
+        requires within { letter < 2 ^ self.old.propositions }
+        ensures keeps { Keeps self.old self.new }
+        ensures held { IfOk result (λ node. IsNode self.new node) }
+        ensures leaf { IfOk result
+            (λ node. (other : ℕ) → other < 2 ^ self.old.propositions → leaf_of self.new node other ≡ one_where (nat_eq other letter)) }
+    {
+        let none = self.constant(None)?;
+        let mut node = self.constant(Some(1))?;
+        for proposition in (0..self.propositions()).rev() {
+            node = if letter >> proposition & 1 == 1 {
+                self.test(proposition, none, node)?
+            } else {
+                self.test(proposition, node, none)?
+            };
+        }
+        Ok(node)
+    }
+}

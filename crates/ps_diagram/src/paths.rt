@@ -1,0 +1,97 @@
+//! The leaves of a node, and the least letter of each.
+
+ghost use Rattle.std.specs.Prelude.{◌≡◌, ℕ, ◌+◌, ◌^◌, ◌<◌, IfOk, OnOk, MatchOption, nat_eq};
+ghost use Rattle.indexmap.specs.IndexSet.{contains};
+ghost use Rattle.ps_diagram.specs.Letters.{IsLeast};
+ghost use Rattle.ps_diagram.specs.Reached.{AreLeaves, Gathers, HaveFound, IsGathered, LeadsTo};
+ghost use Rattle.ps_diagram.specs.Split.{root_of};
+ghost use Rattle.ps_diagram.specs.Table.{IsNode, tree_of};
+
+use crate::store::Store;
+use crate::view::{Node, View};
+use indexmap::{IndexMap, IndexSet};
+use std::alloc::{AllocError, Global};
+
+impl Store {
+    /// The different leaves of a node, each with the least letter that leads to it, in the order of those letters.
+    ///
+    /// # Errors
+    ///
+    /// Fails where a growth was refused.
+    pub fn leaves(&self, node: Node) -> Result<Vec<(u64, u64)>, AllocError>
+        requires held { IsNode self.now node }
+        ensures { IfOk result (λ found. AreLeaves self.now node found.items) }
+    {
+        listed(self.allocator(), self.found_below(node)?)
+    }
+
+    /// The least letter that leads from a node to the leaf, if one does.
+    ///
+    /// # Errors
+    ///
+    /// Fails where a growth was refused.
+    pub fn path_to(&self, node: Node, leaf: u64) -> Result<Option<u64>, AllocError>
+        requires held { IsNode self.now node }
+        ensures { IfOk result
+            (λ found. MatchOption found ((letter : ℕ) → LeadsTo self.now node leaf letter → ⊥) (λ letter. IsLeast (LeadsTo self.now node leaf) letter)) }
+    {
+        Ok(self.found_below(node)?.get(&leaf).copied())
+    }
+
+    /// The leaves of a node, in the order of their least letters.
+    fn found_below(&self, node: Node) -> Result<IndexMap<u64, u64>, AllocError>
+        requires held { IsNode self.now node }
+        ensures { IfOk result (λ found. IsGathered self.now node found.entries) }
+    {
+        let mut seen = IndexSet::new(self.allocator());
+        let mut found = IndexMap::new(self.allocator());
+        self.gather(node, 0, &mut seen, &mut found)?;
+        Ok(found)
+    }
+
+    /// Gathers the leaves behind a letter's beginning: those that were not found before. The leaves of the nodes that
+    /// were seen are found.
+    fn gather(
+        &self,
+        node: Node,
+        letter: u64,
+        seen: &mut IndexSet<Node>,
+        found: &mut IndexMap<u64, u64>,
+    ) -> Result<(), AllocError>
+        requires held { IsNode self.now node }
+        requires begun { letter < 2 ^ root_of self.now.propositions (tree_of self.now node) }
+        requires seen { HaveFound self.now (contains nat_eq seen.old) found.old.entries }
+        ensures seen { OnOk result (HaveFound self.now (contains nat_eq seen.new) found.new.entries) }
+        ensures found { OnOk result (Gathers self.now.propositions (tree_of self.now node) letter found.old.entries found.new.entries) }
+    {
+        match self.cell(node) {
+            View::Nothing => Ok(()),
+            View::Leaf(value) => {
+                if !found.contains_key(&value) {
+                    found.insert(value, letter)?;
+                }
+                Ok(())
+            }
+            View::Test {
+                proposition,
+                low,
+                high,
+            } => {
+                if seen.contains(&node) {
+                    return Ok(());
+                }
+                self.gather(low, letter, seen, found)?;
+                self.gather(high, letter + (1 << proposition), seen, found)?;
+                seen.insert(node)?;
+                Ok(())
+            }
+        }
+    }
+}
+
+/// The entries of a map.
+fn listed(alloc: Global, found: IndexMap<u64, u64>) -> Result<Vec<(u64, u64)>, AllocError>
+    ensures { IfOk result (λ pairs. pairs.items ≡ found.entries) }
+{
+    found.into_iter().collect(alloc)
+}
