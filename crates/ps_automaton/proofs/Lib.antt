@@ -4,3 +4,14 @@ pub mod Orbits
 pub mod Accepting
 pub mod Bits
 pub mod NumberTables
+pub mod Fitting
+pub mod Meeting
+pub mod Ready
+pub mod Distinct
+pub mod Unions
+pub mod Steps
+pub mod RowSteps
+pub mod StateSteps
+pub mod Drafting
+pub mod Building
+pub mod ChainSets

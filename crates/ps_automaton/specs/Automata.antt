@@ -6,6 +6,7 @@ use Rattle.std.specs.Prelude.{◌≡◌, ℕ, ◌+◌, ◌<◌, ◌≤◌, List,
 use Rattle.std.specs.Option.{unwrap_or}
 use Rattle.ps_diagram.specs.Table.{Table, IsNode, leaf_of}
 use Rattle.ps_hoa.specs.Files.{FileData}
+use Rattle.ps_hoa.specs.Sound.{AreBelow, AreNames}
 use Rattle.ps_automaton.specs.Chains.{Chain, chain_of}
 use Rattle.ps_automaton.specs.Autos.{Auto, IsAutoOf}
 use Rattle.ps_automaton.specs.declared.step.Step.{Step}
@@ -33,13 +34,18 @@ step_of a q letter = pair_of a (unwrap_or (leaf_of a.store (node_of a q) letter)
 abbrev pub auto_of : AutomatonData → Auto
 auto_of a = record { start = a.start; next = λ q letter. (step_of a q letter).state; priority = λ q letter. (step_of a q letter).priority }
 
--- each letter leads to a leaf that names a step
+-- names are few, and differ; each letter leads to a leaf that names a step, and no two leaves name the same one
 pub record IsWhole (a : AutomatonData) : Type 0 where
+  pub few_names : length a.names ≤ 64
+  pub are_names : AreNames a.names
+  pub owned : AreBelow (length a.names) a.controllable
+  pub letters : a.store.propositions ≡ length a.names
   pub start : a.start < a.states
   pub nodes : length a.nodes ≡ a.states + 1
   pub held : (q : ℕ) → q ≤ a.states → IsNode a.store (node_of a q)
   pub leaves : (q letter : ℕ) → q ≤ a.states → IsSomeAnd (leaf_of a.store (node_of a q) letter) (λ leaf. leaf < length a.steps)
   pub targets : (leaf : ℕ) → leaf < length a.steps → (pair_of a leaf).state ≤ a.states
+  pub once : (one other : ℕ) → one < length a.steps → other < length a.steps → pair_of a one ≡ pair_of a other → one ≡ other
 
 pub record IsBuiltFrom (file : FileData) (chain : Chain) (a : AutomatonData) : Type 0 where
   pub names : a.names ≡ file.names

@@ -8,3 +8,6 @@ pub mod Automata
 pub mod Returning
 pub mod Numbering
 pub mod Targets
+pub mod Answers
+pub mod FaultNames
+pub mod Drafts

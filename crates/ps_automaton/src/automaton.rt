@@ -1,22 +1,33 @@
 //! Automata whose steps stand in decision diagrams.
 
-ghost use Rattle.std.specs.Prelude.{◌≡◌, ◌+◌, ◌^◌, ◌<◌, ◌≤◌, ◌↔◌, All, IfOk, IsTrue, length, map};
+ghost use Rattle.std.specs.Prelude.{◌≡◌, ◌+◌, ◌^◌, ◌<◌, ◌≤◌, ◌↔◌, All, IfErr, IfOk, IsTrue, OnOk, length, map};
 ghost use Rattle.ps_diagram.specs.Table.{IsNode};
 ghost use Rattle.ps_hoa.specs.Files.{FileData};
 ghost use Rattle.ps_hoa.specs.Memory.{bytes_of};
+ghost use Rattle.ps_hoa.specs.Sound.{AreBelow, AreNames};
 ghost use Rattle.ps_automaton.specs.Acceptance.{IsAccepted};
+ghost use Rattle.ps_automaton.specs.Answers.{IsAdmitted, IsRefused};
 ghost use Rattle.ps_automaton.specs.Automata.{IsBuiltFrom, auto_of, node_of, pair_of, step_of};
 ghost use Rattle.ps_automaton.specs.Autos.{greatest_along, greatest_of_laps, state_after, state_behind};
 ghost use Rattle.ps_automaton.specs.Chains.{Chain};
 ghost use Rattle.ps_automaton.specs.Returning.{Returns};
 
+use crate::chain::{chain_of, is_complemented};
+use crate::draft::{Draft, drafted};
+use crate::fault::AutomatonFault;
+use crate::levels::Levels;
+use crate::numbers::table_of;
+use crate::pairs::Pairs;
 use crate::step::Step;
+use indexmap::IndexSet;
 use ps_diagram::{Node, Store};
+use ps_hoa::HoaFile;
 use std::alloc::{AllocError, Global};
 use std::marker::Model;
 
 /// A total, deterministic automaton with a priority on each edge. Where the text has no edge a step leads to the
-/// sink, which is the state numbered by the count of states.
+/// sink, which is the state numbered by the count of states. Each leaf of its diagrams names a pair of a state and a
+/// priority, and no two leaves name the same one.
 #[derive(Drop)]
 pub struct Automaton {
     alloc: Global,
@@ -26,7 +37,7 @@ pub struct Automaton {
     start: u32,
     store: Store,
     nodes: Vec<Node>,
-    steps: Vec<Step>,
+    steps: IndexSet<Step>,
 }
 
 impl Model for Automaton {
@@ -36,22 +47,59 @@ impl Model for Automaton {
 
     ghost Value = { AutomatonData };
 
-    ghost view = { λ a. record { names = map bytes_of a.names.items; controllable = a.controllable.items; states = a.states; start = a.start; store = a.store; nodes = a.nodes.items; steps = a.steps.items } };
+    ghost view = { λ a. record { names = map bytes_of a.names.items; controllable = a.controllable.items; states = a.states; start = a.start; store = a.store; nodes = a.nodes.items; steps = a.steps.keys } };
 
-    ghost invariant = { λ a. IsWhole (record { names = map bytes_of a.names.items; controllable = a.controllable.items; states = a.states; start = a.start; store = a.store; nodes = a.nodes.items; steps = a.steps.items }) };
+    ghost invariant = { λ a. IsWhole (record { names = map bytes_of a.names.items; controllable = a.controllable.items; states = a.states; start = a.start; store = a.store; nodes = a.nodes.items; steps = a.steps.keys }) };
 }
 
 impl Automaton {
-    /// The names of the propositions.
+    /// The automaton of a file.
+    ///
+    /// # Errors
+    ///
+    /// Fails where the condition has a complemented set; else where it is no chain; else where two edges of a state
+    /// share a letter and differ, at the first such; and where a growth was refused.
+    pub fn build(alloc: Global, file: &HoaFile) -> Result<Automaton, AutomatonFault>
+        ensures built { IfOk result (λ automaton. (chain : Chain) × IsBuiltFrom file.now chain automaton) }
+        ensures admitted { OnOk result (IsAdmitted file.now) }
+        ensures refused { IfErr result (IsRefused file.now) }
+    {
+        if is_complemented(file.condition()) {
+            return Err(AutomatonFault::ComplementedSet);
+        }
+        let Some(chain) = chain_of(alloc, file.condition())? else {
+            return Err(AutomatonFault::NonParity);
+        };
+        let numbers = table_of(&chain);
+        let levels = Levels { chain, numbers };
+        let Draft { pairs, nodes } = drafted(alloc, file, &levels)?;
+        let Pairs { store, steps, .. } = pairs;
+        let _ = steps.as_slice();
+        Ok(Automaton {
+            alloc,
+            names: copied(alloc, file.names())?,
+            controllable: file.controllable().to_vec(alloc)?,
+            states: file.states(),
+            start: file.start(),
+            store,
+            nodes,
+            steps,
+        })
+    }
+
+    /// The names of the propositions, at most 64. They differ, are not empty and have no control byte.
     pub fn names(&self) -> &[Vec<u8>]
-        ensures { map bytes_of result.now ≡ self.now.names }
+        ensures names { map bytes_of result.now ≡ self.now.names }
+        ensures few { length self.now.names ≤ 64 }
+        ensures sound { AreNames self.now.names }
     {
         self.names.as_slice()
     }
 
     /// The propositions that are controllable, each once.
     pub fn controllable(&self) -> &[u32]
-        ensures { result.now ≡ self.now.controllable }
+        ensures controllable { result.now ≡ self.now.controllable }
+        ensures well_formed { AreBelow (length self.now.names) self.now.controllable }
     {
         self.controllable.as_slice()
     }
@@ -73,7 +121,8 @@ impl Automaton {
 
     /// The store of the diagrams.
     pub fn store(&self) -> &Store
-        ensures { result.now ≡ self.now.store }
+        ensures store { result.now ≡ self.now.store }
+        ensures propositions { result.now.propositions ≡ length self.now.names }
     {
         &self.store
     }
@@ -93,7 +142,7 @@ impl Automaton {
         ensures pair { result ≡ pair_of self.now leaf }
         ensures within { result.state ≤ self.now.states }
     {
-        self.steps[leaf as usize]
+        self.steps.as_slice()[leaf as usize]
     }
 
     /// The step from a state, or from the sink, by a letter.
@@ -103,7 +152,7 @@ impl Automaton {
         ensures within { result.state ≤ self.now.states }
     {
         match self.store.eval(self.nodes[state as usize], letter) {
-            Some(leaf) => self.steps[leaf as usize],
+            Some(leaf) => self.steps.as_slice()[leaf as usize],
             None => unreachable!(),
         }
     }
@@ -178,6 +227,17 @@ impl Automaton {
         }
         greatest
     }
+}
+
+/// A copy of names.
+fn copied(alloc: Global, names: &[Vec<u8>]) -> Result<Vec<Vec<u8>>, AllocError>
+    ensures { IfOk result (λ copy. map bytes_of copy.items ≡ map bytes_of names.now) }
+{
+    let mut copy = Vec::new(alloc);
+    for name in names {
+        copy.push(name.clone()?)?;
+    }
+    Ok(copy)
 }
 
 /// A state, and how many laps lead back to it.

@@ -9,14 +9,24 @@
 #![tactic(auto)]
 
 mod automaton;
+#[cfg(test)]
+mod build_tests;
 mod chain;
 #[cfg(test)]
 mod chain_tests;
+mod draft;
+mod fault;
+mod guards;
 mod laws;
+mod levels;
 mod numbers;
+mod pairs;
 mod step;
+mod taken;
 mod targets;
+mod union;
 
 pub use automaton::Automaton;
+pub use fault::AutomatonFault;
 pub use laws::greatest_level_decides;
 pub use step::Step;

@@ -1,0 +1,93 @@
+-- The links of a chain are to sets of its condition.
+use Rattle.std.proofs.Common.{◌≡◌, ℕ, ◌<◌, ◌≤◌, Bool, true, false, cond, List, [], ◌∷◌, ◌++◌, Option, Some, None, subst, arith}
+use Rattle.std.specs.List.{AllByRecursion}
+use Rattle.ps_hoa.specs.Conditions.{SetData, Condition, Conditions, constant, infinitely, finitely, all_hold, any_holds, last, more}
+use Rattle.ps_hoa.specs.Sound.{AreConditions, IsCondition}
+use Rattle.ps_hoa.proofs.SoundLaws.{all_at}
+use Rattle.ps_automaton.specs.Chains.{Chain, Link, chain_of, chain_of_all, in_front, link_of, link_to, links_of, one_link}
+use Rattle.ps_automaton.specs.Numbering.{AreSetsBelow}
+
+module _ (n : ℕ) where
+  abbrev LinkUnder : Link → Type 0
+  LinkUnder l = l.colour < n
+
+  abbrev MaybeUnder : Option Link → Type 0
+  MaybeUnder None = Unit {0}
+  MaybeUnder (Some l) = LinkUnder l
+
+  abbrev LinksUnder : Option (List Link) → Type 0
+  LinksUnder None = Unit {0}
+  LinksUnder (Some ls) = AllByRecursion LinkUnder ls
+
+  abbrev ChainUnder : Option Chain → Type 0
+  ChainUnder None = Unit {0}
+  ChainUnder (Some c) = AllByRecursion LinkUnder c.links
+
+  both_under : (xs ys : List Link) → AllByRecursion LinkUnder xs → AllByRecursion LinkUnder ys → AllByRecursion LinkUnder (xs ++ ys)
+  both_under [] ys a b = b
+  both_under (x ∷ xs) ys a b = (a.0, both_under xs ys a.1 b)
+
+  front_under : (ls : Option (List Link)) (c : Option Chain) → LinksUnder ls → ChainUnder c → ChainUnder (in_front ls c)
+  front_under None c a b = tt
+  front_under (Some ls) None a b = tt
+  front_under (Some ls) (Some c) a b = both_under ls c.links a b
+
+  link_to_under : (accepts : Bool) (set : SetData) → set.number < n → MaybeUnder (link_to accepts set)
+  link_to_under accepts set small = by_flag set.complemented
+    where
+      by_flag : (b : Bool) → MaybeUnder (cond b None (Some (record { colour = set.number; accepts = accepts })))
+      by_flag true = tt
+      by_flag false = small
+
+  one_under : (l : Option Link) → MaybeUnder l → LinksUnder (one_link l)
+  one_under None h = tt
+  one_under (Some l) h = (h, tt)
+
+  link_under : (accepts : Bool) (c : Condition) → IsCondition n c → MaybeUnder (link_of accepts c)
+  link_under true (constant b) i = tt
+  link_under false (constant b) i = tt
+  link_under true (infinitely set) i = link_to_under true set i
+  link_under false (infinitely set) i = tt
+  link_under true (finitely set) i = tt
+  link_under false (finitely set) i = link_to_under false set i
+  link_under true (all_hold cs) i = tt
+  link_under false (all_hold cs) i = tt
+  link_under true (any_holds cs) i = tt
+  link_under false (any_holds cs) i = tt
+
+  joined_under : (l : Option Link) (ls : Option (List Link)) → MaybeUnder l → LinksUnder ls →
+      LinksUnder (elim l [ None ↦ None | Some link ↦ elim ls [ None ↦ None | Some links ↦ Some (link ∷ links) ] ])
+  joined_under None ls a b = tt
+  joined_under (Some l) None a b = tt
+  joined_under (Some l) (Some ls) a b = (a, b)
+
+  links_under : (accepts : Bool) (cs : Conditions) → AreConditions n cs → LinksUnder (links_of accepts cs)
+  links_under accepts last i = tt
+  links_under accepts (more c cs) i = joined_under (link_of accepts c) (links_of accepts cs) (link_under accepts c i.0) (links_under accepts cs i.1)
+
+  chosen_under : (l : Option Link) (ls : Option (List Link)) (rest whole : Option Chain) → MaybeUnder l → LinksUnder ls → ChainUnder rest → ChainUnder whole →
+      ChainUnder (elim l [ Some link ↦ in_front (Some (link ∷ [])) rest | None ↦ in_front ls whole ])
+  chosen_under None ls rest whole a b c d = front_under ls whole b d
+  chosen_under (Some l) ls rest whole a b c d = front_under (Some (l ∷ [])) rest (a, tt) c
+
+  mutual
+    chain_under : (c : Condition) → IsCondition n c → ChainUnder (chain_of c)
+    chain_under (constant b) i = tt
+    chain_under (infinitely set) i = front_under (one_link (link_to true set)) (Some (record { links = []; base = false })) (one_under (link_to true set) (link_to_under true set i)) tt
+    chain_under (finitely set) i = front_under (one_link (link_to false set)) (Some (record { links = []; base = true })) (one_under (link_to false set) (link_to_under false set i)) tt
+    chain_under (any_holds cs) i = chains_under true cs i
+    chain_under (all_hold cs) i = chains_under false cs i
+
+    chains_under : (accepts : Bool) (cs : Conditions) → AreConditions n cs → ChainUnder (chain_of_all accepts cs)
+    chains_under accepts last i = tt
+    chains_under accepts (more c cs) i =
+        chosen_under (link_of accepts c) (links_of accepts cs) (chain_of_all accepts cs) (chain_of c) (link_under accepts c i.0) (links_under accepts cs i.1) (chains_under accepts cs i.1) (chain_under c i.0)
+
+  under_some : (o : Option Chain) (chain : Chain) → o ≡ Some chain → ChainUnder o → AllByRecursion LinkUnder chain.links
+  under_some o chain e h = subst ChainUnder e h
+
+pub chain_sets_below : (sets : ℕ) (c : Condition) (chain : Chain) → sets ≤ 64 → IsCondition sets c → chain_of c ≡ Some chain → AreSetsBelow 64 chain.links
+chain_sets_below sets c chain few is e = λ k d within.
+    let all = all_at (λ (l : Link). l.colour < sets) chain.links (under_some sets (chain_of c) chain e (chain_under sets c is)) in
+    let low = all k d within in
+    omega (arith, low, few)

@@ -1,0 +1,15 @@
+use Rattle.std.proofs.Common.{◌≡◌, ℕ, ◌≤◌, Some, length}
+use Rattle.std.specs.List.{slice_get}
+use Rattle.ps_automaton.specs.Drafts.{AreSteps, Extends, step_of_target}
+use Rattle.ps_automaton.specs.Views.{chain_data}
+use Rattle.ps_automaton.specs.declared.targets.Target.{Target}
+use Rattle.ps_automaton.proofs.draft.places_of.Given as goal
+
+-- the places of the steps to the targets so far
+abbrev pub invariant-loop-target : goal.invariant-loop-target
+invariant-loop-target l = record {
+  extends : Extends l.fn.steps.keys l.steps.keys;
+  within : (states : ℕ) → ((k : ℕ) (target : Target) → slice_get l.targets k ≡ Some target → target.state ≤ states) → AreSteps states l.fn.steps.keys → AreSteps states l.steps.keys;
+  so_far : length l.places.items ≡ l.target-index;
+  each : (k place : ℕ) (target : Target) → slice_get l.targets k ≡ Some target → slice_get l.places.items k ≡ Some place → slice_get l.steps.keys place ≡ Some (step_of_target (chain_data l.levels.chain) target);
+}

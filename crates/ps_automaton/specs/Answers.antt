@@ -1,0 +1,58 @@
+-- Which answer of `build` is right: the automaton of a file, or the first of three causes for which there is none.
+--     AreAlike row one other      two edges of a row have the same target and the same joined sets
+--     Clash file q first second      these edges of the state q, by their places, are both taken at some letter and not alike
+--     IsDeterministic file      no edges clash
+--     IsAdmitted file      none of the three causes stands
+--     IsRefused file fault      that one stands, and none before it
+use Rattle.std.specs.Prelude.{◌≡◌, ℕ, ◌^◌, ◌<◌, ◌≤◌, true, false, length, None, Some, slice_get}
+use Rattle.ps_hoa.specs.Files.{EdgeData, RowData, FileData}
+use Rattle.ps_hoa.specs.Edges.{row_of, IsTaken, is_marked}
+use Rattle.ps_automaton.specs.Chains.{Chain, chain_of, has_complement}
+use Rattle.ps_automaton.specs.declared.fault.AutomatonFault.{AutomatonFault}
+use Rattle.ps_automaton.specs.declared.fault.AutomatonFault.TheVariants.{ComplementedSet, NonParity, Nondeterministic, OutOfMemory}
+
+-- sets are compared as sets, so the order in which they are written makes no difference
+abbrev pub AreAlike : RowData → EdgeData → EdgeData → Type 0
+AreAlike row one other = (one.target ≡ other.target) × ((set : ℕ) → is_marked row one set ≡ is_marked row other set)
+
+-- an earlier and a later edge of a row are both taken at some letter, and not alike
+pub record AreClashing (file : FileData) (row : RowData) (first second : ℕ) : Type 0 where
+  pub earlier : first < second
+  pub one : EdgeData
+  pub other : EdgeData
+  pub at_first : slice_get row.edges first ≡ Some one
+  pub at_second : slice_get row.edges second ≡ Some other
+  pub letter : ℕ
+  pub is_letter : letter < 2 ^ length file.names
+  pub one_taken : IsTaken file row one letter
+  pub other_taken : IsTaken file row other letter
+  pub differ : AreAlike row one other → ⊥
+
+pub record Clash (file : FileData) (q first second : ℕ) : Type 0 where
+  pub row : RowData
+  pub of_state : row_of file q ≡ Some row
+  pub clashing : AreClashing file row first second
+
+-- every state counts, reachable or not
+abbrev pub IsDeterministic : FileData → Type 0
+IsDeterministic file = (q first second : ℕ) → Clash file q first second → ⊥
+
+-- the least state, then the least later edge, then the least earlier one
+pub record IsFirstClash (file : FileData) (q first second : ℕ) : Type 0 where
+  pub clash : Clash file q first second
+  pub least_state : (p a b : ℕ) → Clash file p a b → q ≤ p
+  pub least_second : (a b : ℕ) → Clash file q a b → second ≤ b
+  pub least_first : (a : ℕ) → Clash file q a second → first ≤ a
+
+pub record IsAdmitted (file : FileData) : Type 0 where
+  pub plain : has_complement file.condition ≡ false
+  pub chain : Chain
+  pub is_chain : chain_of file.condition ≡ Some chain
+  pub deterministic : IsDeterministic file
+
+abbrev pub IsRefused : FileData → AutomatonFault → Type 0
+IsRefused file ComplementedSet = has_complement file.condition ≡ true
+IsRefused file NonParity = (has_complement file.condition ≡ false) × (chain_of file.condition ≡ None)
+IsRefused file (Nondeterministic q first second) =
+    (has_complement file.condition ≡ false) × (chain : Chain) × (chain_of file.condition ≡ Some chain) × IsFirstClash file q first second
+IsRefused file OutOfMemory = Unit {0}

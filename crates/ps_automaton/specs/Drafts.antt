@@ -1,0 +1,161 @@
+-- How the steps of an automaton are made, row by row. (Of private functions.)
+--     IsReady t g      the diagrams of a row's guards are held
+--     IsWhere leaf value P      the leaf is that value where P is true, and none where it is not
+--     IsUnion file row count targets t node      a node leads each letter to the target of the edge that is taken there
+--     IsStepsOf file chain q steps t node      a node leads each letter to the step of the state q
+use Rattle.std.specs.Prelude.{◌≡◌, ℕ, ◌^◌, ◌<◌, ◌≤◌, ◌⊎◌, Bool, List, length, None, Some, Option, IsSomeAnd, slice_get, slice_index, ◌+◌}
+use Rattle.ps_label.specs.Expression.{Expression}
+use Rattle.ps_label.specs.Truth.{is_in, label_truth}
+use Rattle.ps_diagram.specs.Labels.{AreNodesOf, one_where}
+use Rattle.ps_diagram.specs.Table.{Table, IsNode, Keeps, leaf_of}
+use Rattle.ps_hoa.specs.Files.{GuardData, EdgeData, RowData, FileData, stated, of_state, at_letter}
+use Rattle.ps_hoa.specs.Edges.{Goes, IsTaken}
+use Rattle.ps_hoa.specs.Sound.{IsLabelOf, IsSound, IsSoundRow}
+use Rattle.ps_hoa.specs.Views.{row_data}
+use Rattle.ps_automaton.specs.Answers.{AreClashing, Clash, IsFirstClash}
+use Rattle.ps_automaton.specs.Chains.{Chain, level}
+use Rattle.ps_automaton.specs.Numbering.{AreSetsBelow, IsTable}
+use Rattle.ps_automaton.specs.Targets.{IsTargetOf}
+use Rattle.ps_automaton.specs.Views.{chain_data}
+use Rattle.ps_automaton.specs.declared.fault.AutomatonFault.{AutomatonFault}
+use Rattle.ps_automaton.specs.declared.fault.AutomatonFault.TheVariants.{ComplementedSet, NonParity, Nondeterministic, OutOfMemory}
+use Rattle.ps_automaton.specs.declared.guards.Guards.{Guards}
+use Rattle.ps_automaton.specs.declared.levels.Levels.{Levels}
+use Rattle.ps_automaton.specs.declared.pairs.Pairs.{Pairs}
+use Rattle.ps_automaton.specs.declared.step.Step.{Step}
+use Rattle.ps_automaton.specs.declared.targets.Target.{Target}
+
+-- ## Guards
+
+abbrev pub IsLabelNode : Table → FileData → Option Expression → Option ℕ → Type 0
+IsLabelNode t file None None = Unit {0}
+IsLabelNode t file None (Some node) = ⊥
+IsLabelNode t file (Some e) None = ⊥
+IsLabelNode t file (Some e) (Some node) = IsNode t node × ((letter : ℕ) → leaf_of t node letter ≡ one_where (label_truth file.aliases letter e))
+
+pub record IsReady (t : Table) (g : Guards) : Type 0 where
+  pub sound : IsSound g.file.now
+  pub row : IsSoundRow g.file.now (row_data g.row.now)
+  pub letters : t.propositions ≡ length g.file.now.names
+  pub aliases : AreNodesOf t g.file.now.aliases g.aliases.now
+  pub label : IsLabelNode t g.file.now (row_data g.row.now).label g.label
+
+-- what a guard speaks of is there
+abbrev pub IsFit : FileData → GuardData → Type 0
+IsFit file (stated e) = IsLabelOf file e
+IsFit file of_state = Unit {0}
+IsFit file (at_letter letter) = letter < 2 ^ length file.names
+
+abbrev pub IsWhere : Option ℕ → ℕ → Type 0 → Type 0
+IsWhere leaf value P = ((leaf ≡ Some value) × P) ⊎ ((leaf ≡ None) × (P → ⊥))
+
+-- a node has that leaf at the letters at which the edge is taken, and none at the others
+abbrev pub ShowsEdge : FileData → RowData → EdgeData → Table → ℕ → ℕ → Type 0
+ShowsEdge file row edge t node value = (letter : ℕ) → letter < 2 ^ length file.names → IsWhere (leaf_of t node letter) value (IsTaken file row edge letter)
+
+-- some letter has a leaf in both
+abbrev pub Meet : Table → ℕ → ℕ → Type 0
+Meet t one other = (letter : ℕ) × (letter < 2 ^ t.propositions) × (x : ℕ) × (y : ℕ) × (leaf_of t one letter ≡ Some x) × (leaf_of t other letter ≡ Some y)
+
+-- ## Unions
+
+abbrev pub IsTargetAt : RowData → EdgeData → List Target → ℕ → Type 0
+IsTargetAt row edge targets place = (target : Target) × (slice_get targets place ≡ Some target) × IsTargetOf row edge target
+
+-- an edge of a row, among so many, that is taken at a letter
+pub record TakenEdge (file : FileData) (row : RowData) (count letter : ℕ) : Type 0 where
+  pub place : ℕ
+  pub within : place < count
+  pub edge : EdgeData
+  pub at_place : slice_get row.edges place ≡ Some edge
+  pub taken : IsTaken file row edge letter
+
+-- of the first so many edges
+pub record IsUnion (file : FileData) (row : RowData) (count : ℕ) (targets : List Target) (t : Table) (node : ℕ) : Type 0 where
+  pub held : IsNode t node
+  pub there : (letter : ℕ) → letter < 2 ^ length file.names → (e : TakenEdge file row count letter) → IsSomeAnd (leaf_of t node letter) (IsTargetAt row e.edge targets)
+  pub from : (letter leaf : ℕ) → letter < 2 ^ length file.names → leaf_of t node letter ≡ Some leaf → TakenEdge file row count letter
+  pub within : (place : ℕ) (target : Target) → slice_get targets place ≡ Some target → target.state < file.states
+
+-- the fault that a row has
+pub record IsFirstOfRow (file : FileData) (row : RowData) (first second : ℕ) : Type 0 where
+  pub clashing : AreClashing file row first second
+  pub least_second : (a b : ℕ) → AreClashing file row a b → second ≤ b
+  pub least_first : (a : ℕ) → AreClashing file row a second → first ≤ a
+
+abbrev pub IsRowFault : FileData → RowData → AutomatonFault → Type 0
+IsRowFault file row ComplementedSet = ⊥
+IsRowFault file row NonParity = ⊥
+IsRowFault file row (Nondeterministic q first second) = (q ≡ row.state) × IsFirstOfRow file row first second
+IsRowFault file row OutOfMemory = Unit {0}
+
+-- ## Steps
+
+pub record AreLevels (l : Levels) : Type 0 where
+  pub few : AreSetsBelow 64 (chain_data l.chain).links
+  pub table : IsTable (chain_data l.chain) l.numbers.base l.numbers.by_set
+
+-- each step stays where it is
+abbrev pub Extends : List Step → List Step → Type 0
+Extends old new = (place : ℕ) (step : Step) → slice_get old place ≡ Some step → slice_get new place ≡ Some step
+
+-- the first step leads to the sink, and each leads to a state or to the sink
+pub record AreSteps (states : ℕ) (steps : List Step) : Type 0 where
+  pub sink : slice_get steps 0 ≡ Some (record { state = states; priority = 1 })
+  pub within : (place : ℕ) (step : Step) → slice_get steps place ≡ Some step → step.state ≤ states
+
+abbrev pub step_of_target : Chain → Target → Step
+step_of_target chain target = record { state = target.state; priority = level chain (λ set. is_in set target.sets) }
+
+-- the places of the steps to these targets
+pub record ArePlaces (chain : Chain) (targets : List Target) (steps : List Step) (places : List ℕ) : Type 0 where
+  pub one_each : length places ≡ length targets
+  pub each : (k place : ℕ) (target : Target) → slice_get targets k ≡ Some target → slice_get places k ≡ Some place → slice_get steps place ≡ Some (step_of_target chain target)
+
+-- the leaf names that step
+abbrev pub Names : List Step → Option ℕ → Step → Type 0
+Names steps leaf step = IsSomeAnd leaf (λ place. slice_get steps place ≡ Some step)
+
+pub record Moves (file : FileData) (chain : Chain) (q letter : ℕ) (steps : List Step) (leaf : Option ℕ) : Type 0 where
+  pub next : ℕ
+  pub sets : ℕ → Bool
+  pub goes : Goes file q letter sets next
+  pub named : Names steps leaf (record { state = next; priority = level chain sets })
+
+pub record Stops (file : FileData) (q letter : ℕ) (steps : List Step) (leaf : Option ℕ) : Type 0 where
+  pub none : (sets : ℕ → Bool) (next : ℕ) → Goes file q letter sets next → ⊥
+  pub named : Names steps leaf (record { state = file.states; priority = 1 })
+
+pub record IsStepsOf (file : FileData) (chain : Chain) (q : ℕ) (steps : List Step) (t : Table) (node : ℕ) : Type 0 where
+  pub held : IsNode t node
+  pub leaves : (letter : ℕ) → IsSomeAnd (leaf_of t node letter) (λ leaf. leaf < length steps)
+  pub steps_of : (letter : ℕ) → letter < 2 ^ length file.names → Moves file chain q letter steps (leaf_of t node letter) ⊎ Stops file q letter steps (leaf_of t node letter)
+  pub by_edge : (letter : ℕ) (sets : ℕ → Bool) (next : ℕ) → Goes file q letter sets next → Names steps (leaf_of t node letter) (record { state = next; priority = level chain sets })
+  pub clear : (first second : ℕ) → Clash file q first second → ⊥
+
+abbrev pub IsStateFault : FileData → ℕ → AutomatonFault → Type 0
+IsStateFault file q ComplementedSet = ⊥
+IsStateFault file q NonParity = ⊥
+IsStateFault file q (Nondeterministic p first second) =
+    (p ≡ q) × Clash file q first second × ((a b : ℕ) → Clash file q a b → second ≤ b) × ((a : ℕ) → Clash file q a second → first ≤ a)
+IsStateFault file q OutOfMemory = Unit {0}
+
+-- the steps of states in the making grow
+pub record Grows (states : ℕ) (old new : Pairs) : Type 0 where
+  pub keeps : Keeps old.store new.store
+  pub extends : Extends old.steps.keys new.steps.keys
+  pub steps : AreSteps states new.steps.keys
+
+pub record IsDraft (file : FileData) (chain : Chain) (steps : List Step) (t : Table) (nodes : List ℕ) : Type 0 where
+  pub letters : t.propositions ≡ length file.names
+  pub all_steps : AreSteps file.states steps
+  pub one_each : length nodes ≡ file.states + 1
+  pub states : (q : ℕ) → q < file.states → IsStepsOf file chain q steps t (slice_index nodes q)
+  pub sink_held : IsNode t (slice_index nodes file.states)
+  pub sink : (letter : ℕ) → leaf_of t (slice_index nodes file.states) letter ≡ Some 0
+
+abbrev pub IsDraftFault : FileData → AutomatonFault → Type 0
+IsDraftFault file ComplementedSet = ⊥
+IsDraftFault file NonParity = ⊥
+IsDraftFault file (Nondeterministic q first second) = IsFirstClash file q first second
+IsDraftFault file OutOfMemory = Unit {0}

@@ -1,0 +1,16 @@
+-- The numbers and the names of the faults of an automaton.
+use Rattle.std.specs.Prelude.{ℕ, List, codes}
+use Rattle.ps_automaton.specs.declared.fault.AutomatonFault.{AutomatonFault}
+use Rattle.ps_automaton.specs.declared.fault.AutomatonFault.TheVariants.{ComplementedSet, NonParity, Nondeterministic, OutOfMemory}
+
+abbrev pub fault_number : AutomatonFault → ℕ
+fault_number ComplementedSet = 18
+fault_number NonParity = 17
+fault_number (Nondeterministic q first second) = 21
+fault_number OutOfMemory = 24
+
+abbrev pub fault_name : AutomatonFault → List ℕ
+fault_name ComplementedSet = codes "ComplementedSet"
+fault_name NonParity = codes "NonParity"
+fault_name (Nondeterministic q first second) = codes "Nondeterministic"
+fault_name OutOfMemory = codes "OutOfMemory"

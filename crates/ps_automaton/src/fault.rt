@@ -1,0 +1,72 @@
+//! Why there is no automaton of a file.
+
+ghost use Rattle.std.specs.Prelude.{◌≡◌};
+ghost use Rattle.ps_automaton.specs.declared.fault.AutomatonFault.TheVariants.{OutOfMemory};
+
+use std::alloc::{AllocError, AllocFailed};
+use thiserror::Error;
+
+/// Why there is no automaton of a file.
+#[derive(Debug, Clone, Copy, PartialEq, Eq, Error)]
+pub enum AutomatonFault {
+    /// A complemented set stands in the condition.
+    #[error("the condition has a complemented set")]
+    ComplementedSet,
+    /// The condition is no chain.
+    #[error("the condition is no chain")]
+    NonParity,
+    /// Two edges of a state, counted from 0, share a letter and differ in target or in sets.
+    #[error("state {state} has edges {first} and {second} that share a letter")]
+    Nondeterministic {
+        state: u32,
+        first: usize,
+        second: usize,
+    },
+    /// Memory ran out.
+    #[error("out of memory")]
+    OutOfMemory,
+}
+
+impl AutomatonFault {
+    ghost use Rattle.ps_automaton.specs.FaultNames.{fault_number, fault_name};
+
+    /// The fault's number in psyn's list of faults.
+    pub fn number(self) -> u8
+        ensures { result ≡ fault_number self }
+    {
+        match self {
+            AutomatonFault::ComplementedSet => 18,
+            AutomatonFault::NonParity => 17,
+            AutomatonFault::Nondeterministic { .. } => 21,
+            AutomatonFault::OutOfMemory => 24,
+        }
+    }
+
+    /// The fault's name.
+    pub fn name(self) -> &'static str
+        ensures { result.now ≡ fault_name self }
+    {
+        match self {
+            AutomatonFault::ComplementedSet => "ComplementedSet",
+            AutomatonFault::NonParity => "NonParity",
+            AutomatonFault::Nondeterministic { .. } => "Nondeterministic",
+            AutomatonFault::OutOfMemory => "OutOfMemory",
+        }
+    }
+}
+
+impl From<AllocError> for AutomatonFault {
+    ghost from_gives = { λ _ fault. fault ≡ OutOfMemory };
+
+    fn from(_error: AllocError) -> AutomatonFault {
+        AutomatonFault::OutOfMemory
+    }
+}
+
+impl<T: Drop> From<AllocFailed<T>> for AutomatonFault {
+    ghost from_gives = { λ _ fault. fault ≡ OutOfMemory };
+
+    fn from(_error: AllocFailed<T>) -> AutomatonFault {
+        AutomatonFault::OutOfMemory
+    }
+}

@@ -1,0 +1,31 @@
+//! The steps to targets.
+
+ghost use Rattle.std.specs.Prelude.{◌≡◌};
+
+use crate::chain::Chain;
+use crate::numbers::Numbers;
+use crate::step::Step;
+use crate::targets::Target;
+
+/// A chain, and the table of its numbers.
+#[derive(Drop)]
+pub(crate) struct Levels {
+    pub chain: Chain,
+    pub numbers: Numbers,
+}
+
+impl Levels {
+    ghost use Rattle.ps_automaton.specs.Drafts.{AreLevels, step_of_target};
+    ghost use Rattle.ps_automaton.specs.Views.{chain_data};
+
+    /// The step to a target.
+    pub(crate) fn step_to(&self, target: Target) -> Step
+        requires { AreLevels self.now }
+        ensures { result ≡ step_of_target (chain_data self.now.chain) target }
+    {
+        Step {
+            state: target.state,
+            priority: self.numbers.level(target.sets),
+        }
+    }
+}

@@ -1,0 +1,74 @@
+//! The edges of a row, joined.
+
+ghost use Rattle.std.specs.Prelude.{◌≡◌, ◌+◌, ◌<◌, IfErr, IfOk, OnOk, length};
+ghost use Rattle.ps_diagram.specs.Table.{IsNode, Keeps};
+ghost use Rattle.ps_hoa.specs.Views.{row_data};
+ghost use Rattle.ps_automaton.specs.Drafts.{IsReady, IsRowFault, IsUnion};
+
+use crate::fault::AutomatonFault;
+use crate::guards::Guards;
+use crate::taken::{first_clash, taken};
+use crate::targets::{Target, target_of};
+use indexmap::IndexSet;
+use ps_diagram::{Node, OverlayError, Store};
+use std::alloc::Global;
+
+/// Edges joined: the leaf at a letter is the place of the target of the edge that is taken there.
+#[derive(Drop)]
+pub(crate) struct Union {
+    pub node: Node,
+    pub targets: IndexSet<Target>,
+}
+
+/// The edges of a row, joined.
+pub(crate) fn joined(
+    alloc: Global,
+    store: &mut Store,
+    guards: &Guards,
+) -> Result<Union, AutomatonFault>
+    requires ready { IsReady store.old guards.now }
+    ensures keeps { OnOk result (Keeps store.old store.new) }
+    ensures union { IfOk result (λ union. IsUnion guards.now.file.now (row_data guards.now.row.now) (length guards.now.row.now.edges.items) union.targets.keys store.new union.node) }
+    ensures refused { IfErr result (IsRowFault guards.now.file.now (row_data guards.now.row.now)) }
+{
+    let mut union = Union {
+        node: store.none()?,
+        targets: IndexSet::new(alloc),
+    };
+    for place in 0..guards.row.edges.len() {
+        add(store, guards, place, &mut union)?;
+    }
+    Ok(union)
+}
+
+/// Joins the edge at that place to those before it.
+fn add(
+    store: &mut Store,
+    guards: &Guards,
+    place: usize,
+    union: &mut Union,
+) -> Result<(), AutomatonFault>
+    requires ready { IsReady store.old guards.now }
+    requires within { place < length guards.now.row.now.edges.items }
+    requires union { IsUnion guards.now.file.now (row_data guards.now.row.now) place union.old.targets.keys store.old union.old.node }
+    ensures keeps { OnOk result (Keeps store.old store.new) }
+    ensures union { OnOk result (IsUnion guards.now.file.now (row_data guards.now.row.now) (place + 1) union.new.targets.keys store.new union.new.node) }
+    ensures refused { IfErr result (IsRowFault guards.now.file.now (row_data guards.now.row.now)) }
+{
+    let edge = &guards.row.edges[place];
+    let (target, _) = union.targets.insert_full(target_of(guards.row, edge))?;
+    let letters = taken(store, guards, edge)?;
+    let marked = store.guard(letters, target as u64)?;
+    match store.overlay(union.node, marked) {
+        Ok(node) => {
+            union.node = node;
+            Ok(())
+        }
+        Err(OverlayError::Clash { .. }) => Err(AutomatonFault::Nondeterministic {
+            state: guards.row.state,
+            first: first_clash(store, guards, place)?,
+            second: place,
+        }),
+        Err(OverlayError::OutOfMemory) => Err(AutomatonFault::OutOfMemory),
+    }
+}
