@@ -1,4 +1,6 @@
 pub mod PlacesLemmas
+pub mod LaneLemmas
+pub mod RunLemmas
 pub mod WorkLemmas
 pub mod RowLemmas
 pub mod ValueLemmas
@@ -8,3 +10,8 @@ pub mod LineLemmas
 pub mod StimulusLemmas
 pub mod StimulusSteps
 pub mod OneStimulus
+pub mod NamingLemmas
+pub mod LetterLemmas
+pub mod LassoLemmas
+pub mod CountLemmas
+pub mod OneVerdict

@@ -2,6 +2,13 @@ pub mod Simulations
 pub mod Plans
 pub mod Tables
 pub mod Faults
+pub mod Lanes
+pub mod LaneRuns
 pub mod Stimuli
 pub mod StimulusTexts
 pub mod StimulusReading
+pub mod Symbols
+pub mod Lassos
+pub mod LassoFaults
+pub mod Namings
+pub mod LassoRuns

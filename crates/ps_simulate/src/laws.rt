@@ -1,6 +1,13 @@
 //! Laws of circuits.
 
+ghost use Rattle.std.specs.Prelude.{Bool, List};
+ghost use Rattle.ps_aiger.specs.Circuits.{CircuitData, IsCircuit};
 ghost use Rattle.ps_aiger.specs.Values.{HasOneValues};
+ghost use Rattle.ps_hoa.specs.Files.{FileData};
+ghost use Rattle.ps_simulate.specs.LaneRuns.{AreLanesPlain};
+ghost use Rattle.ps_simulate.specs.Lassos.{HasOneVerdict};
+ghost use Rattle.ps_simulate.specs.Symbols.{HasSymbols};
+ghost use Rattle.ps_simulate.specs.declared.role.Role.{Role};
 
 use ps_aiger::Circuit;
 
@@ -11,3 +18,17 @@ pub fn circuit_has_one_values(circuit: &Circuit)
     let _order = circuit.order();
     let _gates = circuit.gates();
 }
+
+/// A law: a circuit that takes letters in 256 lanes at once goes in each lane as a plain run goes on that lane's letters.
+pub fn lanes_are_plain_runs(circuit: &Circuit)
+    ensures { AreLanesPlain circuit.now }
+{
+    let _gates = circuit.gates();
+    circuit_has_one_values(circuit);
+}
+
+/// A law: of a circuit whose values are one, with the inputs and the outputs of a role, there is one verdict at most for an
+/// automaton, a stem and a lap.
+pub fn verdict_is_one()
+    ensures { (role : Role) (file : FileData) (c : CircuitData) (stem lap : List (List Bool)) → IsCircuit c → HasOneValues c → HasSymbols role file.names file.controllable c → HasOneVerdict file c stem lap }
+{}

@@ -106,8 +106,7 @@ fn bit(values: &[bool], wire: Wire) -> bool
     requires { wire.place < length values.now }
     ensures { result ≡ read values.now wire }
 {
-    let value = values[wire.place];
-    if wire.is_negated { !value } else { value }
+    values[wire.place] ^ wire.is_negated
 }
 
 /// Works out the gates, each once.
@@ -118,7 +117,7 @@ fn work(rows: &[Row], values: &mut [bool])
     for row in rows {
         let first = bit(values, row.first);
         let second = bit(values, row.second);
-        values[row.target] = first && second;
+        values[row.target] = first & second;
     }
 }
 

@@ -1,6 +1,9 @@
 ghost use Rattle.std.specs.Prelude.{◌≡◌, length};
 
-use crate::{Simulator, StimulusCause, StimulusFault, parse_stimulus};
+use crate::{
+    LaneSimulator, Role, Simulator, StimulusCause, StimulusFault, Verdict, lasso, parse_stimulus,
+};
+use ps_automaton::Automaton;
 use std::test::Fail;
 
 /// One input, one latch whose first value is 1, and three gates, none of which stands behind those that it reads.
@@ -29,6 +32,26 @@ fn gates_are_worked_out_in_their_order(rt: HostRuntime) -> Result<(), Fail> {
     assert_eq!(rt; shown(&mut simulator, true), (true, [true, false, true]));
     assert_eq!(rt; shown(&mut simulator, true), (false, [false, true, true]));
     assert_eq!(rt; shown(&mut simulator, false), (true, [true, true, true]));
+    Ok(())
+}
+
+#[test]
+fn each_lane_has_its_own_bits(rt: HostRuntime) -> Result<(), Fail> {
+    let circuit = ps_aiger::read(rt.alloc(), FORWARD)?;
+    assert_eq!(rt; circuit.inputs().len(), 1);
+    assert_eq!(rt; circuit.outputs().len(), 3);
+    assert_eq!(rt; circuit.latches().len(), 1);
+    let mut simulator = LaneSimulator::new(rt.alloc(), &circuit)?;
+    assert!(rt; simulator.latch(200, 0));
+    let mut outputs = [[0; 4]; 3];
+    simulator.step_lanes(&[[1, 0, 0, 0]], &mut outputs);
+    assert_eq!(rt; outputs[0], [u64::MAX; 4]);
+    assert_eq!(rt; outputs[1], [u64::MAX - 1, u64::MAX, u64::MAX, u64::MAX]);
+    assert_eq!(rt; outputs[2], [u64::MAX; 4]);
+    assert_eq!(rt;
+        (simulator.latch(0, 0), simulator.latch(255, 0)),
+        (false, true)
+    );
     Ok(())
 }
 
@@ -79,5 +102,31 @@ fn a_letter_has_its_bits(rt: HostRuntime) -> Result<(), Fail> {
     let stimulus = parse_stimulus(rt.alloc(), b"011", 3, false)?;
     assert_eq!(rt; stimulus.stem.len(), 1);
     assert_eq!(rt; stimulus.stem[0].as_slice(), [false, true, true].as_slice());
+    Ok(())
+}
+
+#[test]
+fn a_lap_of_three_passes(rt: HostRuntime) -> Result<(), Fail> {
+    let file = ps_hoa::read(
+        rt.alloc(),
+        b"HOA: v1 Start: 0 AP: 1 \"g\" controllable-AP: 0 Acceptance: 1 Inf(0) --BODY-- State: 0 [0] 0 {0} [!0] 0 --END--",
+    )?;
+    let automaton = Automaton::build(rt.alloc(), &file)?;
+    let circuit = ps_aiger::read(rt.alloc(), b"aag 3 0 2 1 1\n2 6\n4 2\n4\n6 5 3\no0 g\n")?;
+    let letters = parse_stimulus(rt.alloc(), b"-\n\n", 0, true)?;
+    let verdict = lasso(
+        rt.alloc(),
+        &circuit,
+        &automaton,
+        Role::Controller,
+        &letters.stem,
+        &letters.lap,
+    )?;
+    let expected = Verdict {
+        accepted: true,
+        stem: 0,
+        lap: 3,
+    };
+    assert!(rt; verdict == expected);
     Ok(())
 }

@@ -1,0 +1,139 @@
+-- Lanes of words: each goes as the plain table goes.
+use Rattle.std.proofs.Common.{◌≡◌, ℕ, zero, suc, ◌+◌, ◌/◌, ◌%◌, ◌<◌, ◌&&◌, ◌==◌, Bool, true, false, not, cond, List, [], ◌∷◌, ◌++◌, map, take, drop, length, get_or, refl, sym, ap, ap₂, ◌∙◌, arith}
+use Rattle.std.specs.Prelude.{◌^◌, replicate, slice_set, slice_get, Some}
+use Rattle.std.specs.Option.{option_map}
+use Prim.Native.Nat.{min}
+use Rattle.std.specs.Int.{bit_at}
+use Rattle.std.specs.Int.Bits.{bit_and, bit_xor}
+use Rattle.std.specs.Simd.Lanes.{zip2}
+use Rattle.std.proofs.Math.Seq.{drop-cons, take-suc}
+use Rattle.std.proofs.lemmas.List.{get_or-map, map-set, map-append, length-map, take_more_set}
+use Rattle.std.proofs.lemmas.Option.{slice_get-map, slice_get_read}
+use Rattle.std.proofs.lemmas.Nat.Bits.{bit_at-lt, bit_at_and, bit_at_xor, bit_at_ones, bit_at-zero, shr_and_one}
+use Rattle.std.proofs.lemmas.Simd.{get_or-zip2, get_or-replicate}
+use Rattle.ps_aiger.specs.declared.parts.Latch.{Latch}
+use Rattle.ps_simulate.specs.declared.plan.Wire.{Wire}
+use Rattle.ps_simulate.specs.declared.plan.Row.{Row}
+use Rattle.ps_simulate.specs.Lanes.{all_or_none, bit_in, lane_of}
+use Rattle.ps_simulate.specs.Plans.{read, work_out}
+use Rattle.ps_simulate.proofs.RowLemmas.{no_latch}
+use Rattle.ps_simulate.proofs.WorkLemmas.{no_row, no_wire}
+
+both : (x y : ℕ) → x < 2 → y < 2 → (min x y == 1) ≡ ((x == 1) && (y == 1))
+both zero zero hx hy = refl
+both zero (suc zero) hx hy = refl
+both (suc zero) zero hx hy = refl
+both (suc zero) (suc zero) hx hy = refl
+both zero (suc (suc y)) hx hy = absurd (omega arith)
+both (suc zero) (suc (suc y)) hx hy = absurd (omega arith)
+both (suc (suc x)) y hx hy = absurd (omega arith)
+
+flipped : (b : Bool) (x m : ℕ) → x < 2 → m ≡ cond b 1 0 → ((x + m) % 2 == 1) ≡ cond b (not (x == 1)) (x == 1)
+flipped true zero m lt e = ap (λ n. (0 + n) % 2 == 1) e
+flipped true (suc zero) m lt e = ap (λ n. (1 + n) % 2 == 1) e
+flipped false zero m lt e = ap (λ n. (0 + n) % 2 == 1) e
+flipped false (suc zero) m lt e = ap (λ n. (1 + n) % 2 == 1) e
+flipped b (suc (suc x)) m lt e = absurd (omega arith)
+
+mask_bit : (b : Bool) (i : ℕ) → i < 64 → bit_at (all_or_none b) i ≡ cond b 1 0
+mask_bit true i lt = bit_at_ones 64 i lt
+mask_bit false i lt = bit_at-zero i
+
+pub bit_in-and : (a b : List ℕ) (lane : ℕ) → lane < 256 → length a ≡ 4 → length b ≡ 4
+    → bit_in (zip2 bit_and a b) lane ≡ (bit_in a lane && bit_in b lane)
+bit_in-and a b lane lt la lb =
+    let word = lane / 64 in
+    let i = lane % 64 in
+    ap (λ n. bit_at n i == 1) (get_or-zip2 bit_and a b word 0 0 0 (omega (arith, la)) (omega (arith, lb)))
+    ∙ ap (λ n. n == 1) (bit_at_and (get_or a word 0) (get_or b word 0) i)
+    ∙ both (bit_at (get_or a word 0) i) (bit_at (get_or b word 0) i) (bit_at-lt (get_or a word 0) i) (bit_at-lt (get_or b word 0) i)
+
+pub bit_in-mask : (b : Bool) (lane : ℕ) → lane < 256 → bit_in (replicate 4 (all_or_none b)) lane ≡ b
+bit_in-mask b lane lt =
+    ap (λ n. bit_at n (lane % 64) == 1) (get_or-replicate 4 (lane / 64) (all_or_none b) 0 (omega arith))
+    ∙ ap (λ n. n == 1) (mask_bit b (lane % 64) (omega arith)) ∙ one b
+  where
+    one : (b : Bool) → (cond b 1 0 == 1) ≡ b
+    one true = refl
+    one false = refl
+
+take_more : {A : Type 0} (xs : List A) (k : ℕ) (d : A) → k < length xs → take (k + 1) xs ≡ take k xs ++ get_or xs k d ∷ []
+take_more xs k d lt = ap (λ n. take n xs) (let e : k + 1 ≡ suc k = omega arith in e) ∙ take-suc xs k d lt
+
+-- words, all of them changed by a mask
+bit_in-flipped : (a : List ℕ) (b : Bool) (lane : ℕ) → lane < 256 → length a ≡ 4
+    → bit_in (zip2 bit_xor a (replicate 4 (all_or_none b))) lane ≡ cond b (not (bit_in a lane)) (bit_in a lane)
+bit_in-flipped a b lane lt le =
+    let word = lane / 64 in
+    let i = lane % 64 in
+    let m = all_or_none b in
+    let x = get_or a word 0 in
+    ap (λ n. bit_at n i == 1) (get_or-zip2 bit_xor a (replicate 4 m) word 0 0 0 (omega (arith, le)) (omega arith)
+    ∙ ap (bit_xor x) (get_or-replicate 4 word m 0 (omega arith)))
+    ∙ ap (λ n. n == 1) (bit_at_xor x m i)
+    ∙ flipped b (bit_at x i) (bit_at m i) (bit_at-lt x i) (mask_bit b i (omega arith))
+
+-- the words of a literal
+pub bit_in-read : (values : List (List ℕ)) (wire : Wire) (m lane : ℕ) → lane < 256 → wire.place < length values → length (get_or values wire.place []) ≡ 4
+    → m ≡ all_or_none wire.is_negated
+    → bit_in (zip2 bit_xor (get_or values wire.place []) (replicate 4 m)) lane ≡ read (lane_of values lane) wire
+bit_in-read values wire m lane lt place four e =
+    let a = get_or values wire.place [] in
+    ap (λ n. bit_in (zip2 bit_xor a (replicate 4 n)) lane) e ∙ bit_in-flipped a wire.is_negated lane lt four
+    ∙ sym (ap (λ (bit : Bool). cond wire.is_negated (not bit) bit) (get_or-map (λ ws. bit_in ws lane) values wire.place [] false place))
+
+-- a row that is worked out in all lanes
+pub worked_on : (rows : List Row) (values initial : List (List ℕ)) (a b : List ℕ) (k lane : ℕ) → lane < 256 → k < length rows → length a ≡ 4 → length b ≡ 4
+    → bit_in a lane ≡ read (lane_of values lane) (get_or rows k no_row).first → bit_in b lane ≡ read (lane_of values lane) (get_or rows k no_row).second
+    → work_out (drop k rows) (lane_of values lane) ≡ work_out rows (lane_of initial lane)
+    → work_out (drop (k + 1) rows) (lane_of (slice_set values (get_or rows k no_row).target (zip2 bit_and a b)) lane) ≡ work_out rows (lane_of initial lane)
+worked_on rows values initial a b k lane less lt la lb first second before =
+    let row = get_or rows k no_row in
+    let f : List ℕ → Bool = λ ws. bit_in ws lane in
+    let next : k + 1 ≡ suc k = omega arith in
+    let here : bit_in (zip2 bit_and a b) lane ≡ (read (lane_of values lane) row.first && read (lane_of values lane) row.second) =
+    bit_in-and a b lane less la lb ∙ ap₂ ◌&&◌ first second in
+    ap (λ n. work_out (drop n rows) (lane_of (slice_set values row.target (zip2 bit_and a b)) lane)) next
+    ∙ ap (work_out (drop (suc k) rows)) (map-set f values row.target (zip2 bit_and a b) ∙ ap (slice_set (lane_of values lane) row.target) here)
+    ∙ sym (ap (λ (all : List Row). work_out all (lane_of values lane)) (drop-cons rows k no_row lt)) ∙ before
+
+-- the literals in front of a place, and one more
+pub read_on : (wires : List Wire) (values table : List (List ℕ)) (words : List ℕ) (k lane : ℕ) → k < length wires → k < length table
+    → bit_in words lane ≡ read (lane_of values lane) (get_or wires k no_wire)
+    → take k (lane_of table lane) ≡ map (read (lane_of values lane)) (take k wires)
+    → take (k + 1) (lane_of (slice_set table k words) lane) ≡ map (read (lane_of values lane)) (take (k + 1) wires)
+read_on wires values table words k lane lt room here before =
+    let f : List ℕ → Bool = λ ws. bit_in ws lane in
+    ap (take (k + 1)) (map-set f table k words) ∙ take_more_set (lane_of table lane) k (f words) (omega (arith, length-map table f))
+    ∙ ap₂ (λ (xs : List Bool) (x : Bool). xs ++ x ∷ []) before here
+    ∙ sym (ap (map (read (lane_of values lane))) (take_more wires k no_wire lt) ∙ map-append (read (lane_of values lane)) (take k wires) (get_or wires k no_wire ∷ []))
+
+-- the words of a latch's reset behind those of the latches in front of it
+pub reset_on : (latches : List Latch) (words more : List (List ℕ)) (m k lane : ℕ) → lane < 256 → k < length latches
+    → m ≡ all_or_none (get_or latches k no_latch).reset → more ≡ words ++ replicate 4 m ∷ []
+    → lane_of words lane ≡ map (λ (l : Latch). l.reset) (take k latches)
+    → lane_of more lane ≡ map (λ (l : Latch). l.reset) (take (k + 1) latches)
+reset_on latches words more m k lane lt room is grown before =
+    let f : List ℕ → Bool = λ ws. bit_in ws lane in
+    let reset : Latch → Bool = λ l. l.reset in
+    ap (map f) grown ∙ map-append f words (replicate 4 m ∷ [])
+    ∙ ap₂ (λ (xs : List Bool) (x : Bool). xs ++ x ∷ []) before (ap (λ n. bit_in (replicate 4 n) lane) is ∙ bit_in-mask (get_or latches k no_latch).reset lane lt)
+    ∙ sym (ap (map reset) (take_more latches k no_latch room) ∙ map-append reset (take k latches) (get_or latches k no_latch ∷ []))
+
+-- the lanes of two tables agree where their words do
+pub same_lane : (xs ys : List (List ℕ)) (p q lane : ℕ) → p < length xs → q < length ys → get_or xs p [] ≡ get_or ys q []
+    → get_or (lane_of xs lane) p false ≡ get_or (lane_of ys lane) q false
+same_lane xs ys p q lane hp hq e =
+    let f : List ℕ → Bool = λ ws. bit_in ws lane in
+    get_or-map f xs p [] false hp ∙ ap f e ∙ sym (get_or-map f ys q [] false hq)
+
+pub length-lane : (xs : List (List ℕ)) (lane : ℕ) → length (lane_of xs lane) ≡ length xs
+length-lane xs lane = let f : List ℕ → Bool = λ ws. bit_in ws lane in length-map xs f
+
+-- a bit that a shift leaves in front
+pub latch_is : (rows : List (List ℕ)) (words : List ℕ) (number lane : ℕ) → number < length rows → words ≡ get_or rows number words
+    → slice_get (lane_of rows lane) number ≡ Some (bit_and (get_or words (lane / 64) 0 / 2 ^ (lane % 64)) 1 == 1)
+latch_is rows words number lane lt e =
+    let f : List ℕ → Bool = λ ws. bit_in ws lane in
+    slice_get-map f rows number ∙ ap (option_map f) (slice_get_read rows (length rows) number words refl lt e)
+    ∙ ap (λ n. Some (n == 1)) (sym (shr_and_one (get_or words (lane / 64) 0) (lane % 64)))

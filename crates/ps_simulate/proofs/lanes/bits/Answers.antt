@@ -1,0 +1,6 @@
+use Rattle.std.proofs.Common.{rules}
+use Rattle.ps_simulate.proofs.LaneLemmas.{bit_in-read}
+use Rattle.ps_simulate.proofs.lanes.bits.Goals as goal
+
+pub returns : goal.returns
+returns c lane lt = bit_in-read c.args.values.now c.args.wire c.mask.result lane lt c.requires (search rules) c.mask.ensures

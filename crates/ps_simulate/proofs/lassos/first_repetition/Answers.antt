@@ -1,0 +1,42 @@
+use Rattle.std.proofs.Common.{◌≡◌, ◌∙◌, ℕ, Option, None, subst}
+use Rattle.ps_aiger.specs.Circuits.{CircuitData}
+use Rattle.ps_aiger.specs.Values.{GoesOn}
+use Rattle.ps_simulate.specs.Stimuli.{letters_of}
+use Rattle.ps_simulate.specs.Namings.{names_of}
+use Rattle.ps_simulate.specs.LassoRuns.{HasRead, IsSeen, ReadsWord}
+use Rattle.ps_simulate.proofs.LassoLemmas.{HasRead-next, fewer, goes_wide}
+use Rattle.ps_simulate.proofs.lassos.first_repetition.Goals as goal
+
+pub laps-smaller : goal.laps-smaller
+laps-smaller c =
+    let circuit = c.args.circuit.now in
+    let from = c.laps.simulator.latches in
+    let last = c.read_word-in-laps.new.simulator.latches in
+    let none : c.in_ok-first.field-0 ≡ None = c.in_default.is in
+    let seen : IsSeen (letters_of c.laps.seen.keys) (letters_of c.see.new.seen.keys) c.latches.result.now None =
+    subst (λ (o : Option ℕ). IsSeen (letters_of c.laps.seen.keys) (letters_of c.see.new.seen.keys) c.latches.result.now o) none c.in_ok-first.ensures in
+    let reads : ReadsWord (names_of c.args.naming.now) c.laps.simulator.circuit from (letters_of c.args.lap.now) c.laps.letters.items c.read_word-in-laps.new.letters.items last = c.in_ok-read_word-2.ensures.reads in
+    let read : HasRead (names_of c.args.naming.now) circuit (letters_of c.args.stem.now) (letters_of c.args.lap.now) (letters_of c.see.new.seen.keys) c.read_word-in-laps.new.letters.items last =
+    HasRead-next (names_of c.args.naming.now) circuit c.laps.simulator.circuit (letters_of c.args.stem.now) (letters_of c.args.lap.now) (letters_of c.laps.seen.keys) (letters_of c.see.new.seen.keys)
+    c.laps.letters.items c.read_word-in-laps.new.letters.items from c.latches.result.now last c.laps.invariant.same c.latches.ensures c.laps.invariant.read seen reads c.laps.invariant.wide in
+    fewer (names_of c.args.naming.now) circuit (letters_of c.args.stem.now) (letters_of c.args.lap.now) (letters_of c.laps.seen.keys) (letters_of c.see.new.seen.keys)
+    c.read_word-in-laps.new.letters.items c.latches.result.now last read seen
+
+pub laps-preserved : goal.laps-preserved
+laps-preserved c =
+    let circuit = c.args.circuit.now in
+    let from = c.laps.simulator.latches in
+    let last = c.read_word-in-laps.new.simulator.latches in
+    let none : c.in_ok-first.field-0 ≡ None = c.in_default.is in
+    let seen : IsSeen (letters_of c.laps.seen.keys) (letters_of c.see.new.seen.keys) c.latches.result.now None =
+    subst (λ (o : Option ℕ). IsSeen (letters_of c.laps.seen.keys) (letters_of c.see.new.seen.keys) c.latches.result.now o) none c.in_ok-first.ensures in
+    let reads : ReadsWord (names_of c.args.naming.now) c.laps.simulator.circuit from (letters_of c.args.lap.now) c.laps.letters.items c.read_word-in-laps.new.letters.items last = c.in_ok-read_word-2.ensures.reads in
+    let read : HasRead (names_of c.args.naming.now) circuit (letters_of c.args.stem.now) (letters_of c.args.lap.now) (letters_of c.see.new.seen.keys) c.read_word-in-laps.new.letters.items last =
+    HasRead-next (names_of c.args.naming.now) circuit c.laps.simulator.circuit (letters_of c.args.stem.now) (letters_of c.args.lap.now) (letters_of c.laps.seen.keys) (letters_of c.see.new.seen.keys)
+    c.laps.letters.items c.read_word-in-laps.new.letters.items from c.latches.result.now last c.laps.invariant.same c.latches.ensures c.laps.invariant.read seen reads c.laps.invariant.wide in
+    record {
+      read = read;
+      same = c.in_ok-read_word-2.ensures.circuit ∙ c.laps.invariant.same;
+      outputs_fit = c.laps.invariant.outputs_fit;
+      wide = goes_wide circuit from last reads.trace (subst (λ (d : CircuitData). GoesOn d from reads.trace last) c.laps.invariant.same reads.goes_on) c.laps.invariant.wide;
+    }

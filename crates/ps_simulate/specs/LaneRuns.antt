@@ -1,0 +1,34 @@
+-- Runs of a circuit on 256 stimuli at once, and each of them alone.
+use Rattle.std.specs.Prelude.{◌≡◌, ℕ, ◌<◌, Bool, List, [], ◌∷◌, map}
+use Rattle.ps_aiger.specs.Circuits.{CircuitData}
+use Rattle.ps_aiger.specs.Values.{Moment, Steps, GoesOn}
+use Rattle.ps_simulate.specs.Lanes.{lane_of}
+
+-- the words of one step, the latches' before it
+pub record LaneMoment : Type 0 where
+  pub latches : List (List ℕ)
+  pub inputs : List (List ℕ)
+  pub outputs : List (List ℕ)
+
+-- the bits of a lane
+abbrev pub moment_in : ℕ → LaneMoment → Moment
+moment_in lane m = record { latches = lane_of m.latches lane; inputs = lane_of m.inputs lane; outputs = lane_of m.outputs lane }
+
+-- a step in each lane
+abbrev pub StepsInLanes : CircuitData → List (List ℕ) → List (List ℕ) → List (List ℕ) → List (List ℕ) → Type 0
+StepsInLanes c latches inputs outputs next =
+    (lane : ℕ) → lane < 256 → Steps c (lane_of latches lane) (lane_of inputs lane) (lane_of outputs lane) (lane_of next lane)
+
+-- the moments, one after another, lead from these latches to those
+abbrev pub GoOnInLanes : CircuitData → List (List ℕ) → List LaneMoment → List (List ℕ) → Type 0
+GoOnInLanes c latches [] last = latches ≡ last
+GoOnInLanes c latches (m ∷ ms) last =
+    (next : List (List ℕ)) × (m.latches ≡ latches) × StepsInLanes c latches m.inputs m.outputs next × GoOnInLanes c next ms last
+
+-- for every list of steps each lane goes as a plain run does from that lane's latches on that lane's letters: it has the same
+-- outputs, and the same latches before each step and behind the last
+abbrev pub AreLanesPlain : CircuitData → Type 0
+AreLanesPlain c =
+    (latches last : List (List ℕ)) (ms : List LaneMoment) → GoOnInLanes c latches ms last →
+    (lane : ℕ) → lane < 256 → (plain : List Moment) (end : List Bool) → GoesOn c (lane_of latches lane) plain end →
+    map (λ m. m.inputs) plain ≡ map (λ m. lane_of m.inputs lane) ms → (plain ≡ map (moment_in lane) ms) × (end ≡ lane_of last lane)

@@ -1,0 +1,27 @@
+-- The bits of 256 lanes, kept in lists of four words: that of lane 64·w + b is bit b of word w.
+use Rattle.std.specs.Prelude.{ℕ, ◌-◌, ◌<◌, ◌/◌, ◌%◌, ◌^◌, ◌==◌, if◌then◌else◌, Bool, List, map, slice_index}
+use Rattle.std.specs.Int.{bit_at}
+use Rattle.ps_aiger.specs.Circuits.{CircuitData}
+use Rattle.ps_simulate.specs.declared.plan.Plan.{Plan}
+use Rattle.ps_simulate.specs.Tables.{IsTable}
+
+-- a word of ones, or of zeros
+abbrev pub all_or_none : Bool → ℕ
+all_or_none is_set = if is_set then 2 ^ 64 - 1 else 0
+
+-- the bit of a lane
+abbrev pub bit_in : List ℕ → ℕ → Bool
+bit_in words lane = bit_at (slice_index words (lane / 64)) (lane % 64) == 1
+
+-- the bits of a lane
+abbrev pub lane_of : List (List ℕ) → ℕ → List Bool
+lane_of rows lane = map (λ words. bit_in words lane) rows
+
+-- what a contract sees of a simulator: a circuit, and for each latch the words of its values now
+pub record LaneSimulation : Type 0 where
+  pub circuit : CircuitData
+  pub latches : List (List ℕ)
+
+-- each lane has a table of the plain simulator
+abbrev pub AreTables : CircuitData → Plan → List (List ℕ) → List (List ℕ) → Type 0
+AreTables c plan values latches = (lane : ℕ) → lane < 256 → IsTable c plan (lane_of values lane) (lane_of latches lane)

@@ -1,0 +1,27 @@
+-- Why a lasso has no verdict.
+--     Stands fault role names controllable c stem lap      what is said by the fault: of width, then of an empty lap, then of symbols
+use Rattle.std.specs.Prelude.{◌≡◌, ⊤, ◌<◌, Bool, List, [], length, All}
+use Rattle.ps_aiger.specs.Circuits.{CircuitData}
+use Rattle.ps_automaton.specs.Automata.{AutomatonData}
+use Rattle.ps_simulate.specs.Symbols.{HasSymbols}
+use Rattle.ps_simulate.specs.declared.role.Role.{Role}
+use Rattle.ps_simulate.specs.declared.lassos.LassoFault.{LassoFault}
+use Rattle.ps_simulate.specs.declared.lassos.LassoFault.TheVariants.{Width, EmptyLap, Symbols, OutOfMemory}
+
+-- each letter has a bit for each input
+pub record AreWide (c : CircuitData) (stem lap : List (List Bool)) : Type 0 where
+  pub stem_is : All (λ letter. length letter ≡ length c.inputs) stem
+  pub lap_is : All (λ letter. length letter ≡ length c.inputs) lap
+
+-- no fault stands
+pub record IsSound (role : Role) (a : AutomatonData) (c : CircuitData) (stem lap : List (List Bool)) : Type 0 where
+  pub wide : AreWide c stem lap
+  pub some : 0 < length lap
+  pub symbols : HasSymbols role a.names a.controllable c
+
+-- the first fault that stands; any growth may have been refused
+abbrev pub Stands : Role → AutomatonData → CircuitData → List (List Bool) → List (List Bool) → LassoFault → Type 0
+Stands role a c stem lap Width = ¬ AreWide c stem lap
+Stands role a c stem lap EmptyLap = AreWide c stem lap × (lap ≡ [])
+Stands role a c stem lap Symbols = AreWide c stem lap × (0 < length lap) × ¬ HasSymbols role a.names a.controllable c
+Stands role a c stem lap OutOfMemory = ⊤

@@ -1,0 +1,36 @@
+-- A run of a circuit through letters. (Of private functions.)
+use Rattle.std.specs.Prelude.{◌≡◌, ◌≢◌, ℕ, ◌<◌, ◌++◌, Bool, List, [], ◌∷◌, Option, None, Some, length, map, slice_index_or}
+use Rattle.ps_aiger.specs.Circuits.{CircuitData}
+use Rattle.ps_aiger.specs.Values.{Moment, GoesOn, resets}
+use Rattle.ps_simulate.specs.Lassos.{AreLetters, Repeats, laps_of, latches_before}
+
+-- letters are read from these latches to those, and as many letters of an automaton stand behind the earlier ones
+pub record ReadsWord (names : List (List ℕ)) (c : CircuitData) (from : List Bool) (word : List (List Bool)) (old new : List ℕ) (last : List Bool) : Type 0 where
+  pub trace : List Moment
+  pub goes_on : GoesOn c from trace last
+  pub reads : map (λ m. m.inputs) trace ≡ word
+  pub letters : List ℕ
+  pub are_letters : AreLetters names c trace letters
+  pub new_is : new ≡ old ++ letters
+
+-- the first repetition, with the letters of its trace
+pub record RepeatsBy (names : List (List ℕ)) (c : CircuitData) (stem lap : List (List Bool)) (i : ℕ) (letters : List ℕ) : Type 0 where
+  pub j : ℕ
+  pub trace : List Moment
+  pub repeats : Repeats c stem lap i j trace
+  pub are_letters : AreLetters names c trace letters
+
+-- laps were read, one for each of the latches seen, which stand before them in turn and differ
+pub record HasRead (names : List (List ℕ)) (c : CircuitData) (stem lap : List (List Bool)) (seen : List (List Bool)) (letters : List ℕ) (last : List Bool) : Type 0 where
+  pub trace : List Moment
+  pub goes_on : GoesOn c (resets c) trace last
+  pub reads : map (λ m. m.inputs) trace ≡ stem ++ laps_of lap (length seen)
+  pub are_letters : AreLetters names c trace letters
+  pub seen_is : (k : ℕ) → k < length seen → slice_index_or seen k [] ≡ latches_before stem lap trace last k
+  pub wide : (k : ℕ) → k < length seen → length (slice_index_or seen k []) ≡ length c.latches
+  pub differ : (k l : ℕ) → k < l → l < length seen → slice_index_or seen k [] ≢ slice_index_or seen l []
+
+-- the place of latches that were seen before; new ones go behind the others
+abbrev pub IsSeen : List (List Bool) → List (List Bool) → List Bool → Option ℕ → Type 0
+IsSeen old new latches (Some i) = (i < length old) × (slice_index_or old i [] ≡ latches) × (new ≡ old)
+IsSeen old new latches None = ((k : ℕ) → k < length old → slice_index_or old k [] ≢ latches) × (new ≡ old ++ latches ∷ [])

@@ -1,0 +1,66 @@
+-- What a circuit and an automaton make of a stem that is read once and a lap that is read again and again.
+--     IsLetterOf names c m letter      the letter of a step: a proposition's bit is that of the input or output with its name
+--     Repeats c stem lap i j trace      the first repetition: before lap j the latches are those before lap i
+--     IsVerdictOf file c stem lap verdict      whether the trace so far is accepted, as a lasso that goes back to lap i
+use Rattle.std.specs.Prelude.{◌≡◌, ◌≢◌, ℕ, zero, suc, ◌+◌, ◌-◌, ◌*◌, ◌^◌, ◌<◌, ◌↔◌, Bool, false, IsTrue, List, [], ◌∷◌, ◌++◌, length, map, take, drop, slice_index_or}
+use Rattle.ps_label.specs.Truth.{is_in}
+use Rattle.ps_hoa.specs.Files.{FileData}
+use Rattle.ps_automaton.specs.Acceptance.{IsAccepted}
+use Rattle.ps_aiger.specs.Circuits.{CircuitData}
+use Rattle.ps_aiger.specs.Values.{Moment, GoesOn, resets}
+use Rattle.ps_simulate.specs.Symbols.{IsSymbol}
+use Rattle.ps_simulate.specs.declared.lassos.Verdict.{Verdict}
+
+-- ## Letters
+
+pub record IsLetterOf (names : List (List ℕ)) (c : CircuitData) (m : Moment) (letter : ℕ) : Type 0 where
+  pub few : letter < 2 ^ length names
+  pub inputs : (k p : ℕ) → IsSymbol names c.input_names k p → is_in p letter ≡ slice_index_or m.inputs k false
+  pub outputs : (k p : ℕ) → IsSymbol names c.output_names k p → is_in p letter ≡ slice_index_or m.outputs k false
+
+-- a letter for each step
+abbrev pub AreLetters : List (List ℕ) → CircuitData → List Moment → List ℕ → Type 0
+AreLetters names c [] letters = letters ≡ []
+AreLetters names c (m ∷ ms) [] = ⊥
+AreLetters names c (m ∷ ms) (letter ∷ letters) = IsLetterOf names c m letter × AreLetters names c ms letters
+
+-- ## The first repetition
+
+-- so many laps, one after another
+abbrev pub laps_of : List (List Bool) → ℕ → List (List Bool)
+laps_of lap zero = []
+laps_of lap (suc laps) = laps_of lap laps ++ lap
+
+-- the latches before each step of a trace, and then those behind it
+abbrev pub latches_along : List Moment → List Bool → List (List Bool)
+latches_along trace last = map (λ m. m.latches) trace ++ last ∷ []
+
+-- the latches before a lap
+abbrev pub latches_before : List (List Bool) → List (List Bool) → List Moment → List Bool → ℕ → List Bool
+latches_before stem lap trace last k = slice_index_or (latches_along trace last) (length stem + k * length lap) []
+
+-- A trace reads the stem and then j laps. The latches behind it are those before lap i, and those before the laps so far differ.
+pub record Repeats (c : CircuitData) (stem lap : List (List Bool)) (i j : ℕ) (trace : List Moment) : Type 0 where
+  pub last : List Bool
+  pub goes_on : GoesOn c (resets c) trace last
+  pub reads : map (λ m. m.inputs) trace ≡ stem ++ laps_of lap j
+  pub earlier : i < j
+  pub returns : latches_before stem lap trace last i ≡ last
+  pub first : (k l : ℕ) → k < l → l < j → latches_before stem lap trace last k ≢ latches_before stem lap trace last l
+
+-- ## The verdict
+
+pub record IsVerdictOf (file : FileData) (c : CircuitData) (stem lap : List (List Bool)) (verdict : Verdict) : Type 0 where
+  pub i : ℕ
+  pub j : ℕ
+  pub trace : List Moment
+  pub letters : List ℕ
+  pub repeats : Repeats c stem lap i j trace
+  pub are_letters : AreLetters file.names c trace letters
+  pub stem_is : verdict.stem ≡ length stem + i * length lap
+  pub lap_is : verdict.lap ≡ (j - i) * length lap
+  pub accepted : IsTrue verdict.accepted ↔ IsAccepted file (take verdict.stem letters) (drop verdict.stem letters)
+
+-- any two verdicts are one
+abbrev pub HasOneVerdict : FileData → CircuitData → List (List Bool) → List (List Bool) → Type 0
+HasOneVerdict file c stem lap = (verdict other : Verdict) → IsVerdictOf file c stem lap verdict → IsVerdictOf file c stem lap other → verdict ≡ other

@@ -1,0 +1,146 @@
+//! A circuit that is run on 256 stimuli at once.
+
+ghost use Rattle.std.specs.Prelude.{◌≡◌, ℕ, ◌+◌, ◌<◌, ◌≤◌, ◌⊎◌, [], length, map, slice_get, slice_index_or, All, IfOk, Some, false};
+ghost use Rattle.ps_aiger.specs.Circuits.{IsCircuit};
+ghost use Rattle.ps_aiger.specs.Values.{resets};
+ghost use Rattle.ps_simulate.specs.Lanes.{all_or_none, bit_in, lane_of};
+ghost use Rattle.ps_simulate.specs.Plans.{IsWithin, IsWorkedOut, read, work_out};
+
+use crate::plan::{Plan, Row, Wire};
+use ps_aiger::Circuit;
+use std::alloc::{AllocError, Global};
+use std::marker::Model;
+use std::simd::prelude::*;
+
+/// A circuit, and the values of its latches now in 256 runs. The bit of run 64·w + b is bit b of word w.
+#[derive(Drop)]
+pub struct LaneSimulator<'a> {
+    circuit: &'a Circuit,
+    plan: Plan,
+    values: Vec<[u64; 4]>,
+    latches: Vec<[u64; 4]>,
+}
+
+impl<'a> Model for LaneSimulator<'a> {
+    ghost use Rattle.ps_simulate.specs.Lanes.{LaneSimulation, AreTables};
+
+    ghost Value = { LaneSimulation };
+
+    ghost view = { λ s. record { circuit = s.circuit.now; latches = s.latches.items } };
+
+    ghost invariant = { λ s. AreTables s.circuit.now s.plan s.values.items s.latches.items };
+}
+
+impl<'a> LaneSimulator<'a> {
+    ghost use Rattle.ps_simulate.specs.LaneRuns.{StepsInLanes};
+
+    /// Starts a circuit 256 times, the latches at their resets.
+    pub fn new(alloc: Global, circuit: &'a Circuit) -> Result<Self, AllocError>
+        ensures circuit { IfOk result (λ s. s.circuit ≡ circuit.now) }
+        ensures latches { IfOk result (λ s. (lane : ℕ) → lane < 256 → lane_of s.latches lane ≡ resets circuit.now) }
+    {
+        let plan = Plan::new(alloc, circuit)?;
+        let latches = first_words(alloc, circuit)?;
+        let values = vec![in alloc; [0; 4]; plan.size]?;
+        Ok(LaneSimulator {
+            circuit,
+            plan,
+            values,
+            latches,
+        })
+    }
+
+    /// Takes a letter in each run: puts the outputs' bits into `outputs`, and moves the latches on. Takes no memory.
+    pub fn step_lanes(&mut self, inputs: &[[u64; 4]], outputs: &mut [[u64; 4]])
+        requires inputs_fit { length inputs.now ≡ length self.old.circuit.inputs }
+        requires outputs_fit { length outputs.old ≡ length self.old.circuit.outputs }
+        ensures steps { StepsInLanes self.old.circuit self.old.latches inputs.now outputs.new self.new.latches }
+        ensures circuit { self.new.circuit ≡ self.old.circuit }
+    {
+        fill_words(&self.plan.rows, inputs, &self.latches, &mut self.values);
+        read_words(&self.plan.outputs, &self.values, outputs);
+        read_words(&self.plan.nexts, &self.values, &mut self.latches);
+    }
+
+    /// The value of a latch now in a run. Takes no memory.
+    pub fn latch(&self, lane: usize, number: usize) -> bool
+        requires lane { lane < 256 }
+        requires number { number < length self.now.circuit.latches }
+        ensures { slice_get (lane_of self.now.latches lane) number ≡ Some result }
+    {
+        let words = self.latches[number];
+        (words[lane / 64] >> (lane % 64)) & 1 == 1
+    }
+}
+
+/// The latches' resets, for each run.
+fn first_words(alloc: Global, circuit: &Circuit) -> Result<Vec<[u64; 4]>, AllocError>
+    ensures latches { IfOk result (λ words. (lane : ℕ) → lane < 256 → lane_of words.items lane ≡ resets circuit.now) }
+    ensures well_formed { IsCircuit circuit.now }
+{
+    let mut words = Vec::new(alloc);
+    for latch in circuit.latches() {
+        words.push([mask(latch.reset); 4])?;
+    }
+    Ok(words)
+}
+
+/// All bits, or none.
+fn mask(is_set: bool) -> u64
+    ensures { result ≡ all_or_none is_set }
+{
+    if is_set { u64::MAX } else { 0 }
+}
+
+/// Puts words into a table, from a place on.
+fn put_words(values: &mut [[u64; 4]], start: usize, words: &[[u64; 4]])
+    requires { start + length words.now ≤ length values.old }
+    ensures put { (k : ℕ) → k < length words.now → slice_index_or values.new (start + k) [] ≡ slice_index_or words.now k [] }
+    ensures others { (p : ℕ) → (p < start) ⊎ (start + length words.now ≤ p) → slice_index_or values.new p [] ≡ slice_index_or values.old p [] }
+{
+    for (place, word) in words.iter().enumerate() {
+        values[start + place] = *word;
+    }
+}
+
+/// The bits of a literal.
+fn bits(values: &[[u64; 4]], wire: Wire) -> u64x4
+    requires { wire.place < length values.now }
+    ensures { (lane : ℕ) → lane < 256 → bit_in result lane ≡ read (lane_of values.now lane) wire }
+{
+    u64x4::from_array(values[wire.place]) ^ u64x4::splat(mask(wire.is_negated))
+}
+
+/// Works out the gates, each once.
+fn work_words(rows: &[Row], values: &mut [[u64; 4]])
+    requires { All (IsWithin (length values.old)) rows.now }
+    ensures { (lane : ℕ) → lane < 256 → lane_of values.new lane ≡ work_out rows.now (lane_of values.old lane) }
+{
+    for row in rows {
+        let words = bits(values, row.first) & bits(values, row.second);
+        values[row.target] = words.to_array();
+    }
+}
+
+/// Fills the table for a step. The constant stands there already.
+fn fill_words(rows: &[Row], inputs: &[[u64; 4]], latches: &[[u64; 4]], values: &mut [[u64; 4]])
+    requires within { All (IsWithin (length values.old)) rows.now }
+    requires room { 1 + length inputs.now + length latches.now ≤ length values.old }
+    requires constant { (lane : ℕ) → lane < 256 → slice_index_or (lane_of values.old lane) 0 false ≡ false }
+    ensures { (lane : ℕ) → lane < 256 → IsWorkedOut rows.now (lane_of inputs.now lane) (lane_of latches.now lane) (length values.old) (lane_of values.new lane) }
+{
+    put_words(values, 1, inputs);
+    put_words(values, 1 + inputs.len(), latches);
+    work_words(rows, values);
+}
+
+/// Reads literals, each into its own words.
+fn read_words(wires: &[Wire], values: &[[u64; 4]], words: &mut [[u64; 4]])
+    requires within { All (λ w. w.place < length values.now) wires.now }
+    requires fit { length words.old ≡ length wires.now }
+    ensures { (lane : ℕ) → lane < 256 → lane_of words.new lane ≡ map (read (lane_of values.now lane)) wires.now }
+{
+    for (place, &wire) in wires.iter().enumerate() {
+        words[place] = bits(values, wire).to_array();
+    }
+}

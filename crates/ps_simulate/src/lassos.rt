@@ -1,0 +1,178 @@
+//! Lassos: a stem that is read once and a lap that is read again and again, until the latches repeat themselves.
+
+ghost use Rattle.std.specs.Prelude.{◌≡◌, ◌+◌, ◌*◌, ◌^◌, ◌<◌, ◌≤◌, List, ℕ, false, length, All, IfOk, IfErr, IsTrue, IsOk, OnOk};
+ghost use Rattle.ps_aiger.specs.Values.{resets};
+ghost use Rattle.ps_hoa.specs.Files.{FileData};
+ghost use Rattle.ps_automaton.specs.Automata.{IsBuiltFrom};
+ghost use Rattle.ps_automaton.specs.Chains.{Chain};
+ghost use Rattle.ps_simulate.specs.Stimuli.{letters_of};
+ghost use Rattle.ps_simulate.specs.Lassos.{IsVerdictOf};
+ghost use Rattle.ps_simulate.specs.LassoFaults.{IsSound, Stands};
+ghost use Rattle.ps_simulate.specs.LassoRuns.{IsSeen, ReadsWord, RepeatsBy};
+ghost use Rattle.ps_simulate.specs.Namings.{IsNaming, names_of};
+ghost use Rattle.ps_simulate.specs.declared.lassos.LassoFault.TheVariants.{OutOfMemory};
+
+use crate::naming::Naming;
+use crate::role::Role;
+use crate::simulator::Simulator;
+use indexmap::IndexSet;
+use ps_aiger::Circuit;
+use ps_automaton::Automaton;
+use std::alloc::{AllocError, Global};
+use thiserror::Error;
+
+/// Whether an automaton accepts, and how long the stem and the lap are that it was asked about.
+#[derive(Clone, Copy, Debug, PartialEq, Eq)]
+pub struct Verdict {
+    /// Whether the trace is accepted.
+    pub accepted: bool,
+    /// The letters before the first of two laps that begin with the same latches.
+    pub stem: usize,
+    /// The letters from there up to the second.
+    pub lap: usize,
+}
+
+/// Why a lasso has no verdict.
+#[derive(Clone, Copy, Debug, PartialEq, Eq, Error)]
+pub enum LassoFault {
+    /// A letter of another length than the number of inputs.
+    #[error("a letter does not have a bit for each input")]
+    Width,
+    /// A lap without letters.
+    #[error("the lap is empty")]
+    EmptyLap,
+    /// The symbols of the inputs and the outputs are not the names of the role, each once.
+    #[error("the symbols are not the names of the propositions")]
+    Symbols,
+    /// Memory ran out.
+    #[error("out of memory")]
+    OutOfMemory,
+}
+
+impl From<AllocError> for LassoFault {
+    ghost from_gives = { λ _ e. e ≡ OutOfMemory };
+
+    fn from(_error: AllocError) -> Self {
+        LassoFault::OutOfMemory
+    }
+}
+
+/// Runs a circuit through a stem and then through a lap again and again, up to the first two laps that begin with the same
+/// latches, and asks the automaton about the trace so far: whether it accepts the lasso that goes on from the first of them to
+/// the second, again and again. Letters have a bit for each input, in the circuit's order.
+///
+/// # Errors
+///
+/// In this order: `Width`, `EmptyLap`, `Symbols`. Fails also where a growth was refused.
+pub fn lasso(
+    alloc: Global,
+    circuit: &Circuit,
+    automaton: &Automaton,
+    role: Role,
+    stem: &[Vec<bool>],
+    lap: &[Vec<bool>],
+) -> Result<Verdict, LassoFault>
+    ensures verdict { IfOk result (λ verdict. (file : FileData) (chain : Chain) → IsBuiltFrom file chain automaton.now → IsVerdictOf file circuit.now (letters_of stem.now) (letters_of lap.now) verdict) }
+    ensures sound { IfOk result (λ _. IsSound role automaton.now circuit.now (letters_of stem.now) (letters_of lap.now)) }
+    ensures fault { IfErr result (Stands role automaton.now circuit.now (letters_of stem.now) (letters_of lap.now)) }
+{
+    let width = circuit.inputs().len();
+    if !are_wide(width, stem) || !are_wide(width, lap) {
+        return Err(LassoFault::Width);
+    }
+    if lap.is_empty() {
+        return Err(LassoFault::EmptyLap);
+    }
+    let Some(naming) = Naming::new(alloc, circuit, automaton, role)? else {
+        return Err(LassoFault::Symbols);
+    };
+    let repetition = first_repetition(alloc, circuit, &naming, stem, lap)?;
+    let letters = repetition.letters.as_slice();
+    let start = stem.len() + repetition.first * lap.len();
+    let (before, behind) = letters.split_at(start);
+    Ok(Verdict {
+        accepted: automaton.accepts(before, behind)?,
+        stem: start,
+        lap: behind.len(),
+    })
+}
+
+/// Whether each letter has so many bits.
+fn are_wide(width: usize, letters: &[Vec<bool>]) -> bool
+    ensures yes { IsTrue result → All (λ letter. length letter ≡ width) (letters_of letters.now) }
+    ensures not { result ≡ false → ¬ All (λ letter. length letter ≡ width) (letters_of letters.now) }
+{
+    for letter in letters {
+        if letter.len() != width {
+            return false;
+        }
+    }
+    true
+}
+
+/// The letters of a trace up to the first lap that begins with the latches of an earlier one, and the number of that one.
+#[derive(Drop)]
+struct Repetition {
+    letters: Vec<u64>,
+    first: usize,
+}
+
+/// Reads the stem, and laps until one begins with latches that an earlier one began with.
+fn first_repetition(
+    alloc: Global,
+    circuit: &Circuit,
+    naming: &Naming,
+    stem: &[Vec<bool>],
+    lap: &[Vec<bool>],
+) -> Result<Repetition, AllocError>
+    requires stem { All (λ letter. length letter ≡ length circuit.now.inputs) (letters_of stem.now) }
+    requires lap { All (λ letter. length letter ≡ length circuit.now.inputs) (letters_of lap.now) }
+    requires some { 0 < length lap.now }
+    requires naming { IsNaming circuit.now naming.now }
+    ensures { IfOk result (λ r. RepeatsBy (names_of naming.now) circuit.now (letters_of stem.now) (letters_of lap.now) r.first r.letters.items) }
+{
+    let mut simulator = Simulator::new(alloc, circuit)?;
+    let mut outputs = vec![in alloc; false; circuit.outputs().len()]?;
+    let mut letters = Vec::new(alloc);
+    let mut seen = IndexSet::new(alloc);
+    read_word(naming, &mut simulator, &mut outputs, &mut letters, stem)?;
+    'laps: loop {
+        if let Some(first) = see(alloc, &mut seen, simulator.latches())? {
+            return Ok(Repetition { letters, first });
+        }
+        read_word(naming, &mut simulator, &mut outputs, &mut letters, lap)?;
+    }
+}
+
+/// Puts latches behind those that were seen, unless they were seen before; then it answers their place.
+fn see(
+    alloc: Global,
+    seen: &mut IndexSet<Vec<bool>>,
+    latches: &[bool],
+) -> Result<Option<usize>, AllocError>
+    ensures { IfOk result (IsSeen (letters_of seen.old.keys) (letters_of seen.new.keys) latches.now) }
+{
+    let (place, is_new) = seen.insert_full(Vec::from_slice(alloc, latches)?)?;
+    Ok(if is_new { None } else { Some(place) })
+}
+
+/// Runs a circuit through letters, and puts the automaton's letters behind others.
+fn read_word(
+    naming: &Naming,
+    simulator: &mut Simulator,
+    outputs: &mut [bool],
+    letters: &mut Vec<u64>,
+    word: &[Vec<bool>],
+) -> Result<(), AllocError>
+    requires wide { All (λ letter. length letter ≡ length simulator.old.circuit.inputs) (letters_of word.now) }
+    requires outputs_fit { length outputs.old ≡ length simulator.old.circuit.outputs }
+    requires naming { IsNaming simulator.old.circuit naming.now }
+    ensures circuit { simulator.new.circuit ≡ simulator.old.circuit }
+    ensures reads { OnOk result (ReadsWord (names_of naming.now) simulator.old.circuit simulator.old.latches (letters_of word.now) letters.old.items letters.new.items simulator.new.latches) }
+{
+    for letter in word {
+        simulator.step(letter, outputs);
+        letters.push(naming.letter(letter, outputs))?;
+    }
+    Ok(())
+}

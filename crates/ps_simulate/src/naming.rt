@@ -1,0 +1,214 @@
+//! Which input and output of a circuit is which proposition of an automaton.
+
+ghost use Rattle.std.specs.Prelude.{◌≡◌, ◌≢◌, ◌^◌, ◌<◌, ◌≤◌, ◌||◌, ℕ, true, false, None, Some, IfOk, IfSome, IfNone, length, map, slice_index_or};
+ghost use Rattle.std.specs.Option.{option_copied};
+ghost use Rattle.ps_label.specs.Truth.{is_in};
+ghost use Rattle.ps_hoa.specs.Files.{is_among};
+ghost use Rattle.ps_hoa.specs.Memory.{bytes_of};
+ghost use Rattle.ps_hoa.specs.Sound.{AreNames};
+ghost use Rattle.ps_simulate.specs.Symbols.{AreNamesOnce, HasSymbols};
+ghost use Rattle.ps_simulate.specs.Namings.{ArePlacesOf, ArePut, IsNaming, IsPropositionOf, bit_at_place, names_of};
+
+use crate::role::Role;
+use ps_aiger::Circuit;
+use ps_automaton::Automaton;
+use std::alloc::{AllocError, Global};
+
+/// For each proposition the input or the output that has its name.
+#[derive(Drop)]
+pub(crate) struct Naming<'a> {
+    pub names: &'a [Vec<u8>],
+    pub inputs: Vec<Option<usize>>,
+    pub outputs: Vec<Option<usize>>,
+}
+
+impl<'a> Naming<'a> {
+    /// The naming of a circuit of that role, if its symbols are the role's.
+    pub fn new(
+        alloc: Global,
+        circuit: &Circuit,
+        automaton: &'a Automaton,
+        role: Role,
+    ) -> Result<Option<Self>, AllocError>
+        ensures some { IfOk result (λ naming. IfSome naming (IsNaming circuit.now)) }
+        ensures names { IfOk result (λ naming. IfSome naming (λ n. names_of n ≡ automaton.now.names)) }
+        ensures fits { IfOk result (λ naming. IfSome naming (λ _. HasSymbols role automaton.now.names automaton.now.controllable circuit.now)) }
+        ensures none { IfOk result (λ naming. IfNone naming (¬ HasSymbols role automaton.now.names automaton.now.controllable circuit.now)) }
+    {
+        let names = automaton.names();
+        let controllable = automaton.controllable();
+        let reads = role.reads_controllable();
+        let symbols = input_symbols(alloc, circuit)?;
+        let Some(inputs) = places_of(alloc, names, controllable, reads, &symbols)? else {
+            return Ok(None);
+        };
+        let sets = role.sets_controllable();
+        let symbols = output_symbols(alloc, circuit)?;
+        let Some(outputs) = places_of(alloc, names, controllable, sets, &symbols)? else {
+            return Ok(None);
+        };
+        Ok(Some(Naming {
+            names,
+            inputs,
+            outputs,
+        }))
+    }
+
+    /// The letter of a step.
+    pub fn letter(&self, inputs: &[bool], outputs: &[bool]) -> u64
+        requires few { length self.now.names.now ≤ 64 }
+        requires inputs_within { (p k : ℕ) → slice_index_or self.now.inputs.items p None ≡ Some k → k < length inputs.now }
+        requires outputs_within { (p k : ℕ) → slice_index_or self.now.outputs.items p None ≡ Some k → k < length outputs.now }
+        requires inputs_size { length self.now.inputs.items ≡ length self.now.names.now }
+        requires outputs_size { length self.now.outputs.items ≡ length self.now.names.now }
+        ensures few { result < 2 ^ length self.now.names.now }
+        ensures bits { (p : ℕ) → is_in p result ≡ (bit_at_place inputs.now (slice_index_or self.now.inputs.items p None) || bit_at_place outputs.now (slice_index_or self.now.outputs.items p None)) }
+    {
+        part_of(&self.inputs, inputs) | part_of(&self.outputs, outputs)
+    }
+}
+
+/// The names of the inputs.
+fn input_symbols(alloc: Global, circuit: &Circuit) -> Result<Vec<Option<&[u8]>>, AllocError>
+    ensures symbols { IfOk result (λ symbols. map option_copied symbols.items ≡ circuit.now.input_names) }
+    ensures each { length circuit.now.input_names ≡ length circuit.now.inputs }
+{
+    let mut symbols = Vec::new(alloc);
+    for k in 0..circuit.inputs().len() {
+        symbols.push(circuit.input_name(k))?;
+    }
+    Ok(symbols)
+}
+
+/// The names of the outputs.
+fn output_symbols(alloc: Global, circuit: &Circuit) -> Result<Vec<Option<&[u8]>>, AllocError>
+    ensures symbols { IfOk result (λ symbols. map option_copied symbols.items ≡ circuit.now.output_names) }
+    ensures each { length circuit.now.output_names ≡ length circuit.now.outputs }
+{
+    let mut symbols = Vec::new(alloc);
+    for k in 0..circuit.outputs().len() {
+        symbols.push(circuit.output_name(k))?;
+    }
+    Ok(symbols)
+}
+
+/// Whether a proposition is controllable.
+fn is_controllable(controllable: &[u32], proposition: usize) -> bool
+    ensures { result ≡ is_among proposition controllable.now }
+{
+    for other in controllable {
+        if proposition == *other as usize {
+            return true;
+        }
+    }
+    false
+}
+
+/// The proposition that a symbol names, if it is one of those that are controllable (or of those that are not).
+fn proposition_of(
+    names: &[Vec<u8>],
+    controllable: &[u32],
+    wanted: bool,
+    symbol: &[u8],
+) -> Option<usize>
+    ensures { IsPropositionOf (map bytes_of names.now) controllable.now wanted symbol.now result }
+{
+    for (p, name) in names.iter().enumerate() {
+        if name.as_slice() == symbol && is_controllable(controllable, p) == wanted {
+            return Some(p);
+        }
+    }
+    None
+}
+
+/// For each proposition the place of the symbol that names it, if the symbols are the names of the propositions that are
+/// controllable (or of those that are not), each once.
+fn places_of(
+    alloc: Global,
+    names: &[Vec<u8>],
+    controllable: &[u32],
+    wanted: bool,
+    symbols: &[Option<&[u8]>],
+) -> Result<Option<Vec<Option<usize>>>, AllocError>
+    requires { AreNames (map bytes_of names.now) }
+    ensures places { IfOk result (λ places. IfSome places (λ table. ArePlacesOf (map bytes_of names.now) controllable.now wanted (map option_copied symbols.now) table.items)) }
+    ensures names { IfOk result (λ places. IfSome places (λ _. AreNamesOnce (map bytes_of names.now) controllable.now wanted (map option_copied symbols.now))) }
+    ensures none { IfOk result (λ places. IfNone places (¬ AreNamesOnce (map bytes_of names.now) controllable.now wanted (map option_copied symbols.now))) }
+{
+    match put_places(alloc, names, controllable, wanted, symbols)? {
+        Some(places) if is_full(controllable, wanted, &places) => Ok(Some(places)),
+        _ => Ok(None),
+    }
+}
+
+/// Puts each symbol's place at the proposition that it names, if each names one that no other does.
+fn put_places(
+    alloc: Global,
+    names: &[Vec<u8>],
+    controllable: &[u32],
+    wanted: bool,
+    symbols: &[Option<&[u8]>],
+) -> Result<Option<Vec<Option<usize>>>, AllocError>
+    ensures put { IfOk result (λ places. IfSome places (λ table. ArePut (map bytes_of names.now) controllable.now wanted (map option_copied symbols.now) (length symbols.now) table.items)) }
+    ensures none { IfOk result (λ places. IfNone places (¬ AreNamesOnce (map bytes_of names.now) controllable.now wanted (map option_copied symbols.now))) }
+{
+    let mut places = vec![in alloc; None; names.len()]?;
+    for (k, symbol) in symbols.iter().enumerate() {
+        let Some(name) = symbol else {
+            return Ok(None);
+        };
+        match proposition_of(names, controllable, wanted, name) {
+            Some(p) if places[p].is_none() => places[p] = Some(k),
+            _ => return Ok(None),
+        }
+    }
+    Ok(Some(places))
+}
+
+/// Whether each proposition that is controllable (or each that is not) has a place.
+fn is_full(controllable: &[u32], wanted: bool, places: &[Option<usize>]) -> bool
+    ensures full { result ≡ true → (p : ℕ) → p < length places.now → is_among p controllable.now ≡ wanted → slice_index_or places.now p None ≢ None }
+    ensures missing { result ≡ false → (p : ℕ) × (p < length places.now) × (is_among p controllable.now ≡ wanted) × (slice_index_or places.now p None ≡ None) }
+{
+    for (p, place) in places.iter().enumerate() {
+        if place.is_none() && is_controllable(controllable, p) == wanted {
+            return false;
+        }
+    }
+    true
+}
+
+/// The letter in which each proposition's bit is the one at its place; without a place it is 0.
+fn part_of(places: &[Option<usize>], bits: &[bool]) -> u64
+    requires few { length places.now ≤ 64 }
+    requires within { (p k : ℕ) → slice_index_or places.now p None ≡ Some k → k < length bits.now }
+    ensures few { result < 2 ^ length places.now }
+    ensures bits { (p : ℕ) → is_in p result ≡ bit_at_place bits.now (slice_index_or places.now p None) }
+{
+    let mut letter = 0;
+    for (p, place) in places.iter().enumerate() {
+        letter = with_bit(letter, p, bit_at(bits, *place));
+    }
+    letter
+}
+
+/// The bit at a place; without a place it is 0.
+fn bit_at(bits: &[bool], place: Option<usize>) -> bool
+    requires { IfSome place (λ k. k < length bits.now) }
+    ensures { result ≡ bit_at_place bits.now place }
+{
+    match place {
+        Some(k) => bits[k],
+        None => false,
+    }
+}
+
+/// A letter with one more bit.
+fn with_bit(letter: u64, p: usize, bit: bool) -> u64
+    requires { p < 64 }
+    ensures at { is_in p letter ≡ false → is_in p result ≡ bit }
+    ensures others { (q : ℕ) → q ≢ p → is_in q result ≡ is_in q letter }
+    ensures few { (count : ℕ) → p < count → letter < 2 ^ count → result < 2 ^ count }
+{
+    if bit { letter | 1 << p } else { letter }
+}

@@ -1,0 +1,35 @@
+//! What part a circuit plays.
+
+/// Whether a circuit is a controller or an environment.
+#[derive(Clone, Copy, Debug, PartialEq, Eq)]
+pub enum Role {
+    /// Its inputs are the propositions that are not controllable, its outputs the controllable ones.
+    Controller,
+    /// The reverse.
+    Environment,
+}
+
+impl Role {
+    ghost use Rattle.std.specs.Prelude.{◌≡◌};
+    ghost use Rattle.ps_simulate.specs.Symbols as symbols;
+
+    /// Whether the inputs are the controllable propositions.
+    pub(crate) fn reads_controllable(self) -> bool
+        ensures { result ≡ symbols.reads_controllable self }
+    {
+        match self {
+            Role::Controller => false,
+            Role::Environment => true,
+        }
+    }
+
+    /// Whether the outputs are the controllable propositions.
+    pub(crate) fn sets_controllable(self) -> bool
+        ensures { result ≡ symbols.sets_controllable self }
+    {
+        match self {
+            Role::Controller => true,
+            Role::Environment => false,
+        }
+    }
+}
