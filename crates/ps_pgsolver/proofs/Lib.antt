@@ -12,3 +12,7 @@ pub mod Wholes
 pub mod Sound
 pub mod Answering
 pub mod OneReading
+pub mod WriterLemmas
+pub mod WrittenSigns
+pub mod WrittenParts
+pub mod WrittenGames

@@ -10,3 +10,4 @@ pub mod GameTexts
 pub mod Answered
 pub mod GamesOf
 pub mod Reading
+pub mod Written

@@ -10,7 +10,9 @@ mod reader;
 #[cfg(test)]
 mod tests;
 mod token;
+mod writer;
 
 pub use fault::{PgCause, PgFault};
 pub use laws::{one_answer, one_list_of_tokens};
 pub use reader::read;
+pub use writer::write;

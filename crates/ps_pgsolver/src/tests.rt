@@ -1,6 +1,6 @@
-//! What no clause says: that texts are read where there is memory, and how a fault prints.
+//! What no clause says: that texts are read and written where there is memory, and how a fault prints.
 
-use crate::{PgCause, PgFault, read};
+use crate::{PgCause, PgFault, read, write};
 use ps_game::Arena;
 use std::test::Fail;
 
@@ -34,4 +34,23 @@ fn a_fault_is_told(rt: HostRuntime) -> Result<(), Fail> {
             Ok(())
         }
     }
+}
+
+const GAME: &[u8] =
+    b"parity 4;\n0 0 1 1,2 \"0/0\";\n1 0 0 0,3 \"0:0\";\n2 0 0 3,0 \"0:1\";\n3 1 1 4 \"sink/1\";\n4 0 0 3 \"sink:0\";\n";
+
+#[test]
+fn a_game_is_written_as_it_was_read(rt: HostRuntime) -> Result<(), Fail> {
+    for text in [
+        GAME,
+        b"parity 9;\n9 3 1 4,9;\n4 18446744073709551615 0 9 \"\";\n",
+    ] {
+        let game = read(rt.alloc(), text)?;
+        if game.game().count() == 0 {
+            return Err(Fail::new("no vertex"));
+        }
+        let written = write(rt.alloc(), &game)?;
+        assert_eq!(rt; written.as_slice(), text);
+    }
+    Ok(())
 }
