@@ -1,0 +1,6 @@
+mod BuildingEntries
+mod Certified
+mod Exploring
+mod KeyTests
+mod Standing
+mod Visiting

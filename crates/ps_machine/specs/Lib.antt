@@ -1,1 +1,5 @@
+pub mod Building
+pub mod Keys
+pub mod Numbering
 pub mod Solving
+pub mod Visits

@@ -3,12 +3,18 @@
 //! `Solver` says what any solver owes, and what it means that one is sure. `Replay` gives the certificate whose text it was fed.
 #![tactic(auto)]
 
+mod built_in;
 mod fault;
+mod key;
+mod numbering;
 mod replay;
 mod solver;
 #[cfg(test)]
 mod tests;
 
+pub use built_in::BuiltIn;
 pub use fault::SolveFault;
+pub use key::{Key, Order};
+pub use numbering::{KeyedGame, Successors, game_by_keys};
 pub use replay::Replay;
 pub use solver::Solver;

@@ -1,7 +1,10 @@
-use crate::{Replay, SolveFault, Solver};
+ghost use Rattle.std.specs.Prelude.{◌≡◌};
+ghost use Rattle.ps_machine.specs.declared.key.Key.TheVariants.{First};
+
+use crate::{BuiltIn, Key, Order, Replay, SolveFault, Solver, Successors, game_by_keys};
 use ps_certificate::CertCause;
 use ps_game::{Arena, GameBuilder, NamedGame};
-use std::alloc::Global;
+use std::alloc::{AllocError, Global};
 use std::test::Fail;
 
 const TEXT: &[u8] = b"psyncert 1\nvertices 2\nodd 1\neven 0\n7 1 9 0\n9 1 - 12\n";
@@ -46,5 +49,56 @@ fn the_empty_text_is_fed_before_any(rt: HostRuntime) -> Result<(), Fail> {
         })
     );
     assert!(rt; refused);
+    Ok(())
+}
+
+#[test]
+fn the_built_in_solver_gives_a_valid_certificate(rt: HostRuntime) -> Result<(), Fail> {
+    let game = game(rt.alloc())?;
+    let mut solver = BuiltIn::new(rt.alloc());
+    let Ok(certificate) = solver.solve(&game) else {
+        return Err(Fail::new("a certificate"));
+    };
+    assert!(rt; certificate.entries.iter().all(|entry| entry.winner == 1));
+    Ok(())
+}
+
+/// Leads from a state to its second mover, and from there to the states 1 and 0.
+#[derive(Drop)]
+struct Pair {
+    alloc: Global,
+}
+
+impl Successors for Pair {
+    ghost known = { λ _ _. Unit {0} };
+
+    ghost leads = { λ _ _ _. Unit {0} };
+
+    fn successors(&mut self, key: Key) -> Result<Vec<Key>, AllocError> {
+        let mut next = Vec::new(self.alloc);
+        match key {
+            Key::First { state, .. } => next.push(Key::Second { state, letter: 0 })?,
+            Key::Second { .. } => {
+                next.push(first(1))?;
+                next.push(first(0))?;
+            }
+        }
+        Ok(next)
+    }
+}
+
+/// A state that was entered by an edge of priority 0.
+fn first(state: u32) -> Key
+    ensures { result ≡ First state 0 }
+{
+    Key::First { state, priority: 0 }
+}
+
+#[test]
+fn keys_are_numbered_breadth_first(rt: HostRuntime) -> Result<(), Fail> {
+    let mut source = Pair { alloc: rt.alloc() };
+    let numbered = game_by_keys(rt.alloc(), &mut source, Order::Moore, first(0))?;
+    assert_eq!(rt; numbered.game.count(), 4);
+    assert!(rt; numbered.keys.get(2).copied() == Some(first(1)));
     Ok(())
 }

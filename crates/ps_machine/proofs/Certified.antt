@@ -1,0 +1,241 @@
+-- Two regions that are held and part the game, with the counts of both, make a valid certificate.
+use Rattle.std.proofs.Common.{◌≡◌, ◌≢◌, ◌⊎◌, inl, inr, ℕ, zero, suc, ◌+◌, ◌<◌, List, [], ◌∷◌, length, get_or, Option, Some, None, IfSome, IsSomeAnd, Bool, true, false, IsTrue, Vec, refl, ap, sym, subst, ◌∙◌, rules, arith, ◌==◌, ◌&&◌, not, replicate}
+use Rattle.std.specs.Global.{Global}
+use Rattle.std.specs.List.{slice_get}
+use Rattle.std.proofs.lemmas.List.{get_or-replicate}
+use Rattle.std.proofs.lemmas.Bool.Decides.{nat_tests}
+use Rattle.ps_game.specs.Games.{ParityGame, IsGame, HasEdge, owner_of, priority_of, vertex_count}
+use Rattle.ps_game.specs.Plays.{Holds, IsPath, Follows}
+use Rattle.ps_game.specs.Ranking.{RemainsFor, KeepsRule}
+use Rattle.ps_game.specs.Regions.{has}
+use Rattle.ps_certificate.specs.Certificates.{CertificateData, EntryData, no_entry, winner_of, choice_of, counts_of, opposing, opposing_at, Fits, Remains, HasRightMove, KeepsCount, IsValid}
+use Rattle.ps_measure.specs.Ranks.{AreRanks, count_of, count_in, width_in}
+use Rattle.ps_machine.specs.Building.{IsEntryAmong, AreEntries}
+use Rattle.ps_zielonka.specs.Answers.{others}
+
+-- what a certificate says of a vertex that a player wins: it is in the player's set, and has the table's move and its row
+record IsSide (game : ParityGame) (player : ℕ) (set : ℕ → Bool) (table : ℕ → Option ℕ) (priorities : List ℕ) (rows : List (Vec ℕ Global)) (c : CertificateData) (v : ℕ) : Type 0 where
+  inside : IsTrue (set v)
+  winner : winner_of c v ≡ player
+  own : owner_of game v ≡ player → choice_of c v ≡ table v
+  other : owner_of game v ≢ player → choice_of c v ≡ None
+  long : length (counts_of c v) ≡ length priorities
+  count : (k : ℕ) → get_or (counts_of c v) k 0 ≡ count_of rows v k
+
+row_count : (o : Option (Vec ℕ Global)) (row : List ℕ) → IsSomeAnd o (λ r. r.items ≡ row) → (r : Vec ℕ Global) × (o ≡ Some r) × (r.items ≡ row)
+row_count None row is = absurd is
+row_count (Some r) row is = (r, refl, is)
+
+-- an entry among the rows of counts makes a side
+side : (game : ParityGame) (player : ℕ) (set : ℕ → Bool) (table : ℕ → Option ℕ) (priorities : List ℕ) (rows : List (Vec ℕ Global)) (c : CertificateData) (v : ℕ) → v < vertex_count game → IsTrue (set v) →
+    AreRanks game player set table priorities rows → IsEntryAmong game player table rows v (get_or c.entries v no_entry) → IsSide game player set table priorities rows c v
+unfolding winner_of choice_of counts_of
+side game player set table priorities rows c v within inside ranks among =
+    let row = row_count (slice_get rows v) among.row among.has_row in
+    let e = among.is_entry in
+    record {
+      inside = inside;
+      winner = e.winner;
+      own = e.own;
+      other = e.other;
+      long = ap (λ l. length l) (e.counts ∙ sym row.2) ∙ sym (ap width_in row.1) ∙ ranks.shape.wide v within;
+      count = λ k. ap (λ l. get_or l k 0) (e.counts ∙ sym row.2) ∙ sym (ap (λ o. count_in o k) row.1);
+    }
+
+-- a play of two vertices
+two_path : (game : ParityGame) (v w : ℕ) → IsGame game → HasEdge game v w → IsPath game (v ∷ w ∷ [])
+two_path game v w is_game edge = record {
+  begins = omega arith;
+  vertices = places;
+  edges = steps;
+}
+  where
+    places : (k : ℕ) → k < 2 → get_or (v ∷ w ∷ []) k 0 < vertex_count game
+    places zero within = edge.0
+    places (suc zero) within = is_game.within v w edge
+    places (suc (suc k)) within = absurd (omega (arith, within))
+
+    steps : (k : ℕ) → k + 1 < 2 → HasEdge game (get_or (v ∷ w ∷ []) k 0) (get_or (v ∷ w ∷ []) (k + 1) 0)
+    steps zero within = edge
+    steps (suc k) within = absurd (omega (arith, within))
+
+two_follows : (game : ParityGame) (player : ℕ) (table : ℕ → Option ℕ) (v w : ℕ) → (owner_of game v ≡ player → table v ≡ Some w) → Follows game player table (v ∷ w ∷ [])
+two_follows game player table v w chosen zero within owns = chosen owns
+two_follows game player table v w chosen (suc k) within owns = absurd (omega (arith, within))
+
+same_or_not : (x y : ℕ) → (x ≡ y) ⊎ (x ≢ y)
+same_or_not x y = by (x == y) refl
+  where
+    by : (b : Bool) → (x == y) ≡ b → (x ≡ y) ⊎ (x ≢ y)
+    by true e = inl (grind (arith, nat_tests))
+    by false e = inr (λ same. grind (arith, nat_tests))
+
+some_within : (game : ParityGame) (v : ℕ) → IsGame game → (o : Option ℕ) → IsSomeAnd o (HasEdge game v) → IfSome o (λ w. w < vertex_count game)
+some_within game v is_game None is = tt
+some_within game v is_game (Some w) is = is_game.within v w is
+
+module _ (game : ParityGame) (is_game : IsGame game) (player : ℕ) (set : ℕ → Bool) (table : ℕ → Option ℕ) (priorities : List ℕ) (rows : List (Vec ℕ Global)) (c : CertificateData)
+    (holds : Holds game player set table) (ranks : AreRanks game player set table priorities rows) where
+  -- the edges of the certificate are those of the table
+  remains_for : (v w : ℕ) → IsSide game player set table priorities rows c v → Remains game c v w → RemainsFor game player table v w
+  remains_for v w s r = record {
+    edge = r.edge;
+    chosen = λ owns. sym (s.own owns) ∙ r.chosen (owns ∙ sym s.winner);
+  }
+
+  side_stays : (v w : ℕ) → IsSide game player set table priorities rows c v → Remains game c v w → IsTrue (set w)
+  side_stays v w s r = holds.keeps.stays (v ∷ w ∷ []) (two_path game v w is_game r.edge) s.inside (two_follows game player table v w (remains_for v w s r).chosen) 1 (omega arith)
+
+  side_move : (v : ℕ) → v < vertex_count game → IsSide game player set table priorities rows c v → HasRightMove game c v
+  side_move v within s = record {
+    own = λ owns. subst (λ o. IsSomeAnd o (HasEdge game v)) (sym (s.own (owns ∙ s.winner))) (holds.keeps.moves v within s.inside (owns ∙ s.winner));
+    other = λ not_own. s.other (λ owns. not_own (owns ∙ sym s.winner));
+  }
+
+  side_choice : (v : ℕ) → v < vertex_count game → IsSide game player set table priorities rows c v → IfSome (choice_of c v) (λ w. w < vertex_count game)
+  side_choice v within s = by (same_or_not (owner_of game v) player)
+    where
+      by : (owner_of game v ≡ player) ⊎ (owner_of game v ≢ player) → IfSome (choice_of c v) (λ w. w < vertex_count game)
+      by (inl owns) = subst (λ o. IfSome o (λ w. w < vertex_count game)) (sym (s.own owns)) (some_within game v is_game (table v) (holds.keeps.moves v within s.inside owns))
+      by (inr not_own) = subst (λ o. IfSome o (λ w. w < vertex_count game)) (sym (s.other not_own)) tt
+
+  side_counts : (v w k : ℕ) → IsSide game player set table priorities rows c v → IsSide game player set table priorities rows c w → opposing c player ≡ priorities → Remains game c v w → k < length priorities → KeepsCount game c v w k
+  side_counts v w k s t listed r within =
+      let keep = (ranks.columns k within).keep v w (record { from = s.inside; to = t.inside; remains = remains_for v w s r }) in
+      let K : ℕ → ℕ → ℕ → Type 0 = λ p x y. KeepsRule p (priority_of game v) (priority_of game w) x y in
+      let at : get_or priorities k 0 ≡ opposing_at c v k = ap (λ l. get_or l k 0) (sym listed ∙ ap (λ q. opposing c q) (sym s.winner)) in
+      subst (λ p. K p (get_or (counts_of c v) k 0) (get_or (counts_of c w) k 0)) at
+      (subst (λ x. K (get_or priorities k 0) x (get_or (counts_of c w) k 0)) (sym (s.count k))
+      (subst (λ y. K (get_or priorities k 0) (count_of rows v k) y) (sym (t.count k)) keep))
+
+-- the two regions, and all that is known of them
+pub record AreBoth (game : ParityGame) (region : List Bool) (lost : ℕ → Bool) (first second : ℕ → Option ℕ) (odd even : List ℕ) (odd_rows even_rows : List (Vec ℕ Global)) (entries : List EntryData) : Type 0 where
+  pub is_game : IsGame game
+  pub holds_first : Holds game 0 (has region) first
+  pub holds_second : Holds game 1 lost second
+  pub rest : (v : ℕ) → v < vertex_count game → (has region v ≡ false → lost v ≡ true) × (lost v ≡ true → has region v ≡ false)
+  pub odd_ranks : AreRanks game 0 (has region) first odd odd_rows
+  pub even_ranks : AreRanks game 1 lost second even even_rows
+  pub are_entries : AreEntries game region first second odd_rows even_rows (vertex_count game) entries
+
+module _ (game : ParityGame) (region : List Bool) (lost : ℕ → Bool) (first second : ℕ → Option ℕ) (odd even : List ℕ) (odd_rows even_rows : List (Vec ℕ Global)) (entries : List EntryData)
+    (b : AreBoth game region lost first second odd even odd_rows even_rows entries) where
+  made : CertificateData
+  made = record { odd = odd; even = even; entries = entries }
+
+  One : ℕ → Type 0
+  One v = IsSide game 0 (has region) first odd odd_rows made v
+
+  Two : ℕ → Type 0
+  Two v = IsSide game 1 lost second even even_rows made v
+
+  sides : (v : ℕ) → v < vertex_count game → One v ⊎ Two v
+  unfolding One Two made
+  sides v within = by (has region v) refl
+    where
+      by : (x : Bool) → has region v ≡ x → One v ⊎ Two v
+      by true e = inl (side game 0 (has region) first odd odd_rows made v within e b.odd_ranks (b.are_entries.won v within e))
+      by false e = inr (side game 1 lost second even even_rows made v within ((b.rest v within).0 e) b.even_ranks (b.are_entries.lost v within e))
+
+  -- a vertex of a player's set is on the player's side
+  one_side : (v : ℕ) → v < vertex_count game → has region v ≡ true → One v
+  unfolding One made
+  one_side v within e = side game 0 (has region) first odd odd_rows made v within e b.odd_ranks (b.are_entries.won v within e)
+
+  two_side : (v : ℕ) → v < vertex_count game → lost v ≡ true → Two v
+  unfolding Two made
+  two_side v within e = side game 1 lost second even even_rows made v within e b.even_ranks (b.are_entries.lost v within ((b.rest v within).1 e))
+
+  opposing_first : opposing made 0 ≡ odd
+  unfolding opposing made
+  opposing_first = refl
+
+  opposing_second : opposing made 1 ≡ even
+  unfolding opposing made
+  opposing_second = refl
+
+  apart : (w p q : ℕ) → winner_of made w ≡ p → winner_of made w ≡ q → p ≢ q → ⊥
+  apart w p q e f differ = differ (sym e ∙ f)
+
+  fits : Fits game made
+  unfolding One Two made
+  fits = record {
+    entry_each = b.are_entries.each;
+    winners = λ v within. winner_below v (sides v within);
+    choices = λ v within. choice v within (sides v within);
+    odd_listed = b.odd_ranks.listed;
+    even_listed = b.even_ranks.listed;
+    count_each = λ v within. counts v (sides v within);
+  }
+    where
+      winner_below : (v : ℕ) → One v ⊎ Two v → winner_of made v < 2
+      winner_below v (inl s) = omega (arith, s.winner)
+      winner_below v (inr s) = omega (arith, s.winner)
+
+      choice : (v : ℕ) → v < vertex_count game → One v ⊎ Two v → IfSome (choice_of made v) (λ w. w < vertex_count game)
+      choice v within (inl s) = side_choice game b.is_game 0 (has region) first odd odd_rows made b.holds_first b.odd_ranks v within s
+      choice v within (inr s) = side_choice game b.is_game 1 lost second even even_rows made b.holds_second b.even_ranks v within s
+
+      counts : (v : ℕ) → One v ⊎ Two v → length (counts_of made v) ≡ length (opposing made (winner_of made v))
+      counts v (inl s) = s.long ∙ ap (λ l. length l) (sym opposing_first ∙ ap (λ p. opposing made p) (sym s.winner))
+      counts v (inr s) = s.long ∙ ap (λ l. length l) (sym opposing_second ∙ ap (λ p. opposing made p) (sym s.winner))
+
+  valid : IsValid game made
+  unfolding One Two
+  valid = record {
+    closed = record {
+      moves = λ v within. move v within (sides v within);
+      stays = λ v w r. stays v w r (sides v r.edge.0);
+    };
+    counts = λ v w k r same within. keeps v w k r same within (sides v r.edge.0) (sides w (b.is_game.within v w r.edge));
+  }
+    where
+      move : (v : ℕ) → v < vertex_count game → One v ⊎ Two v → HasRightMove game made v
+      move v within (inl s) = side_move game b.is_game 0 (has region) first odd odd_rows made b.holds_first b.odd_ranks v within s
+      move v within (inr s) = side_move game b.is_game 1 lost second even even_rows made b.holds_second b.even_ranks v within s
+
+      stays : (v w : ℕ) → Remains game made v w → One v ⊎ Two v → winner_of made w ≡ winner_of made v
+      stays v w r (inl s) =
+          let t = one_side w (b.is_game.within v w r.edge) (side_stays game b.is_game 0 (has region) first odd odd_rows made b.holds_first b.odd_ranks v w s r) in
+          t.winner ∙ sym s.winner
+      stays v w r (inr s) =
+          let t = two_side w (b.is_game.within v w r.edge) (side_stays game b.is_game 1 lost second even even_rows made b.holds_second b.even_ranks v w s r) in
+          t.winner ∙ sym s.winner
+
+      keeps : (v w k : ℕ) → Remains game made v w → winner_of made w ≡ winner_of made v → k < length (opposing made (winner_of made v)) → One v ⊎ Two v → One w ⊎ Two w → KeepsCount game made v w k
+      keeps v w k r same within (inl s) (inl t) =
+          side_counts game b.is_game 0 (has region) first odd odd_rows made b.holds_first b.odd_ranks v w k s t opposing_first r
+          (subst (λ l. k < length l) (ap (λ p. opposing made p) s.winner ∙ opposing_first) within)
+      keeps v w k r same within (inr s) (inr t) =
+          side_counts game b.is_game 1 lost second even even_rows made b.holds_second b.even_ranks v w k s t opposing_second r
+          (subst (λ l. k < length l) (ap (λ p. opposing made p) s.winner ∙ opposing_second) within)
+      keeps v w k r same within (inl s) (inr t) = absurd (omega (arith, same, s.winner, t.winner))
+      keeps v w k r same within (inr s) (inl t) = absurd (omega (arith, same, s.winner, t.winner))
+
+  pub certified : Fits game (record { odd = odd; even = even; entries = entries }) × IsValid game (record { odd = odd; even = even; entries = entries })
+  unfolding made
+  certified = (fits, valid)
+
+-- a player who holds a set of vertices holds each set with the same vertices of the game
+holds_same : (game : ParityGame) (player : ℕ) (set other : ℕ → Bool) (table : ℕ → Option ℕ) → ((v : ℕ) → v < vertex_count game → set v ≡ other v) → Holds game player set table → Holds game player other table
+holds_same game player set other table same h = record {
+  keeps = record {
+    moves = λ v within inside owns. h.keeps.moves v within (same v within ∙ inside) owns;
+    stays = λ path is begins follows k within. sym (same (get_or path k 0) (is.vertices k within)) ∙ h.keeps.stays path is (same (get_or path 0 0) (is.vertices 0 is.begins) ∙ begins) follows k within;
+  };
+  wins = λ path i j is begins follows loop. h.wins path i j is (same (get_or path 0 0) (is.vertices 0 is.begins) ∙ begins) follows loop;
+}
+
+pub lost_held : (game : ParityGame) (region full lost : List Bool) (table : ℕ → Option ℕ) → full ≡ replicate (vertex_count game) true → ((v : ℕ) → has lost v ≡ (has full v && not (has region v))) → Holds game 1 (others region) table → Holds game 1 (has lost) table
+lost_held game region full lost table whole is h = holds_same game 1 (others region) (has lost) table (λ v within. sym (is v ∙ ap (λ x. x && not (has region v)) (ap (λ l. has l v) whole ∙ get_or-replicate (vertex_count game) v true false within))) h
+
+pub lost_rest : (game : ParityGame) (region full lost : List Bool) → full ≡ replicate (vertex_count game) true → ((v : ℕ) → has lost v ≡ (has full v && not (has region v))) → (v : ℕ) → v < vertex_count game →
+    (has region v ≡ false → has lost v ≡ true) × (has lost v ≡ true → has region v ≡ false)
+lost_rest game region full lost whole is v within = (λ e. now ∙ ap not e, λ e. back (has region v) (sym now ∙ e))
+  where
+    now : has lost v ≡ not (has region v)
+    now = is v ∙ ap (λ x. x && not (has region v)) (ap (λ l. has l v) whole ∙ get_or-replicate (vertex_count game) v true false within)
+
+    back : (x : Bool) → not x ≡ true → x ≡ false
+    back true e = search rules
+    back false e = refl

@@ -1,0 +1,180 @@
+//! The solver that psyn has of its own.
+
+ghost use Rattle.std.specs.Prelude.{◌≡◌, ◌≢◌, ◌<◌, ℕ, true, None, Vec, IfOk, IfErr, OnOk, length, slice_get, Some};
+ghost use Rattle.std.specs.Global.{Global};
+ghost use Rattle.ps_game.specs.Games.{vertex_count, owner_of};
+ghost use Rattle.ps_game.specs.Plays.{Holds};
+ghost use Rattle.ps_game.specs.Regions.{has, move_at};
+ghost use Rattle.ps_measure.specs.Ranks.{AreRanks};
+ghost use Rattle.ps_machine.specs.Building.{AreEntries, HasRow, IsEntryFor};
+ghost use Rattle.ps_zielonka.specs.Answers.{others};
+ghost use Rattle.ps_machine.specs.Solving.{IsCertified};
+ghost use Rattle.ps_machine.specs.declared.fault.SolveFault.TheVariants as faults;
+
+use crate::fault::SolveFault;
+use crate::solver::Solver;
+use ps_certificate::{Certificate, Entry};
+use ps_game::{Arena, Counts, Game, NamedGame, Region, Strategy};
+use ps_measure::{MeasureFault, Ranks, ranks};
+use ps_zielonka::regions;
+use std::alloc::{AllocError, Global};
+
+/// Finds the regions of both players, with their moves, and then the counts that show it. It is sure, and ignores what it is fed.
+#[derive(Drop)]
+pub struct BuiltIn {
+    alloc: Global,
+}
+
+impl BuiltIn {
+    /// A solver that is sure.
+    pub fn new(alloc: Global) -> Self
+        ensures sure { ⟦<BuiltIn as Solver>⟧.is_sure result ≡ true }
+        ensures fed { ⟦<BuiltIn as Solver>⟧.fed result ≡ None }
+    {
+        BuiltIn { alloc }
+    }
+}
+
+impl Solver for BuiltIn {
+    ghost use Rattle.std.specs.Prelude.{true, None};
+    ghost use Rattle.ps_machine.specs.Solving.{AnswersSurely};
+
+    ghost is_sure = { λ _. true };
+
+    ghost fed = { λ _. None };
+
+    ghost may_answer = { λ _ _ game answer. AnswersSurely game answer };
+
+    fn feed(&mut self, _text: &[u8]) -> Result<(), AllocError> {
+        Ok(())
+    }
+
+    fn solve(&mut self, game: &NamedGame) -> Result<Certificate, SolveFault> {
+        let mut counts = Counts::default();
+        let (won, first, second) = regions(self.alloc, game.game(), &mut counts)?;
+        certificate_from(self.alloc, game, &won, &first, &second)
+    }
+}
+
+/// The certificate of a game of which player 0 holds a region by the first table, and player 1 all other vertices by the
+/// second.
+fn certificate_from(
+    alloc: Global,
+    game: &NamedGame,
+    won: &Region,
+    first: &Strategy,
+    second: &Strategy,
+) -> Result<Certificate, SolveFault>
+    requires region { length won.now ≡ vertex_count game.now.game }
+    requires first { length first.now ≡ vertex_count game.now.game }
+    requires second { length second.now ≡ vertex_count game.now.game }
+    requires holds_first { Holds game.now.game 0 (has won.now) (move_at first.now) }
+    requires holds_second { Holds game.now.game 1 (others won.now) (move_at second.now) }
+    ensures certified { IfOk result (IsCertified game.now) }
+    ensures memory { IfErr result (λ fault. fault ≡ faults.OutOfMemory) }
+{
+    let arena = game.game();
+    let mut lost = Region::full(alloc, won.places())?;
+    lost.difference_with(won);
+    let odd = counts_of(alloc, arena, 0, won, first)?;
+    let even = counts_of(alloc, arena, 1, &lost, second)?;
+    let entries = entries_of(alloc, arena, won, first, second, odd.counts, even.counts)?;
+    Ok(Certificate {
+        odd: odd.priorities,
+        even: even.priorities,
+        entries,
+    })
+}
+
+/// The counts of a region that its player holds.
+fn counts_of(
+    alloc: Global,
+    arena: &Game,
+    player: u8,
+    region: &Region,
+    strategy: &Strategy,
+) -> Result<Ranks, SolveFault>
+    requires player { player < 2 }
+    requires region { length region.now ≡ vertex_count arena.now }
+    requires strategy { length strategy.now ≡ vertex_count arena.now }
+    requires holds { Holds arena.now player (has region.now) (move_at strategy.now) }
+    ensures ranks { IfOk result (λ r. AreRanks arena.now player (has region.now) (move_at strategy.now) r.priorities.items r.counts.items) }
+    ensures memory { IfErr result (λ fault. fault ≡ faults.OutOfMemory) }
+{
+    let mut counts = Counts::default();
+    match ranks(alloc, arena, player, region, strategy, &mut counts) {
+        Ok(ranks) => Ok(ranks),
+        Err(MeasureFault::OutOfMemory) => Err(SolveFault::OutOfMemory),
+        Err(MeasureFault::BadCycle { cycle: _ }) => unreachable!(),
+    }
+}
+
+/// The entry of each vertex: its winner, the winner's move, and the winner's row of counts, which is moved.
+fn entries_of(
+    alloc: Global,
+    arena: &Game,
+    won: &Region,
+    first: &Strategy,
+    second: &Strategy,
+    mut first_rows: Vec<Vec<u64>>,
+    mut second_rows: Vec<Vec<u64>>,
+) -> Result<Vec<Entry>, AllocError>
+    requires region { length won.now ≡ vertex_count arena.now }
+    requires first { length first.now ≡ vertex_count arena.now }
+    requires second { length second.now ≡ vertex_count arena.now }
+    requires first_rows { length first_rows.items ≡ vertex_count arena.now }
+    requires second_rows { length second_rows.items ≡ vertex_count arena.now }
+    ensures { IfOk result
+        (λ entries. AreEntries arena.now won.now (move_at first.now) (move_at second.now) first_rows.items second_rows.items (vertex_count arena.now) entries.items) }
+{
+    let mut entries = Vec::new(alloc);
+    for vertex in 0..arena.count() {
+        let entry = if won.contains(vertex) {
+            entry(
+                arena,
+                vertex,
+                0,
+                first,
+                row_at(alloc, &mut first_rows, vertex),
+            )
+        } else {
+            entry(
+                arena,
+                vertex,
+                1,
+                second,
+                row_at(alloc, &mut second_rows, vertex),
+            )
+        };
+        entries.push(entry)?;
+    }
+    Ok(entries)
+}
+
+/// Takes a row out, and leaves an empty one.
+fn row_at(alloc: Global, rows: &mut Vec<Vec<u64>>, vertex: usize) -> Vec<u64>
+    requires { vertex < length rows.old.items }
+    ensures row { HasRow rows.old.items vertex result.items }
+    ensures places { length rows.new.items ≡ length rows.old.items }
+    ensures others { (v : ℕ) → v ≢ vertex → slice_get rows.new.items v ≡ slice_get rows.old.items v }
+{
+    std::mem::replace(&mut rows[vertex], Vec::new(alloc))
+}
+
+/// The entry of a vertex that a player wins, with its counts.
+fn entry(arena: &Game, vertex: usize, player: u8, strategy: &Strategy, counts: Vec<u64>) -> Entry
+    requires vertex { vertex < vertex_count arena.now }
+    requires strategy { length strategy.now ≡ vertex_count arena.now }
+    ensures { IsEntryFor arena.now player (move_at strategy.now) vertex counts.items result }
+{
+    let choice = if arena.owner(vertex) == player {
+        strategy.get(vertex)
+    } else {
+        None
+    };
+    Entry {
+        winner: player,
+        choice,
+        counts,
+    }
+}
