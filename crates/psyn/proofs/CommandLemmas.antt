@@ -32,7 +32,7 @@ line_refused-other _ other = refl
 -- each line of the table is read
 pub lines_read : LinesAreRead
 unfolding table clap_on_literals
-lines_read = (((refl, refl), tt), ((((refl, refl), tt), ((((refl, refl), tt), ((((refl, refl), tt), tt)))))))
+lines_read = (((refl, refl), tt), ((((refl, refl), tt), ((((refl, refl), tt), ((((refl, refl), tt), ((((refl, refl), tt), tt)))))))))
 
 pub help_asked : AskForHelp
 unfolding table clap_on_literals

@@ -1,10 +1,11 @@
-pub mod CommandLemmas
-pub mod StreamLemmas
-pub mod ProgramLemmas
-pub mod OutcomeLemmas
-pub mod TextLemmas
+mod SolverLemmas
 pub mod CircuitLemmas
-pub mod TraceLemmas
+pub mod CommandLemmas
 pub mod KindLemmas
-pub mod OneTrace
 pub mod OneAnswer
+pub mod OneTrace
+pub mod OutcomeLemmas
+pub mod ProgramLemmas
+pub mod StreamLemmas
+pub mod TextLemmas
+pub mod TraceLemmas

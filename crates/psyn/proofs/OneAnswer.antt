@@ -1,5 +1,5 @@
 -- Two answers to one input are one.
-use Rattle.std.proofs.Common.{◌≡◌, ◌∙◌, ◌+◌, ℕ, Bool, true, false, List, [], take, drop, length, Result, Ok, Err, refl, sym, ap, ap₂, subst, inl, inr, arith}
+use Rattle.std.proofs.Common.{◌≡◌, ◌⊎◌, ◌∙◌, ◌+◌, ℕ, Bool, true, false, List, [], take, drop, length, Result, Ok, Err, refl, sym, ap, ap₂, subst, inl, inr, arith}
 use Rattle.std.proofs.lemmas.Bool.{cases_order}
 use Rattle.std.specs.Prelude.{codes}
 use Rattle.ps_text.specs.Answers.{Found}
@@ -34,6 +34,7 @@ use Rattle.psyn.specs.Outcomes.{Then, Reading, printed}
 use Rattle.psyn.specs.Program.{Answers, AnswersLine}
 use Rattle.psyn.specs.Replies.{Reply, text_reply}
 use Rattle.psyn.specs.Simulating.{AnswersSim}
+use Rattle.psyn.specs.Solving.{Sureness}
 use Rattle.psyn.specs.Texts.{CutsInTwo, ReadsCertified, ReadsSimulated, flaw_text}
 use Rattle.psyn.proofs.KindLemmas.{one_fault}
 use Rattle.psyn.proofs.OneTrace.{traces_agree}
@@ -159,12 +160,14 @@ module _ (games : OneGame) (certificates : OneCertificate) (flaws : OneFlaw) (ci
   sim_one texts = then_one _ _ (simulated_one texts) (λ both x y h k.
       h.2.2 ∙ ap (λ (text : List ℕ). ok_of {V = Reply} {E = List ℕ} (text_reply text)) (traces_agree both.0 h.0 h.1 both.1.stem h.2.0 k.2.0 h.2.1 k.2.1) ∙ sym k.2.2)
 
-  line_one : (l : Line) (texts : List ℕ) → IsOne (AnswersLine l texts)
-  line_one line.Refused texts = ended_one _
-  line_one line.Help texts = ended_one _
-  line_one line.Closed texts = then_one _ _ (certified_one texts) (λ both. tests_one IsClosed (codes "closed") both.0 both.1)
-  line_one line.Check texts = then_one _ _ (certified_one texts) (λ both. tests_one IsValid (codes "valid") both.0 both.1)
-  line_one line.Sim texts = sim_one texts
+  -- each line but that of a solver
+  line_one : (sure : Sureness) (l : Line) (texts : List ℕ) → IsOne (AnswersLine sure l texts) ⊎ (l ≡ line.Solve)
+  line_one sure line.Refused texts = inl (ended_one _)
+  line_one sure line.Help texts = inl (ended_one _)
+  line_one sure line.Closed texts = inl (then_one _ _ (certified_one texts) (λ both. tests_one IsClosed (codes "closed") both.0 both.1))
+  line_one sure line.Check texts = inl (then_one _ _ (certified_one texts) (λ both. tests_one IsValid (codes "valid") both.0 both.1))
+  line_one sure line.Sim texts = inl (sim_one texts)
+  line_one sure line.Solve texts = inr refl
 
   -- ---- the line
 
@@ -189,14 +192,18 @@ module _ (games : OneGame) (certificates : OneCertificate) (flaws : OneFlaw) (ci
   is_line_one first a b (inr (not, h)) (inl (utf8, k)) = absurd (not utf8)
   is_line_one first a b (inr (not, h)) (inr (not', k)) = h ∙ sym k
 
-  answers_one : (input : List ℕ) → IsOne (Answers input)
-  answers_one input a b (l, is_line, (outcome, answers, e)) (l', is_line', (outcome', answers', e')) =
-      let same : l ≡ l' = is_line_one (first_line input) l l' is_line is_line' in
-      let there : AnswersLine l (behind_line input) outcome' = subst (λ (k : Line). AnswersLine k (behind_line input) outcome') (sym same) answers' in
-      e ∙ ap printed (line_one l (behind_line input) outcome outcome' answers there) ∙ sym e'
+  answers_one : (sure : Sureness) (input : List ℕ) (a b : Reply) → Answers sure input a → Answers sure input b → (a ≡ b) ⊎ IsLine (first_line input) line.Solve
+  answers_one sure input a b (l, is_line, (outcome, answers, e)) (l', is_line', (outcome', answers', e')) = by (line_one sure l (behind_line input))
+    where
+      same : l ≡ l'
+      same = is_line_one (first_line input) l l' is_line is_line'
+
+      by : IsOne (AnswersLine sure l (behind_line input)) ⊎ (l ≡ line.Solve) → (a ≡ b) ⊎ IsLine (first_line input) line.Solve
+      by (inl one) = inl (e ∙ ap printed (one outcome outcome' answers (subst (λ (k : Line). AnswersLine sure k (behind_line input) outcome') (sym same) answers')) ∙ sym e')
+      by (inr solves) = inr (subst (λ (k : Line). IsLine (first_line input) k) solves is_line)
 
   pub whole_one : HasOneAnswer
-  whole_one input a b (inl (long, e)) (inl (long', e')) = e ∙ sym e'
-  whole_one input a b (inl (long, e)) (inr (short, h)) = absurd (omega (arith, long, short))
-  whole_one input a b (inr (short, h)) (inl (long, e)) = absurd (omega (arith, long, short))
-  whole_one input a b (inr (short, h)) (inr (short', k)) = answers_one input a b h k
+  whole_one sure input a b (inl (long, e)) (inl (long', e')) = inl (e ∙ sym e')
+  whole_one sure input a b (inl (long, e)) (inr (short, h)) = absurd (omega (arith, long, short))
+  whole_one sure input a b (inr (short, h)) (inl (long, e)) = absurd (omega (arith, long, short))
+  whole_one sure input a b (inr (short, h)) (inr (short', k)) = answers_one sure input a b h k

@@ -1,5 +1,5 @@
 -- A command's outcome, step by step.
-use Rattle.std.proofs.Common.{◌≡◌, ℕ, List, Result, Ok, Err, IsErrAnd, subst, sym}
+use Rattle.std.proofs.Common.{◌≡◌, ℕ, List, Result, Ok, Err, IsErrAnd, inl, inr, refl, subst, sym}
 use Rattle.ps_text.specs.Answers.{Found}
 use Rattle.ps_text.specs.Faults.{UnlessMemory}
 use Rattle.ps_text.specs.declared.faults.Fault.{Fault}
@@ -8,7 +8,7 @@ use Rattle.psyn.specs.declared.answer.Answer.{Answer}
 use Rattle.psyn.specs.declared.answer.Refusal.{Refusal}
 use Rattle.psyn.specs.declared.answer.Refusal.TheVariants as refusal
 use Rattle.psyn.specs.Faults.{fault_text}
-use Rattle.psyn.specs.Outcomes.{Gives, Reading, Settles, printed}
+use Rattle.psyn.specs.Outcomes.{Gives, Reading, Settles, Then, printed}
 use Rattle.psyn.specs.Refusals.{IsRefusalOf}
 use Rattle.psyn.specs.Replies.{Reply, reply_of}
 
@@ -33,3 +33,16 @@ gives_fault number name reads view (fault.Text cause offset) (refusal.Fault line
 gives_fault number name reads view (fault.Text cause offset) refusal.OutOfMemory answer same = absurd same
 gives_fault number name reads view fault.OutOfMemory (refusal.Fault line) answer same = absurd same
 gives_fault number name reads view fault.OutOfMemory refusal.OutOfMemory answer same = tt
+
+-- a step that fails, whatever would come next
+pub gives_failed : {X V Y W : Type 0} (view : X → V) (step : Result V (List ℕ) → Type 0) (after : Y → W) (next : V → Result W (List ℕ) → Type 0) (refused : Refusal)
+    → Gives {X = X} view step (Err refused) → Gives {X = Y} after (Then step next) (Err refused)
+gives_failed view step after next (refusal.Fault fault) h = inl (fault_text fault, h, refl)
+gives_failed view step after next refusal.OutOfMemory h = tt
+
+-- a step that succeeds, and what is given behind it
+pub gives_after : {V Y W : Type 0} (step : Result V (List ℕ) → Type 0) (after : Y → W) (next : V → Result W (List ℕ) → Type 0) (value : V) (outcome : Result Y Refusal)
+    → step (Ok value) → Gives after (next value) outcome → Gives after (Then step next) outcome
+gives_after step after next value (Ok given) was h = inr (value, was, h)
+gives_after step after next value (Err (refusal.Fault fault)) was h = inr (value, was, h)
+gives_after step after next value (Err refusal.OutOfMemory) was h = tt

@@ -7,7 +7,7 @@ use Rattle.clap.specs.Simple.{new_shape, on_top}
 use Rattle.clap.specs.declared.error.kind.ErrorKind.{ErrorKind}
 use Rattle.clap.specs.declared.error.kind.ErrorKind.TheVariants.{DisplayHelp}
 use Rattle.psyn.specs.declared.command_line.Line.{Line}
-use Rattle.psyn.specs.declared.command_line.Line.TheVariants.{Refused, Help, Closed, Check, Sim}
+use Rattle.psyn.specs.declared.command_line.Line.TheVariants.{Refused, Help, Closed, Check, Sim, Solve}
 
 -- what stands between runs of spaces
 abbrev pub words_of : List ℕ → List Text
@@ -24,8 +24,8 @@ abbrev pub program : App
 program = on_top (λ top. record top { no_binary_name = true; disable_help_subcommand = true }) (new_app (codes "psyn"))
 
 unfoldable pub table : App
-table = with_subcommand (with_subcommand (with_subcommand (with_subcommand program
-    (command (codes "help"))) (command (codes "closed"))) (command (codes "check"))) (command (codes "sim"))
+table = with_subcommand (with_subcommand (with_subcommand (with_subcommand (with_subcommand program
+    (command (codes "help"))) (command (codes "closed"))) (command (codes "check"))) (command (codes "sim"))) (command (codes "solve"))
 
 -- ---- what the words say
 
@@ -35,6 +35,7 @@ line_named name = if bytes_eq name (codes "help") then Help
     else if bytes_eq name (codes "closed") then Closed
     else if bytes_eq name (codes "check") then Check
     else if bytes_eq name (codes "sim") then Sim
+    else if bytes_eq name (codes "solve") then Solve
     else Refused
 
 -- the line of the command that the words name, if they name one
@@ -69,7 +70,8 @@ abbrev pub usages : List Usage
 usages = record { name = codes "help"; flags = []; line = λ _. Help }
     ∷ record { name = codes "closed"; flags = []; line = λ _. Closed }
     ∷ record { name = codes "check"; flags = []; line = λ _. Check }
-    ∷ record { name = codes "sim"; flags = []; line = λ _. Sim } ∷ []
+    ∷ record { name = codes "sim"; flags = []; line = λ _. Sim }
+    ∷ record { name = codes "solve"; flags = []; line = λ _. Solve } ∷ []
 
 -- a word put at each place of a list
 abbrev pub insertions : Text → List Text → List (List Text)

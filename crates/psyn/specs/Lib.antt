@@ -9,6 +9,7 @@ pub mod Program
 pub mod Refusals
 pub mod Replies
 pub mod Simulating
+pub mod Solving
 pub mod Streams
 pub mod Texts
 pub mod Watched

@@ -2,7 +2,7 @@
 use Rattle.std.specs.Prelude.{◌≡◌, ◌≤◌, ◌<◌, ◌⊎◌, ℕ, Bool, true, false, List, length, Option, Result, Ok}
 use Rattle.std.specs.Io.KnownBytes.{Appends}
 use Rattle.psyn.specs.declared.command_line.Line.{Line}
-use Rattle.psyn.specs.declared.command_line.Line.TheVariants.{Refused, Help, Closed, Check, Sim}
+use Rattle.psyn.specs.declared.command_line.Line.TheVariants.{Refused, Help, Closed, Check, Sim, Solve}
 use Rattle.psyn.specs.CommandLine.{IsLine}
 use Rattle.psyn.specs.Checks.{AnswersClosed, AnswersCheck}
 use Rattle.psyn.specs.Cut.{first_line, behind_line}
@@ -10,36 +10,38 @@ use Rattle.psyn.specs.Input.{AgreesWith, input_limit}
 use Rattle.psyn.specs.Outcomes.{printed}
 use Rattle.psyn.specs.Replies.{Reply, usage, help, read_fault, out_of_memory}
 use Rattle.psyn.specs.Simulating.{AnswersSim}
+use Rattle.psyn.specs.Solving.{Sureness, AnswersSolve}
 use Rattle.psyn.specs.Streams.{SinkState, AppendsSome, Breaks}
 
--- the answer to a line, with what stands behind it
-abbrev pub AnswersLine : Line → List ℕ → Result Reply (List ℕ) → Type 0
-AnswersLine Refused texts outcome = outcome ≡ Ok usage
-AnswersLine Help texts outcome = outcome ≡ Ok help
-AnswersLine Closed texts outcome = AnswersClosed texts outcome
-AnswersLine Check texts outcome = AnswersCheck texts outcome
-AnswersLine Sim texts outcome = AnswersSim texts outcome
+-- the answer to a line, with what stands behind it; a line that asks a solver goes by whether that is sure
+abbrev pub AnswersLine : Sureness → Line → List ℕ → Result Reply (List ℕ) → Type 0
+AnswersLine sure Refused texts outcome = outcome ≡ Ok usage
+AnswersLine sure Help texts outcome = outcome ≡ Ok help
+AnswersLine sure Closed texts outcome = AnswersClosed texts outcome
+AnswersLine sure Check texts outcome = AnswersCheck texts outcome
+AnswersLine sure Sim texts outcome = AnswersSim texts outcome
+AnswersLine sure Solve texts outcome = AnswersSolve sure.built_in texts outcome
 
 -- the answer to an input
-abbrev pub Answers : List ℕ → Reply → Type 0
-Answers input reply =
+abbrev pub Answers : Sureness → List ℕ → Reply → Type 0
+Answers sure input reply =
     (line : Line) × IsLine (first_line input) line
-    × ((outcome : Result Reply (List ℕ)) × AnswersLine line (behind_line input) outcome × (reply ≡ printed outcome))
+    × ((outcome : Result Reply (List ℕ)) × AnswersLine sure line (behind_line input) outcome × (reply ≡ printed outcome))
 
 -- the same, of an input that may be too long
-abbrev pub AnswersWhole : List ℕ → Reply → Type 0
-AnswersWhole input reply = ((input_limit < length input) × (reply ≡ read_fault))
-    ⊎ ((length input ≤ input_limit) × Answers input reply)
+abbrev pub AnswersWhole : Sureness → List ℕ → Reply → Type 0
+AnswersWhole sure input reply = ((input_limit < length input) × (reply ≡ read_fault))
+    ⊎ ((length input ≤ input_limit) × Answers sure input reply)
 
 -- the same, where any growth may have been refused
-abbrev pub RepliesTo : List ℕ → Reply → Type 0
-RepliesTo input reply = (reply ≡ out_of_memory) ⊎ AnswersWhole input reply
+abbrev pub RepliesTo : Sureness → List ℕ → Reply → Type 0
+RepliesTo sure input reply = (reply ≡ out_of_memory) ⊎ AnswersWhole sure input reply
 
 -- the answer to what a source has, where a read failed or none did: any growth may have been refused
-abbrev pub Replies : Option (List ℕ) → Bool → Reply → Type 0
-Replies known true reply = reply ≡ read_fault
-Replies known false reply = (reply ≡ out_of_memory)
-    ⊎ ((input : List ℕ) × AgreesWith known input × AnswersWhole input reply)
+abbrev pub Replies : Sureness → Option (List ℕ) → Bool → Reply → Type 0
+Replies sure known true reply = reply ≡ read_fault
+Replies sure known false reply = (reply ≡ out_of_memory)
+    ⊎ ((input : List ℕ) × AgreesWith known input × AnswersWhole sure input reply)
 
 -- the answer went out whole and was flushed
 pub record WritesAll (before after : SinkState) (reply : Reply) (status : ℕ) : Type 0 where

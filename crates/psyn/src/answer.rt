@@ -35,6 +35,7 @@ check    a game, a certificate: `valid` where, besides, the counts show that
          the winner wins each loop, else the first flaw
 sim      a circuit, a stimulus: a line for each letter, with the latches before
          it, the inputs and the outputs
+solve    a game: a certificate that says who wins each vertex, by which moves
 help     this text
 
 A game has an entry for each vertex: its id, its priority, its owner (0 or 1),
@@ -66,8 +67,10 @@ aag 3 2 0 1 1
 01
 
 A fault is one line in place of the answer: `fault`, its number and its name,
-and where it stands. The exit status is 0 for an answer, 1 for a fault and 2 for
-a command line that is refused.
+and where it stands. The exit status is 0 for an answer, 1 for a fault, or for
+an answer that could not be written whole, and 2 for a command line that is
+refused. The file docs/FAULTS.md lists the faults, with an example of each and
+how to mend it; tools/psyn, which takes files by name, explains them.
 ";
 
 /// What the program writes, and its exit status.

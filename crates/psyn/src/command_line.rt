@@ -21,6 +21,8 @@ pub enum Line {
     Check,
     /// What a circuit does, letter by letter.
     Sim,
+    /// A certificate of a game.
+    Solve,
 }
 
 /// Reads the first line.
@@ -71,13 +73,15 @@ fn commands<'a>(alloc: Global) -> Result<Command<'a>, AllocError>
     let closed = Command::new(alloc, "closed");
     let check = Command::new(alloc, "check");
     let sim = Command::new(alloc, "sim");
+    let solve = Command::new(alloc, "solve");
     let psyn = Command::new(alloc, "psyn")
         .no_binary_name(true)
         .disable_help_subcommand(true);
     let psyn = psyn.subcommand(help)?;
     let psyn = psyn.subcommand(closed)?;
     let psyn = psyn.subcommand(check)?;
-    psyn.subcommand(sim)
+    let psyn = psyn.subcommand(sim)?;
+    psyn.subcommand(solve)
 }
 
 /// The line that was read.
@@ -89,6 +93,7 @@ fn line_of(matches: &ArgMatches) -> Line
         Some("closed") => Line::Closed,
         Some("check") => Line::Check,
         Some("sim") => Line::Sim,
+        Some("solve") => Line::Solve,
         _ => Line::Refused,
     }
 }

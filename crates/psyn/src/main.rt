@@ -14,16 +14,34 @@ pub mod reading;
 pub mod run;
 pub mod sending;
 pub mod simulating;
+pub mod solving;
 pub mod stream;
 #[cfg(test)]
 mod tests;
 pub mod texts;
 pub mod watched;
 
+use answer::{FAULT, OUT_OF_MEMORY};
+use ps_machine::{BuiltIn, Replay};
+use std::alloc::AllocError;
 use std::process::ExitCode;
 
 fn main(rt: HostRuntime) -> ExitCode {
+    match answered(&rt) {
+        Ok(status) => ExitCode::from(status),
+        Err(_) => {
+            let mut writer = watched::Watched::new(rt.stdout());
+            let _written = sending::send(&mut writer, OUT_OF_MEMORY);
+            ExitCode::from(FAULT)
+        }
+    }
+}
+
+/// Answers with psyn's own solvers, or wants memory for them.
+fn answered(rt: &HostRuntime) -> Result<u8, AllocError> {
+    let built_in = Box::new(rt.alloc(), BuiltIn::new(rt.alloc()))?;
+    let replay = Box::new(rt.alloc(), Replay::new(rt.alloc()))?;
     let mut reader = watched::Watched::new(rt.stdin());
     let mut writer = watched::Watched::new(rt.stdout());
-    ExitCode::from(run::run(rt.alloc(), &mut reader, &mut writer))
+    Ok(run::run(rt.alloc(), &mut reader, &mut writer, built_in, replay))
 }

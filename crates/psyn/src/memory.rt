@@ -7,16 +7,22 @@ ghost use Rattle.psyn.specs.Replies.{reply_of};
 use crate::answer::Answer;
 use crate::run::run;
 use crate::stream::{Sink, Source};
+use ps_machine::Solver;
 use std::alloc::{AllocError, Global};
 use std::io;
 
 /// What the program answers to an input, or the want of memory for it.
-pub fn run_in_memory(alloc: Global, input: &[u8]) -> Result<Answer, AllocError>
-    ensures { IfOk result (λ answer. RepliesTo input.now (reply_of answer)) }
+pub fn run_in_memory(
+    alloc: Global,
+    input: &[u8],
+    built_in: Box<dyn Solver>,
+    replay: Box<dyn Solver>,
+) -> Result<Answer, AllocError>
+    ensures { IfOk result (λ answer. RepliesTo (record { built_in = is_sure built_in; replay = is_sure replay }) input.now (reply_of answer)) }
 {
     let mut reader = Bytes { left: input };
     let mut writer = Page::new(alloc);
-    let status = run(alloc, &mut reader, &mut writer);
+    let status = run(alloc, &mut reader, &mut writer, built_in, replay);
     if writer.has_failed {
         return Err(AllocError);
     }

@@ -11,27 +11,35 @@ use crate::program::answer_to;
 use crate::reading::{InputFault, read_input};
 use crate::sending::send;
 use crate::stream::{Sink, Source};
+use ps_machine::Solver;
 use std::alloc::Global;
 
 /// Reads the whole input, writes the answer to it, and gives the exit status.
 ///
 /// It stops reading at the first read that fails and at the byte past `INPUT_LIMIT`. Nothing is
 /// written after a write or a flush that failed, or after a write that took no bytes; the status is
-/// then 1, and what went out is a beginning of the answer.
-pub fn run<R: Source, W: Sink>(alloc: Global, reader: &mut R, writer: &mut W) -> u8
+/// then 1, and what went out is a beginning of the answer. The first solver solves games; the second is for certificates
+/// that the input holds.
+pub fn run<R: Source, W: Sink>(
+    alloc: Global,
+    reader: &mut R,
+    writer: &mut W,
+    mut built_in: Box<dyn Solver>,
+    mut replay: Box<dyn Solver>,
+) -> u8
     requires reader { R.has_failed reader.old ≡ false }
     requires writer { W.has_failed writer.old ≡ false }
     requires moving { W.has_stalled writer.old ≡ false }
     ensures consumed { ConsumesAtMost (R.remaining reader.old) (R.remaining reader.new)
         (input_limit + 1) }
     ensures answered { (reply : Reply)
-        × Replies (R.remaining reader.old) (R.has_failed reader.new) reply
+        × Replies (record { built_in = is_sure built_in; replay = is_sure replay }) (R.remaining reader.old) (R.has_failed reader.new) reply
         × Writes (sink_state W.contents W.has_failed W.has_stalled W.is_flushed writer.old)
         (sink_state W.contents W.has_failed W.has_stalled W.is_flushed writer.new)
         reply result }
 {
     match read_input(alloc, reader) {
-        Ok(input) => match answer_to(alloc, input.as_slice()) {
+        Ok(input) => match answer_to(alloc, input.as_slice(), &mut built_in, &mut replay) {
             Ok(answer) => write_reply(writer, answer.text.as_slice(), answer.status),
             Err(_) => write_reply(writer, OUT_OF_MEMORY, FAULT),
         },

@@ -40,7 +40,7 @@ pub fn three_texts(texts: &[u8]) -> Result<(&[u8], &[u8], &[u8]), Refusal>
 }
 
 /// A game.
-fn read_game(alloc: Global, text: &[u8]) -> Result<NamedGame, Refusal>
+pub fn read_game(alloc: Global, text: &[u8]) -> Result<NamedGame, Refusal>
     ensures { Gives (λ game. game) (ReadsGameText text.now) result }
 {
     match ps_pgsolver::read(alloc, text) {

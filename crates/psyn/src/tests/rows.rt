@@ -14,7 +14,7 @@ pub struct Row {
 }
 
 /// The rows.
-pub const ROWS: [Row; 61] = [
+pub const ROWS: [Row; 66] = [
     Row {
         name: "check of two vertices, one count",
         input: "check\nparity 1; 0 1 0 0,1; 1 2 0 0;\n%%\npsyncert 1\nvertices 2\nodd 1\neven 2\n0 0 1 0\n1 0 0 0\n",
@@ -310,12 +310,6 @@ pub const ROWS: [Row; 61] = [
         status: 2,
     },
     Row {
-        name: "not yet there: solve",
-        input: "solve\nx",
-        output: "fault usage\n",
-        status: 2,
-    },
-    Row {
         name: "not yet there: cert",
         input: "cert\nx",
         output: "fault usage\n",
@@ -380,5 +374,41 @@ pub const ROWS: [Row; 61] = [
         input: "solve --compact\nx",
         output: "fault usage\n",
         status: 2,
+    },
+    Row {
+        name: "solve of two vertices, one count",
+        input: "solve\nparity 1; 0 1 0 0,1; 1 2 0 0;",
+        output: "psyncert 1\nvertices 2\nodd 1\neven 2\n0 0 1 0\n1 0 0 0\n",
+        status: 0,
+    },
+    Row {
+        name: "solve of goes on without repeating and loses",
+        input: "solve\n0 1 0 1,2; 1 1 0 0; 2 1 0 0;",
+        output: "psyncert 1\nvertices 3\nodd 1\neven\n0 1 -\n1 1 -\n2 1 -\n",
+        status: 0,
+    },
+    Row {
+        name: "solve of large numbers",
+        input: "solve\n7 4294967295 0 7; 4294967295 4294967295 1 4294967295;",
+        output: "psyncert 1\nvertices 2\nodd 4294967295\neven\n7 1 -\n4294967295 1 4294967295\n",
+        status: 0,
+    },
+    Row {
+        name: "solve again after the first attractor",
+        input: "solve\n0 2 0 1; 1 1 1 1; 2 1 0 2,0;",
+        output: "psyncert 1\nvertices 3\nodd 1\neven 2\n0 1 - 1\n1 1 1 0\n2 1 - 1\n",
+        status: 0,
+    },
+    Row {
+        name: "solve without a successor",
+        input: "solve\n0 1 0 ;",
+        output: "fault 31 NoSuccessor at 6\n",
+        status: 1,
+    },
+    Row {
+        name: "solve of an empty text",
+        input: "solve\n",
+        output: "fault 30 Syntax at 0\n",
+        status: 1,
     },
 ];

@@ -14,6 +14,8 @@ returns c =
     c.in_ok-psyn-2.ensures.shape (search rules) ∙ ap₂ with_subcommand first (ap (λ (a : App). a.top) c.new-closed.ensures.app) in
     let third : app_of c.in_ok-psyn-3.psyn ≡ with_subcommand (with_subcommand (with_subcommand program (command (codes "help"))) (command (codes "closed"))) (command (codes "check")) =
     c.in_ok-psyn-3.ensures.shape (search rules) ∙ ap₂ with_subcommand second (ap (λ (a : App). a.top) c.new-check.ensures.app) in
-    IfOk-weaker c.subcommand-4.result _ _
-    (λ whole adds. adds.shape (search rules) ∙ ap₂ with_subcommand third (ap (λ (a : App). a.top) c.new-sim.ensures.app))
-    c.subcommand-4.ensures
+    let fourth : app_of c.in_ok-psyn-4.psyn ≡ with_subcommand (with_subcommand (with_subcommand (with_subcommand program (command (codes "help"))) (command (codes "closed"))) (command (codes "check"))) (command (codes "sim")) =
+    c.in_ok-psyn-4.ensures.shape (search rules) ∙ ap₂ with_subcommand third (ap (λ (a : App). a.top) c.new-sim.ensures.app) in
+    IfOk-weaker c.subcommand-5.result _ _
+    (λ whole adds. adds.shape (search rules) ∙ ap₂ with_subcommand fourth (ap (λ (a : App). a.top) c.new-solve.ensures.app))
+    c.subcommand-5.ensures
