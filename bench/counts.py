@@ -1,0 +1,246 @@
+#!/usr/bin/env python3
+"""Times the least counts of games beside a plain solver without proofs, or compares those of random games with a plain search.
+
+  bench/counts.py GAMES YARDSTICK [--size SIZE] [--only WORD] [--runs N] [--program PROGRAM]
+  bench/counts.py --random N [--program PROGRAM]
+
+psyn has no command yet that works out counts alone, so the program bench/counts is made in a temporary folder, over copies of
+the crates with what earlier checks kept in out/. --program gives one that was made before.
+
+GAMES is a Python file with families of games: FAMILIES, by their names functions to lists of (priority, owner, successors), and
+SUITE, by a size (medium, large) lines of a family's name and its numbers. `YARDSTICK solve --out sol --stats FILE` writes the
+winners and moves of the game in a file, and on standard error `counts_ms` and other words with their values. The counts are
+worked out for those regions and moves. A line for each game: vertices, edges and different priorities, the least time of
+--runs (3) runs of either in milliseconds (both players, without reading and writing), psyn's over the other's, and psyn's in
+nanoseconds for each edge. The sums of the counts, and how many are not 0, must be the same.
+
+--random makes N small games with regions, closed or not, and moves, along edges or not, at random, and before them some whose
+counts are known. The counts, the number of raises, or that there is a lost cycle, must be those of a plain search.
+"""
+import argparse
+import importlib.util
+import os
+import random
+import shutil
+import subprocess
+import sys
+import tempfile
+
+BENCH = os.path.dirname(os.path.abspath(__file__))
+TOP = os.path.dirname(BENCH)
+sys.dont_write_bytecode = True
+sys.path.insert(0, BENCH)
+from sources import copy_program  # noqa: E402
+BELOW = ("ps_components", "ps_game", "ps_measure")
+WIDE = ["random 100000 2 1000 1", "random 20000 2 1000 1"]
+
+
+def made(folder):
+    """Makes the program in a folder."""
+    crates = os.path.join(folder, "crates")
+    for name in BELOW:
+        shutil.copytree(os.path.join(TOP, "crates", name), os.path.join(crates, name))
+    copy_program("counts", crates)
+    shutil.copy(os.path.join(TOP, "HANDLES"), folder)
+    with open(os.path.join(TOP, "crates.txt"), encoding="utf-8") as file:
+        lines = [line for line in file if line.split(":")[0] in BELOW]
+    with open(os.path.join(folder, "crates.txt"), "w", encoding="utf-8") as file:
+        file.writelines(lines + ["counts: anyhow ps_game ps_measure\n"])
+    subprocess.run(["git", "init", "-q"], cwd=folder, check=True)
+    crate = os.path.join(crates, "counts")
+    subprocess.run(["rt", "run"], cwd=crate, check=True, input=b"0 0", stdout=subprocess.DEVNULL)
+    return os.path.join(crate, "out", "counts")
+
+
+def task(is_shown, nodes, winners, moves):
+    """The text of a task: None for no move."""
+    lines = [f"{int(is_shown)} {len(nodes)}"]
+    for (priority, owner, successors), winner, move in zip(nodes, winners, moves):
+        steps = " ".join(map(str, successors))
+        lines.append(f"{priority} {owner} {len(successors)} {steps} {winner} {0 if move is None else move + 1}")
+    return "\n".join(lines).encode()
+
+
+def answer(program, text):
+    """For each player the words of the first line, and the lines behind it."""
+    run = subprocess.run([program], input=text, capture_output=True, check=False)
+    if run.returncode != 0:
+        sys.exit(f"status {run.returncode}: {run.stderr[:300]!r}")
+    players = []
+    for line in run.stdout.decode().splitlines():
+        words = line.split()
+        if words[0] == "player":
+            players.append((words, []))
+        else:
+            players[-1][1].append((words[0], list(map(int, words[1:]))))
+    return players
+
+
+# ---------------------------------------------------------------- speed
+
+
+def solved(yardstick, path, runs):
+    """Winners, moves, the yardstick's values, and its least time."""
+    best = None
+    for _ in range(runs):
+        run = subprocess.run([yardstick, "solve", "--out", "sol", "--stats", path], capture_output=True, check=True, text=True)
+        words = run.stderr.split()
+        values = dict(zip(words[::2], words[1::2]))
+        best = min(best or 1e9, float(values["counts_ms"]))
+    winners, moves = [], []
+    for line in run.stdout.split(";")[1:]:
+        words = line.split()
+        if words:
+            winners.append(int(words[1]))
+            moves.append(int(words[2]) if len(words) > 2 else None)
+    return winners, moves, values, best
+
+
+def measure(program, yardstick, nodes, runs):
+    """The line of a game."""
+    with tempfile.NamedTemporaryFile("w", suffix=".pg") as file:
+        file.write(f"parity {len(nodes) - 1};\n")
+        file.writelines(f"{v} {p} {o} {','.join(map(str, s))};\n" for v, (p, o, s) in enumerate(nodes))
+        file.flush()
+        winners, moves, values, theirs = solved(yardstick, file.name, runs)
+    text = task(False, nodes, winners, moves)
+    ours = None
+    for _ in range(runs):
+        players = [words for words, _ in answer(program, text)]
+        found = [dict(zip(words[::2], words[1::2])) for words in players]
+        ours = min(ours or 1e9, sum(int(one["micros"]) for one in found) / 1000)
+    for word, other in (("raises", "nonzero"), ("sum", "sum")):
+        if sum(int(one[word]) for one in found) != int(values[other]):
+            sys.exit(f"{word}: {found}, but {other} {values[other]}")
+    edges = int(values["edges"])
+    return [len(nodes), edges, values["priorities"], f"{ours:.1f}", f"{theirs:.1f}", f"{ours / max(theirs, 0.001):.2f}", f"{ours * 1e6 / edges:.0f}"]
+
+
+def speed(program, given):
+    spec = importlib.util.spec_from_file_location("games", given.games)
+    games = importlib.util.module_from_spec(spec)
+    spec.loader.exec_module(games)
+    print("  ".join(f"{word:>10}" for word in ["vertices", "edges", "priorities", "psyn ms", "other ms", "ratio", "ns/edge"]) + "  game")
+    for line in games.SUITE[given.size] + (WIDE if given.size == "large" else []):
+        if given.only not in line:
+            continue
+        name, *numbers = line.split()
+        row = measure(program, given.yardstick, games.FAMILIES[name](*map(int, numbers)), given.runs)
+        print("  ".join(f"{str(word):>10}" for word in row) + f"  {line}", flush=True)
+
+
+# ---------------------------------------------------------------- random games
+
+
+def remaining(nodes, winners, moves, player):
+    """The edges that remain inside a player's region."""
+    return [
+        (v, w)
+        for v, (_, owner, successors) in enumerate(nodes)
+        for w in successors
+        if winners[v] == player and winners[w] == player and (owner != player or moves[v] == w)
+    ]
+
+
+def reached(edges, start):
+    """Where ways of one edge or more lead."""
+    seen, pending = set(), [start]
+    while pending:
+        v = pending.pop()
+        for a, b in edges:
+            if a == v and b not in seen:
+                seen.add(b)
+                pending.append(b)
+    return seen
+
+
+def least(count, edges, level, priority):
+    """The least counts for a priority, by raising until nothing changes."""
+    counts, is_changed = [0] * count, True
+    while is_changed:
+        is_changed = False
+        for v, w in edges:
+            need = counts[w] + (level[v] == priority)
+            if counts[v] < need:
+                counts[v], is_changed = need, True
+    return counts
+
+
+def wrong(nodes, winners, moves, player, words, lines):
+    """What is wrong with the answer for a player, or None."""
+    level = [p for p, _, _ in nodes]
+    edges = remaining(nodes, winners, moves, player)
+    opposing = sorted({p for p in level if p % 2 != player})
+    low = {p: [(v, w) for v, w in edges if level[v] <= p and level[w] <= p] for p in opposing}
+    is_lost = any(level[v] == p and v in reached(low[p], v) for p in opposing for v in range(len(nodes)))
+    if words[-1] == "lost":
+        cycle = lines[0][1]
+        steps = list(zip(cycle, cycle[1:] + cycle[:1]))
+        is_one = cycle and set(steps) <= set(edges) and max(level[v] for v in cycle) % 2 != player
+        return None if is_lost and is_one else f"cycle {cycle}"
+    if is_lost:
+        return "a lost cycle was not shown"
+    columns = [least(len(nodes), low[p], level, p) for p in opposing]
+    want = [("priorities", opposing)] + [("row", [column[v] for column in columns]) for v in range(len(nodes))]
+    raises = sum(count > 0 for column in columns for count in column)
+    return None if lines == want and int(words[5]) == raises else f"{words}, {lines}, not {want}"
+
+
+def drawn(dice):
+    """A game with regions and moves."""
+    count, levels = dice.choice((1, 2, 3, 4, 6, 9, 15)), dice.choice((1, 2, 3, 5, 9))
+    degree, loose = dice.choice((1, 1, 2, 3)), dice.choice((0, 0, 0.1, 0.5))
+    nodes = [(dice.randrange(levels), dice.randrange(2), dice.sample(range(count), dice.randint(1, min(degree, count)))) for _ in range(count)]
+    winners = [dice.choice((0, 1, 2)) if dice.random() < loose else dice.randrange(2) for _ in range(count)]
+    if dice.random() < 0.5:
+        winners = [dice.randrange(2)] * count
+    moves = [None if dice.random() < loose else dice.randrange(count) if dice.random() < loose else dice.choice(s) for _, _, s in nodes]
+    return nodes, winners, moves
+
+
+KNOWN = [  # (nodes, winners, moves, for both players the raises, or None where a cycle is lost)
+    ([(2, 0, [1]), (1, 1, [1]), (1, 0, [2, 0])], [1, 1, 1], [None, 1, None], [0, 2]),
+    ([(1, 0, [0, 1]), (2, 0, [0])], [0, 0], [1, 0], [0, 0]),
+    ([(1, 0, [0, 1]), (2, 0, [0])], [0, 0], [0, 0], [None, 0]),
+    ([(1, 0, [1, 2]), (1, 1, [0]), (1, 0, [0])], [1, 1, 1], [None, 0, None], [0, 0]),
+    ([(0, 1, [0, 1]), (1, 1, [1])], [1, 1], [1, 1], [0, 0]),
+]
+
+
+def compare(program, number):
+    dice, lost, raised = random.Random(number), 0, 0
+    cases = [(case[:3], case[3]) for case in KNOWN] + [(drawn(dice), None) for _ in range(number)]
+    for (nodes, winners, moves), known in cases:
+        players = answer(program, task(True, nodes, winners, moves))
+        for player, (words, lines) in enumerate(players):
+            fault = wrong(nodes, winners, moves, player, words, lines)
+            raises = None if words[-1] == "lost" else int(words[5])
+            if fault or len(players) != 2 or (known and known[player] != raises):
+                sys.exit(f"player {player} of {nodes}, {winners}, {moves}: {fault or words}")
+            lost += raises is None
+            raised += bool(raises)
+    print(f"{len(cases)} games with two players each: {lost} lost cycles, {raised} tables with counts above 0, all as the plain search has them")
+
+
+def main():
+    words = argparse.ArgumentParser(description=__doc__.split("\n", maxsplit=1)[0])
+    words.add_argument("games", nargs="?")
+    words.add_argument("yardstick", nargs="?")
+    words.add_argument("--size", default="large")
+    words.add_argument("--only", default="")
+    words.add_argument("--runs", type=int, default=3)
+    words.add_argument("--random", type=int)
+    words.add_argument("--program")
+    given = words.parse_args()
+    if given.random is None and given.yardstick is None:
+        sys.exit(__doc__)
+    with tempfile.TemporaryDirectory() as folder:
+        program = given.program or made(folder)
+        if given.random is not None:
+            compare(program, given.random)
+        else:
+            speed(program, given)
+
+
+if __name__ == "__main__":
+    main()

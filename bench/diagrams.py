@@ -1,0 +1,90 @@
+#!/usr/bin/env python3
+"""Times unions of random cubes, and classes of their letters, beside BuDDy.
+
+  bench/diagrams.py [--runs N] [--program PROGRAM] [COUNT..]
+
+The program bench/diagrams is made in a temporary folder, over copies of the crates with what earlier checks kept in out/;
+--program gives one that was made before. bench/union.c is compiled with the library of the package libbdd-dev, and left out
+where that fails. Each joins COUNT cubes (10000, 20000, 40000, 80000) over 24 propositions, half of them with the other half.
+
+A line for each count: psyn's and BuDDy's least time of --runs (3) runs in milliseconds, for the unions alone; the first over the
+second; psyn's nodes, and how many it made in a second; and how long two calls of `classes` took, of the first eight propositions
+and of each fourth one. Both must find the same number of random letters in the union.
+"""
+import argparse
+import os
+import shutil
+import subprocess
+import sys
+import tempfile
+
+BENCH = os.path.dirname(os.path.abspath(__file__))
+TOP = os.path.dirname(BENCH)
+sys.dont_write_bytecode = True
+sys.path.insert(0, BENCH)
+from sources import copy_program  # noqa: E402
+BELOW = ("ps_label", "ps_diagram")
+
+
+def made(folder):
+    """Makes the program in a folder."""
+    crates = os.path.join(folder, "crates")
+    for name in BELOW:
+        shutil.copytree(os.path.join(TOP, "crates", name), os.path.join(crates, name))
+    copy_program("diagrams", crates)
+    shutil.copy(os.path.join(TOP, "HANDLES"), folder)
+    with open(os.path.join(TOP, "crates.txt"), encoding="utf-8") as file:
+        lines = [line for line in file if line.split(":")[0] in BELOW]
+    with open(os.path.join(folder, "crates.txt"), "w", encoding="utf-8") as file:
+        file.writelines(lines + ["diagrams: anyhow ps_diagram ps_label\n"])
+    subprocess.run(["git", "init", "-q"], cwd=folder, check=True)
+    crate = os.path.join(crates, "diagrams")
+    subprocess.run(["rt", "run"], cwd=crate, check=True, input=b"2", stdout=subprocess.DEVNULL)
+    return os.path.join(crate, "out", "diagrams")
+
+
+def yardstick(folder):
+    """Compiles the yardstick, if its library is there."""
+    path = os.path.join(folder, "union")
+    command = ["cc", "-O2", "-o", path, os.path.join(BENCH, "union.c"), "-lbdd"]
+    return path if subprocess.run(command, check=False).returncode == 0 else None
+
+
+def answers(command, count, text, runs):
+    """The words of each line, of the run with the least time for the unions."""
+    best = None
+    for _ in range(runs):
+        run = subprocess.run(command, input=text, capture_output=True, check=True, text=True)
+        lines = [line.replace("Node { place: ", "").replace(" }", "").split() for line in run.stdout.splitlines()]
+        found = [dict(zip(line[::2], line[1::2])) for line in lines]
+        if int(found[0]["cubes"]) != count:
+            sys.exit(run.stdout)
+        if best is None or int(found[0]["nanos"]) < int(best[0]["nanos"]):
+            best = found
+    return best
+
+
+def main():
+    words = argparse.ArgumentParser(description=__doc__.split("\n", maxsplit=1)[0])
+    words.add_argument("counts", nargs="*", type=int)
+    words.add_argument("--runs", type=int, default=3)
+    words.add_argument("--program")
+    given = words.parse_args()
+    with tempfile.TemporaryDirectory() as folder:
+        program = given.program or made(folder)
+        other = yardstick(folder)
+        print("  ".join(f"{word:>9}" for word in ["cubes", "psyn ms", "BuDDy ms", "ratio", "nodes", "nodes/s", "first ms", "fourth ms"]))
+        for count in given.counts or [10000, 20000, 40000, 80000]:
+            ours = answers([program], count, str(count), given.runs)
+            nanos, nodes = int(ours[0]["nanos"]), int(ours[0]["made"])
+            row = [count, f"{nanos / 1e6:.0f}", "-", "-", nodes, f"{nodes / (nanos / 1e9):.0f}"] + [f"{int(line['nanos']) / 1e6:.0f}" for line in ours[1:]]
+            if other:
+                theirs = answers([other, str(count)], count, None, given.runs)
+                if theirs[0]["inside"] != ours[0]["inside"]:
+                    sys.exit(f"{count} cubes: {ours[0]}, but {theirs[0]}")
+                row[2:4] = [f"{int(theirs[0]['nanos']) / 1e6:.0f}", f"{nanos / int(theirs[0]['nanos']):.2f}"]
+            print("  ".join(f"{str(word):>9}" for word in row), flush=True)
+
+
+if __name__ == "__main__":
+    main()

@@ -1,0 +1,108 @@
+#!/usr/bin/env python3
+"""Runs circuits on 256 stimuli at once and one by one, compares the two, and times a step of either.
+
+  bench/lanes.py [--random N] [--program PROGRAM]
+
+psyn has no command that runs many stimuli, so the program bench/lanes is made in a temporary folder, over copies of the crates
+with what earlier checks kept in out/. --program gives one that was made before. It draws eight letters for each of 256 runs, and
+stops with an error where an output of a lane differs from that of the plain run.
+
+--random makes N (200) small circuits at random for that, with latches that follow one another and gates in any order. Then come
+circuits of 10000, 100000 and 1000000 gates (those of bench/simulate.py): a line for each with the nanoseconds of a step for each
+gate, in all lanes at once and in one run, and the one over the other.
+"""
+import argparse
+import os
+import random
+import shutil
+import subprocess
+import sys
+import tempfile
+
+sys.dont_write_bytecode = True
+BENCH = os.path.dirname(os.path.abspath(__file__))
+TOP = os.path.dirname(BENCH)
+sys.path.insert(0, BENCH)
+from sources import copy_program  # noqa: E402
+STANDS_ON = ("ps_aiger", "ps_simulate")
+SIZES = (10_000, 100_000, 1_000_000)
+LETTERS = 8
+
+
+def lines_below(names):
+    """The lines of crates.txt of these crates and of all that they stand on, by their names."""
+    with open(os.path.join(TOP, "crates.txt"), encoding="utf-8") as file:
+        lines = {line.split(":")[0]: line for line in file if ":" in line and not line.startswith("#")}
+    found, pending = {}, list(names)
+    while pending:
+        name = pending.pop()
+        if name in lines and name not in found:
+            found[name] = lines[name]
+            pending += lines[name].split(":")[1].split()
+    return found
+
+
+def made(folder):
+    """Makes the program in a folder."""
+    crates = os.path.join(folder, "crates")
+    below = lines_below(STANDS_ON)
+    for name in below:
+        shutil.copytree(os.path.join(TOP, "crates", name), os.path.join(crates, name))
+    copy_program("lanes", crates)
+    shutil.copy(os.path.join(TOP, "HANDLES"), folder)
+    with open(os.path.join(folder, "crates.txt"), "w", encoding="utf-8") as file:
+        file.writelines([*below.values(), f"lanes: anyhow {' '.join(STANDS_ON)}\n"])
+    subprocess.run(["git", "init", "-q"], cwd=folder, check=True)
+    crate = os.path.join(crates, "lanes")
+    subprocess.run(["rt", "run"], cwd=crate, check=True, input=b"aag 0 0 0 0 0\n", stdout=subprocess.DEVNULL)
+    return os.path.join(crate, "out", "lanes")
+
+
+def times(program, text):
+    """The nanoseconds of all steps, by `lanes` and `plain`."""
+    run = subprocess.run([program], input=text.encode(), capture_output=True, check=False)
+    if run.returncode != 0:
+        sys.exit(f"status {run.returncode}: {run.stderr[:200]!r}\n{text[:2000]}")
+    return {word: int(number) for word, number in (line.split() for line in run.stdout.decode().splitlines())}
+
+
+def circuit_text(dice):
+    """A small circuit, as ASCII AIGER."""
+    inputs, latches, gates, outputs = dice.randrange(5), dice.randrange(5), dice.randrange(12), dice.randrange(4)
+    most = inputs + latches + gates
+    order = list(range(1 + inputs + latches, most + 1))
+    dice.shuffle(order)
+    known, lines = list(range(1 + inputs + latches)), []
+    for variable in order:
+        lines.append(f"{2 * variable} " + " ".join(str(2 * dice.choice(known) + dice.randrange(2)) for _ in range(2)))
+        known.append(variable)
+    dice.shuffle(lines)
+    literal = lambda: 2 * dice.randrange(most + 1) + dice.randrange(2)
+    head = [f"aag {most} {inputs} {latches} {outputs} {gates}"]
+    head += [str(2 * v) for v in range(1, 1 + inputs)]
+    head += [f"{2 * v} {literal()} {dice.randrange(2)}" for v in range(1 + inputs, 1 + inputs + latches)]
+    head += [str(literal()) for _ in range(outputs)]
+    return "\n".join(head + lines) + "\n"
+
+
+def main():
+    words = argparse.ArgumentParser(description=__doc__.split("\n", maxsplit=1)[0])
+    words.add_argument("--random", type=int, default=200)
+    words.add_argument("--program")
+    given = words.parse_args()
+    import simulate  # the circuits of the other bench
+
+    with tempfile.TemporaryDirectory() as folder:
+        program = given.program or made(folder)
+        dice = random.Random(given.random)
+        for _ in range(given.random):
+            times(program, circuit_text(dice))
+        print(f"{given.random} circuits: in 256 lanes, {LETTERS} letters long, as the plain runs have it")
+        for gates in SIZES:
+            found = times(program, simulate.circuit_text(gates))
+            each = {word: nanos / LETTERS / gates for word, nanos in found.items()}
+            print(f"{gates:>9} gates: {each['lanes']:.1f} ns a gate in lanes, {each['plain']:.1f} in one run, ratio {found['lanes'] / found['plain']:.1f}", flush=True)
+
+
+if __name__ == "__main__":
+    main()
