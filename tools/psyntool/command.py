@@ -16,6 +16,9 @@ Runs psyn on files.
   tools/psyn wave CIRCUIT STIMULUS         what `sim` prints, as a VCD file for a wave viewer
   tools/psyn certificate GAME SOLUTION     a certificate with counts 0 of another solver's `paritysol`, for `closed`
 
+Who wins this game, by which moves?
+  tools/psyn solve game.pg > solution.cert
+
 Is this certificate right?
   tools/psyn check game.pg solution.cert
 

@@ -4,6 +4,7 @@ import re
 
 # What each command reads, in order.
 KINDS = {
+    "solve": ["game"],
     "closed": ["game", "certificate"],
     "check": ["game", "certificate"],
     "sim": ["circuit", "stimulus"],
