@@ -1,7 +1,7 @@
 #!/usr/bin/env python3
 """Times unions of random cubes, and classes of their letters, beside BuDDy.
 
-  bench/diagrams.py [--runs N] [--program PROGRAM] [COUNT..]
+  bench/diagrams.py [--runs N] [--program PROGRAM] [--labels] [COUNT..]
 
 The program bench/diagrams is made in a temporary folder, over copies of the crates with what earlier checks kept in out/;
 --program gives one that was made before. bench/union.c is compiled with the library of the package libbdd-dev, and left out
@@ -10,8 +10,14 @@ where that fails. Each joins COUNT cubes (10000, 20000, 40000, 80000) over 24 pr
 A line for each count: psyn's and BuDDy's least time of --runs (3) runs in milliseconds, for the unions alone; the first over the
 second; psyn's nodes, and how many it made in a second; and how long two calls of `classes` took, of the first eight propositions
 and of each fourth one. Both must find the same number of random letters in the union.
+
+With --labels it times the diagram of one label of COUNT signs (10000, 20000, 50000, 100000) over 64 propositions instead: `any`, a
+disjunction of conjunctions of five literals among twelve neighbours, and `all`, a conjunction of such disjunctions. A line for each:
+the signs; the least seconds of --runs runs; how often they grew for each doubling of the signs since the line above; the nodes
+made, and those of the diagram; and `classes` as above, of the first eight propositions and of each eighth one.
 """
 import argparse
+import math
 import os
 import shutil
 import subprocess
@@ -57,11 +63,30 @@ def answers(command, count, text, runs):
         run = subprocess.run(command, input=text, capture_output=True, check=True, text=True)
         lines = [line.replace("Node { place: ", "").replace(" }", "").split() for line in run.stdout.splitlines()]
         found = [dict(zip(line[::2], line[1::2])) for line in lines]
-        if int(found[0]["cubes"]) != count:
+        if int(found[0].get("cubes", count)) != count:
             sys.exit(run.stdout)
         if best is None or int(found[0]["nanos"]) < int(best[0]["nanos"]):
             best = found
     return best
+
+
+def tell(names):
+    print("  ".join(f"{str(name):>9}" for name in names), flush=True)
+
+
+def labels(program, counts, runs):
+    """Times the diagrams of labels, and their classes."""
+    tell(["label", "signs", "seconds", "doubling", "made", "nodes", "classes", "first ms", "classes", "eighth ms"])
+    for shape in ("any", "all"):
+        last = None
+        for count in counts:
+            found = answers([program], count, f"{shape} {count}", runs)
+            signs, made = int(found[0]["signs"]), int(found[0]["made"])
+            seconds = int(found[0]["nanos"]) / 1e9
+            growth = f"{2 ** (math.log(seconds / last[1]) / math.log(signs / last[0])):.2f}" if last else "-"
+            parts = [part for line in found[1:] for part in (line["classes"], f"{int(line['nanos']) / 1e6:.0f}")]
+            tell([shape, signs, f"{seconds:.3f}", growth, made, int(found[0]["copied"]) - made - 1] + parts)
+            last = (signs, seconds)
 
 
 def main():
@@ -69,9 +94,13 @@ def main():
     words.add_argument("counts", nargs="*", type=int)
     words.add_argument("--runs", type=int, default=3)
     words.add_argument("--program")
+    words.add_argument("--labels", action="store_true")
     given = words.parse_args()
     with tempfile.TemporaryDirectory() as folder:
         program = given.program or made(folder)
+        if given.labels:
+            labels(program, given.counts or [10000, 20000, 50000, 100000], given.runs)
+            return
         other = yardstick(folder)
         print("  ".join(f"{word:>9}" for word in ["cubes", "psyn ms", "BuDDy ms", "ratio", "nodes", "nodes/s", "first ms", "fourth ms"]))
         for count in given.counts or [10000, 20000, 40000, 80000]:
