@@ -1,9 +1,9 @@
-//! The law that the program's answer is determined.
+//! The law that the program's answer is determined, but for the choice of a solver.
 
 ghost use Rattle.psyn.specs.Determined.{HasOneAnswer};
 
-/// An input has one answer at most: whoever meets the definitions writes the same bytes and ends with the same status, or
-/// wants memory.
+/// An input that asks no solver has one answer at most: whoever meets the definitions writes the same bytes and ends with the
+/// same status, or wants memory.
 pub fn one_answer()
     ensures { HasOneAnswer }
 {
