@@ -5,7 +5,9 @@ pub mod FreeCounts
 pub mod Grouping
 pub mod LaidOut
 pub mod Least
+pub mod NumberPlaces
 pub mod Parts
 pub mod PlaceIn
+pub mod Putting
 pub mod Reaching
 pub mod Spread

@@ -1,4 +1,5 @@
 pub mod Aims
+pub mod Numbers
 pub mod Results
 pub mod Sources
 pub mod Steps

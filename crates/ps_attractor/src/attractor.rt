@@ -47,6 +47,8 @@ pub fn attract<A: Arena>(
     requires subgame_places { length subgame.now ≡ vertex_count (A.game arena.now) }
     requires target_places { length target.now ≡ vertex_count (A.game arena.now) }
     ensures places { IfOk result (λ attracted. length attracted.region ≡ vertex_count (A.game arena.now)) }
+    ensures move_places { IfOk result (λ attracted. length attracted.moves ≡ vertex_count (A.game arena.now)) }
+    ensures rank_places { IfOk result (λ attracted. length attracted.rank.items ≡ vertex_count (A.game arena.now)) }
     ensures within { IfOk result (λ attracted. IsWithin (has attracted.region) (has subgame.now)) }
     ensures closed { IfOk result (λ attracted.
         IsClosed (A.game arena.now) (has subgame.now) player (has target.now) (has attracted.region)) }
@@ -131,7 +133,8 @@ fn placed_moves<A: Arena>(
     requires levels { length tables.now.level ≡ vertex_count (A.game arena.now) }
     requires moves { length tables.now.moves ≡ vertex_count (A.game arena.now) }
     requires target { length target.now ≡ vertex_count (A.game arena.now) }
-    ensures { IfOk result (AreMovesTo (A.game arena.now) tables.now player target.now (vertex_count (A.game arena.now))) }
+    ensures places { IfOk result (λ moves. length moves ≡ vertex_count (A.game arena.now)) }
+    ensures given { IfOk result (AreMovesTo (A.game arena.now) tables.now player target.now (vertex_count (A.game arena.now))) }
 {
     let count = arena.count();
     let mut moves = Strategy::empty(alloc, count)?;
@@ -147,7 +150,8 @@ fn placed_moves<A: Arena>(
 /// The first place of each vertex that stands in the trail.
 fn first_places(alloc: Global, tables: &Tables, count: usize) -> Result<Vec<usize>, AllocError>
     requires { (j : ℕ) → j < length tables.now.trail → slice_index tables.now.trail j < count }
-    ensures { IfOk result (λ places. (v : ℕ) → StandsFrom tables.now 0 v →
+    ensures places { IfOk result (λ places. length places.items ≡ count) }
+    ensures first { IfOk result (λ places. (v : ℕ) → StandsFrom tables.now 0 v →
         slice_index places.items v ≡ place_in tables.now.trail v) }
 {
     let mut places = vec![in alloc; 0; count]?;

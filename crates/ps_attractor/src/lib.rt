@@ -3,6 +3,7 @@
 
 mod aim;
 mod attractor;
+mod numbers;
 mod sources;
 mod tables;
 #[cfg(test)]
@@ -11,5 +12,6 @@ mod worklist;
 
 pub use aim::Aim;
 pub use attractor::{Attracted, attract};
+pub use numbers::places_by_number;
 pub use sources::Sources;
 pub use tables::Tables;

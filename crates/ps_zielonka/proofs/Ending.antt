@@ -1,14 +1,14 @@
 -- The end: from a game that is solved to the region and the strategies by which both players hold.
-use Rattle.std.proofs.Common.{◌≡◌, ◌≢◌, ℕ, ◌<◌, ◌≤◌, inl, inr, List, length, get_or, Option, Some, Bool, subst, arith}
-use Rattle.std.specs.Prelude.{IsTrue}
-use Rattle.std.proofs.lemmas.Bool.{cases_lt, false≢true, not-true, not_from_false, false_from_ne_true}
+use Rattle.std.proofs.Common.{◌≡◌, ◌≢◌, ℕ, ◌<◌, ◌≤◌, inl, inr, List, length, get_or, Option, Some, None, Bool, subst, arith}
+use Rattle.std.specs.Prelude.{IsTrue, IsSome}
+use Rattle.std.proofs.lemmas.Bool.{cases_eq, cases_lt, false≢true, not-true, not_from_false, false_from_ne_true}
 use Rattle.std.proofs.lemmas.List.{get_or_past}
-use Rattle.ps_game.specs.Games.{ParityGame, vertex_count}
+use Rattle.ps_game.specs.Games.{ParityGame, vertex_count, owner_of}
 use Rattle.ps_game.specs.Plays.{Holds}
 use Rattle.ps_game.specs.Regions.{has, move_at}
 use Rattle.ps_game.proofs.OnPaths.{Holds-HoldsWithin}
 use Rattle.ps_zielonka.specs.Turns.{Solved}
-use Rattle.ps_zielonka.specs.Answers.{others, IsRegionTo, AreMovesTo}
+use Rattle.ps_zielonka.specs.Answers.{others, IsRegionTo, AreMovesTo, MovesAt, MovesWithin}
 use Rattle.ps_attractor.specs.Tables.{TablesData}
 use Rattle.ps_zielonka.specs.Nests.{from}
 use Rattle.ps_zielonka.specs.Stacks.{IsSolvedBy}
@@ -108,3 +108,44 @@ pub answer_second : (game : ParityGame) (tables : TablesData) (winner read again
 answer_second game tables winner read again region strategy same same_again solved_by is_region given =
     holds_second game winner tables.moves (from tables.level 1) region strategy (IsSolved-tables game tables winner solved_by)
     (whole_region game winner read region same solved_by.winners is_region) (same_moves game tables.moves winner again 1 strategy same_again given)
+
+-- where a player has a move it wins and owns the vertex
+move_is_given : (game : ParityGame) (moves winner : List ℕ) (player n v : ℕ) (strategy : List (Option ℕ)) → AreMovesTo game moves winner player n strategy → IsSome (move_at strategy v) → (v < n) × MovesAt game winner player v
+move_is_given game moves winner player n v strategy given some = elim (cases_lt v n) [
+  | inr past ↦ absurd (none_some (given.later v past))
+  | inl below ↦ elim (cases_eq (get_or winner v 0) player) [
+    | inr loses ↦ absurd (none_some (given.only v below (λ is. loses is.wins)))
+    | inl wins ↦ elim (cases_eq (owner_of game v) player) [
+      | inr foreign ↦ absurd (none_some (given.only v below (λ is. foreign is.owns)))
+      | inl owns ↦ (below, record { wins = wins; owns = owns })
+    ]
+  ]
+]
+  where
+    none_some : move_at strategy v ≡ None → ⊥
+    none_some none = (let There : Option ℕ → Type 0 = λ o. IsSome o in false≢true (subst There none some))
+
+pub moves_first : (game : ParityGame) (tables : TablesData) (winner read again : List ℕ) (region : List Bool) (strategy : List (Option ℕ)) → read ≡ winner → again ≡ winner → IsSolvedBy game tables winner
+    → IsRegionTo read (length read) region → AreMovesTo game tables.moves again 0 (vertex_count game) strategy → MovesWithin game 0 (has region) strategy
+moves_first game tables winner read again region strategy same same_again solved_by is_region given =
+    let whole = whole_region game winner read region same solved_by.winners is_region in
+    let moves = same_moves game tables.moves winner again 0 strategy same_again given in
+    let at = λ (v : ℕ) (some : IsSome (move_at strategy v)). move_is_given game tables.moves winner 0 (vertex_count game) v strategy moves some in
+    record {
+      within = λ v some. (let (below, is) = at v some in whole.all v below is.wins);
+      owns = λ v some. (let (below, is) = at v some in is.owns);
+    }
+
+pub moves_second : (game : ParityGame) (tables : TablesData) (winner read again : List ℕ) (region : List Bool) (strategy : List (Option ℕ)) → read ≡ winner → again ≡ winner → IsSolvedBy game tables winner
+    → IsRegionTo read (length read) region → AreMovesTo game tables.moves again 1 (vertex_count game) strategy → MovesWithin game 1 (others region) strategy
+moves_second game tables winner read again region strategy same same_again solved_by is_region given =
+    let whole = whole_region game winner read region same solved_by.winners is_region in
+    let moves = same_moves game tables.moves winner again 1 strategy same_again given in
+    let at = λ (v : ℕ) (some : IsSome (move_at strategy v)). move_is_given game tables.moves winner 1 (vertex_count game) v strategy moves some in
+    record {
+      within = λ v some. (
+          let (below, is) = at v some in
+          let wins : get_or winner v 0 ≡ 1 = is.wins in
+          not_from_false (has region v) (false_from_ne_true (has region v) (λ in_region. (let loses : get_or winner v 0 ≡ 0 = whole.won v below in_region in omega arith))));
+      owns = λ v some. (let (below, is) = at v some in is.owns);
+    }

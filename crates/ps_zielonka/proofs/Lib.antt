@@ -2,6 +2,7 @@ pub mod Begins
 pub mod Below
 pub mod Boards
 pub mod Climbs
+pub mod Counted
 pub mod Deep
 pub mod Depths
 pub mod Done

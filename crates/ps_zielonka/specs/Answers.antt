@@ -1,11 +1,16 @@
 -- From winners and moves to a region and strategies.
-use Rattle.std.specs.Prelude.{◌≡◌, ℕ, ◌<◌, ◌≤◌, List, Option, Some, None, Bool, false, IsTrue, not, slice_index}
+use Rattle.std.specs.Prelude.{◌≡◌, ℕ, ◌<◌, ◌≤◌, List, Option, Some, None, IsSome, Bool, false, IsTrue, not, slice_index}
 use Rattle.ps_game.specs.Games.{ParityGame, owner_of}
 use Rattle.ps_game.specs.Regions.{has, move_at}
 
 -- the vertices that are not in a region
 abbrev pub others : List Bool → ℕ → Bool
 others region v = not (has region v)
+
+-- only vertices of a set that the player owns have a move
+pub record MovesWithin (game : ParityGame) (player : ℕ) (set : ℕ → Bool) (strategy : List (Option ℕ)) : Type 0 where
+  pub within : (v : ℕ) → IsSome (move_at strategy v) → IsTrue (set v)
+  pub owns : (v : ℕ) → IsSome (move_at strategy v) → owner_of game v ≡ player
 
 -- of the vertices before n the region has just those that player 0 wins
 pub record IsRegionTo (winner : List ℕ) (n : ℕ) (region : List Bool) : Type 0 where

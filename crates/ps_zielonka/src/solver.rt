@@ -2,7 +2,7 @@ ghost use Rattle.std.specs.Prelude.{◌≡◌, IfOk, OnOk, length};
 ghost use Rattle.ps_game.specs.Games.{vertex_count};
 ghost use Rattle.ps_game.specs.Plays.{Holds};
 ghost use Rattle.ps_game.specs.Regions.{has, move_at};
-ghost use Rattle.ps_zielonka.specs.Answers.{others};
+ghost use Rattle.ps_zielonka.specs.Answers.{others, MovesWithin};
 ghost use Rattle.ps_zielonka.specs.Depths.{IsDepth};
 
 use crate::answer::{region_of, strategy_of};
@@ -22,6 +22,8 @@ pub fn regions<A: Arena>(
     ensures second_places { IfOk result (λ answer. length answer.2 ≡ vertex_count (A.game arena.now)) }
     ensures first_holds { IfOk result (λ answer. Holds (A.game arena.now) 0 (has answer.0) (move_at answer.1)) }
     ensures second_holds { IfOk result (λ answer. Holds (A.game arena.now) 1 (others answer.0) (move_at answer.2)) }
+    ensures first_moves { IfOk result (λ answer. MovesWithin (A.game arena.now) 0 (has answer.0) answer.1) }
+    ensures second_moves { IfOk result (λ answer. MovesWithin (A.game arena.now) 1 (others answer.0) answer.2) }
     ensures depth { OnOk result (IsDepth (A.game arena.now) counts.new.depth) }
     ensures raises { counts.new.raises ≡ counts.old.raises }
 {

@@ -100,7 +100,7 @@ returns-clause-moves g c =
       grown = c.in_ok-attract.ensures.grown;
       placed = subst Region c.count-count.ensures.vertices c.in_ok-region.ensures.placed;
     } in
-    only_moves game c.args.player subgame target old new region c.in_ok-moves.moves answer c.in_ok-moves.ensures
+    only_moves game c.args.player subgame target old new region c.in_ok-moves.moves answer c.in_ok-moves.ensures.given
 
 pub returns-clause-falls : goal.returns-clause-falls
 returns-clause-falls g c =
@@ -125,4 +125,4 @@ returns-clause-falls g c =
     } in
     let taken = answer_taken game c.args.player subgame target old new region answer in
     let attracted = c.in_ok-attract.ensures.attracted (has subgame) (has target) (has region) (answer_posed game c.args.player subgame target old new region answer) taken in
-    answer_falls game c.args.player subgame target old new region c.in_ok-moves.moves c.in_ok-rank.rank.items answer c.in_ok-moves.ensures c.in_ok-rank.ensures attracted.falls
+    answer_falls game c.args.player subgame target old new region c.in_ok-moves.moves c.in_ok-rank.rank.items answer c.in_ok-moves.ensures.given c.in_ok-rank.ensures.first attracted.falls
