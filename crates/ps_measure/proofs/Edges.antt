@@ -37,6 +37,15 @@ some_cond : (b : Bool) (x : ℕ) → b ≡ true → cond b (Some x) None ≡ Som
 some_cond true x e = refl
 some_cond false x e = absurd cc
 
+-- the places of a vertex that has places under a condition
+pub below_places : (b : Bool) (k n : ℕ) → k < cond b n 0 → k < n
+below_places true k n below = below
+below_places false k n below = absurd (omega (arith, below))
+
+below_degree : (b : Bool) (k n : ℕ) → b ≡ true → k < n → k < cond b n 0
+below_degree true k n e below = below
+below_degree false k n e below = absurd cc
+
 -- a link is an edge that remains
 pub link_remains : (r : RemainingData) (v w : ℕ) → Link (remaining_graph r) v w → Remains r v w
 link_remains r v w link =
@@ -48,7 +57,7 @@ link_remains r v w link =
       from = ends.0;
       to = ends.1;
       remains = record {
-        edge = (link.from, contains link.place w link.at at);
+        edge = (link.from, contains link.place w (below_places (has r.region v) link.place (length (successors_of r.game v)) link.at) at);
         chosen = λ own. elim (or_cases (not (owner_of r.game v == r.player)) (is_move (move_at r.strategy v) w) parts.1) [
           | inl other ↦ absurd (clash (owner_of r.game v == r.player) (eq-eqb (owner_of r.game v) r.player own) (not-true (owner_of r.game v == r.player) other))
           | inr chosen ↦ is_move-some (move_at r.strategy v) w chosen
@@ -64,7 +73,7 @@ link_remains r v w link =
 
 -- an edge that remains is a link
 pub remains_link : (r : RemainingData) (v w : ℕ) → Remains r v w → Link (remaining_graph r) v w
-remains_link r v w remains = record { from = remains.remains.edge.0; place = remains.remains.edge.1.0; at = remains.remains.edge.1.1; target = target }
+remains_link r v w remains = record { from = remains.remains.edge.0; place = remains.remains.edge.1.0; at = below_degree (has r.region v) remains.remains.edge.1.0 (length (successors_of r.game v)) remains.from remains.remains.edge.1.1; target = target }
   where
     is : slice_index (successors_of r.game v) remains.remains.edge.1.0 ≡ w
     is = get_or_default (successors_of r.game v) remains.remains.edge.1.0 0 w remains.remains.edge.1.1 ∙ remains.remains.edge.1.2
@@ -86,10 +95,6 @@ remains_link r v w remains = record { from = remains.remains.edge.0; place = rem
 nothing_below_zero : (b : Bool) (k n : ℕ) → k < cond b n 0 → (b ≡ true) × (k < n)
 nothing_below_zero true k n below = (refl, below)
 nothing_below_zero false k n below = absurd (omega arith)
-
-below_degree : (b : Bool) (k n : ℕ) → b ≡ true → k < n → k < cond b n 0
-below_degree true k n e below = below
-below_degree false k n e below = absurd cc
 
 -- a link between vertices that do not pass the priority
 pub low_link : (low : LowData) (w v : ℕ) → Link (low_graph low) w v → Link (star_graph low.star) w v × (slice_index low.levels w ≤ low.priority) × (slice_index low.levels v ≤ low.priority)

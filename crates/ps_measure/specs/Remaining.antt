@@ -31,7 +31,7 @@ may_remain r v w =
 abbrev pub remaining_graph : RemainingData → Digraph
 remaining_graph r = record {
   count = vertex_count r.game;
-  degree = λ v. length (successors_of r.game v);
+  degree = λ v. if has r.region v then length (successors_of r.game v) else 0;
   target = λ v k. let w = slice_index (successors_of r.game v) k in if may_remain r v w then Some w else None;
 }
 

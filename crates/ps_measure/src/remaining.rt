@@ -48,7 +48,11 @@ impl<'a, A: Arena> Graph for Remaining<'a, A> {
     }
 
     fn degree(&self, item: usize) -> usize {
-        self.arena.degree(item)
+        if self.region.contains(item) {
+            self.arena.degree(item)
+        } else {
+            0
+        }
     }
 
     fn target(&self, item: usize, place: usize) -> Option<usize> {
