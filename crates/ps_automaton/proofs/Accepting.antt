@@ -152,6 +152,7 @@ module _ (file : FileData) (chain : Chain) (a : Auto) (is_chain : chain_of file.
         let count = laps * length lap in
         let run = run_of_auto file chain a is_chain is_auto (word stem lap) letters_are from count (some_letters laps some_laps) back_here even in
         record {
+          has_letter = some;
           before = before;
           laps = laps;
           some = some_laps;

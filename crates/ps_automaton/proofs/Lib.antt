@@ -15,3 +15,4 @@ pub mod StateSteps
 pub mod Drafting
 pub mod Building
 pub mod ChainSets
+pub mod OneRefusal

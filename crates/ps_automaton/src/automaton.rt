@@ -7,7 +7,7 @@ ghost use Rattle.ps_hoa.specs.Memory.{bytes_of};
 ghost use Rattle.ps_hoa.specs.Sound.{AreBelow, AreNames};
 ghost use Rattle.ps_automaton.specs.Acceptance.{IsAccepted};
 ghost use Rattle.ps_automaton.specs.Answers.{IsAdmitted, IsRefused};
-ghost use Rattle.ps_automaton.specs.Automata.{IsBuiltFrom, auto_of, node_of, pair_of, step_of};
+ghost use Rattle.ps_automaton.specs.Automata.{IsBuiltFrom, IsWhole, auto_of, node_of, pair_of, step_of};
 ghost use Rattle.ps_automaton.specs.Autos.{greatest_along, greatest_of_laps, state_after, state_behind};
 ghost use Rattle.ps_automaton.specs.Chains.{Chain};
 ghost use Rattle.ps_automaton.specs.Returning.{Returns};
@@ -106,7 +106,8 @@ impl Automaton {
 
     /// The number of states; the sink is none of them.
     pub fn states(&self) -> u32
-        ensures { result ≡ self.now.states }
+        ensures states { result ≡ self.now.states }
+        ensures whole { IsWhole self.now }
     {
         self.states
     }
@@ -123,6 +124,7 @@ impl Automaton {
     pub fn store(&self) -> &Store
         ensures store { result.now ≡ self.now.store }
         ensures propositions { result.now.propositions ≡ length self.now.names }
+        ensures whole { IsWhole self.now }
     {
         &self.store
     }

@@ -28,5 +28,5 @@ mod union;
 
 pub use automaton::Automaton;
 pub use fault::AutomatonFault;
-pub use laws::greatest_level_decides;
+pub use laws::{greatest_level_decides, refusal_is_one};
 pub use step::Step;

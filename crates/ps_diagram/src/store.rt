@@ -135,7 +135,8 @@ impl Store {
     ///
     /// Fails where a growth was refused.
     pub fn copy(&self) -> Result<Self, AllocError>
-        ensures { IfOk result (λ store. store ≡ self.now) }
+        ensures same { IfOk result (λ store. store ≡ self.now) }
+        ensures sound { IsSound self.now }
     {
         let cells = self.cells.clone()?;
         Ok(Store {
