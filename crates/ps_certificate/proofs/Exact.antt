@@ -1,21 +1,23 @@
 -- What the reader answers is what the parts of the text say.
-use Rattle.std.proofs.Common.{◌≡◌, ℕ, zero, suc, ◌+◌, Bool, true, false, cond, eqb, ◌||◌, List, [], ◌∷◌, Option, Some, None, Result, Ok, Err, refl, sym, ap, subst, inl, inr, ◌∙◌, arith}
+use Rattle.std.proofs.Common.{◌≡◌, ℕ, zero, suc, ◌+◌, ◌≤◌, Bool, true, false, cond, eqb, ◌||◌, List, [], ◌∷◌, Option, Some, None, Result, Ok, Err, refl, sym, ap, subst, inl, inr, ◌∙◌, arith}
 use Rattle.std.proofs.lemmas.Bool.{eqb-true, eqb-false}
 use Rattle.ps_text.specs.Answers.{signs}
 use Rattle.ps_text.specs.Parts.{IsRead, NoBad, one, then_by, mapped}
 use Rattle.ps_text.specs.Readers.{IsSuffix}
 use Rattle.ps_text.proofs.Splits.{same_head}
-use Rattle.ps_text.proofs.Laws.{Laws, Joint, Nothing, Or}
+use Rattle.ps_text.proofs.Laws.{Laws, Joint, Nothing, Or, Apart}
+use Rattle.ps_text.proofs.Joined.{joint}
+use Rattle.ps_certificate.specs.Faults.{cause_number}
 use Rattle.ps_text.proofs.Simple.{nil_is_cons, Taken, BadSign, laws_one, laws_mapped, read_give, read_one, none_is_some}
 use Rattle.ps_text.proofs.Exits.{suffix_refl}
 use Rattle.ps_certificate.specs.declared.fault.CertCause.{CertCause}
 use Rattle.ps_certificate.specs.declared.fault.CertCause.TheVariants.{Syntax, OtherGame}
 use Rattle.ps_certificate.specs.Places.{Place}
-use Rattle.ps_certificate.specs.Reading.{Fault, ◌>>=◌, byte_on, byte_at, word_at, number_at, ends, field_at, exactly_at, winner_at, counts_at}
-use Rattle.ps_certificate.specs.Texts.{Seen, pieces_at, stream_at, Field, EndsField, take_byte, byte, word, number, Never, take_winner, winner, counts}
+use Rattle.ps_certificate.specs.Reading.{Fault, ◌>>=◌, byte_on, byte_at, word_at, number_at, ends, field_at, exactly_at, two_at, winner_at, counts_at}
+use Rattle.ps_certificate.specs.Texts.{Seen, pieces_at, stream_at, Field, EndsField, take_byte, byte, word, two, take_two, judged, Verdict, OfOtherGame, number, Never, winner, counts}
 use Rattle.ps_certificate.proofs.Fitting.{ok_is}
-use Rattle.ps_certificate.proofs.NumberPart.{at_place, Odd, number_reads, number_fails, number_wrong, laws_number}
-use Rattle.ps_certificate.proofs.TextLaws.{Separates, byte_taken, tight_joint, loose_joint, laws_byte, laws_word, laws_counts, loose_then, laws_winner}
+use Rattle.ps_certificate.proofs.NumberPart.{at_place, Odd, AtDigit, Settled, judged_reads, judged_fails, judged_wrong, number_reads, number_fails, laws_judged, laws_number}
+use Rattle.ps_certificate.proofs.TextLaws.{Separates, no_digit_separates, byte_taken, first_taken, tight_joint, loose_joint, laws_byte, laws_two, laws_word, laws_counts, loose_then}
 use Rattle.ps_certificate.proofs.Told.{Told, told_then, told_mapped, told_as, refused_here}
 
 abbrev pub place_of : ℕ → List ℕ → Place
@@ -70,37 +72,38 @@ told_word [] place = (suffix_refl (at_place place), read_give (signs (at_place p
 told_word (b ∷ bytes) place =
     told_then (tight_joint (laws_byte b) (λ _. laws_word bytes)) nothing itself nothing itself place (byte_at b place) (word_at bytes) (told_byte b place) (λ q _. told_word bytes q)
 
--- ## Winners
+-- ## One of two bytes
 
-told_winner_on : (at : ℕ) (bytes : List ℕ) → Told first second winner (place_of at bytes) (winner_at (place_of at bytes))
-unfolding winner_at
-told_winner_on at [] = refused_here laws_winner (place_of at []) (λ c bytes e h. nil_is_cons c bytes e)
-told_winner_on at (c ∷ bytes) = go (eqb c 48) (eqb c 49) refl refl
-  where
-    moved : Bool → Result Place Fault
-    moved x = cond x (Ok (place_of (at + 1) bytes)) (Err (Syntax, at))
+module _ {V : Type 0} (a b : ℕ) (v w : V) where
+  told_two_on : (at : ℕ) (bytes : List ℕ) → Told first second (two a b v w) (place_of at bytes) (two_at a b v w (place_of at bytes))
+  unfolding two_at
+  told_two_on at [] = refused_here (laws_two a b v w) (place_of at []) (λ c bytes e h. nil_is_cons c bytes e)
+  told_two_on at (c ∷ bytes) = go (eqb c a) (eqb c b) refl refl
+    where
+      go : (x y : Bool) → eqb c a ≡ x → eqb c b ≡ y → Told first second (two a b v w) (place_of at (c ∷ bytes))
+          (cond {A = Result (V × Place) Fault} x
+          (cond {A = Result Place Fault} x (Ok (place_of (at + 1) bytes)) (Err (Syntax, at)) >>= λ next. Ok (v, next))
+          (cond {A = Result Place Fault} y (Ok (place_of (at + 1) bytes)) (Err (Syntax, at)) >>= λ next. Ok (w, next)))
+      go true y e f = taken_sign (take_two a b v w) NoBad at c bytes v (ap (λ x. cond x (Some v) (cond (eqb c b) (Some w) None)) e) (λ f h. h)
+      go false true e f = taken_sign (take_two a b v w) NoBad at c bytes w (ap (λ x. cond x (Some v) (cond (eqb c b) (Some w) None)) e ∙ ap (λ y. cond y (Some w) None) f) (λ f h. h)
+      go false false e f = refused_here laws_first (place_of at (c ∷ bytes)) none
+        where
+          laws_first : Laws Odd (two a b v w) (Or (Taken (take_two a b v w)) (BadSign {F = CertCause} NoBad)) Nothing ⊥
+          laws_first = laws_one (take_two a b v w) NoBad Odd (sees a []) v (first_taken a b v w (sees a []) refl) (λ t a o. none_is_some o.0 o.1) (λ t a o. none_is_some o.0 o.1)
 
-    go : (x y : Bool) → eqb c 48 ≡ x → eqb c 49 ≡ y → Told first second winner (place_of at (c ∷ bytes))
-        (cond {A = Result (ℕ × Place) Fault} x
-        (cond {A = Result Place Fault} x (Ok (place_of (at + 1) bytes)) (Err (Syntax, at)) >>= λ next. Ok (0, next))
-        (cond {A = Result Place Fault} y (Ok (place_of (at + 1) bytes)) (Err (Syntax, at)) >>= λ next. Ok (1, next)))
-    go true y e f = taken_sign take_winner NoBad at c bytes 0 (ap (λ x. cond x (Some 0) (cond (eqb c 49) (Some 1) None)) e) (λ f h. h)
-    go false true e f = taken_sign take_winner NoBad at c bytes 1 (ap (λ x. cond x (Some 0) (cond (eqb c 49) (Some 1) None)) e ∙ ap (λ y. cond y (Some 1) None) f) (λ f h. h)
-    go false false e f = refused_here laws_first (place_of at (c ∷ bytes)) none
-      where
-        laws_first : Laws Odd winner (Or (Taken take_winner) (BadSign {F = CertCause} NoBad)) Nothing ⊥
-        laws_first = laws_one take_winner NoBad Odd (sees 48 []) 0 refl (λ t a o. none_is_some o.0 o.1) (λ t a o. none_is_some o.0 o.1)
+          none : (d : ℕ) (more : List ℕ) → c ∷ bytes ≡ d ∷ more → Or (Taken (take_two a b v w)) (BadSign {F = CertCause} NoBad) (sees d more) → ⊥
+          none d more s (inr h) = h.1
+          none d more s (inl h) =
+              let same : c ≡ d = same_head c d bytes more s in
+              let taken : cond (eqb c a) (Some v) (cond (eqb c b) (Some w) None) ≡ Some h.0 = subst (λ z. cond (eqb z a) (Some v) (cond (eqb z b) (Some w) None) ≡ Some h.0) (sym same) h.1 in
+              let not_taken : cond (eqb c a) (Some v) (cond (eqb c b) (Some w) None) ≡ None = ap (λ x. cond x (Some v) (cond (eqb c b) (Some w) None)) e ∙ ap (λ y. cond y (Some w) None) f in
+              none_is_some h.0 (sym not_taken ∙ taken)
 
-        none : (d : ℕ) (more : List ℕ) → c ∷ bytes ≡ d ∷ more → Or (Taken take_winner) (BadSign {F = CertCause} NoBad) (sees d more) → ⊥
-        none d more s (inr h) = h.1
-        none d more s (inl h) =
-            let same : c ≡ d = same_head c d bytes more s in
-            let taken : cond (eqb c 48) (Some 0) (cond (eqb c 49) (Some 1) None) ≡ Some h.0 = subst (λ z. cond (eqb z 48) (Some 0) (cond (eqb z 49) (Some 1) None) ≡ Some h.0) (sym same) h.1 in
-            let not_taken : cond (eqb c 48) (Some 0) (cond (eqb c 49) (Some 1) None) ≡ None = ap (λ x. cond x (Some 0) (cond (eqb c 49) (Some 1) None)) e ∙ ap (λ y. cond y (Some 1) None) f in
-            none_is_some h.0 (sym not_taken ∙ taken)
+  pub told_two : (place : Place) → Told first second (two a b v w) place (two_at a b v w place)
+  told_two place = told_two_on place.at place.rest
 
 pub told_winner : (place : Place) → Told first second winner place (winner_at place)
-told_winner place = told_winner_on place.at place.rest
+told_winner place = told_two 48 49 0 1 place
 
 -- ## Numbers
 
@@ -137,41 +140,54 @@ pub not_separated : (place : Place) → ends place.rest ≡ false → (b : ℕ) 
 not_separated place e b bytes s (inl h) = ends_false place.rest e (subst EndsField (sym s) (inl h))
 not_separated place e b bytes s (inr h) = ends_false place.rest e (subst EndsField (sym s) (inr (inl h)))
 
--- a number, and what stands behind it
-module _ {B Y : Type 0} (Wrong : ℕ → Type 0) (Q : ℕ → Field B) (laws : (n : ℕ) → Laws Odd (Q n) Separates Nothing ⊥) (val : Y → B) (next : Y → Place) (place : Place) where
-  joined : Joint (number Wrong) Q
-  joined = loose_joint (laws_number Wrong) laws
+-- a number of which a verdict speaks only where it is ended, and what stands behind it
+module _ {B Y : Type 0} (Wrong : Verdict) (ended_only : (more : List ℕ) (n : ℕ) (f : CertCause) → Wrong more n f → EndsField more)
+    (Q : ℕ → Field B) {First More : Seen → Type 0} (laws : (n : ℕ) → Laws Odd (Q n) First More ⊥) (apart : Apart AtDigit First) (val : Y → B) (next : Y → Place) (place : Place) where
+  settled : Settled Wrong
+  settled more n f w = inl (ended_only more n f w)
 
-  pub told_right : (n : ℕ × Place) (r : Result Y Fault) → number_at place ≡ Ok n → (EndsField n.1.rest → Wrong n.0 → ⊥) → Told val next (Q n.0) n.1 r → Told val next (then_by (number Wrong) Q) place r
+  joined : Joint (judged Wrong) Q
+  joined = joint (laws_judged Wrong) laws apart
+
+  pub told_right : (n : ℕ × Place) (r : Result Y Fault) → number_at place ≡ Ok n → ((f : CertCause) → Wrong n.1.rest n.0 f → ⊥) → Told val next (Q n.0) n.1 r → Told val next (then_by (judged Wrong) Q) place r
   told_right n r e right m =
-      told_then joined first second val next place (Ok n) (λ _. r) (number_reads Wrong place n e right) (λ x k. subst (λ (y : ℕ × Place). Told val next (Q y.0) y.1 r) (ok_is n x k) m)
+      told_then joined first second val next place (Ok n) (λ _. r) (judged_reads Wrong settled place n e right) (λ x k. subst (λ (y : ℕ × Place). Told val next (Q y.0) y.1 r) (ok_is n x k) m)
 
-  pub told_wrong : (n : ℕ × Place) → number_at place ≡ Ok n → EndsField n.1.rest → Wrong n.0 → Told val next (then_by (number Wrong) Q) place (Err (OtherGame, place.at))
-  told_wrong n e ended wrong =
-      told_then joined first second val next place (Err (OtherGame, place.at)) (λ _. Err (OtherGame, place.at)) (number_wrong Wrong place n e ended wrong) (λ x k. absurd cc)
+  pub told_wrong : (n : ℕ × Place) (f : CertCause) → number_at place ≡ Ok n → Wrong n.1.rest n.0 f → ((g : CertCause) → Wrong n.1.rest n.0 g → cause_number f ≤ cause_number g)
+      → Told val next (then_by (judged Wrong) Q) place (Err (f, place.at))
+  told_wrong n f e wrong least =
+      told_then joined first second val next place (Err (f, place.at)) (λ _. Err (f, place.at)) (judged_wrong Wrong settled place n f e wrong least) (λ x k. absurd cc)
 
-  pub told_field : (more : ℕ × Place → Result Y Fault) → ((n : ℕ × Place) → number_at place ≡ Ok n → EndsField n.1.rest → Told val next (then_by (number Wrong) Q) place (more n))
-      → Told val next (then_by (number Wrong) Q) place (field_at place >>= more)
+  pub told_field : (no_end : (b : ℕ) (bytes : List ℕ) → First (sees b bytes) → EndsField (b ∷ bytes)) (more : ℕ × Place → Result Y Fault)
+      → ((n : ℕ × Place) → number_at place ≡ Ok n → EndsField n.1.rest → Told val next (then_by (judged Wrong) Q) place (more n))
+      → Told val next (then_by (judged Wrong) Q) place (field_at place >>= more)
   unfolding field_at
-  told_field more h = go (number_at place) refl
+  told_field no_end more h = go (number_at place) refl
     where
+      unseparated : (q : Place) → ends q.rest ≡ false → (b : ℕ) (bytes : List ℕ) → q.rest ≡ b ∷ bytes → First (sees b bytes) → ⊥
+      unseparated q e b bytes s x = ends_false q.rest e (subst EndsField (sym s) (no_end b bytes x))
+
       ended : (n : ℕ × Place) → number_at place ≡ Ok n → (b : Bool) → ends n.1.rest ≡ b
-          → Told val next (then_by (number Wrong) Q) place (cond {A = Result (ℕ × Place) Fault} b (Ok n) (Err (Syntax, n.1.at)) >>= more)
+          → Told val next (then_by (judged Wrong) Q) place (cond {A = Result (ℕ × Place) Fault} b (Ok n) (Err (Syntax, n.1.at)) >>= more)
       ended n e true t = h n e (ends_true n.1.rest t)
       ended n e false t =
-          told_then joined first second val next place (Ok n) (λ x. Err (Syntax, x.1.at)) (number_reads Wrong place n e (λ some wrong. ends_false n.1.rest t some))
-          (λ x k. refused_here (laws x.0) x.1 (not_separated x.1 (subst (λ (y : ℕ × Place). ends y.1.rest ≡ false) (ok_is n x k) t)))
+          told_then joined first second val next place (Ok n) (λ x. Err (Syntax, x.1.at)) (judged_reads Wrong settled place n e (λ f wrong. ends_false n.1.rest t (ended_only n.1.rest n.0 f wrong)))
+          (λ x k. refused_here (laws x.0) x.1 (unseparated x.1 (subst (λ (y : ℕ × Place). ends y.1.rest ≡ false) (ok_is n x k) t)))
 
-      go : (r : Result (ℕ × Place) Fault) → number_at place ≡ r → Told val next (then_by (number Wrong) Q) place ((r >>= λ n. cond {A = Result (ℕ × Place) Fault} (ends n.1.rest) (Ok n) (Err (Syntax, n.1.at))) >>= more)
+      go : (r : Result (ℕ × Place) Fault) → number_at place ≡ r → Told val next (then_by (judged Wrong) Q) place ((r >>= λ n. cond {A = Result (ℕ × Place) Fault} (ends n.1.rest) (Ok n) (Err (Syntax, n.1.at))) >>= more)
       go (Ok n) e = ended n e (ends n.1.rest) refl
-      go (Err f) e = told_then joined first second val next place (Err f) (λ _. Err f) (number_fails Wrong place f e) (λ x k. absurd cc)
+      go (Err f) e = told_then joined first second val next place (Err f) (λ _. Err f) (judged_fails Wrong place f e) (λ x k. absurd cc)
+
+separates_end : (b : ℕ) (bytes : List ℕ) → Separates (sees b bytes) → EndsField (b ∷ bytes)
+separates_end b bytes (inl e) = inl e
+separates_end b bytes (inr e) = inr (inl e)
 
 pub told_exactly : {B Y : Type 0} (wanted : ℕ) (Q : ℕ → Field B) (laws : (n : ℕ) → Laws Odd (Q n) Separates Nothing ⊥) (val : Y → B) (next : Y → Place) (place : Place) (more : Place → Result Y Fault)
     → ((q : Place) → Told val next (Q wanted) q (more q)) → Told val next (then_by (number (λ n. n ≡ wanted → ⊥)) Q) place (exactly_at wanted place >>= more)
 unfolding exactly_at
 told_exactly {Y = Y} wanted Q laws val next place more h =
     subst (Told val next (then_by (number Wrong) Q) place) (sym (bind_assoc (field_at place) step more))
-    (told_field Wrong Q laws val next place (λ n. step n >>= more) (λ n e ended. go n e ended (eqb n.0 wanted) refl))
+    (told_field (OfOtherGame Wrong) (λ m n f w. w.1) Q laws no_digit_separates val next place separates_end (λ n. step n >>= more) (λ n e ended. go n e ended (eqb n.0 wanted) refl))
   where
     Wrong : ℕ → Type 0
     Wrong n = n ≡ wanted → ⊥
@@ -181,8 +197,10 @@ told_exactly {Y = Y} wanted Q laws val next place more h =
 
     go : (n : ℕ × Place) → number_at place ≡ Ok n → EndsField n.1.rest → (b : Bool) → eqb n.0 wanted ≡ b
         → Told val next (then_by (number Wrong) Q) place (cond {A = Result Place Fault} b (Ok n.1) (Err (OtherGame, place.at)) >>= more)
-    go n e ended true t = told_right Wrong Q laws val next place n (more n.1) e (λ _ wrong. wrong (eqb-true n.0 wanted t)) (subst (λ m. Told val next (Q m) n.1 (more n.1)) (sym (eqb-true n.0 wanted t)) (h n.1))
-    go n e ended false t = told_wrong Wrong Q laws val next place n e ended (eqb-false n.0 wanted t)
+    go n e ended true t =
+        told_right (OfOtherGame Wrong) (λ m n f w. w.1) Q laws no_digit_separates val next place n (more n.1) e (λ f w. w.2 (eqb-true n.0 wanted t))
+        (subst (λ m. Told val next (Q m) n.1 (more n.1)) (sym (eqb-true n.0 wanted t)) (h n.1))
+    go n e ended false t = told_wrong (OfOtherGame Wrong) (λ m n f w. w.1) Q laws no_digit_separates val next place n OtherGame e (refl, ended, eqb-false n.0 wanted t) (λ g w. rw w.0 (omega arith))
 
 -- ## Counts
 

@@ -150,13 +150,16 @@ told_priority ps place start r e m =
     (subst (Told nothing itself (byte 32) place) e (told_byte 32 place))
     (λ q k. subst (λ z. Told (λ (n : ℕ × Place). drop 1 ps) second (mapped (λ _. drop 1 ps) (number (NotNext ps))) z r) (ok_is start q k) (told_mapped (λ _. drop 1 ps) (number (NotNext ps)) first second start r m))
 
-enters_priority : (ps : List ℕ) (place : Place) → comes 32 place.rest ≡ true → Enters (priority ps) (next_of (at_place place))
-enters_priority ps place e = enters_then (byte 32) (λ _. mapped (λ _. drop 1 ps) (number (NotNext ps)))
-    (tight_joint (laws_byte 32) (λ _. laws_mapped (λ _. drop 1 ps) (number (NotNext ps)) (laws_number (NotNext ps)))) (next_of (at_place place)) (go place.rest e)
+pub enters_space : (place : Place) → comes 32 place.rest ≡ true → Enters (byte 32) (next_of (at_place place))
+enters_space place e = go place.rest e
   where
     go : (bytes : List ℕ) → comes 32 bytes ≡ true → Enters (byte 32) (first_of (signs (pieces_at place.at bytes)))
     go [] e = absurd cc
     go (c ∷ bytes) e = enters_one (take_byte 32) NoBad (sees c bytes) (inl (tt, byte_taken 32 (sees c bytes) (eqb-true c 32 e)))
+
+enters_priority : (ps : List ℕ) (place : Place) → comes 32 place.rest ≡ true → Enters (priority ps) (next_of (at_place place))
+enters_priority ps place e = enters_then (byte 32) (λ _. mapped (λ _. drop 1 ps) (number (NotNext ps)))
+    (tight_joint (laws_byte 32) (λ _. laws_mapped (λ _. drop 1 ps) (number (NotNext ps)) (laws_number (NotNext ps)))) (next_of (at_place place)) (enters_space place e)
 
 many_more : (ps : List ℕ) (place : Place) (n : ℕ × Place) (r : Result (List ℕ × Place) Fault) → Told (λ (n : ℕ × Place). drop 1 ps) second (priority ps) place (Ok n)
     → Told first second (many priority (drop 1 ps)) n.1 r → Told first second (many priority ps) place r

@@ -15,15 +15,16 @@ use Rattle.ps_certificate.specs.declared.fault.CertCause.{CertCause}
 use Rattle.ps_certificate.specs.declared.fault.CertCause.TheVariants.{Syntax, OtherGame}
 use Rattle.ps_certificate.specs.Certificates.{EntryData, CertificateData}
 use Rattle.ps_certificate.specs.Places.{Place}
-use Rattle.ps_certificate.specs.Words.{first_words, odd_word, even_word}
-use Rattle.ps_certificate.specs.Reading.{Fault, ◌>>=◌, byte_at, word_at, comes, number_at, ends, field_at, exactly_at, priorities_at, winner_at, choice_at, found_or, counts_at, KnownData, count_number as known_count, entry_at, entries_at, ended, head_at, entries_of}
-use Rattle.ps_certificate.specs.Texts.{Seen, pieces_at, stream_at, causes, Field, EndsField, byte, number, winner, vertex_of, choice, counts, entry, entries, certificate}
+use Rattle.ps_certificate.specs.Words.{first_word, vertices_word, odd_word, even_word}
+use Rattle.ps_certificate.specs.Reading.{Fault, ◌>>=◌, byte_at, word_at, comes, number_at, ends, field_at, exactly_at, priorities_at, two_at, winner_at, choice_at, found_or, counts_in_at, lost_by_at, KnownData, entry_at, entries_at, ended, head_at, entries_of}
+use Rattle.ps_certificate.specs.Texts.{Seen, pieces_at, stream_at, causes, Field, EndsField, byte, number, winner, vertex_of, choice, counts_in, entry, entries, certificate}
 use Rattle.ps_certificate.proofs.Fitting.{ok_is}
 use Rattle.ps_certificate.proofs.NumberPart.{at_place, found, Odd, AtDigit, number_reads, number_fails, number_wrong}
-use Rattle.ps_certificate.proofs.TextLaws.{Separates, tight_joint, loose_joint, laws_byte, laws_word_from, laws_priorities, dash, chosen, laws_dash, laws_chosen, laws_choice, laws_space, laws_winner, entry_counts, laws_entry_counts, laws_entry_choice, laws_entry_winner, laws_entry_rest, laws_entry, laws_entries, laws_all_entries, laws_even, laws_even_word, laws_odd, behind_count, laws_behind_count, laws_count, laws_certificate}
+use Rattle.ps_certificate.proofs.TextLaws.{Separates, tight_joint, loose_joint, laws_byte, laws_word_from, laws_priorities, dash, chosen, laws_dash, laws_chosen, laws_choice, laws_space, laws_winner, entry_counts, laws_entry_counts, laws_entry_choice, laws_entry_winner, laws_entry_rest, laws_entry, laws_entries, laws_all_entries, laws_even, laws_even_word, laws_odd, behind_count, laws_behind_count, laws_count, laws_vertices_word, laws_version, behind_version, laws_from_version, laws_certificate}
 use Rattle.ps_certificate.proofs.Told.{Told, told_then, told_mapped, told_as, refused_here}
-use Rattle.ps_certificate.proofs.Exact.{place_of, sees, first, second, nothing, itself, bind_assoc, told_byte, told_word, told_winner, ends_true, ends_false, not_separated, told_exactly, counts_line, told_counts}
+use Rattle.ps_certificate.proofs.Exact.{place_of, sees, first, second, nothing, itself, bind_assoc, told_byte, told_word, told_two, told_winner, ends_true, ends_false, not_separated, told_exactly}
 use Rattle.ps_certificate.proofs.ExactLines.{avoids, told_priorities}
+use Rattle.ps_certificate.proofs.ExactPairs.{line_in, told_line}
 
 -- ## Moves
 
@@ -111,7 +112,7 @@ module _ {B Y : Type 0} (ids : List ℕ) (find : ℕ → Option ℕ) (known : Is
 
 -- ## Lines of vertices
 
-module _ (known : KnownData) (ids : List ℕ) (finds : IsFind ids known.find) where
+module _ (compact : Bool) (known : KnownData) (ids : List ℕ) (finds : IsFind ids known.find) where
   abbrev made : ℕ → Option ℕ → List ℕ → EntryData
   made w c cs = record { winner = w; choice = c; counts = cs }
 
@@ -119,7 +120,7 @@ module _ (known : KnownData) (ids : List ℕ) (finds : IsFind ids known.find) wh
   made_at w c cs q = Ok (made w c cs, q)
 
   abbrev with_counts : ℕ → Option ℕ × Place → Result (EntryData × Place) Fault
-  with_counts w c = counts_at (known_count known w) c.1 >>= λ cs. byte_at 10 cs.1 >>= λ q. made_at w c.0 cs.0 q
+  with_counts w c = counts_in_at compact (lost_by_at known w) c.1 >>= λ cs. byte_at 10 cs.1 >>= λ q. made_at w c.0 cs.0 q
 
   abbrev with_choice : ℕ → Place → Result (EntryData × Place) Fault
   with_choice w place = choice_at known.find place >>= λ c. with_counts w c
@@ -139,45 +140,46 @@ module _ (known : KnownData) (ids : List ℕ) (finds : IsFind ids known.find) wh
       go (Err f) = refl
   by_line w c (Err f) = refl
 
-  told_with_counts : (w : ℕ) (c : Option ℕ × Place) → Told first second (entry_counts known.odd known.even ids w c.0) c.1 (with_counts w c)
+  told_with_counts : (w : ℕ) (c : Option ℕ × Place) → Told first second (entry_counts compact known.odd known.even ids w c.0) c.1 (with_counts w c)
   told_with_counts w c =
-      subst (Told first second (entry_counts known.odd known.even ids w c.0) c.1) (sym (by_line w c.0 (counts_at (known_count known w) c.1)))
-      (told_as (λ (x : List ℕ × Place). (made w c.0 x.0, x.1)) (entry_counts known.odd known.even ids w c.0) (λ x. made w c.0 x.0) second first second (λ x. refl) (λ x. refl) c.1 (counts_line (known_count known w) c.1)
-      (told_mapped (λ cs. made w c.0 cs) (counts (known_count known w)) first second c.1 (counts_line (known_count known w) c.1) (told_counts (known_count known w) c.1)))
+      subst (Told first second (entry_counts compact known.odd known.even ids w c.0) c.1) (sym (by_line w c.0 (counts_in_at compact (lost_by_at known w) c.1)))
+      (told_as (λ (x : List ℕ × Place). (made w c.0 x.0, x.1)) (entry_counts compact known.odd known.even ids w c.0) (λ x. made w c.0 x.0) second first second (λ x. refl) (λ x. refl) c.1 (line_in compact (lost_by_at known w) c.1)
+      (told_mapped (λ cs. made w c.0 cs) (counts_in compact (lost_by_at known w)) first second c.1 (line_in compact (lost_by_at known w) c.1) (told_line compact (lost_by_at known w) c.1)))
 
-  pub told_entry : (id : ℕ) (place : Place) → Told first second (entry known.odd known.even ids id) place (entry_at known id place)
+  pub told_entry : (id : ℕ) (place : Place) → Told first second (entry compact known.odd known.even ids id) place (entry_at compact known id place)
   unfolding entry_at
   told_entry id place =
-      told_exactly id (λ _. then_by (byte 32) (λ _. then_by winner (λ w. then_by (byte 32) (λ _. then_by (choice ids) (entry_counts known.odd known.even ids w)))))
-      (λ _. laws_entry_rest known.odd known.even ids) first second place with_space (λ q.
-      told_then (tight_joint (laws_byte 32) (λ _. laws_entry_winner known.odd known.even ids)) nothing itself first second q (byte_at 32 q) with_winner (told_byte 32 q) (λ at_winner _.
-      told_then (tight_joint laws_winner (λ w. laws_space (λ _. laws_entry_choice known.odd known.even ids w))) first second first second at_winner (winner_at at_winner) (λ w. byte_at 32 w.1 >>= λ q. with_choice w.0 q)
+      told_exactly id (λ _. then_by (byte 32) (λ _. then_by winner (λ w. then_by (byte 32) (λ _. then_by (choice ids) (entry_counts compact known.odd known.even ids w)))))
+      (λ _. laws_entry_rest compact known.odd known.even ids) first second place with_space (λ q.
+      told_then (tight_joint (laws_byte 32) (λ _. laws_entry_winner compact known.odd known.even ids)) nothing itself first second q (byte_at 32 q) with_winner (told_byte 32 q) (λ at_winner _.
+      told_then (tight_joint laws_winner (λ w. laws_space (λ _. laws_entry_choice compact known.odd known.even ids w))) first second first second at_winner (winner_at at_winner) (λ w. byte_at 32 w.1 >>= λ q. with_choice w.0 q)
       (told_winner at_winner) (λ w _.
-      told_then (tight_joint (laws_byte 32) (λ _. laws_entry_choice known.odd known.even ids w.0)) nothing itself first second w.1 (byte_at 32 w.1) (λ q. with_choice w.0 q) (told_byte 32 w.1) (λ at_choice _.
-      told_choice ids known.find finds (entry_counts known.odd known.even ids w.0) (laws_entry_counts known.odd known.even ids w.0) first second at_choice (λ c. with_counts w.0 c) (λ c. told_with_counts w.0 c)))))
+      told_then (tight_joint (laws_byte 32) (λ _. laws_entry_choice compact known.odd known.even ids w.0)) nothing itself first second w.1 (byte_at 32 w.1) (λ q. with_choice w.0 q) (told_byte 32 w.1) (λ at_choice _.
+      told_choice ids known.find finds (entry_counts compact known.odd known.even ids w.0) (laws_entry_counts compact known.odd known.even ids w.0) first second at_choice (λ c. with_counts w.0 c) (λ c. told_with_counts w.0 c)))))
 
   abbrev with_entry : EntryData → List EntryData × Place → Result (List EntryData × Place) Fault
   with_entry e o = Ok (e ∷ o.0, o.1)
 
-  pub told_entries : (rest : List ℕ) (place : Place) → Told first second (entries known.odd known.even ids rest) place (entries_at known rest place)
+  pub told_entries : (rest : List ℕ) (place : Place) → Told first second (entries compact known.odd known.even ids rest) place (entries_at compact known rest place)
   unfolding entries_at
   told_entries [] place = (suffix_refl (at_place place), read_give (signs (at_place place).pieces) [])
   told_entries (id ∷ rest) place =
-      told_then (tight_joint (laws_entry known.odd known.even ids id) (λ e. laws_others e)) first second first second place (entry_at known id place) (λ e. entries_at known rest e.1 >>= λ o. with_entry e.0 o)
+      told_then (tight_joint (laws_entry compact known.odd known.even ids id) (λ e. laws_others e)) first second first second place (entry_at compact known id place) (λ e. entries_at compact known rest e.1 >>= λ o. with_entry e.0 o)
       (told_entry id place)
-      (λ e _. told_as (λ (o : List EntryData × Place). (e.0 ∷ o.0, o.1)) (others e.0) (λ o. e.0 ∷ o.0) second first second (λ o. refl) (λ o. refl) e.1 (entries_at known rest e.1)
-      (told_mapped (λ es. e.0 ∷ es) (entries known.odd known.even ids rest) first second e.1 (entries_at known rest e.1) (told_entries rest e.1)))
+      (λ e _. told_as (λ (o : List EntryData × Place). (e.0 ∷ o.0, o.1)) (others e.0) (λ o. e.0 ∷ o.0) second first second (λ o. refl) (λ o. refl) e.1 (entries_at compact known rest e.1)
+      (told_mapped (λ es. e.0 ∷ es) (entries compact known.odd known.even ids rest) first second e.1 (entries_at compact known rest e.1) (told_entries rest e.1)))
     where
       others : EntryData → Field (List EntryData)
-      others e = mapped (λ es. e ∷ es) (entries known.odd known.even ids rest)
+      others e = mapped (λ es. e ∷ es) (entries compact known.odd known.even ids rest)
 
-      laws_others : (e : EntryData) → Laws Odd (mapped (λ es. e ∷ es) (entries known.odd known.even ids rest)) (λ s. Unit {0}) Nothing (Unit {0})
-      laws_others e = laws_mapped (λ es. e ∷ es) (entries known.odd known.even ids rest) (laws_entries known.odd known.even ids rest)
+      laws_others : (e : EntryData) → Laws Odd (mapped (λ es. e ∷ es) (entries compact known.odd known.even ids rest)) (λ s. Unit {0}) Nothing (Unit {0})
+      laws_others e = laws_mapped (λ es. e ∷ es) (entries compact known.odd known.even ids rest) (laws_entries compact known.odd known.even ids rest)
 
-  -- ## The text
+-- ## The text
 
-  abbrev lines_at : Place → Result (List EntryData × Place) Fault
-  lines_at place = entries_at known ids place
+module _ (known : KnownData) (ids : List ℕ) (finds : IsFind ids known.find) where
+  abbrev lines_at : Bool × Place → Result (List EntryData × Place) Fault
+  lines_at x = entries_at x.0 known ids x.1
 
   abbrev certificate_of : List EntryData → CertificateData
   certificate_of es = record { odd = known.odd; even = known.even; entries = es }
@@ -185,59 +187,90 @@ module _ (known : KnownData) (ids : List ℕ) (finds : IsFind ids known.find) wh
   abbrev value_of : List EntryData × Place → CertificateData
   value_of x = certificate_of x.0
 
-  head_then : (place : Place) → (head_at known (length ids) place >>= lines_at)
-      ≡ (word_at first_words place >>= λ a. exactly_at (length ids) a >>= λ b. word_at odd_word b >>= λ c. priorities_at known.odd c >>= λ d. word_at even_word d >>= λ e. priorities_at known.even e >>= lines_at)
+  abbrev with_version : Bool → Place → Result (Bool × Place) Fault
+  with_version v e = Ok (v, e)
+
+  abbrev from_even : Bool → Place → Result (List EntryData × Place) Fault
+  from_even v place = priorities_at known.even place >>= λ e. lines_at (v, e)
+
+  abbrev from_even_word : Bool → Place → Result (List EntryData × Place) Fault
+  from_even_word v place = word_at even_word place >>= λ e. from_even v e
+
+  abbrev from_odd : Bool → Place → Result (List EntryData × Place) Fault
+  from_odd v place = priorities_at known.odd place >>= λ d. from_even_word v d
+
+  abbrev from_odd_word : Bool → Place → Result (List EntryData × Place) Fault
+  from_odd_word v place = word_at odd_word place >>= λ c. from_odd v c
+
+  abbrev from_count : Bool → Place → Result (List EntryData × Place) Fault
+  from_count v place = exactly_at (length ids) place >>= λ b. from_odd_word v b
+
+  abbrev from_vertices_word : Bool → Place → Result (List EntryData × Place) Fault
+  from_vertices_word v place = word_at vertices_word place >>= λ a. from_count v a
+
+  abbrev from_version : Place → Result (List EntryData × Place) Fault
+  from_version place = two_at 49 50 false true place >>= λ v. from_vertices_word v.0 v.1
+
+  head_then : (place : Place) → (head_at known (length ids) place >>= lines_at) ≡ (word_at first_word place >>= λ f. from_version f)
   unfolding head_at
-  head_then place = one (word_at first_words place)
+  head_then place = eight (word_at first_word place)
     where
-      five : (r : Result Place Fault) → ((r >>= λ e. priorities_at known.even e) >>= lines_at) ≡ (r >>= λ e. priorities_at known.even e >>= lines_at)
-      five (Ok e) = refl
-      five (Err f) = refl
+      one : (v : Bool) (r : Result Place Fault) → ((r >>= λ e. with_version v e) >>= lines_at) ≡ (r >>= λ e. lines_at (v, e))
+      one v (Ok e) = refl
+      one v (Err f) = refl
 
-      four : (r : Result Place Fault) → ((r >>= λ d. word_at even_word d >>= λ e. priorities_at known.even e) >>= lines_at) ≡ (r >>= λ d. word_at even_word d >>= λ e. priorities_at known.even e >>= lines_at)
-      four (Ok d) = five (word_at even_word d)
-      four (Err f) = refl
+      two : (v : Bool) (r : Result Place Fault) → ((r >>= λ e. priorities_at known.even e >>= λ n. with_version v n) >>= lines_at) ≡ (r >>= λ e. from_even v e)
+      two v (Ok e) = one v (priorities_at known.even e)
+      two v (Err f) = refl
 
-      three : (r : Result Place Fault) → ((r >>= λ c. priorities_at known.odd c >>= λ d. word_at even_word d >>= λ e. priorities_at known.even e) >>= lines_at)
-          ≡ (r >>= λ c. priorities_at known.odd c >>= λ d. word_at even_word d >>= λ e. priorities_at known.even e >>= lines_at)
-      three (Ok c) = four (priorities_at known.odd c)
-      three (Err f) = refl
+      three : (v : Bool) (r : Result Place Fault) → ((r >>= λ d. word_at even_word d >>= λ e. priorities_at known.even e >>= λ n. with_version v n) >>= lines_at) ≡ (r >>= λ d. from_even_word v d)
+      three v (Ok d) = two v (word_at even_word d)
+      three v (Err f) = refl
 
-      two : (r : Result Place Fault) → ((r >>= λ b. word_at odd_word b >>= λ c. priorities_at known.odd c >>= λ d. word_at even_word d >>= λ e. priorities_at known.even e) >>= lines_at)
-          ≡ (r >>= λ b. word_at odd_word b >>= λ c. priorities_at known.odd c >>= λ d. word_at even_word d >>= λ e. priorities_at known.even e >>= lines_at)
-      two (Ok b) = three (word_at odd_word b)
-      two (Err f) = refl
+      four : (v : Bool) (r : Result Place Fault)
+          → ((r >>= λ c. priorities_at known.odd c >>= λ d. word_at even_word d >>= λ e. priorities_at known.even e >>= λ n. with_version v n) >>= lines_at) ≡ (r >>= λ c. from_odd v c)
+      four v (Ok c) = three v (priorities_at known.odd c)
+      four v (Err f) = refl
 
-      one : (r : Result Place Fault) → ((r >>= λ a. exactly_at (length ids) a >>= λ b. word_at odd_word b >>= λ c. priorities_at known.odd c >>= λ d. word_at even_word d >>= λ e. priorities_at known.even e) >>= lines_at)
-          ≡ (r >>= λ a. exactly_at (length ids) a >>= λ b. word_at odd_word b >>= λ c. priorities_at known.odd c >>= λ d. word_at even_word d >>= λ e. priorities_at known.even e >>= lines_at)
-      one (Ok a) = two (exactly_at (length ids) a)
-      one (Err f) = refl
+      five : (v : Bool) (r : Result Place Fault)
+          → ((r >>= λ b. word_at odd_word b >>= λ c. priorities_at known.odd c >>= λ d. word_at even_word d >>= λ e. priorities_at known.even e >>= λ n. with_version v n) >>= lines_at) ≡ (r >>= λ b. from_odd_word v b)
+      five v (Ok b) = four v (word_at odd_word b)
+      five v (Err f) = refl
 
-  abbrev from_even : Place → Result (List EntryData × Place) Fault
-  from_even place = priorities_at known.even place >>= lines_at
+      six : (v : Bool) (r : Result Place Fault)
+          → ((r >>= λ a. exactly_at (length ids) a >>= λ b. word_at odd_word b >>= λ c. priorities_at known.odd c >>= λ d. word_at even_word d >>= λ e. priorities_at known.even e >>= λ n. with_version v n) >>= lines_at)
+          ≡ (r >>= λ a. from_count v a)
+      six v (Ok a) = five v (exactly_at (length ids) a)
+      six v (Err f) = refl
 
-  abbrev from_even_word : Place → Result (List EntryData × Place) Fault
-  from_even_word place = word_at even_word place >>= λ e. from_even e
+      seven : (r : Result (Bool × Place) Fault)
+          → ((r >>= λ v. word_at vertices_word v.1 >>= λ a. exactly_at (length ids) a >>= λ b. word_at odd_word b >>= λ c. priorities_at known.odd c >>= λ d. word_at even_word d >>= λ e. priorities_at known.even e >>= λ n. with_version v.0 n) >>= lines_at)
+          ≡ (r >>= λ v. from_vertices_word v.0 v.1)
+      seven (Ok v) = six v.0 (word_at vertices_word v.1)
+      seven (Err f) = refl
 
-  abbrev from_odd : Place → Result (List EntryData × Place) Fault
-  from_odd place = priorities_at known.odd place >>= λ d. from_even_word d
+      eight : (r : Result Place Fault)
+          → ((r >>= λ f. two_at 49 50 false true f >>= λ v. word_at vertices_word v.1 >>= λ a. exactly_at (length ids) a >>= λ b. word_at odd_word b >>= λ c. priorities_at known.odd c >>= λ d. word_at even_word d >>= λ e. priorities_at known.even e >>= λ n. with_version v.0 n) >>= lines_at)
+          ≡ (r >>= λ f. from_version f)
+      eight (Ok f) = seven (two_at 49 50 false true f)
+      eight (Err f) = refl
 
-  abbrev from_odd_word : Place → Result (List EntryData × Place) Fault
-  from_odd_word place = word_at odd_word place >>= λ c. from_odd c
-
-  abbrev from_count : Place → Result (List EntryData × Place) Fault
-  from_count place = exactly_at (length ids) place >>= λ b. from_odd_word b
+  told_behind : (v : Bool) (place : Place) → Told value_of second (behind_version known.odd known.even ids v) place (from_vertices_word v place)
+  told_behind v place =
+      told_then (tight_joint (laws_word_from 10 (codes "vertices ")) (λ _. laws_count v known.odd known.even ids)) nothing itself value_of second place (word_at vertices_word place) (λ a. from_count v a) (told_word vertices_word place) (λ a _.
+      told_exactly (length ids) (λ _. behind_count v known.odd known.even ids) (λ _. laws_behind_count v known.odd known.even ids) value_of second a (λ b. from_odd_word v b) (λ b.
+      told_then (tight_joint (laws_word_from 10 (codes "odd")) (λ _. laws_odd v known.odd known.even ids)) nothing itself value_of second b (word_at odd_word b) (λ c. from_odd v c) (told_word odd_word b) (λ c _.
+      told_then (tight_joint (laws_priorities known.odd) (λ _. laws_even_word v known.odd known.even ids)) nothing itself value_of second c (priorities_at known.odd c) (λ d. from_even_word v d) (told_priorities known.odd c) (λ d _.
+      told_then (tight_joint (laws_word_from 101 (codes "ven")) (λ _. laws_even v known.odd known.even ids)) nothing itself value_of second d (word_at even_word d) (λ e. from_even v e) (told_word even_word d) (λ e _.
+      told_then (tight_joint (laws_priorities known.even) (λ _. laws_all_entries v known.odd known.even ids)) nothing itself value_of second e (priorities_at known.even e) (λ q. lines_at (v, q)) (told_priorities known.even e) (λ q _.
+      told_mapped (λ es. certificate_of es) (entries v known.odd known.even ids ids) first second q (lines_at (v, q)) (told_entries v known ids finds ids q)))))))
 
   told_text : (place : Place) → Told value_of second (certificate known.odd known.even ids) place (head_at known (length ids) place >>= lines_at)
   told_text place =
       subst (Told value_of second (certificate known.odd known.even ids) place) (sym (head_then place))
-      (told_then (tight_joint (laws_word_from 112 (codes "syncert 1\nvertices ")) (λ _. laws_count known.odd known.even ids)) nothing itself value_of second place (word_at first_words place) from_count (told_word first_words place) (λ a _.
-      told_exactly (length ids) (λ _. behind_count known.odd known.even ids) (λ _. laws_behind_count known.odd known.even ids) value_of second a from_odd_word (λ b.
-      told_then (tight_joint (laws_word_from 10 (codes "odd")) (λ _. laws_odd known.odd known.even ids)) nothing itself value_of second b (word_at odd_word b) from_odd (told_word odd_word b) (λ c _.
-      told_then (tight_joint (laws_priorities known.odd) (λ _. laws_even_word known.odd known.even ids)) nothing itself value_of second c (priorities_at known.odd c) from_even_word (told_priorities known.odd c) (λ d _.
-      told_then (tight_joint (laws_word_from 101 (codes "ven")) (λ _. laws_even known.odd known.even ids)) nothing itself value_of second d (word_at even_word d) from_even (told_word even_word d) (λ e _.
-      told_then (tight_joint (laws_priorities known.even) (λ _. laws_all_entries known.odd known.even ids)) nothing itself value_of second e (priorities_at known.even e) lines_at (told_priorities known.even e) (λ q _.
-      told_mapped (λ es. certificate_of es) (entries known.odd known.even ids ids) first second q (lines_at q) (told_entries ids q))))))))
+      (told_then (tight_joint (laws_word_from 112 (codes "syncert ")) (λ _. laws_from_version known.odd known.even ids)) nothing itself value_of second place (word_at first_word place) (λ f. from_version f) (told_word first_word place) (λ f _.
+      told_then (tight_joint laws_version (λ v. laws_vertices_word v known.odd known.even ids)) first second value_of second f (two_at 49 50 false true f) (λ v. from_vertices_word v.0 v.1) (told_two 49 50 false true f) (λ v _.
+      told_behind v.0 v.1)))
 
   -- the answer of the parts, where reading gives this
   abbrev pub answer_of : Result (List EntryData) Fault → Result CertificateData (Found CertCause)

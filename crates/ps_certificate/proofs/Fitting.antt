@@ -1,12 +1,15 @@
 -- What is read fits the game.
-use Rattle.std.proofs.Common.{◌≡◌, ℕ, zero, suc, ◌<◌, List, [], ◌∷◌, length, get_or, Option, None, Some, Bool, true, false, cond, Result, Ok, Err, refl, sym, ap, ◌∙◌, inl, inr, subst, ◌⊎◌, eqb, arith}
+use Rattle.std.proofs.Common.{◌≡◌, ℕ, zero, suc, ◌<◌, List, [], ◌∷◌, length, get_or, Option, None, Some, Bool, true, false, cond, Result, Ok, Err, refl, sym, ap, ◌∙◌, inl, inr, subst, ◌⊎◌, arith}
 use Rattle.std.specs.Prelude.{IfSome, MatchOption, All}
 use Rattle.std.proofs.lemmas.List.Elements.{All-nil, All-cons, All-get_or}
 use Rattle.ps_game.specs.Games.{ParityGame, vertex_count}
 use Rattle.ps_game.specs.Ranking.{ListsPriorities}
 use Rattle.ps_certificate.specs.Certificates.{EntryData, Fits, no_entry, winner_of, choice_of, counts_of, opposing}
+use Rattle.ps_certificate.specs.Pairs.{no_pairs}
 use Rattle.ps_certificate.specs.Places.{Place}
-use Rattle.ps_certificate.specs.Reading.{Fault, ◌>>=◌, KnownData, byte_at, number_at, field_at, exactly_at, winner_at, choice_at, found_or, counts_at, count_number, entry_at, entries_at, entries_of, head_at, ended, comes}
+use Rattle.std.proofs.lemmas.List.{length-map}
+use Rattle.std.specs.Prelude.{map}
+use Rattle.ps_certificate.specs.Reading.{Fault, ◌>>=◌, KnownData, byte_at, number_at, field_at, exactly_at, two_at, winner_at, choice_at, found_or, counts_at, pairs_at, compact_at, counts_in_at, lost_by_at, entry_at, entries_at, entries_of, head_at, ended, comes}
 use Rattle.ps_certificate.specs.Known.{FindsVertices}
 
 -- the value of a step that did not fail
@@ -23,7 +26,7 @@ ok_is x y e = cc
 pub record EntryFits (known : KnownData) (n : ℕ) (entry : EntryData) : Type 0 where
   pub winner : entry.winner < 2
   pub choice : IfSome entry.choice (λ w. w < n)
-  pub counts : length entry.counts ≡ count_number known entry.winner
+  pub counts : length entry.counts ≡ length (lost_by_at known entry.winner)
 
 -- which way a test went
 chosen : {A : Type 0} (b : Bool) (x y z : A) → cond b x y ≡ z → (x ≡ z) ⊎ (y ≡ z)
@@ -35,7 +38,7 @@ gives_constant {A} n (Ok next) w e = sym (ap (λ (x : A × Place). x.0) (ok_is (
 gives_constant n (Err f) w e = absurd cc
 
 winner_below : (place : Place) (w : ℕ × Place) → winner_at place ≡ Ok w → w.0 < 2
-unfolding winner_at
+unfolding two_at
 winner_below place w e = elim (chosen (comes 48 place.rest) _ _ _ e) [
   | inl so ↦ omega (arith, gives_constant 0 (byte_at 48 place) w so)
   | inr other ↦ omega (arith, gives_constant 1 (byte_at 49 place) w other)
@@ -64,37 +67,44 @@ counts_long (suc n) place c e =
     let same : suc (length o.0.0) ≡ length c.0 = ap (λ (x : List ℕ × Place). length x.0) (ok_is (b.0.0 ∷ o.0.0, o.0.1) c o.2) in
     sym same ∙ ap suc (counts_long n b.0.1 o.0 o.1)
 
-entry_fits : (known : KnownData) (ids : List ℕ) (id : ℕ) (place : Place) (entry : EntryData × Place) → FindsVertices ids known.find → entry_at known id place ≡ Ok entry → EntryFits known (length ids) entry.0
+counts_in_long : (compact : Bool) (ps : List ℕ) (place : Place) (c : List ℕ × Place) → counts_in_at compact ps place ≡ Ok c → length c.0 ≡ length ps
+unfolding compact_at
+counts_in_long false ps place c e = counts_long (length ps) place c e
+counts_in_long true ps place c e =
+    let pairs = bind_ok (pairs_at (length place.rest) ps no_pairs place) _ c e in
+    sym (ap (λ (x : List ℕ × Place). length x.0) (ok_is (map pairs.0.0.count ps, pairs.0.1) c pairs.2)) ∙ length-map ps pairs.0.0.count
+
+entry_fits : (compact : Bool) (known : KnownData) (ids : List ℕ) (id : ℕ) (place : Place) (entry : EntryData × Place) → FindsVertices ids known.find → entry_at compact known id place ≡ Ok entry → EntryFits known (length ids) entry.0
 unfolding entry_at
-entry_fits known ids id place entry finds e =
+entry_fits compact known ids id place entry finds e =
     let behind = bind_ok (exactly_at id place) _ entry e in
     let at_winner = bind_ok (byte_at 32 behind.0) _ entry behind.2 in
     let winner = bind_ok (winner_at at_winner.0) _ entry at_winner.2 in
     let at_choice = bind_ok (byte_at 32 winner.0.1) _ entry winner.2 in
     let choice = bind_ok (choice_at known.find at_choice.0) _ entry at_choice.2 in
-    let counts = bind_ok (counts_at (count_number known winner.0.0) choice.0.1) _ entry choice.2 in
+    let counts = bind_ok (counts_in_at compact (lost_by_at known winner.0.0) choice.0.1) _ entry choice.2 in
     let next = bind_ok (byte_at 10 counts.0.1) _ entry counts.2 in
     let read : EntryData = record { winner = winner.0.0; choice = choice.0.0; counts = counts.0.0 } in
     let fits : EntryFits known (length ids) read = record {
       winner = winner_below at_winner.0 winner.0 winner.1;
       choice = choice_below ids known.find at_choice.0 choice.0 finds choice.1;
-      counts = counts_long (count_number known winner.0.0) choice.0.1 counts.0 counts.1;
+      counts = counts_in_long compact (lost_by_at known winner.0.0) choice.0.1 counts.0 counts.1;
     } in
     subst (EntryFits known (length ids)) (ap (λ (x : EntryData × Place). x.0) (ok_is (read, next.0) entry next.2)) fits
 
 abbrev EntriesFit : KnownData → List ℕ → List ℕ → List EntryData → Type 0
 EntriesFit known ids all entries = (length entries ≡ length ids) × All (EntryFits known (length all)) entries
 
-entries_fit : (known : KnownData) (all ids : List ℕ) (place : Place) (entries : List EntryData × Place) → FindsVertices all known.find → entries_at known ids place ≡ Ok entries → EntriesFit known ids all entries.0
+entries_fit : (compact : Bool) (known : KnownData) (all ids : List ℕ) (place : Place) (entries : List EntryData × Place) → FindsVertices all known.find → entries_at compact known ids place ≡ Ok entries → EntriesFit known ids all entries.0
 unfolding entries_at
-entries_fit known all [] place entries finds e =
+entries_fit compact known all [] place entries finds e =
     subst (EntriesFit known [] all) (ap (λ (x : List EntryData × Place). x.0) (ok_is ([], place) entries e)) (refl, All-nil (EntryFits known (length all)))
-entries_fit known all (id ∷ ids) place entries finds e =
-    let first = bind_ok (entry_at known id place) _ entries e in
-    let others = bind_ok (entries_at known ids first.0.1) _ entries first.2 in
-    let rest = entries_fit known all ids first.0.1 others.0 finds others.1 in
+entries_fit compact known all (id ∷ ids) place entries finds e =
+    let first = bind_ok (entry_at compact known id place) _ entries e in
+    let others = bind_ok (entries_at compact known ids first.0.1) _ entries first.2 in
+    let rest = entries_fit compact known all ids first.0.1 others.0 finds others.1 in
     subst (EntriesFit known (id ∷ ids) all) (ap (λ (x : List EntryData × Place). x.0) (ok_is (first.0.0 ∷ others.0.0, others.0.1) entries others.2))
-    (ap suc rest.0, All-cons (EntryFits known (length all)) first.0.0 others.0.0 (entry_fits known all id place first.0 finds first.1) rest.1)
+    (ap suc rest.0, All-cons (EntryFits known (length all)) first.0.0 others.0.0 (entry_fits compact known all id place first.0 finds first.1) rest.1)
 
 ended_same : (entries : List EntryData) (at : ℕ) (rest : List ℕ) (all : List EntryData) → ended entries at rest ≡ Ok all → entries ≡ all
 ended_same entries at [] all e = ok_is entries all e
@@ -104,8 +114,8 @@ pub text_fits : (known : KnownData) (ids text : List ℕ) (entries : List EntryD
 unfolding entries_of
 text_fits known ids text entries finds e =
     let lines = bind_ok (head_at known (length ids) (record { at = 0; rest = text })) _ entries e in
-    let all = bind_ok (entries_at known ids lines.0) _ entries lines.2 in
-    subst (EntriesFit known ids ids) (ended_same all.0.0 all.0.1.at all.0.1.rest entries all.2) (entries_fit known ids ids lines.0 all.0 finds all.1)
+    let all = bind_ok (entries_at lines.0.0 known ids lines.0.1) _ entries lines.2 in
+    subst (EntriesFit known ids ids) (ended_same all.0.0 all.0.1.at all.0.1.rest entries all.2) (entries_fit lines.0.0 known ids ids lines.0.1 all.0 finds all.1)
 
 pub certificate_fits : (game : ParityGame) (known : KnownData) (ids : List ℕ) (entries : List EntryData) → length ids ≡ vertex_count game → ListsPriorities game 1 known.odd → ListsPriorities game 0 known.even
     → EntriesFit known ids ids entries → Fits game (record { odd = known.odd; even = known.even; entries = entries })
@@ -118,8 +128,5 @@ certificate_fits game known ids entries each odd even fit =
       choices = λ v lt. subst (λ n. IfSome (get_or entries v no_entry).choice (λ w. w < n)) each (at v lt).choice;
       odd_listed = odd;
       even_listed = even;
-      count_each = λ v lt. (at v lt).counts ∙ count_is (get_or entries v no_entry).winner;
+      count_each = λ v lt. (at v lt).counts;
     }
-  where
-    count_is : (winner : ℕ) → count_number known winner ≡ length (cond (eqb winner 0) known.odd known.even)
-    count_is winner = elim (eqb winner 0) as (λ b. cond b (length known.odd) (length known.even) ≡ length (cond b known.odd known.even)) [ true ↦ refl | false ↦ refl ]

@@ -2,6 +2,7 @@ pub mod Counts
 pub mod Edges
 pub mod Exact
 pub mod ExactLines
+pub mod ExactPairs
 pub mod ExactText
 pub mod Finding
 pub mod FirstFlaws
@@ -14,6 +15,7 @@ pub mod NumberPart
 pub mod Numerals
 pub mod OneFlaw
 pub mod OneReading
+pub mod PairLoops
 pub mod TextLaws
 pub mod Told
 pub mod Windows

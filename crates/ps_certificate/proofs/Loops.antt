@@ -1,5 +1,5 @@
 -- What a loop of the reader has read, and what it still reads.
-use Rattle.std.proofs.Common.{◌≡◌, ℕ, suc, ◌+◌, ◌-◌, ◌*◌, ◌^◌, ◌<◌, ◌≤◌, List, [], ◌∷◌, ◌++◌, length, get_or, drop, Option, None, Some, true, false, nat_lt, Result, Ok, Err, refl, sym, ap, ◌∙◌, append_assoc, inl, inr, cond, eqb, below_more, ◌≢◌, arith}
+use Rattle.std.proofs.Common.{◌≡◌, ℕ, suc, ◌+◌, ◌-◌, ◌*◌, ◌^◌, ◌<◌, ◌≤◌, Bool, List, [], ◌∷◌, ◌++◌, length, get_or, drop, Option, None, Some, true, false, nat_lt, Result, Ok, Err, refl, sym, ap, ◌∙◌, append_assoc, inl, inr, cond, eqb, below_more, ◌≢◌, arith}
 use Rattle.std.specs.Prelude.{◌==◌, take_while, MatchOption, slice_index}
 use Rattle.std.specs.List.{All}
 use Rattle.ps_certificate.specs.Known.{FindsBelow}
@@ -82,14 +82,14 @@ no_count n i place le = let k : n - i ≡ 0 = omega arith in rw k refl
 
 -- ---- the lines of the vertices
 
-pub entry_next : (known : KnownData) (ids : List ℕ) (i : ℕ) (place : Place) → i < length ids
-    → entries_at known (drop i ids) place ≡ (entry_at known (get_or ids i 0) place >>= λ entry. with_front (entry.0 ∷ []) (entries_at known (drop (i + 1) ids) entry.1))
+pub entry_next : (compact : Bool) (known : KnownData) (ids : List ℕ) (i : ℕ) (place : Place) → i < length ids
+    → entries_at compact known (drop i ids) place ≡ (entry_at compact known (get_or ids i 0) place >>= λ entry. with_front (entry.0 ∷ []) (entries_at compact known (drop (i + 1) ids) entry.1))
 unfolding entries_at
-entry_next known ids i place lt = rw (drop_more ids i 0 lt) refl
+entry_next compact known ids i place lt = rw (drop_more ids i 0 lt) refl
 
-pub no_entry_left : (known : KnownData) (ids : List ℕ) (i : ℕ) (place : Place) → length ids ≤ i → entries_at known (drop i ids) place ≡ Ok ([], place)
+pub no_entry_left : (compact : Bool) (known : KnownData) (ids : List ℕ) (i : ℕ) (place : Place) → length ids ≤ i → entries_at compact known (drop i ids) place ≡ Ok ([], place)
 unfolding entries_at
-no_entry_left known ids i place le = rw (drop_all i ids le) refl
+no_entry_left compact known ids i place le = rw (drop_all i ids le) refl
 
 -- ---- the number of a run of digits
 

@@ -19,8 +19,8 @@ use Rattle.ps_certificate.specs.declared.fault.CertCause.TheVariants.{Syntax, Ot
 use Rattle.ps_certificate.specs.Faults.{cause_number}
 use Rattle.ps_certificate.specs.Places.{Place}
 use Rattle.ps_certificate.specs.Reading.{Fault, numeral, numeral_value, numbered, behind, number_at, value_from}
-use Rattle.ps_certificate.specs.Texts.{Seen, pieces_at, stream_at, bytes_of, causes, EndsField, IsBadNumber, number}
-use Rattle.ps_certificate.proofs.Numerals.{value_is, value_grows, numeral_split, numeral_plain, numeral_longest, plain_front, numeral_ended}
+use Rattle.ps_certificate.specs.Texts.{Seen, pieces_at, stream_at, bytes_of, causes, EndsField, Verdict, IsBadNumber, judged, OfOtherGame, number}
+use Rattle.ps_certificate.proofs.Numerals.{value_is, value_grows, numeral_split, numeral_plain, numeral_longest, plain_front, numeral_ended, numeral_zero}
 
 -- ## Places and streams
 
@@ -58,10 +58,17 @@ first_sees at (b ∷ bytes) t rest e = ap (λ (s : Seen). s.byte ∷ s.behind) (
 abbrev pub run_length : List ℕ → ℕ
 run_length bytes = length (numeral bytes)
 
-abbrev pub IsWrongRun : (ℕ → Type 0) → List ℕ → CertCause → Type 0
+-- where the verdict speaks of a number, it is the longest one: something ends it, or it is 0
+abbrev pub Settled : Verdict → Type 0
+Settled Wrong = (more : List ℕ) (n : ℕ) (f : CertCause) → Wrong more n f → EndsField more ⊎ (n ≡ 0)
+
+pub settled_other : (Wrong : ℕ → Type 0) → Settled (OfOtherGame Wrong)
+settled_other Wrong more n f w = inl w.1
+
+abbrev pub IsWrongRun : Verdict → List ℕ → CertCause → Type 0
 IsWrongRun Wrong bytes f =
     ((f ≡ Syntax) × (2 ^ 64 ≤ decimal_value (numeral bytes)))
-    ⊎ ((f ≡ OtherGame) × EndsField (drop (run_length bytes) bytes) × Wrong (decimal_value (numeral bytes)))
+    ⊎ Wrong (drop (run_length bytes) bytes) (decimal_value (numeral bytes)) f
 
 run_long : (bytes digits more : List ℕ) → bytes ≡ digits ++ more → IsPlainNumber digits → 0 < run_length bytes
 run_long bytes digits more e h =
@@ -69,24 +76,28 @@ run_long bytes digits more e h =
     let l : run_length bytes ≡ length digits + length long.0 = ap run_length e ∙ ap length long.1 ∙ length-append digits long.0 in
     omega (arith, l, h.0.0)
 
-pub run_is_wrong : (Wrong : ℕ → Type 0) (bytes : List ℕ) (t : Seen) (f : CertCause) → bytes ≡ t.byte ∷ t.behind → IsBadNumber Wrong t f → (0 < run_length bytes) × IsWrongRun Wrong bytes f
-run_is_wrong Wrong bytes t f e b = (run_long bytes b.digits b.more whole b.number, go b.bad)
+pub run_is_wrong : (Wrong : Verdict) → Settled Wrong → (bytes : List ℕ) (t : Seen) (f : CertCause) → bytes ≡ t.byte ∷ t.behind → IsBadNumber Wrong t f → (0 < run_length bytes) × IsWrongRun Wrong bytes f
+run_is_wrong Wrong settled bytes t f e b = (run_long bytes b.digits b.more whole b.number, go b.bad)
   where
     whole : bytes ≡ b.digits ++ b.more
     whole = e ∙ b.split
 
-    go : ((f ≡ Syntax) × (2 ^ 64 ≤ decimal_value b.digits)) ⊎ ((f ≡ OtherGame) × EndsField b.more × Wrong (decimal_value b.digits)) → IsWrongRun Wrong bytes f
+    run_is : EndsField b.more ⊎ (decimal_value b.digits ≡ 0) → numeral bytes ≡ b.digits
+    run_is (inl ended) = ap numeral whole ∙ numeral_ended b.digits b.more b.number ended
+    run_is (inr null) = ap numeral whole ∙ numeral_zero b.digits b.more b.number null
+
+    go : ((f ≡ Syntax) × (2 ^ 64 ≤ decimal_value b.digits)) ⊎ Wrong b.more (decimal_value b.digits) f → IsWrongRun Wrong bytes f
     go (inl x) =
         let long = numeral_longest b.digits b.more b.number in
         let same : decimal_value (numeral bytes) ≡ decimal_value (b.digits ++ long.0) = ap (λ r. decimal_value (numeral r)) whole ∙ ap decimal_value long.1 in
         inl (x.0, omega (arith, x.1, same, value_grows b.digits long.0))
     go (inr x) =
-        let run : numeral bytes ≡ b.digits = ap numeral whole ∙ numeral_ended b.digits b.more b.number x.1 in
+        let run : numeral bytes ≡ b.digits = run_is (settled b.more (decimal_value b.digits) f x) in
         let rest : b.more ≡ drop (run_length bytes) bytes =
         sym (ap (λ r. drop (length r) bytes) run ∙ ap (λ r. drop (length b.digits) r) whole ∙ drop-append_seam b.digits b.more) in
-        inr (x.0, subst EndsField rest x.1, subst (λ r. Wrong (decimal_value r)) (sym run) x.2)
+        inr (subst (λ more. Wrong more (decimal_value (numeral bytes)) f) rest (subst (λ r. Wrong b.more (decimal_value r) f) (sym run) x))
 
-pub wrong_run_is : (Wrong : ℕ → Type 0) (bytes : List ℕ) (t : Seen) (f : CertCause) → bytes ≡ t.byte ∷ t.behind → 0 < run_length bytes → IsWrongRun Wrong bytes f → IsBadNumber Wrong t f
+pub wrong_run_is : (Wrong : Verdict) (bytes : List ℕ) (t : Seen) (f : CertCause) → bytes ≡ t.byte ∷ t.behind → 0 < run_length bytes → IsWrongRun Wrong bytes f → IsBadNumber Wrong t f
 wrong_run_is Wrong bytes t f e l w = record {
   digits = numeral bytes;
   more = drop (run_length bytes) bytes;
@@ -161,10 +172,10 @@ suffix_behind n at bytes l = record {
 one_byte : (b : ℕ) (more : List ℕ) → IsPlainNumber (b ∷ more) → IsPlainNumber (b ∷ [])
 one_byte b more h = plain_front (b ∷ []) more (omega arith) h
 
-read_run : (Wrong : ℕ → Type 0) (at : ℕ) (bytes : List ℕ) → 0 < run_length bytes → decimal_value (numeral bytes) < 2 ^ 64
-    → (EndsField (drop (run_length bytes) bytes) → Wrong (decimal_value (numeral bytes)) → ⊥)
-    → IsRead (number Wrong) (signs (pieces_at at bytes)) (decimal_value (numeral bytes)) (signs (pieces_at (at + run_length bytes) (drop (run_length bytes) bytes)))
-read_run Wrong at bytes long small right = record {
+read_run : (Wrong : Verdict) → Settled Wrong → (at : ℕ) (bytes : List ℕ) → 0 < run_length bytes → decimal_value (numeral bytes) < 2 ^ 64
+    → ((f : CertCause) → Wrong (drop (run_length bytes) bytes) (decimal_value (numeral bytes)) f → ⊥)
+    → IsRead (judged Wrong) (signs (pieces_at at bytes)) (decimal_value (numeral bytes)) (signs (pieces_at (at + run_length bytes) (drop (run_length bytes) bytes)))
+read_run Wrong settled at bytes long small right = record {
   text = text;
   split = signs_split (pieces_at at bytes) (take (run_length bytes) (pieces_at at bytes)) (pieces_at (at + run_length bytes) rest) (pieces_split (run_length bytes) at bytes (run_within bytes));
   is_text = (subst IsPlainNumber (sym same) (numeral_plain bytes long), ap decimal_value (sym same));
@@ -181,7 +192,7 @@ read_run Wrong at bytes long small right = record {
     same : bytes_of text ≡ numeral bytes
     same = taken_is_run at bytes
 
-    stops : (r : List ℕ) → drop (run_length bytes) bytes ≡ r → StopsAt (number Wrong) text (first_of (signs (pieces_at (at + run_length bytes) r)))
+    stops : (r : List ℕ) → drop (run_length bytes) bytes ≡ r → StopsAt (judged Wrong) text (first_of (signs (pieces_at (at + run_length bytes) r)))
     stops [] e = tt
     stops (c ∷ r) e = λ b.
         let sign : Seen = record { byte = c; behind = r } in
@@ -194,37 +205,41 @@ read_run Wrong at bytes long small right = record {
         let l : run_length bytes ≡ length (numeral bytes ++ c ∷ []) + length long.0 = ap run_length split ∙ ap length long.1 ∙ length-append (numeral bytes ++ c ∷ []) long.0 in
         omega (arith, l, length-append (numeral bytes) (c ∷ []))
 
-    clean : CleanUpTo (number Wrong) (signs (pieces_at at bytes)) (length text + 1)
+    clean : CleanUpTo (judged Wrong) (signs (pieces_at at bytes)) (length text + 1)
     clean front more t f e l c =
-        let w = run_is_wrong Wrong bytes t f (first_sees at bytes t more (e ∙ ap (λ x. x ++ t ∷ more) c.0)) c.1 in
+        let w = run_is_wrong Wrong settled bytes t f (first_sees at bytes t more (e ∙ ap (λ x. x ++ t ∷ more) c.0)) c.1 in
         go w.1
       where
         go : IsWrongRun Wrong bytes f → ⊥
         go (inl x) = omega (arith, x.1, small)
-        go (inr x) = right x.1 x.2
+        go (inr x) = right f x
 
-pub number_reads : (Wrong : ℕ → Type 0) (place : Place) (read : ℕ × Place) → number_at place ≡ Ok read → (EndsField read.1.rest → Wrong read.0 → ⊥)
-    → IsSuffix (at_place place) (at_place read.1) × IsRead (number Wrong) (signs (at_place place).pieces) read.0 (signs (at_place read.1).pieces)
-number_reads Wrong place read e right = subst Told (sym whole) (suffix_behind (run_length place.rest) place.at place.rest (run_within place.rest), read_run Wrong place.at place.rest r.long r.small good)
+pub judged_reads : (Wrong : Verdict) → Settled Wrong → (place : Place) (read : ℕ × Place) → number_at place ≡ Ok read → ((f : CertCause) → Wrong read.1.rest read.0 f → ⊥)
+    → IsSuffix (at_place place) (at_place read.1) × IsRead (judged Wrong) (signs (at_place place).pieces) read.0 (signs (at_place read.1).pieces)
+judged_reads Wrong settled place read e right = subst Told (sym whole) (suffix_behind (run_length place.rest) place.at place.rest (run_within place.rest), read_run Wrong settled place.at place.rest r.long r.small good)
   where
     r : IsNumberRead place read
     r = number_read place read e
 
     Told : ℕ × Place → Type 0
-    Told x = IsSuffix (at_place place) (at_place x.1) × IsRead (number Wrong) (signs (at_place place).pieces) x.0 (signs (at_place x.1).pieces)
+    Told x = IsSuffix (at_place place) (at_place x.1) × IsRead (judged Wrong) (signs (at_place place).pieces) x.0 (signs (at_place x.1).pieces)
 
     whole : read ≡ (decimal_value (numeral place.rest), behind (numeral place.rest) place)
     whole = ap₂ (λ (n : ℕ) (q : Place). (n, q)) r.value r.next
 
-    good : EndsField (drop (run_length place.rest) place.rest) → Wrong (decimal_value (numeral place.rest)) → ⊥
-    good ends wrong = right (subst (λ (q : Place). EndsField q.rest) (sym r.next) ends) (subst Wrong (sym r.value) wrong)
+    good : (f : CertCause) → Wrong (drop (run_length place.rest) place.rest) (decimal_value (numeral place.rest)) f → ⊥
+    good f wrong = right f (subst (λ (q : Place). Wrong q.rest read.0 f) (sym r.next) (subst (λ n. Wrong (drop (run_length place.rest) place.rest) n f) (sym r.value) wrong))
 
-pub number_begins : (Wrong : ℕ → Type 0) → Begins (number Wrong).IsText []
-number_begins Wrong = record { more = record { byte = 48; behind = [] } ∷ []; value = 0; is_text = (numeral_plain (48 ∷ []) (omega arith), refl) }
+pub number_reads : (Wrong : ℕ → Type 0) (place : Place) (read : ℕ × Place) → number_at place ≡ Ok read → (EndsField read.1.rest → Wrong read.0 → ⊥)
+    → IsSuffix (at_place place) (at_place read.1) × IsRead (number Wrong) (signs (at_place place).pieces) read.0 (signs (at_place read.1).pieces)
+number_reads Wrong place read e right = judged_reads (OfOtherGame Wrong) (settled_other Wrong) place read e (λ f w. right w.1 w.2)
+
+pub judged_begins : (Wrong : Verdict) → Begins (judged Wrong).IsText []
+judged_begins Wrong = record { more = record { byte = 48; behind = [] } ∷ []; value = 0; is_text = (numeral_plain (48 ∷ []) (omega arith), refl) }
 
 -- the cause or the refusal at the first sign
-fault_here : (Wrong : ℕ → Type 0) (at : ℕ) (bytes : List ℕ) (f : CertCause) → IsFaultAt causes (number Wrong) [] (first_of (signs (pieces_at at bytes))) f
-    → StopsWith causes (number Wrong) (stream_at at bytes) (record { cause = f; offset = at })
+fault_here : (Wrong : Verdict) (at : ℕ) (bytes : List ℕ) (f : CertCause) → IsFaultAt causes (judged Wrong) [] (first_of (signs (pieces_at at bytes))) f
+    → StopsWith causes (judged Wrong) (stream_at at bytes) (record { cause = f; offset = at })
 fault_here Wrong at [] f h = record {
   front = [];
   rest = [];
@@ -241,52 +256,68 @@ fault_here Wrong at (b ∷ bytes) f h = record {
 }
 
 -- no number begins there
-nothing_there : (Wrong : ℕ → Type 0) (at : ℕ) (bytes : List ℕ) → numeral bytes ≡ [] → IsFaultAt causes (number Wrong) [] (first_of (signs (pieces_at at bytes))) Syntax
-nothing_there Wrong at [] e = is_refusal (record { before = number_begins Wrong; no_text = λ v h. absurd (omega (arith, h.0.0.0)); stops = tt; no_cause = tt }) refl
+nothing_there : (Wrong : Verdict) (at : ℕ) (bytes : List ℕ) → numeral bytes ≡ [] → IsFaultAt causes (judged Wrong) [] (first_of (signs (pieces_at at bytes))) Syntax
+nothing_there Wrong at [] e = is_refusal (record { before = judged_begins Wrong; no_text = λ v h. absurd (omega (arith, h.0.0.0)); stops = tt; no_cause = tt }) refl
 nothing_there Wrong at (b ∷ bytes) e = is_refusal (record {
-  before = number_begins Wrong;
+  before = judged_begins Wrong;
   no_text = λ v h. absurd (omega (arith, h.0.0.0));
   stops = λ x. let l = run_long (b ∷ bytes) (b ∷ []) bytes refl (one_byte b (bytes_of x.more) x.is_text.0) in omega (arith, l, ap length e);
-  no_cause = λ f c. let w = run_is_wrong Wrong (b ∷ bytes) (record { byte = b; behind = bytes }) f refl c.1 in omega (arith, w.0, ap length e);
+  no_cause = λ f c. let l = run_long (b ∷ bytes) c.1.digits c.1.more c.1.split c.1.number in omega (arith, l, ap length e);
 }) refl
 
 syntax_least : (g : CertCause) → cause_number Syntax ≤ cause_number g
 syntax_least Syntax = omega arith
 syntax_least OtherGame = omega arith
 
-too_large : (Wrong : ℕ → Type 0) (at : ℕ) (bytes : List ℕ) → 0 < run_length bytes → 2 ^ 64 ≤ decimal_value (numeral bytes) → IsFaultAt causes (number Wrong) [] (first_of (signs (pieces_at at bytes))) Syntax
+too_large : (Wrong : Verdict) (at : ℕ) (bytes : List ℕ) → 0 < run_length bytes → 2 ^ 64 ≤ decimal_value (numeral bytes) → IsFaultAt causes (judged Wrong) [] (first_of (signs (pieces_at at bytes))) Syntax
 too_large Wrong at [] l h = absurd (omega arith)
 too_large Wrong at (b ∷ bytes) l h =
     let sign : Seen = record { byte = b; behind = bytes } in
     is_cause sign refl (refl, wrong_run_is Wrong (b ∷ bytes) sign Syntax refl l (inl (refl, h))) (λ g c. syntax_least g)
 
-other_number : (Wrong : ℕ → Type 0) (at : ℕ) (bytes : List ℕ) → 0 < run_length bytes → decimal_value (numeral bytes) < 2 ^ 64 → EndsField (drop (run_length bytes) bytes) → Wrong (decimal_value (numeral bytes))
-    → IsFaultAt causes (number Wrong) [] (first_of (signs (pieces_at at bytes))) OtherGame
-other_number Wrong at [] l small ends wrong = absurd (omega arith)
-other_number Wrong at (b ∷ bytes) l small ends wrong =
+-- a number of which the verdict speaks
+wrong_number : (Wrong : Verdict) → Settled Wrong → (at : ℕ) (bytes : List ℕ) (f : CertCause) → 0 < run_length bytes → decimal_value (numeral bytes) < 2 ^ 64
+    → Wrong (drop (run_length bytes) bytes) (decimal_value (numeral bytes)) f
+    → ((g : CertCause) → Wrong (drop (run_length bytes) bytes) (decimal_value (numeral bytes)) g → cause_number f ≤ cause_number g)
+    → IsFaultAt causes (judged Wrong) [] (first_of (signs (pieces_at at bytes))) f
+wrong_number Wrong settled at [] f l small wrong first = absurd (omega arith)
+wrong_number Wrong settled at (b ∷ bytes) f l small wrong first =
     let sign : Seen = record { byte = b; behind = bytes } in
-    is_cause sign refl (refl, wrong_run_is Wrong (b ∷ bytes) sign OtherGame refl l (inr (refl, ends, wrong)))
-    (λ g c. least g (run_is_wrong Wrong (b ∷ bytes) sign g refl c.1).1)
+    is_cause sign refl (refl, wrong_run_is Wrong (b ∷ bytes) sign f refl l (inr wrong))
+    (λ g c. least g (run_is_wrong Wrong settled (b ∷ bytes) sign g refl c.1).1)
   where
-    least : (g : CertCause) → IsWrongRun Wrong (b ∷ bytes) g → cause_number OtherGame ≤ cause_number g
+    least : (g : CertCause) → IsWrongRun Wrong (b ∷ bytes) g → cause_number f ≤ cause_number g
     least g (inl x) = absurd (omega (arith, x.1, small))
-    least g (inr x) = rw x.0 (omega arith)
+    least g (inr x) = first g x
 
-pub number_fails : (Wrong : ℕ → Type 0) (place : Place) (f : Fault) → number_at place ≡ Err f → StopsWith causes (number Wrong) (at_place place) (record { cause = f.0; offset = f.1 })
-number_fails Wrong place f e = rw h.0 (fault_here Wrong place.at place.rest Syntax (go h.1))
+pub judged_fails : (Wrong : Verdict) (place : Place) (f : Fault) → number_at place ≡ Err f → StopsWith causes (judged Wrong) (at_place place) (record { cause = f.0; offset = f.1 })
+judged_fails Wrong place f e = rw h.0 (fault_here Wrong place.at place.rest Syntax (go h.1))
   where
     h : (f ≡ (Syntax, place.at)) × ((numeral place.rest ≡ []) ⊎ ((0 < run_length place.rest) × (2 ^ 64 ≤ decimal_value (numeral place.rest))))
     h = number_not_read place f e
 
-    go : (numeral place.rest ≡ []) ⊎ ((0 < run_length place.rest) × (2 ^ 64 ≤ decimal_value (numeral place.rest))) → IsFaultAt causes (number Wrong) [] (first_of (signs (pieces_at place.at place.rest))) Syntax
+    go : (numeral place.rest ≡ []) ⊎ ((0 < run_length place.rest) × (2 ^ 64 ≤ decimal_value (numeral place.rest))) → IsFaultAt causes (judged Wrong) [] (first_of (signs (pieces_at place.at place.rest))) Syntax
     go (inl none) = nothing_there Wrong place.at place.rest none
     go (inr large) = too_large Wrong place.at place.rest large.0 large.1
+
+pub number_fails : (Wrong : ℕ → Type 0) (place : Place) (f : Fault) → number_at place ≡ Err f → StopsWith causes (number Wrong) (at_place place) (record { cause = f.0; offset = f.1 })
+number_fails Wrong place f e = judged_fails (OfOtherGame Wrong) place f e
+
+pub judged_wrong : (Wrong : Verdict) → Settled Wrong → (place : Place) (read : ℕ × Place) (f : CertCause) → number_at place ≡ Ok read → Wrong read.1.rest read.0 f
+    → ((g : CertCause) → Wrong read.1.rest read.0 g → cause_number f ≤ cause_number g)
+    → StopsWith causes (judged Wrong) (at_place place) (record { cause = f; offset = place.at })
+judged_wrong Wrong settled place read f e wrong first =
+    fault_here Wrong place.at place.rest f (wrong_number Wrong settled place.at place.rest f r.long r.small
+    (subst (λ (q : Place). Wrong q.rest (decimal_value (numeral place.rest)) f) r.next (subst (λ n. Wrong read.1.rest n f) r.value wrong))
+    (λ g w. first g (subst (λ (q : Place). Wrong q.rest read.0 g) (sym r.next) (subst (λ n. Wrong (drop (run_length place.rest) place.rest) n g) (sym r.value) w))))
+  where
+    r : IsNumberRead place read
+    r = number_read place read e
 
 pub number_wrong : (Wrong : ℕ → Type 0) (place : Place) (read : ℕ × Place) → number_at place ≡ Ok read → EndsField read.1.rest → Wrong read.0
     → StopsWith causes (number Wrong) (at_place place) (record { cause = OtherGame; offset = place.at })
 number_wrong Wrong place read e ends wrong =
-    let r = number_read place read e in
-    fault_here Wrong place.at place.rest OtherGame (other_number Wrong place.at place.rest r.long r.small (subst (λ (q : Place). EndsField q.rest) r.next ends) (subst Wrong r.value wrong))
+    judged_wrong (OfOtherGame Wrong) (settled_other Wrong) place read OtherGame e (refl, ends, wrong) (λ g w. rw w.0 (omega arith))
 
 -- ## The laws
 
@@ -300,16 +331,16 @@ first_digit : (b : ℕ) (bytes digits more : List ℕ) → b ∷ bytes ≡ digit
 first_digit b bytes [] more e h = absurd (omega (arith, h.0.0))
 first_digit b bytes (d ∷ digits) more e h = subst IsDigit (sym (same_head b d bytes (digits ++ more) e)) (All-head IsDigit d digits h.0.1)
 
-pub laws_number : (Wrong : ℕ → Type 0) → Laws Odd (number Wrong) AtDigit AtDigit ⊥
-laws_number Wrong = record {
-  some = number_begins Wrong;
+pub laws_judged : (Wrong : Verdict) → Laws Odd (judged Wrong) AtDigit AtDigit ⊥
+laws_judged Wrong = record {
+  some = judged_begins Wrong;
   one_value = λ text v w h k. h.1 ∙ sym k.1;
   first_text = λ t text v h. All-head IsDigit t.byte (bytes_of text) h.0.0.1;
   first_cause = λ t f c. first_digit t.byte t.behind c.1.digits c.1.more c.1.split c.1.number;
   more_text = λ text more t v w h k. later text more t k.0;
   more_cause = λ text t v f h c. absurd (let z : 0 < length (bytes_of []) = subst (λ x. 0 < length (bytes_of x)) c.0 h.0.0.0 in omega (arith, z));
   null = λ v h. omega (arith, h.0.0.0);
-  behind = λ front t f c. subst (Begins (number Wrong).IsText) (sym c.0) (number_begins Wrong);
+  behind = λ front t f c. subst (Begins (judged Wrong).IsText) (sym c.0) (judged_begins Wrong);
   plain_text = λ front rest t v h o. none_is_some o.0 o.1;
   plain_cause = λ front t f c o. none_is_some o.0 o.1;
 }
@@ -318,3 +349,6 @@ laws_number Wrong = record {
     later text more t h =
         let all : All IsDigit (bytes_of text ++ t.byte ∷ bytes_of more) = subst (All IsDigit) (bytes_append text (t ∷ more)) h.0.1 in
         All-head IsDigit t.byte (bytes_of more) (subst (All IsDigit) (drop-append_seam (bytes_of text) (t.byte ∷ bytes_of more)) (All-drop IsDigit (length (bytes_of text)) (bytes_of text ++ t.byte ∷ bytes_of more) all))
+
+pub laws_number : (Wrong : ℕ → Type 0) → Laws Odd (number Wrong) AtDigit AtDigit ⊥
+laws_number Wrong = laws_judged (OfOtherGame Wrong)

@@ -1,5 +1,5 @@
 -- The digits that a text begins with: the longest run without a leading zero, and the number that it writes.
-use Rattle.std.proofs.Common.{◌≡◌, ℕ, suc, ◌+◌, ◌-◌, ◌*◌, ◌<◌, ◌≤◌, Bool, true, false, cond, eqb, List, [], ◌∷◌, ◌++◌, length, drop, refl, sym, ap, subst, inl, inr, ◌∙◌, append_assoc, append-nil, arith, length-append}
+use Rattle.std.proofs.Common.{◌≡◌, ℕ, suc, ◌+◌, ◌-◌, ◌*◌, ◌<◌, ◌≤◌, Bool, true, false, cond, eqb, List, [], ◌∷◌, ◌++◌, length, drop, refl, sym, ap, ap₂, subst, inl, inr, ◌∙◌, append_assoc, append-nil, arith, length-append}
 use Rattle.std.specs.Prelude.{map, take_while}
 use Rattle.std.specs.Char.{is_ascii_digit}
 use Rattle.std.specs.List.{All}
@@ -134,3 +134,20 @@ numeral_ended digits more h ends = go long.0 long.1
         let plain : IsPlainNumber (digits ++ x ∷ m) = subst IsPlainNumber e (numeral_plain (digits ++ more) (let l : length (numeral (digits ++ more)) ≡ length digits + suc (length m) = ap length e ∙ length-append digits (x ∷ m) in omega (arith, l))) in
         let digit : IsDigit x = All-head IsDigit x m (subst (All IsDigit) (drop-append_seam digits (x ∷ m)) (All-drop IsDigit (length digits) (digits ++ x ∷ m) plain.0.1)) in
         absurd (no_end x (m ++ rest) (subst EndsField tail ends) digit)
+
+-- a number without leading zeros that writes 0 is the byte `0`, and then it is the whole run
+pub zero_is : (digits : List ℕ) → IsPlainNumber digits → decimal_value digits ≡ 0 → digits ≡ 48 ∷ []
+zero_is [] h e = absurd (omega (arith, h.0.0))
+zero_is (d ∷ digits) h e = go digits refl
+  where
+    lead : d ≡ 48
+    lead =
+        let low = All-head IsDigit d digits h.0.1 in
+        omega (arith, low.0, value_is (d ∷ digits), e, value_ge (0 * 10 + (d - 48)) digits)
+
+    go : (rest : List ℕ) → digits ≡ rest → d ∷ digits ≡ 48 ∷ []
+    go [] s = ap₂ (λ (x : ℕ) (xs : List ℕ). x ∷ xs) lead s
+    go (c ∷ rest) s = absurd (h.1 (let l : length digits ≡ length (c ∷ rest) = ap length s in omega (arith, l)) lead)
+
+pub numeral_zero : (digits more : List ℕ) → IsPlainNumber digits → decimal_value digits ≡ 0 → numeral (digits ++ more) ≡ digits
+numeral_zero digits more h e = let z = zero_is digits h e in ap (λ r. numeral (r ++ more)) z ∙ sym z

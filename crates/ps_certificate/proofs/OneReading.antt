@@ -17,11 +17,11 @@ use Rattle.ps_certificate.specs.Texts.{stream_at, causes, certificate, Reads}
 use Rattle.ps_certificate.proofs.TextLaws.{laws_certificate}
 
 -- each number is below all that follow it
-abbrev Rises : List ℕ → Type 0
+abbrev pub Rises : List ℕ → Type 0
 Rises [] = Unit {0}
 Rises (x ∷ xs) = All (λ y. x < y) xs × Rises xs
 
-rises : (xs : List ℕ) → AllPairs (λ x y. x < y) xs → Rises xs
+pub rises : (xs : List ℕ) → AllPairs (λ x y. x < y) xs → Rises xs
 rises [] h = tt
 rises (x ∷ xs) h = (λ k d lt. h 0 (suc k) d (omega arith) (omega (arith, lt)), rises xs (λ i j d a b. h (suc i) (suc j) d (omega (arith, a)) (omega (arith, b))))
 

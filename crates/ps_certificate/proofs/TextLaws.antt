@@ -1,7 +1,7 @@
 -- The laws of the parts of a certificate text, by `ps_text`: with which signs a part begins, and with which it goes on. Only
 -- numbers and moves go on with anything, which are digits, and what stands behind them begins with a space or a newline.
 use Rattle.std.proofs.Common.{◌≡◌, ℕ, zero, suc, ◌⊎◌, Bool, true, false, cond, eqb, List, [], ◌∷◌, length, drop, Option, Some, None, refl, ap, inl, inr, arith}
-use Rattle.std.specs.Prelude.{codes}
+use Rattle.std.specs.Prelude.{codes, map}
 use Rattle.std.specs.List.{Contains}
 use Rattle.std.proofs.lemmas.Bool.{eqb-true, eq-eqb}
 use Rattle.ps_text.specs.Parts.{NoBad, one, then_by, many, mapped}
@@ -12,9 +12,10 @@ use Rattle.ps_text.proofs.Covered.{laws_either}
 use Rattle.ps_text.proofs.Repeated.{laws_many}
 use Rattle.ps_certificate.specs.declared.fault.CertCause.{CertCause}
 use Rattle.ps_certificate.specs.Certificates.{EntryData, CertificateData}
-use Rattle.ps_certificate.specs.Words.{odd_word, even_word}
-use Rattle.ps_certificate.specs.Texts.{Seen, Field, take_byte, byte, word, number, Never, NotNext, priority, IsMissing, priorities, take_winner, winner, vertex_of, choice, counts, count_number, entry, entries, certificate}
-use Rattle.ps_certificate.proofs.NumberPart.{Odd, AtDigit, laws_number}
+use Rattle.ps_certificate.specs.Pairs.{Pairs, no_pairs, with_pair}
+use Rattle.ps_certificate.specs.Words.{vertices_word, odd_word, even_word}
+use Rattle.ps_certificate.specs.Texts.{Seen, Field, take_byte, take_two, byte, two, word, judged, number, Never, NotNext, priority, IsMissing, priorities, winner, vertex_of, choice, counts, WrongPriority, IsZero, pair, counts_in, lost_by, entry, entries, version, certificate}
+use Rattle.ps_certificate.proofs.NumberPart.{Odd, AtDigit, laws_judged, laws_number}
 
 -- ## Sets of signs
 
@@ -86,6 +87,14 @@ laws_byte b = weaker (laws_one (take_byte b) NoBad Odd (record { byte = b; behin
     first t (inl x) = taken_byte b t x.0 x.1
     first t (inr x) = absurd x.1
 
+pub first_taken : {V : Type 0} (a b : ℕ) (v w : V) (s : Seen) → s.byte ≡ a → take_two a b v w s ≡ Some v
+first_taken a b v w s e = ap (λ x. cond x (Some v) (cond (eqb s.byte b) (Some w) None)) (eq-eqb s.byte a e)
+
+pub laws_two : {V : Type 0} (a b : ℕ) (v w : V) → Laws Odd (two a b v w) Any Nothing ⊥
+laws_two a b v w =
+    let sign : Seen = record { byte = a; behind = [] } in
+    weaker (laws_one (take_two a b v w) NoBad Odd sign v (first_taken a b v w sign refl) (not_odd (Taken (take_two a b v w))) (not_odd (BadSign NoBad))) (λ t h. tt) (λ t h. h) (λ n. n)
+
 pub laws_word : (bytes : List ℕ) → Laws Odd (word bytes) Any Nothing (Unit {0})
 laws_word [] = weaker (laws_give Odd tt) (λ t h. tt) (λ t h. h) (λ n. n)
 laws_word (b ∷ bytes) = weaker (tight_then (laws_byte b) (λ _. laws_word bytes)) (λ t h. tt) (λ t h. h) (λ n. tt)
@@ -133,7 +142,7 @@ laws_priorities ps = weaker (laws_then (laws_many priority laws_priority digit_n
 -- ## Lines of vertices
 
 pub laws_winner : Laws Odd winner Any Nothing ⊥
-laws_winner = weaker (laws_one take_winner NoBad Odd (record { byte = 48; behind = [] }) 0 refl (not_odd (Taken take_winner)) (not_odd (BadSign NoBad))) (λ t h. tt) (λ t h. h) (λ n. n)
+laws_winner = laws_two 48 49 0 1
 
 abbrev pub dash : Field (Option ℕ)
 dash = mapped (λ _. None) (byte 45)
@@ -167,12 +176,63 @@ pub laws_counts : (n : ℕ) → Laws Odd (counts n) Separates Nothing ⊥
 laws_counts zero = weaker (laws_mapped (λ _. []) (byte 10) (laws_byte 10)) (λ t h. inr h) (λ t h. h) (λ n. n)
 laws_counts (suc n) = laws_space (λ _. loose_then (laws_number Never) (λ count. laws_mapped (λ others. count ∷ others) (counts n) (laws_counts n)))
 
-module _ (odd even ids : List ℕ) where
+-- a pair begins with a space, and goes on with digits
+pub laws_colon : (ps : List ℕ) (pairs : Pairs) (p : ℕ) → Laws Odd (then_by (byte 58) (λ _. mapped (λ m. with_pair pairs p m) (judged IsZero))) (At 58) AtDigit ⊥
+laws_colon ps pairs p = tight_then (laws_byte 58) (λ _. laws_mapped (λ m. with_pair pairs p m) (judged IsZero) (laws_judged IsZero))
+
+pub digit_no_colon : Apart AtDigit (At 58)
+digit_no_colon t d e = omega (arith, e, d.1)
+
+abbrev pub behind_space : List ℕ → Pairs → Field Pairs
+behind_space ps pairs = then_by (judged (WrongPriority ps pairs)) (λ p. then_by (byte 58) (λ _. mapped (λ m. with_pair pairs p m) (judged IsZero)))
+
+pub joint_priority : (ps : List ℕ) (pairs : Pairs) → Joint (judged (WrongPriority ps pairs)) (λ p. then_by (byte 58) (λ _. mapped (λ m. with_pair pairs p m) (judged IsZero)))
+joint_priority ps pairs = joint (laws_judged (WrongPriority ps pairs)) (λ p. laws_colon ps pairs p) digit_no_colon
+
+pub laws_behind_space : (ps : List ℕ) (pairs : Pairs) → Laws Odd (behind_space ps pairs) AtDigit AtDigit ⊥
+laws_behind_space ps pairs = weaker (laws_then (laws_judged (WrongPriority ps pairs)) (λ p. laws_colon ps pairs p) digit_no_colon) first more (λ n. n.0)
+  where
+    first : (t : Seen) → Or AtDigit (When ⊥ (At 58)) t → AtDigit t
+    first t (inl x) = x
+    first t (inr x) = absurd x.0
+
+    more : (t : Seen) → Or AtDigit (When ⊥ AtDigit) t → AtDigit t
+    more t (inl x) = x
+    more t (inr x) = absurd x.0
+
+pub laws_pair : (ps : List ℕ) (pairs : Pairs) → Laws Odd (pair ps pairs) (At 32) AtDigit ⊥
+laws_pair ps pairs = tight_then (laws_byte 32) (λ _. laws_behind_space ps pairs)
+
+abbrev pub pairs_end : List ℕ → Pairs → Field (List ℕ)
+pairs_end ps pairs = mapped (λ _. map pairs.count ps) (byte 10)
+
+pub laws_pairs_end : (ps : List ℕ) (pairs : Pairs) → Laws Odd (pairs_end ps pairs) (At 10) Nothing ⊥
+laws_pairs_end ps pairs = laws_mapped (λ _. map pairs.count ps) (byte 10) (laws_byte 10)
+
+pub joint_pairs : (ps : List ℕ) → Joint (many (pair ps) no_pairs) (pairs_end ps)
+joint_pairs ps = joint (laws_many (pair ps) (laws_pair ps) digit_no_space no_pairs) (laws_pairs_end ps) numbers_end
+
+pub laws_pairs : (ps : List ℕ) → Laws Odd (counts_in true ps) Separates Nothing ⊥
+laws_pairs ps = weaker (laws_then (laws_many (pair ps) (laws_pair ps) digit_no_space no_pairs) (laws_pairs_end ps) numbers_end) first more (λ n. n.1)
+  where
+    first : (t : Seen) → Or (At 32) (When (Unit {0}) (At 10)) t → Separates t
+    first t (inl x) = inl x
+    first t (inr x) = inr x.1
+
+    more : (t : Seen) → Or Nothing (When ⊥ (Or AtDigit (At 32))) t → Nothing t
+    more t (inl x) = x
+    more t (inr x) = x.0
+
+pub laws_counts_in : (compact : Bool) (ps : List ℕ) → Laws Odd (counts_in compact ps) Separates Nothing ⊥
+laws_counts_in false ps = laws_counts (length ps)
+laws_counts_in true ps = laws_pairs ps
+
+module _ (compact : Bool) (odd even ids : List ℕ) where
   abbrev pub entry_counts : ℕ → Option ℕ → Field EntryData
-  entry_counts w c = mapped (λ cs. record { winner = w; choice = c; counts = cs }) (counts (count_number odd even w))
+  entry_counts w c = mapped (λ cs. record { winner = w; choice = c; counts = cs }) (counts_in compact (lost_by odd even w))
 
   pub laws_entry_counts : (w : ℕ) (c : Option ℕ) → Laws Odd (entry_counts w c) Separates Nothing ⊥
-  laws_entry_counts w c = laws_mapped (λ cs. record { winner = w; choice = c; counts = cs }) (counts (count_number odd even w)) (laws_counts (count_number odd even w))
+  laws_entry_counts w c = laws_mapped (λ cs. record { winner = w; choice = c; counts = cs }) (counts_in compact (lost_by odd even w)) (laws_counts_in compact (lost_by odd even w))
 
   pub laws_entry_choice : (w : ℕ) → Laws Odd (then_by (choice ids) (entry_counts w)) Any Nothing ⊥
   laws_entry_choice w = loose_then (laws_choice ids) (laws_entry_counts w)
@@ -183,20 +243,20 @@ module _ (odd even ids : List ℕ) where
   pub laws_entry_rest : Laws Odd (then_by (byte 32) (λ _. then_by winner (λ w. then_by (byte 32) (λ _. then_by (choice ids) (entry_counts w))))) Separates Nothing ⊥
   laws_entry_rest = laws_space (λ _. laws_entry_winner)
 
-  pub laws_entry : (id : ℕ) → Laws Odd (entry odd even ids id) Any Nothing ⊥
+  pub laws_entry : (id : ℕ) → Laws Odd (entry compact odd even ids id) Any Nothing ⊥
   laws_entry id = weaker (loose_then (laws_number (λ n. n ≡ id → ⊥)) (λ _. laws_entry_rest)) (λ t h. tt) (λ t h. h) (λ n. n)
 
-  pub laws_entries : (rest : List ℕ) → Laws Odd (entries odd even ids rest) Any Nothing (Unit {0})
+  pub laws_entries : (rest : List ℕ) → Laws Odd (entries compact odd even ids rest) Any Nothing (Unit {0})
   laws_entries [] = weaker (laws_give Odd []) (λ t h. absurd h) (λ t h. h) (λ n. n)
-  laws_entries (id ∷ rest) = weaker (tight_then (laws_entry id) (λ first. laws_mapped (λ others. first ∷ others) (entries odd even ids rest) (laws_entries rest))) (λ t h. h) (λ t h. h) (λ n. tt)
+  laws_entries (id ∷ rest) = weaker (tight_then (laws_entry id) (λ first. laws_mapped (λ others. first ∷ others) (entries compact odd even ids rest) (laws_entries rest))) (λ t h. h) (λ t h. h) (λ n. tt)
 
   -- ## The text
 
   abbrev pub all_entries : Field CertificateData
-  all_entries = mapped (λ es. record { odd = odd; even = even; entries = es }) (entries odd even ids ids)
+  all_entries = mapped (λ es. record { odd = odd; even = even; entries = es }) (entries compact odd even ids ids)
 
   pub laws_all_entries : Laws Odd all_entries Any Nothing (Unit {0})
-  laws_all_entries = laws_mapped (λ es. record { odd = odd; even = even; entries = es }) (entries odd even ids ids) (laws_entries ids)
+  laws_all_entries = laws_mapped (λ es. record { odd = odd; even = even; entries = es }) (entries compact odd even ids ids) (laws_entries ids)
 
   pub laws_even : Laws Odd (then_by (priorities even) (λ _. all_entries)) Separates Nothing ⊥
   laws_even = tight_then (laws_priorities even) (λ _. laws_all_entries)
@@ -216,5 +276,17 @@ module _ (odd even ids : List ℕ) where
   pub laws_count : Laws Odd (then_by (number (λ n. n ≡ length ids → ⊥)) (λ _. behind_count)) AtDigit Nothing ⊥
   laws_count = loose_then (laws_number (λ n. n ≡ length ids → ⊥)) (λ _. laws_behind_count)
 
-  pub laws_certificate : Laws Odd (certificate odd even ids) (At 112) Nothing ⊥
-  laws_certificate = tight_then (laws_word_from 112 (codes "syncert 1\nvertices ")) (λ _. laws_count)
+  pub laws_vertices_word : Laws Odd (then_by (word vertices_word) (λ _. then_by (number (λ n. n ≡ length ids → ⊥)) (λ _. behind_count))) (At 10) Nothing ⊥
+  laws_vertices_word = tight_then (laws_word_from 10 (codes "vertices ")) (λ _. laws_count)
+
+pub laws_version : Laws Odd version Any Nothing ⊥
+laws_version = laws_two 49 50 false true
+
+abbrev pub behind_version : List ℕ → List ℕ → List ℕ → Bool → Field CertificateData
+behind_version odd even ids compact = then_by (word vertices_word) (λ _. then_by (number (λ n. n ≡ length ids → ⊥)) (λ _. behind_count compact odd even ids))
+
+pub laws_from_version : (odd even ids : List ℕ) → Laws Odd (then_by version (behind_version odd even ids)) Any Nothing ⊥
+laws_from_version odd even ids = tight_then laws_version (λ compact. laws_vertices_word compact odd even ids)
+
+pub laws_certificate : (odd even ids : List ℕ) → Laws Odd (certificate odd even ids) (At 112) Nothing ⊥
+laws_certificate odd even ids = tight_then (laws_word_from 112 (codes "syncert ")) (λ _. laws_from_version odd even ids)

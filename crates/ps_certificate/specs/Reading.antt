@@ -1,6 +1,6 @@
 -- Reading a certificate from left to right, with the first fault that is met: what the private functions of the reader
 -- compute. What a text means, and which fault is the first one, is said in `Texts`.
-use Rattle.std.specs.Prelude.{◌≡◌, ℕ, zero, suc, ◌+◌, ◌-◌, ◌*◌, ◌^◌, List, [], ◌∷◌, length, drop, Option, Some, None, Result, Ok, Err, Bool, false, ◌||◌, nat_lt, ◌==◌, if◌then◌else◌, take_while}
+use Rattle.std.specs.Prelude.{◌≡◌, ℕ, zero, suc, ◌+◌, ◌-◌, ◌*◌, ◌^◌, List, [], ◌∷◌, length, map, drop, Option, Some, None, Result, Ok, Err, Bool, true, false, ◌||◌, nat_lt, ◌==◌, if◌then◌else◌, take_while}
 use Rattle.std.specs.Char.{is_ascii_digit}
 use Rattle.ps_certificate.specs.declared.fault.CertCause.{CertCause}
 use Rattle.ps_certificate.specs.declared.fault.CertCause.TheVariants.{Syntax, OtherGame}
@@ -8,7 +8,8 @@ use Rattle.ps_certificate.specs.Faults.{CertFault}
 use Rattle.ps_text.specs.declared.faults.Fault.TheVariants.{Text, OutOfMemory}
 use Rattle.ps_certificate.specs.Certificates.{EntryData}
 use Rattle.ps_certificate.specs.Places.{Place}
-use Rattle.ps_certificate.specs.Words.{first_words, odd_word, even_word}
+use Rattle.ps_certificate.specs.Pairs.{Pairs, no_pairs, with_pair}
+use Rattle.ps_certificate.specs.Words.{first_word, vertices_word, odd_word, even_word}
 
 -- a cause and its place
 abbrev pub Fault : Type 0
@@ -121,14 +122,18 @@ priorities_at (p ∷ ps) place = if comes 10 place.rest
       found ← exactly_at p next
       priorities_at ps found)
 
-unfoldable pub winner_at : Place → Result (ℕ × Place) Fault
-winner_at place = if comes 48 place.rest
+-- one of two bytes, each with its value
+unfoldable pub two_at : {V : Type 0} → ℕ → ℕ → V → V → Place → Result (V × Place) Fault
+two_at {V} a b v w place = if comes a place.rest
     then (do
-      next ← byte_at 48 place
-      Ok (0, next))
+      next ← byte_at a place
+      Ok (v, next))
     else (do
-      next ← byte_at 49 place
-      Ok (1, next))
+      next ← byte_at b place
+      Ok (w, next))
+
+abbrev pub winner_at : Place → Result (ℕ × Place) Fault
+winner_at place = two_at 48 49 0 1 place
 
 abbrev pub found_or : Place → Place → Option ℕ → Result (Option ℕ × Place) Fault
 found_or start next None = other_game start
@@ -158,28 +163,77 @@ pub record KnownData : Type 0 where
   pub even : List ℕ
   pub find : ℕ → Option ℕ
 
--- how many counts a line has, by its winner
-abbrev pub count_number : KnownData → ℕ → ℕ
-count_number known winner = if winner == 0 then length known.odd else length known.even
+-- the number is above the last one
+abbrev pub rises : Option ℕ → ℕ → Bool
+rises None n = true
+rises (Some last) n = nat_lt last n
+
+-- the list has the number
+abbrev pub has : List ℕ → ℕ → Bool
+has [] n = false
+has (x ∷ xs) n = if x == n then true else has xs n
+
+-- the priority of a count, which has to rise and to be in the list
+unfoldable pub priority_at : List ℕ → Option ℕ → Place → Result (ℕ × Place) Fault
+priority_at ps last place = do
+  p ← field_at place
+  if rises last p.0 then (if has ps p.0 then Ok p else other_game place) else refused place
+
+-- a count that is not 0
+unfoldable pub positive_at : Place → Result (ℕ × Place) Fault
+positive_at place = if comes 48 place.rest then refused place else number_at place
+
+-- a count behind a space, its priority and a colon
+unfoldable pub pair_at : List ℕ → Option ℕ → Place → Result ((ℕ × ℕ) × Place) Fault
+pair_at ps last place = do
+  next ← byte_at 32 place
+  p ← priority_at ps last next
+  at_count ← byte_at 58 p.1
+  count ← positive_at at_count
+  Ok ((p.0, count.0), count.1)
+
+-- pairs as long as a space comes next, so many at most
+unfoldable pub pairs_at : ℕ → List ℕ → Pairs → Place → Result (Pairs × Place) Fault
+pairs_at zero ps pairs place = Ok (pairs, place)
+pairs_at (suc n) ps pairs place = if comes 32 place.rest
+    then (do
+      pair ← pair_at ps pairs.last place
+      pairs_at n ps (with_pair pairs pair.0.0 pair.0.1) pair.1)
+    else Ok (pairs, place)
+
+-- the counts of a line of a compact text
+unfoldable pub compact_at : List ℕ → Place → Result (List ℕ × Place) Fault
+compact_at ps place = do
+  pairs ← pairs_at (length place.rest) ps no_pairs place
+  Ok (map pairs.0.count ps, pairs.1)
+
+-- the counts of a line, for these priorities
+abbrev pub counts_in_at : Bool → List ℕ → Place → Result (List ℕ × Place) Fault
+counts_in_at false ps place = counts_at (length ps) place
+counts_in_at true ps place = compact_at ps place
+
+-- the priorities by which the winner loses
+abbrev pub lost_by_at : KnownData → ℕ → List ℕ
+lost_by_at known winner = if winner == 0 then known.odd else known.even
 
 -- the line of the vertex with the id
-unfoldable pub entry_at : KnownData → ℕ → Place → Result (EntryData × Place) Fault
-entry_at known id place = do
+unfoldable pub entry_at : Bool → KnownData → ℕ → Place → Result (EntryData × Place) Fault
+entry_at compact known id place = do
   behind_id ← exactly_at id place
   at_winner ← byte_at 32 behind_id
   winner ← winner_at at_winner
   at_choice ← byte_at 32 winner.1
   choice ← choice_at known.find at_choice
-  counts ← counts_at (count_number known winner.0) choice.1
+  counts ← counts_in_at compact (lost_by_at known winner.0) choice.1
   next ← byte_at 10 counts.1
   Ok (record { winner = winner.0; choice = choice.0; counts = counts.0 }, next)
 
 -- the lines of the vertices with these ids
-unfoldable pub entries_at : KnownData → List ℕ → Place → Result (List EntryData × Place) Fault
-entries_at known [] place = Ok ([], place)
-entries_at known (id ∷ ids) place = do
-  entry ← entry_at known id place
-  others ← entries_at known ids entry.1
+unfoldable pub entries_at : Bool → KnownData → List ℕ → Place → Result (List EntryData × Place) Fault
+entries_at compact known [] place = Ok ([], place)
+entries_at compact known (id ∷ ids) place = do
+  entry ← entry_at compact known id place
+  others ← entries_at compact known ids entry.1
   Ok (entry.0 ∷ others.0, others.1)
 
 -- the text is at its end
@@ -187,19 +241,22 @@ abbrev pub ended : List EntryData → ℕ → List ℕ → Result (List EntryDat
 ended entries at [] = Ok entries
 ended entries at (b ∷ bytes) = Err (Syntax, at)
 
--- the lines before those of the vertices
-unfoldable pub head_at : KnownData → ℕ → Place → Result Place Fault
+-- the lines before those of the vertices, and whether the text is a compact one
+unfoldable pub head_at : KnownData → ℕ → Place → Result (Bool × Place) Fault
 head_at known count place = do
-  at_count ← word_at first_words place
+  at_version ← word_at first_word place
+  version ← two_at 49 50 false true at_version
+  at_count ← word_at vertices_word version.1
   behind_count ← exactly_at count at_count
   at_odd ← word_at odd_word behind_count
   at_even_line ← priorities_at known.odd at_odd
   at_even ← word_at even_word at_even_line
-  priorities_at known.even at_even
+  next ← priorities_at known.even at_even
+  Ok (version.0, next)
 
 -- a text from its first to its last byte
 unfoldable pub entries_of : KnownData → List ℕ → List ℕ → Result (List EntryData) Fault
 entries_of known ids text = do
   lines ← head_at known (length ids) (record { at = 0; rest = text })
-  entries ← entries_at known ids lines
+  entries ← entries_at lines.0 known ids lines.1
   ended entries.0 entries.1.at entries.1.rest

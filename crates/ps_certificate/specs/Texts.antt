@@ -1,18 +1,20 @@
 -- The text of a certificate of a given game, by parts (`ps_text`), and what may be wrong with it.
---     psyncert 1
---     vertices n
---     odd p p ..
---     even p p ..
---     id winner move m m ..
+--     psyncert 1                      psyncert 2
+--     vertices n                      vertices n
+--     odd p p ..                      odd p p ..
+--     even p p ..                     even p p ..
+--     id winner move m m ..           id winner move p:m p:m ..
 -- Each line is ended by one newline, fields are separated by one space, and numbers have no leading zeros. The second line has
 -- the number of vertices, the next two the priorities that are present, rising. Then one line for each vertex, in the game's
 -- order: its id, the winner, 0 or 1, the winner's move, which is the id of a vertex or `-`, and one count for each priority by
--- which the winner loses.
+-- which the winner loses. The compact text, on the right, has a count only where it is not 0, behind its priority, and these
+-- priorities rise.
 --     A text has the form of a certificate, whichever numbers stand where a number of vertices, a priority, an id or a move
 -- stands, and however many priorities are listed. Where it leaves this form it is refused by 53 (`Syntax`), and so it is at
--- the first digit of a number that no word of 64 bits holds. It is refused by 54 (`OtherGame`) at a number that is not the
--- one that the game has there, if a space, a newline or a colon ends it, and at the newline where a priority is missing.
-use Rattle.std.specs.Prelude.{◌≡◌, ◌≢◌, ℕ, zero, suc, ◌+◌, ◌^◌, ◌<◌, ◌≤◌, ◌⊎◌, List, [], ◌∷◌, ◌++◌, length, map, drop, Option, Some, None, Result, Ok, Err, ◌==◌, if◌then◌else◌, slice_get, position}
+-- the first digit of a number that no word of 64 bits holds, at a count 0 behind its priority, and at the first digit of a
+-- count's priority that does not rise, if a space, a newline or a colon ends it. It is refused by 54 (`OtherGame`) at a number
+-- that is not the one that the game has there, if one of these ends it, and at the newline where a priority is missing.
+use Rattle.std.specs.Prelude.{◌≡◌, ◌≢◌, ℕ, zero, suc, ◌+◌, ◌^◌, ◌<◌, ◌≤◌, ◌⊎◌, List, [], ◌∷◌, ◌++◌, length, map, drop, Option, Some, None, Result, Bool, true, false, ◌==◌, if◌then◌else◌, slice_get, position}
 use Rattle.std.specs.List.{Contains}
 use Rattle.ps_text.specs.Answers.{Piece, Stream, Found}
 use Rattle.ps_text.specs.Parts.{Part, Causes, PartAnswers, NoBad, give, one, then_by, either, many, mapped}
@@ -25,7 +27,8 @@ use Rattle.ps_text.specs.Faults.{UnlessMemory}
 use Rattle.ps_certificate.specs.Faults.{cause_number}
 use Rattle.ps_game.specs.Ranking.{ListsPriorities}
 use Rattle.ps_certificate.specs.Certificates.{EntryData, CertificateData}
-use Rattle.ps_certificate.specs.Words.{first_words, odd_word, even_word}
+use Rattle.ps_certificate.specs.Pairs.{Pairs, no_pairs, with_pair, DoesNotRise}
+use Rattle.ps_certificate.specs.Words.{first_word, vertices_word, odd_word, even_word}
 
 -- a sign of the text: a byte, and what a reader sees behind it
 pub record Seen : Type 0 where
@@ -60,6 +63,13 @@ abbrev pub word : List ℕ → Field (Unit {0})
 word [] = give tt
 word (b ∷ bytes) = then_by (byte b) (λ _. word bytes)
 
+-- one of two bytes, each with its value
+abbrev pub take_two : {V : Type 0} → ℕ → ℕ → V → V → Seen → Option V
+take_two a b v w s = if s.byte == a then Some v else if s.byte == b then Some w else None
+
+abbrev pub two : {V : Type 0} → ℕ → ℕ → V → V → Field V
+two a b v w = one (take_two a b v w) NoBad
+
 -- ## Numbers
 
 -- a space, a newline or a colon comes first
@@ -67,20 +77,32 @@ abbrev pub EndsField : List ℕ → Type 0
 EndsField [] = ⊥
 EndsField (b ∷ bytes) = (b ≡ 32) ⊎ (b ≡ 10) ⊎ (b ≡ 58)
 
--- the digits that begin at that byte are of a number that is too large, or that is wrong there and ended
-pub record IsBadNumber (Wrong : ℕ → Type 0) (s : Seen) (f : CertCause) : Type 0 where
+-- what may be wrong with a number where it stands: a cause, by what stands behind it and by its value
+abbrev pub Verdict : Type 1
+Verdict = List ℕ → ℕ → CertCause → Type 0
+
+-- the digits that begin at that byte are of a number that is too large, or that is wrong there
+pub record IsBadNumber (Wrong : Verdict) (s : Seen) (f : CertCause) : Type 0 where
   pub digits : List ℕ
   pub more : List ℕ
   pub split : s.byte ∷ s.behind ≡ digits ++ more
   pub number : IsPlainNumber digits
-  pub bad : ((f ≡ Syntax) × (2 ^ 64 ≤ decimal_value digits)) ⊎ ((f ≡ OtherGame) × EndsField more × Wrong (decimal_value digits))
+  pub bad : ((f ≡ Syntax) × (2 ^ 64 ≤ decimal_value digits)) ⊎ Wrong more (decimal_value digits) f
 
--- a number without leading zeros, of any size; Wrong says which ones are not the game's
-abbrev pub number : (ℕ → Type 0) → Field ℕ
-number Wrong = record {
+-- a number without leading zeros, of any size
+abbrev pub judged : Verdict → Field ℕ
+judged Wrong = record {
   IsText = λ text n. IsPlainNumber (bytes_of text) × (n ≡ decimal_value (bytes_of text));
   IsCause = λ front s f. (front ≡ []) × IsBadNumber Wrong s f;
 }
+
+-- the number is ended, and not the game's
+abbrev pub OfOtherGame : (ℕ → Type 0) → Verdict
+OfOtherGame Wrong more n f = (f ≡ OtherGame) × EndsField more × Wrong n
+
+-- a number; Wrong says which ones are not the game's
+abbrev pub number : (ℕ → Type 0) → Field ℕ
+number Wrong = judged (OfOtherGame Wrong)
 
 abbrev pub Never : ℕ → Type 0
 Never n = ⊥
@@ -105,11 +127,8 @@ priorities ps = then_by (many priority ps) (λ left. one (take_byte 10) (IsMissi
 
 -- ## Lines of vertices
 
-abbrev pub take_winner : Seen → Option ℕ
-take_winner s = if s.byte == 48 then Some 0 else if s.byte == 49 then Some 1 else None
-
 abbrev pub winner : Field ℕ
-winner = one take_winner NoBad
+winner = two 48 49 0 1
 
 -- the vertex that has the id
 abbrev pub vertex_of : List ℕ → ℕ → Option ℕ
@@ -124,30 +143,54 @@ abbrev pub counts : ℕ → Field (List ℕ)
 counts zero = mapped (λ _. []) (byte 10)
 counts (suc n) = then_by (byte 32) (λ _. then_by (number Never) (λ count. mapped (λ others. count ∷ others) (counts n)))
 
--- how many priorities the winner loses by
-abbrev pub count_number : List ℕ → List ℕ → ℕ → ℕ
-count_number odd even winner = if winner == 0 then length odd else length even
+-- the priority of a count is ended, and does not rise, or is none by which the winner loses
+abbrev pub WrongPriority : List ℕ → Pairs → Verdict
+WrongPriority ps pairs more n f = EndsField more × (((f ≡ Syntax) × DoesNotRise pairs n) ⊎ ((f ≡ OtherGame) × ¬ Contains ps n))
+
+-- a count 0 is not written
+abbrev pub IsZero : Verdict
+IsZero more n f = (f ≡ Syntax) × (n ≡ 0)
+
+-- a count behind a space, its priority and a colon
+abbrev pub pair : List ℕ → Pairs → Field Pairs
+pair ps pairs =
+    then_by (byte 32) (λ _. then_by (judged (WrongPriority ps pairs)) (λ p.
+    then_by (byte 58) (λ _. mapped (λ m. with_pair pairs p m) (judged IsZero))))
+
+-- the counts for these priorities, and the end of the line: all of them, or those that are not 0 with their priorities
+abbrev pub counts_in : Bool → List ℕ → Field (List ℕ)
+counts_in false ps = counts (length ps)
+counts_in true ps = then_by (many (pair ps) no_pairs) (λ pairs. mapped (λ _. map pairs.count ps) (byte 10))
+
+-- the priorities by which the winner loses
+abbrev pub lost_by : List ℕ → List ℕ → ℕ → List ℕ
+lost_by odd even winner = if winner == 0 then odd else even
 
 -- the line of the vertex with that id
-abbrev pub entry : List ℕ → List ℕ → List ℕ → ℕ → Field EntryData
-entry odd even ids id =
+abbrev pub entry : Bool → List ℕ → List ℕ → List ℕ → ℕ → Field EntryData
+entry compact odd even ids id =
     then_by (number (λ n. n ≢ id)) (λ _. then_by (byte 32) (λ _.
     then_by winner (λ w. then_by (byte 32) (λ _.
-    then_by (choice ids) (λ c. mapped (λ cs. record { winner = w; choice = c; counts = cs }) (counts (count_number odd even w)))))))
+    then_by (choice ids) (λ c. mapped (λ cs. record { winner = w; choice = c; counts = cs }) (counts_in compact (lost_by odd even w)))))))
 
 -- a line for each of these ids
-abbrev pub entries : List ℕ → List ℕ → List ℕ → List ℕ → Field (List EntryData)
-entries odd even all [] = give []
-entries odd even all (id ∷ ids) = then_by (entry odd even all id) (λ first. mapped (λ others. first ∷ others) (entries odd even all ids))
+abbrev pub entries : Bool → List ℕ → List ℕ → List ℕ → List ℕ → Field (List EntryData)
+entries compact odd even all [] = give []
+entries compact odd even all (id ∷ ids) = then_by (entry compact odd even all id) (λ first. mapped (λ others. first ∷ others) (entries compact odd even all ids))
 
 -- ## The text
 
+-- 1, or 2 for a compact text
+abbrev pub version : Field Bool
+version = two 49 50 false true
+
 abbrev pub certificate : List ℕ → List ℕ → List ℕ → Field CertificateData
 certificate odd even ids =
-    then_by (word first_words) (λ _. then_by (number (λ n. n ≢ length ids)) (λ _.
+    then_by (word first_word) (λ _. then_by version (λ compact.
+    then_by (word vertices_word) (λ _. then_by (number (λ n. n ≢ length ids)) (λ _.
     then_by (word odd_word) (λ _. then_by (priorities odd) (λ _.
     then_by (word even_word) (λ _. then_by (priorities even) (λ _.
-    mapped (λ es. record { odd = odd; even = even; entries = es }) (entries odd even ids ids)))))))
+    mapped (λ es. record { odd = odd; even = even; entries = es }) (entries compact odd even ids ids)))))))))
 
 -- the answer to a text, for a given game: its certificate, or the first cause in it
 pub record Reads (game : NamedGameData) (text : List ℕ) (answer : Result CertificateData (Found CertCause)) : Type 0 where

@@ -1,8 +1,11 @@
 -- The words of certificate texts.
 use Rattle.std.specs.Prelude.{ℕ, List, codes}
 
-abbrev pub first_words : List ℕ
-first_words = codes "psyncert 1\nvertices "
+abbrev pub first_word : List ℕ
+first_word = codes "psyncert "
+
+abbrev pub vertices_word : List ℕ
+vertices_word = codes "\nvertices "
 
 abbrev pub odd_word : List ℕ
 odd_word = codes "\nodd"

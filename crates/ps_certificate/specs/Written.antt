@@ -1,47 +1,77 @@
 -- The bytes of a certificate that is written.
 --     fields xs      each of the numbers behind one space
---     entry_line ids id entry      the line of the vertex with that id
---     IsWritable count entry      what such a line can be written of
+--     pairs ps cs      each count that is not 0, behind one space, its priority and a colon
+--     entry_line compact odd even ids id entry      the line of the vertex with that id
+--     IsWritable count odd even entry      what such a line can be written of
 --     IsWord n, HasWords ids c      numbers that the code holds in words
---     certificate_text game c      the first line, the number of vertices, the odd and the even priorities, and a line for each vertex
-use Rattle.std.specs.Prelude.{ℕ, ◌+◌, ◌^◌, ◌<◌, List, [], ◌∷◌, ◌++◌, length, decimal, Option, Some, None, IfSome, slice_index}
+--     text_in compact game c      the first line, the number of vertices, the odd and the even priorities, and a line for each vertex
+--     certificate_text, compact_text      in each of the two texts
+use Rattle.std.specs.Prelude.{◌≡◌, ℕ, ◌+◌, ◌^◌, ◌<◌, Bool, true, false, ◌==◌, if◌then◌else◌, List, [], ◌∷◌, ◌++◌, length, decimal, Option, Some, None, IfSome, slice_index}
 use Rattle.std.specs.List.{All}
 use Rattle.ps_game.specs.Games.{NamedGameData}
 use Rattle.ps_certificate.specs.Certificates.{EntryData, CertificateData}
-use Rattle.ps_certificate.specs.Words.{first_words, odd_word, even_word}
+use Rattle.ps_certificate.specs.Texts.{lost_by}
+use Rattle.ps_certificate.specs.Words.{first_word, vertices_word, odd_word, even_word}
 
 abbrev pub fields : List ℕ → List ℕ
 fields [] = []
 fields (x ∷ xs) = 32 ∷ decimal x ++ fields xs
 
+-- the counts of these priorities
+abbrev pub pairs : List ℕ → List ℕ → List ℕ
+pairs [] cs = []
+pairs (p ∷ ps) [] = []
+pairs (p ∷ ps) (c ∷ cs) = if c == 0 then pairs ps cs else 32 ∷ decimal p ++ 58 ∷ decimal c ++ pairs ps cs
+
+abbrev pub counts_text : Bool → List ℕ → List ℕ → List ℕ
+counts_text false ps cs = fields cs
+counts_text true ps cs = pairs ps cs
+
 -- a word of 64 bits holds the number
 abbrev pub IsWord : ℕ → Type 0
 IsWord n = n < 2 ^ 64
 
--- the winner is 0 or 1, and the move one of so many vertices
-pub record IsWritable (count : ℕ) (entry : EntryData) : Type 0 where
+-- the winner is 0 or 1, the move one of so many vertices, and there is a count for each priority by which the winner loses
+pub record IsWritable (count : ℕ) (odd even : List ℕ) (entry : EntryData) : Type 0 where
   pub winner : entry.winner < 2
   pub choice : IfSome entry.choice (λ w. w < count)
+  pub counts : length entry.counts ≡ length (lost_by odd even entry.winner)
 
 -- the id of the vertex to go to, or `-`
 abbrev pub move_text : List ℕ → Option ℕ → List ℕ
 move_text ids None = 45 ∷ []
 move_text ids (Some v) = decimal (slice_index ids v)
 
--- the id, the winner, 0 or 1, the move, the counts
-abbrev pub entry_line : List ℕ → ℕ → EntryData → List ℕ
-entry_line ids id entry = decimal id ++ 32 ∷ (48 + entry.winner) ∷ 32 ∷ move_text ids entry.choice ++ fields entry.counts ++ 10 ∷ []
+-- the id, the winner, 0 or 1, the move, the counts for these priorities
+abbrev pub line_with : Bool → List ℕ → List ℕ → ℕ → EntryData → List ℕ
+line_with compact ps ids id entry = decimal id ++ 32 ∷ (48 + entry.winner) ∷ 32 ∷ move_text ids entry.choice ++ counts_text compact ps entry.counts ++ 10 ∷ []
+
+abbrev pub entry_line : Bool → List ℕ → List ℕ → List ℕ → ℕ → EntryData → List ℕ
+entry_line compact odd even ids id entry = line_with compact (lost_by odd even entry.winner) ids id entry
 
 -- the lines of the vertices from v on
-abbrev pub entry_lines : List ℕ → ℕ → List EntryData → List ℕ
-entry_lines ids v [] = []
-entry_lines ids v (entry ∷ entries) = entry_line ids (slice_index ids v) entry ++ entry_lines ids (v + 1) entries
+abbrev pub entry_lines : Bool → List ℕ → List ℕ → List ℕ → ℕ → List EntryData → List ℕ
+entry_lines compact odd even ids v [] = []
+entry_lines compact odd even ids v (entry ∷ entries) = entry_line compact odd even ids (slice_index ids v) entry ++ entry_lines compact odd even ids (v + 1) entries
 
-abbrev pub head_text : ℕ → List ℕ → List ℕ → List ℕ
-head_text count odd even = first_words ++ decimal count ++ odd_word ++ fields odd ++ 10 ∷ even_word ++ fields even ++ 10 ∷ []
+-- the digit of the version
+abbrev pub version_digit : Bool → ℕ
+version_digit compact = if compact then 50 else 49
 
+abbrev pub head_text : Bool → ℕ → List ℕ → List ℕ → List ℕ
+head_text compact count odd even =
+    first_word ++ version_digit compact ∷ vertices_word ++ decimal count ++ odd_word ++ fields odd ++ 10 ∷ even_word ++ fields even ++ 10 ∷ []
+
+abbrev pub text_in : Bool → NamedGameData → CertificateData → List ℕ
+text_in compact game certificate =
+    head_text compact (length game.ids) certificate.odd certificate.even ++ entry_lines compact certificate.odd certificate.even game.ids 0 certificate.entries
+
+-- with all counts, or with those that are not 0
 abbrev pub certificate_text : NamedGameData → CertificateData → List ℕ
-certificate_text game certificate = head_text (length game.ids) certificate.odd certificate.even ++ entry_lines game.ids 0 certificate.entries
+certificate_text game certificate = text_in false game certificate
+
+abbrev pub compact_text : NamedGameData → CertificateData → List ℕ
+compact_text game certificate = text_in true game certificate
 
 -- words hold the ids of a game, how many there are, and the numbers of a certificate
 pub record HasWords (all : List ℕ) (certificate : CertificateData) : Type 0 where

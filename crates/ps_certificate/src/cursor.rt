@@ -1,10 +1,10 @@
 //! A place in the text of a certificate, and the fields that are read from there on.
 
-ghost use Rattle.std.specs.Prelude.{◌≡◌, ◌==◌, ◌≤◌, [], length, nat_eq, All, take_while};
+ghost use Rattle.std.specs.Prelude.{◌≡◌, ◌==◌, ◌≤◌, [], true, false, length, nat_eq, All, take_while};
 ghost use Rattle.ps_text.specs.declared.faults.Fault.TheVariants as faults;
 ghost use Rattle.std.specs.Char.{is_ascii_digit};
 ghost use Rattle.indexmap.specs.IndexMap.{get};
-ghost use Rattle.ps_certificate.specs.Reading.{Gives, Moves, byte_at, word_at, number_at, field_at, exactly_at, priorities_at, winner_at, choice_at, counts_at, comes, numeral, numeral_value, behind};
+ghost use Rattle.ps_certificate.specs.Reading.{Gives, Moves, byte_at, word_at, number_at, field_at, exactly_at, priorities_at, two_at, winner_at, choice_at, counts_at, comes, numeral, numeral_value, behind};
 
 use crate::fault::{CertCause, CertFault};
 use indexmap::IndexMap;
@@ -171,8 +171,22 @@ impl<'a> Cursor<'a> {
         Err(other_game)
     }
 
+    /// The version that comes next, 1 or 2: whether the text is a compact one.
+    #[tactic(auto, unfolding(crate::specs::Reading::two_at))]
+    pub(crate) fn version(&mut self) -> Result<bool, CertFault>
+        ensures { Gives (λ v. v) result self.new (two_at 49 50 false true self.old) }
+    {
+        if self.comes(b'1') {
+            self.byte(b'1')?;
+            Ok(false)
+        } else {
+            self.byte(b'2')?;
+            Ok(true)
+        }
+    }
+
     /// The winner that comes next, 0 or 1.
-    #[tactic(auto, unfolding(crate::specs::Reading::winner_at))]
+    #[tactic(auto, unfolding(crate::specs::Reading::two_at))]
     pub(crate) fn winner(&mut self) -> Result<u8, CertFault>
         ensures { Gives (λ w. w) result self.new (winner_at self.old) }
     {

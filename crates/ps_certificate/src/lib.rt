@@ -11,6 +11,7 @@ mod fault;
 mod fitted;
 mod flaw;
 mod laws;
+mod pairs;
 mod rising;
 mod text;
 #[cfg(test)]
@@ -27,4 +28,4 @@ pub use laws::{
     closed_regions_are_kept, first_flaw_is_one, no_strategy_wins_outside, valid_regions_are_held,
 };
 pub use text::{certificate_text_has_one_answer, read};
-pub use writer::write;
+pub use writer::{write, write_compact};

@@ -1,12 +1,13 @@
 //! Reading the text of a certificate.
 
 ghost use Rattle.std.specs.Prelude.{◌≡◌, ℕ, List, Result, nat_eq, IfOk};
+ghost use Rattle.std.specs.List.Sorted.{IsStrictlyIncreasing};
 ghost use Rattle.indexmap.specs.IndexMap.{get};
 ghost use Rattle.ps_text.specs.Answers.{Found};
 ghost use Rattle.ps_game.specs.Games.{NamedGameData};
 ghost use Rattle.ps_game.specs.Ranking.{ListsPriorities};
 ghost use Rattle.ps_certificate.specs.Certificates.{CertificateData, Fits};
-ghost use Rattle.ps_certificate.specs.Reading.{Gives, Moves, Tells, head_at, entry_at, entries_at, entries_of as entries_of_text};
+ghost use Rattle.ps_certificate.specs.Reading.{Gives, Tells, head_at, lost_by_at, entry_at, entries_at, entries_of as entries_of_text};
 ghost use Rattle.ps_certificate.specs.Known.{known_data, FindsVertices};
 ghost use Rattle.ps_certificate.specs.Texts.{Reads, IsAnswer};
 ghost use Rattle.ps_certificate.specs.declared.fault.CertCause.{CertCause};
@@ -29,6 +30,19 @@ struct Known {
     vertices: IndexMap<u64, usize>,
 }
 
+impl Known {
+    /// The priorities by which a player loses, rising.
+    fn lost_by(&self, player: u8) -> &[u64]
+        ensures { result.now ≡ lost_by_at (known_data self.now) player }
+    {
+        if player == 0 {
+            self.odd.as_slice()
+        } else {
+            self.even.as_slice()
+        }
+    }
+}
+
 /// The vertices of a game by their ids.
 fn vertices_of(alloc: Global, game: &NamedGame) -> Result<IndexMap<u64, usize>, AllocError>
     ensures { IfOk result (λ m. FindsVertices game.now.ids (λ id. get nat_eq m id)) }
@@ -40,35 +54,42 @@ fn vertices_of(alloc: Global, game: &NamedGame) -> Result<IndexMap<u64, usize>, 
     Ok(vertices)
 }
 
-/// Goes behind the lines that stand before those of the vertices.
+/// Goes behind the lines that stand before those of the vertices, and says whether the text is a compact one.
 #[tactic(auto, unfolding(crate::specs::Reading::head_at))]
-fn head(cursor: &mut Cursor, known: &Known, count: usize) -> Result<(), CertFault>
-    ensures { Moves result cursor.new (head_at (known_data known.now) count cursor.old) }
+fn head(cursor: &mut Cursor, known: &Known, count: usize) -> Result<bool, CertFault>
+    ensures { Gives (λ compact. compact) result cursor.new (head_at (known_data known.now) count cursor.old) }
 {
-    cursor.word(b"psyncert 1\nvertices ")?;
+    cursor.word(b"psyncert ")?;
+    let compact = cursor.version()?;
+    cursor.word(b"\nvertices ")?;
     cursor.exactly(count as u64)?;
     cursor.word(b"\nodd")?;
     cursor.priorities(&known.odd)?;
     cursor.word(b"even")?;
-    cursor.priorities(&known.even)
+    cursor.priorities(&known.even)?;
+    Ok(compact)
 }
 
 /// The entry of the vertex with an id, from its line.
 #[tactic(auto, unfolding(crate::specs::Reading::entry_at))]
-fn entry(alloc: Global, cursor: &mut Cursor, known: &Known, id: u64) -> Result<Entry, CertFault>
-    ensures { Gives (λ e. e) result cursor.new (entry_at (known_data known.now) id cursor.old) }
+fn entry(
+    alloc: Global,
+    cursor: &mut Cursor,
+    known: &Known,
+    compact: bool,
+    id: u64,
+) -> Result<Entry, CertFault>
+    requires odd { IsStrictlyIncreasing known.now.odd.items }
+    requires even { IsStrictlyIncreasing known.now.even.items }
+    ensures { Gives (λ e. e) result cursor.new (entry_at compact (known_data known.now) id cursor.old) }
 {
     cursor.exactly(id)?;
     cursor.byte(b' ')?;
     let winner = cursor.winner()?;
     cursor.byte(b' ')?;
     let choice = cursor.choice(&known.vertices)?;
-    let count = if winner == 0 {
-        known.odd.len()
-    } else {
-        known.even.len()
-    };
-    let counts = cursor.counts(alloc, count)?;
+    let priorities = known.lost_by(winner);
+    let counts = cursor.counts_for(alloc, priorities, compact)?;
     cursor.byte(b'\n')?;
     Ok(Entry {
         winner,
@@ -82,13 +103,16 @@ fn entries(
     alloc: Global,
     cursor: &mut Cursor,
     known: &Known,
+    compact: bool,
     game: &NamedGame,
 ) -> Result<Vec<Entry>, CertFault>
-    ensures { Gives (λ v. v.items) result cursor.new (entries_at (known_data known.now) game.now.ids cursor.old) }
+    requires odd { IsStrictlyIncreasing known.now.odd.items }
+    requires even { IsStrictlyIncreasing known.now.even.items }
+    ensures { Gives (λ v. v.items) result cursor.new (entries_at compact (known_data known.now) game.now.ids cursor.old) }
 {
     let mut entries = Vec::new(alloc);
     for vertex in 0..game.game().count() {
-        entries.push(entry(alloc, cursor, known, game.id(vertex))?)?;
+        entries.push(entry(alloc, cursor, known, compact, game.id(vertex))?)?;
     }
     Ok(entries)
 }
@@ -101,11 +125,13 @@ fn entries_of(
     known: &Known,
     game: &NamedGame,
 ) -> Result<Vec<Entry>, CertFault>
+    requires odd { IsStrictlyIncreasing known.now.odd.items }
+    requires even { IsStrictlyIncreasing known.now.even.items }
     ensures { Tells (λ v. v.items) result (entries_of_text (known_data known.now) game.now.ids text.now) }
 {
     let mut cursor = Cursor::new(text);
-    head(&mut cursor, known, game.game().count())?;
-    let entries = entries(alloc, &mut cursor, known, game)?;
+    let compact = head(&mut cursor, known, game.game().count())?;
+    let entries = entries(alloc, &mut cursor, known, compact, game)?;
     if cursor.is_at_end() {
         Ok(entries)
     } else {
@@ -113,7 +139,7 @@ fn entries_of(
     }
 }
 
-/// Reads the text of a certificate of a game.
+/// Reads the text of a certificate of a game, which may be a compact one.
 pub fn read(alloc: Global, text: &[u8], game: &NamedGame) -> Result<Certificate, CertFault>
     // The text's certificate, or the first cause for which it is none.
     ensures exact { IsAnswer game.now text.now result }

@@ -1,11 +1,11 @@
-//! Writing the text of a certificate.
+//! Writing the texts of a certificate.
 
-ghost use Rattle.std.specs.Prelude.{◌≡◌, ◌++◌, ◌+◌, ◌∷◌, [], ◌<◌, length, decimal, OnOk, IfOk, Ok, slice_index};
+ghost use Rattle.std.specs.Prelude.{◌≡◌, ◌++◌, ◌+◌, ◌∷◌, [], ◌<◌, length, decimal, OnOk, IfOk, IfSome, Ok, slice_index};
 ghost use Rattle.std.specs.List.{All};
 ghost use Rattle.ps_game.specs.Games.{vertex_count};
 ghost use Rattle.ps_certificate.specs.Certificates.{Fits};
-ghost use Rattle.ps_certificate.specs.Texts.{Reads};
-ghost use Rattle.ps_certificate.specs.Written.{IsWord, IsWritable, fields, move_text, entry_line, entry_lines, head_text, certificate_text};
+ghost use Rattle.ps_certificate.specs.Texts.{Reads, lost_by};
+ghost use Rattle.ps_certificate.specs.Written.{IsWord, IsWritable, fields, pairs, counts_text, line_with, entry_lines, version_digit, head_text, text_in, certificate_text, compact_text};
 
 use crate::certificate::{Certificate, Entry};
 use itoa::Buffer;
@@ -13,7 +13,7 @@ use ps_game::{Arena, NamedGame};
 use std::alloc::{AllocError, Global};
 
 /// Writes a certificate of a game: the first line, the number of vertices, the odd and the even priorities, and a line for
-/// each vertex.
+/// each vertex, with all its counts.
 pub fn write(
     alloc: Global,
     certificate: &Certificate,
@@ -23,18 +23,53 @@ pub fn write(
     ensures bytes { IfOk result (λ bytes. bytes.items ≡ certificate_text game.now certificate.now) }
     ensures read_again { IfOk result (λ bytes. Reads game.now bytes.items (Ok certificate.now)) }
 {
+    write_text(alloc, certificate, game, false)
+}
+
+/// The same as a compact text, which has only the counts that are not 0, each behind its priority.
+pub fn write_compact(
+    alloc: Global,
+    certificate: &Certificate,
+    game: &NamedGame,
+) -> Result<Vec<u8>, AllocError>
+    requires { Fits game.now.game certificate.now }
+    ensures bytes { IfOk result (λ bytes. bytes.items ≡ compact_text game.now certificate.now) }
+    ensures read_again { IfOk result (λ bytes. Reads game.now bytes.items (Ok certificate.now)) }
+{
+    write_text(alloc, certificate, game, true)
+}
+
+/// Writes the one text or the other.
+fn write_text(
+    alloc: Global,
+    certificate: &Certificate,
+    game: &NamedGame,
+    compact: bool,
+) -> Result<Vec<u8>, AllocError>
+    requires { Fits game.now.game certificate.now }
+    ensures bytes { IfOk result (λ bytes. bytes.items ≡ text_in compact game.now certificate.now) }
+    ensures read_again { IfOk result (λ bytes. Reads game.now bytes.items (Ok certificate.now)) }
+{
     let mut out = Vec::new(alloc);
-    write_head(&mut out, game.game().count(), certificate)?;
-    write_entries(&mut out, game, &certificate.entries)?;
+    write_head(&mut out, game.game().count(), certificate, compact)?;
+    let Certificate { odd, even, entries } = certificate;
+    write_entries(&mut out, game, entries, odd, even, compact)?;
     Ok(out)
 }
 
 /// Writes the lines that stand before those of the vertices.
-fn write_head(out: &mut Vec<u8>, count: usize, certificate: &Certificate) -> Result<(), AllocError>
-    ensures bytes { OnOk result (out.new.items ≡ out.old.items ++ head_text count certificate.now.odd certificate.now.even) }
+fn write_head(
+    out: &mut Vec<u8>,
+    count: usize,
+    certificate: &Certificate,
+    compact: bool,
+) -> Result<(), AllocError>
+    ensures bytes { OnOk result (out.new.items ≡ out.old.items ++ head_text compact count certificate.now.odd certificate.now.even) }
     ensures words { OnOk result (IsWord count × All IsWord certificate.now.odd × All IsWord certificate.now.even) }
 {
-    out.extend_from_slice(b"psyncert 1\nvertices ")?;
+    out.extend_from_slice(b"psyncert ")?;
+    out.push(version_digit(compact))?;
+    out.extend_from_slice(b"\nvertices ")?;
     write_number(out, count as u64)?;
     out.extend_from_slice(b"\nodd")?;
     write_fields(out, &certificate.odd)?;
@@ -44,30 +79,57 @@ fn write_head(out: &mut Vec<u8>, count: usize, certificate: &Certificate) -> Res
     Ok(())
 }
 
+/// The digit of the version.
+fn version_digit(compact: bool) -> u8
+    ensures { result ≡ version_digit compact }
+{
+    if compact { b'2' } else { b'1' }
+}
+
 /// Writes a line for each vertex.
-fn write_entries(out: &mut Vec<u8>, game: &NamedGame, entries: &[Entry]) -> Result<(), AllocError>
+fn write_entries(
+    out: &mut Vec<u8>,
+    game: &NamedGame,
+    entries: &[Entry],
+    odd: &[u64],
+    even: &[u64],
+    compact: bool,
+) -> Result<(), AllocError>
     requires each { length entries.now ≡ vertex_count game.now.game }
     requires ids { length game.now.ids ≡ length entries.now }
-    requires writable { All (IsWritable (vertex_count game.now.game)) entries.now }
-    ensures bytes { OnOk result (out.new.items ≡ out.old.items ++ entry_lines game.now.ids 0 entries.now) }
+    requires writable { All (IsWritable (vertex_count game.now.game) odd.now even.now) entries.now }
+    ensures bytes { OnOk result (out.new.items ≡ out.old.items ++ entry_lines compact odd.now even.now game.now.ids 0 entries.now) }
     ensures ids { OnOk result (All IsWord game.now.ids) }
     ensures counts { OnOk result (All (λ entry. All IsWord entry.counts) entries.now) }
 {
     for (vertex, entry) in entries.iter().enumerate() {
-        write_entry(out, game, vertex, entry)?;
+        let priorities = lost_by(odd, even, entry.winner);
+        write_entry(out, game, vertex, entry, priorities, compact)?;
     }
     Ok(())
 }
 
+/// The priorities by which a player loses.
+fn lost_by<'a>(odd: &'a [u64], even: &'a [u64], player: u8) -> &'a [u64]
+    ensures { result.now ≡ lost_by odd.now even.now player }
+{
+    if player == 0 { odd } else { even }
+}
+
+/// Writes the line of a vertex, whose winner loses by these priorities.
 fn write_entry(
     out: &mut Vec<u8>,
     game: &NamedGame,
     vertex: usize,
     entry: &Entry,
+    priorities: &[u64],
+    compact: bool,
 ) -> Result<(), AllocError>
     requires vertex { vertex < vertex_count game.now.game }
-    requires writable { IsWritable (vertex_count game.now.game) entry.now }
-    ensures bytes { OnOk result (out.new.items ≡ out.old.items ++ entry_line game.now.ids (slice_index game.now.ids vertex) entry.now) }
+    requires winner { entry.now.winner < 2 }
+    requires choice { IfSome entry.now.choice (λ w. w < vertex_count game.now.game) }
+    requires counts { length entry.now.counts ≡ length priorities.now }
+    ensures bytes { OnOk result (out.new.items ≡ out.old.items ++ line_with compact priorities.now game.now.ids (slice_index game.now.ids vertex) entry.now) }
     ensures id { OnOk result (IsWord (slice_index game.now.ids vertex)) }
     ensures counts { OnOk result (All IsWord entry.now.counts) }
 {
@@ -77,9 +139,51 @@ fn write_entry(
         Some(successor) => write_number(out, game.id(successor))?,
         None => out.push(b'-')?,
     }
-    write_fields(out, &entry.counts)?;
+    write_counts(out, priorities, &entry.counts, compact)?;
     out.push(b'\n')?;
     Ok(())
+}
+
+/// Writes the counts of these priorities: all of them, or those that are not 0, each behind its priority.
+fn write_counts(
+    out: &mut Vec<u8>,
+    priorities: &[u64],
+    counts: &[u64],
+    compact: bool,
+) -> Result<(), AllocError>
+    requires { length counts.now ≡ length priorities.now }
+    ensures bytes { OnOk result (out.new.items ≡ out.old.items ++ counts_text compact priorities.now counts.now) }
+    ensures words { OnOk result (All IsWord counts.now) }
+{
+    if compact {
+        write_pairs(out, priorities, counts)
+    } else {
+        write_fields(out, counts)
+    }
+}
+
+/// Writes the counts of these priorities that are not 0, each behind its priority.
+fn write_pairs(out: &mut Vec<u8>, priorities: &[u64], counts: &[u64]) -> Result<(), AllocError>
+    requires { length counts.now ≡ length priorities.now }
+    ensures bytes { OnOk result (out.new.items ≡ out.old.items ++ pairs priorities.now counts.now) }
+    ensures words { OnOk result (All IsWord counts.now) }
+{
+    for (place, &count) in counts.iter().enumerate() {
+        if count != 0 {
+            write_pair(out, priorities[place], count)?;
+        }
+    }
+    Ok(())
+}
+
+/// Writes a count behind a space, its priority and a colon.
+fn write_pair(out: &mut Vec<u8>, priority: u64, count: u64) -> Result<(), AllocError>
+    ensures { OnOk result (out.new.items ≡ out.old.items ++ 32 ∷ decimal priority ++ 58 ∷ decimal count) }
+{
+    out.push(b' ')?;
+    write_number(out, priority)?;
+    out.push(b':')?;
+    write_number(out, count)
 }
 
 /// Writes numbers, each behind a space.

@@ -5,4 +5,4 @@ use Rattle.ps_certificate.proofs.Loops.{with_front}
 use Rattle.ps_certificate.proofs.text.entries.Given as goal
 
 abbrev pub invariant-loop-vertex : goal.invariant-loop-vertex
-invariant-loop-vertex l = with_front l.entries.items (entries_at (known_data l.known) (drop l.vertex l.game.ids) l.cursor) ≡ entries_at (known_data l.known) l.game.ids l.initial.cursor
+invariant-loop-vertex l = with_front l.entries.items (entries_at l.compact (known_data l.known) (drop l.vertex l.game.ids) l.cursor) ≡ entries_at l.compact (known_data l.known) l.game.ids l.initial.cursor

@@ -2,20 +2,24 @@ use Rattle.std.proofs.Common.{rules, arith, ap, subst, sym, ◌≡◌, ◌∙◌
 use Rattle.std.specs.List.{All}
 use Rattle.ps_game.specs.Games.{vertex_count}
 use Rattle.ps_certificate.specs.Texts.{Reads}
-use Rattle.ps_certificate.specs.Written.{IsWord, IsWritable, HasWords, certificate_text}
+use Rattle.ps_certificate.specs.Written.{IsWord, IsWritable, HasWords, text_in}
 use Rattle.ps_certificate.specs.Certificates.{EntryData}
 use Rattle.ps_certificate.proofs.Writing.{writable, reads_again}
-use Rattle.ps_certificate.proofs.writer.write.Goals as goal
+use Rattle.ps_certificate.proofs.writer.write_text.Goals as goal
 
 pub write_entries-requires-clause-writable : goal.write_entries-requires-clause-writable
 write_entries-requires-clause-writable c =
     let w = writable c.args.game.now.game c.args.certificate.now c.requires in
     let x : c.args.certificate.now.entries ≡ c.deref.result.now = search rules in
-    subst (All (IsWritable (vertex_count c.args.game.now.game))) x w
+    let o : c.args.certificate.now.odd ≡ c.deref-2.result.now = search rules in
+    let e : c.args.certificate.now.even ≡ c.deref-3.result.now = search rules in
+    subst (λ odd. All (IsWritable (vertex_count c.args.game.now.game) odd c.deref-3.result.now) c.deref.result.now) o
+    (subst (λ even. All (IsWritable (vertex_count c.args.game.now.game) c.args.certificate.now.odd even) c.deref.result.now) e
+    (subst (λ entries. All (IsWritable (vertex_count c.args.game.now.game) c.args.certificate.now.odd c.args.certificate.now.even) entries) x w))
 
 pub returns-clause-read_again : goal.returns-clause-read_again
 returns-clause-read_again c =
-    let bytes : c.write_entries.new.out.items ≡ certificate_text c.args.game.now c.args.certificate.now = search rules in
+    let bytes : c.write_entries.new.out.items ≡ text_in c.args.compact c.args.game.now c.args.certificate.now = search rules in
     let entries : c.deref.result.now ≡ c.args.certificate.now.entries = search rules in
     let count : c.count.result ≡ vertex_count c.args.game.now.game = c.count.ensures.vertices ∙ ap vertex_count c.game.ensures.game in
     let words : HasWords c.args.game.now.ids c.args.certificate.now = record {
@@ -25,4 +29,4 @@ returns-clause-read_again c =
       even = c.in_ok-write_head.ensures.words.2;
       counts = subst (All (λ (e : EntryData). All IsWord e.counts)) entries c.in_ok-write_entries.ensures.counts;
     } in
-    subst (λ t. Reads c.args.game.now t (Ok c.args.certificate.now)) (sym bytes) (reads_again c.args.game.now c.args.certificate.now c.game.ensures.well_formed c.requires words)
+    subst (λ t. Reads c.args.game.now t (Ok c.args.certificate.now)) (sym bytes) (reads_again c.args.compact c.args.game.now c.args.certificate.now c.game.ensures.well_formed c.requires words)

@@ -1,0 +1,17 @@
+-- The counts of a line of a compact text, as pairs of a priority and its count, so far.
+use Rattle.std.specs.Prelude.{ℕ, ◌≤◌, Option, Some, None, IsSomeAnd, ◌==◌, if◌then◌else◌}
+
+-- the last priority, and the count for each priority: 0 where none was given
+pub record Pairs : Type 0 where
+  pub last : Option ℕ
+  pub count : ℕ → ℕ
+
+abbrev pub no_pairs : Pairs
+no_pairs = record { last = None; count = λ _. 0 }
+
+abbrev pub with_pair : Pairs → ℕ → ℕ → Pairs
+with_pair pairs p m = record { last = Some p; count = λ q. if q == p then m else pairs.count q }
+
+-- the priority is not above the last one
+abbrev pub DoesNotRise : Pairs → ℕ → Type 0
+DoesNotRise pairs p = IsSomeAnd pairs.last (λ last. p ≤ last)

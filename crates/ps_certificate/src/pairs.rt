@@ -1,0 +1,98 @@
+//! The counts of a line of a compact text, each behind its priority.
+
+ghost use Rattle.std.specs.Prelude.{◌≡◌, ◌<◌, IfOk, length, slice_index};
+ghost use Rattle.std.specs.List.Sorted.{IsStrictlyIncreasing};
+ghost use Rattle.ps_certificate.specs.Reading.{Gives, counts_in_at, priority_at, positive_at, pair_at, compact_at, rises};
+
+use crate::cursor::Cursor;
+use crate::fault::{CertCause, CertFault};
+use crate::rising::place_of;
+use std::alloc::Global;
+
+impl<'a> Cursor<'a> {
+    /// The counts for these priorities that come next: all of them, or in a compact text those that are not 0.
+    pub(crate) fn counts_for(
+        &mut self,
+        alloc: Global,
+        priorities: &[u64],
+        compact: bool,
+    ) -> Result<Vec<u64>, CertFault>
+        requires { IsStrictlyIncreasing priorities.now }
+        ensures { Gives (λ v. v.items) result self.new (counts_in_at compact priorities.now self.old) }
+    {
+        if compact {
+            self.pairs(alloc, priorities)
+        } else {
+            self.counts(alloc, priorities.len())
+        }
+    }
+
+    /// Pairs of a priority and its count, each behind a space. A count left out is 0.
+    fn pairs(&mut self, alloc: Global, priorities: &[u64]) -> Result<Vec<u64>, CertFault>
+        requires { IsStrictlyIncreasing priorities.now }
+        ensures { Gives (λ v. v.items) result self.new (compact_at priorities.now self.old) }
+    {
+        let mut counts = vec![in alloc; 0; priorities.len()]?;
+        let mut last = None;
+        'more: while self.comes(b' ') {
+            let (place, count) = self.pair(priorities, last)?;
+            counts[place] = count;
+            last = Some(priorities[place]);
+        }
+        Ok(counts)
+    }
+
+    /// The place of a priority above the last one, and its count.
+    #[tactic(auto, unfolding(crate::specs::Reading::pair_at))]
+    fn pair(&mut self, priorities: &[u64], last: Option<u64>) -> Result<(usize, u64), CertFault>
+        requires { IsStrictlyIncreasing priorities.now }
+        ensures read { Gives (λ pair. (slice_index priorities.now pair.0, pair.1)) result self.new (pair_at priorities.now last self.old) }
+        ensures within { IfOk result (λ pair. pair.0 < length priorities.now) }
+    {
+        self.byte(b' ')?;
+        let place = self.priority(priorities, last)?;
+        self.byte(b':')?;
+        let count = self.positive()?;
+        Ok((place, count))
+    }
+
+    /// The place of the priority that comes next, which has to be above the last one.
+    #[tactic(auto, unfolding(crate::specs::Reading::priority_at))]
+    fn priority(&mut self, priorities: &[u64], last: Option<u64>) -> Result<usize, CertFault>
+        requires { IsStrictlyIncreasing priorities.now }
+        ensures read { Gives (λ place. slice_index priorities.now place) result self.new (priority_at priorities.now last self.old) }
+        ensures within { IfOk result (λ place. place < length priorities.now) }
+    {
+        let refused = self.fault(CertCause::Syntax);
+        let other_game = self.fault(CertCause::OtherGame);
+        let priority = self.field()?;
+        if !is_above(priority, last) {
+            return Err(refused);
+        }
+        match place_of(priorities, priority) {
+            Some(place) => Ok(place),
+            None => Err(other_game),
+        }
+    }
+
+    /// The count that comes next, which is not 0.
+    #[tactic(auto, unfolding(crate::specs::Reading::positive_at))]
+    fn positive(&mut self) -> Result<u64, CertFault>
+        ensures { Gives (λ n. n) result self.new (positive_at self.old) }
+    {
+        if self.comes(b'0') {
+            return Err(self.fault(CertCause::Syntax));
+        }
+        self.number()
+    }
+}
+
+/// Whether a number is above the last one, if there is one.
+fn is_above(number: u64, last: Option<u64>) -> bool
+    ensures { result ≡ rises last number }
+{
+    match last {
+        Some(last) => last < number,
+        None => true,
+    }
+}
