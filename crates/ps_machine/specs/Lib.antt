@@ -1,5 +1,11 @@
+pub mod Boards
 pub mod Building
+pub mod Extracting
+pub mod KeyNames
 pub mod Keys
+pub mod Machines
+pub mod Moving
+pub mod Naming
 pub mod Numbering
 pub mod Solving
 pub mod Visits

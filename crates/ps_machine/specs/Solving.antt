@@ -1,10 +1,10 @@
 -- What a solver's answer for a game is worth.
 --     IsCertified game c      the certificate fits the game and is valid
 --     AnswersSurely game r      what a sure solver answers: such a certificate, or that memory ran out
---     NamesVertices game r      a cycle that is answered has vertices of the game only
+--     NamesVertices game r      a cycle that is answered has vertices, and of the game only
 --     KeepsText text old new      what a solver holds once it was fed a text
 --     Replays game fed r      the answer is that of reading the text that was fed
-use Rattle.std.specs.Prelude.{◌≡◌, ℕ, ◌<◌, List, Option, None, Some, Result, Ok, Err}
+use Rattle.std.specs.Prelude.{◌≡◌, ℕ, ◌<◌, List, length, Option, None, Some, Result, Ok, Err}
 use Rattle.std.specs.List.{All}
 use Rattle.ps_game.specs.Games.{NamedGameData, vertex_count}
 use Rattle.ps_certificate.specs.Certificates.{CertificateData, Fits, IsValid}
@@ -25,7 +25,7 @@ AnswersSurely game (Err (Text cause offset)) = ⊥
 abbrev pub NamesVertices : NamedGameData → Result CertificateData SolveFault → Type 0
 NamesVertices game (Ok certificate) = Unit {0}
 NamesVertices game (Err OutOfMemory) = Unit {0}
-NamesVertices game (Err (BadCycle cycle)) = All (λ v. v < vertex_count game.game) cycle.items
+NamesVertices game (Err (BadCycle cycle)) = (0 < length cycle.items) × All (λ v. v < vertex_count game.game) cycle.items
 NamesVertices game (Err (Text cause offset)) = Unit {0}
 
 abbrev pub ReplaysText : NamedGameData → List ℕ → Result CertificateData SolveFault → Type 0

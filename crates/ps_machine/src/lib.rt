@@ -5,7 +5,13 @@
 
 mod built_in;
 mod fault;
+mod game;
+#[cfg(test)]
+mod game_tests;
 mod key;
+mod laws;
+mod machine;
+mod moves;
 mod numbering;
 mod replay;
 mod solver;
@@ -14,7 +20,10 @@ mod tests;
 
 pub use built_in::BuiltIn;
 pub use fault::SolveFault;
+pub use game::game_of;
 pub use key::{Key, Order};
+pub use laws::{lassos_won, one_game};
+pub use machine::{Machine, Row};
 pub use numbering::{KeyedGame, Successors, game_by_keys};
 pub use replay::Replay;
 pub use solver::Solver;

@@ -1,6 +1,6 @@
 //! What a solver owes.
 
-ghost use Rattle.std.specs.Prelude.{◌≡◌, ℕ, Bool, true, List, Option, None, Some, Result, OnOk, OnErr};
+ghost use Rattle.std.specs.Prelude.{◌≡◌, ℕ, Bool, true, List, Option, None, Some, Result, IsOk, OnOk, OnErr};
 ghost use Rattle.std.specs.Option.{is_none};
 ghost use Rattle.ps_game.specs.Games.{NamedGameData};
 ghost use Rattle.ps_certificate.specs.Certificates.{CertificateData};
@@ -23,10 +23,12 @@ pub trait Solver: Drop {
     /// What it may answer for a game, where it was fed that.
     ghost may_answer: { Self → Option (List ℕ) → NamedGameData → Result CertificateData SolveFault → Type 0 };
 
-    /// Takes a text in the place of the one before. One that can't be kept leaves the earlier one.
+    /// Takes a text in the place of the one before. One that can't be kept leaves the earlier one; a solver that keeps none takes
+    /// each.
     fn feed(&mut self, text: &[u8]) -> Result<(), AllocError>
         ensures steady { is_sure self.new ≡ is_sure self.old }
         ensures same { (text : Option (List ℕ)) (game : NamedGameData) (answer : Result CertificateData SolveFault) → may_answer self.new text game answer → may_answer self.old text game answer }
+        ensures unkept { fed self.old ≡ None → IsOk result }
         ensures ok { OnOk result (KeepsText text.now (fed self.old) (fed self.new)) }
         ensures err { OnErr result (fed self.new ≡ fed self.old) };
 

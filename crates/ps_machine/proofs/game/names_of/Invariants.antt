@@ -1,0 +1,14 @@
+use Rattle.std.proofs.Common.{◌≡◌, map, take}
+use Rattle.std.specs.List.{All}
+use Rattle.ps_game.specs.Games.{HasNoQuote}
+use Rattle.ps_game.specs.Names.{name_bytes}
+use Rattle.ps_machine.specs.Boards.{board_of}
+use Rattle.ps_machine.specs.KeyNames.{key_names}
+use Rattle.ps_machine.proofs.game.names_of.Given as goal
+
+-- the keys that were looked at have their names
+abbrev pub invariant-loop-key : goal.invariant-loop-key
+invariant-loop-key l = record {
+  names : map name_bytes l.names.items ≡ key_names (board_of l.order l.automaton) (take l.key-index l.keys);
+  plain : All HasNoQuote (map name_bytes l.names.items);
+}

@@ -1,0 +1,6 @@
+use Rattle.std.proofs.Common.{arith}
+use Rattle.ps_machine.proofs.NamingLemmas.{plain_decimal}
+use Rattle.ps_machine.proofs.game.write_number.Goals as goal
+
+pub returns-clause-plain : goal.returns-clause-plain
+returns-clause-plain c = plain_decimal c.args.number c.ranges.number.fits

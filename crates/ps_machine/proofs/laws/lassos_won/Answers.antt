@@ -1,0 +1,5 @@
+use Rattle.ps_machine.proofs.LassosAreWon.{each_lasso_won}
+use Rattle.ps_machine.proofs.laws.lassos_won.Goals as goal
+
+pub returns : goal.returns
+returns c = each_lasso_won

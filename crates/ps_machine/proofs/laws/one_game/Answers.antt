@@ -1,0 +1,5 @@
+use Rattle.ps_machine.proofs.OneGame.{one_game_of}
+use Rattle.ps_machine.proofs.laws.one_game.Goals as goal
+
+pub returns : goal.returns
+returns c = one_game_of

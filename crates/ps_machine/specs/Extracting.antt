@@ -1,0 +1,115 @@
+-- The machine of a certificate: what it remembers, what it plays, and which memory comes next.
+--     IsUsed game certificate v      v ends a path from vertex 0 that follows the table of the winner of vertex 0
+--     IsKept .. v      of the used first-mover vertices, v is the least of those that share a memory with it
+--     IsMachineOf board mover keys game certificate m      the machine: its memories are the kept vertices, rising
+-- A winner who moves first remembers the vertex. One who moves second remembers its state alone.
+use Rattle.std.specs.Prelude.{◌≡◌, ℕ, ◌+◌, ◌-◌, ◌<◌, ◌==◌, Bool, true, false, not, List, length, Some, slice_index, slice_get}
+use Rattle.std.specs.List.{All, AllPairs, Contains}
+use Rattle.ps_game.specs.Games.{ParityGame}
+use Rattle.ps_game.specs.Plays.{IsPath, Follows}
+use Rattle.ps_certificate.specs.Certificates.{CertificateData, winner_of, choice_of}
+use Rattle.ps_diagram.specs.Letters.{IsLeast}
+use Rattle.ps_hoa.specs.Files.{is_among}
+use Rattle.ps_machine.specs.Boards.{Board, IsFirstLetter, IsSecondLetter, SameSteps, IsClass}
+use Rattle.ps_machine.specs.Machines.{MachineData, memories_of, next_of, plays}
+use Rattle.ps_machine.specs.Numbering.{StandsAt}
+use Rattle.ps_machine.specs.declared.key.Key.{Key}
+use Rattle.ps_machine.specs.declared.key.Key.TheVariants.{First, Second}
+
+abbrev pub winner : CertificateData → ℕ
+winner certificate = winner_of certificate 0
+
+pub record IsUsed (game : ParityGame) (certificate : CertificateData) (v : ℕ) : Type 0 where
+  pub path : List ℕ
+  pub is_path : IsPath game path
+  pub begins : slice_index path 0 ≡ 0
+  pub follows : Follows game (winner certificate) (choice_of certificate) path
+  pub ends : slice_index path (length path - 1) ≡ v
+
+-- a used vertex at which the first player moves
+pub record IsUsedFirst (keys : List Key) (game : ParityGame) (certificate : CertificateData) (v q p : ℕ) : Type 0 where
+  pub used : IsUsed game certificate v
+  pub stands : StandsAt keys v (First q p)
+
+-- a machine whose player moves first stands at one vertex; another one at all those of a state
+abbrev pub Shares : Bool → ℕ → ℕ → ℕ → ℕ → Type 0
+Shares true v q w r = v ≡ w
+Shares false v q w r = q ≡ r
+
+pub record IsKept (is_first : Bool) (keys : List Key) (game : ParityGame) (certificate : CertificateData) (v : ℕ) : Type 0 where
+  pub state : ℕ
+  pub priority : ℕ
+  pub here : IsUsedFirst keys game certificate v state priority
+  pub least : (w r p : ℕ) → w < v → IsUsedFirst keys game certificate w r p → ¬ Shares is_first v state w r
+
+-- the memory stands at the vertex w, whose state is r
+pub record StandsFor (is_first : Bool) (keys : List Key) (kept : List ℕ) (memory w r : ℕ) : Type 0 where
+  pub vertex : ℕ
+  pub state : ℕ
+  pub priority : ℕ
+  pub is_kept : slice_get kept memory ≡ Some vertex
+  pub stands : StandsAt keys vertex (First state priority)
+  pub shares : Shares is_first vertex state w r
+
+-- the edge of the game by which the step goes on: to the vertex of the pair
+pub record GoesTo (keys : List Key) (board : Board) (q letter next : ℕ) : Type 0 where
+  pub stands : StandsAt keys next (First (board.auto.next q letter) (board.auto.priority q letter))
+
+-- A winner who moves first plays the least letter of the class to which its move leads.
+pub record StepsFirst (board : Board) (keys : List Key) (certificate : CertificateData) (v q x letter : ℕ) : Type 0 where
+  pub chosen : ℕ
+  pub choice : choice_of certificate v ≡ Some chosen
+  pub stands : StandsAt keys chosen (Second q letter)
+
+-- A winner who moves second plays its least letter that leads the class to the pair to which its move leads.
+pub record StepsSecond (board : Board) (keys : List Key) (certificate : CertificateData) (v q x letter : ℕ) : Type 0 where
+  pub class : ℕ
+  pub is_class : IsClass board q class
+  pub same : SameSteps board q x class
+  pub at : ℕ
+  pub stands : StandsAt keys at (Second q class)
+  pub chosen : ℕ
+  pub choice : choice_of certificate at ≡ Some chosen
+  pub least : IsLeast (λ y. IsSecondLetter board y × GoesTo keys board q (class + y) chosen) letter
+
+-- what is played at the vertex v of the state q, where the other player's letter is x
+abbrev pub IsPlayed : Bool → Board → List Key → CertificateData → ℕ → ℕ → ℕ → ℕ → Type 0
+IsPlayed true board keys certificate v q x letter = StepsFirst board keys certificate v q x letter
+IsPlayed false board keys certificate v q x letter = StepsSecond board keys certificate v q x letter
+
+-- a letter of the other player
+abbrev pub IsOther : Bool → Board → ℕ → Type 0
+IsOther true board x = IsSecondLetter board x
+IsOther false board x = IsFirstLetter board x
+
+pub record IsStep (board : Board) (keys : List Key) (kept : List ℕ) (certificate : CertificateData) (m : MachineData) (memory x : ℕ) : Type 0 where
+  pub vertex : ℕ
+  pub state : ℕ
+  pub priority : ℕ
+  pub is_kept : slice_get kept memory ≡ Some vertex
+  pub stands : StandsAt keys vertex (First state priority)
+  pub played : IsPlayed m.is_first board keys certificate vertex state x (plays m memory x)
+  pub entered : ℕ
+  pub goes : GoesTo keys board state (x + plays m memory x) entered
+  pub next : StandsFor m.is_first keys kept (next_of m memory x) entered (board.auto.next state (x + plays m memory x))
+
+pub record IsMachineOf (board : Board) (mover : ℕ) (keys : List Key) (game : ParityGame) (certificate : CertificateData) (m : MachineData) : Type 0 where
+  pub player : m.player ≡ winner certificate
+  pub is_first : m.is_first ≡ (mover == winner certificate)
+  pub kept : List ℕ
+  pub rising : AllPairs (λ v w. v < w) kept
+  pub each : All (IsKept m.is_first keys game certificate) kept
+  pub complete : (v : ℕ) → IsKept m.is_first keys game certificate v → Contains kept v
+  pub memories : memories_of m ≡ length kept
+  pub steps : (memory x : ℕ) → memory < memories_of m → IsOther m.is_first board x → IsStep board keys kept certificate m memory x
+
+-- the propositions that the player of the machine reads are those of the other one
+abbrev pub is_others : Bool → Board → ℕ → Bool
+is_others true board p = not (board.is_first p)
+is_others false board p = board.is_first p
+
+-- the machine has these names, and reads what the other player plays
+pub record HasPropositions (names : List (List ℕ)) (board : Board) (m : MachineData) : Type 0 where
+  pub names_are : m.names ≡ names
+  pub as_many : length names ≡ board.propositions
+  pub reads : (p : ℕ) → p < board.propositions → is_among p m.inputs ≡ is_others m.is_first board p

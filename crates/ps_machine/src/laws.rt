@@ -1,0 +1,28 @@
+//! Laws on the definitions.
+
+ghost use Rattle.std.specs.Prelude.{◌≡◌, ℕ, List};
+ghost use Rattle.ps_hoa.specs.Files.{FileData};
+ghost use Rattle.ps_automaton.specs.Automata.{AutomatonData, IsBuiltFrom};
+ghost use Rattle.ps_automaton.specs.Chains.{Chain};
+ghost use Rattle.ps_game.specs.Games.{ParityGame};
+ghost use Rattle.ps_certificate.specs.Certificates.{CertificateData, Fits, IsValid};
+ghost use Rattle.ps_machine.specs.Boards.{Board, IsGameOf, board_of};
+ghost use Rattle.ps_machine.specs.Extracting.{HasPropositions, IsMachineOf};
+ghost use Rattle.ps_machine.specs.Keys.{mover_of};
+ghost use Rattle.ps_machine.specs.Machines.{IsMachine, LassosWon, MachineData};
+ghost use Rattle.ps_machine.specs.declared.key.Key.{Key};
+ghost use Rattle.ps_machine.specs.declared.key.Order.{Order};
+
+/// Of the machine of a valid certificate of an automaton's game each word is won by the winner of vertex 0: the
+/// automaton accepts all of them if that is player 0, and else none.
+pub fn lassos_won()
+    ensures { (file : FileData) (chain : Chain) (a : AutomatonData) (order : Order) (keys : List Key) (game : ParityGame) (certificate : CertificateData) (m : MachineData) →
+        IsBuiltFrom file chain a → IsGameOf (board_of order a) (mover_of order) keys game → Fits game certificate → IsValid game certificate →
+        IsMachine m → HasPropositions a.names (board_of order a) m → IsMachineOf (board_of order a) (mover_of order) keys game certificate m → LassosWon file m }
+{}
+
+/// A board has one game at most: two games of it have the same keys, and are the same.
+pub fn one_game()
+    ensures { (board : Board) (mover : ℕ) (keys others : List Key) (game other : ParityGame) →
+        IsGameOf board mover keys game → IsGameOf board mover others other → (keys ≡ others) × (game ≡ other) }
+{}

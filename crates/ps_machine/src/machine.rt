@@ -1,0 +1,144 @@
+//! Finite machines.
+
+ghost use Rattle.std.specs.Prelude.{◌≡◌, ℕ, ◌<◌, ◌≤◌, IsTrue, length, map, slice_index};
+ghost use Rattle.ps_hoa.specs.Memory.{bytes_of};
+ghost use Rattle.ps_diagram.specs.Table.{IsNode};
+ghost use Rattle.ps_machine.specs.Machines.{IsMachine, memories_of, row_of, step_of};
+
+use indexmap::IndexSet;
+use ps_diagram::{Node, Store};
+use std::marker::Model;
+
+/// One row of a machine: the memory behind a step, and the letter that is played.
+#[derive(Debug, Clone, Copy, PartialEq, Eq, Hash)]
+pub struct Row {
+    /// The next memory.
+    pub memory: usize,
+    /// The letter that is played: proposition p is bit p.
+    pub letter: u64,
+}
+
+/// A player's finite machine. It begins in memory 0. In each step it reads a letter of the other player, its input
+/// letter, and goes by the row of its memory at that letter: it plays the row's letter, its output letter, and goes on
+/// with the row's memory. A player who moves first plays the same letter whatever it reads. Each leaf of the diagrams
+/// names a row.
+#[derive(Drop)]
+pub struct Machine {
+    names: Vec<Vec<u8>>,
+    inputs: Vec<u32>,
+    outputs: Vec<u32>,
+    player: u8,
+    moves_first: bool,
+    store: Store,
+    nodes: Vec<Node>,
+    rows: IndexSet<Row>,
+}
+
+impl Model for Machine {
+    ghost use Rattle.std.specs.Prelude.{map};
+    ghost use Rattle.ps_hoa.specs.Memory.{bytes_of};
+    ghost use Rattle.ps_machine.specs.Machines.{MachineData, IsMachine};
+
+    ghost Value = { MachineData };
+
+    ghost view = { λ m. record { names = map bytes_of m.names.items; inputs = m.inputs.items; outputs = m.outputs.items; player = m.player; is_first = m.moves_first; store = m.store; nodes = m.nodes.items; rows = m.rows.keys } };
+
+    ghost invariant = { λ m. IsMachine (record { names = map bytes_of m.names.items; inputs = m.inputs.items; outputs = m.outputs.items; player = m.player; is_first = m.moves_first; store = m.store; nodes = m.nodes.items; rows = m.rows.keys }) };
+}
+
+impl Machine {
+    /// The names of the propositions, at most 64. They differ, are not empty and have no control byte.
+    pub fn names(&self) -> &[Vec<u8>]
+        ensures names { map bytes_of result.now ≡ self.now.names }
+        ensures machine { IsMachine self.now }
+    {
+        self.names.as_slice()
+    }
+
+    /// The propositions that it reads, rising: those of the other player.
+    pub fn inputs(&self) -> &[u32]
+        ensures inputs { result.now ≡ self.now.inputs }
+        ensures machine { IsMachine self.now }
+    {
+        self.inputs.as_slice()
+    }
+
+    /// The propositions that it plays, rising.
+    pub fn outputs(&self) -> &[u32]
+        ensures outputs { result.now ≡ self.now.outputs }
+        ensures machine { IsMachine self.now }
+    {
+        self.outputs.as_slice()
+    }
+
+    /// Whose machine it is: 0 is the controller, 1 the environment.
+    pub fn player(&self) -> u8
+        ensures player { result ≡ self.now.player }
+        ensures machine { IsMachine self.now }
+    {
+        self.player
+    }
+
+    /// Whether its player moves first in each step. It then plays the same letter whatever it reads.
+    pub fn moves_first(&self) -> bool
+        ensures first { result ≡ self.now.is_first }
+        ensures machine { IsMachine self.now }
+    {
+        self.moves_first
+    }
+
+    /// How many memories there are, at least one. It begins in memory 0.
+    pub fn memories(&self) -> usize
+        ensures memories { result ≡ memories_of self.now }
+        ensures machine { IsMachine self.now }
+    {
+        self.nodes.len()
+    }
+
+    /// The store of the diagrams.
+    pub fn store(&self) -> &Store
+        ensures store { result.now ≡ self.now.store }
+        ensures propositions { result.now.propositions ≡ length self.now.names }
+        ensures machine { IsMachine self.now }
+    {
+        &self.store
+    }
+
+    /// The diagram of a memory: its leaf at an input letter names the row, by `row`.
+    pub fn node(&self, memory: usize) -> Node
+        requires { memory < memories_of self.now }
+        ensures node { result ≡ slice_index self.now.nodes memory }
+        ensures held { IsNode self.now.store result }
+    {
+        self.nodes[memory]
+    }
+
+    /// The row that a leaf names.
+    pub fn row(&self, leaf: u64) -> Row
+        requires { leaf < length self.now.rows }
+        ensures row { result ≡ row_of self.now leaf }
+        ensures within { result.memory < memories_of self.now }
+    {
+        self.rows.as_slice()[leaf as usize]
+    }
+
+    /// The rows, each at the place that its leaves have.
+    pub fn rows(&self) -> &[Row]
+        ensures rows { result.now ≡ self.now.rows }
+        ensures machine { IsMachine self.now }
+    {
+        self.rows.as_slice()
+    }
+
+    /// The row of a memory at an input letter: the next memory, and the letter that is played.
+    pub fn step(&self, memory: usize, letter: u64) -> Row
+        requires { memory < memories_of self.now }
+        ensures step { result ≡ step_of self.now memory letter }
+        ensures within { result.memory < memories_of self.now }
+    {
+        match self.store.eval(self.nodes[memory], letter) {
+            Some(leaf) => self.rows.as_slice()[leaf as usize],
+            None => unreachable!(),
+        }
+    }
+}
