@@ -14,3 +14,8 @@ pub mod WentNames
 pub mod WentText
 pub mod OneReading
 pub mod Ordered
+pub mod GateLemmas
+pub mod FunctionLemmas
+pub mod RangeLemmas
+pub mod LetterLemmas
+pub mod EncodeLemmas

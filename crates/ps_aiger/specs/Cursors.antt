@@ -1,9 +1,9 @@
 -- What the private functions of the reader say of the signs that they pass.
 --     Passes p old new run      the run of bytes that pass p was passed, or nothing where none comes
 --     TellsNumber old result new      a number was passed, or none comes
-use Rattle.std.specs.Prelude.{◌≡◌, ℕ, ◌+◌, ◌-◌, ◌^◌, ◌<◌, Bool, true, false, List, [], ◌∷◌, ◌++◌, length, Option, Some, None, Result, Ok, Err, min}
+use Rattle.std.specs.Prelude.{◌≡◌, ℕ, ◌+◌, ◌-◌, ◌^◌, ◌<◌, Bool, true, false, List, [], ◌∷◌, ◌++◌, length, Option, Result, Ok, Err, min}
 use Rattle.std.specs.Option.{option_map}
-use Rattle.ps_text.specs.Answers.{Stream, Found, offset_of, next_of}
+use Rattle.ps_text.specs.Answers.{Stream, offset_of, next_of}
 use Rattle.ps_text.specs.Readers.{Meets}
 pub use Rattle.ps_text.specs.Faults.{found_of}
 use Rattle.ps_text.specs.Digits.{decimal_value}
@@ -11,10 +11,9 @@ use Rattle.ps_aiger.specs.Signs.{Seen, Field, pieces_at, aig_causes, AllOf, Stop
 use Rattle.ps_aiger.specs.declared.cursor.Class.{Class}
 use Rattle.ps_aiger.specs.declared.cursor.Class.TheVariants.{Digit, Blank, Inner}
 use Rattle.ps_aiger.specs.declared.cursor.Number.{Number}
-use Rattle.ps_aiger.specs.declared.fault.AigCause.{AigCause}
 use Rattle.ps_aiger.specs.declared.fault.AigCause.TheVariants.{Syntax}
 use Rattle.ps_aiger.specs.Causes.{AigFault}
-use Rattle.ps_text.specs.declared.faults.Fault.TheVariants.{Text, OutOfMemory}
+use Rattle.ps_text.specs.declared.faults.Fault.TheVariants.{Text}
 
 -- the bytes to come, with a newline behind them where the last line is open
 abbrev pub ended : Bool → List ℕ → List ℕ

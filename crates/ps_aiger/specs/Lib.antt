@@ -2,6 +2,10 @@ pub mod Circuits
 pub mod Values
 pub mod GateGraphs
 pub mod Drafts
+pub mod Encoded
+pub mod Building
+pub mod Functions
+pub mod Built
 pub mod Written
 pub mod Causes
 pub mod CauseNames

@@ -1,9 +1,13 @@
 //! Circuits of and-gates and latches, read from the ASCII form of AIGER 1.9 and written to it.
 #![tactic(auto)]
 
+mod builder;
 mod circuit;
 mod cursor;
+mod encode_fault;
+mod encoding;
 mod fault;
+mod functions;
 mod gate_graph;
 mod header;
 mod laws;
@@ -14,12 +18,17 @@ mod parts;
 mod reader;
 mod writer;
 
+pub use builder::{Builder, Sides};
 pub use circuit::Circuit;
+pub use encode_fault::EncodeFault;
+pub use encoding::encode;
 pub use fault::{AigCause, AigFault};
 pub use laws::one_answer;
 pub use parts::{Gate, Latch};
 pub use reader::read;
 pub use writer::write;
 
+#[cfg(test)]
+mod builder_tests;
 #[cfg(test)]
 mod tests;

@@ -1,0 +1,12 @@
+use Rattle.std.proofs.Common.{◌≡◌, ℕ, ◌<◌, length, Some, slice_get, get_or}
+use Rattle.ps_aiger.specs.declared.functions.Wanted.{Wanted}
+use Rattle.ps_aiger.specs.Building.{Extends}
+use Rattle.ps_aiger.specs.Functions.{IsLiteralAt}
+use Rattle.ps_aiger.proofs.encoding.literals_of.Given as goal
+
+abbrev pub invariant-loop-bit : goal.invariant-loop-bit
+invariant-loop-bit l = record {
+  extends : Extends l.fn.builder l.builder;
+  many : length l.literals.items ≡ l.bit-index;
+  each : (k : ℕ) (w : Wanted) → k < l.bit-index → slice_get l.wanted k ≡ Some w → IsLiteralAt l.machine w l.builder l.latches 0 (get_or l.literals.items k 0);
+}

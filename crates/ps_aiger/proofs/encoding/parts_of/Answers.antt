@@ -1,0 +1,13 @@
+use Rattle.std.proofs.Common.{◌<◌, ℕ, List, All, length, subst, sym}
+use Rattle.ps_aiger.proofs.EncodeLemmas.{inputs_within, outputs_within}
+use Rattle.ps_aiger.proofs.encoding.parts_of.Goals as goal
+
+pub symbols-requires : goal.symbols-requires
+symbols-requires c =
+    let m = c.args.machine.now in
+    subst (λ (xs : List ℕ). All (λ p. p < length m.names) xs) (sym c.inputs-inputs.ensures.inputs) (inputs_within m c.inputs-inputs.ensures.machine)
+
+pub symbols-requires-2 : goal.symbols-requires-2
+symbols-requires-2 c =
+    let m = c.args.machine.now in
+    subst (λ (xs : List ℕ). All (λ p. p < length m.names) xs) (sym c.outputs.ensures.outputs) (outputs_within m c.outputs.ensures.machine)

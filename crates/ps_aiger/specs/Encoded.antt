@@ -1,0 +1,68 @@
+-- The circuit of a machine.
+--     number_of bits      the first bit counts 1, the next one 2, and so on
+--     memory_of m latches      the memory whose code the latches hold; memory 0 where they hold none's
+--     Encodes m c      the circuit begins at memory 0, and its step is the machine's
+--     SeesNoInput c      at equal latches the outputs are equal for all inputs
+--     IsTidy c      how its variables are numbered, and which gates it has
+use Rattle.std.specs.Prelude.{◌≡◌, ◌≢◌, ℕ, ◌+◌, ◌*◌, ◌^◌, ◌<◌, ◌≤◌, Bool, false, cond, List, [], ◌∷◌, length, map, Option, Some, None, All, AllPairs, nat_lt, if◌then◌else◌, slice_index_or}
+use Rattle.std.specs.List.{range_with_len}
+use Rattle.ps_label.specs.Truth.{is_in}
+use Rattle.ps_aiger.specs.declared.parts.Gate.{Gate}
+use Rattle.ps_aiger.specs.Circuits.{CircuitData, IsCircuit, variable, definitions}
+use Rattle.ps_aiger.specs.Values.{Steps, resets}
+use Rattle.ps_machine.specs.Machines.{MachineData, memories_of, next_of, plays}
+
+abbrev pub number_of : List Bool → ℕ
+number_of [] = 0
+number_of (bit ∷ bits) = cond bit 1 0 + 2 * number_of bits
+
+abbrev pub memory_of : MachineData → List Bool → ℕ
+memory_of m latches = if nat_lt (number_of latches) (memories_of m) then number_of latches else 0
+
+-- the letter with these bits at these propositions, and with no other bit
+abbrev pub letter_over : List ℕ → List Bool → ℕ
+letter_over [] bits = 0
+letter_over (p ∷ ps) [] = 0
+letter_over (p ∷ ps) (bit ∷ bits) = cond bit (2 ^ p) 0 + letter_over ps bits
+
+-- the bits of a letter at these propositions
+abbrev pub bits_over : List ℕ → ℕ → List Bool
+bits_over ps letter = map (λ p. is_in p letter) ps
+
+-- their names as symbols
+abbrev pub symbols_of : MachineData → List ℕ → List (Option (List ℕ))
+symbols_of m ps = map (λ p. Some (slice_index_or m.names p [])) ps
+
+-- at latches and inputs the outputs and the next latches are those of the machine's step
+pub record StepsAs (m : MachineData) (latches inputs outputs next : List Bool) : Type 0 where
+  pub outputs_are : outputs ≡ bits_over m.outputs (plays m (memory_of m latches) (letter_over m.inputs inputs))
+  pub next_is : number_of next ≡ next_of m (memory_of m latches) (letter_over m.inputs inputs)
+
+pub record Encodes (m : MachineData) (c : CircuitData) : Type 0 where
+  pub is_circuit : IsCircuit c
+  pub input_names : c.input_names ≡ symbols_of m m.inputs
+  pub output_names : c.output_names ≡ symbols_of m m.outputs
+  pub latch_names : All (λ name. name ≡ None) c.latch_names
+  pub resets_are : All (λ bit. bit ≡ false) (resets c)
+  pub room : memories_of m ≤ 2 ^ length c.latches
+  -- no latch more than needed
+  pub needed : (n : ℕ) → memories_of m ≤ 2 ^ n → length c.latches ≤ n
+  pub steps : (latches inputs outputs next : List Bool) → Steps c latches inputs outputs next → StepsAs m latches inputs outputs next
+
+abbrev pub SeesNoInput : CircuitData → Type 0
+SeesNoInput c =
+    (latches inputs others outputs other_outputs next other_next : List Bool) →
+    Steps c latches inputs outputs next → Steps c latches others other_outputs other_next → outputs ≡ other_outputs
+
+-- two literals of different variables, none constant, the greater first and below the gate's own
+pub record IsTidyGate (g : Gate) : Type 0 where
+  pub below : g.first < g.literal
+  pub falls : g.second < g.first
+  pub different : variable g.second ≢ variable g.first
+  pub not_constant : 0 < variable g.second
+
+-- variables 1 to the greatest are the inputs, the latches and the gates, in this order; no two gates have the same two literals
+pub record IsTidy (c : CircuitData) : Type 0 where
+  pub numbered : definitions c ≡ map (λ v. 2 * v) (range_with_len 1 c.most)
+  pub gates : All IsTidyGate c.gates
+  pub once : AllPairs (λ g h. ¬ ((g.first ≡ h.first) × (g.second ≡ h.second))) c.gates

@@ -1,0 +1,34 @@
+//! Why a machine has no circuit.
+
+ghost use Rattle.std.specs.Prelude.{◌≡◌};
+ghost use Rattle.ps_aiger.specs.declared.encode_fault.EncodeFault.TheVariants.{OutOfMemory};
+
+use std::alloc::{AllocError, AllocFailed};
+use thiserror::Error;
+
+/// Why no circuit is made.
+#[derive(Debug, Clone, Copy, PartialEq, Eq, Error)]
+pub enum EncodeFault {
+    /// 2147483647 variables are there, and one more is needed: fault 60.
+    #[error("the circuit is too large")]
+    CircuitTooLarge,
+    /// Memory ran out: fault 24.
+    #[error("out of memory")]
+    OutOfMemory,
+}
+
+impl From<AllocError> for EncodeFault {
+    ghost from_gives = { λ _ fault. fault ≡ OutOfMemory };
+
+    fn from(_error: AllocError) -> EncodeFault {
+        EncodeFault::OutOfMemory
+    }
+}
+
+impl<T: Drop> From<AllocFailed<T>> for EncodeFault {
+    ghost from_gives = { λ _ fault. fault ≡ OutOfMemory };
+
+    fn from(_error: AllocFailed<T>) -> EncodeFault {
+        EncodeFault::OutOfMemory
+    }
+}

@@ -1,0 +1,229 @@
+//! The circuit of a machine.
+
+ghost use Rattle.std.specs.Prelude.{◌≡◌, ◌≢◌, ℕ, ◌+◌, ◌*◌, ◌^◌, ◌<◌, ◌≤◌, All, IfOk, IsTrue, Some, None, length, map, replicate, slice_get, slice_index};
+ghost use Rattle.std.specs.List.{range_with_len};
+ghost use Rattle.ps_machine.specs.Machines.{IsMachine, memories_of};
+ghost use Rattle.ps_aiger.specs.Drafts.{data_of, name_bytes};
+ghost use Rattle.ps_aiger.specs.Encoded.{Encodes, IsTidy, SeesNoInput, symbols_of};
+ghost use Rattle.ps_aiger.specs.Building.{Extends, IsFull, IsSound};
+ghost use Rattle.ps_aiger.specs.Built.{AreGates, AreLatches, AreLiterals, IsBuilt, IsOutOfLiterals};
+ghost use Rattle.ps_aiger.specs.Functions.{IsLiteralAt, wanted_place};
+ghost use Rattle.ps_aiger.specs.declared.functions.Wanted.TheVariants.{Next, Output};
+
+use crate::builder::{Builder, Sides};
+use crate::circuit::Circuit;
+use crate::encode_fault::EncodeFault;
+use crate::functions::{Wanted, literal_of};
+use crate::parts::{Gate, Latch, Parts};
+use ps_machine::Machine;
+use std::alloc::{AllocError, Global};
+
+/// The circuit whose step is the machine's. It begins in memory 0; its latches hold the code of a memory, and a code of no
+/// memory stands for memory 0. Inputs and outputs have the names of their propositions.
+///
+/// # Errors
+///
+/// Fails where 2147483647 variables are there and one more is needed, or a growth was refused.
+pub fn encode(alloc: Global, machine: &Machine) -> Result<Circuit, EncodeFault>
+    ensures encodes { IfOk result (λ circuit. Encodes machine.now circuit) }
+    ensures tidy { IfOk result (λ circuit. IsTidy circuit) }
+    ensures sees_no_input { IfOk result (λ circuit. IsTrue machine.now.is_first → SeesNoInput circuit) }
+    ensures too_large { result ≡ Err EncodeFault.CircuitTooLarge → IsOutOfLiterals machine.now }
+{
+    let latches = latches_for(machine.memories());
+    let mut builder = Builder::new(alloc, machine.inputs().len() as u32 + latches);
+    let next_bits = next_bits(alloc, latches)?;
+    let next = literals_of(alloc, &mut builder, machine, latches, &next_bits)?;
+    let output_bits = output_bits(alloc, machine)?;
+    let outputs = literals_of(alloc, &mut builder, machine, latches, &output_bits)?;
+    let circuit = circuit_of(alloc, &builder, machine, latches, &next, outputs)?;
+    Ok(circuit)
+}
+
+/// The circuit with these next literals and outputs.
+fn circuit_of(
+    alloc: Global,
+    builder: &Builder,
+    machine: &Machine,
+    latches: u32,
+    next: &[u32],
+    outputs: Vec<u32>,
+) -> Result<Circuit, AllocError>
+    requires given { builder.now.given ≡ length machine.now.inputs + latches }
+    requires small { length machine.now.inputs ≤ 64 }
+    requires enough { memories_of machine.now ≤ 2 ^ latches }
+    requires least { (n : ℕ) → memories_of machine.now ≤ 2 ^ n → latches ≤ n }
+    requires many { length next.now ≡ latches }
+    requires next { (j : ℕ) → j < latches → IsLiteralAt machine.now (Next j) builder.now latches 0 (slice_index next.now j) }
+    requires outputs { AreLiterals machine.now builder.now latches (map Output machine.now.outputs) outputs.items }
+    ensures encodes { IfOk result (λ circuit. Encodes machine.now circuit) }
+    ensures tidy { IfOk result (λ circuit. IsTidy circuit) }
+    ensures sees_no_input { IfOk result (λ circuit. IsTrue machine.now.is_first → SeesNoInput circuit) }
+{
+    let parts = parts_of(alloc, builder, machine, next, outputs)?;
+    Circuit::in_order(alloc, parts)
+}
+
+/// The least number of latches that have a code for each memory.
+fn latches_for(memories: usize) -> u32
+    ensures enough { memories ≤ 2 ^ result }
+    ensures least { (n : ℕ) → memories ≤ 2 ^ n → result ≤ n }
+    ensures few { result ≤ 64 }
+{
+    for latches in 0..64 {
+        if memories <= 1 << latches {
+            return latches;
+        }
+    }
+    64
+}
+
+/// The bits of the next memory.
+fn next_bits(alloc: Global, latches: u32) -> Result<Vec<Wanted>, AllocError>
+    ensures many { IfOk result (λ bits. length bits.items ≡ latches) }
+    ensures each { IfOk result (λ bits. (k : ℕ) → k < latches → slice_get bits.items k ≡ Some (Next k)) }
+{
+    let mut bits = Vec::new(alloc);
+    for bit in 0..latches {
+        bits.push(Wanted::Next(bit))?;
+    }
+    Ok(bits)
+}
+
+/// The propositions that are played.
+fn output_bits(alloc: Global, machine: &Machine) -> Result<Vec<Wanted>, AllocError>
+    ensures { IfOk result (λ bits. bits.items ≡ map Output machine.now.outputs) }
+{
+    machine
+        .outputs()
+        .iter()
+        .map(|proposition| Wanted::Output(*proposition))
+        .collect(alloc)
+}
+
+/// The literals of these bits.
+fn literals_of(
+    alloc: Global,
+    builder: &mut Builder,
+    machine: &Machine,
+    latches: u32,
+    wanted: &[Wanted],
+) -> Result<Vec<u32>, EncodeFault>
+    requires within { All (λ bit. wanted_place bit < 64) wanted.now }
+    requires few { latches ≤ 64 }
+    requires given { builder.old.given ≡ length machine.now.inputs + latches }
+    requires small { length machine.now.inputs ≤ 64 }
+    ensures extends { Extends builder.old builder.new }
+    ensures literals { IfOk result (λ literals. AreLiterals machine.now builder.new latches wanted.now literals.items) }
+    ensures too_large { result ≡ Err EncodeFault.CircuitTooLarge → IsFull builder.new }
+{
+    let mut literals = Vec::new(alloc);
+    for bit in wanted {
+        let literal = literal_of(alloc, builder, machine, *bit, latches)?;
+        literals.push(literal)?;
+    }
+    Ok(literals)
+}
+
+/// The parts of the circuit with these next literals and outputs.
+fn parts_of(
+    alloc: Global,
+    builder: &Builder,
+    machine: &Machine,
+    next: &[u32],
+    outputs: Vec<u32>,
+) -> Result<Parts, AllocError>
+    requires given { builder.now.given ≡ length machine.now.inputs + length next.now }
+    requires small { length machine.now.inputs ≤ 64 }
+    ensures machine { IsMachine machine.now }
+    ensures sound { IsSound builder.now }
+    ensures built { IfOk result (λ parts. IsBuilt machine.now builder.now next.now outputs.items (data_of parts)) }
+{
+    let inputs = machine.inputs();
+    let first_latch = inputs.len() as u32 + 1;
+    Ok(Parts {
+        most: builder.variables(),
+        inputs: literals_from(alloc, 1, inputs.len() as u32)?,
+        latches: latches_of(alloc, first_latch, next)?,
+        outputs,
+        gates: gates_of(alloc, builder)?,
+        input_names: symbols(alloc, machine, inputs)?,
+        latch_names: no_symbols(alloc, next.len())?,
+        output_names: symbols(alloc, machine, machine.outputs())?,
+    })
+}
+
+/// The literals of that many variables from one on.
+fn literals_from(alloc: Global, first: u32, count: u32) -> Result<Vec<u32>, AllocError>
+    requires { first + count ≤ 2 ^ 31 }
+    ensures { IfOk result (λ literals. literals.items ≡ map (λ v. 2 * v) (range_with_len first count)) }
+{
+    let mut literals = Vec::new(alloc);
+    for place in 0..count {
+        literals.push(2 * (first + place))?;
+    }
+    Ok(literals)
+}
+
+/// The latches from that variable on, with these next literals.
+fn latches_of(alloc: Global, first: u32, next: &[u32]) -> Result<Vec<Latch>, AllocError>
+    requires { first + length next.now ≤ 2 ^ 31 }
+    ensures { IfOk result (λ latches. AreLatches first next.now latches.items) }
+{
+    let mut latches = Vec::new(alloc);
+    for (place, next) in next.iter().enumerate() {
+        latches.push(Latch {
+            literal: 2 * (first + place as u32),
+            next: *next,
+            reset: false,
+        })?;
+    }
+    Ok(latches)
+}
+
+/// The gates of a builder.
+fn gates_of(alloc: Global, builder: &Builder) -> Result<Vec<Gate>, AllocError>
+    ensures { IfOk result (λ gates. AreGates (builder.now.given + 1) builder.now.gates gates.items) }
+{
+    let first = builder.given() + 1;
+    let mut gates = Vec::new(alloc);
+    for (place, sides) in builder.gates().iter().enumerate() {
+        gates.push(Gate {
+            literal: 2 * (first + place as u32),
+            first: sides.first,
+            second: sides.second,
+        })?;
+    }
+    Ok(gates)
+}
+
+/// The names of these propositions.
+fn symbols(
+    alloc: Global,
+    machine: &Machine,
+    propositions: &[u32],
+) -> Result<Vec<Option<Vec<u8>>>, AllocError>
+    requires { All (λ p. p < length machine.now.names) propositions.now }
+    ensures { IfOk result (λ names. map name_bytes names.items ≡ symbols_of machine.now propositions.now) }
+{
+    let mut names = Vec::new(alloc);
+    for proposition in propositions {
+        let name = machine.names()[*proposition as usize]
+            .as_slice()
+            .to_vec(alloc)?;
+        names.push(Some(name))?;
+    }
+    Ok(names)
+}
+
+/// No name, that many times.
+fn no_symbols(alloc: Global, count: usize) -> Result<Vec<Option<Vec<u8>>>, AllocError>
+    ensures many { IfOk result (λ names. length names.items ≡ count) }
+    ensures none { IfOk result (λ names. map name_bytes names.items ≡ replicate count None) }
+{
+    let mut names = Vec::new(alloc);
+    for _ in 0..count {
+        names.push(None)?;
+    }
+    Ok(names)
+}

@@ -1,0 +1,165 @@
+//! The bits of a machine's step, as literals over inputs and latches.
+
+ghost use Rattle.std.specs.Prelude.{◌≡◌, ℕ, ◌+◌, ◌^◌, ◌<◌, ◌≤◌, IfOk, IfSome, IfNone, false, length, nat_eq, slice_get, slice_index, if◌then◌else◌};
+ghost use Rattle.ps_hoa.specs.Files.{is_among};
+ghost use Rattle.indexmap.specs.IndexMap.{get};
+ghost use Rattle.ps_diagram.specs.Table.{IsNode};
+ghost use Rattle.ps_machine.specs.Machines.{memories_of, row_of};
+ghost use Rattle.ps_aiger.specs.Building.{Extends, IsFull};
+ghost use Rattle.ps_aiger.specs.Functions.{IsLiteralAt, IsLiteralOf, KnowsLiterals, memory_at, wanted_bit, wanted_place};
+
+use crate::builder::Builder;
+use crate::encode_fault::EncodeFault;
+use indexmap::IndexMap;
+use ps_diagram::{Node, View};
+use ps_machine::{Machine, Row};
+use std::alloc::Global;
+
+/// One bit of a machine's row.
+#[derive(Debug, Clone, Copy, PartialEq, Eq)]
+pub(crate) enum Wanted {
+    /// That bit of the number of the next memory.
+    Next(u32),
+    /// That proposition of the letter that is played.
+    Output(u32),
+}
+
+/// The literal that has, in each memory and at each input letter, the wanted bit of the row: input k is variable k + 1, and
+/// the latches come next.
+pub(crate) fn literal_of(
+    alloc: Global,
+    builder: &mut Builder,
+    machine: &Machine,
+    wanted: Wanted,
+    latches: u32,
+) -> Result<u32, EncodeFault>
+    requires within { wanted_place wanted < 64 }
+    requires few { latches ≤ 64 }
+    requires given { builder.old.given ≡ length machine.now.inputs + latches }
+    requires small { length machine.now.inputs ≤ 64 }
+    ensures extends { Extends builder.old builder.new }
+    ensures literal { IfOk result (λ literal. IsLiteralAt machine.now wanted builder.new latches 0 literal) }
+    ensures too_large { result ≡ Err EncodeFault.CircuitTooLarge → IsFull builder.new }
+{
+    let mut known = IndexMap::new(alloc);
+    over_latches(builder, machine, wanted, &mut known, latches, 0)
+}
+
+/// The same for the memories whose codes begin like that: the code of the first of them is given, and how many latches are
+/// free.
+fn over_latches(
+    builder: &mut Builder,
+    machine: &Machine,
+    wanted: Wanted,
+    known: &mut IndexMap<Node, u32>,
+    latches: u32,
+    code: usize,
+) -> Result<u32, EncodeFault>
+    requires within { wanted_place wanted < 64 }
+    requires few { latches ≤ 64 }
+    requires fits { code + 2 ^ latches ≤ 2 ^ 64 }
+    requires given { length machine.now.inputs + latches ≤ builder.old.given }
+    requires small { length machine.now.inputs ≤ 64 }
+    requires known { KnowsLiterals machine.now wanted builder.old (get nat_eq known.old) }
+    ensures extends { Extends builder.old builder.new }
+    ensures known { KnowsLiterals machine.now wanted builder.new (get nat_eq known.new) }
+    ensures literal { IfOk result (λ literal. IsLiteralAt machine.now wanted builder.new latches code literal) }
+    ensures too_large { result ≡ Err EncodeFault.CircuitTooLarge → IsFull builder.new }
+{
+    if latches == 0 {
+        return over_inputs(builder, machine, wanted, known, node_at(machine, code));
+    }
+    let latch = latches - 1;
+    let where_true = over_latches(builder, machine, wanted, known, latch, code + (1 << latch))?;
+    let where_false = over_latches(builder, machine, wanted, known, latch, code)?;
+    let variable = machine.inputs().len() as u32 + 1 + latch;
+    builder.mux(2 * variable, where_true, where_false)
+}
+
+/// The diagram of the memory with that code; a code of no memory stands for memory 0.
+fn node_at(machine: &Machine, code: usize) -> Node
+    ensures node { result ≡ slice_index machine.now.nodes (memory_at machine.now code) }
+    ensures held { IsNode machine.now.store result }
+{
+    if code < machine.memories() {
+        machine.node(code)
+    } else {
+        machine.node(0)
+    }
+}
+
+/// The same for one memory, whose diagram that is. The table has the literals of nodes that came before.
+fn over_inputs(
+    builder: &mut Builder,
+    machine: &Machine,
+    wanted: Wanted,
+    known: &mut IndexMap<Node, u32>,
+    node: Node,
+) -> Result<u32, EncodeFault>
+    requires within { wanted_place wanted < 64 }
+    requires held { IsNode machine.now.store node }
+    requires given { length machine.now.inputs ≤ builder.old.given }
+    requires small { length machine.now.inputs ≤ 64 }
+    requires known { KnowsLiterals machine.now wanted builder.old (get nat_eq known.old) }
+    ensures extends { Extends builder.old builder.new }
+    ensures known { KnowsLiterals machine.now wanted builder.new (get nat_eq known.new) }
+    ensures literal { IfOk result (λ literal. IsLiteralOf machine.now wanted builder.new node literal) }
+    ensures too_large { result ≡ Err EncodeFault.CircuitTooLarge → IsFull builder.new }
+{
+    match machine.store().view(node) {
+        View::Nothing => Ok(0),
+        View::Leaf(leaf) => Ok(constant(machine, wanted, leaf)),
+        View::Test {
+            proposition,
+            low,
+            high,
+        } => {
+            let Some(place) = place_among(machine.inputs(), proposition) else {
+                return over_inputs(builder, machine, wanted, known, low);
+            };
+            if let Some(literal) = known.get(&node) {
+                return Ok(*literal);
+            }
+            let where_true = over_inputs(builder, machine, wanted, known, high)?;
+            let where_false = over_inputs(builder, machine, wanted, known, low)?;
+            let literal = builder.mux(2 * (place as u32 + 1), where_true, where_false)?;
+            known.insert(node, literal)?;
+            Ok(literal)
+        }
+    }
+}
+
+/// The literal of the wanted bit of the row that a leaf names.
+fn constant(machine: &Machine, wanted: Wanted, leaf: u64) -> u32
+    requires { wanted_place wanted < 64 }
+    ensures { result ≡ (if wanted_bit wanted (row_of machine.now leaf) then 1 else 0) }
+{
+    match machine.rows().get(leaf as usize) {
+        Some(row) => u32::from(bit_of_row(wanted, *row)),
+        None => 0,
+    }
+}
+
+/// The wanted bit of a row.
+fn bit_of_row(wanted: Wanted, row: Row) -> bool
+    requires { wanted_place wanted < 64 }
+    ensures { result ≡ wanted_bit wanted row }
+{
+    match wanted {
+        Wanted::Next(bit) => row.memory >> bit & 1 == 1,
+        Wanted::Output(proposition) => row.letter >> proposition & 1 == 1,
+    }
+}
+
+/// The place of a proposition in a list.
+fn place_among(list: &[u32], proposition: u32) -> Option<usize>
+    ensures found { IfSome result (λ place. slice_get list.now place ≡ Some proposition) }
+    ensures none { IfNone result (is_among proposition list.now ≡ false) }
+{
+    for (place, other) in list.iter().enumerate() {
+        if *other == proposition {
+            return Some(place);
+        }
+    }
+    None
+}
