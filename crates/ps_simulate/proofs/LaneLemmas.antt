@@ -15,9 +15,10 @@ use Rattle.ps_aiger.specs.declared.parts.Latch.{Latch}
 use Rattle.ps_simulate.specs.declared.plan.Wire.{Wire}
 use Rattle.ps_simulate.specs.declared.plan.Row.{Row}
 use Rattle.ps_simulate.specs.Lanes.{all_or_none, bit_in, lane_of}
+use Rattle.ps_simulate.specs.LanePlans.{wire_in}
 use Rattle.ps_simulate.specs.Plans.{read, work_out}
 use Rattle.ps_simulate.proofs.RowLemmas.{no_latch}
-use Rattle.ps_simulate.proofs.WorkLemmas.{no_row, no_wire}
+use Rattle.ps_simulate.proofs.WorkLemmas.{no_row}
 
 both : (x y : ℕ) → x < 2 → y < 2 → (min x y == 1) ≡ ((x == 1) && (y == 1))
 both zero zero hx hy = refl
@@ -57,7 +58,7 @@ bit_in-mask b lane lt =
     one true = refl
     one false = refl
 
-take_more : {A : Type 0} (xs : List A) (k : ℕ) (d : A) → k < length xs → take (k + 1) xs ≡ take k xs ++ get_or xs k d ∷ []
+pub take_more : {A : Type 0} (xs : List A) (k : ℕ) (d : A) → k < length xs → take (k + 1) xs ≡ take k xs ++ get_or xs k d ∷ []
 take_more xs k d lt = ap (λ n. take n xs) (let e : k + 1 ≡ suc k = omega arith in e) ∙ take-suc xs k d lt
 
 -- words, all of them changed by a mask
@@ -98,15 +99,16 @@ worked_on rows values initial a b k lane less lt la lb first second before =
     ∙ sym (ap (λ (all : List Row). work_out all (lane_of values lane)) (drop-cons rows k no_row lt)) ∙ before
 
 -- the literals in front of a place, and one more
-pub read_on : (wires : List Wire) (values table : List (List ℕ)) (words : List ℕ) (k lane : ℕ) → k < length wires → k < length table
-    → bit_in words lane ≡ read (lane_of values lane) (get_or wires k no_wire)
-    → take k (lane_of table lane) ≡ map (read (lane_of values lane)) (take k wires)
-    → take (k + 1) (lane_of (slice_set table k words) lane) ≡ map (read (lane_of values lane)) (take (k + 1) wires)
-read_on wires values table words k lane lt room here before =
+pub read_on : (literals : List ℕ) (values table : List (List ℕ)) (words : List ℕ) (k lane : ℕ) → k < length literals → k < length table
+    → bit_in words lane ≡ read (lane_of values lane) (wire_in (get_or literals k 0))
+    → take k (lane_of table lane) ≡ map (λ l. read (lane_of values lane) (wire_in l)) (take k literals)
+    → take (k + 1) (lane_of (slice_set table k words) lane) ≡ map (λ l. read (lane_of values lane) (wire_in l)) (take (k + 1) literals)
+read_on literals values table words k lane lt room here before =
     let f : List ℕ → Bool = λ ws. bit_in ws lane in
+    let bit : ℕ → Bool = λ l. read (lane_of values lane) (wire_in l) in
     ap (take (k + 1)) (map-set f table k words) ∙ take_more_set (lane_of table lane) k (f words) (omega (arith, length-map table f))
     ∙ ap₂ (λ (xs : List Bool) (x : Bool). xs ++ x ∷ []) before here
-    ∙ sym (ap (map (read (lane_of values lane))) (take_more wires k no_wire lt) ∙ map-append (read (lane_of values lane)) (take k wires) (get_or wires k no_wire ∷ []))
+    ∙ sym (ap (map bit) (take_more literals k 0 lt) ∙ map-append bit (take k literals) (get_or literals k 0 ∷ []))
 
 -- the words of a latch's reset behind those of the latches in front of it
 pub reset_on : (latches : List Latch) (words more : List (List ℕ)) (m k lane : ℕ) → lane < 256 → k < length latches

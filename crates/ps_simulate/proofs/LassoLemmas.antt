@@ -202,11 +202,12 @@ fewer names c stem lap seen seen' new latches last h s =
 -- ## The first repetition
 
 pub repeats : (names : List (List ℕ)) (c : CircuitData) (stem lap seen : List (List Bool)) (letters : List ℕ) (last : List Bool) (i : ℕ)
-    → HasRead names c stem lap seen letters last → i < length seen → get_or seen i [] ≡ last → RepeatsBy names c stem lap i letters
-repeats names c stem lap seen letters last i h lt same = record {
+    → 0 < length lap → HasRead names c stem lap seen letters last → i < length seen → get_or seen i [] ≡ last → RepeatsBy names c stem lap i letters
+repeats names c stem lap seen letters last i some h lt same = record {
   j = length seen;
   trace = h.trace;
   repeats = record {
+    has_letter = some;
     last = last;
     goes_on = h.goes_on;
     reads = h.reads;

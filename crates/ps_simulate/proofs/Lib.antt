@@ -1,5 +1,8 @@
 pub mod PlacesLemmas
 pub mod LaneLemmas
+pub mod MoveLemmas
+pub mod LanePlanLemmas
+pub mod LaneStepLemmas
 pub mod RunLemmas
 pub mod WorkLemmas
 pub mod RowLemmas

@@ -60,7 +60,7 @@ module _ (c : CircuitData) (is : IsCircuit c) where
     abbrev pub gate_place : ℕ → ℕ
     gate_place k = get_or are.order k 0
 
-    length-rows : length rows ≡ length are.order
+    pub length-rows : length rows ≡ length are.order
     length-rows = ap length are.each ∙ length-map are.order (row_at c)
 
     pub row_is : (k : ℕ) → k < length rows → row rows k ≡ row_at c (gate_place k)

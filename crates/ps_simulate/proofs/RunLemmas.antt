@@ -63,7 +63,9 @@ module _ (c : CircuitData) (is : IsCircuit c) (one : HasOneValues c) where
       (lane_of next lane, ap (λ (ws : List (List ℕ)). lane_of ws lane) at, steps lane lt, lane_goes_on lane lt next last ms rest)
 
   pub AreLanesPlain-circuit : AreLanesPlain c
-  AreLanesPlain-circuit latches last ms on lane lt plain end run same =
+  AreLanesPlain-circuit latches last ms on lane lt =
       let inputs_of : Moment → List Bool = λ m. m.inputs in
-      runs_agree (lane_of latches lane) end (lane_of last lane) plain (map (moment_in lane) ms) run (lane_goes_on lane lt latches last ms on)
-      (same ∙ sym (map-map inputs_of (moment_in lane) ms))
+      let run = lane_goes_on lane lt latches last ms on in (
+        run,
+        λ plain end other same. runs_agree (lane_of latches lane) end (lane_of last lane) plain (map (moment_in lane) ms) other run (same ∙ sym (map-map inputs_of (moment_in lane) ms)),
+      )

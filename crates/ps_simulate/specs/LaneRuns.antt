@@ -25,10 +25,11 @@ GoOnInLanes c latches [] last = latches ≡ last
 GoOnInLanes c latches (m ∷ ms) last =
     (next : List (List ℕ)) × (m.latches ≡ latches) × StepsInLanes c latches m.inputs m.outputs next × GoOnInLanes c next ms last
 
--- for every list of steps each lane goes as a plain run does from that lane's latches on that lane's letters: it has the same
--- outputs, and the same latches before each step and behind the last
+-- for every list of steps each lane's moments are a run from that lane's latches, and they are those of each plain run from there
+-- on that lane's letters: it has the same outputs, and the same latches before each step and behind the last
 abbrev pub AreLanesPlain : CircuitData → Type 0
 AreLanesPlain c =
     (latches last : List (List ℕ)) (ms : List LaneMoment) → GoOnInLanes c latches ms last →
-    (lane : ℕ) → lane < 256 → (plain : List Moment) (end : List Bool) → GoesOn c (lane_of latches lane) plain end →
-    map (λ m. m.inputs) plain ≡ map (λ m. lane_of m.inputs lane) ms → (plain ≡ map (moment_in lane) ms) × (end ≡ lane_of last lane)
+    (lane : ℕ) → lane < 256 → GoesOn c (lane_of latches lane) (map (moment_in lane) ms) (lane_of last lane) ×
+    ((plain : List Moment) (end : List Bool) → GoesOn c (lane_of latches lane) plain end →
+    map (λ m. m.inputs) plain ≡ map (λ m. lane_of m.inputs lane) ms → (plain ≡ map (moment_in lane) ms) × (end ≡ lane_of last lane))

@@ -1,8 +1,10 @@
 -- The bits of 256 lanes, kept in lists of four words: that of lane 64·w + b is bit b of word w.
-use Rattle.std.specs.Prelude.{ℕ, ◌-◌, ◌<◌, ◌/◌, ◌%◌, ◌^◌, ◌==◌, if◌then◌else◌, Bool, List, map, slice_index}
+use Rattle.std.specs.Prelude.{◌≡◌, ℕ, ◌-◌, ◌<◌, ◌/◌, ◌%◌, ◌^◌, ◌==◌, if◌then◌else◌, Bool, List, length, map, slice_index}
 use Rattle.std.specs.Int.{bit_at}
 use Rattle.ps_aiger.specs.Circuits.{CircuitData}
 use Rattle.ps_simulate.specs.declared.plan.Plan.{Plan}
+use Rattle.ps_simulate.specs.declared.lane_plan.LanePlan.{LanePlan}
+use Rattle.ps_simulate.specs.LanePlans.{IsLanePlan, unmoved}
 use Rattle.ps_simulate.specs.Tables.{IsTable}
 
 -- a word of ones, or of zeros
@@ -22,6 +24,10 @@ pub record LaneSimulation : Type 0 where
   pub circuit : CircuitData
   pub latches : List (List ℕ)
 
--- each lane has a table of the plain simulator
-abbrev pub AreTables : CircuitData → Plan → List (List ℕ) → List (List ℕ) → Type 0
-AreTables c plan values latches = (lane : ℕ) → lane < 256 → IsTable c plan (lane_of values lane) (lane_of latches lane)
+-- each lane has a table of the plain simulator, its places moved
+pub record AreTables (c : CircuitData) (p : LanePlan) (values latches : List (List ℕ)) : Type 0 where
+  pub plan : Plan
+  pub places : List ℕ
+  pub is_lane_plan : IsLanePlan c plan places p
+  pub values_each : length values ≡ p.size
+  pub tables : (lane : ℕ) → lane < 256 → IsTable c plan (unmoved places (lane_of values lane)) (lane_of latches lane)

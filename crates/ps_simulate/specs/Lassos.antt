@@ -39,8 +39,10 @@ latches_along trace last = map (λ m. m.latches) trace ++ last ∷ []
 abbrev pub latches_before : List (List Bool) → List (List Bool) → List Moment → List Bool → ℕ → List Bool
 latches_before stem lap trace last k = slice_index_or (latches_along trace last) (length stem + k * length lap) []
 
--- A trace reads the stem and then j laps. The latches behind it are those before lap i, and those before the laps so far differ.
+-- A trace reads the stem and then j laps, each with a letter or more. The latches behind it are those before lap i, and those before the
+-- laps so far differ.
 pub record Repeats (c : CircuitData) (stem lap : List (List Bool)) (i j : ℕ) (trace : List Moment) : Type 0 where
+  pub has_letter : 0 < length lap
   pub last : List Bool
   pub goes_on : GoesOn c (resets c) trace last
   pub reads : map (λ m. m.inputs) trace ≡ stem ++ laps_of lap j

@@ -2,6 +2,7 @@ pub mod Simulations
 pub mod Plans
 pub mod Tables
 pub mod Faults
+pub mod LanePlans
 pub mod Lanes
 pub mod LaneRuns
 pub mod Stimuli
@@ -10,5 +11,6 @@ pub mod StimulusReading
 pub mod Symbols
 pub mod Lassos
 pub mod LassoFaults
+pub mod LassoFaultNames
 pub mod Namings
 pub mod LassoRuns

@@ -1,12 +1,13 @@
 //! A circuit that is run on 256 stimuli at once.
 
-ghost use Rattle.std.specs.Prelude.{◌≡◌, ℕ, ◌+◌, ◌<◌, ◌≤◌, ◌⊎◌, [], length, map, slice_get, slice_index_or, All, IfOk, Some, false};
+ghost use Rattle.std.specs.Prelude.{◌≡◌, ℕ, ◌+◌, ◌/◌, ◌<◌, ◌≤◌, ◌⊎◌, [], length, map, slice_get, slice_index_or, All, IfOk, Some, false};
 ghost use Rattle.ps_aiger.specs.Circuits.{IsCircuit};
 ghost use Rattle.ps_aiger.specs.Values.{resets};
 ghost use Rattle.ps_simulate.specs.Lanes.{all_or_none, bit_in, lane_of};
+ghost use Rattle.ps_simulate.specs.LanePlans.{rows_from, wire_in};
 ghost use Rattle.ps_simulate.specs.Plans.{IsWithin, IsWorkedOut, read, work_out};
 
-use crate::plan::{Plan, Row, Wire};
+use crate::lane_plan::{LanePlan, Operands};
 use ps_aiger::Circuit;
 use std::alloc::{AllocError, Global};
 use std::marker::Model;
@@ -16,7 +17,7 @@ use std::simd::prelude::*;
 #[derive(Drop)]
 pub struct LaneSimulator<'a> {
     circuit: &'a Circuit,
-    plan: Plan,
+    plan: LanePlan,
     values: Vec<[u64; 4]>,
     latches: Vec<[u64; 4]>,
 }
@@ -39,7 +40,7 @@ impl<'a> LaneSimulator<'a> {
         ensures circuit { IfOk result (λ s. s.circuit ≡ circuit.now) }
         ensures latches { IfOk result (λ s. (lane : ℕ) → lane < 256 → lane_of s.latches lane ≡ resets circuit.now) }
     {
-        let plan = Plan::new(alloc, circuit)?;
+        let plan = LanePlan::new(alloc, circuit)?;
         let latches = first_words(alloc, circuit)?;
         let values = vec![in alloc; [0; 4]; plan.size]?;
         Ok(LaneSimulator {
@@ -57,7 +58,13 @@ impl<'a> LaneSimulator<'a> {
         ensures steps { StepsInLanes self.old.circuit self.old.latches inputs.now outputs.new self.new.latches }
         ensures circuit { self.new.circuit ≡ self.old.circuit }
     {
-        fill_words(&self.plan.rows, inputs, &self.latches, &mut self.values);
+        fill_words(
+            &self.plan.gates,
+            self.plan.front,
+            inputs,
+            &self.latches,
+            &mut self.values,
+        );
         read_words(&self.plan.outputs, &self.values, outputs);
         read_words(&self.plan.nexts, &self.values, &mut self.latches);
     }
@@ -89,7 +96,7 @@ fn first_words(alloc: Global, circuit: &Circuit) -> Result<Vec<[u64; 4]>, AllocE
 fn mask(is_set: bool) -> u64
     ensures { result ≡ all_or_none is_set }
 {
-    if is_set { u64::MAX } else { 0 }
+    u64::from(is_set).wrapping_neg()
 }
 
 /// Puts words into a table, from a place on.
@@ -104,43 +111,51 @@ fn put_words(values: &mut [[u64; 4]], start: usize, words: &[[u64; 4]])
 }
 
 /// The bits of a literal.
-fn bits(values: &[[u64; 4]], wire: Wire) -> u64x4
-    requires { wire.place < length values.now }
-    ensures { (lane : ℕ) → lane < 256 → bit_in result lane ≡ read (lane_of values.now lane) wire }
+fn bits(values: &[[u64; 4]], literal: u32) -> u64x4
+    requires { literal / 2 < length values.now }
+    ensures { (lane : ℕ) → lane < 256 → bit_in result lane ≡ read (lane_of values.now lane) (wire_in literal) }
 {
-    u64x4::from_array(values[wire.place]) ^ u64x4::splat(mask(wire.is_negated))
+    u64x4::from_array(values[(literal / 2) as usize]) ^ u64x4::splat(mask(literal % 2 == 1))
 }
 
-/// Works out the gates, each once.
-fn work_words(rows: &[Row], values: &mut [[u64; 4]])
-    requires { All (IsWithin (length values.old)) rows.now }
-    ensures { (lane : ℕ) → lane < 256 → lane_of values.new lane ≡ work_out rows.now (lane_of values.old lane) }
+/// Works out the gates, each once. They stand in the table from `front` on.
+fn work_words(gates: &[Operands], front: usize, values: &mut [[u64; 4]])
+    requires within { All (IsWithin (length values.old)) (rows_from front gates.now) }
+    requires fit { front + length gates.now ≤ length values.old }
+    ensures { (lane : ℕ) → lane < 256 → lane_of values.new lane ≡ work_out (rows_from front gates.now) (lane_of values.old lane) }
 {
-    for row in rows {
-        let words = bits(values, row.first) & bits(values, row.second);
-        values[row.target] = words.to_array();
+    for (number, &gate) in gates.iter().enumerate() {
+        let words = bits(values, gate.first) & bits(values, gate.second);
+        values[front + number] = words.to_array();
     }
 }
 
 /// Fills the table for a step. The constant stands there already.
-fn fill_words(rows: &[Row], inputs: &[[u64; 4]], latches: &[[u64; 4]], values: &mut [[u64; 4]])
-    requires within { All (IsWithin (length values.old)) rows.now }
+fn fill_words(
+    gates: &[Operands],
+    front: usize,
+    inputs: &[[u64; 4]],
+    latches: &[[u64; 4]],
+    values: &mut [[u64; 4]],
+)
+    requires within { All (IsWithin (length values.old)) (rows_from front gates.now) }
+    requires fit { front + length gates.now ≤ length values.old }
     requires room { 1 + length inputs.now + length latches.now ≤ length values.old }
     requires constant { (lane : ℕ) → lane < 256 → slice_index_or (lane_of values.old lane) 0 false ≡ false }
-    ensures { (lane : ℕ) → lane < 256 → IsWorkedOut rows.now (lane_of inputs.now lane) (lane_of latches.now lane) (length values.old) (lane_of values.new lane) }
+    ensures { (lane : ℕ) → lane < 256 → IsWorkedOut (rows_from front gates.now) (lane_of inputs.now lane) (lane_of latches.now lane) (length values.old) (lane_of values.new lane) }
 {
     put_words(values, 1, inputs);
     put_words(values, 1 + inputs.len(), latches);
-    work_words(rows, values);
+    work_words(gates, front, values);
 }
 
 /// Reads literals, each into its own words.
-fn read_words(wires: &[Wire], values: &[[u64; 4]], words: &mut [[u64; 4]])
-    requires within { All (λ w. w.place < length values.now) wires.now }
-    requires fit { length words.old ≡ length wires.now }
-    ensures { (lane : ℕ) → lane < 256 → lane_of words.new lane ≡ map (read (lane_of values.now lane)) wires.now }
+fn read_words(literals: &[u32], values: &[[u64; 4]], words: &mut [[u64; 4]])
+    requires within { All (λ literal. literal / 2 < length values.now) literals.now }
+    requires fit { length words.old ≡ length literals.now }
+    ensures { (lane : ℕ) → lane < 256 → lane_of words.new lane ≡ map (λ literal. read (lane_of values.now lane) (wire_in literal)) literals.now }
 {
-    for (place, &wire) in wires.iter().enumerate() {
-        words[place] = bits(values, wire).to_array();
+    for (place, &literal) in literals.iter().enumerate() {
+        words[place] = bits(values, literal).to_array();
     }
 }

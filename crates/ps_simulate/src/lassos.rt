@@ -49,6 +49,34 @@ pub enum LassoFault {
     OutOfMemory,
 }
 
+impl LassoFault {
+    ghost use Rattle.ps_simulate.specs.LassoFaultNames.{fault_number, fault_name};
+
+    /// The fault's number in psyn's list of faults.
+    pub fn number(self) -> u8
+        ensures { result ≡ fault_number self }
+    {
+        match self {
+            LassoFault::Width => 70,
+            LassoFault::EmptyLap => 71,
+            LassoFault::Symbols => 72,
+            LassoFault::OutOfMemory => 24,
+        }
+    }
+
+    /// The fault's name.
+    pub fn name(self) -> &'static str
+        ensures { result.now ≡ fault_name self }
+    {
+        match self {
+            LassoFault::Width => "Width",
+            LassoFault::EmptyLap => "EmptyLap",
+            LassoFault::Symbols => "Symbols",
+            LassoFault::OutOfMemory => "OutOfMemory",
+        }
+    }
+}
+
 impl From<AllocError> for LassoFault {
     ghost from_gives = { λ _ e. e ≡ OutOfMemory };
 

@@ -3,6 +3,7 @@
 #![tactic(auto)]
 
 mod fault;
+mod lane_plan;
 mod lanes;
 mod lassos;
 mod laws;

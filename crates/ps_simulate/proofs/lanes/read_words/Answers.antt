@@ -4,5 +4,5 @@ use Rattle.ps_simulate.proofs.lanes.read_words.Goals as goal
 
 pub loop-place-preserved : goal.loop-place-preserved
 loop-place-preserved c lane lt =
-    read_on c.args.wires.now c.args.values.now c.loop-place.words c.bits.result c.loop-place.place lane c.loop-place-test.true (omega (arith, c.requires.fit, c.loop-place.auto.words))
+    read_on c.args.literals.now c.args.values.now c.loop-place.words c.bits.result c.loop-place.place lane c.loop-place-test.true (omega (arith, c.requires.fit, c.loop-place.auto.words))
     (c.bits.ensures lane lt) (c.loop-place.invariant lane lt)

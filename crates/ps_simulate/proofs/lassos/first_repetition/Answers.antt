@@ -1,10 +1,12 @@
-use Rattle.std.proofs.Common.{◌≡◌, ◌∙◌, ℕ, Option, None, subst}
+use Rattle.std.proofs.Common.{◌≡◌, ◌∙◌, ◌<◌, ℕ, Bool, Vec, Option, None, Some, length, subst, arith}
+use Rattle.std.specs.Global.{Global}
+use Rattle.std.proofs.lemmas.List.{length-map}
 use Rattle.ps_aiger.specs.Circuits.{CircuitData}
 use Rattle.ps_aiger.specs.Values.{GoesOn}
 use Rattle.ps_simulate.specs.Stimuli.{letters_of}
 use Rattle.ps_simulate.specs.Namings.{names_of}
 use Rattle.ps_simulate.specs.LassoRuns.{HasRead, IsSeen, ReadsWord}
-use Rattle.ps_simulate.proofs.LassoLemmas.{HasRead-next, fewer, goes_wide}
+use Rattle.ps_simulate.proofs.LassoLemmas.{HasRead-next, fewer, goes_wide, repeats}
 use Rattle.ps_simulate.proofs.lassos.first_repetition.Goals as goal
 
 pub laps-smaller : goal.laps-smaller
@@ -40,3 +42,12 @@ laps-preserved c =
       outputs_fit = c.laps.invariant.outputs_fit;
       wide = goes_wide circuit from last reads.trace (subst (λ (d : CircuitData). GoesOn d from reads.trace last) c.laps.invariant.same reads.goes_on) c.laps.invariant.wide;
     }
+
+pub returns-in-Some : goal.returns-in-Some
+returns-in-Some c =
+    let found : c.in_ok-first.field-0 ≡ Some c.in-Some.first = c.in-Some.is in
+    let seen : IsSeen (letters_of c.laps.seen.keys) (letters_of c.see.new.seen.keys) c.latches.result.now (Some c.in-Some.first) =
+    subst (λ (o : Option ℕ). IsSeen (letters_of c.laps.seen.keys) (letters_of c.see.new.seen.keys) c.latches.result.now o) found c.in_ok-first.ensures in
+    let some : 0 < length (letters_of c.args.lap.now) = omega (arith, c.requires.some, length-map c.args.lap.now (λ (l : Vec Bool Global). l.items)) in
+    repeats (names_of c.args.naming.now) c.args.circuit.now (letters_of c.args.stem.now) (letters_of c.args.lap.now) (letters_of c.laps.seen.keys) c.laps.letters.items c.laps.simulator.latches c.in-Some.first
+    some c.laps.invariant.read seen.0 (seen.1 ∙ c.latches.ensures)

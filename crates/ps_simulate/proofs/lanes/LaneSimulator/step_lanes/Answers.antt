@@ -1,14 +1,11 @@
-use Rattle.std.proofs.Common.{◌≡◌, ◌∙◌, ◌++◌, ℕ, ◌<◌, Bool, List, length, get_or, map, take, drop, All, ap, ap₂, subst, sym, arith}
+use Rattle.std.proofs.Common.{◌≡◌, ◌∙◌, ◌++◌, ℕ, ◌/◌, ◌<◌, Bool, List, length, get_or, map, take, drop, All, ap, ap₂, subst, sym, arith}
 use Rattle.std.proofs.lemmas.List.{take_at}
-use Rattle.ps_simulate.specs.declared.plan.Row.{Row}
-use Rattle.ps_simulate.specs.declared.plan.Wire.{Wire}
-use Rattle.ps_simulate.specs.Lanes.{LaneSimulation, lane_of}
-use Rattle.ps_simulate.specs.Plans.{IsWithin, IsWorkedOut, variables, read}
-use Rattle.ps_simulate.specs.Tables.{IsTable}
+use Rattle.ps_simulate.specs.declared.lane_plan.Operands.{Operands}
+use Rattle.ps_simulate.specs.LanePlans.{rows_from, wire_in}
+use Rattle.ps_simulate.specs.Lanes.{LaneSimulation, AreTables, lane_of}
+use Rattle.ps_simulate.specs.Plans.{IsWithin, IsWorkedOut, read}
 use Rattle.ps_aiger.specs.Values.{Steps}
-use Rattle.ps_simulate.proofs.LaneLemmas.{length-lane}
-use Rattle.ps_simulate.proofs.RowLemmas.{length-variables, length-definitions}
-use Rattle.ps_simulate.proofs.StepLemmas.{rows_within, outputs_within, nexts_within, length-nexts, length-outputs, Steps-worked_out, IsTable-worked_out}
+use Rattle.ps_simulate.proofs.LaneStepLemmas.{room, latches_many, gates_fit, gates_within, outputs_in_table, nexts_in_table, outputs_many, nexts_many, constant_there, Steps-lane, IsTable-lane}
 use Rattle.ps_simulate.proofs.lanes.LaneSimulator.step_lanes.Goals as goal
 use Rattle.ps_simulate.proofs.lanes.LaneSimulator.step_lanes.Goals.{After-fill_words, After-read_words-2}
 
@@ -16,118 +13,153 @@ use Rattle.ps_simulate.proofs.lanes.LaneSimulator.step_lanes.Goals.{After-fill_w
 replaced : (new old : List (List ℕ)) (n : ℕ) → length new ≡ n → take n (new ++ drop (length new) old) ≡ new
 replaced new old n each = take_at new _ n each
 
--- the table behind the rows
+-- the table behind the gates
 table_is : (c : After-fill_words) → take c.self.inside.values.len (c.fill_words.new.values ++ drop (length c.fill_words.new.values) c.self.inside.values.items) ≡ c.fill_words.new.values
 table_is c = replaced c.fill_words.new.values c.self.inside.values.items c.self.inside.values.len (omega (arith, c.fill_words.auto.values, c.deref_mut.ensures.len))
 
-size_is : (c : After-fill_words) → length c.deref_mut.result.now ≡ length (variables c.self.inside.circuit.now)
-size_is c = ap length c.deref_mut.ensures.value ∙ sym (length-lane c.self.inside.values.items 0) ∙ (c.self.invariant 0 (omega arith)).values_each
+size_is : (c : After-fill_words) → length c.deref_mut.result.now ≡ c.self.inside.plan.size
+size_is c = ap length c.deref_mut.ensures.value ∙ c.self.invariant.values_each
 
-table_size : (c : After-fill_words) → length c.fill_words.new.values ≡ length (variables c.self.inside.circuit.now)
+table_size : (c : After-fill_words) → length c.fill_words.new.values ≡ c.self.inside.plan.size
 table_size c = c.fill_words.auto.values ∙ size_is c
 
 worked : (c : After-fill_words) (lane : ℕ) → lane < 256
-    → IsWorkedOut c.self.inside.plan.rows.items (lane_of c.args.inputs.now lane) (lane_of c.self.inside.latches.items lane) (length (variables c.self.inside.circuit.now)) (lane_of c.fill_words.new.values lane)
+    → IsWorkedOut (rows_from c.self.inside.plan.front c.self.inside.plan.gates.items) (lane_of c.args.inputs.now lane) (lane_of c.self.inside.latches.items lane) c.self.inside.plan.size
+    (lane_of c.fill_words.new.values lane)
 worked c lane lt =
-    let P : List Row → List (List ℕ) → ℕ → Type 0 = λ rows latches size. IsWorkedOut rows (lane_of c.args.inputs.now lane) (lane_of latches lane) size (lane_of c.fill_words.new.values lane) in
-    let by_rows : P c.self.inside.plan.rows.items c.deref-2.result.now (length c.deref_mut.result.now) =
-    subst (λ (rows : List Row). P rows c.deref-2.result.now (length c.deref_mut.result.now)) c.deref.ensures.value (c.fill_words.ensures lane lt) in
-    let by_latches : P c.self.inside.plan.rows.items c.self.inside.latches.items (length c.deref_mut.result.now) =
-    subst (λ (latches : List (List ℕ)). P c.self.inside.plan.rows.items latches (length c.deref_mut.result.now)) c.deref-2.ensures.value by_rows in
-    subst (λ (size : ℕ). P c.self.inside.plan.rows.items c.self.inside.latches.items size) (size_is c) by_latches
+    let P : List Operands → List (List ℕ) → ℕ → Type 0 = λ gates latches size.
+    IsWorkedOut (rows_from c.self.inside.plan.front gates) (lane_of c.args.inputs.now lane) (lane_of latches lane) size (lane_of c.fill_words.new.values lane) in
+    let by_gates : P c.self.inside.plan.gates.items c.deref-2.result.now (length c.deref_mut.result.now) =
+    subst (λ (gates : List Operands). P gates c.deref-2.result.now (length c.deref_mut.result.now)) c.deref.ensures.value (c.fill_words.ensures lane lt) in
+    let by_latches : P c.self.inside.plan.gates.items c.self.inside.latches.items (length c.deref_mut.result.now) =
+    subst (λ (latches : List (List ℕ)). P c.self.inside.plan.gates.items latches (length c.deref_mut.result.now)) c.deref-2.ensures.value by_gates in
+    subst (λ (size : ℕ). P c.self.inside.plan.gates.items c.self.inside.latches.items size) (size_is c) by_latches
 
--- wires within the table, as the calls have them
-fits : (wires given : List Wire) (m n : ℕ) → given ≡ wires → m ≡ n → All (λ w. w.place < n) wires → All (λ w. w.place < m) given
-fits wires given m n same size within k d lt =
-    let there : k < length wires = omega (arith, lt, ap length same) in
-    let h = within k d there in
-    omega (arith, h, size, ap (λ (ws : List Wire). (get_or ws k d).place) same)
+-- literals within the table, as the calls have them
+fits : (literals given : List ℕ) (m n : ℕ) → given ≡ literals → m ≡ n → All (λ l. l / 2 < n) literals → All (λ l. l / 2 < m) given
+fits literals given m n same size within k d lt =
+    let there : k < length literals = omega (arith, lt, ap length same) in
+    omega (arith, within k d there, size, ap (λ (ls : List ℕ). get_or ls k d / 2) same)
 
 next_is : (c : After-read_words-2) → take c.self.inside.latches.len (c.read_words-2.new.words ++ drop (length c.read_words-2.new.words) c.self.inside.latches.items) ≡ c.read_words-2.new.words
 next_is c = replaced c.read_words-2.new.words c.self.inside.latches.items c.self.inside.latches.len (omega (arith, c.read_words-2.auto.words, c.deref_mut-2.ensures.len))
 
 -- the bits that a call read
-bits_are : (lane : ℕ) (bits : List Bool) (values given : List (List ℕ)) (wires taken : List Wire) → bits ≡ map (read (lane_of given lane)) taken → given ≡ values → taken ≡ wires
-    → bits ≡ map (read (lane_of values lane)) wires
-bits_are lane bits values given wires taken is same same_wires =
-    is ∙ ap₂ (λ (v : List (List ℕ)) (ws : List Wire). map (read (lane_of v lane)) ws) same same_wires
+bits_are : (lane : ℕ) (bits : List Bool) (values given : List (List ℕ)) (literals taken : List ℕ) → bits ≡ map (λ l. read (lane_of given lane) (wire_in l)) taken → given ≡ values → taken ≡ literals
+    → bits ≡ map (λ l. read (lane_of values lane) (wire_in l)) literals
+bits_are lane bits values given literals taken is same same_literals =
+    is ∙ ap₂ (λ (v : List (List ℕ)) (ls : List ℕ). map (λ l. read (lane_of v lane) (wire_in l)) ls) same same_literals
 
 pub fill_words-requires-clause-within : goal.fill_words-requires-clause-within
 fill_words-requires-clause-within c =
-    let circuit = c.self.inside.circuit.now in
-    let t = c.self.invariant 0 (omega arith) in
-    let size : length (variables circuit) ≡ length c.deref_mut.result.now = sym (ap length c.deref_mut.ensures.value ∙ sym (length-lane c.self.inside.values.items 0) ∙ t.values_each) in
-    let P : List Row → Type 0 = λ rows. All (IsWithin (length c.deref_mut.result.now)) rows in
-    subst P (sym c.deref.ensures.value) (subst (λ (n : ℕ). All (IsWithin n) c.self.inside.plan.rows.items) size (rows_within circuit t.is_circuit c.self.inside.plan t.is_plan))
+    let s = c.self.inside in
+    let size : s.plan.size ≡ length c.deref_mut.result.now = sym (ap length c.deref_mut.ensures.value ∙ c.self.invariant.values_each) in
+    let P : List Operands → Type 0 = λ gates. All (IsWithin (length c.deref_mut.result.now)) (rows_from s.plan.front gates) in
+    subst P (sym c.deref.ensures.value)
+    (subst (λ (n : ℕ). All (IsWithin n) (rows_from s.plan.front s.plan.gates.items)) size (gates_within s.circuit.now s.plan s.values.items s.latches.items c.self.invariant))
+
+pub fill_words-requires-clause-fit : goal.fill_words-requires-clause-fit
+fill_words-requires-clause-fit c =
+    let s = c.self.inside in
+    omega (
+      arith,
+      gates_fit s.circuit.now s.plan s.values.items s.latches.items c.self.invariant,
+      ap length c.deref.ensures.value,
+      ap length c.deref_mut.ensures.value,
+      c.self.invariant.values_each,
+    )
 
 pub fill_words-requires-clause-room : goal.fill_words-requires-clause-room
 fill_words-requires-clause-room c =
-    let circuit = c.self.inside.circuit.now in
-    let t = c.self.invariant 0 (omega arith) in
+    let s = c.self.inside in
+    let t = c.self.invariant in
     omega (
       arith,
       c.requires.inputs_fit,
-      ap (λ (s : LaneSimulation). length s.circuit.inputs) c.self.view_is,
+      ap (λ (v : LaneSimulation). length v.circuit.inputs) c.self.view_is,
       ap length c.deref-2.ensures.value,
-      length-lane c.self.inside.latches.items 0,
-      t.latches_each,
+      latches_many s.circuit.now s.plan s.values.items s.latches.items t,
       ap length c.deref_mut.ensures.value,
-      length-lane c.self.inside.values.items 0,
       t.values_each,
-      length-variables circuit,
-      length-definitions circuit,
+      room s.circuit.now s.plan s.values.items s.latches.items t,
     )
+
+pub fill_words-requires-clause-constant : goal.fill_words-requires-clause-constant
+fill_words-requires-clause-constant c lane lt =
+    let s = c.self.inside in
+    ap (λ (v : List (List ℕ)). get_or (lane_of v lane) 0 Rattle.std.proofs.Common.false) c.deref_mut.ensures.value
+    ∙ constant_there s.circuit.now s.plan s.values.items s.latches.items c.self.invariant lane lt
 
 pub read_words-requires-clause-within : goal.read_words-requires-clause-within
 read_words-requires-clause-within c =
     let a = (goal.at.read_words-requires-clause-within c).After-fill_words in
-    let circuit = c.self.inside.circuit.now in
-    let t = c.self.invariant 0 (omega arith) in
-    fits c.self.inside.plan.outputs.items c.deref-3.result.now (length c.deref-4.result.now) (length (variables circuit)) c.deref-3.ensures.value
-    (ap length (c.deref-4.ensures.value ∙ table_is a) ∙ table_size a) (outputs_within circuit t.is_circuit c.self.inside.plan t.is_plan)
+    let s = c.self.inside in
+    fits s.plan.outputs.items c.deref-3.result.now (length c.deref-4.result.now) s.plan.size c.deref-3.ensures.value
+    (ap length (c.deref-4.ensures.value ∙ table_is a) ∙ table_size a) (outputs_in_table s.circuit.now s.plan s.values.items s.latches.items c.self.invariant)
 
 pub read_words-requires-clause-fit : goal.read_words-requires-clause-fit
 read_words-requires-clause-fit c =
-    let t = c.self.invariant 0 (omega arith) in
-    omega (arith, c.requires.outputs_fit, ap (λ (s : LaneSimulation). length s.circuit.outputs) c.self.view_is, ap length c.deref-3.ensures.value, length-outputs c.self.inside.circuit.now t.is_circuit c.self.inside.plan t.is_plan)
+    let s = c.self.inside in
+    omega (
+      arith,
+      c.requires.outputs_fit,
+      ap (λ (v : LaneSimulation). length v.circuit.outputs) c.self.view_is,
+      ap length c.deref-3.ensures.value,
+      outputs_many s.circuit.now s.plan s.values.items s.latches.items c.self.invariant,
+    )
 
 pub read_words-requires-2-clause-within : goal.read_words-requires-2-clause-within
 read_words-requires-2-clause-within c =
     let a = (goal.at.read_words-requires-2-clause-within c).After-fill_words in
-    let circuit = c.self.inside.circuit.now in
-    let t = c.self.invariant 0 (omega arith) in
-    fits c.self.inside.plan.nexts.items c.deref-5.result.now (length c.deref-6.result.now) (length (variables circuit)) c.deref-5.ensures.value
-    (ap length (c.deref-6.ensures.value ∙ table_is a) ∙ table_size a) (nexts_within circuit t.is_circuit c.self.inside.plan t.is_plan)
+    let s = c.self.inside in
+    fits s.plan.nexts.items c.deref-5.result.now (length c.deref-6.result.now) s.plan.size c.deref-5.ensures.value
+    (ap length (c.deref-6.ensures.value ∙ table_is a) ∙ table_size a) (nexts_in_table s.circuit.now s.plan s.values.items s.latches.items c.self.invariant)
 
 pub read_words-requires-2-clause-fit : goal.read_words-requires-2-clause-fit
 read_words-requires-2-clause-fit c =
-    let t = c.self.invariant 0 (omega arith) in
-    omega (arith, ap length c.deref_mut-2.ensures.value, length-lane c.self.inside.latches.items 0, t.latches_each, ap length c.deref-5.ensures.value, length-nexts c.self.inside.circuit.now t.is_circuit c.self.inside.plan t.is_plan)
+    let s = c.self.inside in
+    let t = c.self.invariant in
+    omega (
+      arith,
+      ap length c.deref_mut-2.ensures.value,
+      latches_many s.circuit.now s.plan s.values.items s.latches.items t,
+      ap length c.deref-5.ensures.value,
+      nexts_many s.circuit.now s.plan s.values.items s.latches.items t,
+    )
 
-next_length : (c : After-read_words-2) (lane : ℕ) → length (lane_of c.read_words-2.new.words lane) ≡ length c.self.inside.circuit.now.latches
-next_length c lane =
-    length-lane c.read_words-2.new.words lane ∙ c.read_words-2.auto.words ∙ ap length c.deref_mut-2.ensures.value
-    ∙ sym (length-lane c.self.inside.latches.items 0) ∙ (c.self.invariant 0 (omega arith)).latches_each
+-- the letters fit the circuit
+letters_fit : (c : After-read_words-2) → length c.args.inputs.now ≡ length c.self.inside.circuit.now.inputs
+letters_fit c = c.requires.inputs_fit ∙ sym (ap (λ (v : LaneSimulation). length v.circuit.inputs) c.self.view_is)
+
+next_length : (c : After-read_words-2) → length c.read_words-2.new.words ≡ length c.self.inside.circuit.now.latches
+next_length c =
+    let s = c.self.inside in
+    c.read_words-2.auto.words ∙ ap length c.deref_mut-2.ensures.value ∙ latches_many s.circuit.now s.plan s.values.items s.latches.items c.self.invariant
 
 pub invariant_of-self : goal.invariant_of-self
-invariant_of-self c lane lt =
+invariant_of-self c =
     let a = (goal.at.invariant_of-self c).After-fill_words in
     let b = (goal.at.invariant_of-self c).After-read_words-2 in
-    let P : List (List ℕ) → List (List ℕ) → Type 0 = λ values latches. IsTable c.self.inside.circuit.now c.self.inside.plan (lane_of values lane) (lane_of latches lane) in
-    subst (λ (values : List (List ℕ)). P values (take c.self.inside.latches.len (c.read_words-2.new.words ++ drop (length c.read_words-2.new.words) c.self.inside.latches.items))) (sym (table_is a))
-    (subst (P c.fill_words.new.values) (sym (next_is b))
-    (IsTable-worked_out c.self.inside.circuit.now c.self.inside.plan (lane_of c.self.inside.values.items lane) (lane_of c.self.inside.latches.items lane) (lane_of c.args.inputs.now lane)
-    (lane_of c.fill_words.new.values lane) (lane_of c.read_words-2.new.words lane) (c.self.invariant lane lt) (worked a lane lt) (next_length b lane)))
+    let s = c.self.inside in
+    let t = c.self.invariant in
+    let P : List (List ℕ) → List (List ℕ) → Type 0 = λ values latches. AreTables s.circuit.now s.plan values latches in
+    subst (λ (values : List (List ℕ)). P values (take s.latches.len (c.read_words-2.new.words ++ drop (length c.read_words-2.new.words) s.latches.items))) (sym (table_is a))
+    (subst (P c.fill_words.new.values) (sym (next_is b)) (record {
+      plan = t.plan;
+      places = t.places;
+      is_lane_plan = t.is_lane_plan;
+      values_each = table_size a;
+      tables = λ lane lt. IsTable-lane s.circuit.now s.plan s.values.items s.latches.items t c.args.inputs.now c.fill_words.new.values lane lt (letters_fit b) (worked a lane lt) c.read_words-2.new.words
+          (next_length b);
+    }))
 
 pub returns-clause-steps : goal.returns-clause-steps
 returns-clause-steps c lane lt =
     let a = (goal.at.returns-clause-steps c).After-fill_words in
     let b = (goal.at.returns-clause-steps c).After-read_words-2 in
-    let t = c.self.invariant lane lt in
-    let next = take c.self.inside.latches.len (c.read_words-2.new.words ++ drop (length c.read_words-2.new.words) c.self.inside.latches.items) in
-    subst (λ (s : LaneSimulation). Steps s.circuit (lane_of s.latches lane) (lane_of c.args.inputs.now lane) (lane_of c.read_words.new.words lane) (lane_of next lane)) c.self.view_is
-    (Steps-worked_out c.self.inside.circuit.now t.is_circuit c.self.inside.plan t.is_plan (lane_of c.args.inputs.now lane) (lane_of c.self.inside.latches.items lane) (lane_of c.fill_words.new.values lane)
-    (lane_of c.read_words.new.words lane) (lane_of next lane)
-    (length-lane c.args.inputs.now lane ∙ c.requires.inputs_fit ∙ sym (ap (λ (s : LaneSimulation). length s.circuit.inputs) c.self.view_is)) t.latches_each (worked a lane lt)
+    let s = c.self.inside in
+    let next = take s.latches.len (c.read_words-2.new.words ++ drop (length c.read_words-2.new.words) s.latches.items) in
+    subst (λ (v : LaneSimulation). Steps v.circuit (lane_of v.latches lane) (lane_of c.args.inputs.now lane) (lane_of c.read_words.new.words lane) (lane_of next lane)) c.self.view_is
+    (Steps-lane s.circuit.now s.plan s.values.items s.latches.items c.self.invariant c.args.inputs.now c.fill_words.new.values lane lt (letters_fit b) (worked a lane lt) c.read_words.new.words next
     (bits_are lane _ _ _ _ _ (c.read_words.ensures lane lt) (c.deref-4.ensures.value ∙ table_is a) c.deref-3.ensures.value)
     (ap (λ (ws : List (List ℕ)). lane_of ws lane) (next_is b) ∙ bits_are lane _ _ _ _ _ (c.read_words-2.ensures lane lt) (c.deref-6.ensures.value ∙ table_is a) c.deref-5.ensures.value))

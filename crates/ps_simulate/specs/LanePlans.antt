@@ -1,0 +1,68 @@
+-- The table that 256 runs at once work through: a plain run's, whose places are moved so that the gates stand in the order in
+-- which they are worked out.
+use Rattle.std.specs.Prelude.{◌≡◌, ◌≢◌, ℕ, ◌+◌, ◌/◌, ◌%◌, ◌<◌, ◌≤◌, ◌==◌, Bool, false, List, [], ◌∷◌, map, length, slice_index_or}
+use Rattle.ps_aiger.specs.Circuits.{CircuitData}
+use Rattle.ps_simulate.specs.declared.plan.Wire.{Wire}
+use Rattle.ps_simulate.specs.declared.plan.Row.{Row}
+use Rattle.ps_simulate.specs.declared.plan.Plan.{Plan}
+use Rattle.ps_simulate.specs.declared.lane_plan.Operands.{Operands}
+use Rattle.ps_simulate.specs.declared.lane_plan.LanePlan.{LanePlan}
+use Rattle.ps_simulate.specs.Plans.{IsPlan}
+
+-- a literal is twice a place, and one more where it is negated
+abbrev pub wire_in : ℕ → Wire
+wire_in literal = record { place = literal / 2; is_negated = literal % 2 == 1 }
+
+-- gates that stand one behind another from that place on
+abbrev pub rows_from : ℕ → List Operands → List Row
+rows_from place [] = []
+rows_from place (g ∷ gates) = record { target = place; first = wire_in g.first; second = wire_in g.second } ∷ rows_from (place + 1) gates
+
+-- ---- places that are moved: the list has for each the one to which it goes
+
+abbrev pub moved : List ℕ → ℕ → ℕ
+moved places p = slice_index_or places p 0
+
+abbrev pub move_wire : List ℕ → Wire → Wire
+move_wire places w = record { place = moved places w.place; is_negated = w.is_negated }
+
+abbrev pub move_row : List ℕ → Row → Row
+move_row places r = record { target = moved places r.target; first = move_wire places r.first; second = move_wire places r.second }
+
+-- the values by the places before they were moved
+abbrev pub unmoved : List ℕ → List Bool → List Bool
+unmoved places values = map (λ p. slice_index_or values p false) places
+
+-- the places in front stay
+abbrev pub AreKept : ℕ → List ℕ → Type 0
+AreKept front places = (p : ℕ) → p < front → moved places p ≡ p
+
+-- each row's place goes behind that of the row before it
+abbrev pub AreInOrder : ℕ → List ℕ → List Row → Type 0
+AreInOrder front places rows = (k : ℕ) (d : Row) → k < length rows → moved places (slice_index_or rows k d).target ≡ front + k
+
+-- the row is of a place behind those in front
+pub record IsGateRow (front size : ℕ) (r : Row) : Type 0 where
+  pub behind : front ≤ r.target
+  pub within : r.target < size
+
+-- no two rows are of one place
+abbrev pub AreOnce : List Row → Type 0
+AreOnce rows = (k l : ℕ) (d : Row) → k < l → l < length rows → (slice_index_or rows k d).target ≢ (slice_index_or rows l d).target
+
+-- each place of a table goes to a place of the table, and no two go to one
+pub record AreMoved (size front : ℕ) (places : List ℕ) : Type 0 where
+  pub each : length places ≡ size
+  pub within : (p : ℕ) → p < size → moved places p < size
+  pub once : (p q : ℕ) → p < size → q < size → moved places p ≡ moved places q → p ≡ q
+  pub kept : AreKept front places
+
+-- the plain run's plan, its places moved
+pub record IsLanePlan (c : CircuitData) (plan : Plan) (places : List ℕ) (p : LanePlan) : Type 0 where
+  pub is_plan : IsPlan c plan
+  pub are_moved : AreMoved p.size p.front places
+  pub size_is : p.size ≡ plan.size
+  pub front_is : p.front ≡ 1 + length c.inputs + length c.latches
+  pub gates_are : rows_from p.front p.gates.items ≡ map (move_row places) plan.rows.items
+  pub outputs_are : map wire_in p.outputs.items ≡ map (move_wire places) plan.outputs.items
+  pub nexts_are : map wire_in p.nexts.items ≡ map (move_wire places) plan.nexts.items

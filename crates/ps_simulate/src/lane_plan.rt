@@ -1,0 +1,129 @@
+//! The table of gates that 256 runs at once work through.
+
+ghost use Rattle.std.specs.Prelude.{◌≡◌, ℕ, ◌+◌, ◌^◌, ◌<◌, ◌≤◌, length, map, All, IfOk};
+ghost use Rattle.ps_simulate.specs.LanePlans.{AreInOrder, AreKept, AreOnce, IsGateRow, move_row, move_wire, rows_from, wire_in};
+ghost use Rattle.ps_simulate.specs.Plans.{IsWithin};
+
+use crate::plan::{Plan, Row, Wire};
+use ps_aiger::Circuit;
+use std::alloc::{AllocError, Global};
+
+/// The two literals that a gate reads. A literal is twice a place in the table of values, and one more where it is negated.
+#[derive(Clone, Copy)]
+pub struct Operands {
+    pub first: u32,
+    pub second: u32,
+}
+
+/// What a step works out in all lanes. The gates' values stand behind one another in the order in which they are worked out, so
+/// that a gate needs eight bytes and a step writes its table from the front to the back: a table of lanes is too large to stay
+/// near the processor, and what a step reads and writes there decides its time.
+#[derive(Drop)]
+pub struct LanePlan {
+    /// The places of the table of values.
+    pub size: usize,
+    /// The places in front of the gates: the constant 0, the inputs and the latches.
+    pub front: usize,
+    pub gates: Vec<Operands>,
+    /// Literals, as in `Operands`.
+    pub outputs: Vec<u32>,
+    /// Literals of the latches' next values.
+    pub nexts: Vec<u32>,
+}
+
+impl LanePlan {
+    ghost use Rattle.std.specs.Prelude.{List};
+    ghost use Rattle.ps_aiger.specs.Circuits.{IsCircuit};
+    ghost use Rattle.ps_simulate.specs.LanePlans.{IsLanePlan};
+    ghost use Rattle.ps_simulate.specs.declared.plan.Plan.{Plan};
+
+    /// The plan of a circuit.
+    pub fn new(alloc: Global, circuit: &Circuit) -> Result<Self, AllocError>
+        ensures plan { IfOk result (λ p. (plan : Plan) × (places : List ℕ) × IsLanePlan circuit.now plan places p) }
+        ensures well_formed { IsCircuit circuit.now }
+    {
+        let gates = circuit.gates();
+        let plan = Plan::new(alloc, circuit)?;
+        let front = plan.size - gates.len();
+        let places = moved_places(alloc, &plan.rows, front, plan.size)?;
+        Ok(LanePlan {
+            size: plan.size,
+            front,
+            gates: gates_of(alloc, &places, &plan.rows)?,
+            outputs: literals(alloc, &places, &plan.outputs)?,
+            nexts: literals(alloc, &places, &plan.nexts)?,
+        })
+    }
+}
+
+/// The place to which each place of a table is moved: those in front stay, and the gates' stand behind them in the order of
+/// their rows.
+fn moved_places(
+    alloc: Global,
+    rows: &[Row],
+    front: usize,
+    size: usize,
+) -> Result<Vec<usize>, AllocError>
+    requires fit { front + length rows.now ≤ size }
+    requires gates { All (IsGateRow front size) rows.now }
+    requires once { AreOnce rows.now }
+    ensures size { IfOk result (λ places. length places.items ≡ size) }
+    ensures kept { IfOk result (λ places. AreKept front places.items) }
+    ensures in_order { IfOk result (λ places. AreInOrder front places.items rows.now) }
+{
+    let mut places = places_up_to(alloc, size)?;
+    for (number, row) in rows.iter().enumerate() {
+        places[row.target] = front + number;
+    }
+    Ok(places)
+}
+
+/// The places before this one.
+fn places_up_to(alloc: Global, count: usize) -> Result<Vec<usize>, AllocError>
+    ensures count { IfOk result (λ places. length places.items ≡ count) }
+    ensures each { IfOk result (λ places. AreKept count places.items) }
+{
+    let mut places = Vec::new(alloc);
+    for place in 0..count {
+        places.push(place)?;
+    }
+    Ok(places)
+}
+
+/// The literal of a wire that was moved.
+fn literal(places: &[usize], wire: Wire) -> u32
+    requires places { All (λ p. p < 2 ^ 31) places.now }
+    requires within { wire.place < length places.now }
+    ensures { wire_in result ≡ move_wire places.now wire }
+{
+    2 * (places[wire.place] as u32) + u32::from(wire.is_negated)
+}
+
+/// The literals of wires that were moved.
+fn literals(alloc: Global, places: &[usize], wires: &[Wire]) -> Result<Vec<u32>, AllocError>
+    requires places { All (λ p. p < 2 ^ 31) places.now }
+    requires within { All (λ w. w.place < length places.now) wires.now }
+    ensures { IfOk result (λ literals. map wire_in literals.items ≡ map (move_wire places.now) wires.now) }
+{
+    let mut literals = Vec::new(alloc);
+    for &wire in wires {
+        literals.push(literal(places, wire))?;
+    }
+    Ok(literals)
+}
+
+/// The gates of rows that were moved.
+fn gates_of(alloc: Global, places: &[usize], rows: &[Row]) -> Result<Vec<Operands>, AllocError>
+    requires places { All (λ p. p < 2 ^ 31) places.now }
+    requires within { All (IsWithin (length places.now)) rows.now }
+    ensures { IfOk result (λ gates. (front : ℕ) → AreInOrder front places.now rows.now → rows_from front gates.items ≡ map (move_row places.now) rows.now) }
+{
+    let mut gates = Vec::new(alloc);
+    for row in rows {
+        gates.push(Operands {
+            first: literal(places, row.first),
+            second: literal(places, row.second),
+        })?;
+    }
+    Ok(gates)
+}
