@@ -1,0 +1,44 @@
+-- The circuit of a certificate's machine.
+use Rattle.std.proofs.Common.{◌≡◌, ℕ, zero, suc, ◌<◌, ◌==◌, Bool, true, false, List, length, ap, refl, ◌∙◌, arith}
+use Rattle.std.specs.Prelude.{not}
+use Rattle.ps_hoa.specs.Files.{FileData, is_among}
+use Rattle.ps_automaton.specs.Automata.{AutomatonData, IsBuiltFrom}
+use Rattle.ps_automaton.specs.Chains.{Chain}
+use Rattle.ps_machine.specs.Boards.{board_of}
+use Rattle.ps_machine.specs.Extracting.{HasPropositions, is_others}
+use Rattle.ps_machine.specs.Keys.{mover_of}
+use Rattle.ps_machine.specs.Machines.{MachineData}
+use Rattle.ps_machine.specs.declared.key.Order.{Order}
+use Rattle.ps_machine.specs.declared.key.Order.TheVariants.{Mealy, Moore}
+use Rattle.ps_traces.specs.Answers.{role_of}
+use Rattle.ps_traces.specs.Shapes.{IsMachineFor, is_read_by, moves_first}
+
+not_not : (b : Bool) → not (not b) ≡ b
+not_not true = refl
+not_not false = refl
+
+-- who moves first, and what that player reads
+turn_is : (order : Order) (player : ℕ) → player < 2 → (mover_of order == player) ≡ moves_first order (role_of player)
+turn_is Mealy zero lt = refl
+turn_is Mealy (suc zero) lt = refl
+turn_is Moore zero lt = refl
+turn_is Moore (suc zero) lt = refl
+turn_is order (suc (suc player)) lt = absurd (omega (arith, lt))
+
+reads_as : (order : Order) (a : AutomatonData) (player p : ℕ) → player < 2 → is_others (mover_of order == player) (board_of order a) p ≡ is_read_by (role_of player) a.controllable p
+reads_as Mealy a zero p lt = refl
+reads_as Mealy a (suc zero) p lt = not_not (is_among p a.controllable)
+reads_as Moore a zero p lt = refl
+reads_as Moore a (suc zero) p lt = refl
+reads_as order a (suc (suc player)) p lt = absurd (omega (arith, lt))
+
+pub is_for : (order : Order) (file : FileData) (chain : Chain) (a : AutomatonData) (m : MachineData) → IsBuiltFrom file chain a → HasPropositions a.names (board_of order a) m
+    → m.is_first ≡ (mover_of order == m.player) → m.player < 2 → IsMachineFor order (role_of m.player) file m
+is_for order file chain a m built has turn two = record {
+  names = has.names_are ∙ built.names;
+  reads = λ p lt.
+      has.reads p (let size : length a.names ≡ length file.names = ap length built.names in omega (arith, size, lt))
+      ∙ ap (λ (b : Bool). is_others b (board_of order a) p) turn ∙ reads_as order a m.player p two
+      ∙ ap (λ (ps : List ℕ). is_read_by (role_of m.player) ps p) built.controllable;
+  turn = turn ∙ turn_is order m.player two;
+}

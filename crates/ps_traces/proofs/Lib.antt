@@ -1,0 +1,12 @@
+pub mod Returns
+pub mod Runs
+pub mod Inputs
+pub mod Meetings
+pub mod OneMeeting
+pub mod Bits
+pub mod Letters
+pub mod Words
+pub mod Rejected
+pub mod ShapeOf
+pub mod Answering
+pub mod CertifiedCircuits

@@ -1,0 +1,33 @@
+-- The meeting is rejected where no lasso trace is accepted.
+use Rattle.ps_hoa.specs.Files.{FileData}
+use Rattle.ps_hoa.specs.Sound.{AreNames}
+use Rattle.ps_aiger.specs.Circuits.{CircuitData}
+use Rattle.ps_aiger.specs.Values.{HasOneValues}
+use Rattle.ps_machine.specs.declared.key.Order.{Order}
+use Rattle.ps_simulate.specs.declared.role.Role.TheVariants.{Environment}
+use Rattle.ps_traces.specs.Traces.{NoneAccepted}
+use Rattle.ps_traces.specs.Shapes.{HasShape}
+use Rattle.ps_traces.specs.Meetings.{FiniteController, IsController, IsRejected, lasso_of}
+use Rattle.ps_traces.proofs.Letters.{has_letters}
+use Rattle.ps_traces.proofs.Meetings.{in_lasso}
+
+pub meeting_is_rejected : (order : Order) (file : FileData) (c : CircuitData) (k : FiniteController) → AreNames file.names → HasOneValues c → HasShape order Environment file c → IsController order c k
+    → NoneAccepted file c → IsRejected file c k
+meeting_is_rejected order file c k are_names one shape is none =
+    let meeting = in_lasso order c k one shape.in_time is in
+    let stem = has_letters Environment file.names file.controllable c are_names shape.symbols meeting.stem in
+    let lap = has_letters Environment file.names file.controllable c are_names shape.symbols meeting.lap in
+    record {
+      meeting = meeting;
+      stem_letters = stem.letters;
+      lap_letters = lap.letters;
+      stem_are = stem.are_letters;
+      lap_are = lap.are_letters;
+      rejected = none stem.letters lap.letters (record {
+        stem_moments = meeting.stem;
+        lap_moments = meeting.lap;
+        trace = lasso_of c k meeting;
+        stem_letters = stem.are_letters;
+        lap_letters = lap.are_letters;
+      });
+    }

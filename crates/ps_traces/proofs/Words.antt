@@ -1,0 +1,230 @@
+-- The words of a circuit's lasso traces are those of the machine that it encodes.
+use Rattle.std.proofs.Common.{◌≡◌, ◌≢◌, ℕ, zero, suc, ◌+◌, ◌<◌, ◌≤◌, ◌⊎◌, inl, inr, Bool, true, false, cond, List, [], ◌∷◌, ◌++◌, length, get_or, Option, None, Some, refl, ap, sym, ◌∙◌, subst, arith, add-one}
+use Rattle.std.specs.Prelude.{All, IsSomeAnd}
+use Rattle.std.specs.Option.{unwrap_or}
+use Rattle.std.proofs.lemmas.Bool.{cases_lt, le-ltb, lt-ltb}
+use Rattle.std.proofs.lemmas.List.{get_or-map}
+use Rattle.std.proofs.lemmas.List.Elements.{All-head, All-tail}
+use Rattle.ps_label.specs.Truth.{is_in}
+use Rattle.ps_diagram.proofs.Letters.{no_bit}
+use Rattle.ps_hoa.specs.Files.{FileData, is_among}
+use Rattle.ps_aiger.specs.Circuits.{CircuitData}
+use Rattle.ps_aiger.specs.Values.{Moment, GoesOn, Steps, resets}
+use Rattle.ps_aiger.specs.Encoded.{Encodes, StepsAs, number_of, memory_of, letter_over}
+use Rattle.ps_machine.specs.Machines.{MachineData, IsMachine, IsOutput, IsLasso, LassosWon, Makes, memories_of, next_of, plays}
+use Rattle.ps_simulate.specs.Symbols.{IsSymbol}
+use Rattle.ps_simulate.specs.Lassos.{IsLetterOf, AreLetters, latches_along}
+use Rattle.ps_simulate.proofs.LassoLemmas.{along_more, at_end}
+use Rattle.ps_traces.specs.Traces.{IsLassoWord, AllAccepted, NoneAccepted}
+use Rattle.ps_traces.proofs.Bits.{AreApart, are_apart, few_bits, bit_with, bit_with_at, bit_with_none, in_letter_over, in_sum_left, in_sum_right, same_letter, stands_in}
+use Rattle.ps_traces.proofs.Runs.{GoesOn-append}
+
+-- ## Traces
+
+AreLetters-append : (names : List (List ℕ)) (c : CircuitData) (xs ys : List Moment) (us vs : List ℕ) → AreLetters names c xs us → AreLetters names c ys vs → AreLetters names c (xs ++ ys) (us ++ vs)
+AreLetters-append names c [] ys us vs a b = subst (λ (ls : List ℕ). AreLetters names c ys (ls ++ vs)) (sym a) b
+AreLetters-append names c (m ∷ ms) ys [] vs a b = absurd a
+AreLetters-append names c (m ∷ ms) ys (u ∷ us) vs a b = (a.0, AreLetters-append names c ms ys us vs a.1 b)
+
+length_letters : (names : List (List ℕ)) (c : CircuitData) (ms : List Moment) (ls : List ℕ) → AreLetters names c ms ls → length ls ≡ length ms
+length_letters names c [] ls a = ap length a
+length_letters names c (m ∷ ms) [] a = absurd a
+length_letters names c (m ∷ ms) (u ∷ us) a = ap suc (length_letters names c ms us a.1)
+
+first_along : (c : CircuitData) (from to : List Bool) (ms : List Moment) → GoesOn c from ms to → get_or (latches_along ms to) 0 [] ≡ from
+first_along c from to [] on = sym on
+first_along c from to (m ∷ ms) (next, at, step, on) = at
+
+-- what holds of each step of a trace and its letter holds of the latches along it
+at_each : (names : List (List ℕ)) (c : CircuitData) (P : List Bool → ℕ → List Bool → Type 0)
+    → ((m : Moment) (letter : ℕ) (next : List Bool) → Steps c m.latches m.inputs m.outputs next → IsLetterOf names c m letter → P m.latches letter next)
+    → (from to : List Bool) (ms : List Moment) (ls : List ℕ) → GoesOn c from ms to → AreLetters names c ms ls
+    → (t : ℕ) → t < length ls → P (get_or (latches_along ms to) t []) (get_or ls t 0) (get_or (latches_along ms to) (suc t) [])
+at_each names c P each from to [] ls on a t lt = absurd (let e : length ls ≡ 0 = ap length a in omega (arith, e, lt))
+at_each names c P each from to (m ∷ ms) [] on a t lt = absurd a
+at_each names c P each from to (m ∷ ms) (l ∷ ls) (next, at, step, on) a zero lt =
+    subst (λ (behind : List Bool). P m.latches l behind) (sym (first_along c next to ms on))
+    (each m l next (subst (λ (latches : List Bool). Steps c latches m.inputs m.outputs next) (sym at) step) a.0)
+at_each names c P each from to (m ∷ ms) (l ∷ ls) (next, at, step, on) a (suc t) lt = at_each names c P each next to ms ls on a.1 t (omega (arith, lt))
+
+-- ## Steps of a machine
+
+below : (o : Option ℕ) (bound d : ℕ) → IsSomeAnd o (λ n. n < bound) → unwrap_or o d < bound
+below None bound d h = absurd h
+below (Some n) bound d h = h
+
+abbrev bit : Bool → ℕ
+bit b = cond b 1 0
+
+none_number : (bits : List Bool) → All (λ bit. bit ≡ false) bits → number_of bits ≡ 0
+none_number [] h = refl
+none_number (b ∷ bs) h =
+    let rest : number_of bs ≡ 0 = none_number bs (All-tail (λ bit. bit ≡ false) b bs h) in
+    let first : bit b ≡ 0 = ap bit (All-head (λ bit. bit ≡ false) b bs h) in
+    omega (arith, rest, first)
+
+module _ (m : MachineData) (is : IsMachine m) where
+  row_within : (memory x : ℕ) → memory < memories_of m → (next_of m memory x < memories_of m) × IsOutput m (plays m memory x)
+  row_within memory x within = is.rows _ (below _ (length m.rows) (length m.rows) (is.leaves memory x within))
+
+  pub memory_below : (latches : List Bool) → memory_of m latches < memories_of m
+  memory_below latches = elim (cases_lt (number_of latches) (memories_of m)) [
+    | inl lt ↦ subst (λ n. n < memories_of m) (sym (ap (λ (b : Bool). cond b (number_of latches) 0) (lt-ltb (number_of latches) (memories_of m) lt))) lt
+    | inr le ↦ subst (λ n. n < memories_of m) (sym (ap (λ (b : Bool). cond b (number_of latches) 0) (le-ltb (number_of latches) (memories_of m) le))) is.some
+  ]
+
+  code_is : (latches : List Bool) (memory : ℕ) → number_of latches ≡ memory → memory < memories_of m → memory_of m latches ≡ memory
+  code_is latches memory e lt =
+      ap (λ (b : Bool). cond b (number_of latches) 0) (lt-ltb (number_of latches) (memories_of m) (omega (arith, e, lt))) ∙ e
+
+  not_both : (p : ℕ) → is_among p m.outputs ≡ true → is_among p m.inputs ≡ false
+  not_both p out = go (is_among p m.inputs) refl
+    where
+      go : (b : Bool) → is_among p m.inputs ≡ b → b ≡ false
+      go true e = sym out ∙ is.apart p e
+      go false e = refl
+
+  some_side : (p : ℕ) → p < length m.names → (is_among p m.inputs ≡ true) ⊎ (is_among p m.outputs ≡ true)
+  some_side p lt = (is.each p).0 lt
+
+  -- ## The letter of a step
+
+  module _ (c : CircuitData) (encodes : Encodes m c) where
+    input_symbol : (k : ℕ) → k < length m.inputs → get_or m.inputs k 0 < length m.names → IsSymbol m.names c.input_names k (get_or m.inputs k 0)
+    input_symbol k lt within = record {
+      within = within;
+      is = ap (λ (ns : List (Option (List ℕ))). get_or ns k None) encodes.input_names ∙ get_or-map (λ p. Some (get_or m.names p [])) m.inputs k 0 None lt;
+    }
+
+    output_symbol : (k : ℕ) → k < length m.outputs → get_or m.outputs k 0 < length m.names → IsSymbol m.names c.output_names k (get_or m.outputs k 0)
+    output_symbol k lt within = record {
+      within = within;
+      is = ap (λ (ns : List (Option (List ℕ))). get_or ns k None) encodes.output_names ∙ get_or-map (λ p. Some (get_or m.names p [])) m.outputs k 0 None lt;
+    }
+
+    module _ (s : Moment) (letter : ℕ) (next : List Bool) (steps : Steps c s.latches s.inputs s.outputs next) (is_letter : IsLetterOf m.names c s letter) where
+      as_machine : StepsAs m s.latches s.inputs s.outputs next
+      as_machine = encodes.steps s.latches s.inputs s.outputs next steps
+
+      abbrev input : ℕ
+      input = letter_over m.inputs s.inputs
+
+      abbrev memory : ℕ
+      memory = memory_of m s.latches
+
+      abbrev output : ℕ
+      output = plays m memory input
+
+      in_input : (p : ℕ) → is_in p input ≡ bit_with p m.inputs s.inputs
+      in_input p = in_letter_over p m.inputs s.inputs is.inputs_rise
+
+      input_off : (p : ℕ) → is_among p m.inputs ≡ false → is_in p input ≡ false
+      input_off p none = in_input p ∙ bit_with_none p m.inputs s.inputs none
+
+      input_high : (p : ℕ) → length m.names ≤ p → is_in p input ≡ false
+      input_high p le = go (is_among p m.inputs) refl
+        where
+          go : (b : Bool) → is_among p m.inputs ≡ b → is_in p input ≡ false
+          go true e = absurd (let lt : p < length m.names = (is.each p).1 (inl e) in omega (arith, lt, le))
+          go false e = input_off p e
+
+      is_output : IsOutput m output
+      is_output = (row_within memory input (memory_below s.latches)).1
+
+      -- a proposition that is read
+      read_bit : (p : ℕ) → p < length m.names → is_among p m.inputs ≡ true → is_in p letter ≡ is_in p input
+      read_bit p lt among =
+          let at = stands_in p m.inputs among in
+          let symbol = input_symbol at.place at.within (subst (λ q. q < length m.names) (sym at.is) lt) in
+          ap (λ q. is_in q letter) (sym at.is) ∙ is_letter.inputs at.place (get_or m.inputs at.place 0) symbol
+          ∙ sym (bit_with_at m.inputs s.inputs at.place is.inputs_rise at.within) ∙ ap (λ q. bit_with q m.inputs s.inputs) at.is ∙ sym (in_input p)
+
+      -- a proposition that is played
+      played_bit : (p : ℕ) → p < length m.names → is_among p m.outputs ≡ true → is_in p letter ≡ is_in p output
+      played_bit p lt among =
+          let at = stands_in p m.outputs among in
+          let symbol = output_symbol at.place at.within (subst (λ q. q < length m.names) (sym at.is) lt) in
+          ap (λ q. is_in q letter) (sym at.is) ∙ is_letter.outputs at.place (get_or m.outputs at.place 0) symbol
+          ∙ ap (λ (bits : List Bool). get_or bits at.place false) as_machine.outputs_are ∙ get_or-map (λ q. is_in q output) m.outputs at.place 0 false at.within
+          ∙ ap (λ q. is_in q output) at.is
+
+      apart : AreApart input output
+      apart = are_apart input output (λ p. go p (is_among p m.inputs) refl)
+        where
+          go : (p : ℕ) (b : Bool) → is_among p m.inputs ≡ b → (is_in p input ≡ false) ⊎ (is_in p output ≡ false)
+          go p true e = inr (is_output.own p (is.apart p e))
+          go p false e = inl (input_off p e)
+
+      joined : letter ≡ input + output
+      joined = same_letter letter (input + output) (λ p. elim (cases_lt p (length m.names)) [
+        | inl lt ↦ elim (some_side p lt) [
+          | inl read ↦ read_bit p lt read ∙ sym (in_sum_left p input output apart (is_output.own p (is.apart p read)))
+          | inr played ↦ played_bit p lt played ∙ sym (in_sum_right p input output apart (input_off p (not_both p played)))
+        ]
+        | inr le ↦ no_bit (length m.names) letter p is_letter.few le ∙ sym (in_sum_left p input output apart (no_bit (length m.names) output p is_output.within le) ∙ input_high p le)
+      ])
+
+      makes : Makes m memory letter (memory_of m next)
+      makes = record {
+        input = input;
+        is_input = record { within = few_bits (length m.names) input input_high; own = input_off };
+        joined = joined;
+        next_is = code_is next (next_of m memory input) as_machine.next_is (row_within memory input (memory_below s.latches)).0;
+      }
+
+    -- ## Lassos
+
+    module _ (stem lap : List ℕ) (word : IsLassoWord m.names c stem lap) where
+      abbrev moments : List Moment
+      moments = word.stem_moments ++ word.lap_moments
+
+      goes_on : GoesOn c (resets c) moments word.trace.back
+      goes_on = GoesOn-append c (resets c) word.trace.back word.trace.back word.stem_moments word.lap_moments word.trace.goes_there word.trace.comes_back
+
+      are_letters : AreLetters m.names c moments (stem ++ lap)
+      are_letters = AreLetters-append m.names c word.stem_moments word.lap_moments stem lap word.stem_letters word.lap_letters
+
+      abbrev memory_at : ℕ → ℕ
+      memory_at t = memory_of m (get_or (latches_along moments word.trace.back) t [])
+
+      begins : memory_at 0 ≡ 0
+      begins =
+          let none : number_of (resets c) ≡ 0 = none_number (resets c) encodes.resets_are in
+          ap (memory_of m) (first_along c (resets c) word.trace.back moments goes_on) ∙ code_is (resets c) 0 none is.some
+
+      stem_size : length stem ≡ length word.stem_moments
+      stem_size = length_letters m.names c word.stem_moments stem word.stem_letters
+
+      whole_size : length (stem ++ lap) ≡ length moments
+      whole_size = length_letters m.names c moments (stem ++ lap) are_letters
+
+      -- behind the stem and behind both stand the same latches
+      returns : memory_at (length stem) ≡ memory_at (length (stem ++ lap))
+      returns =
+          let here : get_or (latches_along moments word.trace.back) (length word.stem_moments) [] ≡ word.trace.back =
+          along_more c word.stem_moments word.lap_moments word.trace.back word.trace.back (length word.stem_moments) word.trace.comes_back (omega arith) ∙ at_end word.stem_moments word.trace.back in
+          ap memory_at stem_size ∙ ap (memory_of m) (here ∙ sym (at_end moments word.trace.back)) ∙ ap memory_at (sym whole_size)
+
+      some : 0 < length lap
+      some = let size = length_letters m.names c word.lap_moments lap word.lap_letters in let long = word.trace.some in omega (arith, size, long)
+
+      pub is_lasso : IsLasso m stem lap
+      is_lasso = record {
+        some = some;
+        memories = memory_at;
+        begins = begins;
+        makes = λ t lt. subst (λ n. Makes m (memory_at t) (get_or (stem ++ lap) t 0) (memory_at n)) (sym (add-one t))
+            (at_each m.names c (λ before letter behind. Makes m (memory_of m before) letter (memory_of m behind)) makes (resets c) word.trace.back moments (stem ++ lap) goes_on are_letters t lt);
+        returns = returns;
+      }
+
+pub machine_words : (m : MachineData) (c : CircuitData) (stem lap : List ℕ) → IsMachine m → Encodes m c → IsLassoWord m.names c stem lap → IsLasso m stem lap
+machine_words m c stem lap is encodes word = is_lasso m is c encodes stem lap word
+
+pub all_accepted : (file : FileData) (m : MachineData) (c : CircuitData) → IsMachine m → m.names ≡ file.names → Encodes m c → LassosWon file m → m.player ≡ 0 → AllAccepted file c
+all_accepted file m c is names encodes won player stem lap word =
+    won.accepted player stem lap (machine_words m c stem lap is encodes (subst (λ (ns : List (List ℕ)). IsLassoWord ns c stem lap) (sym names) word))
+
+pub none_accepted : (file : FileData) (m : MachineData) (c : CircuitData) → IsMachine m → m.names ≡ file.names → Encodes m c → LassosWon file m → m.player ≢ 0 → NoneAccepted file c
+none_accepted file m c is names encodes won player stem lap word =
+    won.rejected player stem lap (machine_words m c stem lap is encodes (subst (λ (ns : List (List ℕ)). IsLassoWord ns c stem lap) (sym names) word))

@@ -1,0 +1,5 @@
+use Rattle.ps_traces.proofs.Inputs.{each_goes_on}
+use Rattle.ps_traces.proofs.laws.every_input_goes_on.Goals as goal
+
+pub returns : goal.returns
+returns c = each_goes_on

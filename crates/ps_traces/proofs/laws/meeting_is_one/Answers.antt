@@ -1,0 +1,5 @@
+use Rattle.ps_traces.proofs.OneMeeting.{meeting_is_one}
+use Rattle.ps_traces.proofs.laws.meeting_is_one.Goals as goal
+
+pub returns : goal.returns
+returns c = meeting_is_one

@@ -1,0 +1,33 @@
+-- What the circuit of the winner is worth: a controller's where the automaton can be realised, else an environment's.
+--     role_of player      0 is the controller
+--     IsAnswer order file player c      its shape; each word of it is accepted, or none is; each input goes on in such a word; and an
+--                                       environment's meeting with any finite-state controller goes on in one, which is rejected
+use Rattle.std.specs.Prelude.{◌≡◌, ◌≢◌, ℕ, List, if◌then◌else◌, nat_eq}
+use Rattle.ps_hoa.specs.Files.{FileData}
+use Rattle.ps_aiger.specs.Circuits.{CircuitData, IsCircuit}
+use Rattle.ps_aiger.specs.Values.{Moment}
+use Rattle.ps_machine.specs.declared.key.Order.{Order}
+use Rattle.ps_simulate.specs.declared.role.Role.{Role}
+use Rattle.ps_simulate.specs.declared.role.Role.TheVariants.{Controller, Environment}
+use Rattle.ps_traces.specs.Traces.{AllAccepted, NoneAccepted}
+use Rattle.ps_traces.specs.Shapes.{HasShape}
+use Rattle.ps_traces.specs.Inputs.{EachInputGoesOn, HasLetters}
+use Rattle.ps_traces.specs.Meetings.{FiniteController, IsController, IsOneMeeting, IsRejected}
+
+abbrev pub role_of : ℕ → Role
+role_of player = if nat_eq player 0 then Controller else Environment
+
+-- the meeting is one, and it is rejected
+pub record LosesMeeting (file : FileData) (c : CircuitData) (k : FiniteController) : Type 0 where
+  pub one : (count : ℕ) → IsOneMeeting c k count
+  pub rejected : IsRejected file c k
+
+pub record IsAnswer (order : Order) (file : FileData) (player : ℕ) (c : CircuitData) : Type 0 where
+  pub is_circuit : IsCircuit c
+  pub shape : HasShape order (role_of player) file c
+  pub accepted : player ≡ 0 → AllAccepted file c
+  pub rejected : player ≢ 0 → NoneAccepted file c
+  -- none of this is empty
+  pub goes_on : EachInputGoesOn c
+  pub letters : (moments : List Moment) → HasLetters file.names c moments
+  pub meetings : player ≢ 0 → (k : FiniteController) → IsController order c k → LosesMeeting file c k

@@ -1,0 +1,33 @@
+-- Every input that repeats goes on in a trace that repeats.
+--     inputs_of moments      what is read at each moment
+--     GoesOnInLasso c stem lap      some lasso trace reads the stem and some laps, at least one, and then again and again some laps, at least one
+--     EachInputGoesOn c      for each stem and each lap, not empty, of letters of the circuit's width
+use Rattle.std.specs.Prelude.{◌≡◌, ℕ, ◌<◌, Bool, List, ◌++◌, length, map}
+use Rattle.ps_aiger.specs.Circuits.{CircuitData}
+use Rattle.ps_aiger.specs.Values.{Moment}
+use Rattle.ps_simulate.specs.Lassos.{AreLetters, laps_of}
+use Rattle.ps_simulate.specs.LassoFaults.{AreWide}
+use Rattle.ps_traces.specs.Traces.{IsLassoTrace}
+
+abbrev pub inputs_of : List Moment → List (List Bool)
+inputs_of moments = map (λ m. m.inputs) moments
+
+pub record GoesOnInLasso (c : CircuitData) (stem lap : List (List Bool)) : Type 0 where
+  pub before : ℕ
+  pub laps : ℕ
+  pub some_before : 0 < before
+  pub some : 0 < laps
+  pub stem_moments : List Moment
+  pub lap_moments : List Moment
+  pub trace : IsLassoTrace c stem_moments lap_moments
+  pub stem_reads : inputs_of stem_moments ≡ stem ++ laps_of lap before
+  pub lap_reads : inputs_of lap_moments ≡ laps_of lap laps
+
+abbrev pub EachInputGoesOn : CircuitData → Type 0
+EachInputGoesOn c = (stem lap : List (List Bool)) → AreWide c stem lap → 0 < length lap → GoesOnInLasso c stem lap
+
+-- whatever is read and answered has one letter for each moment
+pub record HasLetters (names : List (List ℕ)) (c : CircuitData) (moments : List Moment) : Type 0 where
+  pub letters : List ℕ
+  pub are_letters : AreLetters names c moments letters
+  pub no_others : (others : List ℕ) → AreLetters names c moments others → letters ≡ others

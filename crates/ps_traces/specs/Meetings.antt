@@ -1,0 +1,83 @@
+-- Finite-state controllers, and their meeting with the circuit of an environment. Letters are lists of bits in the circuit's order:
+-- a controller reads a bit for each of its outputs, and plays one for each of its inputs.
+--     FiniteController      a size, a first memory, and tables from a memory and the letter read to a memory and the letter played
+--     IsController order c k      the tables keep to their ranges; outputs before inputs: the letter played is from the memory alone
+--     Meets c k latches memory moments      the one joint trace, from these latches and that memory
+--     MeetsInLasso c k      it goes on in a lasso trace, at whose end the controller's memory has come back too
+--     IsRejected file c k      its letters are a word that the automaton does not accept
+use Rattle.std.specs.Prelude.{◌≡◌, ℕ, ◌<◌, Bool, List, [], ◌∷◌, length}
+use Rattle.ps_hoa.specs.Files.{FileData}
+use Rattle.ps_automaton.specs.Acceptance.{IsAccepted}
+use Rattle.ps_aiger.specs.Circuits.{CircuitData}
+use Rattle.ps_aiger.specs.Values.{Moment, GoesOn, resets}
+use Rattle.ps_machine.specs.declared.key.Order.{Order}
+use Rattle.ps_machine.specs.declared.key.Order.TheVariants.{Mealy, Moore}
+use Rattle.ps_simulate.specs.Lassos.{AreLetters}
+use Rattle.ps_traces.specs.Traces.{IsLassoTrace}
+
+pub record FiniteController : Type 0 where
+  pub size : ℕ
+  pub first : ℕ
+  pub next : ℕ → List Bool → ℕ
+  pub plays : ℕ → List Bool → List Bool
+
+-- the letters that are read are of this width
+abbrev pub IsRead : CircuitData → List Bool → Type 0
+IsRead c letter = length letter ≡ length c.outputs
+
+-- outputs before inputs: a table from memory to letter
+abbrev pub IsTimely : Order → CircuitData → FiniteController → Type 0
+IsTimely Mealy c k = Unit {0}
+IsTimely Moore c k =
+    (memory : ℕ) (letter other : List Bool) → memory < k.size → IsRead c letter → IsRead c other → k.plays memory letter ≡ k.plays memory other
+
+pub record IsController (order : Order) (c : CircuitData) (k : FiniteController) : Type 0 where
+  pub first_within : k.first < k.size
+  pub next_within : (memory : ℕ) (letter : List Bool) → memory < k.size → IsRead c letter → k.next memory letter < k.size
+  pub plays_wide : (memory : ℕ) (letter : List Bool) → memory < k.size → IsRead c letter → length (k.plays memory letter) ≡ length c.inputs
+  pub timely : IsTimely order c k
+
+-- ## The meeting
+
+-- the controller answers each moment's outputs by its inputs, and its memory goes from the one to the other
+abbrev pub Answers : FiniteController → ℕ → List Moment → ℕ → Type 0
+Answers k memory [] last = memory ≡ last
+Answers k memory (m ∷ ms) last = (m.inputs ≡ k.plays memory m.outputs) × Answers k (k.next memory m.outputs) ms last
+
+pub record GoesJointly (c : CircuitData) (k : FiniteController) (latches : List Bool) (memory : ℕ) (moments : List Moment) (to : List Bool) (last : ℕ) : Type 0 where
+  pub goes_on : GoesOn c latches moments to
+  pub answers : Answers k memory moments last
+
+-- the first moments of the meeting
+pub record IsMeeting (c : CircuitData) (k : FiniteController) (moments : List Moment) : Type 0 where
+  pub latches : List Bool
+  pub memory : ℕ
+  pub goes : GoesJointly c k (resets c) k.first moments latches memory
+
+-- as many moments of the meeting as are wanted, and no others
+pub record IsOneMeeting (c : CircuitData) (k : FiniteController) (count : ℕ) : Type 0 where
+  pub moments : List Moment
+  pub many : length moments ≡ count
+  pub meeting : IsMeeting c k moments
+  pub no_other : (others : List Moment) → length others ≡ count → IsMeeting c k others → moments ≡ others
+
+pub record MeetsInLasso (c : CircuitData) (k : FiniteController) : Type 0 where
+  pub stem : List Moment
+  pub lap : List Moment
+  pub some : 0 < length lap
+  pub latches : List Bool
+  pub memory : ℕ
+  pub goes_there : GoesJointly c k (resets c) k.first stem latches memory
+  pub comes_back : GoesJointly c k latches memory lap latches memory
+
+-- that this is a lasso trace
+abbrev pub lasso_of : (c : CircuitData) (k : FiniteController) (m : MeetsInLasso c k) → IsLassoTrace c m.stem m.lap
+lasso_of c k m = record { some = m.some; back = m.latches; goes_there = m.goes_there.goes_on; comes_back = m.comes_back.goes_on }
+
+pub record IsRejected (file : FileData) (c : CircuitData) (k : FiniteController) : Type 0 where
+  pub meeting : MeetsInLasso c k
+  pub stem_letters : List ℕ
+  pub lap_letters : List ℕ
+  pub stem_are : AreLetters file.names c meeting.stem stem_letters
+  pub lap_are : AreLetters file.names c meeting.lap lap_letters
+  pub rejected : ¬ IsAccepted file stem_letters lap_letters

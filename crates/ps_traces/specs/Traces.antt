@@ -1,0 +1,30 @@
+-- Traces of a circuit that come back to their latches, and the words that they make.
+--     IsLassoTrace c stem lap      a trace of the stem and then the lap: behind both the latches are those behind the stem
+--     IsLassoWord names c stem lap      the letters of such a trace
+--     AllAccepted file c, NoneAccepted file c      the automaton accepts each of these words, or none of them
+use Rattle.std.specs.Prelude.{ℕ, ◌<◌, Bool, List, length}
+use Rattle.ps_hoa.specs.Files.{FileData}
+use Rattle.ps_automaton.specs.Acceptance.{IsAccepted}
+use Rattle.ps_aiger.specs.Circuits.{CircuitData}
+use Rattle.ps_aiger.specs.Values.{Moment, GoesOn, resets}
+use Rattle.ps_simulate.specs.Lassos.{AreLetters}
+
+pub record IsLassoTrace (c : CircuitData) (stem lap : List Moment) : Type 0 where
+  pub some : 0 < length lap
+  pub back : List Bool
+  pub goes_there : GoesOn c (resets c) stem back
+  pub comes_back : GoesOn c back lap back
+
+-- a letter for each moment joins its inputs and outputs by name
+pub record IsLassoWord (names : List (List ℕ)) (c : CircuitData) (stem lap : List ℕ) : Type 0 where
+  pub stem_moments : List Moment
+  pub lap_moments : List Moment
+  pub trace : IsLassoTrace c stem_moments lap_moments
+  pub stem_letters : AreLetters names c stem_moments stem
+  pub lap_letters : AreLetters names c lap_moments lap
+
+abbrev pub AllAccepted : FileData → CircuitData → Type 0
+AllAccepted file c = (stem lap : List ℕ) → IsLassoWord file.names c stem lap → IsAccepted file stem lap
+
+abbrev pub NoneAccepted : FileData → CircuitData → Type 0
+NoneAccepted file c = (stem lap : List ℕ) → IsLassoWord file.names c stem lap → ¬ IsAccepted file stem lap

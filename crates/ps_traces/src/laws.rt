@@ -1,0 +1,87 @@
+//! Laws on traces that come back to their latches.
+
+ghost use Rattle.std.specs.Prelude.{◌≡◌, ◌≢◌, ℕ, List};
+ghost use Rattle.ps_hoa.specs.Files.{FileData};
+ghost use Rattle.ps_hoa.specs.Sound.{AreNames};
+ghost use Rattle.ps_automaton.specs.Automata.{AutomatonData, IsBuiltFrom};
+ghost use Rattle.ps_automaton.specs.Chains.{Chain};
+ghost use Rattle.ps_game.specs.Games.{ParityGame};
+ghost use Rattle.ps_certificate.specs.Certificates.{CertificateData, Fits, IsValid};
+ghost use Rattle.ps_aiger.specs.Circuits.{CircuitData, IsCircuit};
+ghost use Rattle.ps_aiger.specs.Encoded.{Encodes};
+ghost use Rattle.ps_aiger.specs.Values.{Moment, HasOneValues};
+ghost use Rattle.ps_machine.specs.Machines.{MachineData, IsMachine, IsLasso, LassosWon};
+ghost use Rattle.ps_machine.specs.Boards.{IsGameOf, board_of};
+ghost use Rattle.ps_machine.specs.Extracting.{HasPropositions, IsMachineOf, winner};
+ghost use Rattle.ps_machine.specs.Keys.{mover_of};
+ghost use Rattle.ps_machine.specs.declared.key.Key.{Key};
+ghost use Rattle.ps_machine.specs.declared.key.Order.{Order};
+ghost use Rattle.ps_simulate.specs.Symbols.{HasSymbols};
+ghost use Rattle.ps_simulate.specs.declared.role.Role.{Role};
+ghost use Rattle.ps_simulate.specs.declared.role.Role.TheVariants.{Environment};
+ghost use Rattle.ps_traces.specs.Answers.{IsAnswer, role_of};
+ghost use Rattle.ps_traces.specs.Traces.{IsLassoWord, AllAccepted, NoneAccepted};
+ghost use Rattle.ps_traces.specs.Shapes.{HasShape, IsInTime, IsMachineFor};
+ghost use Rattle.ps_traces.specs.Inputs.{EachInputGoesOn, HasLetters};
+ghost use Rattle.ps_traces.specs.Meetings.{FiniteController, IsController, IsOneMeeting, IsRejected, MeetsInLasso};
+
+use ps_machine::lassos_won;
+
+/// Of a circuit that has values, every input that repeats goes on in a lasso trace: for a stem and a lap, not empty, of letters of
+/// the circuit's width there are such numbers of laps, each at least 1, that a lasso trace reads the stem and the first ones, and
+/// then the others again and again.
+pub fn every_input_goes_on()
+    ensures { (c : CircuitData) → HasOneValues c → EachInputGoesOn c }
+{}
+
+/// Where the inputs and outputs of a circuit are the names of propositions, each once, each moment has one letter.
+pub fn every_trace_has_letters()
+    ensures { (role : Role) (file : FileData) (c : CircuitData) (moments : List Moment) → AreNames file.names → HasSymbols role file.names file.controllable c → HasLetters file.names c moments }
+{}
+
+/// The circuit of an environment and a finite-state controller have one joint trace of each length.
+pub fn meeting_is_one()
+    ensures { (order : Order) (c : CircuitData) (k : FiniteController) (count : ℕ) → IsCircuit c → HasOneValues c → IsInTime order Environment c → IsController order c k → IsOneMeeting c k count }
+{}
+
+/// It goes on in a lasso trace, at whose end the controller's memory has come back too.
+pub fn every_meeting_goes_on()
+    ensures { (order : Order) (c : CircuitData) (k : FiniteController) → HasOneValues c → IsInTime order Environment c → IsController order c k → MeetsInLasso c k }
+{}
+
+/// So where no lasso trace of the environment's circuit is accepted, the meeting is rejected.
+pub fn every_meeting_is_rejected()
+    ensures { (order : Order) (file : FileData) (c : CircuitData) (k : FiniteController) → AreNames file.names → HasOneValues c → HasShape order Environment file c → IsController order c k → NoneAccepted file c → IsRejected file c k }
+{}
+
+/// The words of a circuit's lasso traces are those of the machine that it encodes.
+pub fn circuit_has_machine_words()
+    ensures { (m : MachineData) (c : CircuitData) (stem lap : List ℕ) → IsMachine m → Encodes m c → IsLassoWord m.names c stem lap → IsLasso m stem lap }
+{}
+
+/// So they are accepted, all or none, as the machine's are.
+pub fn circuit_is_won()
+    ensures accepted { (file : FileData) (m : MachineData) (c : CircuitData) → IsMachine m → m.names ≡ file.names → Encodes m c → LassosWon file m → m.player ≡ 0 → AllAccepted file c }
+    ensures rejected { (file : FileData) (m : MachineData) (c : CircuitData) → IsMachine m → m.names ≡ file.names → Encodes m c → LassosWon file m → m.player ≢ 0 → NoneAccepted file c }
+{}
+
+/// And the circuit has the shape of the machine's player.
+pub fn circuit_has_shape()
+    ensures { (order : Order) (role : Role) (file : FileData) (m : MachineData) (c : CircuitData) → IsMachine m → IsMachineFor order role file m → Encodes m c → HasShape order role file c }
+{}
+
+/// All of this together: what the circuit of the winner's machine is worth.
+pub fn circuit_answers()
+    ensures { (order : Order) (file : FileData) (m : MachineData) (c : CircuitData) → HasOneValues c → IsMachine m → IsMachineFor order (role_of m.player) file m → Encodes m c → LassosWon file m → IsAnswer order file m.player c }
+{}
+
+/// So a valid certificate of an automaton's game makes a controller whose lasso traces the automaton all accepts, or an environment
+/// whose lasso traces it all rejects, as vertex 0 is the one's or the other's.
+pub fn certified_circuit_answers()
+    ensures { (file : FileData) (chain : Chain) (a : AutomatonData) (order : Order) (keys : List Key) (game : ParityGame) (certificate : CertificateData) (m : MachineData) (c : CircuitData) →
+        IsBuiltFrom file chain a → IsGameOf (board_of order a) (mover_of order) keys game → Fits game certificate → IsValid game certificate →
+        IsMachine m → HasPropositions a.names (board_of order a) m → IsMachineOf (board_of order a) (mover_of order) keys game certificate m →
+        HasOneValues c → Encodes m c → IsAnswer order file (winner certificate) c }
+{
+    lassos_won();
+}
