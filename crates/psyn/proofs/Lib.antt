@@ -2,6 +2,7 @@ mod SolverLemmas
 pub mod CircuitLemmas
 pub mod CommandLemmas
 pub mod KindLemmas
+pub mod LassoLemmas
 pub mod OneAnswer
 pub mod OneTrace
 pub mod OutcomeLemmas

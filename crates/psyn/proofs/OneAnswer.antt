@@ -1,7 +1,7 @@
 -- Two answers to one input are one.
-use Rattle.std.proofs.Common.{◌≡◌, ◌⊎◌, ◌∙◌, ◌+◌, ℕ, Bool, true, false, List, [], take, drop, length, Result, Ok, Err, refl, sym, ap, ap₂, subst, inl, inr, arith}
+use Rattle.std.proofs.Common.{◌≡◌, ◌≢◌, ◌⊎◌, ◌∙◌, ◌+◌, ◌<◌, ℕ, Bool, true, false, List, [], ◌∷◌, None, Some, take, drop, length, Result, Ok, Err, refl, sym, ap, ap₂, subst, inl, inr, arith}
 use Rattle.std.proofs.lemmas.Bool.{cases_order}
-use Rattle.std.specs.Prelude.{codes}
+use Rattle.std.specs.Prelude.{codes, Option}
 use Rattle.ps_text.specs.Answers.{Found}
 use Rattle.ps_game.specs.Games.{ParityGame, NamedGameData, IsGame}
 use Rattle.ps_pgsolver.specs.Reading.{Answer}
@@ -14,10 +14,24 @@ use Rattle.ps_certificate.specs.declared.fault.CertCause.{CertCause}
 use Rattle.ps_certificate.specs.declared.flaw.Flaw.{Flaw}
 use Rattle.ps_aiger.specs.CauseNames as circuit_names
 use Rattle.ps_aiger.specs.Causes as circuit
-use Rattle.ps_aiger.specs.Circuits.{CircuitData}
+use Rattle.ps_aiger.specs.Circuits.{CircuitData, IsCircuit}
+use Rattle.ps_aiger.specs.Values.{HasOneValues}
 use Rattle.ps_aiger.specs.Texts as circuit_text
 use Rattle.ps_aiger.specs.declared.fault.AigCause.{AigCause}
+use Rattle.ps_automaton.specs.Answers.{IsAdmitted, IsRefused}
+use Rattle.ps_automaton.specs.declared.fault.AutomatonFault.{AutomatonFault}
+use Rattle.ps_automaton.specs.declared.fault.AutomatonFault.TheVariants.{OutOfMemory as no_memory}
+use Rattle.ps_hoa.specs.CauseNames as hoa_names
+use Rattle.ps_hoa.specs.Causes as hoa
+use Rattle.ps_hoa.specs.Files.{FileData}
+use Rattle.ps_hoa.specs.Texts as hoa_text
+use Rattle.ps_hoa.specs.declared.fault.HoaCause.{HoaCause}
 use Rattle.ps_simulate.specs.Faults as stimulus
+use Rattle.ps_simulate.specs.Lassos.{HasOneVerdict}
+use Rattle.ps_simulate.specs.Stimuli.{StimulusData}
+use Rattle.ps_simulate.specs.Symbols.{HasSymbols}
+use Rattle.ps_simulate.specs.declared.lassos.Verdict.{Verdict}
+use Rattle.ps_simulate.specs.declared.role.Role.{Role}
 use Rattle.ps_simulate.specs.StimulusTexts as stimulus_text
 use Rattle.clap.specs.Simple.{built}
 use Rattle.clap.specs.Words.{Text, IsAmong, fault_of}
@@ -25,17 +39,19 @@ use Rattle.clap.specs.declared.error.kind.ErrorKind.{ErrorKind}
 use Rattle.clap.proofs.OnLiterals.{clap_on_literals}
 use Rattle.psyn.specs.declared.command_line.Line.{Line}
 use Rattle.psyn.specs.declared.command_line.Line.TheVariants as line
+use Rattle.psyn.specs.Automata.{Builds, ReadsAutomaton, automaton_line}
 use Rattle.psyn.specs.Checks.{Tests}
 use Rattle.psyn.specs.CommandLine.{table, words_of, Says, IsLine}
-use Rattle.psyn.specs.Cut.{Cuts, HasNoMark, first_line, behind_line}
-use Rattle.psyn.specs.Determined.{HasOneAnswer}
+use Rattle.psyn.specs.Cut.{AreTexts, Cuts, HasFewerMarks, HasNoMark, first_line, behind_line}
+use Rattle.psyn.specs.Determined.{HasOneAnswer, IsOpen, solves, plays, certifies}
 use Rattle.psyn.specs.Faults.{text_line}
+use Rattle.psyn.specs.Lassos.{AnswersLasso, TellsVerdict, verdict_text}
 use Rattle.psyn.specs.Outcomes.{Then, Reading, printed}
 use Rattle.psyn.specs.Program.{Answers, AnswersLine}
-use Rattle.psyn.specs.Replies.{Reply, text_reply}
+use Rattle.psyn.specs.Replies.{Reply, line_reply, text_reply}
 use Rattle.psyn.specs.Simulating.{AnswersSim}
 use Rattle.psyn.specs.Solving.{Sureness}
-use Rattle.psyn.specs.Texts.{CutsInTwo, ReadsCertified, ReadsSimulated, flaw_text}
+use Rattle.psyn.specs.Texts.{CutsInTwo, CutsInThree, ReadsCertified, ReadsSimulated, flaw_text}
 use Rattle.psyn.proofs.KindLemmas.{one_fault}
 use Rattle.psyn.proofs.OneTrace.{traces_agree}
 
@@ -120,6 +136,33 @@ cut_one texts (Err l) (Ok q) (inl none, e) (rest, a, last) = absurd (no_cut text
 cut_one texts (Err l) (Ok q) (inr (first, rest, cuts, none), e) h = absurd none
 cut_one texts (Err l) (Err m) h k = ap (err_of {V = List ℕ × List ℕ}) (h.1 ∙ sym k.1)
 
+firsts_one : (input first rest first' rest' : List ℕ) → Cuts input first rest → Cuts input first' rest' → first ≡ first'
+firsts_one input first rest first' rest' a b = a.before ∙ ap (λ (n : ℕ). take n input) (marks_one input first rest first' rest' a b) ∙ sym b.before
+
+rests_one : (input first rest first' rest' : List ℕ) → Cuts input first rest → Cuts input first' rest' → rest ≡ rest'
+rests_one input first rest first' rest' a b = a.behind ∙ ap (λ (n : ℕ). drop (n + 3) input) (marks_one input first rest first' rest' a b) ∙ sym b.behind
+
+-- two marks, and fewer
+two_marks : (texts first second third : List ℕ) → AreTexts texts (first ∷ second ∷ third ∷ []) → HasFewerMarks 2 texts → ⊥
+two_marks texts first second third (rest, a, (rest', b, last)) (inl none) = no_cut texts first rest none a
+two_marks texts first second third (rest, a, (rest', b, last)) (inr (other, behind, cuts, inl none)) =
+    let same : behind ≡ rest = rests_one texts other behind first rest cuts a in
+    no_cut rest second rest' (subst HasNoMark same none) b
+two_marks texts first second third (rest, a, (rest', b, last)) (inr (other, behind, cuts, inr more)) = absurd more.3
+
+cut_three_one : (texts : List ℕ) → IsOne (CutsInThree texts)
+cut_three_one texts (Ok p) (Ok q) (rest, a, (behind, b, last)) (rest', a', (behind', b', last')) =
+    let firsts : p.0 ≡ q.0 = firsts_one texts p.0 rest q.0 rest' a a' in
+    let rests : rest ≡ rest' = rests_one texts p.0 rest q.0 rest' a a' in
+    let c : Cuts rest q.1 behind' = subst (λ (input : List ℕ). Cuts input q.1 behind') (sym rests) b' in
+    let seconds : p.1 ≡ q.1 = firsts_one rest p.1 behind q.1 behind' b c in
+    let thirds : p.2 ≡ q.2 = last ∙ rests_one rest p.1 behind q.1 behind' b c ∙ sym last' in
+    ap₂ (λ (first second : List ℕ). ok_of {V = List ℕ × List ℕ × List ℕ} {E = List ℕ} (first, second, p.2)) firsts seconds
+    ∙ ap (λ (third : List ℕ). ok_of {V = List ℕ × List ℕ × List ℕ} {E = List ℕ} (q.0, q.1, third)) thirds
+cut_three_one texts (Ok p) (Err l) h (fewer, e) = absurd (two_marks texts p.0 p.1 p.2 h fewer)
+cut_three_one texts (Err l) (Ok q) (fewer, e) k = absurd (two_marks texts q.0 q.1 q.2 k fewer)
+cut_three_one texts (Err l) (Err m) h k = ap (err_of {V = List ℕ × List ℕ × List ℕ}) (h.1 ∙ sym k.1)
+
 -- ---- the laws of the readers
 
 abbrev pub OneGame : Type 0
@@ -138,7 +181,60 @@ OneCircuit = (text : List ℕ) (a b : Result CircuitData (Found AigCause)) → c
 abbrev pub OneStimulus : Type 0
 OneStimulus = (text : List ℕ) (width : ℕ) (split : Bool) → stimulus_text.HasOneAnswer text width split
 
-module _ (games : OneGame) (certificates : OneCertificate) (flaws : OneFlaw) (circuits : OneCircuit) (stimuli : OneStimulus) where
+abbrev pub OneFile : Type 0
+OneFile = (text : List ℕ) (a b : Result FileData (Found HoaCause)) → hoa_text.Reads text a → hoa_text.Reads text b → a ≡ b
+
+abbrev pub OneRefusal : Type 0
+OneRefusal = (file : FileData) (fault other : AutomatonFault) → fault ≢ no_memory → other ≢ no_memory → IsRefused file fault → IsRefused file other → fault ≡ other
+
+abbrev pub OneOutcome : Type 0
+OneOutcome = (file : FileData) (fault : AutomatonFault) → fault ≢ no_memory → IsAdmitted file → ¬ IsRefused file fault
+
+abbrev pub OneVerdict : Type 0
+OneVerdict = (role : Role) (file : FileData) (c : CircuitData) (stem lap : List (List Bool)) → IsCircuit c → HasOneValues c → HasSymbols role file.names file.controllable c
+    → HasOneVerdict file c stem lap
+
+-- ---- automata
+
+abbrev some_or : {V : Type 0} → V → Option V → V
+some_or other None = other
+some_or other (Some v) = v
+
+-- want of memory has no line
+is_told : (fault : AutomatonFault) (line : List ℕ) → automaton_line fault ≡ Some line → fault ≢ no_memory
+is_told fault line told none = let bad : None ≡ Some line = ap automaton_line (sym none) ∙ told in cc
+
+builds_one : OneRefusal → OneOutcome → (file : FileData) → IsOne (Builds file)
+builds_one refusals outcomes file (Ok a) (Ok b) h k = ap (ok_of {V = FileData} {E = List ℕ}) (h.1 ∙ sym k.1)
+builds_one refusals outcomes file (Ok a) (Err m) h (fault, bad, told) = absurd (outcomes file fault (is_told fault m told) h.0 bad)
+builds_one refusals outcomes file (Err l) (Ok b) (fault, bad, told) k = absurd (outcomes file fault (is_told fault l told) k.0 bad)
+builds_one refusals outcomes file (Err l) (Err m) (fault, bad, told) (fault', bad', told') =
+    let same : Some l ≡ Some m = sym told ∙ ap automaton_line (refusals file fault fault' (is_told fault l told) (is_told fault' m told') bad bad') ∙ told' in
+    ap (err_of {V = FileData}) (ap (some_or l) same)
+
+automaton_one : OneFile → OneRefusal → OneOutcome → (text : List ℕ) → IsOne (ReadsAutomaton text)
+automaton_one files refusals outcomes text =
+    then_one _ _ (reading_one hoa.cause_number hoa_names.cause_name (hoa_text.Reads text) (files text)) (builds_one refusals outcomes)
+
+-- ---- lassos
+
+no_empty_lap : (lap : List (List Bool)) → lap ≡ [] → 0 < length lap → ⊥
+no_empty_lap lap none some = omega (arith, some, ap length none)
+
+tells_one : OneVerdict → (role : Role) (file : FileData) (c : CircuitData) (s : StimulusData) → IsOne (TellsVerdict role file c s)
+tells_one verdicts role file c s (Ok r) (Ok t) h k =
+    let same = verdicts role file c s.stem s.lap h.0 h.1 h.3 h.4.0 k.4.0 h.4.1 k.4.1 in
+    ap (ok_of {V = Reply} {E = List ℕ}) (h.4.2 ∙ ap (λ (v : Verdict). line_reply (verdict_text v)) same ∙ sym k.4.2)
+tells_one verdicts role file c s (Ok r) (Err m) h (inl empty) = absurd (no_empty_lap s.lap empty.0 h.2)
+tells_one verdicts role file c s (Ok r) (Err m) h (inr other) = absurd (other.1 h.3)
+tells_one verdicts role file c s (Err l) (Ok t) (inl empty) k = absurd (no_empty_lap s.lap empty.0 k.2)
+tells_one verdicts role file c s (Err l) (Ok t) (inr other) k = absurd (other.1 k.3)
+tells_one verdicts role file c s (Err l) (Err m) (inl empty) (inl empty') = ap (err_of {V = Reply}) (empty.1 ∙ sym empty'.1)
+tells_one verdicts role file c s (Err l) (Err m) (inl empty) (inr other') = absurd (no_empty_lap s.lap empty.0 other'.0)
+tells_one verdicts role file c s (Err l) (Err m) (inr other) (inl empty') = absurd (no_empty_lap s.lap empty'.0 other.0)
+tells_one verdicts role file c s (Err l) (Err m) (inr other) (inr other') = ap (err_of {V = Reply}) (other.2 ∙ sym other'.2)
+
+module _ (games : OneGame) (certificates : OneCertificate) (flaws : OneFlaw) (circuits : OneCircuit) (stimuli : OneStimulus) (files : OneFile) (refusals : OneRefusal) (outcomes : OneOutcome) (verdicts : OneVerdict) where
   certified_one : (texts : List ℕ) → IsOne (ReadsCertified texts)
   certified_one texts = then_one _ _ (cut_one texts) (λ parts. then_one _ _ (reading_one game.cause_number game.cause_name (Answer parts.0) (games parts.0))
       (λ named. then_one _ _ (reading_one certificate.cause_number certificate.cause_name (certificate_text.Reads named parts.1) (certificates named parts.1))
@@ -160,14 +256,23 @@ module _ (games : OneGame) (certificates : OneCertificate) (flaws : OneFlaw) (ci
   sim_one texts = then_one _ _ (simulated_one texts) (λ both x y h k.
       h.2.2 ∙ ap (λ (text : List ℕ). ok_of {V = Reply} {E = List ℕ} (text_reply text)) (traces_agree both.0 h.0 h.1 both.1.stem h.2.0 k.2.0 h.2.1 k.2.1) ∙ sym k.2.2)
 
-  -- each line but that of a solver
-  line_one : (sure : Sureness) (l : Line) (texts : List ℕ) → IsOne (AnswersLine sure l texts) ⊎ (l ≡ line.Solve)
+  lasso_one : (role : Role) (texts : List ℕ) → IsOne (AnswersLasso role texts)
+  lasso_one role texts = then_one _ _ (cut_three_one texts) (λ parts. then_one _ _ (automaton_one files refusals outcomes parts.0)
+      (λ file. then_one _ _ (reading_one circuit.cause_number circuit_names.cause_name (circuit_text.Reads parts.1) (circuits parts.1))
+      (λ c. then_one _ _ (reading_one stimulus.cause_number stimulus.cause_name (stimulus_text.Reads parts.2 (length c.inputs) true) (stimuli parts.2 (length c.inputs) true))
+      (tells_one verdicts role file c))))
+
+  -- each line that is not open
+  line_one : (sure : Sureness) (l : Line) (texts : List ℕ) → IsOne (AnswersLine sure l texts) ⊎ IsOpen l
   line_one sure line.Refused texts = inl (ended_one _)
   line_one sure line.Help texts = inl (ended_one _)
   line_one sure line.Closed texts = inl (then_one _ _ (certified_one texts) (λ both. tests_one IsClosed (codes "closed") both.0 both.1))
   line_one sure line.Check texts = inl (then_one _ _ (certified_one texts) (λ both. tests_one IsValid (codes "valid") both.0 both.1))
   line_one sure line.Sim texts = inl (sim_one texts)
-  line_one sure line.Solve texts = inr refl
+  line_one sure (line.Lasso role) texts = inl (lasso_one role texts)
+  line_one sure (line.Solve compact) texts = inr (solves compact)
+  line_one sure (line.Game order) texts = inr (plays order)
+  line_one sure (line.Cert order compact) texts = inr (certifies order compact)
 
   -- ---- the line
 
@@ -192,15 +297,15 @@ module _ (games : OneGame) (certificates : OneCertificate) (flaws : OneFlaw) (ci
   is_line_one first a b (inr (not, h)) (inl (utf8, k)) = absurd (not utf8)
   is_line_one first a b (inr (not, h)) (inr (not', k)) = h ∙ sym k
 
-  answers_one : (sure : Sureness) (input : List ℕ) (a b : Reply) → Answers sure input a → Answers sure input b → (a ≡ b) ⊎ IsLine (first_line input) line.Solve
+  answers_one : (sure : Sureness) (input : List ℕ) (a b : Reply) → Answers sure input a → Answers sure input b → (a ≡ b) ⊎ ((l : Line) × IsLine (first_line input) l × IsOpen l)
   answers_one sure input a b (l, is_line, (outcome, answers, e)) (l', is_line', (outcome', answers', e')) = by (line_one sure l (behind_line input))
     where
       same : l ≡ l'
       same = is_line_one (first_line input) l l' is_line is_line'
 
-      by : IsOne (AnswersLine sure l (behind_line input)) ⊎ (l ≡ line.Solve) → (a ≡ b) ⊎ IsLine (first_line input) line.Solve
+      by : IsOne (AnswersLine sure l (behind_line input)) ⊎ IsOpen l → (a ≡ b) ⊎ ((k : Line) × IsLine (first_line input) k × IsOpen k)
       by (inl one) = inl (e ∙ ap printed (one outcome outcome' answers (subst (λ (k : Line). AnswersLine sure k (behind_line input) outcome') (sym same) answers')) ∙ sym e')
-      by (inr solves) = inr (subst (λ (k : Line). IsLine (first_line input) k) solves is_line)
+      by (inr unsettled) = inr (l, is_line, unsettled)
 
   pub whole_one : HasOneAnswer
   whole_one sure input a b (inl (long, e)) (inl (long', e')) = inl (e ∙ sym e')

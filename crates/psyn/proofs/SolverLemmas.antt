@@ -1,5 +1,5 @@
 -- What a solver that is sure does not answer.
-use Rattle.std.proofs.Common.{◌≡◌, ◌≢◌, ◌∙◌, ◌<◌, ℕ, All, Vec, Bool, true, false, Result, Ok, Err, ap, sym, refl, subst}
+use Rattle.std.proofs.Common.{◌≡◌, ◌≢◌, ◌∙◌, ◌<◌, ℕ, All, length, Vec, Bool, true, false, Result, Ok, Err, ap, sym, refl, subst}
 use Rattle.std.specs.Global.{Global}
 use Rattle.ps_game.specs.Games.{NamedGameData, vertex_count}
 use Rattle.ps_certificate.specs.Certificates.{CertificateData}
@@ -29,7 +29,7 @@ unsure_fault named sure answer fault surely is other = unsure sure (λ t. no_fau
 pub unsure_certificate : (named : NamedGameData) (sure : Bool) (answer : Result CertificateData SolveFault) (c : CertificateData) → (sure ≡ true → AnswersSurely named answer) → answer ≡ Ok c → (IsCertified named c → ⊥) → sure ≡ false
 unsure_certificate named sure answer c surely is bad = unsure sure (λ t. bad (subst (λ (r : Result CertificateData SolveFault). AnswersSurely named r) is (surely t)))
 
-pub names_vertices : (named : NamedGameData) (fault : SolveFault) (cycle : Vec ℕ Global) → fault ≡ BadCycle cycle → NamesVertices named (Err fault) → All (λ v. v < vertex_count named.game) cycle.items
+pub names_vertices : (named : NamedGameData) (fault : SolveFault) (cycle : Vec ℕ Global) → fault ≡ BadCycle cycle → NamesVertices named (Err fault) → (0 < length cycle.items) × All (λ v. v < vertex_count named.game) cycle.items
 names_vertices named fault cycle is names = subst (λ (f : SolveFault). NamesVertices named (Err f)) is names
 
 is_memory : SolveFault → Bool

@@ -1,13 +1,19 @@
 -- What the input's first line asks for.
-use Rattle.std.specs.Prelude.{◌≡◌, ◌⊎◌, ◌==◌, ℕ, true, List, [], length, Option, None, Some, codes, filter, not, IsUtf8, if◌then◌else◌, ◌∷◌, ◌++◌, map, flat_map}
+use Rattle.std.specs.Prelude.{◌≡◌, ◌⊎◌, ◌==◌, ℕ, Bool, true, false, List, [], length, Option, None, Some, codes, filter, not, IsUtf8, if◌then◌else◌, ◌∷◌, ◌++◌, map, flat_map}
 use Rattle.std.specs.List.{slice_split, AllByRecursion}
+use Rattle.std.specs.Option.{option_map_or}
 use Rattle.std.specs.Str.{bytes_eq}
-use Rattle.clap.specs.Words.{App, Row, Shape, Text, new_app, with_subcommand, subcommand_of, fault_of, IsAmong}
+use Rattle.clap.specs.Words.{App, Row, Rule, Shape, Text, first_of, new_app, new_rule, with_subcommand, subcommand_of, fault_of, IsAmong}
 use Rattle.clap.specs.Simple.{new_shape, on_top}
+use Rattle.clap.specs.declared.builder.action.ArgAction.TheVariants.{SetTrue}
 use Rattle.clap.specs.declared.error.kind.ErrorKind.{ErrorKind}
 use Rattle.clap.specs.declared.error.kind.ErrorKind.TheVariants.{DisplayHelp}
+use Rattle.ps_machine.specs.declared.key.Order.{Order}
+use Rattle.ps_machine.specs.declared.key.Order.TheVariants.{Mealy, Moore}
+use Rattle.ps_simulate.specs.declared.role.Role.{Role}
+use Rattle.ps_simulate.specs.declared.role.Role.TheVariants.{Controller, Environment}
 use Rattle.psyn.specs.declared.command_line.Line.{Line}
-use Rattle.psyn.specs.declared.command_line.Line.TheVariants.{Refused, Help, Closed, Check, Sim, Solve}
+use Rattle.psyn.specs.declared.command_line.Line.TheVariants.{Refused, Help, Closed, Check, Sim, Lasso, Solve, Game, Cert}
 
 -- what stands between runs of spaces
 abbrev pub words_of : List ℕ → List Text
@@ -15,32 +21,57 @@ words_of line = filter (λ word. not (length word == 0)) (slice_split (λ byte. 
 
 -- ---- the commands, each with its flags
 
+-- a flag by its name, behind `--`
+abbrev pub flag : Text → Rule
+flag name = record (new_rule name) { long = Some name; action = Some SetTrue }
+
 -- a command with no flags
 abbrev pub command : Text → Shape
 command name = new_shape name
+
+-- a command with flags
+abbrev pub command_with : Text → List Text → Shape
+command_with name flags = record (new_shape name) { rules = map flag flags }
 
 -- the words of a line are a command and its flags, and no name of a program stands before them
 abbrev pub program : App
 program = on_top (λ top. record top { no_binary_name = true; disable_help_subcommand = true }) (new_app (codes "psyn"))
 
 unfoldable pub table : App
-table = with_subcommand (with_subcommand (with_subcommand (with_subcommand (with_subcommand program
-    (command (codes "help"))) (command (codes "closed"))) (command (codes "check"))) (command (codes "sim"))) (command (codes "solve"))
+table = with_subcommand (with_subcommand (with_subcommand (with_subcommand (with_subcommand (with_subcommand (with_subcommand (with_subcommand program
+    (command (codes "help"))) (command (codes "closed"))) (command (codes "check"))) (command (codes "sim")))
+    (command_with (codes "lasso") (codes "env" ∷ []))) (command_with (codes "solve") (codes "compact" ∷ [])))
+    (command_with (codes "game") (codes "moore" ∷ []))) (command_with (codes "cert") (codes "moore" ∷ codes "compact" ∷ []))
 
 -- ---- what the words say
 
+-- the flag is given
+abbrev pub is_given : Text → List Row → Bool
+is_given name rows = option_map_or (λ text. bytes_eq text (codes "true")) (first_of name rows) false
+
+-- the part that a lasso's circuit plays
+abbrev pub role_said : List Row → Role
+role_said rows = if is_given (codes "env") rows then Environment else Controller
+
+-- who moves first
+abbrev pub order_said : List Row → Order
+order_said rows = if is_given (codes "moore") rows then Moore else Mealy
+
 -- the line of a command
-abbrev pub line_named : Text → Line
-line_named name = if bytes_eq name (codes "help") then Help
+abbrev pub line_named : Text → List Row → Line
+line_named name rows = if bytes_eq name (codes "help") then Help
     else if bytes_eq name (codes "closed") then Closed
     else if bytes_eq name (codes "check") then Check
     else if bytes_eq name (codes "sim") then Sim
-    else if bytes_eq name (codes "solve") then Solve
+    else if bytes_eq name (codes "lasso") then Lasso (role_said rows)
+    else if bytes_eq name (codes "solve") then Solve (is_given (codes "compact") rows)
+    else if bytes_eq name (codes "game") then Game (order_said rows)
+    else if bytes_eq name (codes "cert") then Cert (order_said rows) (is_given (codes "compact") rows)
     else Refused
 
 -- the line of the command that the words name, if they name one
 abbrev pub line_said : Option (Text × List Row) → Line
-line_said (Some command) = line_named command.0
+line_said (Some command) = line_named command.0 command.1
 line_said None = Refused
 
 -- the answer to words that are no line of the table: `--help` and `-h` ask for help
@@ -66,12 +97,39 @@ pub record Usage : Type 0 where
   pub flags : List Text
   pub line : List Text → Line
 
+-- the line of a lasso with these flags
+abbrev pub lasso_line : List Text → Line
+lasso_line [] = Lasso Controller
+lasso_line (flag ∷ flags) = Lasso Environment
+
+-- the line of `solve` with these flags
+abbrev pub solve_line : List Text → Line
+solve_line [] = Solve false
+solve_line (flag ∷ flags) = Solve true
+
+-- the line of `game` with these flags
+abbrev pub game_line : List Text → Line
+game_line [] = Game Mealy
+game_line (flag ∷ flags) = Game Moore
+
+-- the flag is among these
+abbrev pub has_flag : Text → List Text → Bool
+has_flag name [] = false
+has_flag name (flag ∷ flags) = if bytes_eq name flag then true else has_flag name flags
+
+-- the line of `cert` with these flags
+abbrev pub cert_line : List Text → Line
+cert_line flags = Cert (if has_flag (codes "moore") flags then Moore else Mealy) (has_flag (codes "compact") flags)
+
 abbrev pub usages : List Usage
 usages = record { name = codes "help"; flags = []; line = λ _. Help }
     ∷ record { name = codes "closed"; flags = []; line = λ _. Closed }
     ∷ record { name = codes "check"; flags = []; line = λ _. Check }
     ∷ record { name = codes "sim"; flags = []; line = λ _. Sim }
-    ∷ record { name = codes "solve"; flags = []; line = λ _. Solve } ∷ []
+    ∷ record { name = codes "lasso"; flags = codes "env" ∷ []; line = lasso_line }
+    ∷ record { name = codes "solve"; flags = codes "compact" ∷ []; line = solve_line }
+    ∷ record { name = codes "game"; flags = codes "moore" ∷ []; line = game_line }
+    ∷ record { name = codes "cert"; flags = codes "moore" ∷ codes "compact" ∷ []; line = cert_line } ∷ []
 
 -- a word put at each place of a list
 abbrev pub insertions : Text → List Text → List (List Text)

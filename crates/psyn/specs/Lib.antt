@@ -1,9 +1,12 @@
+pub mod Automata
 pub mod Checks
 pub mod CommandLine
 pub mod Cut
 pub mod Determined
 pub mod Faults
+pub mod Games
 pub mod Input
+pub mod Lassos
 pub mod Outcomes
 pub mod Program
 pub mod Refusals

@@ -2,11 +2,13 @@
 use Rattle.std.specs.Prelude.{◌≡◌, ◌≤◌, ◌<◌, ◌⊎◌, ℕ, Bool, true, false, List, length, Option, Result, Ok}
 use Rattle.std.specs.Io.KnownBytes.{Appends}
 use Rattle.psyn.specs.declared.command_line.Line.{Line}
-use Rattle.psyn.specs.declared.command_line.Line.TheVariants.{Refused, Help, Closed, Check, Sim, Solve}
+use Rattle.psyn.specs.declared.command_line.Line.TheVariants.{Refused, Help, Closed, Check, Sim, Lasso, Solve, Game, Cert}
 use Rattle.psyn.specs.CommandLine.{IsLine}
 use Rattle.psyn.specs.Checks.{AnswersClosed, AnswersCheck}
 use Rattle.psyn.specs.Cut.{first_line, behind_line}
+use Rattle.psyn.specs.Games.{AnswersGameText, AnswersCert}
 use Rattle.psyn.specs.Input.{AgreesWith, input_limit}
+use Rattle.psyn.specs.Lassos.{AnswersLasso}
 use Rattle.psyn.specs.Outcomes.{printed}
 use Rattle.psyn.specs.Replies.{Reply, usage, help, read_fault, out_of_memory}
 use Rattle.psyn.specs.Simulating.{AnswersSim}
@@ -20,7 +22,10 @@ AnswersLine sure Help texts outcome = outcome ≡ Ok help
 AnswersLine sure Closed texts outcome = AnswersClosed texts outcome
 AnswersLine sure Check texts outcome = AnswersCheck texts outcome
 AnswersLine sure Sim texts outcome = AnswersSim texts outcome
-AnswersLine sure Solve texts outcome = AnswersSolve sure.built_in texts outcome
+AnswersLine sure (Lasso role) texts outcome = AnswersLasso role texts outcome
+AnswersLine sure (Solve compact) texts outcome = AnswersSolve sure.built_in compact texts outcome
+AnswersLine sure (Game order) texts outcome = AnswersGameText order texts outcome
+AnswersLine sure (Cert order compact) texts outcome = AnswersCert sure.built_in order compact texts outcome
 
 -- the answer to an input
 abbrev pub Answers : Sureness → List ℕ → Reply → Type 0

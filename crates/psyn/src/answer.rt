@@ -35,7 +35,15 @@ check    a game, a certificate: `valid` where, besides, the counts show that
          the winner wins each loop, else the first flaw
 sim      a circuit, a stimulus: a line for each letter, with the latches before
          it, the inputs and the outputs
-solve    a game: a certificate that says who wins each vertex, by which moves
+lasso    an automaton, a circuit, a stimulus with a line - between a stem and
+         a lap: whether the automaton accepts what the circuit does on the stem
+         and then on the lap again and again; the circuit is a controller, or
+         with the flag --env an environment
+solve    a game: a certificate that says who wins each vertex, by which moves;
+         --compact: only the counts that are not 0, each as priority:count
+game     an automaton: the game in which its inputs move before its outputs, or
+         with the flag --moore after them
+cert     an automaton: a certificate of that game; --moore, --compact
 help     this text
 
 A game has an entry for each vertex: its id, its priority, its owner (0 or 1),
@@ -65,6 +73,24 @@ aag 3 2 0 1 1
 %%
 11
 01
+
+An automaton is deterministic, has the form of HOA version 1, and a header
+controllable-AP: that says which propositions are the controller's. The symbols
+of the circuit's inputs and outputs are the names of its propositions:
+
+lasso
+HOA: v1 Start: 0 AP: 2 \"r\" \"g\" controllable-AP: 1 Acceptance: 1 Inf(0)
+--BODY-- State: 0 [0 & 1 | !0 & !1] 0 {0} [0 & !1 | !0 & 1] 0 --END--
+%%
+aag 1 1 0 1 0
+2
+2
+i0 r
+o0 g
+%%
+0
+-
+1
 
 A fault is one line in place of the answer: `fault`, its number and its name,
 and where it stands. The exit status is 0 for an answer, 1 for a fault, or for

@@ -1,11 +1,15 @@
 //! The command line: the input's first line.
 
-ghost use Rattle.std.specs.Prelude.{◌≡◌, List, IfOk, map};
-ghost use Rattle.clap.specs.Words.{app_of, subcommand_rows_of};
+ghost use Rattle.std.specs.Prelude.{◌≡◌, false, List, IfOk, map};
+ghost use Rattle.clap.specs.Matches.{found_of};
+ghost use Rattle.clap.specs.Words.{app_of, rows_of, rule_of, subcommand_rows_of};
+ghost use Rattle.psyn.specs.CommandLine as words;
 ghost use Rattle.psyn.specs.CommandLine.{table, words_of, line_said, Says, IsLine, LinesAreRead, AskForHelp};
 
 use clap::error::ErrorKind;
-use clap::{ArgMatches, Command};
+use clap::{Arg, ArgAction, ArgMatches, Command};
+use ps_machine::Order;
+use ps_simulate::Role;
 use std::alloc::{AllocError, Global};
 
 /// What the first line asks for.
@@ -21,8 +25,22 @@ pub enum Line {
     Check,
     /// What a circuit does, letter by letter.
     Sim,
+    /// Whether an automaton accepts what a circuit of that role does on a stem and a lap.
+    Lasso(Role),
     /// A certificate of a game.
-    Solve,
+    Solve {
+        /// As a compact text.
+        compact: bool,
+    },
+    /// The game of an automaton, in that order of moves.
+    Game(Order),
+    /// A certificate of that game.
+    Cert {
+        /// Who moves first.
+        order: Order,
+        /// As a compact text.
+        compact: bool,
+    },
 }
 
 /// Reads the first line.
@@ -65,6 +83,14 @@ fn read_words(alloc: Global, words: &[&str]) -> Result<Line, AllocError>
     }
 }
 
+/// A flag by its name, behind `--`.
+fn flag<'a>(alloc: Global, name: &'a str) -> Arg<'a>
+    ensures rule { rule_of result ≡ words.flag name.now }
+    ensures local { result.global ≡ false }
+{
+    Arg::new(alloc, name).long(name).action(ArgAction::SetTrue)
+}
+
 /// The commands, each with its flags.
 fn commands<'a>(alloc: Global) -> Result<Command<'a>, AllocError>
     ensures { IfOk result (λ command. app_of command ≡ table) }
@@ -73,7 +99,15 @@ fn commands<'a>(alloc: Global) -> Result<Command<'a>, AllocError>
     let closed = Command::new(alloc, "closed");
     let check = Command::new(alloc, "check");
     let sim = Command::new(alloc, "sim");
+    let lasso = Command::new(alloc, "lasso");
+    let lasso = lasso.arg(flag(alloc, "env"))?;
     let solve = Command::new(alloc, "solve");
+    let solve = solve.arg(flag(alloc, "compact"))?;
+    let game = Command::new(alloc, "game");
+    let game = game.arg(flag(alloc, "moore"))?;
+    let cert = Command::new(alloc, "cert");
+    let cert = cert.arg(flag(alloc, "moore"))?;
+    let cert = cert.arg(flag(alloc, "compact"))?;
     let psyn = Command::new(alloc, "psyn")
         .no_binary_name(true)
         .disable_help_subcommand(true);
@@ -81,19 +115,72 @@ fn commands<'a>(alloc: Global) -> Result<Command<'a>, AllocError>
     let psyn = psyn.subcommand(closed)?;
     let psyn = psyn.subcommand(check)?;
     let psyn = psyn.subcommand(sim)?;
-    psyn.subcommand(solve)
+    let psyn = psyn.subcommand(lasso)?;
+    let psyn = psyn.subcommand(solve)?;
+    let psyn = psyn.subcommand(game)?;
+    psyn.subcommand(cert)
 }
 
 /// The line that was read.
 fn line_of(matches: &ArgMatches) -> Line
     ensures { result ≡ line_said (subcommand_rows_of matches.now) }
 {
-    match matches.subcommand_name() {
-        Some("help") => Line::Help,
-        Some("closed") => Line::Closed,
-        Some("check") => Line::Check,
-        Some("sim") => Line::Sim,
-        Some("solve") => Line::Solve,
+    match matches.subcommand() {
+        Some((name, flags)) => line_named(name, flags),
+        None => Line::Refused,
+    }
+}
+
+/// The line of a command with its flags.
+fn line_named(name: &str, flags: &ArgMatches) -> Line
+    ensures { result ≡ words.line_named name.now (rows_of (found_of flags.now)) }
+{
+    match name {
+        "help" => Line::Help,
+        "closed" => Line::Closed,
+        "check" => Line::Check,
+        "sim" => Line::Sim,
+        "lasso" => Line::Lasso(role_said(flags)),
+        "solve" => Line::Solve {
+            compact: is_given(flags, "compact"),
+        },
+        "game" => Line::Game(order_said(flags)),
+        "cert" => Line::Cert {
+            order: order_said(flags),
+            compact: is_given(flags, "compact"),
+        },
         _ => Line::Refused,
+    }
+}
+
+/// The part that a lasso's circuit plays.
+fn role_said(flags: &ArgMatches) -> Role
+    ensures { result ≡ words.role_said (rows_of (found_of flags.now)) }
+{
+    if is_given(flags, "env") {
+        Role::Environment
+    } else {
+        Role::Controller
+    }
+}
+
+/// Who moves first.
+fn order_said(flags: &ArgMatches) -> Order
+    ensures { result ≡ words.order_said (rows_of (found_of flags.now)) }
+{
+    if is_given(flags, "moore") {
+        Order::Moore
+    } else {
+        Order::Mealy
+    }
+}
+
+/// Whether the flag is given.
+fn is_given(flags: &ArgMatches, name: &str) -> bool
+    ensures { result ≡ words.is_given name.now (rows_of (found_of flags.now)) }
+{
+    match flags.get_str(name) {
+        Some(text) => text == "true",
+        None => false,
     }
 }

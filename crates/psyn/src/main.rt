@@ -2,11 +2,18 @@
 #![tactic(auto)]
 
 pub mod answer;
+pub mod automata;
 pub mod checks;
 pub mod command_line;
 pub mod cut;
 pub mod fault;
 pub mod fault_text;
+#[cfg(test)]
+mod game_tests;
+pub mod games;
+#[cfg(test)]
+mod lasso_tests;
+pub mod lassos;
 pub mod laws;
 pub mod memory;
 pub mod program;

@@ -9,6 +9,8 @@ use crate::answer::{Answer, Refusal, settle};
 use crate::checks::{check, closed};
 use crate::command_line::{Line, read_line};
 use crate::cut::first_line;
+use crate::games::{cert, game};
+use crate::lassos::lasso;
 use crate::simulating::sim;
 use crate::solving::solve;
 use ps_machine::Solver;
@@ -45,6 +47,9 @@ fn answer_line(
         Line::Closed => closed(alloc, texts),
         Line::Check => check(alloc, texts),
         Line::Sim => sim(alloc, texts),
-        Line::Solve => solve(alloc, texts, built_in),
+        Line::Lasso(role) => lasso(alloc, role, texts),
+        Line::Solve { compact } => solve(alloc, texts, built_in, compact),
+        Line::Game(order) => game(alloc, order, texts),
+        Line::Cert { order, compact } => cert(alloc, order, texts, built_in, compact),
     }
 }

@@ -3,32 +3,68 @@
 ghost use Rattle.std.specs.Prelude.{◌≡◌, ◌<◌, true, Err, IfOk, map};
 ghost use Rattle.std.specs.List.{All};
 ghost use Rattle.ps_game.specs.Games.{vertex_count};
+ghost use Rattle.ps_certificate.specs.Certificates.{Fits};
+ghost use Rattle.ps_certificate.specs.Written.{text_in};
 ghost use Rattle.ps_machine.specs.Solving.{AnswersSurely, NamesVertices};
 ghost use Rattle.psyn.specs.Outcomes.{Gives};
 ghost use Rattle.psyn.specs.Replies.{reply_of};
-ghost use Rattle.psyn.specs.Solving.{AnswersSolve, Certifies, IsRefused};
+ghost use Rattle.psyn.specs.Solving.{AnswersGame, AnswersSolve, Certifies, IsRefused};
 ghost use Rattle.psyn.specs.Texts.{id_of};
 
 use crate::answer::{Answer, Refusal};
 use crate::fault::{FaultLine, PlainFault};
 use crate::texts::read_game;
-use ps_certificate::{Certificate, check, fits, write};
+use ps_certificate::{Certificate, check, fits, write, write_compact};
 use ps_game::NamedGame;
 use ps_machine::{SolveFault, Solver};
 use ps_text::faults::Cause;
 use std::alloc::{AllocError, Global};
 
-/// A certificate of a game: who wins each vertex, by which moves.
-pub fn solve(alloc: Global, text: &[u8], solver: &mut Box<dyn Solver>) -> Result<Answer, Refusal>
-    ensures { Gives reply_of (AnswersSolve (is_sure solver.old) text.now) result }
+/// A certificate of the game of a text: who wins each vertex, by which moves.
+pub fn solve(
+    alloc: Global,
+    text: &[u8],
+    solver: &mut Box<dyn Solver>,
+    compact: bool,
+) -> Result<Answer, Refusal>
+    ensures { Gives reply_of (AnswersSolve (is_sure solver.old) compact text.now) result }
 {
     let game = read_game(alloc, text)?;
-    let certificate = certify(alloc, &game, solver)?;
-    Ok(Answer::text(write(alloc, &certificate, &game)?))
+    certify(alloc, &game, solver, compact)
+}
+
+/// The text of a certificate of a game.
+pub fn certify(
+    alloc: Global,
+    game: &NamedGame,
+    solver: &mut Box<dyn Solver>,
+    compact: bool,
+) -> Result<Answer, Refusal>
+    ensures { Gives reply_of (AnswersGame (is_sure solver.old) compact game.now) result }
+{
+    let certificate = certified(alloc, game, solver)?;
+    Ok(Answer::text(written(alloc, &certificate, game, compact)?))
+}
+
+/// A certificate as one of its two texts.
+fn written(
+    alloc: Global,
+    certificate: &Certificate,
+    game: &NamedGame,
+    compact: bool,
+) -> Result<Vec<u8>, AllocError>
+    requires { Fits game.now.game certificate.now }
+    ensures { IfOk result (λ text. text.items ≡ text_in compact game.now certificate.now) }
+{
+    if compact {
+        write_compact(alloc, certificate, game)
+    } else {
+        write(alloc, certificate, game)
+    }
 }
 
 /// What a solver gives for a game, where it fits and is valid.
-fn certify(
+fn certified(
     alloc: Global,
     game: &NamedGame,
     solver: &mut Box<dyn Solver>,

@@ -1,6 +1,7 @@
 //! The program over memory: worked rows, and readers and writers that fail.
 
-mod rows;
+pub mod rows;
+mod solvers;
 mod streams;
 
 use crate::memory::run_in_memory;

@@ -72,7 +72,7 @@ pub fn read_certified(alloc: Global, texts: &[u8]) -> Result<(NamedGame, Certifi
 }
 
 /// A circuit.
-fn read_circuit(alloc: Global, text: &[u8]) -> Result<Circuit, Refusal>
+pub fn read_circuit(alloc: Global, text: &[u8]) -> Result<Circuit, Refusal>
     ensures { Gives (λ circuit. circuit) (ReadsCircuitText text.now) result }
 {
     match ps_aiger::read(alloc, text) {
@@ -82,7 +82,12 @@ fn read_circuit(alloc: Global, text: &[u8]) -> Result<Circuit, Refusal>
 }
 
 /// A stimulus for so many inputs, with a line `-` or without.
-fn read_stimulus(alloc: Global, text: &[u8], width: usize, split: bool) -> Result<Stimulus, Refusal>
+pub fn read_stimulus(
+    alloc: Global,
+    text: &[u8],
+    width: usize,
+    split: bool,
+) -> Result<Stimulus, Refusal>
     ensures { Gives (λ stimulus. stimulus) (ReadsStimulusText width split text.now) result }
 {
     match ps_simulate::parse_stimulus(alloc, text, width, split) {

@@ -14,7 +14,7 @@ pub struct Row {
 }
 
 /// The rows.
-pub const ROWS: [Row; 66] = [
+pub const ROWS: [Row; 72] = [
     Row {
         name: "check of two vertices, one count",
         input: "check\nparity 1; 0 1 0 0,1; 1 2 0 0;\n%%\npsyncert 1\nvertices 2\nodd 1\neven 2\n0 0 1 0\n1 0 0 0\n",
@@ -149,7 +149,7 @@ pub const ROWS: [Row; 66] = [
     },
     Row {
         name: "psyncert 2",
-        input: "closed\n0 0 1 0,1; 1 1 1 1;\n%%\npsyncert 2\nvertices 2\nodd 1\neven 0\n0 1 1 0\n1 1 1 0\n",
+        input: "closed\n0 0 1 0,1; 1 1 1 1;\n%%\npsyncert 3\nvertices 2\nodd 1\neven 0\n0 1 1 0\n1 1 1 0\n",
         output: "fault 53 Syntax at 9\n",
         status: 1,
     },
@@ -298,32 +298,8 @@ pub const ROWS: [Row; 66] = [
         status: 1,
     },
     Row {
-        name: "not yet there: lasso",
-        input: "lasso\nx",
-        output: "fault usage\n",
-        status: 2,
-    },
-    Row {
-        name: "not yet there: game",
-        input: "game\nx",
-        output: "fault usage\n",
-        status: 2,
-    },
-    Row {
-        name: "not yet there: cert",
-        input: "cert\nx",
-        output: "fault usage\n",
-        status: 2,
-    },
-    Row {
         name: "not yet there: synth",
         input: "synth\nx",
-        output: "fault usage\n",
-        status: 2,
-    },
-    Row {
-        name: "not yet there: lasso --env",
-        input: "lasso --env\nx",
         output: "fault usage\n",
         status: 2,
     },
@@ -346,34 +322,94 @@ pub const ROWS: [Row; 66] = [
         status: 2,
     },
     Row {
-        name: "not yet there: game --moore",
-        input: "game --moore\nx",
-        output: "fault usage\n",
-        status: 2,
-    },
-    Row {
-        name: "not yet there: cert --moore",
-        input: "cert --moore\nx",
-        output: "fault usage\n",
-        status: 2,
-    },
-    Row {
         name: "not yet there: synth --compact",
         input: "synth --compact\nx",
         output: "fault usage\n",
         status: 2,
     },
     Row {
-        name: "not yet there: cert --compact",
-        input: "cert --compact\nx",
+        name: "solve --compact without a game",
+        input: "solve --compact\nx",
+        output: "fault 30 Syntax at 0\n",
+        status: 1,
+    },
+    Row {
+        name: "solve --compact of two vertices, one count",
+        input: "solve --compact\nparity 1; 0 1 0 0,1; 1 2 0 0;",
+        output: "psyncert 2\nvertices 2\nodd 1\neven 2\n0 0 1\n1 0 0\n",
+        status: 0,
+    },
+    Row {
+        name: "solve --compact again after the first attractor",
+        input: "solve --compact\n0 2 0 1; 1 1 1 1; 2 1 0 2,0;",
+        output: "psyncert 2\nvertices 3\nodd 1\neven 2\n0 1 - 2:1\n1 1 1\n2 1 - 2:1\n",
+        status: 0,
+    },
+    Row {
+        name: "check of that",
+        input: "check\n0 2 0 1; 1 1 1 1; 2 1 0 2,0;\n%%\npsyncert 2\nvertices 3\nodd 1\neven 2\n0 1 - 2:1\n1 1 1\n2 1 - 2:1\n",
+        output: "valid\n",
+        status: 0,
+    },
+    Row {
+        name: "closed of that",
+        input: "closed\n0 2 0 1; 1 1 1 1; 2 1 0 2,0;\n%%\npsyncert 2\nvertices 3\nodd 1\neven 2\n0 1 - 2:1\n1 1 1\n2 1 -\n",
+        output: "closed\n",
+        status: 0,
+    },
+    Row {
+        name: "solve --compact of large numbers",
+        input: "solve --compact\n7 4294967295 0 7; 4294967295 4294967295 1 4294967295;",
+        output: "psyncert 2\nvertices 2\nodd 4294967295\neven\n7 1 -\n4294967295 1 4294967295\n",
+        status: 0,
+    },
+    Row {
+        name: "solve --compact twice",
+        input: "solve --compact --compact\n0 0 0 0;",
         output: "fault usage\n",
         status: 2,
     },
     Row {
-        name: "not yet there: solve --compact",
-        input: "solve --compact\nx",
+        name: "solve with another flag",
+        input: "solve --moore\n0 0 0 0;",
         output: "fault usage\n",
         status: 2,
+    },
+    Row {
+        name: "check --compact",
+        input: "check --compact\n0 0 0 0;",
+        output: "fault usage\n",
+        status: 2,
+    },
+    Row {
+        name: "compact certificate: counts left out are 0",
+        input: "check\nparity 1; 0 1 0 0,1; 1 2 0 0;\n%%\npsyncert 2\nvertices 2\nodd 1\neven 2\n0 0 1\n1 0 0\n",
+        output: "valid\n",
+        status: 0,
+    },
+    Row {
+        name: "compact certificate: a written 0",
+        input: "check\nparity 1; 0 1 0 0,1; 1 2 0 0;\n%%\npsyncert 2\nvertices 2\nodd 1\neven 2\n0 0 1 1:0\n1 0 0\n",
+        output: "fault 53 Syntax at 43\n",
+        status: 1,
+    },
+    Row {
+        name: "compact certificate: a priority of the other line",
+        input: "check\nparity 1; 0 1 0 0,1; 1 2 0 0;\n%%\npsyncert 2\nvertices 2\nodd 1\neven 2\n0 0 1 2:1\n1 0 0\n",
+        output: "fault 54 OtherGame at 41\n",
+        status: 1,
+    },
+    Row {
+        name: "compact certificate: a count too small",
+        input: "check\nparity 1; 0 1 0 0,1; 1 2 0 0;\n%%\npsyncert 2\nvertices 2\nodd 1\neven 2\n0 0 0\n1 0 0\n",
+        output: "fault 52 Rank 0 0 1\n",
+        status: 1,
+    },
+    Row {
+        name: "a certificate of version 3",
+        input: "check\nparity 1; 0 1 0 0,1; 1 2 0 0;\n%%\npsyncert 3\nvertices 2\nodd 1\neven 2\n0 0 1\n1 0 0\n",
+        output: "fault 53 Syntax at 9\n",
+        status: 1,
     },
     Row {
         name: "solve of two vertices, one count",
