@@ -5,7 +5,8 @@
 
 psyn has no command that runs many stimuli, so the program bench/lanes is made in a temporary folder, over copies of the crates
 with what earlier checks kept in out/. --program gives one that was made before. It draws eight letters for each of 256 runs, and
-stops with an error where an output of a lane differs from that of the plain run.
+stops with an error where an output or a latch of a lane differs from that of the plain run. The times of the lanes are taken
+between those of the plain runs, and the least of each counts.
 
 --random makes N (200) small circuits at random for that, with latches that follow one another and gates in any order. Then come
 circuits of 10000, 100000 and 1000000 gates (those of bench/simulate.py): a line for each with the nanoseconds of a step for each
@@ -100,7 +101,7 @@ def main():
         dice = random.Random(given.random)
         for _ in range(given.random):
             times(program, circuit_text(dice))
-        print(f"{given.random} circuits: in 256 lanes, {LETTERS} letters long, as the plain runs have it")
+        print(f"{given.random} circuits: in 256 lanes, {LETTERS} letters long, outputs and latches as the plain runs have them")
         for gates in SIZES:
             found = times(program, simulate.circuit_text(gates))
             each = {word: nanos / LETTERS / gates for word, nanos in found.items()}

@@ -25,6 +25,13 @@ Is this certificate right?
 What does this circuit do on these inputs?
   printf '1\\n0\\n1\\n' | tools/psyn sim circuit.aag -
 
+Does this automaton accept what that circuit does on this stem and this lap?
+  tools/psyn lasso automaton.hoa circuit.aag lasso.stim
+
+Which game does this automaton define, and who wins it?
+  tools/psyn game automaton.hoa > game.pg
+  tools/psyn cert automaton.hoa > game.cert
+
 A game with its regions in two colours and the winning moves bold:
   tools/psyn show game.pg solution.cert | dot -Tsvg > game.svg
 

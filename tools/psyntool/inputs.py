@@ -5,9 +5,12 @@ import re
 # What each command reads, in order.
 KINDS = {
     "solve": ["game"],
+    "game": ["automaton"],
+    "cert": ["automaton"],
     "closed": ["game", "certificate"],
     "check": ["game", "certificate"],
     "sim": ["circuit", "stimulus"],
+    "lasso": ["automaton", "circuit", "stimulus"],
 }
 
 

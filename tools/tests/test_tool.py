@@ -45,6 +45,19 @@ class Commands(OnFiles):
         done = self.tool("sim", circuit, "-", given=b"1\n1\n0\n")
         self.assertEqual(done.stdout, b"1|1|101\n0|1|011\n1|0|111\n")
 
+    def test_a_lasso_reads_three_files_and_its_flag(self):
+        automaton, stimulus = self.file("automaton", AUTOMATON), self.file("stimulus", b"1\n-\n0\n1\n")
+        circuit = self.file("grant", b"aag 1 1 0 1 0\n2\n2\ni0 r\no0 g\n")
+        self.assertEqual(self.tool("lasso", automaton, circuit, stimulus).stdout, b"accepted stem 1 lap 2\n")
+        turned = self.tool("lasso", "--env", automaton, circuit, stimulus)
+        self.assertEqual((turned.stdout, turned.returncode), (b"fault 72 Symbols\n", 1))
+        self.assertIn(b"cause: for `lasso` the symbols", turned.stderr)
+
+    def test_a_place_in_an_automaton_is_one_of_the_file(self):
+        automaton = self.file("automaton", AUTOMATON.replace(b"[!0|1] 0 {0}", b"[!0|1] 0 {1}"))
+        done = self.tool("lasso", automaton, self.file("circuit", b""), self.file("stimulus", b""))
+        self.assertIn(f"{automaton}:9:11: Range\n  [!0|1] 0 {{1}}".encode(), done.stderr)
+
     def test_a_last_newline_that_is_missing_is_added(self):
         game, certificate = self.file("game", GAME[:-1]), self.file("certificate", CERTIFICATE[:-1])
         done = self.tool("check", game, certificate)
