@@ -4,11 +4,12 @@ pub mod rows;
 mod solvers;
 mod streams;
 
+use crate::lasso_tests::meets;
 use crate::memory::run_in_memory;
 use crate::run::run;
 use crate::watched::Watched;
 use ps_machine::{BuiltIn, Replay};
-use rows::ROWS;
+use rows::{ROWS, SOLVED};
 use std::test::Fail;
 use streams::{Endless, Kept, Script, Written};
 
@@ -49,6 +50,11 @@ fn worked_rows(rt: HostRuntime) -> Result<(), Fail> {
         assert_eq!(rt; answer.status, row.status, "{}", row.name);
     }
     Ok(())
+}
+
+#[test]
+fn solved_rows(rt: HostRuntime) -> Result<(), Fail> {
+    meets(&rt, rt.alloc(), &SOLVED)
 }
 
 #[test]
