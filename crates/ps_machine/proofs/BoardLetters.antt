@@ -1,5 +1,5 @@
 -- Letters of the two players, their sums, and the order of letters.
-use Rattle.std.proofs.Common.{◌≡◌, ◌≢◌, ℕ, zero, suc, ◌+◌, ◌^◌, ◌<◌, ◌≤◌, Bool, true, false, cond, not, refl, ap, sym, subst, ◌∙◌, arith, inl, inr, ◌⊎◌, ltb}
+use Rattle.std.proofs.Common.{◌≡◌, ℕ, zero, suc, ◌+◌, ◌^◌, ◌<◌, Bool, true, false, cond, not, refl, ap, sym, subst, ◌∙◌, arith, inl, inr, ◌⊎◌}
 use Rattle.std.specs.Prelude.{◌||◌, ◌&&◌}
 use Rattle.std.proofs.lemmas.Bool.{cases_lt}
 use Rattle.ps_label.specs.Truth.{is_in}
@@ -71,7 +71,7 @@ module _ (board : Board) where
 
   -- ## The mask of the first player
 
-  mask_below : (mask p : ℕ) → IsMaskOf board mask → is_in p mask ≡ true → p < board.propositions
+  pub mask_below : (mask p : ℕ) → IsMaskOf board mask → is_in p mask ≡ true → p < board.propositions
   mask_below mask p m is = elim (cases_lt p board.propositions) [
     | inl lt ↦ lt
     | inr ge ↦ absurd (true_is_not_false (sym is ∙ no_bit board.propositions mask p m.within ge))

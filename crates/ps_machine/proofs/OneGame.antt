@@ -1,12 +1,12 @@
 -- There is one game of a board: breadth-first numbers leave no choice.
-use Rattle.std.proofs.Common.{◌≡◌, ◌≢◌, ℕ, zero, suc, ◌+◌, ◌-◌, ◌<◌, ◌≤◌, ◌⊎◌, inl, inr, Bool, true, false, cond, not, ◌==◌, filter, List, [], ◌∷◌, ◌++◌, length, map, get_or, Option, Some, refl, ap, ap₂, sym, subst, ◌∙◌, rules, arith}
+use Rattle.std.proofs.Common.{◌≡◌, ◌≢◌, ℕ, zero, suc, ◌+◌, ◌-◌, ◌<◌, ◌≤◌, ◌⊎◌, inl, inr, true, cond, not, ◌==◌, filter, List, [], ◌∷◌, ◌++◌, length, map, get_or, refl, ap, ap₂, sym, subst, ◌∙◌, rules, arith}
 use Rattle.std.specs.List.{All, AllPairs, AllZip, Contains, range_with_len, slice_get, list_any}
 use Rattle.std.proofs.Math.ListN.{get_or-append}
 use Rattle.std.proofs.Math.Seq.{get_or-append_seam}
 use Rattle.std.proofs.lemmas.Bool.{cases_eq, cases_lt, cases_Bool, eqb-true, eq-eqb, ne_eqb}
 use Rattle.std.proofs.lemmas.List.{append-nil, append_assoc, length-append, length-map, get_or-map, get_or_default, same_lists}
 use Rattle.std.proofs.lemmas.Grind.{same_number_lists}
-use Rattle.std.proofs.lemmas.List.Elements.{All-nil, All-cons, All-head, All-tail, All-contains, Contains-append_cases, Contains-get_or}
+use Rattle.std.proofs.lemmas.List.Elements.{All-nil, All-cons, All-head, All-tail, All-contains, Contains-append_cases}
 use Rattle.std.proofs.lemmas.List.Folds.{Any-from_list_any}
 use Rattle.std.proofs.lemmas.List.FromFn.{get_or-range_with_len, length-range_with_len}
 use Rattle.std.proofs.lemmas.Option.{slice_get-get_or}
@@ -18,7 +18,7 @@ use Rattle.ps_game.specs.Drafts.{distinct}
 use Rattle.ps_game.proofs.Distinct.{distinct-push}
 use Rattle.ps_machine.specs.Boards.{Board, AreListed, LeadsTo, IsGameOf, IsClass, IsMove}
 use Rattle.ps_machine.specs.Keys.{owner_of_key, priority_of_key}
-use Rattle.ps_machine.specs.Numbering.{listed, StandsAt, IsVertexOf, IsGameByKeys, IsNumbered}
+use Rattle.ps_machine.specs.Numbering.{listed, StandsAt, IsVertexOf}
 use Rattle.ps_machine.specs.declared.key.Key.{Key}
 use Rattle.ps_machine.specs.declared.key.Key.TheVariants.{First, Second}
 use Rattle.ps_machine.proofs.Exploring.{less_or_last}
@@ -40,7 +40,7 @@ never_itself : (x y : ℕ) → IsBefore x y → x ≡ y → ⊥
 never_itself x y a same = true_is_not_false (sym a.is_true ∙ ap (λ z. is_in a.first z) (sym same) ∙ a.is_false)
 
 -- an element of a list is its head, or one of the others, at its place
-in_cons : (x z : ℕ) (xs : List ℕ) → Contains (x ∷ xs) z → (x ≡ z) ⊎ Contains xs z
+pub in_cons : (x z : ℕ) (xs : List ℕ) → Contains (x ∷ xs) z → (x ≡ z) ⊎ Contains xs z
 in_cons x z xs (zero, within, e) = inl e
 in_cons x z xs (suc k, within, e) = inr (k, omega (arith, within), e)
 
@@ -56,7 +56,7 @@ before_others x z xs r c = subst (IsBefore x) c.2 (r 0 (suc c.0) z (omega arith)
 abbrev Within : List ℕ → List ℕ → Type 0
 Within xs ys = (z : ℕ) → Contains xs z → Contains ys z
 
-none_in : (z : ℕ) → Contains [] z → ⊥
+pub none_in : (z : ℕ) → Contains [] z → ⊥
 none_in z c = omega (arith, c.1)
 
 heads_same : (x y : ℕ) (xs ys : List ℕ) → AllPairs IsBefore (x ∷ xs) → AllPairs IsBefore (y ∷ ys) → Within (x ∷ xs) (y ∷ ys) → Within (y ∷ ys) (x ∷ xs) → x ≡ y
@@ -110,7 +110,7 @@ not_itself board (Second q x) next a c =
 
 -- ## Lists whose numbers, with repeats left out, are those below a count
 
-abbrev Counts : List ℕ → ℕ → Type 0
+abbrev pub Counts : List ℕ → ℕ → Type 0
 Counts list count = distinct list ≡ range_with_len 0 count
 
 counts_one : (list : List ℕ) (c d : ℕ) → Counts list c → Counts list d → c ≡ d
@@ -138,7 +138,7 @@ counts_below : (list : List ℕ) (c : ℕ) → Counts list c → All (λ w. w < 
 counts_below list c e = all_from_distinct (λ w. w < c) list (subst (λ l. All (λ w. w < c) l) (sym e)
     (λ k d within. (let small : k < c = omega (arith, within, length-range_with_len 0 c) in omega (arith, get_or-range_with_len 0 c k d small, small))))
 
-has_it : (xs : List ℕ) (y : ℕ) → list_any (λ z. z == y) xs ≡ true → Contains xs y
+pub has_it : (xs : List ℕ) (y : ℕ) → list_any (λ z. z == y) xs ≡ true → Contains xs y
 has_it xs y e =
     let any = Any-from_list_any (λ z. z == y) xs e in
     let same : any.1 ≡ y = eqb-true any.1 y any.4 in
@@ -250,7 +250,7 @@ listed_front game v (suc k) =
 gap : (v n : ℕ) → v ≤ n → (k : ℕ) × (v + k ≡ n)
 gap v n le = (n - v, omega (arith, le))
 
-zipped : (keys : List Key) (numbers : List ℕ) (next : List Key) (w : ℕ) (key : Key) → AllZip (StandsAt keys) numbers next → StandsAt keys w key → Contains numbers w → Contains next key
+pub zipped : (keys : List Key) (numbers : List ℕ) (next : List Key) (w : ℕ) (key : Key) → AllZip (StandsAt keys) numbers next → StandsAt keys w key → Contains numbers w → Contains next key
 zipped keys [] next w key zip at c = absurd (none_in w c)
 zipped keys (n ∷ numbers) [] w key zip at c = absurd zip
 zipped keys (n ∷ numbers) (k ∷ next) w key zip at c = elim (in_cons n w numbers c) [
@@ -259,7 +259,7 @@ zipped keys (n ∷ numbers) (k ∷ next) w key zip at c = elim (in_cons n w numb
 ]
 
 module _ (board : Board) (mover : ℕ) where
-  abbrev IsIt : List Key → ParityGame → Type 0
+  abbrev pub IsIt : List Key → ParityGame → Type 0
   IsIt keys game = IsGameOf board mover keys game
 
   abbrev At : List Key → ParityGame → ℕ → Type 0
@@ -268,7 +268,7 @@ module _ (board : Board) (mover : ℕ) where
   no_loop : (keys : List Key) (game : ParityGame) (v : ℕ) → At keys game v → Contains (successors_of game v) v → ⊥
   no_loop keys game v at c = not_itself board at.key at.next at.leads_to (zipped keys (successors_of game v) at.next v at.key at.successors at.stands c)
 
-  count_at : (keys : List Key) (game : ParityGame) (v : ℕ) → IsIt keys game → v ≤ vertex_count game → (c : ℕ) × Counts (listed game v) c
+  pub count_at : (keys : List Key) (game : ParityGame) (v : ℕ) → IsIt keys game → v ≤ vertex_count game → (c : ℕ) × Counts (listed game v) c
   count_at keys game v is le =
       let k = gap v (vertex_count game) le in
       let front = listed_front game v k.0 in
@@ -297,7 +297,7 @@ module _ (board : Board) (mover : ℕ) where
       let few = still keys game v c next.0 is lt counts le next.1 in
       behind keys game k (suc v) next.0 is (omega (arith, e)) next.1 (omega (arith, few))
 
-  ahead : (keys : List Key) (game : ParityGame) (v c : ℕ) → IsIt keys game → v < vertex_count game → Counts (listed game v) c → v < c
+  pub ahead : (keys : List Key) (game : ParityGame) (v c : ℕ) → IsIt keys game → v < vertex_count game → Counts (listed game v) c → v < c
   ahead keys game v c is lt counts = elim (cases_lt v c) [
     | inl less ↦ less
     | inr le ↦ absurd (let k = gap (suc v) (vertex_count game) (omega (arith, lt)) in behind keys game k.0 v c is (omega (arith, k.1)) counts le)

@@ -29,7 +29,7 @@ one_place keys differ v w k at there = by (cases_lt v w) (cases_lt w v)
     by (inr more) (inl less) = absurd (differ w v k less (slice_get_within keys v k at) (at_place w there ∙ sym (at_place v at)))
     by (inr more) (inr fewer) = omega (arith, more, fewer)
 
-map_contains : (f : ℕ → Key) (letters : List ℕ) (k y : ℕ) → k < length letters → get_or letters k y ≡ y → Contains (map f letters) (f y)
+pub map_contains : (f : ℕ → Key) (letters : List ℕ) (k y : ℕ) → k < length letters → get_or letters k y ≡ y → Contains (map f letters) (f y)
 map_contains f [] k y within is = absurd (omega (arith, within))
 map_contains f (x ∷ letters) zero y within is = (0, omega arith, ap f is)
 map_contains f (x ∷ letters) (suc k) y within is =
@@ -124,7 +124,7 @@ module _ (board : Board) (mover : ℕ) (keys : List Key) (game : ParityGame) (ce
   pub first_owner : (v q p : ℕ) → StandsAt keys v (First q p) → owner_of game v ≡ mover
   first_owner v q p at = owner_at v (First q p) at
 
-  second_owner : (v q x : ℕ) → StandsAt keys v (Second q x) → owner_of game v ≡ 1 - mover
+  pub second_owner : (v q x : ℕ) → StandsAt keys v (Second q x) → owner_of game v ≡ 1 - mover
   second_owner v q x at = owner_at v (Second q x) at
 
   -- the winner of vertex 0 wins the vertices that are used, and so moves there as the certificate says

@@ -2,7 +2,7 @@
 use Rattle.std.proofs.Common.{◌≡◌, ℕ, ◌+◌, ◌<◌, ◌≤◌, List, ◌∷◌, [], ◌++◌, length, map, take, get_or, Option, Some, Vec, ap, ap₂, sym, subst, ◌∙◌, arith}
 use Rattle.std.specs.List.{All}
 use Rattle.std.specs.Global.{Global}
-use Rattle.std.proofs.lemmas.List.{map_push, map_more, length-map}
+use Rattle.std.proofs.lemmas.List.{map_push, map_more}
 use Rattle.std.proofs.lemmas.List.Elements.{All-same, All-push}
 use Rattle.ps_diagram.specs.Table.{Table}
 use Rattle.ps_automaton.specs.Automata.{AutomatonData}
@@ -15,7 +15,7 @@ use Rattle.ps_machine.specs.Moving.{IsFit, IsKnown}
 use Rattle.ps_machine.specs.Naming.{IsPlain}
 use Rattle.ps_machine.specs.Numbering.{IsGameByKeys, IsNumbered}
 use Rattle.ps_machine.specs.declared.key.Key.{Key}
-use Rattle.ps_machine.specs.declared.key.Key.TheVariants.{First, Second}
+use Rattle.ps_machine.specs.declared.key.Key.TheVariants.{First}
 use Rattle.ps_machine.specs.declared.key.Order.{Order}
 use Rattle.ps_machine.proofs.NamingLemmas.{no_quote}
 

@@ -1,11 +1,15 @@
+pub mod Assembling
 pub mod Boards
 pub mod Building
+pub mod Drawing
 pub mod Extracting
+pub mod FileGames
 pub mod KeyNames
 pub mod Keys
 pub mod Machines
 pub mod Moving
 pub mod Naming
 pub mod Numbering
+pub mod Placing
 pub mod Solving
 pub mod Visits

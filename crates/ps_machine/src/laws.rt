@@ -4,10 +4,11 @@ ghost use Rattle.std.specs.Prelude.{◌≡◌, ℕ, List};
 ghost use Rattle.ps_hoa.specs.Files.{FileData};
 ghost use Rattle.ps_automaton.specs.Automata.{AutomatonData, IsBuiltFrom};
 ghost use Rattle.ps_automaton.specs.Chains.{Chain};
-ghost use Rattle.ps_game.specs.Games.{ParityGame};
+ghost use Rattle.ps_game.specs.Games.{NamedGameData, ParityGame};
 ghost use Rattle.ps_certificate.specs.Certificates.{CertificateData, Fits, IsValid};
 ghost use Rattle.ps_machine.specs.Boards.{Board, IsGameOf, board_of};
 ghost use Rattle.ps_machine.specs.Extracting.{HasPropositions, IsMachineOf};
+ghost use Rattle.ps_machine.specs.FileGames.{IsGameOfFile};
 ghost use Rattle.ps_machine.specs.Keys.{mover_of};
 ghost use Rattle.ps_machine.specs.Machines.{IsMachine, LassosWon, MachineData};
 ghost use Rattle.ps_machine.specs.declared.key.Key.{Key};
@@ -25,4 +26,9 @@ pub fn lassos_won()
 pub fn one_game()
     ensures { (board : Board) (mover : ℕ) (keys others : List Key) (game other : ParityGame) →
         IsGameOf board mover keys game → IsGameOf board mover others other → (keys ≡ others) × (game ≡ other) }
+{}
+
+/// A file has one game at most in each order of moves, names and ids too: its automata may differ only where no play comes.
+pub fn one_game_of_file()
+    ensures { (order : Order) (file : FileData) (game other : NamedGameData) → IsGameOfFile order file game → IsGameOfFile order file other → game ≡ other }
 {}

@@ -4,6 +4,8 @@
 #![tactic(auto)]
 
 mod built_in;
+mod drawing;
+mod extracting;
 mod fault;
 mod game;
 #[cfg(test)]
@@ -11,18 +13,22 @@ mod game_tests;
 mod key;
 mod laws;
 mod machine;
+mod memories;
 mod moves;
 mod numbering;
 mod replay;
+mod second_drawing;
 mod solver;
 #[cfg(test)]
 mod tests;
+mod used;
 
 pub use built_in::BuiltIn;
+pub use extracting::extract;
 pub use fault::SolveFault;
 pub use game::game_of;
 pub use key::{Key, Order};
-pub use laws::{lassos_won, one_game};
+pub use laws::{lassos_won, one_game, one_game_of_file};
 pub use machine::{Machine, Row};
 pub use numbering::{KeyedGame, Successors, game_by_keys};
 pub use replay::Replay;

@@ -3,6 +3,7 @@
 ghost use Rattle.std.specs.Prelude.{◌≡◌, ℕ, ◌<◌, ◌≤◌, IsTrue, length, map, slice_index};
 ghost use Rattle.ps_hoa.specs.Memory.{bytes_of};
 ghost use Rattle.ps_diagram.specs.Table.{IsNode};
+ghost use Rattle.ps_machine.specs.Assembling.{machine_of};
 ghost use Rattle.ps_machine.specs.Machines.{IsMachine, memories_of, row_of, step_of};
 
 use indexmap::IndexSet;
@@ -16,6 +17,28 @@ pub struct Row {
     pub memory: usize,
     /// The letter that is played: proposition p is bit p.
     pub letter: u64,
+}
+
+/// The propositions of a machine.
+#[derive(Drop)]
+pub(crate) struct Propositions {
+    /// Their names.
+    pub names: Vec<Vec<u8>>,
+    /// Those that are read, rising.
+    pub inputs: Vec<u32>,
+    /// Those that are played, rising.
+    pub outputs: Vec<u32>,
+}
+
+/// The diagrams of a machine.
+#[derive(Drop)]
+pub(crate) struct Diagrams {
+    /// Where they stand.
+    pub store: Store,
+    /// One for each memory.
+    pub nodes: Vec<Node>,
+    /// The rows, each at the place that its leaves have.
+    pub rows: IndexSet<Row>,
 }
 
 /// A player's finite machine. It begins in memory 0. In each step it reads a letter of the other player, its input
@@ -47,6 +70,28 @@ impl Model for Machine {
 }
 
 impl Machine {
+    /// The machine of a player, of its parts.
+    pub(crate) fn new(
+        player: u8,
+        moves_first: bool,
+        propositions: Propositions,
+        diagrams: Diagrams,
+    ) -> Machine
+        requires { IsMachine (machine_of player moves_first propositions diagrams) }
+        ensures { result ≡ machine_of player moves_first propositions diagrams }
+    {
+        Machine {
+            names: propositions.names,
+            inputs: propositions.inputs,
+            outputs: propositions.outputs,
+            player,
+            moves_first,
+            store: diagrams.store,
+            nodes: diagrams.nodes,
+            rows: diagrams.rows,
+        }
+    }
+
     /// The names of the propositions, at most 64. They differ, are not empty and have no control byte.
     pub fn names(&self) -> &[Vec<u8>]
         ensures names { map bytes_of result.now ≡ self.now.names }

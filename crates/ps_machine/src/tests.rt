@@ -99,6 +99,6 @@ fn keys_are_numbered_breadth_first(rt: HostRuntime) -> Result<(), Fail> {
     let mut source = Pair { alloc: rt.alloc() };
     let numbered = game_by_keys(rt.alloc(), &mut source, Order::Moore, first(0))?;
     assert_eq!(rt; numbered.game.count(), 4);
-    assert!(rt; numbered.keys.get(2).copied() == Some(first(1)));
+    assert!(rt; numbered.keys.as_slice().get(2).copied() == Some(first(1)));
     Ok(())
 }

@@ -1,5 +1,3 @@
-use Rattle.std.proofs.Common.{◌≡◌, ◌∙◌, ap, arith}
-use Rattle.std.specs.List.{range_with_len}
 use Rattle.ps_machine.proofs.NamingLemmas.{range_more}
 use Rattle.ps_machine.proofs.game.ids_of.Goals as goal
 

@@ -1,4 +1,3 @@
-use Rattle.std.proofs.Common.{List}
 use Rattle.indexmap.specs.IndexMap.{get}
 use Rattle.ps_machine.specs.Boards.{IsGameOf, board_of}
 use Rattle.ps_machine.specs.Keys.{mover_of}
@@ -15,5 +14,5 @@ game_by_keys-requires c =
 pub returns : goal.returns
 returns c =
     let m = c.in_ok-moves.moves in
-    both_ok _ _ (λ r. IsGameOf (board_of c.args.order c.args.automaton.now) (mover_of c.args.order) r.keys.items r.game) c.game_by_keys.result c.game_by_keys.ensures.by_keys c.game_by_keys.ensures.numbered
-    (λ r is numbered. game_is c.args.order m.order c.args.automaton.now m.automaton.now c.start.result r.keys.items r.game c.in_ok-moves.ensures.order c.in_ok-moves.ensures.automaton c.start.ensures.start is numbered)
+    both_ok _ _ (λ r. IsGameOf (board_of c.args.order c.args.automaton.now) (mover_of c.args.order) r.keys.keys r.game) c.game_by_keys.result c.game_by_keys.ensures.by_keys c.game_by_keys.ensures.numbered
+    (λ r is numbered. game_is c.args.order m.order c.args.automaton.now m.automaton.now c.start.result r.keys.keys r.game c.in_ok-moves.ensures.order c.in_ok-moves.ensures.automaton c.start.ensures.start is numbered)

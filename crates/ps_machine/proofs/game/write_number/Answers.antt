@@ -1,4 +1,3 @@
-use Rattle.std.proofs.Common.{arith}
 use Rattle.ps_machine.proofs.NamingLemmas.{plain_decimal}
 use Rattle.ps_machine.proofs.game.write_number.Goals as goal
 

@@ -1,0 +1,124 @@
+use Rattle.std.proofs.Common.{ℕ, List, refl, subst, sym, take}
+use Rattle.std.specs.List.{All, AllZip}
+use Rattle.std.proofs.lemmas.List.{take_all}
+use Rattle.ps_diagram.specs.Table.{Table}
+use Rattle.ps_diagram.specs.declared.classes.Class.{Class}
+use Rattle.ps_machine.specs.Boards.{board_of}
+use Rattle.ps_machine.specs.Drawing.{IsRow, KeepsRows}
+use Rattle.ps_machine.specs.Moving.{IsFit, IsRest}
+use Rattle.ps_machine.specs.declared.machine.Row.{Row}
+use Rattle.ps_machine.specs.contracts.machine.RowPartialEq.TheImpl as row_eq
+use Rattle.ps_machine.proofs.DrawingLemmas.{keeps_rows, keeps_rows_same, keeps_rows_trans}
+use Rattle.ps_machine.proofs.SecondDrawing.{Names, named_next, rows_next}
+use Rattle.ps_machine.proofs.drawing.Drawing.rows_of_classes.Goals as goal
+
+pub loop-class-init : goal.loop-class-init
+loop-class-init c =
+    let plan = c.args.plan.now in
+    let N = Names (board_of plan.order plan.automaton.now) plan.keys.now.keys plan.memories.now.kept.items plan.certificate.now c.args.state c.args.self.now.rows.keys in
+    record {
+      mask = refl;
+      store = refl;
+      same_rows = keeps_rows_same c.args.self.now.rows.keys;
+      rows = c.requires.rows;
+      values = subst (λ (l : List ℕ). AllZip N (take 0 c.args.classes.now) l) (sym c.new-values.ensures.items) tt;
+    }
+
+pub row_of_class-requires-clause-fit : goal.row_of_class-requires-clause-fit
+row_of_class-requires-clause-fit c =
+    let plan = c.args.plan.now in
+    let inv = c.loop-class.invariant in
+    subst (λ (t : Table). IsFit plan.order plan.automaton.now c.loop-class.self.mask t) (sym inv.store)
+    (subst (λ (m : ℕ). IsFit plan.order plan.automaton.now m c.args.self.now.store) (sym inv.mask) c.requires.fit)
+
+pub row_of_class-requires-clause-rest : goal.row_of_class-requires-clause-rest
+row_of_class-requires-clause-rest c =
+    let plan = c.args.plan.now in
+    let inv = c.loop-class.invariant in
+    let i = c.loop-class.class-index in
+    let d = c.class-item.result in
+    let self = c.args.self.now in
+    let rest = subst (λ (k : Class). IsRest plan.order plan.automaton.now self.mask self.store c.args.state k.letter k.rest) (sym c.class-item.is) (c.requires.rests i d c.loop-class-test.true) in
+    subst (λ (t : Table). IsRest plan.order plan.automaton.now c.loop-class.self.mask t c.args.state d.letter d.rest) (sym inv.store)
+    (subst (λ (m : ℕ). IsRest plan.order plan.automaton.now m self.store c.args.state d.letter d.rest) (sym inv.mask) rest)
+
+pub returns-in_err-place-clause-same_rows : goal.returns-in_err-place-clause-same_rows
+returns-in_err-place-clause-same_rows c = subst (λ (l : List Row). KeepsRows c.args.self.now.rows.keys l) (sym c.in_err-place.ensures.err) c.loop-class.invariant.same_rows
+
+pub returns-in_err-place-clause-rows : goal.returns-in_err-place-clause-rows
+returns-in_err-place-clause-rows c =
+    let plan = c.args.plan.now in
+    subst (λ (l : List Row). All (IsRow plan.moves_first (board_of plan.order plan.automaton.now) plan.memories.now.kept.items) l) (sym c.in_err-place.ensures.err) c.loop-class.invariant.rows
+
+pub returns-in_err-push-clause-same_rows : goal.returns-in_err-push-clause-same_rows
+returns-in_err-push-clause-same_rows c =
+    let old = c.loop-class.self.rows.keys in
+    let new = c.insert_full.new.self.keys in
+    keeps_rows_trans c.args.self.now.rows.keys old new c.loop-class.invariant.same_rows (keeps_rows (row_eq.eq-value).it old c.in_ok-row.row new c.in_ok-place.ensures.keys)
+
+pub returns-in_err-push-clause-rows : goal.returns-in_err-push-clause-rows
+returns-in_err-push-clause-rows c =
+    let plan = c.args.plan.now in
+    rows_next plan.moves_first (board_of plan.order plan.automaton.now) plan.keys.now.keys plan.memories.now.kept.items plan.certificate.now c.args.state c.class-item.result.letter (row_eq.eq-value).it c.loop-class.self.rows.keys c.in_ok-row.row c.insert_full.new.self.keys
+    c.requires.turn c.in_ok-place.ensures.keys c.in_ok-row.ensures c.loop-class.invariant.rows
+
+pub loop-class-preserved : goal.loop-class-preserved
+loop-class-preserved c =
+    let plan = c.args.plan.now in
+    let board = board_of plan.order plan.automaton.now in
+    let keys = plan.keys.now.keys in
+    let kept = plan.memories.now.kept.items in
+    let certificate = plan.certificate.now in
+    let old = c.loop-class.self.rows.keys in
+    let new = c.insert_full.new.self.keys in
+    let inv = c.loop-class.invariant in
+    record {
+      mask = inv.mask;
+      store = inv.store;
+      same_rows = keeps_rows_trans c.args.self.now.rows.keys old new inv.same_rows (keeps_rows (row_eq.eq-value).it old c.in_ok-row.row new c.in_ok-place.ensures.keys);
+      rows = rows_next plan.moves_first board keys kept certificate c.args.state c.class-item.result.letter (row_eq.eq-value).it old c.in_ok-row.row new c.requires.turn c.in_ok-place.ensures.keys c.in_ok-row.ensures inv.rows;
+      values = named_next board keys kept certificate c.args.state old new c.args.classes.now c.loop-class.class-index c.class-item.result c.loop-class.values.items c.push.new.self.items c.in_ok-place.place c.in_ok-row.row
+          c.in_ok-place.ensures.keys inv.values c.loop-class-test.true c.class-item.is c.in_ok-place.ensures.stored c.in_ok-row.ensures c.in_ok-push.ensures.items;
+    }
+
+pub returns-clause-values : goal.returns-clause-values
+returns-clause-values c =
+    let plan = c.args.plan.now in
+    let N = Names (board_of plan.order plan.automaton.now) plan.keys.now.keys plan.memories.now.kept.items plan.certificate.now c.args.state c.loop-class.self.rows.keys in
+    subst (λ (l : List Class). AllZip N l c.loop-class.values.items) (take_all c.loop-class.class-index c.args.classes.now c.loop-class-test.false) c.loop-class.invariant.values
+
+pub returns-in_err-row-clause-mask : goal.returns-in_err-row-clause-mask
+returns-in_err-row-clause-mask c = c.loop-class.invariant.mask
+
+pub returns-in_err-row-clause-store : goal.returns-in_err-row-clause-store
+returns-in_err-row-clause-store c = c.loop-class.invariant.store
+
+pub returns-in_err-row-clause-same_rows : goal.returns-in_err-row-clause-same_rows
+returns-in_err-row-clause-same_rows c = c.loop-class.invariant.same_rows
+
+pub returns-in_err-row-clause-rows : goal.returns-in_err-row-clause-rows
+returns-in_err-row-clause-rows c = c.loop-class.invariant.rows
+
+pub returns-in_err-place-clause-mask : goal.returns-in_err-place-clause-mask
+returns-in_err-place-clause-mask c = c.loop-class.invariant.mask
+
+pub returns-in_err-place-clause-store : goal.returns-in_err-place-clause-store
+returns-in_err-place-clause-store c = c.loop-class.invariant.store
+
+pub returns-in_err-push-clause-mask : goal.returns-in_err-push-clause-mask
+returns-in_err-push-clause-mask c = c.loop-class.invariant.mask
+
+pub returns-in_err-push-clause-store : goal.returns-in_err-push-clause-store
+returns-in_err-push-clause-store c = c.loop-class.invariant.store
+
+pub returns-clause-mask : goal.returns-clause-mask
+returns-clause-mask c = c.loop-class.invariant.mask
+
+pub returns-clause-store : goal.returns-clause-store
+returns-clause-store c = c.loop-class.invariant.store
+
+pub returns-clause-same_rows : goal.returns-clause-same_rows
+returns-clause-same_rows c = c.loop-class.invariant.same_rows
+
+pub returns-clause-rows : goal.returns-clause-rows
+returns-clause-rows c = c.loop-class.invariant.rows

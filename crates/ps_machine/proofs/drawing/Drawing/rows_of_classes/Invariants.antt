@@ -1,0 +1,16 @@
+use Rattle.std.proofs.Common.{◌≡◌, take}
+use Rattle.std.specs.List.{All, AllZip}
+use Rattle.ps_diagram.specs.declared.classes.Class.{Class}
+use Rattle.ps_machine.specs.Boards.{board_of}
+use Rattle.ps_machine.specs.Drawing.{IsRow, KeepsRows, NamesAnswer}
+use Rattle.ps_machine.proofs.drawing.Drawing.rows_of_classes.Given as goal
+
+-- the classes that were looked at have their rows
+abbrev pub invariant-loop-class : goal.invariant-loop-class
+invariant-loop-class l = record {
+  mask : l.self.mask ≡ l.fn.self.mask;
+  store : l.self.store ≡ l.fn.self.store;
+  same_rows : KeepsRows l.fn.self.rows.keys l.self.rows.keys;
+  rows : All (IsRow l.plan.moves_first (board_of l.plan.order l.plan.automaton.now) l.plan.memories.now.kept.items) l.self.rows.keys;
+  values : AllZip (λ (class : Class) value. NamesAnswer (board_of l.plan.order l.plan.automaton.now) l.plan.keys.now.keys l.plan.memories.now.kept.items l.plan.certificate.now l.self.rows.keys l.state class.letter value) (take l.class-index l.classes) l.values.items;
+}

@@ -1,0 +1,11 @@
+use Rattle.ps_machine.specs.Assembling.{AreDrawn}
+use Rattle.ps_machine.specs.Boards.{board_of}
+use Rattle.ps_machine.specs.Moving.{IsFit}
+use Rattle.ps_machine.proofs.extracting.draw.Given as goal
+
+-- the memories that were looked at have their diagrams
+abbrev pub invariant-loop-vertex : goal.invariant-loop-vertex
+invariant-loop-vertex l = record {
+  fit : IsFit l.plan.order l.plan.automaton.now l.drawing.mask l.drawing.store;
+  drawn : AreDrawn l.plan.moves_first (board_of l.plan.order l.plan.automaton.now) l.plan.keys.now.keys l.plan.memories.now.kept.items l.plan.certificate.now l.drawing.store l.drawing.rows.keys l.nodes.items l.vertex-index;
+}

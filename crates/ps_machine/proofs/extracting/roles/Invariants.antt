@@ -1,0 +1,12 @@
+use Rattle.std.proofs.Common.{not}
+use Rattle.ps_machine.specs.Assembling.{AreListedBelow}
+use Rattle.ps_machine.specs.Boards.{board_of}
+use Rattle.ps_machine.specs.Extracting.{is_others}
+use Rattle.ps_machine.proofs.extracting.roles.Given as goal
+
+-- the propositions that were looked at are read or played
+abbrev pub invariant-loop-proposition : goal.invariant-loop-proposition
+invariant-loop-proposition l = record {
+  read : AreListedBelow l.proposition (is_others l.moves_first (board_of l.order l.automaton)) l.inputs.items;
+  played : AreListedBelow l.proposition (λ p. not (is_others l.moves_first (board_of l.order l.automaton) p)) l.outputs.items;
+}

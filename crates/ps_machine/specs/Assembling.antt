@@ -1,0 +1,61 @@
+-- The parts of which a machine is put together. (Of private functions.)
+--     AreDrawn .. t rows nodes n      n memories have their diagrams, and each row is one of the player's
+--     AreListedBelow n is list      the numbers below n that are so, rising
+--     IsAssembled .. m      its propositions, diagrams and rows are right
+--     machine_of player is_first propositions diagrams      the machine of these parts
+--     HasRoles is_first board inputs outputs      who plays which propositions
+use Rattle.std.specs.Prelude.{◌≡◌, ℕ, ◌<◌, ◌≤◌, Bool, not, List, length, map, slice_index, IsTrue}
+use Rattle.std.specs.List.{All, AllPairs}
+use Rattle.ps_certificate.specs.Certificates.{CertificateData}
+use Rattle.ps_diagram.specs.Table.{Table}
+use Rattle.ps_hoa.specs.Files.{is_among}
+use Rattle.ps_hoa.specs.Memory.{bytes_of}
+use Rattle.ps_hoa.specs.Sound.{AreNames}
+use Rattle.ps_machine.specs.Boards.{Board}
+use Rattle.ps_machine.specs.Drawing.{IsDrawn, IsRow}
+use Rattle.ps_machine.specs.Extracting.{is_others}
+use Rattle.ps_machine.specs.Machines.{MachineData}
+use Rattle.ps_machine.specs.declared.key.Key.{Key}
+use Rattle.ps_machine.specs.declared.machine.Diagrams.{Diagrams}
+use Rattle.ps_machine.specs.declared.machine.Propositions.{Propositions}
+use Rattle.ps_machine.specs.declared.machine.Row.{Row}
+
+-- the first n memories have their diagrams
+pub record AreDrawn (is_first : Bool) (board : Board) (keys : List Key) (kept : List ℕ) (certificate : CertificateData) (t : Table) (rows : List Row) (nodes : List ℕ) (n : ℕ) : Type 0 where
+  pub rows_are : All (IsRow is_first board kept) rows
+  pub many : length nodes ≡ n
+  pub each : (memory : ℕ) → memory < n → IsDrawn is_first board keys kept certificate t rows (slice_index kept memory) (slice_index nodes memory)
+
+pub record AreListedBelow (n : ℕ) (is : ℕ → Bool) (list : List ℕ) : Type 0 where
+  pub rising : AllPairs (λ p q. p < q) list
+  pub within : (p : ℕ) → IsTrue (is_among p list) → p < n
+  pub are : (p : ℕ) → p < n → is_among p list ≡ is p
+
+-- the other player's propositions are read, and the player's own are played
+pub record HasRoles (is_first : Bool) (board : Board) (inputs outputs : List ℕ) : Type 0 where
+  pub read : AreListedBelow board.propositions (is_others is_first board) inputs
+  pub played : AreListedBelow board.propositions (λ p. not (is_others is_first board p)) outputs
+
+abbrev pub machine_of : ℕ → Bool → Propositions → Diagrams → MachineData
+machine_of player is_first propositions diagrams =
+    record {
+      names = map bytes_of propositions.names.items;
+      inputs = propositions.inputs.items;
+      outputs = propositions.outputs.items;
+      player = player;
+      is_first = is_first;
+      store = diagrams.store;
+      nodes = diagrams.nodes.items;
+      rows = diagrams.rows.keys;
+    }
+
+-- a machine whose propositions, diagrams and rows are right
+pub record IsAssembled (board : Board) (keys : List Key) (kept : List ℕ) (certificate : CertificateData) (m : MachineData) : Type 0 where
+  pub few_names : length m.names ≤ 64
+  pub are_names : AreNames m.names
+  pub as_many : length m.names ≡ board.propositions
+  pub letters : m.store.propositions ≡ length m.names
+  pub player : m.player < 2
+  pub some : 0 < length kept
+  pub roles : HasRoles m.is_first board m.inputs m.outputs
+  pub drawn : AreDrawn m.is_first board keys kept certificate m.store m.rows m.nodes (length kept)

@@ -1,0 +1,153 @@
+-- What is known while the machine of a certificate is made. (Of private functions.)
+--     AreUsed game certificate found      the used vertices
+--     GoesOn game certificate v w      how a path goes on that follows the table of the winner of vertex 0
+--     AreMemories is_first keys used kept marks      the vertex of each memory, and what is remembered there
+--     IsPlan ..      what the machine is made from
+--     IsDrawn .. v node      the diagram leads each letter of the other player to the row of the memory that is kept at v
+--     IsReply .. q x r p, IsAnswer .. q x row      where a player who moves second goes on behind the letter x, and the row of that
+use Rattle.std.specs.Prelude.{◌≡◌, ◌≢◌, ℕ, ◌+◌, ◌<◌, ◌≤◌, ◌↔◌, ◌==◌, Bool, true, false, List, [], ◌∷◌, length, Some, ◌++◌, slice_get, slice_index}
+use Rattle.std.specs.List.{All, AllPairs, Contains}
+use Rattle.ps_label.specs.Truth.{is_in}
+use Rattle.ps_game.specs.Games.{ParityGame}
+use Rattle.ps_game.specs.Ranking.{RemainsFor}
+use Rattle.ps_certificate.specs.Certificates.{CertificateData, Fits, IsValid, choice_of}
+use Rattle.ps_diagram.specs.Table.{Table, IsNode, leaf_of}
+use Rattle.ps_automaton.specs.Automata.{AutomatonData}
+use Rattle.ps_machine.specs.Boards.{Board, IsFirstLetter, IsSecondLetter, IsGameOf, board_of}
+use Rattle.ps_machine.specs.Extracting.{winner, IsUsed, GoesTo, StandsFor, IsPlayed, IsOther, is_others}
+use Rattle.ps_machine.specs.Keys.{mover_of}
+use Rattle.ps_machine.specs.Numbering.{StandsAt}
+use Rattle.ps_machine.specs.declared.key.Key.{Key}
+use Rattle.ps_machine.specs.declared.key.Key.TheVariants.{First, Second}
+use Rattle.ps_machine.specs.declared.key.Order.{Order}
+use Rattle.ps_machine.specs.declared.machine.Row.{Row}
+
+abbrev pub AreUsed : ParityGame → CertificateData → List ℕ → Type 0
+AreUsed game certificate found = (v : ℕ) → Contains found v ↔ IsUsed game certificate v
+
+-- a path that follows the table of the winner of vertex 0 can go on from v to w
+abbrev pub GoesOn : ParityGame → CertificateData → ℕ → ℕ → Type 0
+GoesOn game certificate v w = RemainsFor game (winner certificate) (choice_of certificate) v w
+
+-- a list that grew by numbers of one kind, so that it has all of them; different ones stay different
+pub record Adds (IsNext : ℕ → Type 0) (old new : List ℕ) : Type 0 where
+  pub added : List ℕ
+  pub grown : new ≡ old ++ added
+  pub each : All IsNext added
+  pub whole : (w : ℕ) → IsNext w → Contains new w
+  pub different : AllPairs (λ v w. v ≢ w) old → AllPairs (λ v w. v ≢ w) new
+
+-- ## Memories
+
+-- what a player remembers at the vertex v of the state q: one who moves first the vertex, one who moves second the state
+abbrev pub mark_of : Bool → ℕ → ℕ → ℕ
+mark_of true v q = v
+mark_of false v q = q
+
+-- a mark that has come has its memory; with another one a memory is kept at the vertex
+pub data KeepsAt (old_kept old_marks : List ℕ) (v mark : ℕ) (kept marks : List ℕ) : Type 0 where
+  Stays : Contains old_marks mark → kept ≡ old_kept → marks ≡ old_marks → KeepsAt old_kept old_marks v mark kept marks
+  Grows : ¬ Contains old_marks mark → kept ≡ old_kept ++ v ∷ [] → marks ≡ old_marks ++ mark ∷ [] → KeepsAt old_kept old_marks v mark kept marks
+
+-- the memory is kept at a used vertex at which the first player moves
+pub record IsMemory (is_first : Bool) (keys : List Key) (used kept marks : List ℕ) (memory : ℕ) : Type 0 where
+  pub state : ℕ
+  pub priority : ℕ
+  pub stands : StandsAt keys (slice_index kept memory) (First state priority)
+  pub is_used : Contains used (slice_index kept memory)
+  pub mark : slice_get marks memory ≡ Some (mark_of is_first (slice_index kept memory) state)
+
+-- the memory with a mark, kept at that vertex or before it
+pub record HasMemory (kept marks : List ℕ) (v mark : ℕ) : Type 0 where
+  pub memory : ℕ
+  pub is_marked : slice_get marks memory ≡ Some mark
+  pub behind : slice_index kept memory ≤ v
+
+-- each mark of a used vertex has one memory, which is kept at the least vertex with that mark
+pub record AreMemories (is_first : Bool) (keys : List Key) (used kept marks : List ℕ) : Type 0 where
+  pub many : length marks ≡ length kept
+  pub rising : AllPairs (λ v w. v < w) kept
+  pub different : AllPairs (λ one other. one ≢ other) marks
+  pub each : (memory : ℕ) → memory < length kept → IsMemory is_first keys used kept marks memory
+  pub found : (v q p : ℕ) → Contains used v → StandsAt keys v (First q p) → HasMemory kept marks v (mark_of is_first v q)
+
+-- ## Rows
+
+pub record IsPlan (order : Order) (a : AutomatonData) (keys : List Key) (certificate : CertificateData) (is_first : Bool) (kept marks : List ℕ) : Type 0 where
+  pub game : ParityGame
+  pub is_game : IsGameOf (board_of order a) (mover_of order) keys game
+  pub fits : Fits game certificate
+  pub valid : IsValid game certificate
+  pub turn : is_first ≡ (mover_of order == winner certificate)
+  pub used : List ℕ
+  pub are_used : AreUsed game certificate used
+  pub memories : AreMemories is_first keys used kept marks
+
+-- a letter of the player whose machine it is
+abbrev pub IsOwn : Bool → Board → ℕ → Type 0
+IsOwn true board y = IsFirstLetter board y
+IsOwn false board y = IsSecondLetter board y
+
+-- rows go on with memories, and have the player's letters
+pub record IsRow (is_first : Bool) (board : Board) (kept : List ℕ) (row : Row) : Type 0 where
+  pub memory : row.memory < length kept
+  pub letter : IsOwn is_first board row.letter
+
+-- at the vertex v of the state q, where the other player's letter is x, the row has what is played and where that leads
+pub record IsRowAt (is_first : Bool) (board : Board) (keys : List Key) (kept : List ℕ) (certificate : CertificateData) (v q x : ℕ) (row : Row) : Type 0 where
+  pub played : IsPlayed is_first board keys certificate v q x row.letter
+  pub entered : ℕ
+  pub goes : GoesTo keys board q (x + row.letter) entered
+  pub next : StandsFor is_first keys kept row.memory entered (board.auto.next q (x + row.letter))
+
+-- the leaf at a letter names the row
+pub record LeadsToRow (is_first : Bool) (board : Board) (keys : List Key) (kept : List ℕ) (certificate : CertificateData) (t : Table) (rows : List Row) (node v q x : ℕ) : Type 0 where
+  pub leaf : ℕ
+  pub is_leaf : leaf_of t node x ≡ Some leaf
+  pub row : Row
+  pub is_row : slice_get rows leaf ≡ Some row
+  pub is_right : IsRowAt is_first board keys kept certificate v q x row
+
+pub record IsDrawn (is_first : Bool) (board : Board) (keys : List Key) (kept : List ℕ) (certificate : CertificateData) (t : Table) (rows : List Row) (v node : ℕ) : Type 0 where
+  pub held : IsNode t node
+  pub state : ℕ
+  pub priority : ℕ
+  pub stands : StandsAt keys v (First state priority)
+  pub leads : (x : ℕ) → IsOther is_first board x → LeadsToRow is_first board keys kept certificate t rows node v state x
+  -- it heeds the other player's propositions alone
+  pub heeds : (x y : ℕ) → ((p : ℕ) → p < board.propositions → is_others is_first board p ≡ true → is_in p x ≡ is_in p y) → leaf_of t node x ≡ leaf_of t node y
+
+-- the rows that were there are there, at their places
+pub record KeepsRows (old new : List Row) : Type 0 where
+  pub same : (leaf : ℕ) (row : Row) → slice_get old leaf ≡ Some row → slice_get new leaf ≡ Some row
+
+-- a step leads to the used vertex of that pair
+pub record CanEnter (order : Order) (a : AutomatonData) (keys : List Key) (certificate : CertificateData) (is_first : Bool) (kept marks : List ℕ) (q p : ℕ) : Type 0 where
+  pub plan : IsPlan order a keys certificate is_first kept marks
+  pub vertex : ℕ
+  pub stands : StandsAt keys vertex (First q p)
+  pub is_used : IsUsed plan.game certificate vertex
+
+-- ## Of a player who moves second
+
+-- behind the letter x of the state q the winner's move leads to the pair of r and p, to which some letter leads
+pub record IsReply (board : Board) (keys : List Key) (certificate : CertificateData) (q x r p : ℕ) : Type 0 where
+  pub at : ℕ
+  pub stands : StandsAt keys at (Second q x)
+  pub chosen : ℕ
+  pub choice : choice_of certificate at ≡ Some chosen
+  pub entered : StandsAt keys chosen (First r p)
+  pub letter : ℕ
+  pub second : IsSecondLetter board letter
+  pub state : board.auto.next q (x + letter) ≡ r
+  pub priority : board.auto.priority q (x + letter) ≡ p
+
+-- at each vertex of the state q the row has what is played where the first player's letter is x
+abbrev pub IsAnswer : Board → List Key → List ℕ → CertificateData → ℕ → ℕ → Row → Type 0
+IsAnswer board keys kept certificate q x row = (v : ℕ) → IsRowAt false board keys kept certificate v q x row
+
+-- the number names such a row
+pub record NamesAnswer (board : Board) (keys : List Key) (kept : List ℕ) (certificate : CertificateData) (rows : List Row) (q x value : ℕ) : Type 0 where
+  pub row : Row
+  pub is_row : slice_get rows value ≡ Some row
+  pub is_answer : IsAnswer board keys kept certificate q x row

@@ -1,0 +1,37 @@
+-- Steps of a player who moves first, and the rows that are noted for them. (Of private functions.)
+--     PlaysClass board keys certificate v q letter      the letter that is played at the vertex v of the state q
+--     IsEntered .. leaf      the step that the leaf names can be taken
+--     IsPlaced .. letter leaf      the leaf's row is noted
+use Rattle.std.specs.Prelude.{◌≡◌, ℕ, ◌<◌, Bool, List, length, Some, slice_get}
+use Rattle.ps_certificate.specs.Certificates.{CertificateData, choice_of}
+use Rattle.ps_automaton.specs.Automata.{AutomatonData, pair_of}
+use Rattle.ps_machine.specs.Boards.{Board, IsClass}
+use Rattle.ps_machine.specs.Drawing.{CanEnter}
+use Rattle.ps_machine.specs.Extracting.{StandsFor}
+use Rattle.ps_machine.specs.Moving.{step_key}
+use Rattle.ps_machine.specs.Numbering.{StandsAt}
+use Rattle.ps_machine.specs.declared.key.Key.{Key}
+use Rattle.ps_machine.specs.declared.key.Key.TheVariants.{Second}
+use Rattle.ps_machine.specs.declared.key.Order.{Order}
+use Rattle.ps_machine.specs.declared.machine.Row.{Row}
+
+-- the letter of the class to which the move at the vertex v of the state q leads
+pub record PlaysClass (board : Board) (keys : List Key) (certificate : CertificateData) (v q letter : ℕ) : Type 0 where
+  pub chosen : ℕ
+  pub choice : choice_of certificate v ≡ Some chosen
+  pub stands : StandsAt keys chosen (Second q letter)
+  pub is_class : IsClass board q letter
+
+-- the leaf names a step that leads to the used vertex of its pair
+pub record IsEntered (order : Order) (a : AutomatonData) (keys : List Key) (certificate : CertificateData) (is_first : Bool) (kept marks : List ℕ) (leaf : ℕ) : Type 0 where
+  pub within : leaf < length a.steps
+  pub enters : CanEnter order a keys certificate is_first kept marks (pair_of a leaf).state (pair_of a leaf).priority
+
+-- the row at the place that is noted for the leaf plays the letter, and goes on with the memory of the pair that the leaf names
+pub record IsPlaced (a : AutomatonData) (keys : List Key) (is_first : Bool) (kept : List ℕ) (rows : List Row) (places : List ℕ) (letter leaf : ℕ) : Type 0 where
+  pub place : ℕ
+  pub is_noted : slice_get places leaf ≡ Some place
+  pub row : Row
+  pub is_row : slice_get rows place ≡ Some row
+  pub plays : row.letter ≡ letter
+  pub next : (v : ℕ) → StandsAt keys v (step_key (pair_of a leaf)) → StandsFor is_first keys kept row.memory v (pair_of a leaf).state

@@ -1,0 +1,188 @@
+//! The diagrams of a machine: for each memory one that leads each letter of the other player to a row.
+
+ghost use Rattle.std.specs.Prelude.{◌≡◌, ◌≢◌, ℕ, ◌<◌, true, false, Any, IfOk, OnOk, Some, length, slice_get};
+ghost use Rattle.std.specs.List.{All, Contains};
+ghost use Rattle.ps_diagram.specs.Table.{Keeps};
+ghost use Rattle.ps_machine.specs.Boards.{board_of};
+ghost use Rattle.ps_machine.specs.Drawing.{CanEnter, IsDrawn, IsOwn, IsPlan, IsRow, KeepsRows};
+ghost use Rattle.ps_machine.specs.Extracting.{StandsFor};
+ghost use Rattle.ps_machine.specs.Moving.{IsFit};
+ghost use Rattle.ps_machine.specs.Numbering.{StandsAt};
+ghost use Rattle.ps_machine.specs.Placing.{IsEntered, IsPlaced, PlaysClass};
+ghost use Rattle.ps_machine.specs.declared.key.Key.TheVariants.{First};
+
+use crate::key::{Key, Order};
+use crate::machine::Row;
+use crate::memories::Memories;
+use indexmap::IndexSet;
+use ps_automaton::Automaton;
+use ps_certificate::Certificate;
+use ps_diagram::{Class, Node, Store};
+use std::alloc::{AllocError, Global};
+
+/// What a machine is made from.
+#[derive(Drop)]
+pub(crate) struct Plan<'a> {
+    /// Who moves first.
+    pub order: Order,
+    /// The automaton.
+    pub automaton: &'a Automaton,
+    /// What each vertex of its game stands for.
+    pub keys: &'a IndexSet<Key>,
+    /// Who wins each of them, by which moves.
+    pub certificate: &'a Certificate,
+    /// Whether the winner of vertex 0 moves first.
+    pub moves_first: bool,
+    /// What that player remembers.
+    pub memories: &'a Memories,
+}
+
+/// Diagrams and rows as far as they are made.
+#[derive(Drop)]
+pub(crate) struct Drawing {
+    /// The propositions of the player who moves first.
+    pub mask: u64,
+    /// The automaton's diagrams, and those that were made of them.
+    pub store: Store,
+    /// The rows, each at the place that its leaves have.
+    pub rows: IndexSet<Row>,
+    /// The places of the rows of the automaton's leaves. Only those of the leaves that were noted last count.
+    pub places: Vec<u64>,
+}
+
+impl Plan<'_> {
+    /// The memory in which the machine is behind a step of the automaton, to that state by an edge of that priority.
+    pub fn memory_behind(&self, state: u32, priority: u64) -> usize
+        requires { CanEnter self.now.order self.now.automaton.now self.now.keys.now.keys self.now.certificate.now self.now.moves_first self.now.memories.now.kept.items self.now.memories.now.marks.keys state priority }
+        ensures within { result < length self.now.memories.now.kept.items }
+        ensures stands { (v : ℕ) → StandsAt self.now.keys.now.keys v (First state priority) → StandsFor self.now.moves_first self.now.keys.now.keys self.now.memories.now.kept.items result v state }
+    {
+        let key = Key::First { state, priority };
+        let vertex = self.keys.get_index_of(&key).unwrap();
+        let mark = if self.moves_first {
+            vertex
+        } else {
+            state as usize
+        };
+        self.memories.marks.get_index_of(&mark).unwrap()
+    }
+
+    /// The letter that a player who moves first plays at the vertex of a memory: that of the class to which its move leads.
+    fn letter_at(&self, vertex: usize) -> u64
+        requires plan { IsPlan self.now.order self.now.automaton.now self.now.keys.now.keys self.now.certificate.now self.now.moves_first self.now.memories.now.kept.items self.now.memories.now.marks.keys }
+        requires kept { Contains self.now.memories.now.kept.items vertex }
+        requires turn { self.now.moves_first ≡ true }
+        ensures { (q p : ℕ) → StandsAt self.now.keys.now.keys vertex (First q p) → PlaysClass (board_of self.now.order self.now.automaton.now) self.now.keys.now.keys self.now.certificate.now vertex q result }
+    {
+        let chosen = self.certificate.choice(vertex).unwrap();
+        match self.keys.as_slice()[chosen] {
+            Key::Second { letter, .. } => letter,
+            Key::First { .. } => unreachable!(),
+        }
+    }
+}
+
+impl Drawing {
+    /// The diagram of the memory that is kept at a vertex.
+    pub fn node(
+        &mut self,
+        alloc: Global,
+        plan: &Plan<'_>,
+        vertex: usize,
+    ) -> Result<Node, AllocError>
+        requires plan { IsPlan plan.now.order plan.now.automaton.now plan.now.keys.now.keys plan.now.certificate.now plan.now.moves_first plan.now.memories.now.kept.items plan.now.memories.now.marks.keys }
+        requires kept { Contains plan.now.memories.now.kept.items vertex }
+        requires fit { IsFit plan.now.order plan.now.automaton.now self.old.mask self.old.store }
+        requires rows { All (IsRow plan.now.moves_first (board_of plan.now.order plan.now.automaton.now) plan.now.memories.now.kept.items) self.old.rows.keys }
+        ensures mask { self.new.mask ≡ self.old.mask }
+        ensures keeps { Keeps self.old.store self.new.store }
+        ensures same_rows { KeepsRows self.old.rows.keys self.new.rows.keys }
+        ensures rows { All (IsRow plan.now.moves_first (board_of plan.now.order plan.now.automaton.now) plan.now.memories.now.kept.items) self.new.rows.keys }
+        ensures drawn { IfOk result (λ node. IsDrawn plan.now.moves_first (board_of plan.now.order plan.now.automaton.now) plan.now.keys.now.keys plan.now.memories.now.kept.items plan.now.certificate.now self.new.store self.new.rows.keys vertex node) }
+    {
+        match plan.keys.as_slice()[vertex] {
+            Key::First { state, .. } => if plan.moves_first {
+                self.first_node(plan, vertex, state)
+            } else {
+                self.second_node(alloc, plan, vertex, state)
+            },
+            Key::Second { .. } => unreachable!(),
+        }
+    }
+
+    /// The diagram of the memory of a player who moves first: the rest of the class to which its move leads, with its rows.
+    fn first_node(&mut self, plan: &Plan<'_>, vertex: usize, state: u32) -> Result<Node, AllocError>
+        requires plan { IsPlan plan.now.order plan.now.automaton.now plan.now.keys.now.keys plan.now.certificate.now plan.now.moves_first plan.now.memories.now.kept.items plan.now.memories.now.marks.keys }
+        requires kept { Contains plan.now.memories.now.kept.items vertex }
+        requires turn { plan.now.moves_first ≡ true }
+        requires stands { (p : ℕ) × StandsAt plan.now.keys.now.keys vertex (First state p) }
+        requires fit { IsFit plan.now.order plan.now.automaton.now self.old.mask self.old.store }
+        requires rows { All (IsRow plan.now.moves_first (board_of plan.now.order plan.now.automaton.now) plan.now.memories.now.kept.items) self.old.rows.keys }
+        ensures mask { self.new.mask ≡ self.old.mask }
+        ensures keeps { Keeps self.old.store self.new.store }
+        ensures same_rows { KeepsRows self.old.rows.keys self.new.rows.keys }
+        ensures rows { All (IsRow plan.now.moves_first (board_of plan.now.order plan.now.automaton.now) plan.now.memories.now.kept.items) self.new.rows.keys }
+        ensures drawn { IfOk result (λ node. IsDrawn plan.now.moves_first (board_of plan.now.order plan.now.automaton.now) plan.now.keys.now.keys plan.now.memories.now.kept.items plan.now.certificate.now self.new.store self.new.rows.keys vertex node) }
+    {
+        let letter = plan.letter_at(vertex);
+        let node = plan.automaton.node(state);
+        let classes = self.store.classes(node, self.mask)?.list;
+        let rest = rest_of(&classes, letter);
+        let leaves = self.store.leaves(rest)?;
+        self.place_rows(plan, letter, &leaves)?;
+        self.store.relabel(rest, &self.places)
+    }
+
+    /// Notes the places of the rows of leaves, where that letter is played.
+    fn place_rows(
+        &mut self,
+        plan: &Plan<'_>,
+        letter: u64,
+        leaves: &[(u64, u64)],
+    ) -> Result<(), AllocError>
+        requires entered { All (λ leaf. IsEntered plan.now.order plan.now.automaton.now plan.now.keys.now.keys plan.now.certificate.now plan.now.moves_first plan.now.memories.now.kept.items plan.now.memories.now.marks.keys leaf.0) leaves.now }
+        requires own { IsOwn plan.now.moves_first (board_of plan.now.order plan.now.automaton.now) letter }
+        requires rows { All (IsRow plan.now.moves_first (board_of plan.now.order plan.now.automaton.now) plan.now.memories.now.kept.items) self.old.rows.keys }
+        ensures mask { self.new.mask ≡ self.old.mask }
+        ensures store { self.new.store ≡ self.old.store }
+        ensures same_rows { KeepsRows self.old.rows.keys self.new.rows.keys }
+        ensures rows { All (IsRow plan.now.moves_first (board_of plan.now.order plan.now.automaton.now) plan.now.memories.now.kept.items) self.new.rows.keys }
+        ensures placed { OnOk result (All (λ leaf. IsPlaced plan.now.automaton.now plan.now.keys.now.keys plan.now.moves_first plan.now.memories.now.kept.items self.new.rows.keys self.new.places.items letter leaf.0) leaves.now) }
+    {
+        for (leaf, _) in leaves {
+            let step = plan.automaton.pair(*leaf);
+            let memory = plan.memory_behind(step.state, step.priority);
+            let (place, _) = self.rows.insert_full(Row { memory, letter })?;
+            note(&mut self.places, *leaf, place as u64)?;
+        }
+        Ok(())
+    }
+}
+
+/// What is left of the steps behind the letter of one of the classes.
+fn rest_of(classes: &[Class], letter: u64) -> Node
+    requires { Any (λ class. class.letter ≡ letter) classes.now }
+    ensures { Any (λ class. (class.letter ≡ letter) × (class.rest ≡ result)) classes.now }
+{
+    match classes.iter().find(|class| class.letter == letter) {
+        Some(class) => class.rest,
+        None => unreachable!(),
+    }
+}
+
+/// Notes the place of a leaf's row, where there may be none yet for lesser leaves.
+fn note(places: &mut Vec<u64>, leaf: u64, place: u64) -> Result<(), AllocError>
+    ensures noted { OnOk result (slice_get places.new.items leaf ≡ Some place) }
+    ensures others { OnOk result ((other n : ℕ) → other ≢ leaf → slice_get places.old.items other ≡ Some n → slice_get places.new.items other ≡ Some n) }
+{
+    let leaf = leaf as usize;
+    if places.len() < leaf {
+        places.resize(leaf, 0)?;
+    }
+    if leaf < places.len() {
+        places[leaf] = place;
+    } else {
+        places.push(place)?;
+    }
+    Ok(())
+}

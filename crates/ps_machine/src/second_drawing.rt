@@ -1,0 +1,126 @@
+//! The diagrams of a machine whose player moves second.
+
+ghost use Rattle.std.specs.Prelude.{◌≡◌, ℕ, ◌<◌, false, Any, IfOk, length};
+ghost use Rattle.std.specs.List.{All, AllZip, Contains};
+ghost use Rattle.ps_automaton.specs.Automata.{pair_of};
+ghost use Rattle.ps_diagram.specs.Table.{Keeps};
+ghost use Rattle.ps_machine.specs.Boards.{IsClass, board_of};
+ghost use Rattle.ps_machine.specs.Drawing.{CanEnter, IsAnswer, IsDrawn, IsPlan, IsReply, IsRow, KeepsRows, NamesAnswer};
+ghost use Rattle.ps_machine.specs.Moving.{IsFit, IsRest};
+ghost use Rattle.ps_machine.specs.Numbering.{StandsAt};
+ghost use Rattle.ps_machine.specs.declared.key.Key.TheVariants.{First};
+
+use crate::drawing::{Drawing, Plan};
+use crate::key::Key;
+use crate::machine::Row;
+use ps_automaton::{Automaton, Step};
+use ps_diagram::{Class, Node};
+use std::alloc::{AllocError, Global};
+
+impl Plan<'_> {
+    /// The step to which the move of a winner who moves second leads, behind the least letter of a class.
+    fn reply(&self, state: u32, letter: u64) -> Step
+        requires turn { self.now.moves_first ≡ false }
+        requires entered { (p : ℕ) × CanEnter self.now.order self.now.automaton.now self.now.keys.now.keys self.now.certificate.now self.now.moves_first self.now.memories.now.kept.items self.now.memories.now.marks.keys state p }
+        requires class { IsClass (board_of self.now.order self.now.automaton.now) state letter }
+        ensures reply { IsReply (board_of self.now.order self.now.automaton.now) self.now.keys.now.keys self.now.certificate.now state letter result.state result.priority }
+        ensures enters { CanEnter self.now.order self.now.automaton.now self.now.keys.now.keys self.now.certificate.now self.now.moves_first self.now.memories.now.kept.items self.now.memories.now.marks.keys result.state result.priority }
+    {
+        let at = self
+            .keys
+            .get_index_of(&Key::Second { state, letter })
+            .unwrap();
+        let chosen = self.certificate.choice(at).unwrap();
+        match self.keys.as_slice()[chosen] {
+            Key::First { state, priority } => Step { state, priority },
+            Key::Second { .. } => unreachable!(),
+        }
+    }
+}
+
+impl Drawing {
+    /// The diagram of the memory of a player who moves second: the places of the classes of the first player's letters, with its rows.
+    pub fn second_node(
+        &mut self,
+        alloc: Global,
+        plan: &Plan<'_>,
+        vertex: usize,
+        state: u32,
+    ) -> Result<Node, AllocError>
+        requires plan { IsPlan plan.now.order plan.now.automaton.now plan.now.keys.now.keys plan.now.certificate.now plan.now.moves_first plan.now.memories.now.kept.items plan.now.memories.now.marks.keys }
+        requires kept { Contains plan.now.memories.now.kept.items vertex }
+        requires turn { plan.now.moves_first ≡ false }
+        requires stands { (p : ℕ) × StandsAt plan.now.keys.now.keys vertex (First state p) }
+        requires fit { IsFit plan.now.order plan.now.automaton.now self.old.mask self.old.store }
+        requires rows { All (IsRow plan.now.moves_first (board_of plan.now.order plan.now.automaton.now) plan.now.memories.now.kept.items) self.old.rows.keys }
+        ensures mask { self.new.mask ≡ self.old.mask }
+        ensures keeps { Keeps self.old.store self.new.store }
+        ensures same_rows { KeepsRows self.old.rows.keys self.new.rows.keys }
+        ensures rows { All (IsRow plan.now.moves_first (board_of plan.now.order plan.now.automaton.now) plan.now.memories.now.kept.items) self.new.rows.keys }
+        ensures drawn { IfOk result (λ node. IsDrawn plan.now.moves_first (board_of plan.now.order plan.now.automaton.now) plan.now.keys.now.keys plan.now.memories.now.kept.items plan.now.certificate.now self.new.store self.new.rows.keys vertex node) }
+    {
+        let classes = self.store.classes(plan.automaton.node(state), self.mask)?;
+        let values = self.rows_of_classes(alloc, plan, state, &classes.list)?;
+        self.store.relabel(classes.places, &values)
+    }
+
+    /// For each class of the first player's letters the place of the row of what is played there.
+    fn rows_of_classes(
+        &mut self,
+        alloc: Global,
+        plan: &Plan<'_>,
+        state: u32,
+        classes: &[Class],
+    ) -> Result<Vec<u64>, AllocError>
+        requires turn { plan.now.moves_first ≡ false }
+        requires entered { (p : ℕ) × CanEnter plan.now.order plan.now.automaton.now plan.now.keys.now.keys plan.now.certificate.now plan.now.moves_first plan.now.memories.now.kept.items plan.now.memories.now.marks.keys state p }
+        requires fit { IsFit plan.now.order plan.now.automaton.now self.old.mask self.old.store }
+        requires classes { All (λ class. IsClass (board_of plan.now.order plan.now.automaton.now) state class.letter) classes.now }
+        requires rests { All (λ class. IsRest plan.now.order plan.now.automaton.now self.old.mask self.old.store state class.letter class.rest) classes.now }
+        requires rows { All (IsRow plan.now.moves_first (board_of plan.now.order plan.now.automaton.now) plan.now.memories.now.kept.items) self.old.rows.keys }
+        ensures mask { self.new.mask ≡ self.old.mask }
+        ensures store { self.new.store ≡ self.old.store }
+        ensures same_rows { KeepsRows self.old.rows.keys self.new.rows.keys }
+        ensures rows { All (IsRow plan.now.moves_first (board_of plan.now.order plan.now.automaton.now) plan.now.memories.now.kept.items) self.new.rows.keys }
+        ensures values { IfOk result (λ values. AllZip (λ class value. NamesAnswer (board_of plan.now.order plan.now.automaton.now) plan.now.keys.now.keys plan.now.memories.now.kept.items plan.now.certificate.now self.new.rows.keys state class.letter value) classes.now values.items) }
+    {
+        let mut values = Vec::new(alloc);
+        for class in classes {
+            let row = self.row_of_class(plan, state, *class)?;
+            let (place, _) = self.rows.insert_full(row)?;
+            values.push(place as u64)?;
+        }
+        Ok(values)
+    }
+
+    /// The row of what is played behind a class of the first player's letters, and of the memory that comes next.
+    fn row_of_class(&self, plan: &Plan<'_>, state: u32, class: Class) -> Result<Row, AllocError>
+        requires turn { plan.now.moves_first ≡ false }
+        requires entered { (p : ℕ) × CanEnter plan.now.order plan.now.automaton.now plan.now.keys.now.keys plan.now.certificate.now plan.now.moves_first plan.now.memories.now.kept.items plan.now.memories.now.marks.keys state p }
+        requires fit { IsFit plan.now.order plan.now.automaton.now self.now.mask self.now.store }
+        requires class { IsClass (board_of plan.now.order plan.now.automaton.now) state class.letter }
+        requires rest { IsRest plan.now.order plan.now.automaton.now self.now.mask self.now.store state class.letter class.rest }
+        ensures { IfOk result (IsAnswer (board_of plan.now.order plan.now.automaton.now) plan.now.keys.now.keys plan.now.memories.now.kept.items plan.now.certificate.now state class.letter) }
+    {
+        let leaves = self.store.leaves(class.rest)?;
+        let step = plan.reply(state, class.letter);
+        Ok(Row {
+            memory: plan.memory_behind(step.state, step.priority),
+            letter: letter_to(plan.automaton, &leaves, step),
+        })
+    }
+}
+
+/// The letter of the leaf that names a step.
+fn letter_to(automaton: &Automaton, leaves: &[(u64, u64)], step: Step) -> u64
+    requires named { All (λ leaf. leaf.0 < length automaton.now.steps) leaves.now }
+    requires there { Any (λ leaf. pair_of automaton.now leaf.0 ≡ step) leaves.now }
+    ensures { Any (λ leaf. (pair_of automaton.now leaf.0 ≡ step) × (leaf.1 ≡ result)) leaves.now }
+{
+    for (leaf, letter) in leaves {
+        if automaton.pair(*leaf) == step {
+            return *letter;
+        }
+    }
+    unreachable!()
+}
