@@ -16,8 +16,8 @@ use Rattle.ps_label.specs.Truth.{is_in}
 use Rattle.ps_hoa.specs.Files.{is_among}
 use Rattle.ps_machine.specs.Machines.{MachineData, IsMachine, memories_of, step_of, next_of, plays}
 use Rattle.ps_aiger.specs.Circuits.{CircuitData, IsDraft, IsCircuit, IsDefinition, IsKnown, IsName, Reads, variable, definitions}
-use Rattle.ps_aiger.specs.Building.{Drafted, Extends, AreSides, IsFull, IsSound, Meets, bit}
-use Rattle.ps_aiger.specs.Built.{AreLiterals, IsBuilt, IsOutOfLiterals}
+use Rattle.ps_aiger.specs.Building.{Drafted, Extends, AreSides, IsSound, Meets, bit}
+use Rattle.ps_aiger.specs.Built.{AreLiterals, IsBuilt}
 use Rattle.ps_aiger.specs.Encoded.{Encodes, IsTidy, IsTidyGate, SeesNoInput, StepsAs, number_of, memory_of, letter_over, bits_over, symbols_of}
 use Rattle.ps_aiger.specs.Values.{Steps, bit_of, value_of, resets}
 use Rattle.std.specs.Option.{unwrap_or}
@@ -144,17 +144,6 @@ symbol_more m names ps i old new r name names_are lt known is same added before 
 pub ok_with : {T E : Type 0} (r : Result T E) (P Q R : T → Type 0) → ((x : T) → P x → Q x → R x) → IfOk r P → IfOk r Q → IfOk r R
 ok_with (Ok x) P Q R f p q = f x p q
 ok_with (Err e) P Q R f p q = tt
-
-pub out_of_literals : (m : MachineData) (latches memories : ℕ) (d : Drafted) → memories ≡ memories_of m → memories ≤ 2 ^ latches → ((n : ℕ) → memories ≤ 2 ^ n → latches ≤ n) → d.given ≡ length m.inputs + latches → IsSound d → IsFull d → IsOutOfLiterals m
-out_of_literals m latches memories d e room least given sound full = record {
-  latches = latches;
-  room = subst (λ n. n ≤ 2 ^ latches) e room;
-  needed = λ n h. least n (subst (λ k. k ≤ 2 ^ n) (sym e) h);
-  held = d;
-  given = given;
-  sound = sound;
-  full = full;
-}
 
 two_hold : (P : ℕ → Type 0) (x y : ℕ) → P x → P y → All P (x ∷ y ∷ [])
 two_hold P x y a b zero e lt = a

@@ -71,10 +71,10 @@ knows-none m w d known e node literal is = absurd (none_is_not literal (sym (e n
 no_bits : (p : ℕ) → is_in p 0 ≡ false
 no_bits p = ap (λ n. nat_eq n 1) (bit_at_above 0 0 p (omega arith) (omega arith))
 
-no_row : (m : MachineData) → row_of m (length m.rows) ≡ record { memory = 0; letter = 0 }
+pub no_row : (m : MachineData) → row_of m (length m.rows) ≡ record { memory = 0; letter = 0 }
 no_row m = get_or_past m.rows (length m.rows) _ (omega arith)
 
-nothing_wanted : (w : Wanted) → wanted_bit w (record { memory = 0; letter = 0 }) ≡ false
+pub nothing_wanted : (w : Wanted) → wanted_bit w (record { memory = 0; letter = 0 }) ≡ false
 nothing_wanted (Next j) = no_bits j
 nothing_wanted (Output p) = no_bits p
 
@@ -107,7 +107,7 @@ literal-low m w d node p low high literal sees none l = record {
   is = λ v meets x has. l.is v meets x has ∙ sym (ap (λ o. wanted_bit w (row_of m (unwrap_or o (length m.rows)))) (sees.leaf x ∙ ap (λ b. cond b (leaf_of m.store high x) (leaf_of m.store low x)) (has.no_other p none)));
 }
 
-by_cond : {X Y : Type 0} (f : X → Y) (b : Bool) (h l : X) → cond b (f h) (f l) ≡ f (cond b h l)
+pub by_cond : {X Y : Type 0} (f : X → Y) (b : Bool) (h l : X) → cond b (f h) (f l) ≡ f (cond b h l)
 by_cond f true h l = refl
 by_cond f false h l = refl
 

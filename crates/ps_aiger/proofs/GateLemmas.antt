@@ -125,7 +125,7 @@ sound-more d s is room sides none = record {
   ];
 }
 
-drafted_are : (a b : Drafted) → a.given ≡ b.given → a.gates ≡ b.gates → a ≡ b
+pub drafted_are : (a b : Drafted) → a.given ≡ b.given → a.gates ≡ b.gates → a ≡ b
 drafted_are a b e f = let made : ℕ → List Sides → Drafted = λ n g. record { given = n; gates = g } in ap (λ n. made n a.gates) e ∙ ap (λ g. made b.given g) f
 
 -- what is true once a gate has its place

@@ -15,7 +15,10 @@ pub mod WentText
 pub mod OneReading
 pub mod Ordered
 pub mod GateLemmas
+pub mod MadeLemmas
 pub mod FunctionLemmas
 pub mod RangeLemmas
 pub mod LetterLemmas
+pub mod OverLemmas
 pub mod EncodeLemmas
+pub mod WiredLemmas

@@ -1,7 +1,8 @@
 -- What the circuit of a machine is made of.
 --     AreLiterals m d latches wanted literals      each literal has its wanted bit, in each memory and at each input letter
 --     IsBuilt m d next outputs c      the circuit of these gates, next literals and outputs
---     IsOutOfLiterals m      where no circuit is made
+--     IsWired m c      its literals and gates are those of the machine's circuit, in their order
+--     IsOutOfLiterals m      where no circuit is made: the gates need too many variables
 use Rattle.std.specs.Prelude.{◌≡◌, ℕ, ◌+◌, ◌*◌, ◌^◌, ◌<◌, ◌≤◌, false, List, length, map, slice_get, slice_index, Some, None, replicate}
 use Rattle.std.specs.List.{range_with_len}
 use Rattle.ps_machine.specs.Machines.{MachineData, memories_of}
@@ -11,8 +12,9 @@ use Rattle.ps_aiger.specs.declared.parts.Latch.{Latch}
 use Rattle.ps_aiger.specs.declared.builder.Sides.{Sides}
 use Rattle.ps_aiger.specs.Circuits.{CircuitData}
 use Rattle.ps_aiger.specs.Encoded.{symbols_of}
-use Rattle.ps_aiger.specs.Building.{Drafted, IsFull, IsSound, variables_of}
+use Rattle.ps_aiger.specs.Building.{Drafted, variables_of}
 use Rattle.ps_aiger.specs.Functions.{IsLiteralAt}
+use Rattle.ps_aiger.specs.Gates.{next_wires, output_wires}
 
 pub record AreLiterals (m : MachineData) (d : Drafted) (latches : ℕ) (wanted : List Wanted) (literals : List ℕ) : Type 0 where
   pub many : length literals ≡ length wanted
@@ -38,12 +40,18 @@ pub record IsBuilt (m : MachineData) (d : Drafted) (next outputs : List ℕ) (c 
   pub output_names : c.output_names ≡ symbols_of m m.outputs
   pub latch_names : c.latch_names ≡ replicate (length next) None
 
--- Over the inputs and as many latches as are needed there are gates that leave no literal for one more variable.
+-- the next values of the latches, the outputs and the gates are those that are made for as many latches
+pub record IsWiredBy (m : MachineData) (c : CircuitData) (latches : ℕ) : Type 0 where
+  pub next : map (λ l. l.next) c.latches ≡ (next_wires m latches).literals
+  pub outputs : c.outputs ≡ (output_wires m latches).literals
+  pub gates : AreGates (length m.inputs + latches + 1) (output_wires m latches).draft.gates c.gates
+
+abbrev pub IsWired : MachineData → CircuitData → Type 0
+IsWired m c = IsWiredBy m c (length c.latches)
+
+-- With as many latches as are needed, the circuit's gates take more variables than have literals.
 pub record IsOutOfLiterals (m : MachineData) : Type 0 where
   pub latches : ℕ
   pub room : memories_of m ≤ 2 ^ latches
   pub needed : (n : ℕ) → memories_of m ≤ 2 ^ n → latches ≤ n
-  pub held : Drafted
-  pub given : held.given ≡ length m.inputs + latches
-  pub sound : IsSound held
-  pub full : IsFull held
+  pub above : 2147483647 < variables_of (output_wires m latches).draft

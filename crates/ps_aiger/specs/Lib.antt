@@ -5,10 +5,12 @@ pub mod Drafts
 pub mod Encoded
 pub mod Building
 pub mod Functions
+pub mod Gates
 pub mod Built
 pub mod Written
 pub mod Causes
 pub mod CauseNames
+pub mod EncodeFaultNames
 pub mod Signs
 pub mod Texts
 pub mod Cursors

@@ -2,6 +2,7 @@
 
 ghost use Rattle.std.specs.Prelude.{◌≡◌, ℕ, ◌+◌, ◌*◌, ◌^◌, ◌<◌, ◌≤◌, ◌&&◌, ◌||◌, Bool, not, cond, [], length, slice_get, Some, IfOk};
 ghost use Rattle.ps_aiger.specs.Building.{Drafted, AreSides, Extends, IsFull, IsHeld, IsNew, IsSound, Meets, NeedsGate, bit, negated, variables_of};
+ghost use Rattle.ps_aiger.specs.Gates.{and_of, chosen_of, gate_of, mux_of, or_of};
 
 use crate::encode_fault::EncodeFault;
 use indexmap::IndexSet;
@@ -78,6 +79,7 @@ impl Builder {
     /// # Errors
     ///
     /// Fails where 2147483647 variables are there and one more is needed, or a growth was refused.
+    #[tactic(auto, unfolding(crate::specs::Gates::and_of))]
     pub fn and(&mut self, x: u32, y: u32) -> Result<u32, EncodeFault>
         requires first { IsHeld self.old x }
         requires second { IsHeld self.old y }
@@ -86,6 +88,8 @@ impl Builder {
         ensures bit { IfOk result (λ literal. (v : ℕ → Bool) → Meets self.new v → bit v literal ≡ (bit v x && bit v y)) }
         ensures too_large { result ≡ Err EncodeFault.CircuitTooLarge → IsFull self.new }
         ensures needed { result ≡ Err EncodeFault.CircuitTooLarge → NeedsGate self.new x y }
+        ensures made { IfOk result (λ literal. and_of self.old x y ≡ record { draft = self.new; literal = literal }) }
+        ensures above { result ≡ Err EncodeFault.CircuitTooLarge → 2147483647 < variables_of (and_of self.old x y).draft }
     {
         if x == 0 || y == 0 || x == negation(y) {
             return Ok(0);
@@ -114,6 +118,7 @@ impl Builder {
     /// # Errors
     ///
     /// As for `and`.
+    #[tactic(auto, unfolding(crate::specs::Gates::or_of))]
     pub fn or(&mut self, x: u32, y: u32) -> Result<u32, EncodeFault>
         requires first { IsHeld self.old x }
         requires second { IsHeld self.old y }
@@ -122,6 +127,8 @@ impl Builder {
         ensures bit { IfOk result (λ literal. (v : ℕ → Bool) → Meets self.new v → bit v literal ≡ (bit v x || bit v y)) }
         ensures too_large { result ≡ Err EncodeFault.CircuitTooLarge → IsFull self.new }
         ensures needed { result ≡ Err EncodeFault.CircuitTooLarge → NeedsGate self.new (negated x) (negated y) }
+        ensures made { IfOk result (λ literal. or_of self.old x y ≡ record { draft = self.new; literal = literal }) }
+        ensures above { result ≡ Err EncodeFault.CircuitTooLarge → 2147483647 < variables_of (or_of self.old x y).draft }
     {
         let neither = self.and(negation(x), negation(y))?;
         Ok(negation(neither))
@@ -132,6 +139,7 @@ impl Builder {
     /// # Errors
     ///
     /// As for `and`.
+    #[tactic(auto, unfolding(crate::specs::Gates::mux_of))]
     pub fn mux(&mut self, s: u32, high: u32, low: u32) -> Result<u32, EncodeFault>
         requires chooses { IsHeld self.old s }
         requires high { IsHeld self.old high }
@@ -140,6 +148,8 @@ impl Builder {
         ensures held { IfOk result (λ literal. IsHeld self.new literal) }
         ensures bit { IfOk result (λ literal. (v : ℕ → Bool) → Meets self.new v → bit v literal ≡ cond (bit v s) (bit v high) (bit v low)) }
         ensures too_large { result ≡ Err EncodeFault.CircuitTooLarge → IsFull self.new }
+        ensures made { IfOk result (λ literal. mux_of self.old s high low ≡ record { draft = self.new; literal = literal }) }
+        ensures above { result ≡ Err EncodeFault.CircuitTooLarge → 2147483647 < variables_of (mux_of self.old s high low).draft }
     {
         if high == low {
             return Ok(high);
@@ -166,6 +176,7 @@ impl Builder {
     }
 
     /// The same, where neither of the two is constant.
+    #[tactic(auto, unfolding(crate::specs::Gates::chosen_of))]
     fn chosen(&mut self, s: u32, high: u32, low: u32) -> Result<u32, EncodeFault>
         requires chooses { IsHeld self.old s }
         requires high { IsHeld self.old high }
@@ -174,6 +185,8 @@ impl Builder {
         ensures held { IfOk result (λ literal. IsHeld self.new literal) }
         ensures bit { IfOk result (λ literal. (v : ℕ → Bool) → Meets self.new v → bit v literal ≡ cond (bit v s) (bit v high) (bit v low)) }
         ensures too_large { result ≡ Err EncodeFault.CircuitTooLarge → IsFull self.new }
+        ensures made { IfOk result (λ literal. chosen_of self.old s high low ≡ record { draft = self.new; literal = literal }) }
+        ensures above { result ≡ Err EncodeFault.CircuitTooLarge → 2147483647 < variables_of (chosen_of self.old s high low).draft }
     {
         let where_true = self.and(s, high)?;
         let where_false = self.and(negation(s), low)?;
@@ -188,6 +201,8 @@ impl Builder {
         ensures bit { IfOk result (λ literal. (v : ℕ → Bool) → Meets self.new v → bit v literal ≡ (bit v sides.first && bit v sides.second)) }
         ensures too_large { result ≡ Err EncodeFault.CircuitTooLarge → IsFull self.new }
         ensures needed { result ≡ Err EncodeFault.CircuitTooLarge → NeedsGate self.new sides.first sides.second }
+        ensures made { IfOk result (λ literal. gate_of self.old sides ≡ record { draft = self.new; literal = literal }) }
+        ensures above { result ≡ Err EncodeFault.CircuitTooLarge → 2147483647 < variables_of (gate_of self.old sides).draft }
     {
         let variables = self.given + self.gates.len() as u32;
         if variables == MOST_VARIABLES && !self.gates.contains(&sides) {

@@ -17,6 +17,30 @@ pub enum EncodeFault {
     OutOfMemory,
 }
 
+impl EncodeFault {
+    ghost use Rattle.ps_aiger.specs.EncodeFaultNames.{fault_number, fault_name};
+
+    /// The fault's number in psyn's list of faults.
+    pub fn number(self) -> u8
+        ensures { result ≡ fault_number self }
+    {
+        match self {
+            EncodeFault::CircuitTooLarge => 60,
+            EncodeFault::OutOfMemory => 24,
+        }
+    }
+
+    /// The fault's name.
+    pub fn name(self) -> &'static str
+        ensures { result.now ≡ fault_name self }
+    {
+        match self {
+            EncodeFault::CircuitTooLarge => "CircuitTooLarge",
+            EncodeFault::OutOfMemory => "OutOfMemory",
+        }
+    }
+}
+
 impl From<AllocError> for EncodeFault {
     ghost from_gives = { λ _ fault. fault ≡ OutOfMemory };
 

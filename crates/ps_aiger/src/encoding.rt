@@ -5,8 +5,9 @@ ghost use Rattle.std.specs.List.{range_with_len};
 ghost use Rattle.ps_machine.specs.Machines.{IsMachine, memories_of};
 ghost use Rattle.ps_aiger.specs.Drafts.{data_of, name_bytes};
 ghost use Rattle.ps_aiger.specs.Encoded.{Encodes, IsTidy, SeesNoInput, symbols_of};
-ghost use Rattle.ps_aiger.specs.Building.{Extends, IsFull, IsSound};
-ghost use Rattle.ps_aiger.specs.Built.{AreGates, AreLatches, AreLiterals, IsBuilt, IsOutOfLiterals};
+ghost use Rattle.ps_aiger.specs.Building.{Extends, IsSound, variables_of};
+ghost use Rattle.ps_aiger.specs.Built.{AreGates, AreLatches, AreLiterals, IsBuilt, IsOutOfLiterals, IsWired};
+ghost use Rattle.ps_aiger.specs.Gates.{next_wires, output_wires, wired};
 ghost use Rattle.ps_aiger.specs.Functions.{IsLiteralAt, wanted_place};
 ghost use Rattle.ps_aiger.specs.declared.functions.Wanted.TheVariants.{Next, Output};
 
@@ -28,6 +29,7 @@ pub fn encode(alloc: Global, machine: &Machine) -> Result<Circuit, EncodeFault>
     ensures encodes { IfOk result (λ circuit. Encodes machine.now circuit) }
     ensures tidy { IfOk result (λ circuit. IsTidy circuit) }
     ensures sees_no_input { IfOk result (λ circuit. IsTrue machine.now.is_first → SeesNoInput circuit) }
+    ensures wired { IfOk result (λ circuit. IsWired machine.now circuit) }
     ensures too_large { result ≡ Err EncodeFault.CircuitTooLarge → IsOutOfLiterals machine.now }
 {
     let latches = latches_for(machine.memories());
@@ -56,8 +58,11 @@ fn circuit_of(
     requires many { length next.now ≡ latches }
     requires next { (j : ℕ) → j < latches → IsLiteralAt machine.now (Next j) builder.now latches 0 (slice_index next.now j) }
     requires outputs { AreLiterals machine.now builder.now latches (map Output machine.now.outputs) outputs.items }
+    requires next_wired { next.now ≡ (next_wires machine.now latches).literals }
+    requires output_wired { output_wires machine.now latches ≡ record { draft = builder.now; literals = outputs.items } }
     ensures encodes { IfOk result (λ circuit. Encodes machine.now circuit) }
     ensures tidy { IfOk result (λ circuit. IsTidy circuit) }
+    ensures wired { IfOk result (λ circuit. IsWired machine.now circuit) }
     ensures sees_no_input { IfOk result (λ circuit. IsTrue machine.now.is_first → SeesNoInput circuit) }
 {
     let parts = parts_of(alloc, builder, machine, next, outputs)?;
@@ -115,7 +120,8 @@ fn literals_of(
     requires small { length machine.now.inputs ≤ 64 }
     ensures extends { Extends builder.old builder.new }
     ensures literals { IfOk result (λ literals. AreLiterals machine.now builder.new latches wanted.now literals.items) }
-    ensures too_large { result ≡ Err EncodeFault.CircuitTooLarge → IsFull builder.new }
+    ensures made { IfOk result (λ literals. wired machine.now latches wanted.now builder.old ≡ record { draft = builder.new; literals = literals.items }) }
+    ensures too_large { result ≡ Err EncodeFault.CircuitTooLarge → 2147483647 < variables_of (wired machine.now latches wanted.now builder.old).draft }
 {
     let mut literals = Vec::new(alloc);
     for bit in wanted {

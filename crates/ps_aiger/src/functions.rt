@@ -5,8 +5,9 @@ ghost use Rattle.ps_hoa.specs.Files.{is_among};
 ghost use Rattle.indexmap.specs.IndexMap.{get};
 ghost use Rattle.ps_diagram.specs.Table.{IsNode};
 ghost use Rattle.ps_machine.specs.Machines.{memories_of, row_of};
-ghost use Rattle.ps_aiger.specs.Building.{Extends, IsFull};
+ghost use Rattle.ps_aiger.specs.Building.{Extends, variables_of};
 ghost use Rattle.ps_aiger.specs.Functions.{IsLiteralAt, IsLiteralOf, KnowsLiterals, memory_at, wanted_bit, wanted_place};
+ghost use Rattle.ps_aiger.specs.Gates.{KnowsMade, code_made, node_made};
 
 use crate::builder::Builder;
 use crate::encode_fault::EncodeFault;
@@ -39,7 +40,8 @@ pub(crate) fn literal_of(
     requires small { length machine.now.inputs ≤ 64 }
     ensures extends { Extends builder.old builder.new }
     ensures literal { IfOk result (λ literal. IsLiteralAt machine.now wanted builder.new latches 0 literal) }
-    ensures too_large { result ≡ Err EncodeFault.CircuitTooLarge → IsFull builder.new }
+    ensures made { IfOk result (λ literal. code_made machine.now wanted latches 0 builder.old ≡ record { draft = builder.new; literal = literal }) }
+    ensures too_large { result ≡ Err EncodeFault.CircuitTooLarge → 2147483647 < variables_of (code_made machine.now wanted latches 0 builder.old).draft }
 {
     let mut known = IndexMap::new(alloc);
     over_latches(builder, machine, wanted, &mut known, latches, 0)
@@ -61,10 +63,13 @@ fn over_latches(
     requires given { length machine.now.inputs + latches ≤ builder.old.given }
     requires small { length machine.now.inputs ≤ 64 }
     requires known { KnowsLiterals machine.now wanted builder.old (get nat_eq known.old) }
+    requires known_made { KnowsMade machine.now wanted builder.old (get nat_eq known.old) }
     ensures extends { Extends builder.old builder.new }
     ensures known { KnowsLiterals machine.now wanted builder.new (get nat_eq known.new) }
     ensures literal { IfOk result (λ literal. IsLiteralAt machine.now wanted builder.new latches code literal) }
-    ensures too_large { result ≡ Err EncodeFault.CircuitTooLarge → IsFull builder.new }
+    ensures made { IfOk result (λ literal. code_made machine.now wanted latches code builder.old ≡ record { draft = builder.new; literal = literal }) }
+    ensures too_large { result ≡ Err EncodeFault.CircuitTooLarge → 2147483647 < variables_of (code_made machine.now wanted latches code builder.old).draft }
+    ensures known_made { IfOk result (λ literal. KnowsMade machine.now wanted builder.new (get nat_eq known.new)) }
 {
     if latches == 0 {
         return over_inputs(builder, machine, wanted, known, node_at(machine, code));
@@ -101,10 +106,13 @@ fn over_inputs(
     requires given { length machine.now.inputs ≤ builder.old.given }
     requires small { length machine.now.inputs ≤ 64 }
     requires known { KnowsLiterals machine.now wanted builder.old (get nat_eq known.old) }
+    requires known_made { KnowsMade machine.now wanted builder.old (get nat_eq known.old) }
     ensures extends { Extends builder.old builder.new }
     ensures known { KnowsLiterals machine.now wanted builder.new (get nat_eq known.new) }
     ensures literal { IfOk result (λ literal. IsLiteralOf machine.now wanted builder.new node literal) }
-    ensures too_large { result ≡ Err EncodeFault.CircuitTooLarge → IsFull builder.new }
+    ensures made { IfOk result (λ literal. node_made machine.now wanted node builder.old ≡ record { draft = builder.new; literal = literal }) }
+    ensures too_large { result ≡ Err EncodeFault.CircuitTooLarge → 2147483647 < variables_of (node_made machine.now wanted node builder.old).draft }
+    ensures known_made { IfOk result (λ literal. KnowsMade machine.now wanted builder.new (get nat_eq known.new)) }
 {
     match machine.store().view(node) {
         View::Nothing => Ok(0),

@@ -4,6 +4,8 @@ use Rattle.ps_aiger.specs.Circuits.{CircuitData, IsCircuit}
 use Rattle.ps_aiger.specs.Drafts.{data_of}
 use Rattle.ps_aiger.specs.Encoded.{Encodes, IsTidy, SeesNoInput}
 use Rattle.ps_aiger.proofs.EncodeLemmas.{draft, ordered, is_tidy, sees, encodes, ok_with}
+use Rattle.ps_aiger.specs.Built.{IsWired}
+use Rattle.ps_aiger.proofs.WiredLemmas.{is_wired}
 use Rattle.ps_aiger.proofs.encoding.circuit_of.Goals as goal
 
 pub in_order-requires : goal.in_order-requires
@@ -33,3 +35,9 @@ returns-clause-sees_no_input c =
     let e = c.parts_of.ensures in
     let r = c.requires in
     IfOk-weaker c.in_order.result _ _ (λ x is first. subst SeesNoInput (sym is) (sees c.args.machine.now e.machine c.args.builder.now e.sound c.args.latches c.args.next.now c.args.outputs.items (data_of c.in_ok-parts.parts) c.in_ok-parts.ensures.built r.given r.many r.next r.outputs r.enough first)) c.in_order.ensures.ok
+
+pub returns-clause-wired : goal.returns-clause-wired
+returns-clause-wired c =
+    let r = c.requires in
+    IfOk-weaker c.in_order.result _ _ (λ x is. subst (IsWired c.args.machine.now) (sym is)
+    (is_wired c.args.machine.now c.args.latches c.args.builder.now c.args.next.now c.args.outputs.items (data_of c.in_ok-parts.parts) r.many r.given c.in_ok-parts.ensures.built r.next_wired r.output_wired)) c.in_order.ensures.ok

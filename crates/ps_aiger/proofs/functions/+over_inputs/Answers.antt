@@ -1,10 +1,16 @@
-use Rattle.std.proofs.Common.{◌≡◌, ◌∙◌, ℕ, ◌<◌, ◌≤◌, List, Some, slice_get, ap, sym, subst, arith, length, nat_eq}
+use Rattle.std.proofs.Common.{◌≡◌, ◌∙◌, ℕ, ◌+◌, ◌*◌, Err, None, false, ◌<◌, ◌≤◌, List, Some, slice_get, ap, sym, subst, arith, length, nat_eq}
 use Rattle.std.specs.Map.{lookup}
+use Rattle.std.proofs.lemmas.Result.{IfOk-weaker}
+use Rattle.ps_hoa.specs.Files.{is_among}
 use Rattle.indexmap.specs.IndexMap.{get}
-use Rattle.ps_diagram.specs.Table.{Table}
+use Rattle.ps_diagram.specs.Table.{Table, leaf_of}
 use Rattle.ps_diagram.specs.Views.{SeesTest}
-use Rattle.ps_aiger.proofs.GateLemmas.{extends-trans}
+use Rattle.ps_aiger.specs.Building.{variables_of}
+use Rattle.ps_aiger.specs.Gates.{Made, node_made}
+use Rattle.ps_aiger.proofs.GateLemmas.{extends-trans, passed}
 use Rattle.ps_aiger.proofs.FunctionLemmas.{literal-kept, literal-test, knows-kept, knows-more, knows-same, place_small, held_place}
+use Rattle.ps_aiger.proofs.OverLemmas.{inputs-extends, made-nothing, made-leaf, made-low, made-test}
+use Rattle.ps_aiger.proofs.WiredLemmas.{choice-made, choice-above, choice-above_low, made-kept, made-more}
 use Rattle.ps_aiger.proofs.functions.+over_inputs.Goals as goal
 
 pub returns-in-Some-get-clause-literal : goal.returns-in-Some-get-clause-literal
@@ -53,3 +59,84 @@ returns-in_ok-insert-in-Test-clause-known t c =
     (literal-kept c.args.machine.now c.args.wanted c.over_inputs-in-Test.new.builder c.mux.new.self c.in-Test.high c.in_ok-where_true-in-Test.where_true (extends-trans _ _ _ c.over_inputs-in-Test-2.ensures.extends c.mux.ensures.extends) c.in_ok-where_true-in-Test.ensures.literal)
     (literal-kept c.args.machine.now c.args.wanted c.over_inputs-in-Test-2.new.builder c.mux.new.self c.in-Test.low c.in_ok-where_false-in-Test.where_false c.mux.ensures.extends c.in_ok-where_false-in-Test.ensures.literal)
     c.in_ok-literal-in-Test.ensures.held c.in_ok-literal-in-Test.ensures.bit)
+
+pub returns-in-Nothing-clause-made : goal.returns-in-Nothing-clause-made
+returns-in-Nothing-clause-made t c =
+    made-nothing c.args.machine.now c.args.wanted c.args.node c.args.builder.now (subst (λ (s : Table). (letter : ℕ) → leaf_of s c.args.node letter ≡ None) c.store.ensures.store c.in-Nothing.ensures)
+
+pub returns-in-Leaf-clause-made : goal.returns-in-Leaf-clause-made
+returns-in-Leaf-clause-made t c =
+    made-leaf c.args.machine.now c.args.wanted c.args.node c.in-Leaf.leaf c.constant.result c.args.builder.now
+    (subst (λ (s : Table). (letter : ℕ) → leaf_of s c.args.node letter ≡ Some c.in-Leaf.leaf) c.store.ensures.store c.in-Leaf.ensures) c.constant.ensures
+
+pub returns-in_default-clause-made : goal.returns-in_default-clause-made
+returns-in_default-clause-made t c =
+    let sees = subst (λ (s : Table). SeesTest s c.args.node c.in-Test.proposition c.in-Test.low c.in-Test.high) c.store.ensures.store c.in-Test.ensures in
+    let none = subst (λ (xs : List ℕ). is_among c.in-Test.proposition xs ≡ false) c.inputs.ensures.inputs c.in_default.ensures.none in
+    IfOk-weaker c.over_inputs.result _ _ (λ literal is. made-low c.args.machine.now c.args.wanted c.args.node c.in-Test.proposition c.in-Test.low c.in-Test.high c.args.builder.now c.inputs.ensures.machine sees none ∙ is) c.over_inputs.ensures.made
+
+pub returns-in_default-clause-too_large : goal.returns-in_default-clause-too_large
+returns-in_default-clause-too_large t c e =
+    let sees = subst (λ (s : Table). SeesTest s c.args.node c.in-Test.proposition c.in-Test.low c.in-Test.high) c.store.ensures.store c.in-Test.ensures in
+    let none = subst (λ (xs : List ℕ). is_among c.in-Test.proposition xs ≡ false) c.inputs.ensures.inputs c.in_default.ensures.none in
+    subst (λ (n : Made). 2147483647 < variables_of n.draft) (sym (made-low c.args.machine.now c.args.wanted c.args.node c.in-Test.proposition c.in-Test.low c.in-Test.high c.args.builder.now c.inputs.ensures.machine sees none)) (c.over_inputs.ensures.too_large e)
+
+pub returns-in-Some-get-clause-made : goal.returns-in-Some-get-clause-made
+returns-in-Some-get-clause-made t c = c.requires.known_made c.args.node c.in-Some-get.literal.now (sym c.in-Some-get.ensures.value)
+
+pub returns-in_err-where_true-in-Test-clause-too_large : goal.returns-in_err-where_true-in-Test-clause-too_large
+returns-in_err-where_true-in-Test-clause-too_large t c e =
+    let m = c.args.machine.now in
+    let w = c.args.wanted in
+    let s = 2 * (c.in-Some.place + 1) in
+    let whole = made-test m w c.args.node c.in-Test.proposition c.in-Test.low c.in-Test.high c.in-Some.place c.args.builder.now c.inputs.ensures.machine
+    (subst (λ (t : Table). SeesTest t c.args.node c.in-Test.proposition c.in-Test.low c.in-Test.high) c.store.ensures.store c.in-Test.ensures)
+    (subst (λ (xs : List ℕ). slice_get xs c.in-Some.place ≡ Some c.in-Test.proposition) c.inputs.ensures.inputs c.in-Some.ensures.found) in
+    choice-above _ _ (node_made m w c.in-Test.low) s whole (inputs-extends m w c.in-Test.low)
+    (c.over_inputs-in-Test.ensures.too_large (c.in_err-where_true-in-Test.was ∙ ap (λ f. Err f) (passed c.from_residual.result c.in_err-where_true-in-Test.field-0.0 _ c.from_residual.ensures.1 e)))
+
+pub returns-in_err-where_false-in-Test-clause-too_large : goal.returns-in_err-where_false-in-Test-clause-too_large
+returns-in_err-where_false-in-Test-clause-too_large t c e =
+    let m = c.args.machine.now in
+    let w = c.args.wanted in
+    let s = 2 * (c.in-Some.place + 1) in
+    let whole = made-test m w c.args.node c.in-Test.proposition c.in-Test.low c.in-Test.high c.in-Some.place c.args.builder.now c.inputs.ensures.machine
+    (subst (λ (t : Table). SeesTest t c.args.node c.in-Test.proposition c.in-Test.low c.in-Test.high) c.store.ensures.store c.in-Test.ensures)
+    (subst (λ (xs : List ℕ). slice_get xs c.in-Some.place ≡ Some c.in-Test.proposition) c.inputs.ensures.inputs c.in-Some.ensures.found) in
+    choice-above_low _ _ (node_made m w c.in-Test.low) c.over_inputs-in-Test.new.builder s c.in_ok-where_true-in-Test.where_true whole c.in_ok-where_true-in-Test.ensures.made
+    (c.over_inputs-in-Test-2.ensures.too_large (c.in_err-where_false-in-Test.was ∙ ap (λ f. Err f) (passed c.from_residual-in_err-where_false-in-Test.result c.in_err-where_false-in-Test.field-0.0 _ c.from_residual-in_err-where_false-in-Test.ensures.1 e)))
+
+pub returns-in_err-literal-in-Test-clause-too_large : goal.returns-in_err-literal-in-Test-clause-too_large
+returns-in_err-literal-in-Test-clause-too_large t c e =
+    let m = c.args.machine.now in
+    let w = c.args.wanted in
+    let s = 2 * (c.in-Some.place + 1) in
+    let whole = made-test m w c.args.node c.in-Test.proposition c.in-Test.low c.in-Test.high c.in-Some.place c.args.builder.now c.inputs.ensures.machine
+    (subst (λ (t : Table). SeesTest t c.args.node c.in-Test.proposition c.in-Test.low c.in-Test.high) c.store.ensures.store c.in-Test.ensures)
+    (subst (λ (xs : List ℕ). slice_get xs c.in-Some.place ≡ Some c.in-Test.proposition) c.inputs.ensures.inputs c.in-Some.ensures.found) in
+    subst (λ (n : Made). 2147483647 < variables_of n.draft) (sym (choice-made _ _ (node_made m w c.in-Test.low) c.over_inputs-in-Test.new.builder c.over_inputs-in-Test-2.new.builder s c.in_ok-where_true-in-Test.where_true c.in_ok-where_false-in-Test.where_false whole c.in_ok-where_true-in-Test.ensures.made c.in_ok-where_false-in-Test.ensures.made))
+    (c.mux.ensures.above (c.in_err-literal-in-Test.was ∙ ap (λ f. Err f) (passed c.from_residual-in_err-literal-in-Test.result c.in_err-literal-in-Test.field-0.0 _ c.from_residual-in_err-literal-in-Test.ensures.1 e)))
+
+pub returns-in_ok-insert-in-Test-clause-made : goal.returns-in_ok-insert-in-Test-clause-made
+returns-in_ok-insert-in-Test-clause-made t c =
+    let m = c.args.machine.now in
+    let w = c.args.wanted in
+    let s = 2 * (c.in-Some.place + 1) in
+    let whole = made-test m w c.args.node c.in-Test.proposition c.in-Test.low c.in-Test.high c.in-Some.place c.args.builder.now c.inputs.ensures.machine
+    (subst (λ (t : Table). SeesTest t c.args.node c.in-Test.proposition c.in-Test.low c.in-Test.high) c.store.ensures.store c.in-Test.ensures)
+    (subst (λ (xs : List ℕ). slice_get xs c.in-Some.place ≡ Some c.in-Test.proposition) c.inputs.ensures.inputs c.in-Some.ensures.found) in
+    choice-made _ _ (node_made m w c.in-Test.low) c.over_inputs-in-Test.new.builder c.over_inputs-in-Test-2.new.builder s c.in_ok-where_true-in-Test.where_true c.in_ok-where_false-in-Test.where_false whole c.in_ok-where_true-in-Test.ensures.made c.in_ok-where_false-in-Test.ensures.made
+    ∙ c.in_ok-literal-in-Test.ensures.made
+
+pub returns-in_ok-insert-in-Test-clause-known_made : goal.returns-in_ok-insert-in-Test-clause-known_made
+returns-in_ok-insert-in-Test-clause-known_made t c =
+    let m = c.args.machine.now in
+    let w = c.args.wanted in
+    let s = 2 * (c.in-Some.place + 1) in
+    let whole = made-test m w c.args.node c.in-Test.proposition c.in-Test.low c.in-Test.high c.in-Some.place c.args.builder.now c.inputs.ensures.machine
+    (subst (λ (t : Table). SeesTest t c.args.node c.in-Test.proposition c.in-Test.low c.in-Test.high) c.store.ensures.store c.in-Test.ensures)
+    (subst (λ (xs : List ℕ). slice_get xs c.in-Some.place ≡ Some c.in-Test.proposition) c.inputs.ensures.inputs c.in-Some.ensures.found) in
+    made-more m w c.args.builder.now c.mux.new.self (get nat_eq c.over_inputs-in-Test-2.new.known) (get nat_eq c.insert.new.self) c.args.node c.in_ok-literal-in-Test.literal c.in_ok-insert-in-Test.ensures.updates.0
+    (made-kept m w c.over_inputs-in-Test-2.new.builder c.mux.new.self (get nat_eq c.over_inputs-in-Test-2.new.known) c.mux.ensures.extends c.in_ok-where_false-in-Test.ensures.known_made)
+    (choice-made _ _ (node_made m w c.in-Test.low) c.over_inputs-in-Test.new.builder c.over_inputs-in-Test-2.new.builder s c.in_ok-where_true-in-Test.where_true c.in_ok-where_false-in-Test.where_false whole c.in_ok-where_true-in-Test.ensures.made c.in_ok-where_false-in-Test.ensures.made
+    ∙ c.in_ok-literal-in-Test.ensures.made)

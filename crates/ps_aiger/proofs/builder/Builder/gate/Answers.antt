@@ -1,8 +1,10 @@
-use Rattle.std.proofs.Common.{◌≡◌, ◌∙◌, ◌+◌, ap, sym, subst, refl, false}
+use Rattle.std.proofs.Common.{◌≡◌, ◌∙◌, ◌+◌, ◌*◌, ◌<◌, ap, sym, subst, refl, false}
 use Rattle.std.specs.List.{list_any}
 use Rattle.ps_aiger.specs.contracts.builder.SidesPartialEq.TheImpl as sides_eq
 use Rattle.ps_aiger.specs.Building.{Drafted, AreSides, Extends, IsFull, NeedsGate, variables_of}
+use Rattle.ps_aiger.specs.Gates.{gate_of}
 use Rattle.ps_aiger.proofs.GateLemmas.{Placed, placed, placed-bit, needs, new-absent, true_is_not_false}
+use Rattle.ps_aiger.proofs.MadeLemmas.{made-placed, above-new}
 use Rattle.ps_aiger.proofs.builder.Builder.gate.Goals as goal
 use Rattle.ps_aiger.proofs.builder.Builder.gate.Goals.{else-variables-eq-MOST_VARIABLES-via-then-variables-eq-MOST_VARIABLES+else-not-contains, else-variables-eq-MOST_VARIABLES-via-else-variables-eq-MOST_VARIABLES}
 
@@ -39,3 +41,14 @@ returns-clause-extends c = let P : Drafted → Type 0 = λ t. Extends t (after c
 
 pub returns-clause-bit : goal.returns-clause-bit
 returns-clause-bit c = placed-bit (after c) c.args.sides c.in_ok-place.place (done c).at
+
+pub returns-then-not-contains-clause-above : goal.returns-then-not-contains-clause-above
+returns-then-not-contains-clause-above c e =
+    let d : Drafted = record { given = c.self.inside.given; gates = c.self.inside.gates.keys } in
+    subst (λ t. 2147483647 < variables_of (gate_of t c.args.sides).draft) c.self.view_is
+    (above-new d c.args.sides (sym (ap (λ n. c.self.inside.given + n) c.len.ensures.len) ∙ c.if-variables-eq-MOST_VARIABLES.true) (sym c.contains.ensures ∙ c.if-not-contains.true))
+
+pub returns-clause-made : goal.returns-clause-made
+returns-clause-made c =
+    subst (λ t. gate_of t c.args.sides ≡ record { draft = after c; literal = 2 * (c.self.inside.given + 1 + c.in_ok-place.place) }) c.self.view_is
+    (made-placed (before c) (after c) c.args.sides c.in_ok-place.place (done c) refl c.in_ok-place.ensures.keys)
