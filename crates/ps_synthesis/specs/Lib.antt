@@ -1,0 +1,5 @@
+pub mod Printing
+pub mod Reports
+pub mod Stages
+pub mod SynthFaults
+pub mod SynthFaultNames

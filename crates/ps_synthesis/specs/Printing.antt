@@ -1,0 +1,27 @@
+-- What a report prints. Each text is that of its value, and is read again as that value.
+--     PrintsGame text game      the text of a game
+--     PrintsCertificate compact text game certificate      the text of a certificate, with all counts or as a compact one
+--     PrintsCircuit text circuit      the text of a circuit
+use Rattle.std.specs.Prelude.{◌≡◌, ℕ, ◌≤◌, Bool, List, length, Ok}
+use Rattle.ps_aiger.specs.Circuits.{CircuitData}
+use Rattle.ps_aiger.specs.Texts as circuits
+use Rattle.ps_aiger.specs.Written.{text_of}
+use Rattle.ps_certificate.specs.Certificates.{CertificateData}
+use Rattle.ps_certificate.specs.Texts as certificates
+use Rattle.ps_certificate.specs.Written.{text_in}
+use Rattle.ps_game.specs.Games.{NamedGameData}
+use Rattle.ps_pgsolver.specs.Reading as games
+use Rattle.ps_pgsolver.specs.Written.{game_text}
+
+-- a text of a game may be too long to be read
+pub record PrintsGame (text : List ℕ) (game : NamedGameData) : Type 0 where
+  pub written : text ≡ game_text game
+  pub read_again : length text ≤ games.text_limit → games.Answer text (Ok game)
+
+pub record PrintsCertificate (compact : Bool) (text : List ℕ) (game : NamedGameData) (certificate : CertificateData) : Type 0 where
+  pub written : text ≡ text_in compact game certificate
+  pub read_again : certificates.Reads game text (Ok certificate)
+
+pub record PrintsCircuit (text : List ℕ) (circuit : CircuitData) : Type 0 where
+  pub written : text ≡ text_of circuit
+  pub read_again : circuits.Reads text (Ok circuit)

@@ -1,0 +1,96 @@
+-- What the stages on the way to a report give: an automaton, a certificate, a circuit.
+--     IsAutomatonOf text a      the automaton of the file of a text that is accepted
+--     IsTextFault text fault      why there is none
+--     IsSolverFault May game fault      why a solver's answer is no certificate
+--     IsRefusedAs game given fault      what a solver's fault is; memory may run out where vertices are named
+--     IsCircuitOf order a game certificate circuit      the circuit of the machine of the certificate
+--     HasNoCircuit order a game certificate      the machine of the certificate has no circuit of so many variables as can be named
+--     IsCircuitFault order a game certificate fault      why there is no circuit
+--     of_text, of_automaton, of_circuit      the faults of the layers below
+use Rattle.std.specs.Prelude.{◌≡◌, ℕ, List, Err, map, slice_index}
+use Rattle.ps_aiger.specs.Built.{IsOutOfLiterals, IsWired}
+use Rattle.ps_aiger.specs.Circuits.{CircuitData}
+use Rattle.ps_aiger.specs.Encoded.{Encodes, IsTidy}
+use Rattle.ps_aiger.specs.declared.encode_fault.EncodeFault.{EncodeFault}
+use Rattle.ps_aiger.specs.declared.encode_fault.EncodeFault.TheVariants as circuit
+use Rattle.ps_automaton.specs.Automata.{AutomatonData, IsBuiltFrom}
+use Rattle.ps_automaton.specs.Chains.{Chain}
+use Rattle.ps_automaton.specs.declared.fault.AutomatonFault.{AutomatonFault}
+use Rattle.ps_automaton.specs.declared.fault.AutomatonFault.TheVariants as automaton
+use Rattle.ps_certificate.specs.Certificates.{CertificateData}
+use Rattle.ps_game.specs.Games.{NamedGameData, ParityGame}
+use Rattle.ps_hoa.specs.Causes.{HoaFault}
+use Rattle.ps_hoa.specs.Files.{FileData}
+use Rattle.ps_hoa.specs.Texts.{Reads}
+use Rattle.ps_machine.specs.Boards.{IsGameOf, board_of}
+use Rattle.ps_machine.specs.Extracting.{HasPropositions, IsMachineOf}
+use Rattle.ps_machine.specs.Keys.{mover_of}
+use Rattle.ps_machine.specs.Machines.{MachineData, IsMachine}
+use Rattle.ps_machine.specs.declared.fault.SolveFault.{SolveFault}
+use Rattle.ps_machine.specs.declared.fault.SolveFault.TheVariants as solver
+use Rattle.ps_machine.specs.declared.key.Key.{Key}
+use Rattle.ps_machine.specs.declared.key.Order.{Order}
+use Rattle.ps_text.specs.declared.faults.Fault.TheVariants as hoa
+use Rattle.ps_synthesis.specs.Reports.{IsAccepted, MayAnswer}
+use Rattle.ps_synthesis.specs.SynthFaults.{HasNoAutomaton, IsLost, IsNotCertified}
+use Rattle.ps_synthesis.specs.declared.fault.SynthFault.{SynthFault}
+use Rattle.ps_synthesis.specs.declared.fault.SynthFault.TheVariants.{Text, Automaton, BadCycle, Certificate, NotCertified, CircuitTooLarge, OutOfMemory}
+
+pub record IsAutomatonOf (text : List ℕ) (a : AutomatonData) : Type 0 where
+  pub file : FileData
+  pub accepted : IsAccepted text file
+  pub chain : Chain
+  pub built : IsBuiltFrom file chain a
+
+abbrev pub IsTextFault : List ℕ → SynthFault → Type 0
+IsTextFault text (Text cause offset) = Reads text (Err (record { cause = cause; offset = offset }))
+IsTextFault text (Automaton fault) = HasNoAutomaton text fault
+IsTextFault text OutOfMemory = Unit {0}
+IsTextFault text fault = ⊥
+
+abbrev pub IsSolverFault : MayAnswer → NamedGameData → SynthFault → Type 0
+IsSolverFault May game (BadCycle ids) = IsLost May game ids.items
+IsSolverFault May game (Certificate cause offset) = May game (Err (solver.Text cause offset))
+IsSolverFault May game NotCertified = IsNotCertified May game
+IsSolverFault May game OutOfMemory = Unit {0}
+IsSolverFault May game fault = ⊥
+
+abbrev pub IsRefusedAs : NamedGameData → SolveFault → SynthFault → Type 0
+IsRefusedAs game (solver.BadCycle cycle) (BadCycle ids) = ids.items ≡ map (λ v. slice_index game.ids v) cycle.items
+IsRefusedAs game (solver.Text cause offset) fault = fault ≡ Certificate cause offset
+IsRefusedAs game given fault = fault ≡ OutOfMemory
+
+-- the machine of the winner by a certificate of the automaton's game
+pub record IsExtracted (order : Order) (a : AutomatonData) (game : ParityGame) (certificate : CertificateData) (m : MachineData) : Type 0 where
+  pub is_machine : IsMachine m
+  pub propositions : HasPropositions a.names (board_of order a) m
+  pub machine_of : (keys : List Key) → IsGameOf (board_of order a) (mover_of order) keys game → IsMachineOf (board_of order a) (mover_of order) keys game certificate m
+
+pub record HasNoCircuit (order : Order) (a : AutomatonData) (game : ParityGame) (certificate : CertificateData) : Type 0 where
+  pub machine : MachineData
+  pub extracted : IsExtracted order a game certificate machine
+  pub out_of_literals : IsOutOfLiterals machine
+
+pub record IsCircuitOf (order : Order) (a : AutomatonData) (game : ParityGame) (certificate : CertificateData) (circuit : CircuitData) : Type 0 where
+  pub machine : MachineData
+  pub extracted : IsExtracted order a game certificate machine
+  pub encodes : Encodes machine circuit
+  pub tidy : IsTidy circuit
+  pub wired : IsWired machine circuit
+
+abbrev pub IsCircuitFault : Order → AutomatonData → ParityGame → CertificateData → SynthFault → Type 0
+IsCircuitFault order a game certificate CircuitTooLarge = HasNoCircuit order a game certificate
+IsCircuitFault order a game certificate OutOfMemory = Unit {0}
+IsCircuitFault order a game certificate fault = ⊥
+
+abbrev pub of_text : HoaFault → SynthFault
+of_text (hoa.Text cause offset) = Text cause offset
+of_text hoa.OutOfMemory = OutOfMemory
+
+abbrev pub of_automaton : AutomatonFault → SynthFault
+of_automaton automaton.OutOfMemory = OutOfMemory
+of_automaton fault = Automaton fault
+
+abbrev pub of_circuit : EncodeFault → SynthFault
+of_circuit circuit.CircuitTooLarge = CircuitTooLarge
+of_circuit circuit.OutOfMemory = OutOfMemory

@@ -1,0 +1,26 @@
+-- The numbers and the names of the faults for which a text gets no report.
+use Rattle.std.specs.Prelude.{ℕ, List, codes}
+use Rattle.ps_automaton.specs.FaultNames as automaton
+use Rattle.ps_certificate.specs.Faults as certificate
+use Rattle.ps_hoa.specs.CauseNames as hoa_names
+use Rattle.ps_hoa.specs.Causes as hoa
+use Rattle.ps_synthesis.specs.declared.fault.SynthFault.{SynthFault}
+use Rattle.ps_synthesis.specs.declared.fault.SynthFault.TheVariants.{Text, Automaton, BadCycle, Certificate, NotCertified, CircuitTooLarge, OutOfMemory}
+
+abbrev pub fault_number : SynthFault → ℕ
+fault_number (Text cause offset) = hoa.cause_number cause
+fault_number (Automaton fault) = automaton.fault_number fault
+fault_number (BadCycle ids) = 40
+fault_number (Certificate cause offset) = certificate.cause_number cause
+fault_number NotCertified = 41
+fault_number CircuitTooLarge = 60
+fault_number OutOfMemory = 24
+
+abbrev pub fault_name : SynthFault → List ℕ
+fault_name (Text cause offset) = hoa_names.cause_name cause
+fault_name (Automaton fault) = automaton.fault_name fault
+fault_name (BadCycle ids) = codes "BadCycle"
+fault_name (Certificate cause offset) = certificate.cause_name cause
+fault_name NotCertified = codes "NotCertified"
+fault_name CircuitTooLarge = codes "CircuitTooLarge"
+fault_name OutOfMemory = codes "OutOfMemory"

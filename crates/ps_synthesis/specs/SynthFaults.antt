@@ -1,0 +1,77 @@
+-- Why a text gets no report. Each fault has its cause.
+--     HasNoAutomaton text fault      the text is that of a file that has no automaton
+--     OfGame order text P      a text that is accepted has a game for which P stands
+--     IsLost May game ids      the solver gave a cycle of the game's vertices, which have these ids
+--     IsNotCertified May game      the solver gave a certificate that does not fit, or is not valid
+--     IsTooLarge May order file game      the machine of a valid certificate has no circuit of so many variables as can be named
+--     IsSynthFault May order text fault      the cause of that fault
+--     IsSureAnswer answer      what a sure solver lets be answered to a text that is accepted
+use Rattle.std.specs.Prelude.{◌≡◌, ◌≢◌, ℕ, ◌<◌, List, length, map, slice_index, Result, Ok, Err, Vec}
+use Rattle.std.specs.Global.{Global}
+use Rattle.std.specs.List.{All}
+use Rattle.ps_aiger.specs.Built.{IsOutOfLiterals}
+use Rattle.ps_automaton.specs.Answers.{IsRefused}
+use Rattle.ps_automaton.specs.declared.fault.AutomatonFault.{AutomatonFault}
+use Rattle.ps_automaton.specs.declared.fault.AutomatonFault.TheVariants as automaton
+use Rattle.ps_certificate.specs.Certificates.{CertificateData}
+use Rattle.ps_game.specs.Games.{NamedGameData, vertex_count}
+use Rattle.ps_hoa.specs.Files.{FileData}
+use Rattle.ps_hoa.specs.Texts.{Reads}
+use Rattle.ps_machine.specs.FileGames.{IsGameOfFile}
+use Rattle.ps_machine.specs.Machines.{MachineData}
+use Rattle.ps_machine.specs.Solving.{IsCertified}
+use Rattle.ps_machine.specs.declared.fault.SolveFault.TheVariants as solver
+use Rattle.ps_machine.specs.declared.key.Order.{Order}
+use Rattle.ps_synthesis.specs.Reports.{IsAccepted, IsWinners, MayAnswer}
+use Rattle.ps_synthesis.specs.declared.fault.SynthFault.{SynthFault}
+use Rattle.ps_synthesis.specs.declared.fault.SynthFault.TheVariants.{Text, Automaton, BadCycle, Certificate, NotCertified, CircuitTooLarge, OutOfMemory}
+use Rattle.ps_synthesis.specs.declared.report.Report.{Report}
+
+pub record HasNoAutomaton (text : List ℕ) (fault : AutomatonFault) : Type 0 where
+  pub file : FileData
+  pub reads : Reads text (Ok file)
+  pub cause : fault ≢ automaton.OutOfMemory
+  pub refused : IsRefused file fault
+
+pub record OfGame (order : Order) (text : List ℕ) (P : FileData → NamedGameData → Type 0) : Type 0 where
+  pub file : FileData
+  pub accepted : IsAccepted text file
+  pub game : NamedGameData
+  pub is_game : IsGameOfFile order file game
+  pub holds : P file game
+
+pub record IsLost (May : MayAnswer) (game : NamedGameData) (ids : List ℕ) : Type 0 where
+  pub cycle : Vec ℕ Global
+  pub answered : May game (Err (solver.BadCycle cycle))
+  pub some : 0 < length cycle.items
+  pub vertices : All (λ v. v < vertex_count game.game) cycle.items
+  pub ids_are : ids ≡ map (λ v. slice_index game.ids v) cycle.items
+
+pub record IsNotCertified (May : MayAnswer) (game : NamedGameData) : Type 0 where
+  pub certificate : CertificateData
+  pub answered : May game (Ok certificate)
+  pub wrong : ¬ IsCertified game certificate
+
+pub record IsTooLarge (May : MayAnswer) (order : Order) (file : FileData) (game : NamedGameData) : Type 0 where
+  pub certificate : CertificateData
+  pub answered : May game (Ok certificate)
+  pub certified : IsCertified game certificate
+  pub is_game : IsGameOfFile order file game
+  pub machine : MachineData
+  pub winners : IsWinners order file game is_game certificate machine
+  pub out_of_literals : IsOutOfLiterals machine
+
+abbrev pub IsSynthFault : MayAnswer → Order → List ℕ → SynthFault → Type 0
+IsSynthFault May order text (Text cause offset) = Reads text (Err (record { cause = cause; offset = offset }))
+IsSynthFault May order text (Automaton fault) = HasNoAutomaton text fault
+IsSynthFault May order text (BadCycle ids) = OfGame order text (λ file game. IsLost May game ids.items)
+IsSynthFault May order text (Certificate cause offset) = OfGame order text (λ file game. May game (Err (solver.Text cause offset)))
+IsSynthFault May order text NotCertified = OfGame order text (λ file game. IsNotCertified May game)
+IsSynthFault May order text CircuitTooLarge = OfGame order text (IsTooLarge May order)
+IsSynthFault May order text OutOfMemory = Unit {0}
+
+abbrev pub IsSureAnswer : Result Report SynthFault → Type 0
+IsSureAnswer (Ok report) = Unit {0}
+IsSureAnswer (Err CircuitTooLarge) = Unit {0}
+IsSureAnswer (Err OutOfMemory) = Unit {0}
+IsSureAnswer (Err fault) = ⊥

@@ -1,0 +1,28 @@
+//! The automaton of an HOA text.
+
+ghost use Rattle.std.specs.Prelude.{◌≡◌, IfOk, IfErr};
+ghost use Rattle.ps_hoa.specs.Files.{FileData};
+ghost use Rattle.ps_synthesis.specs.Reports.{IsAccepted};
+ghost use Rattle.ps_synthesis.specs.Stages.{IsAutomatonOf, IsTextFault};
+ghost use Rattle.ps_synthesis.specs.declared.fault.SynthFault.TheVariants.{OutOfMemory};
+
+use crate::fault::SynthFault;
+use ps_automaton::{Automaton, refusal_is_one};
+use ps_hoa::one_answer;
+use std::alloc::Global;
+
+/// The automaton of an HOA text.
+///
+/// # Errors
+///
+/// The first cause for which the text is refused, or else why its file has no automaton. Fails also where a growth was refused.
+pub fn read_automaton(alloc: Global, text: &[u8]) -> Result<Automaton, SynthFault>
+    ensures automaton { IfOk result (IsAutomatonOf text.now) }
+    ensures refused { IfErr result (IsTextFault text.now) }
+    ensures accepted { (file : FileData) → IsAccepted text.now file → IfErr result (λ fault. fault ≡ OutOfMemory) }
+{
+    one_answer();
+    refusal_is_one();
+    let file = ps_hoa::read(alloc, text)?;
+    Ok(Automaton::build(alloc, &file)?)
+}

@@ -1,0 +1,24 @@
+//! From the text of a deterministic parity automaton to the circuit of the player who wins its game.
+//!
+//! What is promised: unless memory runs out or the circuit would need more variables than can be named, every text that is
+//! accepted gets a report, where the solver is sure. Whatever solver is handed in, a report is right. The game that it prints is
+//! the automaton's. The certificate that it prints gives each vertex of that game to one of the players, who wins every loop of
+//! every play from there by the moves that are printed; no strategy, whatever its memory, wins outside its player's region. The
+//! circuit that it prints is a controller, and the automaton accepts each of its ultimately periodic traces, where player 0 wins
+//! the start; else it is an environment's, and the automaton accepts none of them, nor what any controller of finitely many
+//! states does against it.
+//!
+//! The stages are here: `read_automaton` gives the automaton of a text, `circuit_of_certificate` the circuit of the player who wins
+//! the start by a certificate, `report_of` the texts; and [`SynthFault`] says why there is no report. The program joins them, and
+//! asks a solver between them.
+#![tactic(auto)]
+
+mod automata;
+mod circuits;
+mod fault;
+mod report;
+
+pub use automata::read_automaton;
+pub use circuits::circuit_of_certificate;
+pub use fault::SynthFault;
+pub use report::{Report, report_of};

@@ -1,0 +1,69 @@
+//! What synthesis answers.
+
+ghost use Rattle.std.specs.Prelude.{◌≡◌, ◌<◌, ◌↔◌, IsTrue, IfOk};
+ghost use Rattle.ps_certificate.specs.Certificates.{Fits};
+ghost use Rattle.ps_game.specs.Games.{vertex_count};
+ghost use Rattle.ps_machine.specs.Extracting.{winner};
+ghost use Rattle.ps_synthesis.specs.Printing.{PrintsCertificate, PrintsCircuit, PrintsGame};
+
+use ps_aiger::Circuit;
+use ps_certificate::Certificate;
+use ps_game::NamedGame;
+use std::alloc::{AllocError, Global};
+
+/// What is told of a text: who wins, and the three texts that show it.
+#[derive(Debug, Drop)]
+pub struct Report {
+    /// Whether the controller wins.
+    pub realizable: bool,
+    /// The circuit of the winner: a controller's, or else an environment's.
+    pub circuit_text: Vec<u8>,
+    /// The game of the automaton.
+    pub game_text: Vec<u8>,
+    /// A certificate of the game.
+    pub certificate_text: Vec<u8>,
+}
+
+/// The report of a circuit, a game and a certificate, with all counts or as a compact text.
+///
+/// # Errors
+///
+/// Fails where a growth was refused.
+pub fn report_of(
+    alloc: Global,
+    game: &NamedGame,
+    certificate: &Certificate,
+    circuit: &Circuit,
+    compact: bool,
+) -> Result<Report, AllocError>
+    requires some { 0 < vertex_count game.now.game }
+    requires fits { Fits game.now.game certificate.now }
+    ensures realizable { IfOk result (λ report. IsTrue report.realizable ↔ (winner certificate.now ≡ 0)) }
+    ensures circuit { IfOk result (λ report. PrintsCircuit report.circuit_text.items circuit.now) }
+    ensures game { IfOk result (λ report. PrintsGame report.game_text.items game.now) }
+    ensures certificate { IfOk result (λ report. PrintsCertificate compact report.certificate_text.items game.now certificate.now) }
+{
+    Ok(Report {
+        realizable: certificate.winner(0) == 0,
+        circuit_text: ps_aiger::write(alloc, circuit)?,
+        game_text: ps_pgsolver::write(alloc, game)?,
+        certificate_text: certificate_text(alloc, certificate, game, compact)?,
+    })
+}
+
+/// A certificate as one of its two texts.
+fn certificate_text(
+    alloc: Global,
+    certificate: &Certificate,
+    game: &NamedGame,
+    compact: bool,
+) -> Result<Vec<u8>, AllocError>
+    requires { Fits game.now.game certificate.now }
+    ensures { IfOk result (λ text. PrintsCertificate compact text.items game.now certificate.now) }
+{
+    if compact {
+        ps_certificate::write_compact(alloc, certificate, game)
+    } else {
+        ps_certificate::write(alloc, certificate, game)
+    }
+}
