@@ -1,4 +1,4 @@
-mod SolverLemmas
+pub mod CertifyingLemmas
 pub mod CircuitLemmas
 pub mod CommandLemmas
 pub mod KindLemmas
@@ -7,6 +7,9 @@ pub mod OneAnswer
 pub mod OneTrace
 pub mod OutcomeLemmas
 pub mod ProgramLemmas
+pub mod SolverLemmas
 pub mod StreamLemmas
+pub mod SynthLemmas
+pub mod SynthesiseLemmas
 pub mod TextLemmas
 pub mod TraceLemmas

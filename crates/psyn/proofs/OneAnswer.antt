@@ -6,6 +6,7 @@ use Rattle.ps_text.specs.Answers.{Found}
 use Rattle.ps_game.specs.Games.{ParityGame, NamedGameData, IsGame}
 use Rattle.ps_pgsolver.specs.Reading.{Answer}
 use Rattle.ps_pgsolver.specs.Causes as game
+use Rattle.ps_pgsolver.specs.Written.{game_text}
 use Rattle.ps_pgsolver.specs.declared.fault.PgCause.{PgCause}
 use Rattle.ps_certificate.specs.Certificates.{CertificateData, IsClosed, IsValid, IsFirstFlaw}
 use Rattle.ps_certificate.specs.Faults as certificate
@@ -26,6 +27,8 @@ use Rattle.ps_hoa.specs.Causes as hoa
 use Rattle.ps_hoa.specs.Files.{FileData}
 use Rattle.ps_hoa.specs.Texts as hoa_text
 use Rattle.ps_hoa.specs.declared.fault.HoaCause.{HoaCause}
+use Rattle.ps_machine.specs.FileGames.{IsGameOfFile}
+use Rattle.ps_machine.specs.declared.key.Order.{Order}
 use Rattle.ps_simulate.specs.Faults as stimulus
 use Rattle.ps_simulate.specs.Lassos.{HasOneVerdict}
 use Rattle.ps_simulate.specs.Stimuli.{StimulusData}
@@ -43,14 +46,15 @@ use Rattle.psyn.specs.Automata.{Builds, ReadsAutomaton, automaton_line}
 use Rattle.psyn.specs.Checks.{Tests}
 use Rattle.psyn.specs.CommandLine.{table, words_of, Says, IsLine}
 use Rattle.psyn.specs.Cut.{AreTexts, Cuts, HasFewerMarks, HasNoMark, first_line, behind_line}
-use Rattle.psyn.specs.Determined.{HasOneAnswer, IsOpen, solves, plays, certifies}
+use Rattle.psyn.specs.Determined.{HasOneAnswer, IsOpen, solves, certifies, synthesises}
 use Rattle.psyn.specs.Faults.{text_line}
+use Rattle.psyn.specs.Games.{AnswersGameText, MakesGame}
 use Rattle.psyn.specs.Lassos.{AnswersLasso, TellsVerdict, verdict_text}
 use Rattle.psyn.specs.Outcomes.{Then, Reading, printed}
 use Rattle.psyn.specs.Program.{Answers, AnswersLine}
 use Rattle.psyn.specs.Replies.{Reply, line_reply, text_reply}
 use Rattle.psyn.specs.Simulating.{AnswersSim}
-use Rattle.psyn.specs.Solving.{Sureness}
+use Rattle.psyn.specs.Solvers.{Solvers}
 use Rattle.psyn.specs.Texts.{CutsInTwo, CutsInThree, ReadsCertified, ReadsSimulated, flaw_text}
 use Rattle.psyn.proofs.KindLemmas.{one_fault}
 use Rattle.psyn.proofs.OneTrace.{traces_agree}
@@ -194,6 +198,9 @@ abbrev pub OneVerdict : Type 0
 OneVerdict = (role : Role) (file : FileData) (c : CircuitData) (stem lap : List (List Bool)) → IsCircuit c → HasOneValues c → HasSymbols role file.names file.controllable c
     → HasOneVerdict file c stem lap
 
+abbrev pub OneFileGame : Type 0
+OneFileGame = (order : Order) (file : FileData) (game other : NamedGameData) → IsGameOfFile order file game → IsGameOfFile order file other → game ≡ other
+
 -- ---- automata
 
 abbrev some_or : {V : Type 0} → V → Option V → V
@@ -216,6 +223,14 @@ automaton_one : OneFile → OneRefusal → OneOutcome → (text : List ℕ) → 
 automaton_one files refusals outcomes text =
     then_one _ _ (reading_one hoa.cause_number hoa_names.cause_name (hoa_text.Reads text) (files text)) (builds_one refusals outcomes)
 
+-- ---- games of automata
+
+makes_one : OneFileGame → (order : Order) (file : FileData) → IsOne (MakesGame order file)
+makes_one games order file (Ok a) (Ok b) h k = ap (ok_of {V = NamedGameData} {E = List ℕ}) (games order file a b h k)
+makes_one games order file (Ok a) (Err m) h k = absurd k
+makes_one games order file (Err l) (Ok b) h k = absurd h
+makes_one games order file (Err l) (Err m) h k = absurd h
+
 -- ---- lassos
 
 no_empty_lap : (lap : List (List Bool)) → lap ≡ [] → 0 < length lap → ⊥
@@ -234,7 +249,7 @@ tells_one verdicts role file c s (Err l) (Err m) (inl empty) (inr other') = absu
 tells_one verdicts role file c s (Err l) (Err m) (inr other) (inl empty') = absurd (no_empty_lap s.lap empty'.0 other.0)
 tells_one verdicts role file c s (Err l) (Err m) (inr other) (inr other') = ap (err_of {V = Reply}) (other.2 ∙ sym other'.2)
 
-module _ (games : OneGame) (certificates : OneCertificate) (flaws : OneFlaw) (circuits : OneCircuit) (stimuli : OneStimulus) (files : OneFile) (refusals : OneRefusal) (outcomes : OneOutcome) (verdicts : OneVerdict) where
+module _ (games : OneGame) (certificates : OneCertificate) (flaws : OneFlaw) (circuits : OneCircuit) (stimuli : OneStimulus) (files : OneFile) (refusals : OneRefusal) (outcomes : OneOutcome) (verdicts : OneVerdict) (file_games : OneFileGame) where
   certified_one : (texts : List ℕ) → IsOne (ReadsCertified texts)
   certified_one texts = then_one _ _ (cut_one texts) (λ parts. then_one _ _ (reading_one game.cause_number game.cause_name (Answer parts.0) (games parts.0))
       (λ named. then_one _ _ (reading_one certificate.cause_number certificate.cause_name (certificate_text.Reads named parts.1) (certificates named parts.1))
@@ -262,17 +277,21 @@ module _ (games : OneGame) (certificates : OneCertificate) (flaws : OneFlaw) (ci
       (λ c. then_one _ _ (reading_one stimulus.cause_number stimulus.cause_name (stimulus_text.Reads parts.2 (length c.inputs) true) (stimuli parts.2 (length c.inputs) true))
       (tells_one verdicts role file c))))
 
+  game_one : (order : Order) (text : List ℕ) → IsOne (AnswersGameText order text)
+  game_one order text = then_one _ _ (then_one _ _ (automaton_one files refusals outcomes text) (makes_one file_games order)) (λ game. ended_one (Ok (text_reply (game_text game))))
+
   -- each line that is not open
-  line_one : (sure : Sureness) (l : Line) (texts : List ℕ) → IsOne (AnswersLine sure l texts) ⊎ IsOpen l
-  line_one sure line.Refused texts = inl (ended_one _)
-  line_one sure line.Help texts = inl (ended_one _)
-  line_one sure line.Closed texts = inl (then_one _ _ (certified_one texts) (λ both. tests_one IsClosed (codes "closed") both.0 both.1))
-  line_one sure line.Check texts = inl (then_one _ _ (certified_one texts) (λ both. tests_one IsValid (codes "valid") both.0 both.1))
-  line_one sure line.Sim texts = inl (sim_one texts)
-  line_one sure (line.Lasso role) texts = inl (lasso_one role texts)
-  line_one sure (line.Solve compact) texts = inr (solves compact)
-  line_one sure (line.Game order) texts = inr (plays order)
-  line_one sure (line.Cert order compact) texts = inr (certifies order compact)
+  line_one : (solvers : Solvers) (l : Line) (texts : List ℕ) → IsOne (AnswersLine solvers l texts) ⊎ IsOpen l
+  line_one solvers line.Refused texts = inl (ended_one _)
+  line_one solvers line.Help texts = inl (ended_one _)
+  line_one solvers line.Closed texts = inl (then_one _ _ (certified_one texts) (λ both. tests_one IsClosed (codes "closed") both.0 both.1))
+  line_one solvers line.Check texts = inl (then_one _ _ (certified_one texts) (λ both. tests_one IsValid (codes "valid") both.0 both.1))
+  line_one solvers line.Sim texts = inl (sim_one texts)
+  line_one solvers (line.Lasso role) texts = inl (lasso_one role texts)
+  line_one solvers (line.Solve compact) texts = inr (solves compact)
+  line_one solvers (line.Game order) texts = inl (game_one order texts)
+  line_one solvers (line.Cert order compact) texts = inr (certifies order compact)
+  line_one solvers (line.Synth asked) texts = inr (synthesises asked)
 
   -- ---- the line
 
@@ -297,18 +316,18 @@ module _ (games : OneGame) (certificates : OneCertificate) (flaws : OneFlaw) (ci
   is_line_one first a b (inr (not, h)) (inl (utf8, k)) = absurd (not utf8)
   is_line_one first a b (inr (not, h)) (inr (not', k)) = h ∙ sym k
 
-  answers_one : (sure : Sureness) (input : List ℕ) (a b : Reply) → Answers sure input a → Answers sure input b → (a ≡ b) ⊎ ((l : Line) × IsLine (first_line input) l × IsOpen l)
-  answers_one sure input a b (l, is_line, (outcome, answers, e)) (l', is_line', (outcome', answers', e')) = by (line_one sure l (behind_line input))
+  answers_one : (solvers : Solvers) (input : List ℕ) (a b : Reply) → Answers solvers input a → Answers solvers input b → (a ≡ b) ⊎ ((l : Line) × IsLine (first_line input) l × IsOpen l)
+  answers_one solvers input a b (l, is_line, (outcome, answers, e)) (l', is_line', (outcome', answers', e')) = by (line_one solvers l (behind_line input))
     where
       same : l ≡ l'
       same = is_line_one (first_line input) l l' is_line is_line'
 
-      by : IsOne (AnswersLine sure l (behind_line input)) ⊎ IsOpen l → (a ≡ b) ⊎ ((k : Line) × IsLine (first_line input) k × IsOpen k)
-      by (inl one) = inl (e ∙ ap printed (one outcome outcome' answers (subst (λ (k : Line). AnswersLine sure k (behind_line input) outcome') (sym same) answers')) ∙ sym e')
+      by : IsOne (AnswersLine solvers l (behind_line input)) ⊎ IsOpen l → (a ≡ b) ⊎ ((k : Line) × IsLine (first_line input) k × IsOpen k)
+      by (inl one) = inl (e ∙ ap printed (one outcome outcome' answers (subst (λ (k : Line). AnswersLine solvers k (behind_line input) outcome') (sym same) answers')) ∙ sym e')
       by (inr unsettled) = inr (l, is_line, unsettled)
 
-  pub whole_one : HasOneAnswer
-  whole_one sure input a b (inl (long, e)) (inl (long', e')) = inl (e ∙ sym e')
-  whole_one sure input a b (inl (long, e)) (inr (short, h)) = absurd (omega (arith, long, short))
-  whole_one sure input a b (inr (short, h)) (inl (long, e)) = absurd (omega (arith, long, short))
-  whole_one sure input a b (inr (short, h)) (inr (short', k)) = answers_one sure input a b h k
+  pub whole_one : (solvers : Solvers) → HasOneAnswer solvers
+  whole_one solvers input a b (inl (long, e)) (inl (long', e')) = inl (e ∙ sym e')
+  whole_one solvers input a b (inl (long, e)) (inr (short, h)) = absurd (omega (arith, long, short))
+  whole_one solvers input a b (inr (short, h)) (inl (long, e)) = absurd (omega (arith, long, short))
+  whole_one solvers input a b (inr (short, h)) (inr (short', k)) = answers_one solvers input a b h k

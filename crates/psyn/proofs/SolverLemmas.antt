@@ -12,7 +12,7 @@ use Rattle.psyn.specs.Solving.{Certifies, IsRefused}
 use Rattle.ps_machine.specs.declared.fault.SolveFault.{SolveFault}
 use Rattle.ps_machine.specs.declared.fault.SolveFault.TheVariants.{BadCycle, Text, OutOfMemory}
 
-unsure : (sure : Bool) → (sure ≡ true → ⊥) → sure ≡ false
+pub unsure : (sure : Bool) → (sure ≡ true → ⊥) → sure ≡ false
 unsure false never = refl
 unsure true never = absurd (never refl)
 

@@ -13,7 +13,8 @@ use Rattle.ps_machine.specs.declared.key.Order.TheVariants.{Mealy, Moore}
 use Rattle.ps_simulate.specs.declared.role.Role.{Role}
 use Rattle.ps_simulate.specs.declared.role.Role.TheVariants.{Controller, Environment}
 use Rattle.psyn.specs.declared.command_line.Line.{Line}
-use Rattle.psyn.specs.declared.command_line.Line.TheVariants.{Refused, Help, Closed, Check, Sim, Lasso, Solve, Game, Cert}
+use Rattle.psyn.specs.declared.command_line.Line.TheVariants.{Refused, Help, Closed, Check, Sim, Lasso, Solve, Game, Cert, Synth}
+use Rattle.psyn.specs.declared.command_line.SynthLine.{SynthLine}
 
 -- what stands between runs of spaces
 abbrev pub words_of : List ℕ → List Text
@@ -37,11 +38,19 @@ command_with name flags = record (new_shape name) { rules = map flag flags }
 abbrev pub program : App
 program = on_top (λ top. record top { no_binary_name = true; disable_help_subcommand = true }) (new_app (codes "psyn"))
 
+-- the commands that have no flags
+abbrev pub plain_table : App
+plain_table = with_subcommand (with_subcommand (with_subcommand (with_subcommand program
+    (command (codes "help"))) (command (codes "closed"))) (command (codes "check"))) (command (codes "sim"))
+
+-- the command that makes a circuit
+abbrev pub synth_shape : Shape
+synth_shape = command_with (codes "synth") (codes "full" ∷ codes "cert" ∷ codes "moore" ∷ codes "compact" ∷ [])
+
 unfoldable pub table : App
-table = with_subcommand (with_subcommand (with_subcommand (with_subcommand (with_subcommand (with_subcommand (with_subcommand (with_subcommand program
-    (command (codes "help"))) (command (codes "closed"))) (command (codes "check"))) (command (codes "sim")))
+table = with_subcommand (with_subcommand (with_subcommand (with_subcommand (with_subcommand plain_table
     (command_with (codes "lasso") (codes "env" ∷ []))) (command_with (codes "solve") (codes "compact" ∷ [])))
-    (command_with (codes "game") (codes "moore" ∷ []))) (command_with (codes "cert") (codes "moore" ∷ codes "compact" ∷ []))
+    (command_with (codes "game") (codes "moore" ∷ []))) (command_with (codes "cert") (codes "moore" ∷ codes "compact" ∷ []))) synth_shape
 
 -- ---- what the words say
 
@@ -57,6 +66,15 @@ role_said rows = if is_given (codes "env") rows then Environment else Controller
 abbrev pub order_said : List Row → Order
 order_said rows = if is_given (codes "moore") rows then Moore else Mealy
 
+-- how a circuit is asked for
+abbrev pub synth_said : List Row → SynthLine
+synth_said rows = record {
+  full = is_given (codes "full") rows;
+  cert = is_given (codes "cert") rows;
+  order = order_said rows;
+  compact = is_given (codes "compact") rows;
+}
+
 -- the line of a command
 abbrev pub line_named : Text → List Row → Line
 line_named name rows = if bytes_eq name (codes "help") then Help
@@ -67,6 +85,7 @@ line_named name rows = if bytes_eq name (codes "help") then Help
     else if bytes_eq name (codes "solve") then Solve (is_given (codes "compact") rows)
     else if bytes_eq name (codes "game") then Game (order_said rows)
     else if bytes_eq name (codes "cert") then Cert (order_said rows) (is_given (codes "compact") rows)
+    else if bytes_eq name (codes "synth") then Synth (synth_said rows)
     else Refused
 
 -- the line of the command that the words name, if they name one
@@ -117,9 +136,22 @@ abbrev pub has_flag : Text → List Text → Bool
 has_flag name [] = false
 has_flag name (flag ∷ flags) = if bytes_eq name flag then true else has_flag name flags
 
+-- who moves first with these flags
+abbrev pub order_of : List Text → Order
+order_of flags = if has_flag (codes "moore") flags then Moore else Mealy
+
 -- the line of `cert` with these flags
 abbrev pub cert_line : List Text → Line
-cert_line flags = Cert (if has_flag (codes "moore") flags then Moore else Mealy) (has_flag (codes "compact") flags)
+cert_line flags = Cert (order_of flags) (has_flag (codes "compact") flags)
+
+-- the line of `synth` with these flags
+abbrev pub synth_line : List Text → Line
+synth_line flags = Synth (record {
+  full = has_flag (codes "full") flags;
+  cert = has_flag (codes "cert") flags;
+  order = order_of flags;
+  compact = has_flag (codes "compact") flags;
+})
 
 abbrev pub usages : List Usage
 usages = record { name = codes "help"; flags = []; line = λ _. Help }
@@ -129,7 +161,8 @@ usages = record { name = codes "help"; flags = []; line = λ _. Help }
     ∷ record { name = codes "lasso"; flags = codes "env" ∷ []; line = lasso_line }
     ∷ record { name = codes "solve"; flags = codes "compact" ∷ []; line = solve_line }
     ∷ record { name = codes "game"; flags = codes "moore" ∷ []; line = game_line }
-    ∷ record { name = codes "cert"; flags = codes "moore" ∷ codes "compact" ∷ []; line = cert_line } ∷ []
+    ∷ record { name = codes "cert"; flags = codes "moore" ∷ codes "compact" ∷ []; line = cert_line }
+    ∷ record { name = codes "synth"; flags = codes "full" ∷ codes "cert" ∷ codes "moore" ∷ codes "compact" ∷ []; line = synth_line } ∷ []
 
 -- a word put at each place of a list
 abbrev pub insertions : Text → List Text → List (List Text)

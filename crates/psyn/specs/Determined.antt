@@ -5,16 +5,17 @@ use Rattle.psyn.specs.CommandLine.{IsLine}
 use Rattle.psyn.specs.Cut.{first_line}
 use Rattle.psyn.specs.Program.{AnswersWhole}
 use Rattle.psyn.specs.Replies.{Reply}
-use Rattle.psyn.specs.Solving.{Sureness}
+use Rattle.psyn.specs.Solvers.{Solvers}
 use Rattle.psyn.specs.declared.command_line.Line.{Line}
-use Rattle.psyn.specs.declared.command_line.Line.TheVariants.{Solve, Game, Cert}
+use Rattle.psyn.specs.declared.command_line.SynthLine.{SynthLine}
+use Rattle.psyn.specs.declared.command_line.Line.TheVariants.{Solve, Cert, Synth}
 
--- which winning moves are printed is open; that an automaton has one game alone is not shown yet
+-- which winning moves are printed is open
 pub data IsOpen : Line → Type 0 where
   solves : (compact : Bool) → IsOpen (Solve compact)
-  plays : (order : Order) → IsOpen (Game order)
   certifies : (order : Order) (compact : Bool) → IsOpen (Cert order compact)
+  synthesises : (asked : SynthLine) → IsOpen (Synth asked)
 
 -- any two answers to one input are one, unless its line is open
-abbrev pub HasOneAnswer : Type 0
-HasOneAnswer = (sure : Sureness) (input : List ℕ) (a b : Reply) → AnswersWhole sure input a → AnswersWhole sure input b → (a ≡ b) ⊎ ((line : Line) × IsLine (first_line input) line × IsOpen line)
+abbrev pub HasOneAnswer : Solvers → Type 0
+HasOneAnswer solvers = (input : List ℕ) (a b : Reply) → AnswersWhole solvers input a → AnswersWhole solvers input b → (a ≡ b) ⊎ ((line : Line) × IsLine (first_line input) line × IsOpen line)

@@ -12,7 +12,9 @@ pub mod Program
 pub mod Refusals
 pub mod Replies
 pub mod Simulating
+pub mod Solvers
 pub mod Solving
 pub mod Streams
+pub mod Synthesis
 pub mod Texts
 pub mod Watched

@@ -2,7 +2,7 @@
 use Rattle.std.specs.Prelude.{◌≡◌, ◌≤◌, ◌<◌, ◌⊎◌, ℕ, Bool, true, false, List, length, Option, Result, Ok}
 use Rattle.std.specs.Io.KnownBytes.{Appends}
 use Rattle.psyn.specs.declared.command_line.Line.{Line}
-use Rattle.psyn.specs.declared.command_line.Line.TheVariants.{Refused, Help, Closed, Check, Sim, Lasso, Solve, Game, Cert}
+use Rattle.psyn.specs.declared.command_line.Line.TheVariants.{Refused, Help, Closed, Check, Sim, Lasso, Solve, Game, Cert, Synth}
 use Rattle.psyn.specs.CommandLine.{IsLine}
 use Rattle.psyn.specs.Checks.{AnswersClosed, AnswersCheck}
 use Rattle.psyn.specs.Cut.{first_line, behind_line}
@@ -12,41 +12,44 @@ use Rattle.psyn.specs.Lassos.{AnswersLasso}
 use Rattle.psyn.specs.Outcomes.{printed}
 use Rattle.psyn.specs.Replies.{Reply, usage, help, read_fault, out_of_memory}
 use Rattle.psyn.specs.Simulating.{AnswersSim}
-use Rattle.psyn.specs.Solving.{Sureness, AnswersSolve}
+use Rattle.psyn.specs.Solvers.{Solvers}
+use Rattle.psyn.specs.Solving.{AnswersSolve}
 use Rattle.psyn.specs.Streams.{SinkState, AppendsSome, Breaks}
+use Rattle.psyn.specs.Synthesis.{AnswersSynth}
 
--- the answer to a line, with what stands behind it; a line that asks a solver goes by whether that is sure
-abbrev pub AnswersLine : Sureness → Line → List ℕ → Result Reply (List ℕ) → Type 0
-AnswersLine sure Refused texts outcome = outcome ≡ Ok usage
-AnswersLine sure Help texts outcome = outcome ≡ Ok help
-AnswersLine sure Closed texts outcome = AnswersClosed texts outcome
-AnswersLine sure Check texts outcome = AnswersCheck texts outcome
-AnswersLine sure Sim texts outcome = AnswersSim texts outcome
-AnswersLine sure (Lasso role) texts outcome = AnswersLasso role texts outcome
-AnswersLine sure (Solve compact) texts outcome = AnswersSolve sure.built_in compact texts outcome
-AnswersLine sure (Game order) texts outcome = AnswersGameText order texts outcome
-AnswersLine sure (Cert order compact) texts outcome = AnswersCert sure.built_in order compact texts outcome
+-- the answer to a line, with what stands behind it; a line that asks a solver goes by what is known of it
+abbrev pub AnswersLine : Solvers → Line → List ℕ → Result Reply (List ℕ) → Type 0
+AnswersLine solvers Refused texts outcome = outcome ≡ Ok usage
+AnswersLine solvers Help texts outcome = outcome ≡ Ok help
+AnswersLine solvers Closed texts outcome = AnswersClosed texts outcome
+AnswersLine solvers Check texts outcome = AnswersCheck texts outcome
+AnswersLine solvers Sim texts outcome = AnswersSim texts outcome
+AnswersLine solvers (Lasso role) texts outcome = AnswersLasso role texts outcome
+AnswersLine solvers (Solve compact) texts outcome = AnswersSolve solvers.built_in.is_sure compact texts outcome
+AnswersLine solvers (Game order) texts outcome = AnswersGameText order texts outcome
+AnswersLine solvers (Cert order compact) texts outcome = AnswersCert solvers.built_in.is_sure order compact texts outcome
+AnswersLine solvers (Synth asked) texts outcome = AnswersSynth solvers asked texts outcome
 
 -- the answer to an input
-abbrev pub Answers : Sureness → List ℕ → Reply → Type 0
-Answers sure input reply =
+abbrev pub Answers : Solvers → List ℕ → Reply → Type 0
+Answers solvers input reply =
     (line : Line) × IsLine (first_line input) line
-    × ((outcome : Result Reply (List ℕ)) × AnswersLine sure line (behind_line input) outcome × (reply ≡ printed outcome))
+    × ((outcome : Result Reply (List ℕ)) × AnswersLine solvers line (behind_line input) outcome × (reply ≡ printed outcome))
 
 -- the same, of an input that may be too long
-abbrev pub AnswersWhole : Sureness → List ℕ → Reply → Type 0
-AnswersWhole sure input reply = ((input_limit < length input) × (reply ≡ read_fault))
-    ⊎ ((length input ≤ input_limit) × Answers sure input reply)
+abbrev pub AnswersWhole : Solvers → List ℕ → Reply → Type 0
+AnswersWhole solvers input reply = ((input_limit < length input) × (reply ≡ read_fault))
+    ⊎ ((length input ≤ input_limit) × Answers solvers input reply)
 
 -- the same, where any growth may have been refused
-abbrev pub RepliesTo : Sureness → List ℕ → Reply → Type 0
-RepliesTo sure input reply = (reply ≡ out_of_memory) ⊎ AnswersWhole sure input reply
+abbrev pub RepliesTo : Solvers → List ℕ → Reply → Type 0
+RepliesTo solvers input reply = (reply ≡ out_of_memory) ⊎ AnswersWhole solvers input reply
 
 -- the answer to what a source has, where a read failed or none did: any growth may have been refused
-abbrev pub Replies : Sureness → Option (List ℕ) → Bool → Reply → Type 0
-Replies sure known true reply = reply ≡ read_fault
-Replies sure known false reply = (reply ≡ out_of_memory)
-    ⊎ ((input : List ℕ) × AgreesWith known input × AnswersWhole sure input reply)
+abbrev pub Replies : Solvers → Option (List ℕ) → Bool → Reply → Type 0
+Replies solvers known true reply = reply ≡ read_fault
+Replies solvers known false reply = (reply ≡ out_of_memory)
+    ⊎ ((input : List ℕ) × AgreesWith known input × AnswersWhole solvers input reply)
 
 -- the answer went out whole and was flushed
 pub record WritesAll (before after : SinkState) (reply : Reply) (status : ℕ) : Type 0 where

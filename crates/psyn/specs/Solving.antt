@@ -16,11 +16,6 @@ use Rattle.psyn.specs.Outcomes.{Then}
 use Rattle.psyn.specs.Replies.{Reply, text_reply}
 use Rattle.psyn.specs.Texts.{ReadsGameText, id_of}
 
--- whether each of the two solvers is sure: what it gives fits and is valid, and it fails for want of memory alone
-pub record Sureness : Type 0 where
-  pub built_in : Bool
-  pub replay : Bool
-
 -- what stands in the place of a certificate: a cycle of the game's vertices, that the certificate is not a valid one, or a
 -- fault of the text that the solver was fed
 pub data IsSolverLine (named : NamedGameData) (line : List ℕ) : Type 0 where

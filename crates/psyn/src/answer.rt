@@ -13,6 +13,12 @@ const DONE: u8 = 0;
 /// The status of a fault.
 pub const FAULT: u8 = 1;
 
+/// The status of a controller's circuit.
+pub const REALIZABLE: u8 = 10;
+
+/// The status of an environment's circuit.
+pub const UNREALIZABLE: u8 = 20;
+
 /// The status of a refused command line.
 const REFUSED: u8 = 2;
 
@@ -44,6 +50,12 @@ solve    a game: a certificate that says who wins each vertex, by which moves;
 game     an automaton: the game in which its inputs move before its outputs, or
          with the flag --moore after them
 cert     an automaton: a certificate of that game; --moore, --compact
+synth    an automaton: REALIZABLE and the circuit of a controller whose traces
+         the automaton accepts, or UNREALIZABLE and that of an environment
+         against which each trace is rejected; --moore;
+         --full: then a line %%, the game, a line %%, its certificate, with
+         --compact as a compact text;
+         --cert: by the certificate of that game that is its second text
 help     this text
 
 A game has an entry for each vertex: its id, its priority, its owner (0 or 1),
@@ -93,10 +105,11 @@ o0 g
 1
 
 A fault is one line in place of the answer: `fault`, its number and its name,
-and where it stands. The exit status is 0 for an answer, 1 for a fault, or for
-an answer that could not be written whole, and 2 for a command line that is
-refused. The file docs/FAULTS.md lists the faults, with an example of each and
-how to mend it; tools/psyn, which takes files by name, explains them.
+and where it stands. The exit status is 10 for REALIZABLE, 20 for UNREALIZABLE
+and 0 for each other answer, 1 for a fault, or for an answer that could not be
+written whole, and 2 for a command line that is refused. The file docs/FAULTS.md
+lists the faults, with an example of each and how to mend it; tools/psyn, which
+takes files by name, explains them.
 ";
 
 /// What the program writes, and its exit status.

@@ -33,7 +33,7 @@ fn read_hoa(alloc: Global, text: &[u8]) -> Result<HoaFile, Refusal>
 }
 
 /// What is answered where a file has no automaton.
-fn refused(fault: AutomatonFault) -> Refusal
+pub fn refused(fault: AutomatonFault) -> Refusal
     ensures { IsAnsweredBy fault result }
 {
     match fault {

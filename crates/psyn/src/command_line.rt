@@ -2,9 +2,9 @@
 
 ghost use Rattle.std.specs.Prelude.{◌≡◌, false, List, IfOk, map};
 ghost use Rattle.clap.specs.Matches.{found_of};
-ghost use Rattle.clap.specs.Words.{app_of, rows_of, rule_of, subcommand_rows_of};
+ghost use Rattle.clap.specs.Words.{app_of, rows_of, rule_of, subcommand_rows_of, with_subcommand};
 ghost use Rattle.psyn.specs.CommandLine as words;
-ghost use Rattle.psyn.specs.CommandLine.{table, words_of, line_said, Says, IsLine, LinesAreRead, AskForHelp};
+ghost use Rattle.psyn.specs.CommandLine.{plain_table, table, words_of, line_said, Says, IsLine, LinesAreRead, AskForHelp};
 
 use clap::error::ErrorKind;
 use clap::{Arg, ArgAction, ArgMatches, Command};
@@ -41,6 +41,21 @@ pub enum Line {
         /// As a compact text.
         compact: bool,
     },
+    /// A circuit for an automaton.
+    Synth(SynthLine),
+}
+
+/// How a circuit is asked for.
+#[derive(Clone, Copy, Debug, PartialEq, Eq)]
+pub struct SynthLine {
+    /// With the game and its certificate.
+    pub full: bool,
+    /// By the certificate that stands behind the automaton.
+    pub cert: bool,
+    /// Who moves first.
+    pub order: Order,
+    /// With the certificate as a compact text.
+    pub compact: bool,
 }
 
 /// Reads the first line.
@@ -95,10 +110,6 @@ fn flag<'a>(alloc: Global, name: &'a str) -> Arg<'a>
 fn commands<'a>(alloc: Global) -> Result<Command<'a>, AllocError>
     ensures { IfOk result (λ command. app_of command ≡ table) }
 {
-    let help = Command::new(alloc, "help");
-    let closed = Command::new(alloc, "closed");
-    let check = Command::new(alloc, "check");
-    let sim = Command::new(alloc, "sim");
     let lasso = Command::new(alloc, "lasso");
     let lasso = lasso.arg(flag(alloc, "env"))?;
     let solve = Command::new(alloc, "solve");
@@ -108,17 +119,41 @@ fn commands<'a>(alloc: Global) -> Result<Command<'a>, AllocError>
     let cert = Command::new(alloc, "cert");
     let cert = cert.arg(flag(alloc, "moore"))?;
     let cert = cert.arg(flag(alloc, "compact"))?;
+    let psyn = plain_commands(alloc)?;
+    let psyn = psyn.subcommand(lasso)?;
+    let psyn = psyn.subcommand(solve)?;
+    let psyn = psyn.subcommand(game)?;
+    let psyn = psyn.subcommand(cert)?;
+    with_synth(alloc, psyn)
+}
+
+/// The commands that have no flags.
+fn plain_commands<'a>(alloc: Global) -> Result<Command<'a>, AllocError>
+    ensures { IfOk result (λ command. app_of command ≡ plain_table) }
+{
+    let help = Command::new(alloc, "help");
+    let closed = Command::new(alloc, "closed");
+    let check = Command::new(alloc, "check");
+    let sim = Command::new(alloc, "sim");
     let psyn = Command::new(alloc, "psyn")
         .no_binary_name(true)
         .disable_help_subcommand(true);
     let psyn = psyn.subcommand(help)?;
     let psyn = psyn.subcommand(closed)?;
     let psyn = psyn.subcommand(check)?;
-    let psyn = psyn.subcommand(sim)?;
-    let psyn = psyn.subcommand(lasso)?;
-    let psyn = psyn.subcommand(solve)?;
-    let psyn = psyn.subcommand(game)?;
-    psyn.subcommand(cert)
+    psyn.subcommand(sim)
+}
+
+/// The commands, and `synth` behind them.
+fn with_synth<'a>(alloc: Global, psyn: Command<'a>) -> Result<Command<'a>, AllocError>
+    ensures { IfOk result (λ command. app_of command ≡ with_subcommand (app_of psyn.entry) words.synth_shape) }
+{
+    let synth = Command::new(alloc, "synth");
+    let synth = synth.arg(flag(alloc, "full"))?;
+    let synth = synth.arg(flag(alloc, "cert"))?;
+    let synth = synth.arg(flag(alloc, "moore"))?;
+    let synth = synth.arg(flag(alloc, "compact"))?;
+    psyn.subcommand(synth)
 }
 
 /// The line that was read.
@@ -149,6 +184,7 @@ fn line_named(name: &str, flags: &ArgMatches) -> Line
             order: order_said(flags),
             compact: is_given(flags, "compact"),
         },
+        "synth" => Line::Synth(synth_said(flags)),
         _ => Line::Refused,
     }
 }
@@ -172,6 +208,18 @@ fn order_said(flags: &ArgMatches) -> Order
         Order::Moore
     } else {
         Order::Mealy
+    }
+}
+
+/// How a circuit is asked for.
+fn synth_said(flags: &ArgMatches) -> SynthLine
+    ensures { result ≡ words.synth_said (rows_of (found_of flags.now)) }
+{
+    SynthLine {
+        full: is_given(flags, "full"),
+        cert: is_given(flags, "cert"),
+        order: order_said(flags),
+        compact: is_given(flags, "compact"),
     }
 }
 

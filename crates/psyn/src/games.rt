@@ -1,21 +1,17 @@
 //! The commands that print the game of an automaton, and a certificate of that game.
 
 ghost use Rattle.std.specs.Prelude.{◌<◌, IfOk};
-ghost use Rattle.ps_automaton.specs.Automata.{IsBuiltFrom};
-ghost use Rattle.ps_automaton.specs.Chains.{Chain};
 ghost use Rattle.ps_game.specs.Games.{vertex_count};
-ghost use Rattle.ps_hoa.specs.Files.{FileData};
-ghost use Rattle.psyn.specs.Games.{AnswersCert, AnswersGameText, IsGameOfFile, ReadsGameOf};
+ghost use Rattle.psyn.specs.Games.{AnswersCert, AnswersGameText, ReadsGameOf};
 ghost use Rattle.psyn.specs.Outcomes.{Gives};
 ghost use Rattle.psyn.specs.Replies.{reply_of};
 
 use crate::answer::{Answer, Refusal};
 use crate::automata::read_automaton;
 use crate::solving::certify;
-use ps_automaton::Automaton;
 use ps_game::NamedGame;
 use ps_machine::{Order, Solver, game_of};
-use std::alloc::{AllocError, Global};
+use std::alloc::Global;
 
 /// The text of the game of an automaton, in that order of moves.
 pub fn game(alloc: Global, order: Order, text: &[u8]) -> Result<Answer, Refusal>
@@ -45,13 +41,5 @@ fn read_game_of(alloc: Global, order: Order, text: &[u8]) -> Result<NamedGame, R
     ensures some { IfOk result (λ game. 0 < vertex_count game.game) }
 {
     let automaton = read_automaton(alloc, text)?;
-    Ok(play(alloc, &automaton, order)?)
-}
-
-/// The game of an automaton is that of its file.
-fn play(alloc: Global, automaton: &Automaton, order: Order) -> Result<NamedGame, AllocError>
-    ensures game { IfOk result (λ game. (file : FileData) (chain : Chain) → IsBuiltFrom file chain automaton.now → IsGameOfFile order file game) }
-    ensures some { IfOk result (λ game. 0 < vertex_count game.game) }
-{
-    game_of(alloc, automaton, order)
+    Ok(game_of(alloc, &automaton, order)?)
 }

@@ -3,6 +3,7 @@
 
 pub mod answer;
 pub mod automata;
+pub mod certifying;
 pub mod checks;
 pub mod command_line;
 pub mod cut;
@@ -23,6 +24,12 @@ pub mod sending;
 pub mod simulating;
 pub mod solving;
 pub mod stream;
+#[cfg(test)]
+mod synth_tests;
+pub mod synthesis;
+#[cfg(test)]
+mod synthesis_tests;
+pub mod synthesising;
 #[cfg(test)]
 mod tests;
 pub mod texts;

@@ -3,6 +3,7 @@
 ghost use Rattle.std.specs.Prelude.{◌≡◌, [], Some, false, IfOk};
 ghost use Rattle.psyn.specs.Program.{RepliesTo};
 ghost use Rattle.psyn.specs.Replies.{reply_of};
+ghost use Rattle.psyn.specs.Solvers.{solver_of, solvers_of};
 
 use crate::answer::Answer;
 use crate::run::run;
@@ -18,7 +19,9 @@ pub fn run_in_memory(
     built_in: Box<dyn Solver>,
     replay: Box<dyn Solver>,
 ) -> Result<Answer, AllocError>
-    ensures { IfOk result (λ answer. RepliesTo (record { built_in = is_sure built_in; replay = is_sure replay }) input.now (reply_of answer)) }
+    ensures { IfOk result (λ answer. RepliesTo (solvers_of
+        (solver_of (is_sure built_in) (fed built_in) (may_answer built_in))
+        (solver_of (is_sure replay) (fed replay) (may_answer replay))) input.now (reply_of answer)) }
 {
     let mut reader = Bytes { left: input };
     let mut writer = Page::new(alloc);

@@ -1,9 +1,10 @@
 //! The answer to an input.
 
-ghost use Rattle.std.specs.Prelude.{Bool, IfOk};
+ghost use Rattle.std.specs.Prelude.{IfOk};
 ghost use Rattle.psyn.specs.Outcomes.{Gives};
 ghost use Rattle.psyn.specs.Program.{Answers, AnswersLine};
 ghost use Rattle.psyn.specs.Replies.{reply_of};
+ghost use Rattle.psyn.specs.Solvers.{solver_of, solvers_of};
 
 use crate::answer::{Answer, Refusal, settle};
 use crate::checks::{check, closed};
@@ -13,6 +14,7 @@ use crate::games::{cert, game};
 use crate::lassos::lasso;
 use crate::simulating::sim;
 use crate::solving::solve;
+use crate::synthesising::synth;
 use ps_machine::Solver;
 use std::alloc::{AllocError, Global};
 
@@ -24,12 +26,13 @@ pub fn answer_to(
     built_in: &mut Box<dyn Solver>,
     replay: &mut Box<dyn Solver>,
 ) -> Result<Answer, AllocError>
-    ensures { IfOk result (λ answer. Answers (record { built_in = is_sure built_in.old; replay = is_sure replay.old }) input.now (reply_of answer)) }
+    ensures { IfOk result (λ answer. Answers (solvers_of
+        (solver_of (is_sure built_in.old) (fed built_in.old) (may_answer built_in.old))
+        (solver_of (is_sure replay.old) (fed replay.old) (may_answer replay.old))) input.now (reply_of answer)) }
 {
     let (line, texts) = first_line(input);
     let line = read_line(alloc, line)?;
-    let _replay = replay;
-    settle(alloc, answer_line(alloc, line, texts, built_in))
+    settle(alloc, answer_line(alloc, line, texts, built_in, replay))
 }
 
 /// The answer to a line, with what stands behind it.
@@ -38,8 +41,11 @@ fn answer_line(
     line: Line,
     texts: &[u8],
     built_in: &mut Box<dyn Solver>,
+    replay: &mut Box<dyn Solver>,
 ) -> Result<Answer, Refusal>
-    ensures { (replay : Bool) → Gives reply_of (AnswersLine (record { built_in = is_sure built_in.old; replay = replay }) line texts.now) result }
+    ensures { Gives reply_of (AnswersLine (solvers_of
+        (solver_of (is_sure built_in.old) (fed built_in.old) (may_answer built_in.old))
+        (solver_of (is_sure replay.old) (fed replay.old) (may_answer replay.old))) line texts.now) result }
 {
     match line {
         Line::Refused => Ok(Answer::usage(alloc)?),
@@ -51,5 +57,6 @@ fn answer_line(
         Line::Solve { compact } => solve(alloc, texts, built_in, compact),
         Line::Game(order) => game(alloc, order, texts),
         Line::Cert { order, compact } => cert(alloc, order, texts, built_in, compact),
+        Line::Synth(asked) => synth(alloc, asked, texts, built_in, replay),
     }
 }

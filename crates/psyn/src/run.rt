@@ -2,6 +2,7 @@
 
 ghost use Rattle.std.specs.Prelude.{◌≡◌, ◌+◌, false};
 ghost use Rattle.psyn.specs.Input.{ConsumesAtMost, input_limit};
+ghost use Rattle.psyn.specs.Solvers.{solver_of, solvers_of};
 ghost use Rattle.psyn.specs.Streams.{sink_state};
 ghost use Rattle.psyn.specs.Replies.{Reply};
 ghost use Rattle.psyn.specs.Program.{Replies, Writes};
@@ -33,7 +34,9 @@ pub fn run<R: Source, W: Sink>(
     ensures consumed { ConsumesAtMost (R.remaining reader.old) (R.remaining reader.new)
         (input_limit + 1) }
     ensures answered { (reply : Reply)
-        × Replies (record { built_in = is_sure built_in; replay = is_sure replay }) (R.remaining reader.old) (R.has_failed reader.new) reply
+        × Replies (solvers_of
+        (solver_of (is_sure built_in) (fed built_in) (may_answer built_in))
+        (solver_of (is_sure replay) (fed replay) (may_answer replay))) (R.remaining reader.old) (R.has_failed reader.new) reply
         × Writes (sink_state W.contents W.has_failed W.has_stalled W.is_flushed writer.old)
         (sink_state W.contents W.has_failed W.has_stalled W.is_flushed writer.new)
         reply result }

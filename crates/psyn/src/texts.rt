@@ -18,7 +18,7 @@ use ps_simulate::Stimulus;
 use std::alloc::Global;
 
 /// Two texts.
-fn two_texts(texts: &[u8]) -> Result<(&[u8], &[u8]), Refusal>
+pub fn two_texts(texts: &[u8]) -> Result<(&[u8], &[u8]), Refusal>
     ensures { Gives (λ parts. (parts.0.now, parts.1.now)) (CutsInTwo texts.now) result }
 {
     match cut(texts) {

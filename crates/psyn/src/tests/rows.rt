@@ -300,37 +300,7 @@ pub const ROWS: [Row; 47] = [
 ];
 
 /// Games that are solved, certificates in both texts, and commands that are not there yet.
-pub const SOLVED: [Row; 25] = [
-    Row {
-        name: "not yet there: synth",
-        input: "synth\nx",
-        output: "fault usage\n",
-        status: 2,
-    },
-    Row {
-        name: "not yet there: synth --full",
-        input: "synth --full\nx",
-        output: "fault usage\n",
-        status: 2,
-    },
-    Row {
-        name: "not yet there: synth --cert",
-        input: "synth --cert\nx",
-        output: "fault usage\n",
-        status: 2,
-    },
-    Row {
-        name: "not yet there: synth --moore",
-        input: "synth --moore\nx",
-        output: "fault usage\n",
-        status: 2,
-    },
-    Row {
-        name: "not yet there: synth --compact",
-        input: "synth --compact\nx",
-        output: "fault usage\n",
-        status: 2,
-    },
+pub const SOLVED: [Row; 20] = [
     Row {
         name: "solve --compact without a game",
         input: "solve --compact\nx",

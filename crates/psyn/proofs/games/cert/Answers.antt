@@ -1,4 +1,3 @@
-use Rattle.std.proofs.Common.{ℕ, List, Result}
 use Rattle.ps_game.specs.Games.{NamedGameData}
 use Rattle.psyn.specs.Games.{AnswersCert, ReadsGameOf}
 use Rattle.psyn.specs.Replies.{reply_of}

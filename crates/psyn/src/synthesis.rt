@@ -1,0 +1,46 @@
+//! The whole way from a text to a report.
+
+ghost use Rattle.std.specs.Prelude.{◌≡◌, ℕ, true, List, Option, Result, IfOk, IfErr};
+ghost use Rattle.ps_certificate.specs.Certificates.{CertificateData};
+ghost use Rattle.ps_game.specs.Games.{NamedGameData};
+ghost use Rattle.ps_hoa.specs.Files.{FileData};
+ghost use Rattle.ps_machine.specs.declared.fault.SolveFault.{SolveFault};
+ghost use Rattle.ps_synthesis.specs.Reports.{IsAccepted, IsReport};
+ghost use Rattle.ps_synthesis.specs.SynthFaults.{IsSureAnswer, IsSynthFault};
+
+use crate::certifying::certified;
+use ps_machine::{Order, Solver, game_of};
+use ps_synthesis::{Report, SynthFault, circuit_of_certificate, read_automaton, report_of};
+use std::alloc::Global;
+
+/// The report of an HOA text: the game of its automaton in that order of moves, a certificate of it by the solver that is handed
+/// in, with all counts or as a compact text, and the circuit of the player who wins the start.
+///
+/// # Errors
+///
+/// In this order: the first cause for which the text is refused; why its automaton is; the solver's fault, or that its certificate
+/// does not fit or is not valid; that the circuit is too large. Fails also where a growth was refused.
+pub fn synthesise(
+    alloc: Global,
+    text: &[u8],
+    order: Order,
+    compact: bool,
+    solver: &mut Box<dyn Solver>,
+) -> Result<Report, SynthFault>
+    // The report is right, whatever solver is handed in; and each fault has its cause.
+    ensures report { IfOk result (IsReport (may_answer solver.old (fed solver.old)) order compact text.now) }
+    ensures refused { IfErr result (IsSynthFault (may_answer solver.old (fed solver.old)) order text.now) }
+    // With a sure solver, only memory or a circuit that is too large stands in the way of a text that is accepted.
+    ensures sure { is_sure solver.old ≡ true → (file : FileData) → IsAccepted text.now file → IsSureAnswer result }
+    // The solver stays as it was.
+    ensures steady { is_sure solver.new ≡ is_sure solver.old }
+    ensures kept { fed solver.new ≡ fed solver.old }
+    ensures same { (text : Option (List ℕ)) (game : NamedGameData) (answer : Result CertificateData SolveFault) → may_answer solver.new text game answer → may_answer solver.old text game answer }
+{
+    let automaton = read_automaton(alloc, text)?;
+    let game = game_of(alloc, &automaton, order)?;
+    let certificate = certified(alloc, &game, solver)?;
+    let circuit = circuit_of_certificate(alloc, &automaton, order, &game, &certificate)?;
+    let report = report_of(alloc, &game, &certificate, &circuit, compact)?;
+    Ok(report)
+}
