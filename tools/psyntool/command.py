@@ -16,6 +16,9 @@ Runs psyn on files.
   tools/psyn wave CIRCUIT STIMULUS         what `sim` prints, as a VCD file for a wave viewer
   tools/psyn certificate GAME SOLUTION     a certificate with counts 0 of another solver's `paritysol`, for `closed`
 
+Is there a controller for this automaton? (With --moore it moves before its inputs.)
+  tools/psyn synth arbiter.hoa > answer
+
 Who wins this game, by which moves?
   tools/psyn solve game.pg > solution.cert
 
@@ -38,8 +41,8 @@ A game with its regions in two colours and the winning moves bold:
 Does another solver's answer keep each player's region?
   tools/psyn certificate game.pg game.sol | tools/psyn closed game.pg -
 
-The answer of the program is printed unchanged, and its exit status is this tool's: 0 for an answer, 1 for a
-fault, 2 for a refused command line. What is wrong is explained on standard error: file, line and column, the cause, how to mend it
+The answer of the program is printed unchanged, and its exit status is this tool's: 0 for an answer (10 and 20 for REALIZABLE and
+UNREALIZABLE), 1 for a fault, 2 for a refused command line. What is wrong is explained on standard error: file, line and column, the cause, how to mend it
 (docs/FAULTS.md). A text whose last line is not ended is ended by a newline, and carriage returns at line ends are left out; standard error
 says so, and places are those of your file.
 
@@ -116,7 +119,7 @@ def answered(given):
 
 
 def texts_of(command, flags, paths, settings):
-    kinds = inputs.kinds_of(command)
+    kinds = inputs.kinds_of(command, flags)
     if len(paths) != len(kinds):
         wanted = ", ".join(f"one {kind}" for kind in kinds)
         raise inputs.Refused(f"{' '.join([command, *flags])} reads {wanted}: {len(kinds)} file(s), not {len(paths)}")

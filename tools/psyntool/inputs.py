@@ -7,6 +7,7 @@ KINDS = {
     "solve": ["game"],
     "game": ["automaton"],
     "cert": ["automaton"],
+    "synth": ["automaton"],
     "closed": ["game", "certificate"],
     "check": ["game", "certificate"],
     "sim": ["circuit", "stimulus"],
@@ -105,8 +106,10 @@ def read_text(kind, path, stdin, converter, settings):
     return text
 
 
-def kinds_of(command):
+def kinds_of(command, flags=()):
     """What the command reads, in order; None for a command that this tool does not know."""
+    if command == "synth" and "--cert" in flags:
+        return ["automaton", "certificate"]
     return KINDS.get(command)
 
 

@@ -53,6 +53,16 @@ class Commands(OnFiles):
         self.assertEqual((turned.stdout, turned.returncode), (b"fault 72 Symbols\n", 1))
         self.assertIn(b"cause: for `lasso` the symbols", turned.stderr)
 
+    def test_synth_reads_an_automaton_and_with_its_flag_a_certificate(self):
+        automaton = self.file("automaton", b"HOA: v1 Start: 0 controllable-AP: Acceptance: 0 t --BODY-- State: 0 0 --END--")
+        done = self.tool("synth", automaton)
+        self.assertEqual((done.stdout, done.returncode), (b"REALIZABLE\naag 0 0 0 0 0\n", 10))
+        right = self.file("certificate", b"psyncert 1\nvertices 2\nodd\neven 0\n0 0 -\n1 0 0\n")
+        self.assertEqual(self.tool("synth", "--cert", automaton, right).stdout, done.stdout)
+        wrong = self.file("wrong", b"psyncert 1\nvertices 2\nodd\neven 0\n0 1 - 0\n1 1 - 0\n")
+        refused = self.tool("synth", "--cert", automaton, wrong)
+        self.assertEqual((refused.stdout, refused.returncode), (b"fault 41 NotCertified\n", 1))
+
     def test_a_place_in_an_automaton_is_one_of_the_file(self):
         automaton = self.file("automaton", AUTOMATON.replace(b"[!0|1] 0 {0}", b"[!0|1] 0 {1}"))
         done = self.tool("lasso", automaton, self.file("circuit", b""), self.file("stimulus", b""))
