@@ -1,6 +1,8 @@
 pub mod Beaten
 pub mod Distinct
 pub mod Finished
+pub mod Groups
+pub mod IdPlaces
 pub mod LoopPriorities
 pub mod Memory
 pub mod OnPaths
@@ -9,3 +11,4 @@ pub mod Priorities
 pub mod Repeats
 pub mod SubgameFacts
 pub mod Unknown
+pub mod WordSets

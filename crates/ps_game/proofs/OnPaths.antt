@@ -1,8 +1,8 @@
 -- From what is held within a subgame to what is held on paths.
-use Rattle.std.proofs.Common.{◌≡◌, ◌≢◌, ℕ, zero, suc, ◌+◌, ◌-◌, ◌%◌, ◌<◌, ◌≤◌, inl, inr, List, length, get_or, Bool, IsTrue, Option, Some, None, IsSomeAnd, subst, sym, ap, ◌∙◌, arith}
+use Rattle.std.proofs.Common.{◌≡◌, ℕ, zero, suc, ◌+◌, ◌-◌, ◌<◌, ◌≤◌, inl, inr, List, length, get_or, Bool, IsTrue, Option, Some, None, IsSomeAnd, subst, sym, ap, ◌∙◌, arith}
 use Rattle.std.proofs.lemmas.Bool.{cases_eq}
-use Rattle.ps_game.specs.Games.{ParityGame, IsGame, vertex_count, owner_of, priority_of, HasEdge}
-use Rattle.ps_game.specs.Plays.{IsPath, IsLoop, Follows, KeepsTo, Holds, WinsLoop, loop_priority}
+use Rattle.ps_game.specs.Games.{ParityGame, vertex_count, owner_of, priority_of, HasEdge}
+use Rattle.ps_game.specs.Plays.{IsPath, IsLoop, Follows, Holds, loop_priority}
 use Rattle.ps_game.specs.Subgames.{LeadsInto, IsRound, IsTop, HoldsWithin}
 use Rattle.ps_game.proofs.LoopPriorities.{le-loop_priority, loop_priority_stands}
 

@@ -1,9 +1,11 @@
 pub mod Attractors
 pub mod Drafts
 pub mod Games
+pub mod Ids
 pub mod Names
 pub mod Plays
 pub mod Ranking
 pub mod Regions
 pub mod Strategies
 pub mod Subgames
+pub mod Words

@@ -6,6 +6,7 @@ mod builder;
 mod counts;
 mod faults;
 mod games;
+mod ids;
 mod laws;
 mod named;
 mod ranking;
@@ -14,12 +15,14 @@ mod strategy;
 mod subgame;
 #[cfg(test)]
 mod tests;
+mod words;
 
 pub use arenas::Arena;
 pub use builder::GameBuilder;
 pub use counts::Counts;
 pub use faults::GameFault;
 pub use games::Game;
+pub use ids::Ids;
 pub use laws::{
     holds_on_paths, long_path_has_loop, loop_priority_is_top, no_history_wins_outside,
     no_memory_wins_outside, only_own_moves_matter,

@@ -1,21 +1,30 @@
 ghost use Rattle.std.specs.Prelude.{◌≡◌, ◌<◌, ◌↔◌, ◌&&◌, ◌||◌, ℕ, IfOk, IsTrue, true, false, not, length, replicate, count_by, slice_set};
 ghost use Rattle.ps_game.specs.Regions.{has};
 
+use crate::words::{count_set, is_clear, subtract, unite};
 use std::alloc::{AllocError, Global};
 use std::marker::Model;
 
+/// How many vertices a word has room for.
+const WORD: usize = 64;
+
 /// A set of vertices, with a stated number of places: the vertices that it can hold.
+/// Vertex 64·w + b is bit b of word w; the bits past the last place are 0.
 #[derive(Drop)]
 pub struct Region {
-    members: Vec<bool>,
+    places: usize,
+    words: Vec<u64>,
 }
 
 impl Model for Region {
     ghost use Rattle.std.specs.Prelude.{List, Bool};
+    ghost use Rattle.ps_game.specs.Words.{members, ArePacked};
 
     ghost Value = { List Bool };
 
-    ghost view = { λ r. r.members.items };
+    ghost view = { λ r. members r.places r.words.items };
+
+    ghost invariant = { λ r. ArePacked r.places r.words.items };
 }
 
 impl Region {
@@ -23,23 +32,27 @@ impl Region {
     pub fn empty(alloc: Global, places: usize) -> Result<Region, AllocError>
         ensures { IfOk result (λ region. region ≡ replicate places false) }
     {
-        let members = vec![in alloc; false; places]?;
-        Ok(Region { members })
+        let words = vec![in alloc; 0; places.div_ceil(WORD)]?;
+        Ok(Region { places, words })
     }
 
     /// Each vertex below the number of places.
     pub fn full(alloc: Global, places: usize) -> Result<Region, AllocError>
         ensures { IfOk result (λ region. region ≡ replicate places true) }
     {
-        let members = vec![in alloc; true; places]?;
-        Ok(Region { members })
+        let mut words = vec![in alloc; u64::MAX; places.div_ceil(WORD)]?;
+        let rest = places % WORD;
+        if rest > 0 {
+            words[places / WORD] = u64::MAX >> (WORD - rest);
+        }
+        Ok(Region { places, words })
     }
 
     /// How many vertices the set can hold.
     pub fn places(&self) -> usize
         ensures { result ≡ length self.now }
     {
-        self.members.len()
+        self.places
     }
 
     /// Whether a vertex is in the set.
@@ -47,7 +60,7 @@ impl Region {
         requires { vertex < length self.now }
         ensures { result ≡ has self.now vertex }
     {
-        self.members[vertex]
+        (self.words[vertex / WORD] >> (vertex % WORD)) & 1 == 1
     }
 
     /// Puts a vertex into the set.
@@ -55,7 +68,7 @@ impl Region {
         requires { vertex < length self.old }
         ensures { self.new ≡ slice_set self.old vertex true }
     {
-        self.members[vertex] = true;
+        self.words[vertex / WORD] |= 1 << (vertex % WORD);
     }
 
     /// Takes a vertex out of the set.
@@ -63,7 +76,7 @@ impl Region {
         requires { vertex < length self.old }
         ensures { self.new ≡ slice_set self.old vertex false }
     {
-        self.members[vertex] = false;
+        self.words[vertex / WORD] &= !(1 << (vertex % WORD));
     }
 
     /// Puts each vertex of another set into this one.
@@ -72,9 +85,7 @@ impl Region {
         ensures places { length self.new ≡ length self.old }
         ensures union { (v : ℕ) → has self.new v ≡ (has self.old v || has other.now v) }
     {
-        for vertex in 0..self.members.len() {
-            self.members[vertex] = self.members[vertex] || other.members[vertex];
-        }
+        unite(&mut self.words, &other.words);
     }
 
     /// Takes each vertex of another set out of this one.
@@ -83,35 +94,32 @@ impl Region {
         ensures places { length self.new ≡ length self.old }
         ensures difference { (v : ℕ) → has self.new v ≡ (has self.old v && not (has other.now v)) }
     {
-        for vertex in 0..self.members.len() {
-            self.members[vertex] = self.members[vertex] && !other.members[vertex];
-        }
+        subtract(&mut self.words, &other.words);
     }
 
     /// How many vertices the set has.
     pub fn count(&self) -> usize
         ensures { result ≡ count_by (λ member. member) self.now }
     {
-        self.members.iter().filter(|member| **member).count()
+        let words = self.words.as_slice();
+        count_set(words)
     }
 
     /// Whether the set has no vertex.
     pub fn is_empty(&self) -> bool
         ensures { IsTrue result ↔ ((v : ℕ) → has self.now v ≡ false) }
     {
-        for vertex in 0..self.members.len() {
-            if self.members[vertex] {
-                return false;
-            }
-        }
-        true
+        is_clear(&self.words)
     }
 
     /// The same set once more.
     pub fn copy(&self) -> Result<Region, AllocError>
         ensures { IfOk result (λ region. region ≡ self.now) }
     {
-        let members = self.members.clone()?;
-        Ok(Region { members })
+        let words = self.words.clone()?;
+        Ok(Region {
+            places: self.places,
+            words,
+        })
     }
 }

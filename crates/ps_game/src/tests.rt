@@ -1,4 +1,6 @@
-use crate::{Arena, GameBuilder, GameFault, NamedGame, priorities_of};
+ghost use Rattle.std.specs.Prelude.{◌≡◌, ◌<◌, IfOk, length};
+
+use crate::{Arena, GameBuilder, GameFault, NamedGame, Region, priorities_of};
 use std::alloc::{AllocError, Global};
 use std::test::Fail;
 
@@ -107,5 +109,98 @@ fn vertices_have_ids_and_names(rt: HostRuntime) -> Result<(), Fail> {
     let named = NamedGame::new(game, ids, names);
     assert_eq!(rt; named.id(0), 9);
     assert_eq!(rt; named.name(0), Some(b"a".as_slice()));
+    Ok(())
+}
+
+/// Every so many of the places, from the first on, as truth values.
+fn every(alloc: Global, places: usize, step: usize) -> Result<Vec<bool>, AllocError>
+    requires { 0 < step }
+    ensures { IfOk result (λ members. length members.items ≡ places) }
+{
+    let mut members = Vec::new(alloc);
+    for vertex in 0..places {
+        members.push(vertex % step == 0)?;
+    }
+    Ok(members)
+}
+
+/// The region with these members.
+fn region_of(alloc: Global, members: &[bool]) -> Result<Region, AllocError>
+    ensures { IfOk result (λ region. length region ≡ length members.now) }
+{
+    let mut region = Region::empty(alloc, members.len())?;
+    for (vertex, &is_member) in members.iter().enumerate() {
+        if is_member {
+            region.insert(vertex);
+        }
+    }
+    Ok(region)
+}
+
+/// Whether a region has these members, each as it says and as it counts them.
+fn has_members(region: &Region, members: &[bool]) -> bool {
+    if region.places() != members.len() {
+        return false;
+    }
+    for (vertex, &is_member) in members.iter().enumerate() {
+        if region.contains(vertex) != is_member {
+            return false;
+        }
+    }
+    let count = members.iter().filter(|is_member| **is_member).count();
+    region.count() == count && region.is_empty() == (count == 0)
+}
+
+/// Truth values, each joined by a rule with that beside it.
+fn joined(
+    alloc: Global,
+    left: &[bool],
+    right: &[bool],
+    keeps: bool,
+) -> Result<Vec<bool>, AllocError> {
+    let mut members = Vec::new(alloc);
+    for (&first, &second) in left.iter().zip(right) {
+        members.push(if keeps {
+            first || second
+        } else {
+            first && !second
+        })?;
+    }
+    Ok(members)
+}
+
+#[test]
+fn regions_are_sets(rt: HostRuntime) -> Result<(), Fail> {
+    let alloc = rt.alloc();
+    for places in [0, 1, 63, 64, 65, 511, 512, 513] {
+        let thirds = every(alloc, places, 3)?;
+        let fifths = every(alloc, places, 5)?;
+        let right = region_of(alloc, &fifths)?;
+        let mut united = region_of(alloc, &thirds)?;
+        let mut left = united.copy()?;
+        united.union_with(&right);
+        left.difference_with(&right);
+        assert!(rt; has_members(&right, &fifths));
+        assert!(rt; has_members(&united, &joined(alloc, &thirds, &fifths, true)?));
+        assert!(rt; has_members(&left, &joined(alloc, &thirds, &fifths, false)?));
+        left.difference_with(&united);
+        assert!(rt; left.is_empty());
+    }
+    Ok(())
+}
+
+#[test]
+fn full_regions_lose_one_vertex(rt: HostRuntime) -> Result<(), Fail> {
+    let alloc = rt.alloc();
+    for places in [1, 63, 64, 65, 511, 512, 513] {
+        let mut members = vec![in alloc; true; places]?;
+        let mut region = Region::full(alloc, places)?;
+        assert!(rt; has_members(&region, &members));
+        region.remove(places - 1);
+        members[places - 1] = false;
+        assert!(rt; has_members(&region, &members));
+        let empty = Region::empty(alloc, places)?;
+        assert!(rt; empty.is_empty());
+    }
     Ok(())
 }

@@ -1,6 +1,6 @@
-use Rattle.std.proofs.Common.{◌≡◌, ◌<◌, false, length, get_or, sym, ap, ◌∙◌, arith}
+use Rattle.std.proofs.Common.{◌<◌, length, get_or, arith}
 use Rattle.std.proofs.lemmas.Bool.{false≢true}
-use Rattle.ps_game.specs.Games.{vertex_count, successors_of, HasEdge}
+use Rattle.ps_game.specs.Games.{vertex_count, successors_of}
 use Rattle.ps_game.specs.Regions.{has}
 use Rattle.ps_game.proofs.SubgameFacts.{edge_at, none_leads}
 use Rattle.ps_game.proofs.subgame.goes_on.Goals as goal

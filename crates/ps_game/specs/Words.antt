@@ -1,0 +1,19 @@
+-- Sets of vertices in words of 64 bits: vertex 64·w + b is bit b of word w.
+use Rattle.std.specs.Prelude.{◌≡◌, ℕ, ◌+◌, ◌*◌, ◌/◌, ◌%◌, ◌^◌, ◌≤◌, ◌<◌, ◌==◌, Bool, false, List, length, map, slice_index}
+use Rattle.std.specs.Int.{bit_at}
+use Rattle.std.specs.List.{range_with_len}
+
+-- whether the bit of a vertex is 1
+abbrev pub bit_in : List ℕ → ℕ → Bool
+bit_in words v = bit_at (slice_index words (v / 64)) (v % 64) == 1
+
+-- the bits of the vertices below a number of places
+unfoldable pub members : ℕ → List ℕ → List Bool
+members places words = map (λ v. bit_in words v) (range_with_len 0 places)
+
+-- as many words as the places fill, and no bit past the last place
+pub record ArePacked (places : ℕ) (words : List ℕ) : Type 0 where
+  pub few : places < 2 ^ 64
+  pub enough : places ≤ 64 * length words
+  pub no_more : 64 * length words < places + 64
+  pub none_past : (v : ℕ) → places ≤ v → bit_in words v ≡ false

@@ -1,0 +1,152 @@
+//! Words of 64 bits, worked on eight at a time.
+
+ghost use Rattle.std.specs.Prelude.{◌≡◌, ◌↔◌, ℕ, ◌*◌, ◌/◌, ◌<◌, ◌≤◌, ◌^◌, IsTrue, length, slice_index, take, drop, bit_and, bit_or, count_ones};
+ghost use Rattle.std.specs.Int.{bit_not, w64};
+ghost use Rattle.std.specs.List.{sum_by};
+
+use std::simd::prelude::*;
+
+/// How many words are worked on at once.
+const LANES: usize = 8;
+
+/// Sets each bit that is set in other words.
+pub(crate) fn unite(words: &mut [u64], others: &[u64])
+    requires { length others.now ≡ length words.old }
+    ensures { (k : ℕ) → slice_index words.new k ≡ bit_or (slice_index words.old k) (slice_index others.now k) }
+{
+    let groups = words.len() / LANES;
+    unite_groups(words, others, groups);
+    unite_rest(words, others, groups * LANES);
+}
+
+/// As `unite`, for so many groups of eight words.
+fn unite_groups(words: &mut [u64], others: &[u64], groups: usize)
+    requires words { groups * 8 ≤ length words.old }
+    requires others { groups * 8 ≤ length others.now }
+    ensures united { (k : ℕ) → k < groups * 8 → slice_index words.new k ≡ bit_or (slice_index words.old k) (slice_index others.now k) }
+    ensures rest { (k : ℕ) → groups * 8 ≤ k → slice_index words.new k ≡ slice_index words.old k }
+{
+    for group in 0..groups {
+        let start = group * LANES;
+        let united = u64x8::from_slice(&words[start..]) | u64x8::from_slice(&others[start..]);
+        united.copy_to_slice(&mut words[start..]);
+    }
+}
+
+/// As `unite`, for the words from a place on, one by one.
+fn unite_rest(words: &mut [u64], others: &[u64], start: usize)
+    requires { length others.now ≡ length words.old }
+    ensures before { (k : ℕ) → k < start → slice_index words.new k ≡ slice_index words.old k }
+    ensures united { (k : ℕ) → start ≤ k → slice_index words.new k ≡ bit_or (slice_index words.old k) (slice_index others.now k) }
+{
+    for place in start..words.len() {
+        words[place] |= others[place];
+    }
+}
+
+/// Clears each bit that is set in other words.
+pub(crate) fn subtract(words: &mut [u64], others: &[u64])
+    requires { length others.now ≡ length words.old }
+    ensures in_range { (k : ℕ) → slice_index others.now k < 2 ^ 64 }
+    ensures subtracted { (k : ℕ) → slice_index words.new k ≡ bit_and (slice_index words.old k) (bit_not w64 (slice_index others.now k)) }
+{
+    let groups = words.len() / LANES;
+    subtract_groups(words, others, groups);
+    subtract_rest(words, others, groups * LANES);
+}
+
+/// As `subtract`, for so many groups of eight words.
+fn subtract_groups(words: &mut [u64], others: &[u64], groups: usize)
+    requires words { groups * 8 ≤ length words.old }
+    requires others { groups * 8 ≤ length others.now }
+    ensures subtracted { (k : ℕ) → k < groups * 8 → slice_index words.new k ≡ bit_and (slice_index words.old k) (bit_not w64 (slice_index others.now k)) }
+    ensures rest { (k : ℕ) → groups * 8 ≤ k → slice_index words.new k ≡ slice_index words.old k }
+{
+    for group in 0..groups {
+        let start = group * LANES;
+        let left = u64x8::from_slice(&words[start..]) & !u64x8::from_slice(&others[start..]);
+        left.copy_to_slice(&mut words[start..]);
+    }
+}
+
+/// As `subtract`, for the words from a place on, one by one.
+fn subtract_rest(words: &mut [u64], others: &[u64], start: usize)
+    requires { length others.now ≡ length words.old }
+    ensures before { (k : ℕ) → k < start → slice_index words.new k ≡ slice_index words.old k }
+    ensures subtracted { (k : ℕ) → start ≤ k → slice_index words.new k ≡ bit_and (slice_index words.old k) (bit_not w64 (slice_index others.now k)) }
+{
+    for place in start..words.len() {
+        words[place] &= !others[place];
+    }
+}
+
+/// How many bits are set.
+pub(crate) fn count_set(words: &[u64]) -> usize
+    requires { sum_by count_ones words.now < 2 ^ 64 }
+    ensures in_range { (k : ℕ) → slice_index words.now k < 2 ^ 64 }
+    ensures counted { result ≡ sum_by count_ones words.now }
+{
+    let groups = words.len() / LANES;
+    count_groups(words, groups) + count_rest(words, groups * LANES)
+}
+
+/// How many bits are set in so many groups of eight words.
+fn count_groups(words: &[u64], groups: usize) -> usize
+    requires groups { groups * 8 ≤ length words.now }
+    requires room { sum_by count_ones words.now < 2 ^ 64 }
+    ensures { result ≡ sum_by count_ones (take (groups * 8) words.now) }
+{
+    let mut count = 0;
+    for group in 0..groups {
+        let ones = u64x8::from_slice(&words[group * LANES..]).count_ones();
+        count += ones.strict_reduce_sum() as usize;
+    }
+    count
+}
+
+/// How many bits are set in the words from a place on, one by one.
+fn count_rest(words: &[u64], start: usize) -> usize
+    requires start { start ≤ length words.now }
+    requires room { sum_by count_ones words.now < 2 ^ 64 }
+    ensures { result ≡ sum_by count_ones (drop start words.now) }
+{
+    let mut count = 0;
+    for word in &words[start..] {
+        count += word.count_ones() as usize;
+    }
+    count
+}
+
+/// Whether no bit is set.
+pub(crate) fn is_clear(words: &[u64]) -> bool
+    ensures in_range { (k : ℕ) → slice_index words.now k < 2 ^ 64 }
+    ensures clear { IsTrue result ↔ ((k : ℕ) → slice_index words.now k ≡ 0) }
+{
+    let groups = words.len() / LANES;
+    are_groups_clear(words, groups) && is_rest_clear(words, groups * LANES)
+}
+
+/// Whether no bit is set in so many groups of eight words.
+fn are_groups_clear(words: &[u64], groups: usize) -> bool
+    requires { groups * 8 ≤ length words.now }
+    ensures { IsTrue result ↔ ((k : ℕ) → k < groups * 8 → slice_index words.now k ≡ 0) }
+{
+    for group in 0..groups {
+        if u64x8::from_slice(&words[group * LANES..]).reduce_or() != 0 {
+            return false;
+        }
+    }
+    true
+}
+
+/// Whether no bit is set in the words from a place on, one by one.
+fn is_rest_clear(words: &[u64], start: usize) -> bool
+    ensures { IsTrue result ↔ ((k : ℕ) → start ≤ k → slice_index words.now k ≡ 0) }
+{
+    for place in start..words.len() {
+        if words[place] != 0 {
+            return false;
+        }
+    }
+    true
+}
