@@ -1,21 +1,48 @@
 -- The table of ids finds the vertex of each id, and of nothing else.
-use Rattle.std.proofs.Common.{◌≡◌, ℕ, ◌<◌, ◌≤◌, cond, eqb, ltb, List, length, get_or, Option, Some, None, Result, Ok, Err, sym, ap, subst, ◌∙◌, ◌≢◌, arith}
+use Rattle.std.proofs.Common.{◌≡◌, ℕ, ◌<◌, ◌≤◌, cond, eqb, ltb, List, length, get_or, Option, Some, None, Result, Ok, Err, refl, sym, ap, subst, ◌∙◌, ◌≢◌, ⊎_elim, true, false, take, arith}
 use Rattle.std.specs.Prelude.{MatchOption}
 use Rattle.std.specs.List.{AllPairs, Contains, position_or_len}
-use Rattle.std.proofs.lemmas.Bool.{eq-eqb, ne_eqb, lt-ltb, le-ltb}
-use Rattle.std.proofs.lemmas.List.{get_or_default}
+use Rattle.std.proofs.lemmas.Bool.{eq-eqb, eqb-true, ne_eqb, lt-ltb, le-ltb, cases_lt}
+use Rattle.std.proofs.lemmas.List.{get_or_default, length-take-le, get_or-take}
 use Rattle.std.proofs.lemmas.List.Elements.{Contains-get_or}
-use Rattle.std.proofs.lemmas.List.Sums.{position_or_len_is}
+use Rattle.std.proofs.lemmas.List.Sums.{position_or_len_is, fails_before_first}
+use Rattle.std.proofs.lemmas.List.Quantifiers.{position-Some}
 use Rattle.ps_text.specs.Parts.{PartAnswers}
 use Rattle.ps_game.specs.Games.{NamedGameData}
 use Rattle.ps_certificate.specs.Faults.{CertFault}
 use Rattle.ps_text.specs.declared.faults.Fault.TheVariants.{Text, OutOfMemory}
 use Rattle.ps_game.specs.Ranking.{ListsPriorities}
 use Rattle.ps_certificate.specs.Certificates.{EntryData}
-use Rattle.ps_certificate.specs.Known.{FindsVertices}
+use Rattle.ps_certificate.specs.Known.{FindsVertices, find_in}
 use Rattle.ps_certificate.specs.Reading.{Fault, Fails, KnownData, entries_of}
 use Rattle.ps_certificate.specs.Texts.{stream_at, causes, certificate, vertex_of, Reads, IsAnswer}
 use Rattle.ps_certificate.proofs.ExactText.{IsFind, answer_of, text_answer}
+
+-- the first place of an id is one, and where there is none the id stands nowhere
+pub finds_place : (ids : List ℕ) → FindsVertices ids (find_in ids)
+finds_place ids id = go (find_in ids id) refl
+  where
+    some_is_none : (n : ℕ) → Some n ≡ None → ⊥
+    some_is_none n e = let h : Some n ≡ None = e in cc
+
+    beyond : (o : ℕ) → position_or_len (eqb id) ids ≡ o → find_in ids id ≡ None → length ids ≤ o
+    beyond o e none = ⊎_elim
+        (λ (below : o < length ids). absurd (some_is_none o (sym (ap (λ i. cond (ltb i (length ids)) (Some i) None) e ∙ ap (λ b. cond b (Some o) None) (lt-ltb o (length ids) below)) ∙ none)))
+        (λ (h : length ids ≤ o). h)
+        (cases_lt o (length ids))
+
+    go : (o : Option ℕ) → find_in ids id ≡ o → MatchOption o ((v : ℕ) → v < length ids → get_or ids v 0 ≢ id) (λ v. (v < length ids) × (get_or ids v 0 ≡ id))
+    go (Some i) e = let at = position-Some (eqb id) ids i 0 e in (at.0, sym (eqb-true id (get_or ids i 0) at.1))
+    go None e = λ v l same.
+        let no : eqb id (get_or ids v 0) ≡ false = fails_before_first (eqb id) ids v 0 (omega (arith, l, beyond _ refl e)) in
+        let yes : eqb id (get_or ids v 0) ≡ true = eq-eqb id (get_or ids v 0) (sym same) in
+        let both : true ≡ false = sym yes ∙ no in cc
+
+-- of ids that differ, none stands before itself
+pub not_before : (ids : List ℕ) (v : ℕ) → AllPairs (λ x y. x ≢ y) ids → v < length ids → Contains (take v ids) (get_or ids v 0) → ⊥
+not_before ids v differ l c =
+    let k : c.0 < v = omega (arith, c.1, length-take-le v ids (omega (arith, l))) in
+    differ c.0 v 0 k l (get_or_default ids c.0 0 (get_or ids v 0) (omega (arith, k, l)) ∙ sym (get_or-take v ids c.0 (get_or ids v 0) k) ∙ c.2)
 
 is_find : (ids : List ℕ) (find : ℕ → Option ℕ) → AllPairs (λ x y. x ≢ y) ids → FindsVertices ids find → IsFind ids find
 is_find ids find differ finds = record {

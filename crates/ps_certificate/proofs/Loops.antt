@@ -1,10 +1,9 @@
 -- What a loop of the reader has read, and what it still reads.
-use Rattle.std.proofs.Common.{◌≡◌, ℕ, suc, ◌+◌, ◌-◌, ◌*◌, ◌^◌, ◌<◌, ◌≤◌, Bool, List, [], ◌∷◌, ◌++◌, length, get_or, drop, Option, None, Some, true, false, nat_lt, Result, Ok, Err, refl, sym, ap, ◌∙◌, append_assoc, inl, inr, cond, eqb, below_more, ◌≢◌, arith}
-use Rattle.std.specs.Prelude.{◌==◌, take_while, MatchOption, slice_index}
+use Rattle.std.proofs.Common.{◌≡◌, ℕ, suc, ◌+◌, ◌-◌, ◌*◌, ◌^◌, ◌<◌, ◌≤◌, Bool, List, [], ◌∷◌, ◌++◌, length, get_or, drop, None, Some, true, false, nat_lt, Result, Ok, Err, refl, sym, ap, ◌∙◌, append_assoc, inl, inr, arith}
+use Rattle.std.specs.Prelude.{◌==◌, take_while}
 use Rattle.std.specs.List.{All}
-use Rattle.ps_certificate.specs.Known.{FindsBelow}
 use Rattle.std.specs.Char.{is_ascii_digit}
-use Rattle.std.proofs.lemmas.Bool.{cases_Bool, cases_eq, eq-eqb, ne_eqb, le-ltb, lt-ltb}
+use Rattle.std.proofs.lemmas.Bool.{cases_Bool, le-ltb, lt-ltb}
 use Rattle.std.proofs.lemmas.List.Elements.{All-nil, All-cons}
 use Rattle.std.proofs.lemmas.List.Sums.{take_while-cons}
 use Rattle.std.proofs.lemmas.List.{append-nil, drop_more, drop_all, at_drop_all}
@@ -137,20 +136,3 @@ numeral_digits bytes = elim (cases_Bool (comes 48 bytes)) [
   | inl so ↦ rw so (All-cons (λ d. 48 ≤ d) 48 [] (omega arith) (All-nil (λ d. 48 ≤ d)))
   | inr other ↦ rw other (digits-take_while bytes)
 ]
-
--- ---- vertices by their ids
-
-pub finds_more : (i : ℕ) (ids : List ℕ) (key : ℕ) (old new : ℕ → Option ℕ) → slice_index ids i ≡ key → ((q : ℕ) → new q ≡ cond (eqb key q) (Some i) (old q)) → FindsBelow i ids old → FindsBelow (i + 1) ids new
-finds_more i ids key old new here updated so_far q = elim (cases_eq key q) [
-  | inl same ↦
-      let e : new q ≡ Some i = updated q ∙ ap (λ b. cond b (Some i) (old q)) (eq-eqb key q same) in
-      rw e (omega arith, here ∙ same)
-  | inr apart ↦
-      let e : new q ≡ old q = updated q ∙ ap (λ b. cond b (Some i) (old q)) (ne_eqb key q apart) in
-      rw e (widened (old q) (so_far q) apart)
-]
-  where
-    widened : (o : Option ℕ) → MatchOption o ((v : ℕ) → v < i → slice_index ids v ≢ q) (λ v. (v < i) × (slice_index ids v ≡ q)) → (key ≡ q → ⊥)
-        → MatchOption o ((v : ℕ) → v < i + 1 → slice_index ids v ≢ q) (λ v. (v < i + 1) × (slice_index ids v ≡ q))
-    widened None h apart = below_more (λ v. slice_index ids v ≢ q) i h (λ e. apart (sym here ∙ e))
-    widened (Some v) h apart = (omega arith, h.1)

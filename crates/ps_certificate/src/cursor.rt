@@ -1,13 +1,13 @@
 //! A place in the text of a certificate, and the fields that are read from there on.
 
-ghost use Rattle.std.specs.Prelude.{◌≡◌, ◌==◌, ◌≤◌, [], true, false, length, nat_eq, All, take_while};
+ghost use Rattle.std.specs.Prelude.{◌≡◌, ◌==◌, ◌≤◌, [], true, false, length, All, take_while};
 ghost use Rattle.ps_text.specs.declared.faults.Fault.TheVariants as faults;
 ghost use Rattle.std.specs.Char.{is_ascii_digit};
-ghost use Rattle.indexmap.specs.IndexMap.{get};
+ghost use Rattle.ps_certificate.specs.Known.{find_in};
 ghost use Rattle.ps_certificate.specs.Reading.{Gives, Moves, byte_at, word_at, number_at, field_at, exactly_at, priorities_at, two_at, winner_at, choice_at, counts_at, comes, numeral, numeral_value, behind};
 
 use crate::fault::{CertCause, CertFault};
-use indexmap::IndexMap;
+use ps_game::Ids;
 use std::alloc::Global;
 use std::marker::Model;
 
@@ -201,11 +201,8 @@ impl<'a> Cursor<'a> {
 
     /// The move that comes next: none, or the vertex with the id that is given.
     #[tactic(auto, unfolding(crate::specs::Reading::choice_at))]
-    pub(crate) fn choice(
-        &mut self,
-        vertices: &IndexMap<u64, usize>,
-    ) -> Result<Option<usize>, CertFault>
-        ensures { Gives (λ c. c) result self.new (choice_at (λ id. get nat_eq vertices.now id) self.old) }
+    pub(crate) fn choice(&mut self, ids: &Ids) -> Result<Option<usize>, CertFault>
+        ensures { Gives (λ c. c) result self.new (choice_at (find_in ids.now) self.old) }
     {
         if self.comes(b'-') {
             self.byte(b'-')?;
@@ -213,8 +210,8 @@ impl<'a> Cursor<'a> {
         }
         let other_game = self.fault(CertCause::OtherGame);
         let id = self.field()?;
-        match vertices.get(&id) {
-            Some(vertex) => Ok(Some(*vertex)),
+        match ids.place(id) {
+            Some(vertex) => Ok(Some(vertex)),
             None => Err(other_game),
         }
     }

@@ -1,22 +1,20 @@
 //! Reading the text of a certificate.
 
-ghost use Rattle.std.specs.Prelude.{◌≡◌, ℕ, List, Result, nat_eq, IfOk};
+ghost use Rattle.std.specs.Prelude.{◌≡◌, ℕ, List, Result, IfOk};
 ghost use Rattle.std.specs.List.Sorted.{IsStrictlyIncreasing};
-ghost use Rattle.indexmap.specs.IndexMap.{get};
 ghost use Rattle.ps_text.specs.Answers.{Found};
 ghost use Rattle.ps_game.specs.Games.{NamedGameData};
 ghost use Rattle.ps_game.specs.Ranking.{ListsPriorities};
 ghost use Rattle.ps_certificate.specs.Certificates.{CertificateData, Fits};
 ghost use Rattle.ps_certificate.specs.Reading.{Gives, Tells, head_at, lost_by_at, entry_at, entries_at, entries_of as entries_of_text};
-ghost use Rattle.ps_certificate.specs.Known.{known_data, FindsVertices};
+ghost use Rattle.ps_certificate.specs.Known.{known_data};
 ghost use Rattle.ps_certificate.specs.Texts.{Reads, IsAnswer};
 ghost use Rattle.ps_certificate.specs.declared.fault.CertCause.{CertCause};
 
 use crate::certificate::{Certificate, Entry};
 use crate::cursor::Cursor;
 use crate::fault::{CertCause, CertFault};
-use indexmap::IndexMap;
-use ps_game::{Arena, NamedGame, priorities_of};
+use ps_game::{Arena, Ids, NamedGame, priorities_of};
 use std::alloc::{AllocError, Global};
 
 /// What is known of a game before the text is read.
@@ -26,8 +24,8 @@ struct Known {
     odd: Vec<u64>,
     /// The even priorities, rising.
     even: Vec<u64>,
-    /// The vertex that has an id.
-    vertices: IndexMap<u64, usize>,
+    /// The ids of the vertices.
+    ids: Ids,
 }
 
 impl Known {
@@ -43,15 +41,15 @@ impl Known {
     }
 }
 
-/// The vertices of a game by their ids.
-fn vertices_of(alloc: Global, game: &NamedGame) -> Result<IndexMap<u64, usize>, AllocError>
-    ensures { IfOk result (λ m. FindsVertices game.now.ids (λ id. get nat_eq m id)) }
+/// The ids of a game, with a table of their places.
+fn ids_of(alloc: Global, game: &NamedGame) -> Result<Ids, AllocError>
+    ensures { IfOk result (λ ids. ids ≡ game.now.ids) }
 {
-    let mut vertices = IndexMap::new(alloc);
+    let mut ids = Ids::new(alloc);
     for vertex in 0..game.game().count() {
-        vertices.insert(game.id(vertex), vertex)?;
+        ids.push(game.id(vertex))?;
     }
-    Ok(vertices)
+    Ok(ids)
 }
 
 /// Goes behind the lines that stand before those of the vertices, and says whether the text is a compact one.
@@ -87,7 +85,7 @@ fn entry(
     cursor.byte(b' ')?;
     let winner = cursor.winner()?;
     cursor.byte(b' ')?;
-    let choice = cursor.choice(&known.vertices)?;
+    let choice = cursor.choice(&known.ids)?;
     let priorities = known.lost_by(winner);
     let counts = cursor.counts_for(alloc, priorities, compact)?;
     cursor.byte(b'\n')?;
@@ -148,14 +146,10 @@ pub fn read(alloc: Global, text: &[u8], game: &NamedGame) -> Result<Certificate,
     let known = Known {
         odd: priorities_of(alloc, game.game(), 1)?,
         even: priorities_of(alloc, game.game(), 0)?,
-        vertices: vertices_of(alloc, game)?,
+        ids: ids_of(alloc, game)?,
     };
     let entries = entries_of(alloc, text, &known, game)?;
-    let Known {
-        odd,
-        even,
-        vertices: _,
-    } = known;
+    let Known { odd, even, ids: _ } = known;
     Ok(Certificate { odd, even, entries })
 }
 

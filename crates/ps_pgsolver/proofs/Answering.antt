@@ -31,27 +31,22 @@ module _ (text : List ℕ) (short : length text ≤ text_limit) where
   pub first_exit : (e : PgFault) (r : Result NamedGameData PgFault) → FaultAnswers None (stream_of text) (found_of e) → IsErrAnd r (λ y. y ≡ e) → Answers text r
   first_exit e r h i = let y = err_from_is_err_and r i in subst (Answers text) (sym (y.1 ∙ ap Err y.2)) (first_fault e h)
 
-  module _ (nodes : List NodeData) (first : PartAnswers pg_causes (game None) (stream_of text) (Ok nodes)) (ids : List ℕ) (all : ids ≡ ids_of nodes) where
-    second_fault : (e : PgFault) → FaultAnswers (Some ids) (stream_of text) (found_of e) → Answers text (Err e)
-    second_fault faults.OutOfMemory h = tt
-    second_fault (faults.Text cause offset) h = unknown (stream_of text) nodes (record { cause = cause; offset = offset }) (tokens text short) first
-        (subst (λ k. PartAnswers pg_causes (game (Some k)) (stream_of text) (Err (record { cause = cause; offset = offset }))) all h) refl
+  module _ (nodes : List NodeData) (first : PartAnswers pg_causes (game None) (stream_of text) (Ok nodes)) where
+    pub unknown_answer : (e : PgFault) → FaultAnswers (Some (ids_of nodes)) (stream_of text) (found_of e) → Answers text (Err e)
+    unknown_answer faults.OutOfMemory h = tt
+    unknown_answer (faults.Text cause offset) h = unknown (stream_of text) nodes (record { cause = cause; offset = offset }) (tokens text short) first h refl
 
-    pub second_exit : (e : PgFault) (r : Result NamedGameData PgFault) → FaultAnswers (Some ids) (stream_of text) (found_of e) → IsErrAnd r (λ y. y ≡ e) → Answers text r
-    second_exit e r h i = let y = err_from_is_err_and r i in subst (Answers text) (sym (y.1 ∙ ap Err y.2)) (second_fault e h)
+    pub answer : PartAnswers pg_causes (game (Some (ids_of nodes))) (stream_of text) (Ok nodes) →
+        (r : Result NamedGameData PgFault) → IfOk r (λ named. named ≡ named_game_of nodes) → IfErr r (λ fault. fault ≡ faults.OutOfMemory) → Answers text r
+    answer second (Ok named) v m = meaning (stream_of text) nodes (tokens text short) first second (ap Ok v)
+    answer second (Err fault) v m = subst (λ f. Answers text (Err f)) (sym m) tt
 
-    module _ (other : List NodeData) (second : PartAnswers pg_causes (game (Some ids)) (stream_of text) (Ok other)) where
-      same : nodes ≡ other
-      same = same_nodes (Some ids) (signs (stream_of text).pieces) nodes other first.0 second.0
-
-      pub all_known : KnowsAll (ids_of other) other
-      all_known = subst (λ k. KnowsAll k other) (all ∙ ap ids_of same) (knows_all ids (signs (stream_of text).pieces) other second.0 second.1)
-
-      pub answer : (r : Result NamedGameData PgFault) → IfOk r (λ named. named ≡ named_game_of other) → IfErr r (λ fault. fault ≡ faults.OutOfMemory) → Answers text r
-      answer (Ok named) v m = meaning (stream_of text) other (tokens text short)
-          (subst (λ ns. PartAnswers pg_causes (game None) (stream_of text) (Ok ns)) same first)
-          (subst (λ k. PartAnswers pg_causes (game (Some k)) (stream_of text) (Ok other)) (all ∙ ap ids_of same) second) (ap Ok v)
-      answer (Err fault) v m = subst (λ f. Answers text (Err f)) (sym m) tt
+-- a second reading, with the ids known, stops where a successor is no id
+pub none_unknown : (text : List ℕ) (nodes other : List NodeData) → PartAnswers pg_causes (game None) (stream_of text) (Ok nodes) →
+    PartAnswers pg_causes (game (Some (ids_of nodes))) (stream_of text) (Ok other) → KnowsAll (ids_of nodes) nodes
+none_unknown text nodes other first second =
+    let same = same_nodes (Some (ids_of nodes)) (signs (stream_of text).pieces) nodes other first.0 second.0 in
+    subst (KnowsAll (ids_of nodes)) (sym same) (knows_all (ids_of nodes) (signs (stream_of text).pieces) other second.0 second.1)
 
 -- ## Each refusal stands within the text
 

@@ -1,12 +1,16 @@
 -- Nodes with a table of their ids.
-use Rattle.std.proofs.Common.{◌≡◌, ◌≢◌, ℕ, cond, List, [], ◌∷◌, ◌++◌, Option, Result, Ok, sym, ap, ap₂, subst, ◌∙◌}
+use Rattle.std.proofs.Common.{◌≡◌, ◌≢◌, ℕ, cond, List, [], ◌∷◌, ◌++◌, Option, Result, Ok, true, length, arith, length-append, sym, ap, ap₂, subst, ◌∙◌}
+use Rattle.std.proofs.lemmas.List.{get_or_append_left}
+use Rattle.std.proofs.lemmas.List.Sums.{AllPass-from_list_all, list_all-from_AllPass}
+use Rattle.std.proofs.Math.Seq.{get_or-append_seam}
+use Rattle.ps_pgsolver.proofs.IdLemmas.{Contains-any, any-from_Contains}
 use Rattle.std.specs.Result.{is_ok}
 use Rattle.std.specs.List.{All, AllPairs, Contains}
 use Rattle.std.proofs.lemmas.List.{map-append}
 use Rattle.std.proofs.lemmas.List.Elements.{All-push, All-map, Contains-get_or}
 use Rattle.std.proofs.lemmas.List.Quantifiers.{all_pairs_push}
 use Rattle.ps_game.specs.Games.{HasNoQuote}
-use Rattle.ps_pgsolver.specs.Nodes.{NodeData, IsNode, AreNodes, HasTable, ids_of, names_of}
+use Rattle.ps_pgsolver.specs.Nodes.{NodeData, IsNode, AreNodes, HasTable, KnowsEach, KnowsAll, knows_each, knows_all, is_member, ids_of, names_of}
 
 pub ids_of-push : (nodes : List NodeData) (node : NodeData) → ids_of (nodes ++ node ∷ []) ≡ ids_of nodes ++ node.id ∷ []
 ids_of-push nodes node = map-append (λ n. n.id) nodes (node ∷ [])
@@ -32,3 +36,25 @@ names_plain nodes names e are = subst (λ ns. All HasNoQuote ns) (sym e) (All-ma
 -- a push for which there is room
 pub pushed : {E : Type 0} (r : Result (Unit {0}) E) (u : Unit {0}) (new old : List NodeData) (node : NodeData) → new ≡ cond (is_ok r) (old ++ node ∷ []) old → r ≡ Ok u → new ≡ old ++ node ∷ []
 pushed r u new old node e o = e ∙ ap (λ x. cond (is_ok x) (old ++ node ∷ []) old) o
+
+-- ## All of a list with one more at its end
+
+pub all_before : {X : Type 0} (P : X → Type 0) (xs : List X) (x : X) → All P (xs ++ x ∷ []) → All P xs
+all_before P xs x h k d l = subst P (get_or_append_left xs (x ∷ []) d k l) (h k d (omega (arith, l, length-append xs (x ∷ []))))
+
+pub all_last : {X : Type 0} (P : X → Type 0) (xs : List X) (x : X) → All P (xs ++ x ∷ []) → P x
+all_last P xs x h = subst P (get_or-append_seam xs x [] x) (h (length xs) x (omega (arith, length-append xs (x ∷ []))))
+
+-- ## The tests of what is known
+
+each_known : (ids list : List ℕ) → knows_each ids list ≡ true → KnowsEach ids list
+each_known ids list e k d l = Contains-any _ ids (AllPass-from_list_all (λ id. is_member ids id) list e k d l)
+
+each_tested : (ids list : List ℕ) → KnowsEach ids list → knows_each ids list ≡ true
+each_tested ids list h = list_all-from_AllPass (λ id. is_member ids id) list (λ k d l. any-from_Contains _ ids (h k d l))
+
+pub all_known : (ids : List ℕ) (nodes : List NodeData) → knows_all ids nodes ≡ true → KnowsAll ids nodes
+all_known ids nodes e k d l = each_known ids _ (AllPass-from_list_all (λ (n : NodeData). knows_each ids n.successors) nodes e k d l)
+
+pub all_tested : (ids : List ℕ) (nodes : List NodeData) → KnowsAll ids nodes → knows_all ids nodes ≡ true
+all_tested ids nodes h = list_all-from_AllPass (λ (n : NodeData). knows_each ids n.successors) nodes (λ k d l. each_tested ids _ (h k d l))

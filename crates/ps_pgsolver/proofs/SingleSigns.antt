@@ -1,13 +1,14 @@
 -- What the code answers to a token is what the grammar's single signs say of it.
 use Rattle.std.proofs.Common.{◌≡◌, ℕ, ◌≤◌, true, false, ltb, List, Option, None, Some, Result, Ok, Err, refl, sym, ap, subst, inl, inr, ⊎_elim, ◌∙◌, arith}
 use Rattle.std.proofs.lemmas.Bool.{cases_Bool, ltb-true, ltb-false, lt-ltb}
+use Rattle.std.specs.List.{Contains}
 use Rattle.ps_text.specs.Answers.{Stream, next_of, offset_of}
 use Rattle.ps_text.specs.Parts.{one, NoBad, refusal_of}
 use Rattle.ps_text.specs.Readers.{tail}
 use Rattle.ps_text.proofs.Simple.{same_some, none_is_some}
 use Rattle.ps_text.proofs.Meeting.{meets_next, meets_bad_next, meets_refusal}
 use Rattle.ps_pgsolver.proofs.IdLemmas.{any-from_Contains, Contains-any}
-use Rattle.ps_pgsolver.specs.Answered.{Reads, found_of, is_known, number_answer, id_answer, owner_answer, successor_answer, first_answer, semicolon_answer, comma_answer}
+use Rattle.ps_pgsolver.specs.Answered.{Reads, found_of, ReadsKnown, is_known, number_answer, id_answer, owner_answer, successor_answer, first_answer, semicolon_answer, comma_answer}
 use Rattle.ps_pgsolver.specs.Causes.{cause_number}
 use Rattle.ps_pgsolver.specs.GameTexts.{pg_causes, too_large, number_in, comma_in, semicolon_in, BadNumber, BadId, BadOwner, BadSuccessor, BadFirst, IsUnknown, number, new_id, owner, successor, first_successor, comma, semicolon}
 use Rattle.ps_pgsolver.specs.Nodes.{is_member}
@@ -190,3 +191,53 @@ reads_semicolon old new r = one_reads semicolon_in NoBad Semicolon tt refl semic
 pub reads_comma : (old new : Stream Sign) (r : Result (Unit {0}) PgFault) → new ≡ tail old → r ≡ comma_answer (next_of old) (offset_of old.pieces old.end) → Reads (λ u. u) comma old r new
 unfolding comma
 reads_comma old new r = one_reads comma_in NoBad Comma tt refl comma_answer comma_fits (λ at. refl) old new r
+
+-- ## The same with other ids known
+
+abbrev found_number : ℕ → Result ℕ PgFault
+found_number n = Ok n
+
+abbrev not_found : PgFault → Result ℕ PgFault
+not_found e = Err e
+
+no_fault : (n : ℕ) (e : PgFault) → found_number n ≡ not_found e → ⊥
+no_fault n e h = let x : found_number n ≡ not_found e = h in cc
+
+same_number : (n m : ℕ) → found_number n ≡ found_number m → n ≡ m
+same_number n m h = let x : found_number n ≡ found_number m = h in cc
+
+successor_known : (known : Option (List ℕ)) (ids : List ℕ) (o : Option Sign) (at n : ℕ) → Contains ids n → found_number n ≡ successor_answer known o at → found_number n ≡ successor_answer (Some ids) o at
+successor_known known ids (Some (Number m)) at n h e = ⊎_elim
+    (λ (small : ltb m too_large ≡ true). ⊎_elim
+    (λ (yes : is_known known m ≡ true).
+    let is : n ≡ m = same_number n m (e ∙ rw (small, yes) refl) in
+    rw (small, any-from_Contains m ids (subst (λ x. Contains ids x) is h)) (ap found_number is))
+    (λ (no : is_known known m ≡ false). absurd (no_fault n (faults.Text causes.UnknownSuccessor at) (e ∙ rw (small, no) refl)))
+    (cases_Bool (is_known known m)))
+    (λ (large : ltb m too_large ≡ false). absurd (no_fault n (faults.Text causes.Number at) (e ∙ rw large refl)))
+    (cases_Bool (ltb m too_large))
+successor_known known ids None at n h e = absurd (no_fault n (faults.Text causes.Syntax at) e)
+successor_known known ids (Some (Word x)) at n h e = absurd (no_fault n (faults.Text causes.Syntax at) e)
+successor_known known ids (Some (Name x)) at n h e = absurd (no_fault n (faults.Text causes.Syntax at) e)
+successor_known known ids (Some Comma) at n h e = absurd (no_fault n (faults.Text causes.Syntax at) e)
+successor_known known ids (Some Semicolon) at n h e = absurd (no_fault n (faults.Text causes.Syntax at) e)
+successor_known known ids (Some OpenName) at n h e = absurd (no_fault n (faults.Text causes.Syntax at) e)
+successor_known known ids (Some Wrong) at n h e = absurd (no_fault n (faults.Text causes.Syntax at) e)
+
+first_known : (known : Option (List ℕ)) (ids : List ℕ) (o : Option Sign) (at n : ℕ) → Contains ids n → found_number n ≡ first_answer known o at → found_number n ≡ first_answer (Some ids) o at
+first_known known ids (Some (Number m)) at n h e = successor_known known ids (Some (Number m)) at n h e
+first_known known ids (Some Semicolon) at n h e = absurd (no_fault n (faults.Text causes.NoSuccessor at) e)
+first_known known ids (Some (Name x)) at n h e = absurd (no_fault n (faults.Text causes.NoSuccessor at) e)
+first_known known ids (Some OpenName) at n h e = absurd (no_fault n (faults.Text causes.NoSuccessor at) e)
+first_known known ids None at n h e = absurd (no_fault n (faults.Text causes.Syntax at) e)
+first_known known ids (Some (Word x)) at n h e = absurd (no_fault n (faults.Text causes.Syntax at) e)
+first_known known ids (Some Comma) at n h e = absurd (no_fault n (faults.Text causes.Syntax at) e)
+first_known known ids (Some Wrong) at n h e = absurd (no_fault n (faults.Text causes.Syntax at) e)
+
+pub later_successor : (known : Option (List ℕ)) (old new : Stream Sign) (r : Result ℕ PgFault) → new ≡ tail old → r ≡ successor_answer known (next_of old) (offset_of old.pieces old.end) → ReadsKnown Contains (λ n. n) successor old r new
+later_successor known old new (Ok n) t e = λ ids h. reads_successor (Some ids) old new (Ok n) t (successor_known known ids (next_of old) _ n h e)
+later_successor known old new (Err f) t e = tt
+
+pub later_first : (known : Option (List ℕ)) (old new : Stream Sign) (r : Result ℕ PgFault) → new ≡ tail old → r ≡ first_answer known (next_of old) (offset_of old.pieces old.end) → ReadsKnown Contains (λ n. n) first_successor old r new
+later_first known old new (Ok n) t e = λ ids h. reads_first (Some ids) old new (Ok n) t (first_known known ids (next_of old) _ n h e)
+later_first known old new (Err f) t e = tt

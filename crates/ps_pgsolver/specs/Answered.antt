@@ -1,11 +1,12 @@
 -- What the functions of the code answer to a token, and what each says of the part that it reads.
-use Rattle.std.specs.Prelude.{ℕ, Bool, true, List, Option, None, Some, Result, Ok, Err, nat_lt, if◌then◌else◌}
+use Rattle.std.specs.Prelude.{ℕ, Bool, true, List, Option, None, Some, Result, Ok, Err, IfOk, nat_lt, if◌then◌else◌}
 use Rattle.ps_text.specs.Answers.{Stream, Found}
 use Rattle.ps_text.specs.Parts.{Part, PartAnswers}
 use Rattle.ps_text.specs.Readers.{Meets}
+use Rattle.ps_text.specs.Readers.{Reads as WasRead}
 pub use Rattle.ps_text.specs.Faults.{found_of}
 use Rattle.ps_pgsolver.specs.GameTexts.{pg_causes, too_large, game}
-use Rattle.ps_pgsolver.specs.Nodes.{NodeData, is_member}
+use Rattle.ps_pgsolver.specs.Nodes.{NodeData, KnowsAll, is_member}
 use Rattle.ps_pgsolver.specs.Signs.{Sign, Number, Name, Comma, Semicolon, OpenName}
 use Rattle.ps_pgsolver.specs.declared.fault.PgCause.{PgCause}
 use Rattle.ps_pgsolver.specs.declared.fault.PgCause.TheVariants as causes
@@ -15,6 +16,14 @@ use Rattle.ps_text.specs.declared.faults.Fault.TheVariants as faults
 -- the part was read from old, and new is left, or its first fault was found
 abbrev pub Reads : {V X : Type 0} → (X → V) → Part Sign V PgCause → Stream Sign → Result X PgFault → Stream Sign → Type 0
 Reads view part old result new = Meets found_of pg_causes view part old result new
+
+-- where all ids that the value names are among some ids, the part with these known was read too
+abbrev pub ReadsKnown : {V X : Type 0} → (List ℕ → V → Type 0) → (X → V) → (Option (List ℕ) → Part Sign V PgCause) → Stream Sign → Result X PgFault → Stream Sign → Type 0
+ReadsKnown Knows view part old result new = IfOk result (λ x. (ids : List ℕ) → Knows ids (view x) → WasRead (part (Some ids)) old (view x) new)
+
+-- the same of a part that adds to a value; what it names now, it named before
+abbrev pub AddsKnown : {V X : Type 0} → (List ℕ → V → Type 0) → V → V → (Option (List ℕ) → Part Sign V PgCause) → Stream Sign → Result X PgFault → Stream Sign → Type 0
+AddsKnown Knows before after part old result new = IfOk result (λ _. (ids : List ℕ) → Knows ids after → Knows ids before × WasRead (part (Some ids)) old after new)
 
 abbrev pub is_known : Option (List ℕ) → ℕ → Bool
 is_known None n = true
@@ -74,3 +83,7 @@ FaultAnswers known stream (Some found) = PartAnswers pg_causes (game known) stre
 abbrev pub TextAnswers : Option (List ℕ) → Stream Sign → Result (List NodeData) PgFault → Type 0
 TextAnswers known stream (Ok nodes) = PartAnswers pg_causes (game known) stream (Ok nodes)
 TextAnswers known stream (Err fault) = FaultAnswers known stream (found_of fault)
+
+-- what the text answers once ids are known among which are all that its value names
+abbrev pub KnownAnswers : Stream Sign → Result (List NodeData) PgFault → Type 0
+KnownAnswers stream result = IfOk result (λ nodes. (ids : List ℕ) → KnowsAll ids nodes → PartAnswers pg_causes (game (Some ids)) stream (Ok nodes))

@@ -1,9 +1,11 @@
 -- What a token of the code stands for.
-use Rattle.std.specs.Prelude.{◌≡◌, ℕ, Bool, true, false, List, Option, None, Some}
+use Rattle.std.specs.Prelude.{◌≡◌, ◌≤◌, ℕ, Bool, true, false, List, Option, None, Some, length}
 use Rattle.std.specs.List.{AllPass}
 use Rattle.ps_text.specs.Answers.{Stream, next_of, offset_of}
+use Rattle.ps_text.specs.Readers.{tail}
 use Rattle.ps_text.specs.Digits.{decimal_value}
 use Rattle.ps_pgsolver.specs.Bytes.{is_digit, is_inner}
+use Rattle.ps_pgsolver.specs.Lexer.{stream_from}
 use Rattle.ps_pgsolver.specs.Signs.{Sign, Number, Word, Name, Comma, Semicolon, OpenName, Wrong}
 use Rattle.ps_pgsolver.specs.declared.token.Kind.{Kind}
 use Rattle.ps_pgsolver.specs.declared.token.Kind.TheVariants as kinds
@@ -42,3 +44,11 @@ abbrev pub IsPlain : Kind → Type 0
 IsPlain (kinds.Number digits) = AllPass is_digit digits.now
 IsPlain (kinds.Name inner) = AllPass is_inner inner.now
 IsPlain _ = Unit {0}
+
+-- the token was read from a text, and the tokens behind it begin at that offset
+pub record IsAhead (text : List ℕ) (token : Token) (behind : ℕ) : Type 0 where
+  pub head : IsHead token (stream_from text token.start)
+  pub plain : IsPlain token.kind
+  pub rest : stream_from text behind ≡ tail (stream_from text token.start)
+  pub start : token.start ≤ length text
+  pub within : behind ≤ length text

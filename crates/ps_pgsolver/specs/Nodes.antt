@@ -1,6 +1,6 @@
 -- A node of a game text, as it stands there.
 use Rattle.std.specs.Prelude.{ℕ, Bool, ◌==◌, ◌≡◌, ◌<◌, ◌≢◌, List, map, length, Option}
-use Rattle.std.specs.List.{All, AllPairs, Contains, list_any}
+use Rattle.std.specs.List.{All, AllPairs, Contains, list_any, list_all}
 use Rattle.ps_game.specs.Games.{HasNoQuote}
 
 pub record NodeData : Type 0 where
@@ -44,6 +44,19 @@ pub record IsNewNode (ids : List ℕ) (node : NodeData) : Type 0 where
   pub new : ¬ Contains ids node.id
   pub is_node : IsNode node
 
--- each successor of each node is one of these ids
+-- each of a list, each successor of a node, and each successor of each node is one of these ids
+abbrev pub KnowsEach : List ℕ → List ℕ → Type 0
+KnowsEach ids list = All (λ id. Contains ids id) list
+
+abbrev pub KnowsNode : List ℕ → NodeData → Type 0
+KnowsNode ids node = KnowsEach ids node.successors
+
 abbrev pub KnowsAll : List ℕ → List NodeData → Type 0
-KnowsAll ids nodes = All (λ node. All (λ id. Contains ids id) node.successors) nodes
+KnowsAll ids nodes = All (λ node. KnowsNode ids node) nodes
+
+-- the same as tests
+abbrev pub knows_each : List ℕ → List ℕ → Bool
+knows_each ids list = list_all (λ id. is_member ids id) list
+
+abbrev pub knows_all : List ℕ → List NodeData → Bool
+knows_all ids nodes = list_all (λ node. knows_each ids node.successors) nodes

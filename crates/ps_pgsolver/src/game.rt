@@ -7,9 +7,8 @@ ghost use Rattle.ps_pgsolver.specs.GamesOf.{game_of, named_game_of, place_of, ve
 ghost use Rattle.ps_pgsolver.specs.Nodes.{IsNode, KnowsAll, ids_of};
 
 use crate::fault::PgFault;
-use crate::ids::Ids;
 use crate::node::{Node, Nodes};
-use ps_game::{Game, GameBuilder, GameFault, NamedGame};
+use ps_game::{Game, GameBuilder, GameFault, Ids, NamedGame};
 use std::alloc::{AllocError, Global};
 
 /// The game of the nodes, with their ids and names.
@@ -68,7 +67,7 @@ fn vertex(
 {
     let vertex = builder.vertex(owner, priority)?;
     for id in successors {
-        let place = ids.place(*id);
+        let place = ids.place(*id).unwrap();
         builder.edge(vertex, place)?;
     }
     Ok(())

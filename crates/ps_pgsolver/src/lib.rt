@@ -3,7 +3,6 @@
 
 mod fault;
 mod game;
-mod ids;
 mod laws;
 mod node;
 mod reader;

@@ -1,10 +1,11 @@
 //! Nodes of game texts.
 
 ghost use Rattle.std.specs.Prelude.{◌≡◌, ◌++◌, ◌∷◌, ◌<◌, [], List, OnOk, OnErr, IfOk, Contains, length, map};
-ghost use Rattle.ps_pgsolver.specs.Nodes.{NodeData, IsNode, AreNodes, HasTable, ids_of, names_of, is_member};
+ghost use Rattle.ps_pgsolver.specs.Nodes.{NodeData, IsNode, AreNodes, HasTable, ids_of, names_of, is_member, knows_each, knows_all};
 ghost use Rattle.ps_game.specs.Names.{name_bytes};
 
-use crate::ids::Ids;
+use ps_game::Ids;
+use smallvec::SmallVec;
 use std::alloc::{AllocError, Global};
 use std::marker::Model;
 
@@ -14,7 +15,7 @@ pub struct Node {
     pub id: u64,
     pub priority: u64,
     pub owner: u8,
-    pub successors: Vec<u64>,
+    pub successors: SmallVec<u64, 4>,
     pub name: Option<Vec<u8>>,
 }
 
@@ -72,6 +73,15 @@ impl Nodes {
         self.ids.has(id)
     }
 
+    /// Whether each successor is the id of a node.
+    pub fn know_successors(&self) -> bool
+        ensures { result ≡ knows_all (ids_of self.now) self.now }
+    {
+        self.entries
+            .iter()
+            .all(|node| are_ids(&self.ids, &node.successors))
+    }
+
     /// Adds a node of a new id.
     pub fn push(&mut self, node: Node) -> Result<(), AllocError>
         requires new { ¬ Contains (ids_of self.old) node.id }
@@ -91,13 +101,18 @@ impl Nodes {
         ensures ids { IfOk result (λ labels. labels.0.items ≡ ids_of self) }
         ensures names { IfOk result (λ labels. map name_bytes labels.1.items ≡ names_of self) }
     {
-        let Nodes { entries, ids: _ } = self;
-        let mut ids = Vec::new(alloc);
+        let Nodes { entries, ids } = self;
         let mut names = Vec::new(alloc);
         for node in entries {
-            ids.push(node.id)?;
             names.push(node.name)?;
         }
-        Ok((ids, names))
+        Ok((ids.into_list(), names))
     }
+}
+
+/// Whether each number of a list is one of the ids.
+fn are_ids(ids: &Ids, list: &[u64]) -> bool
+    ensures { result ≡ knows_each ids.now list.now }
+{
+    list.iter().all(|id| ids.has(*id))
 }

@@ -1,27 +1,28 @@
 //! The reading of a game text.
 
-ghost use Rattle.std.specs.Prelude.{◌≡◌, ◌≤◌, ◌<◌, Some, None, IfOk, vec_len, option_copied, nat_lt, if◌then◌else◌, IfErr, length};
+ghost use Rattle.std.specs.Prelude.{◌≡◌, ◌≤◌, ◌<◌, Some, None, Ok, IfOk, option_copied, nat_lt, if◌then◌else◌, IfErr, length};
 ghost use Rattle.ps_text.specs.declared.faults.Fault.TheVariants as faults;
 ghost use Rattle.std.specs.List.{AllPass, Contains};
+ghost use Rattle.smallvec.specs.SmallVec.{small_vec_len};
 ghost use Rattle.ps_text.specs.Answers.{next_of, offset_of};
 ghost use Rattle.ps_game.specs.Games.{HasNoQuote};
 ghost use Rattle.ps_game.specs.Names.{name_bytes};
 ghost use Rattle.ps_text.specs.Digits.{decimal_value};
-ghost use Rattle.ps_pgsolver.specs.Answered.{Reads, TextAnswers, number_answer, id_answer, owner_answer, successor_answer, first_answer, comma_answer, semicolon_answer, end_answer};
+ghost use Rattle.ps_pgsolver.specs.Answered.{Reads, ReadsKnown, AddsKnown, TextAnswers, FaultAnswers, KnownAnswers, found_of, number_answer, id_answer, owner_answer, successor_answer, first_answer, comma_answer, semicolon_answer, end_answer};
 ghost use Rattle.ps_pgsolver.specs.Bytes.{is_digit};
 ghost use Rattle.ps_pgsolver.specs.GameTexts as parts;
 ghost use Rattle.ps_pgsolver.specs.Causes.{StandsWithin};
 ghost use Rattle.ps_pgsolver.specs.Heads.{IsPlain, sign_of};
 ghost use Rattle.ps_pgsolver.specs.Lexer.{stream_of};
 ghost use Rattle.ps_pgsolver.specs.Reading.{Answers};
-ghost use Rattle.ps_pgsolver.specs.Nodes.{IsNewNode, ids_of};
+ghost use Rattle.ps_pgsolver.specs.Nodes.{IsNewNode, KnowsEach, KnowsNode, KnowsAll, ids_of};
 
 use crate::fault::{PgCause, PgFault};
 use crate::game::named_game;
-use crate::ids::Ids;
 use crate::node::{Node, Nodes};
 use crate::token::{Kind, Token, Tokens};
-use ps_game::NamedGame;
+use ps_game::{Ids, NamedGame};
+use smallvec::SmallVec;
 use std::alloc::Global;
 
 /// The greatest length of a text, in bytes.
@@ -29,7 +30,7 @@ const TEXT_LIMIT: usize = 16_777_216;
 
 /// Reads a game text. Vertices are numbered in the order of the nodes.
 ///
-/// A successor may stand before its node, so the text is read twice: the first reading finds the ids.
+/// A successor may stand before its node, so all ids are known only behind the text.
 pub fn read(alloc: Global, text: &[u8]) -> Result<NamedGame, PgFault>
     ensures answer { Answers text.now result }
     ensures within { IfErr result (StandsWithin (length text.now)) }
@@ -40,9 +41,23 @@ pub fn read(alloc: Global, text: &[u8]) -> Result<NamedGame, PgFault>
             offset: TEXT_LIMIT,
         });
     }
-    let first = game_text(alloc, text, None)?;
-    let second = game_text(alloc, text, Some(first.ids()))?;
-    named_game(alloc, second)
+    let nodes = game_text(alloc, text, None)?;
+    if !nodes.know_successors() {
+        return Err(unknown_successor(alloc, text, &nodes));
+    }
+    named_game(alloc, nodes)
+}
+
+/// What is wrong at the first successor that is no node's id, which a second reading finds.
+fn unknown_successor(alloc: Global, text: &[u8], nodes: &Nodes) -> PgFault
+    requires read { TextAnswers None (stream_of text.now) (Ok nodes.now) }
+    requires some { KnowsAll (ids_of nodes.now) nodes.now → ⊥ }
+    ensures { FaultAnswers (Some (ids_of nodes.now)) (stream_of text.now) (found_of result) }
+{
+    match game_text(alloc, text, Some(nodes.ids())) {
+        Ok(_) => unreachable!(),
+        Err(fault) => fault,
+    }
 }
 
 /// What is wrong at a token.
@@ -57,7 +72,8 @@ fn fault(cause: PgCause, token: Token) -> PgFault
 
 /// Reads a whole text. Where the ids of its nodes are known, each successor must be one of them.
 fn game_text(alloc: Global, text: &[u8], known: Option<&Ids>) -> Result<Nodes, PgFault>
-    ensures { TextAnswers (option_copied known.entry) (stream_of text.now) result }
+    ensures answer { TextAnswers (option_copied known.entry) (stream_of text.now) result }
+    ensures later { KnownAnswers (stream_of text.now) result }
 {
     let mut tokens = Tokens::new(text);
     let _parity = setting(&mut tokens, b"parity")?;
@@ -88,7 +104,8 @@ fn value_line(tokens: &mut Tokens) -> Result<(), PgFault>
 
 /// Reads the nodes.
 fn entries(alloc: Global, tokens: &mut Tokens, known: Option<&Ids>) -> Result<Nodes, PgFault>
-    ensures { Reads (λ nodes. nodes) (parts.entries (option_copied known.entry)) tokens.old result tokens.new }
+    ensures part { Reads (λ nodes. nodes) (parts.entries (option_copied known.entry)) tokens.old result tokens.new }
+    ensures later { ReadsKnown KnowsAll (λ nodes. nodes) parts.entries tokens.old result tokens.new }
 {
     let mut nodes = Nodes::new(alloc);
     entry(alloc, tokens, known, &mut nodes)?;
@@ -105,7 +122,8 @@ fn entry(
     known: Option<&Ids>,
     nodes: &mut Nodes,
 ) -> Result<(), PgFault>
-    ensures { Reads (λ _. nodes.new) (parts.entry (option_copied known.entry) nodes.old) tokens.old result tokens.new }
+    ensures part { Reads (λ _. nodes.new) (parts.entry (option_copied known.entry) nodes.old) tokens.old result tokens.new }
+    ensures later { AddsKnown KnowsAll nodes.old nodes.new (λ ids. parts.entry ids nodes.old) tokens.old result tokens.new }
 {
     let node = node(alloc, tokens, known, nodes)?;
     nodes.push(node)?;
@@ -120,6 +138,7 @@ fn node(
     nodes: &Nodes,
 ) -> Result<Node, PgFault>
     ensures part { Reads (λ node. node) (parts.node (option_copied known.entry) (ids_of nodes.now)) tokens.old result tokens.new }
+    ensures later { ReadsKnown KnowsNode (λ node. node) (λ ids. parts.node ids (ids_of nodes.now)) tokens.old result tokens.new }
     ensures node { IfOk result (λ node. IsNewNode (ids_of nodes.now) node) }
 {
     let id = new_id(tokens, nodes)?;
@@ -162,11 +181,16 @@ fn owner(tokens: &mut Tokens) -> Result<u8, PgFault>
 }
 
 /// Reads a list of successors.
-fn successors(alloc: Global, tokens: &mut Tokens, known: Option<&Ids>) -> Result<Vec<u64>, PgFault>
+fn successors(
+    alloc: Global,
+    tokens: &mut Tokens,
+    known: Option<&Ids>,
+) -> Result<SmallVec<u64, 4>, PgFault>
     ensures part { Reads (λ list. list.items) (parts.successors (option_copied known.entry)) tokens.old result tokens.new }
-    ensures some { IfOk result (λ list. 0 < vec_len list) }
+    ensures later { ReadsKnown KnowsEach (λ list. list.items) parts.successors tokens.old result tokens.new }
+    ensures some { IfOk result (λ list. 0 < small_vec_len list) }
 {
-    let mut list = Vec::new(alloc);
+    let mut list = SmallVec::new(alloc);
     list.push(first_successor(tokens, known)?)?;
     'more: while tokens.is_at_comma() {
         more_successor(tokens, known, &mut list)?;
@@ -178,10 +202,11 @@ fn successors(alloc: Global, tokens: &mut Tokens, known: Option<&Ids>) -> Result
 fn more_successor(
     tokens: &mut Tokens,
     known: Option<&Ids>,
-    list: &mut Vec<u64>,
+    list: &mut SmallVec<u64, 4>,
 ) -> Result<(), PgFault>
     ensures part { Reads (λ _. list.new.items) (parts.more_successor (option_copied known.entry) list.old.items) tokens.old result tokens.new }
-    ensures longer { vec_len list.old ≤ vec_len list.new }
+    ensures later { AddsKnown KnowsEach list.old.items list.new.items (λ ids. parts.more_successor ids list.old.items) tokens.old result tokens.new }
+    ensures longer { small_vec_len list.old ≤ small_vec_len list.new }
 {
     comma(tokens)?;
     let id = successor(tokens, known)?;
@@ -191,14 +216,16 @@ fn more_successor(
 
 /// Reads the first successor of a node, which a node can't do without.
 fn first_successor(tokens: &mut Tokens, known: Option<&Ids>) -> Result<u64, PgFault>
-    ensures { Reads (λ n. n) (parts.first_successor (option_copied known.entry)) tokens.old result tokens.new }
+    ensures part { Reads (λ n. n) (parts.first_successor (option_copied known.entry)) tokens.old result tokens.new }
+    ensures later { ReadsKnown Contains (λ n. n) parts.first_successor tokens.old result tokens.new }
 {
     first_of(tokens.next(), known)
 }
 
 /// Reads a successor.
 fn successor(tokens: &mut Tokens, known: Option<&Ids>) -> Result<u64, PgFault>
-    ensures { Reads (λ n. n) (parts.successor (option_copied known.entry)) tokens.old result tokens.new }
+    ensures part { Reads (λ n. n) (parts.successor (option_copied known.entry)) tokens.old result tokens.new }
+    ensures later { ReadsKnown Contains (λ n. n) parts.successor tokens.old result tokens.new }
 {
     successor_of(tokens.next(), known)
 }

@@ -6,7 +6,7 @@ ghost use Rattle.ps_pgsolver.specs.Bytes.{is_blank, is_digit, is_letter, ends_in
 ghost use Rattle.ps_pgsolver.specs.Classes.{in_class};
 ghost use Rattle.ps_text.specs.Answers.{Stream};
 ghost use Rattle.ps_pgsolver.specs.Signs.{Sign};
-ghost use Rattle.ps_pgsolver.specs.Heads.{sign_of, IsPlain};
+ghost use Rattle.ps_pgsolver.specs.Heads.{sign_of, IsPlain, IsAhead};
 ghost use Rattle.ps_pgsolver.specs.Lexer.{stream_of, stream_from, first_sign, first_size, number_sign, word_sign, name_sign, name_size, mark_sign};
 
 use std::marker::Model;
@@ -66,19 +66,20 @@ pub struct Token<'a> {
     pub start: usize,
 }
 
-/// The tokens of a text that are still to come.
+/// The tokens of a text that are still to come. The first of them was read already.
 #[derive(Drop)]
 pub struct Tokens<'a> {
     text: &'a [u8],
-    at: usize,
+    first: Token<'a>,
+    behind: usize,
 }
 
 impl<'a> Model for Tokens<'a> {
     ghost Value = { Stream Sign };
 
-    ghost view = { λ t. stream_from t.text.now t.at };
+    ghost view = { λ t. stream_from t.text.now t.first.start };
 
-    ghost invariant = { λ t. t.at ≤ length t.text.now };
+    ghost invariant = { λ t. IsAhead t.text.now t.first t.behind };
 }
 
 impl<'a> Tokens<'a> {
@@ -93,7 +94,12 @@ impl<'a> Tokens<'a> {
     pub fn new(text: &'a [u8]) -> Self
         ensures { result ≡ stream_of text.now }
     {
-        Tokens { text, at: 0 }
+        let (first, behind) = token_from(text, 0);
+        Tokens {
+            text,
+            first,
+            behind,
+        }
     }
 
     /// The next token.
@@ -102,10 +108,7 @@ impl<'a> Tokens<'a> {
         ensures plain { IsPlain result.kind }
         ensures within { result.start ≤ self.now.end }
     {
-        let start = next_start(self.text, self.at);
-        let (before, rest) = self.text.split_at(start);
-        let (kind, _) = token_at(before, rest);
-        Token { kind, start }
+        self.first
     }
 
     /// Reads the next token.
@@ -115,11 +118,11 @@ impl<'a> Tokens<'a> {
         ensures within { result.start ≤ self.old.end }
         ensures rest { self.new ≡ tail self.old }
     {
-        let start = next_start(self.text, self.at);
-        let (before, rest) = self.text.split_at(start);
-        let (kind, size) = token_at(before, rest);
-        self.at = start + size;
-        Token { kind, start }
+        let token = self.first;
+        let (first, behind) = token_from(self.text, self.behind);
+        self.first = first;
+        self.behind = behind;
+        token
     }
 
     /// Whether a number comes next.
@@ -162,6 +165,18 @@ impl<'a> Tokens<'a> {
             _ => false,
         }
     }
+}
+
+/// The first token from an offset on, and where it ends.
+fn token_from<'a>(text: &'a [u8], at: usize) -> (Token<'a>, usize)
+    requires { at ≤ length text.now }
+    ensures ahead { IsAhead text.now result.0 result.1 }
+    ensures blanks { stream_from text.now at ≡ stream_from text.now result.0.start }
+{
+    let start = next_start(text, at);
+    let (before, rest) = text.split_at(start);
+    let (kind, size) = token_at(before, rest);
+    (Token { kind, start }, start + size)
 }
 
 /// Where the next token begins, or the text ends.

@@ -12,7 +12,7 @@ vertex-requires-clause-known c =
     let n = c.node-item.result in
     let known : All (λ id. Contains ids id) n.successors =
     subst (λ (m : NodeData). All (λ id. Contains ids id) m.successors) (sym c.node-item.is) (c.requires.known c.loop-node.node-index n c.loop-node-test.true) in
-    subst (λ (xs : List ℕ). All (λ id. Contains ids id) xs) (sym (c.deref.ensures.value ∙ ap (λ (m : NodeData). m.successors) c.node.view_is)) known
+    subst (λ (xs : List ℕ). All (λ id. Contains ids id) xs) (sym (c.deref.ensures ∙ ap (λ (m : NodeData). m.successors) c.node.view_is)) known
 
 pub loop-node-preserved : goal.loop-node-preserved
 loop-node-preserved c =
@@ -20,7 +20,7 @@ loop-node-preserved c =
     let nodes = c.args.nodes.now in
     let n = c.node-item.result in
     let v : vertex_made c.node.inside.owner c.node.inside.priority (map (place_of ids) c.deref.result.now) ≡ vertex_of ids (get_or nodes c.loop-node.node-index n) =
-    ap (λ xs. vertex_made c.node.inside.owner c.node.inside.priority (map (place_of ids) xs)) c.deref.ensures.value ∙ ap (vertex_of ids) (c.node.view_is ∙ c.node-item.is) in
+    ap (λ xs. vertex_made c.node.inside.owner c.node.inside.priority (map (place_of ids) xs)) c.deref.ensures ∙ ap (vertex_of ids) (c.node.view_is ∙ c.node-item.is) in
     c.in_ok-vertex.ensures ∙ ap₂ (λ b x. b ++ x ∷ []) c.loop-node.invariant v ∙ draft_more ids nodes c.loop-node.node-index n c.loop-node-test.true
 
 pub unreachable-requires : goal.unreachable-requires

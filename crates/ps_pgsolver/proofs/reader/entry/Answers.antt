@@ -1,16 +1,27 @@
-use Rattle.std.proofs.Common.{[], ◌∷◌, ◌++◌, sym}
+use Rattle.std.proofs.Common.{[], ◌∷◌, ◌++◌, Some, sym, subst}
 use Rattle.std.specs.Option.{option_copied}
 use Rattle.ps_pgsolver.specs.GameTexts.{node, entry}
-use Rattle.ps_pgsolver.specs.Nodes.{NodeData, ids_of}
+use Rattle.ps_pgsolver.specs.Nodes.{NodeData, KnowsNode, KnowsAll, ids_of}
+use Rattle.ps_pgsolver.proofs.NodeLemmas.{all_before, all_last}
 use Rattle.ps_pgsolver.proofs.Exits.{exit, stops_mapped, done_mapped, done_value}
 use Rattle.ps_pgsolver.proofs.reader.entry.Goals as goal
 
-pub returns-in_err-node : goal.returns-in_err-node
+pub returns-in_err-node-clause-part : goal.returns-in_err-node-clause-part
 unfolding entry
-returns-in_err-node c = exit _ _ _ _ _ _
+returns-in_err-node-clause-part c = exit _ _ _ _ _ _
     (stops_mapped (λ (n : NodeData). c.args.nodes.now ++ n ∷ []) (node (option_copied c.args.known) (ids_of c.args.nodes.now)) _ _ c.in_err-node.ensures.part) c.from_residual.ensures.1
 
-pub returns : goal.returns
+pub returns-clause-part : goal.returns-clause-part
 unfolding entry
-returns c = done_value (entry (option_copied c.args.known) c.args.nodes.now) _ _ _ _ (sym c.in_ok-push.ensures)
+returns-clause-part c = done_value (entry (option_copied c.args.known) c.args.nodes.now) _ _ _ _ (sym c.in_ok-push.ensures)
     (done_mapped (λ (n : NodeData). c.args.nodes.now ++ n ∷ []) (node (option_copied c.args.known) (ids_of c.args.nodes.now)) _ _ c.in_ok-node.node c.in_ok-node.ensures.part)
+
+pub returns-clause-later : goal.returns-clause-later
+unfolding entry
+returns-clause-later c = λ ids each.
+    let nodes = c.args.nodes.now in
+    let all : KnowsAll ids (nodes ++ c.in_ok-node.node ∷ []) = subst (KnowsAll ids) c.in_ok-push.ensures each in (
+      all_before (KnowsNode ids) nodes c.in_ok-node.node all,
+      done_value (entry (Some ids) nodes) _ _ _ _ (sym c.in_ok-push.ensures)
+          (done_mapped (λ (n : NodeData). nodes ++ n ∷ []) (node (Some ids) (ids_of nodes)) _ _ c.in_ok-node.node (c.in_ok-node.ensures.later ids (all_last (KnowsNode ids) nodes c.in_ok-node.node all))),
+    )

@@ -1,8 +1,11 @@
 use Rattle.std.proofs.Common.{◌∙◌, ap₂}
 use Rattle.std.specs.Option.{option_copied}
 use Rattle.ps_pgsolver.specs.Answered.{first_answer}
-use Rattle.ps_pgsolver.proofs.SingleSigns.{reads_first}
+use Rattle.ps_pgsolver.proofs.SingleSigns.{reads_first, later_first}
 use Rattle.ps_pgsolver.proofs.reader.first_successor.Goals as goal
 
-pub returns : goal.returns
-returns c = reads_first (option_copied c.args.known) _ _ _ c.next.ensures.rest (c.first_of.ensures ∙ ap₂ (first_answer (option_copied c.args.known)) c.next.ensures.token.sign c.next.ensures.token.start)
+pub returns-clause-part : goal.returns-clause-part
+returns-clause-part c = reads_first (option_copied c.args.known) _ _ _ c.next.ensures.rest (c.first_of.ensures ∙ ap₂ (first_answer (option_copied c.args.known)) c.next.ensures.token.sign c.next.ensures.token.start)
+
+pub returns-clause-later : goal.returns-clause-later
+returns-clause-later c = later_first (option_copied c.args.known) _ _ _ c.next.ensures.rest (c.first_of.ensures ∙ ap₂ (first_answer (option_copied c.args.known)) c.next.ensures.token.sign c.next.ensures.token.start)

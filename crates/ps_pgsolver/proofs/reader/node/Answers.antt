@@ -1,3 +1,4 @@
+use Rattle.std.proofs.Common.{Some}
 use Rattle.std.specs.Option.{option_copied}
 use Rattle.ps_game.specs.Names.{name_bytes}
 use Rattle.ps_pgsolver.specs.GameTexts.{node, semicolon}
@@ -59,4 +60,14 @@ returns-clause-part c =
     (done_then (joint_owner (option_copied c.args.known) (ids_of c.args.nodes.now) c.in_ok-id.id c.in_ok-priority.priority) _ _ _ _ _ c.in_ok-owner.ensures.part
     (done_then (joint_list (option_copied c.args.known) (ids_of c.args.nodes.now) c.in_ok-id.id c.in_ok-priority.priority c.in_ok-owner.owner) _ _ _ _ _ c.in_ok-successors.ensures.part
     (done_then (joint_name (option_copied c.args.known) (ids_of c.args.nodes.now) c.in_ok-id.id c.in_ok-priority.priority c.in_ok-owner.owner c.in_ok-successors.successors.items) _ _ _ _ _ c.in_ok-name.ensures.part
+    (done_mapped (λ _. record { id = c.in_ok-id.id; priority = c.in_ok-priority.priority; owner = c.in_ok-owner.owner; successors = c.in_ok-successors.successors.items; name = (name_bytes c.in_ok-name.name) }) semicolon _ _ tt c.in_ok-semicolon.ensures))))))
+
+pub returns-clause-later : goal.returns-clause-later
+unfolding node
+returns-clause-later c = λ ids each.
+    (done_then (joint_id (Some ids) (ids_of c.args.nodes.now)) _ _ _ _ _ c.in_ok-id.ensures.part
+    (done_then (joint_priority (Some ids) (ids_of c.args.nodes.now) c.in_ok-id.id) _ _ _ _ _ c.in_ok-priority.ensures
+    (done_then (joint_owner (Some ids) (ids_of c.args.nodes.now) c.in_ok-id.id c.in_ok-priority.priority) _ _ _ _ _ c.in_ok-owner.ensures.part
+    (done_then (joint_list (Some ids) (ids_of c.args.nodes.now) c.in_ok-id.id c.in_ok-priority.priority c.in_ok-owner.owner) _ _ _ _ _ (c.in_ok-successors.ensures.later ids each)
+    (done_then (joint_name (Some ids) (ids_of c.args.nodes.now) c.in_ok-id.id c.in_ok-priority.priority c.in_ok-owner.owner c.in_ok-successors.successors.items) _ _ _ _ _ c.in_ok-name.ensures.part
     (done_mapped (λ _. record { id = c.in_ok-id.id; priority = c.in_ok-priority.priority; owner = c.in_ok-owner.owner; successors = c.in_ok-successors.successors.items; name = (name_bytes c.in_ok-name.name) }) semicolon _ _ tt c.in_ok-semicolon.ensures))))))
