@@ -6,20 +6,17 @@ use Rattle.std.specs.List.{All, AllZip}
 use Rattle.std.proofs.Math.Bool.{beq}
 use Rattle.std.proofs.lemmas.Bool.{cases_eq}
 use Rattle.std.proofs.lemmas.List.{get_or_push, get_or_append_left, length_push}
-use Rattle.std.proofs.lemmas.List.Elements.{Contains-get_or}
 use Rattle.ps_certificate.specs.Certificates.{CertificateData}
 use Rattle.ps_diagram.specs.Table.{Table, Keeps}
 use Rattle.ps_diagram.proofs.Cells.{true_is_not_false}
-use Rattle.ps_game.specs.Games.{ParityGame, vertex_count}
 use Rattle.ps_hoa.specs.Memory.{bytes_of}
 use Rattle.ps_machine.specs.Assembling.{AreDrawn}
 use Rattle.ps_machine.specs.Boards.{Board}
-use Rattle.ps_machine.specs.Drawing.{AreUsed, IsDrawn, IsRow, KeepsRows}
+use Rattle.ps_machine.specs.Drawing.{IsDrawn, IsRow, KeepsRows}
 use Rattle.ps_machine.specs.Extracting.{is_others}
 use Rattle.ps_machine.specs.declared.key.Key.{Key}
 use Rattle.ps_machine.specs.declared.machine.Row.{Row}
 use Rattle.ps_machine.proofs.DrawingLemmas.{drawn_kept}
-use Rattle.ps_machine.proofs.Following.{used_within}
 
 -- ## Names
 
@@ -71,9 +68,3 @@ drawn_more is_first board keys kept certificate t u old new nodes more i v node 
 
     earlier : (memory : ℕ) → memory < i → slice_index more memory ≡ slice_index nodes memory
     earlier memory less = ap (λ l. get_or l memory 0) e ∙ get_or_append_left nodes (node ∷ []) 0 memory (omega (arith, less, d.many))
-
--- ## Vertices
-
-pub all_within : (game : ParityGame) (certificate : CertificateData) (found : List ℕ) (count : ℕ) → vertex_count game ≡ count → AreUsed game certificate found → All (λ v. v < count) found
-all_within game certificate found count is are k d within =
-    subst (λ n. get_or found k d < n) is (used_within game certificate (get_or found k d) ((are (get_or found k d)).0 (Contains-get_or found k d within)))

@@ -35,7 +35,7 @@ use Rattle.ps_machine.specs.contracts.key.KeyPartialEq.TheImpl as key_eq
 use Rattle.ps_machine.proofs.KeyTests.{key_same}
 use Rattle.ps_machine.proofs.Remembering.{some_and}
 use Rattle.ps_machine.proofs.Rounds.{Setting, one_place, within_game, map_contains}
-use Rattle.ps_machine.proofs.Standing.{same_some, zip_at}
+use Rattle.ps_machine.proofs.Standing.{one_state, same_some, zip_at}
 
 -- ## Memories
 
@@ -254,13 +254,8 @@ module _ (order : Order) (a : AutomatonData) (keys : List Key) (certificate : Ce
         omega (arith, ap (λ (s : Step). s.state) past))
   ]
 
-  state_of : Key → ℕ
-  state_of (First q p) = q
-  state_of (Second q x) = 0
-
   -- the states of used vertices are the automaton's
   pub used_state : IsWhole a → (v q p : ℕ) → IsUsed plan.game certificate v → StandsAt keys v (First q p) → q ≤ a.states
-  unfolding state_of
   used_state w v q p u at = elim (cases_lt 1 (length u.path)) [
     | inl more ↦ (
         let i = length u.path - 2 in
@@ -272,9 +267,9 @@ module _ (order : Order) (a : AutomatonData) (keys : List Key) (certificate : Ce
         let some = u.is_path.begins in
         let only : length u.path - 1 ≡ 0 = omega (arith, one, some) in
         let zero_is : 0 ≡ v = sym u.begins ∙ ap (slice_index u.path) (sym only) ∙ u.ends in
-        let start : First a.start 0 ≡ First q p = same_some (First a.start 0) (First q p) (sym (subst (λ n. StandsAt keys n (First a.start 0)) zero_is s.by_keys.begins) ∙ at) in
+        let start : a.start ≡ q = one_state keys v a.start 0 q p (subst (λ n. StandsAt keys n (First a.start 0)) zero_is s.by_keys.begins) at in
         let below = w.start in
-        omega (arith, ap state_of start, below))
+        omega (arith, start, below))
   ]
     where
       s : Setting (board_of order a) (mover_of order) keys plan.game certificate
@@ -286,9 +281,9 @@ module _ (order : Order) (a : AutomatonData) (keys : List Key) (certificate : Ce
           absurd (not_both r c.letter q p (same_some (Second r c.letter) (First q p) (sym c.stands ∙ at)))
       behind_key x (Second r c) there edge =
           let m = move_to (board_of order a) (mover_of order) keys plan.game certificate s x v r c there edge in
-          let same = same_some _ (First q p) (sym m.goes.stands ∙ at) in
+          let same = one_state keys v _ _ q p m.goes.stands at in
           let small = small_next w r (c + m.letter) in
-          omega (arith, ap state_of same, small)
+          omega (arith, same, small)
 
       behind : (x : ℕ) → HasEdge plan.game x v → q ≤ a.states
       behind x edge =

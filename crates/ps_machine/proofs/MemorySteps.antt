@@ -12,10 +12,10 @@ use Rattle.indexmap.specs.IndexSet.{insert_key}
 use Rattle.ps_machine.specs.Drawing.{AreMemories, HasMemory, IsMemory, KeepsAt, Stays, Grows, mark_of}
 use Rattle.ps_machine.specs.Numbering.{StandsAt}
 use Rattle.ps_machine.specs.declared.key.Key.{Key}
-use Rattle.ps_machine.specs.declared.key.Key.TheVariants.{First, Second}
+use Rattle.ps_machine.specs.declared.key.Key.TheVariants.{First}
 use Rattle.ps_machine.proofs.Exploring.{less_or_last}
 use Rattle.ps_machine.proofs.Following.{different_push, inserted}
-use Rattle.ps_machine.proofs.Standing.{same_some}
+use Rattle.ps_machine.proofs.Standing.{one_state}
 
 not_not : (b : Bool) → not (not b) ≡ b
 not_not true = refl
@@ -52,15 +52,6 @@ keeps_known kept marks v mark new b told is e = elim (inserted marks mark new e)
 ]
 
 -- ## The memories of the first vertices
-
-state_of : Key → ℕ
-state_of (First q p) = q
-state_of (Second q x) = q
-
--- the state of the key at a vertex
-pub one_state : (keys : List Key) (v q p r m : ℕ) → StandsAt keys v (First q p) → StandsAt keys v (First r m) → q ≡ r
-unfolding state_of
-one_state keys v q p r m at there = ap state_of (same_some (First q p) (First r m) (sym at ∙ there))
 
 module _ (is_first : Bool) (keys : List Key) (used : List ℕ) where
   -- the memories of the first n vertices

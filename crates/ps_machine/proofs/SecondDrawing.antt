@@ -35,7 +35,7 @@ use Rattle.ps_machine.specs.contracts.key.KeyPartialEq.TheImpl as key_eq
 use Rattle.ps_machine.specs.contracts.machine.RowPartialEq.TheImpl as row_eq
 use Rattle.ps_machine.proofs.BoardLetters.{mask_below}
 use Rattle.ps_machine.proofs.BoardSteps.{below_back, same_pair, same_itself, same_steps, class_first, class_is, class_of, no_class, move_is, move_leaf, move_of, step_of_key}
-use Rattle.ps_machine.proofs.DrawingLemmas.{all_rows, at_position, keeps_rows, setting, used_more, move_at, move_to, to_class_of}
+use Rattle.ps_machine.proofs.DrawingLemmas.{at_position, keeps_rows, setting, used_more, move_at, move_to, to_class_of}
 use Rattle.ps_machine.proofs.KeyTests.{same_key}
 use Rattle.ps_machine.proofs.Rounds.{first_owner, second_owner, same_place, within_game}
 use Rattle.ps_machine.proofs.RowTests.{same_row}
@@ -183,16 +183,10 @@ module _ (order : Order) (a : AutomatonData) (mask : ℕ) (t : Table) (keys : Li
 
 -- ## Rows
 
-pub answer_row : (board : Board) (keys : List Key) (kept : List ℕ) (certificate : CertificateData) (q x : ℕ) (row : Row) → IsAnswer board keys kept certificate q x row → IsRow false board kept row
-answer_row board keys kept certificate q x row answer =
+pub answer_row : (is_first : Bool) (board : Board) (keys : List Key) (kept : List ℕ) (certificate : CertificateData) (q x : ℕ) (row : Row) → is_first ≡ false → IsAnswer board keys kept certificate q x row → IsRow is_first board kept row
+answer_row is_first board keys kept certificate q x row turn answer =
     let at = answer 0 in
-    record { memory = slice_get_within kept row.memory at.next.vertex at.next.is_kept; letter = at.played.least.here.0 }
-
--- one more row, if it is not there
-pub rows_next : (is_first : Bool) (board : Board) (keys : List Key) (kept : List ℕ) (certificate : CertificateData) (q x : ℕ) (eq : Row → Row → Bool) (old : List Row) (row : Row) (new : List Row) → is_first ≡ false → new ≡ insert_key eq old row →
-    IsAnswer board keys kept certificate q x row → All (IsRow is_first board kept) old → All (IsRow is_first board kept) new
-rows_next is_first board keys kept certificate q x eq old row new turn e answer all =
-    all_rows (IsRow is_first board kept) eq old row new e all (subst (λ b. IsRow b board kept row) (sym turn) (answer_row board keys kept certificate q x row answer))
+    subst (λ b. IsRow b board kept row) (sym turn) (record { memory = slice_get_within kept row.memory at.next.vertex at.next.is_kept; letter = at.played.least.here.0 })
 
 module _ (board : Board) (keys : List Key) (kept : List ℕ) (certificate : CertificateData) (q : ℕ) where
   abbrev pub Names : List Row → Class → ℕ → Type 0

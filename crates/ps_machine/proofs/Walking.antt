@@ -15,17 +15,14 @@ use Rattle.ps_certificate.proofs.Holding.{BothHold-from_valid}
 use Rattle.ps_machine.specs.Numbering.{StandsAt}
 use Rattle.ps_machine.specs.Boards.{Board}
 use Rattle.ps_machine.specs.Machines.{MachineData, IsInput, Makes, memories_of, next_of, plays}
-use Rattle.ps_machine.specs.Extracting.{winner, IsUsed, IsKept, StandsFor, Shares, GoesTo, IsPlayed, IsOther, IsMachineOf}
+use Rattle.ps_machine.specs.Extracting.{winner, IsKept, StandsFor, Shares, GoesTo, IsPlayed, IsOther, IsMachineOf}
 use Rattle.ps_machine.specs.declared.key.Key.{Key}
-use Rattle.ps_machine.specs.declared.key.Key.TheVariants.{First, Second}
-use Rattle.ps_machine.proofs.Standing.{same_some}
+use Rattle.ps_machine.specs.declared.key.Key.TheVariants.{First}
+use Rattle.ps_machine.proofs.Following.{used_first}
+use Rattle.ps_machine.proofs.Standing.{one_state}
 use Rattle.ps_machine.proofs.Rounds.{Setting, Round, within_game, same_place, first_owner, priority_here, to_class, round_first, round_second}
 
 -- ## Plain facts
-
-state_in : Key → ℕ
-state_in (First q p) = q
-state_in (Second q x) = q
 
 number_in : Option ℕ → ℕ
 number_in None = 0
@@ -35,19 +32,15 @@ same_number : (a b : ℕ) (o : Option ℕ) → o ≡ Some a → o ≡ Some b →
 unfolding number_in
 same_number a b o e f = ap number_in (sym e ∙ f)
 
-state_there : (keys : List Key) (v q p r o : ℕ) → StandsAt keys v (First q p) → StandsAt keys v (First r o) → q ≡ r
-unfolding state_in
-state_there keys v q p r o a b = ap state_in (same_some (First q p) (First r o) (sym a ∙ b))
-
 -- the kept vertex of a memory that stands at a vertex has the vertex's state
 same_state : (first : Bool) (keys : List Key) (kept : List ℕ) (memory v q p u r o : ℕ) → StandsFor first keys kept memory v q → StandsAt keys v (First q p) → slice_get kept memory ≡ Some u → StandsAt keys u (First r o) → r ≡ q
 same_state first keys kept memory v q p u r o f at is there =
     let same : f.vertex ≡ u = same_number f.vertex u (slice_get kept memory) f.is_kept is in
-    let state : r ≡ f.state = state_there keys u r o f.state f.priority there (subst (λ n. StandsAt keys n (First f.state f.priority)) same f.stands) in
+    let state : r ≡ f.state = one_state keys u r o f.state f.priority there (subst (λ n. StandsAt keys n (First f.state f.priority)) same f.stands) in
     state ∙ by first f.shares
   where
     by : (b : Bool) → Shares b f.vertex f.state v q → f.state ≡ q
-    by true shares = state_there keys v f.state f.priority q p (subst (λ n. StandsAt keys n (First f.state f.priority)) shares f.stands) at
+    by true shares = one_state keys v f.state f.priority q p (subst (λ n. StandsAt keys n (First f.state f.priority)) shares f.stands) at
     by false shares = shares
 
 same_vertex : (first : Bool) (keys : List Key) (kept : List ℕ) (memory v q u : ℕ) → StandsFor first keys kept memory v q → slice_get kept memory ≡ Some u → first ≡ true → u ≡ v
@@ -166,28 +159,11 @@ module _ (board : Board) (mover : ℕ) (keys : List Key) (game : ParityGame) (ce
 
   -- ## Memory 0
 
-  start_used : IsUsed game certificate 0
-  start_used = record {
-    path = 0 ∷ [];
-    is_path = record {
-      begins = omega arith;
-      vertices = λ k within. alone k within;
-      edges = λ k within. absurd (omega (arith, within));
-    };
-    begins = refl;
-    follows = λ k within. absurd (omega (arith, within));
-    ends = refl;
-  }
-    where
-      alone : (k : ℕ) → k < 1 → slice_index (0 ∷ []) k < vertex_count game
-      alone zero within = within_game board mover keys game certificate s 0 (First board.auto.start 0) s.by_keys.begins
-      alone (suc k) within = absurd (omega (arith, within))
-
   start_kept : IsKept m.is_first keys game certificate 0
   start_kept = record {
     state = board.auto.start;
     priority = 0;
-    here = record { used = start_used; stands = s.by_keys.begins };
+    here = record { used = used_first game certificate (within_game board mover keys game certificate s 0 (First board.auto.start 0) s.by_keys.begins); stands = s.by_keys.begins };
     least = λ w r p less. absurd (omega (arith, less));
   }
 

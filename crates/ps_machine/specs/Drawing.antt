@@ -1,4 +1,5 @@
--- What is known while the machine of a certificate is made. (Of private functions.)
+-- What is known while the machine of a certificate is made: its plan is what it is made from, and its diagrams are drawn one
+-- after another, for each memory one that leads each letter of the other player to a row. (Of private functions.)
 --     AreUsed game certificate found      the used vertices
 --     GoesOn game certificate v w      how a path goes on that follows the table of the winner of vertex 0
 --     AreMemories is_first keys used kept marks      the vertex of each memory, and what is remembered there

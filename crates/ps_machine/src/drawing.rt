@@ -13,14 +13,16 @@ ghost use Rattle.ps_machine.specs.declared.key.Key.TheVariants.{First};
 
 use crate::key::{Key, Order};
 use crate::machine::Row;
-use crate::memories::Memories;
+use crate::memories::{Memories, mark};
 use indexmap::IndexSet;
 use ps_automaton::Automaton;
 use ps_certificate::Certificate;
 use ps_diagram::{Class, Node, Store};
 use std::alloc::{AllocError, Global};
 
-/// What a machine is made from.
+/// What a machine is made from. The certificate has the moves of its player, the keys say what the vertices stand for that
+/// the moves lead to, the automaton where its steps lead from there, and the memories at which vertices the machine has to
+/// remember something of its own. None of it changes while the diagrams are made.
 #[derive(Drop)]
 pub(crate) struct Plan<'a> {
     /// Who moves first.
@@ -37,7 +39,7 @@ pub(crate) struct Plan<'a> {
     pub memories: &'a Memories,
 }
 
-/// Diagrams and rows as far as they are made.
+/// The machine's diagrams and rows as far as they are made: `node` adds the diagram of one memory, and the rows that it names.
 #[derive(Drop)]
 pub(crate) struct Drawing {
     /// The propositions of the player who moves first.
@@ -59,11 +61,7 @@ impl Plan<'_> {
     {
         let key = Key::First { state, priority };
         let vertex = self.keys.get_index_of(&key).unwrap();
-        let mark = if self.moves_first {
-            vertex
-        } else {
-            state as usize
-        };
+        let mark = mark(self.moves_first, vertex, state);
         self.memories.marks.get_index_of(&mark).unwrap()
     }
 

@@ -1,5 +1,6 @@
 //! Printed games of texts.
 
+use crate::worked_texts::{EXACT, FORETELLING, THREE_PROPOSITIONS, TWO_STATES, automaton_of};
 use crate::{Order, game_of};
 use ps_automaton::Automaton;
 use std::alloc::Global;
@@ -7,27 +8,15 @@ use std::test::Fail;
 
 /// The printed game of a text.
 fn printed(alloc: Global, text: &str, order: Order) -> Result<Vec<u8>, Fail> {
-    let file = ps_hoa::read(alloc, text.as_bytes())?;
-    let automaton = Automaton::build(alloc, &file)?;
-    let game = game_of(alloc, &automaton, order)?;
-    Ok(ps_pgsolver::write(alloc, &game)?)
+    let automaton = automaton_of(alloc, text)?;
+    printed_game(alloc, &automaton, order)
 }
 
-/// A grant has to come exactly where there is a request; else the text has no edge.
-const EXACT: &str =
-    "HOA: v1 Start: 0 AP: 2 \"r\" \"g\" controllable-AP: 1 Acceptance: 0 t --BODY-- State: 0 [0&1 | !0&!1] 0 --END--";
-
-/// Two states: a request has to be granted before the next letter without a mark.
-const TWO_STATES: &str =
-    "HOA: v1\nStates: 2\nStart: 0\nAP: 2 \"r\" \"g\"\ncontrollable-AP: 1\nAcceptance: 1 Inf(0)\n--BODY--\nState: 0\n[!0|1] 0 {0}\n[0&!1] 1\nState: 1\n[1] 0 {0}\n[!1] 1\n--END--\n";
-
-/// The controller has to foretell the next input.
-const FORETELLING: &str =
-    "HOA: v1 Start: 0 AP: 2 \"r\" \"g\" controllable-AP: 1 Acceptance: 0 t --BODY-- State: 0 [1] 1 [!1] 2 State: 1 [0&1] 1 [0&!1] 2 State: 2 [!0&1] 1 [!0&!1] 2 --END--";
-
-/// Two inputs, of which three letters are one class.
-const THREE_PROPOSITIONS: &str =
-    "HOA: v1 Start: 0 AP: 3 \"a\" \"b\" \"g\" controllable-AP: 2 Acceptance: 1 Inf(0) --BODY-- State: 0 [0&1&2] 0 {0} [!(0&1)] 0 --END--";
+/// The printed game of an automaton.
+fn printed_game(alloc: Global, automaton: &Automaton, order: Order) -> Result<Vec<u8>, Fail> {
+    let game = game_of(alloc, automaton, order)?;
+    Ok(ps_pgsolver::write(alloc, &game)?)
+}
 
 #[test]
 fn inputs_before_outputs(rt: HostRuntime) -> Result<(), Fail> {

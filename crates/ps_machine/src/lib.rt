@@ -5,6 +5,8 @@
 
 mod built_in;
 mod drawing;
+#[cfg(test)]
+mod extract_tests;
 mod extracting;
 mod fault;
 mod game;
@@ -22,6 +24,8 @@ mod solver;
 #[cfg(test)]
 mod tests;
 mod used;
+#[cfg(test)]
+mod worked_texts;
 
 pub use built_in::BuiltIn;
 pub use extracting::extract;

@@ -1,7 +1,6 @@
 //! What the machine of a certificate remembers.
 
-ghost use Rattle.std.specs.Prelude.{◌≡◌, ◌<◌, IfOk, OnOk, length};
-ghost use Rattle.std.specs.List.{All};
+ghost use Rattle.std.specs.Prelude.{◌≡◌, IfOk, OnOk};
 ghost use Rattle.ps_machine.specs.Drawing.{AreMemories, KeepsAt, mark_of};
 
 use crate::key::Key;
@@ -24,7 +23,6 @@ pub(crate) fn remembered(
     used: &IndexSet<usize>,
     moves_first: bool,
 ) -> Result<Memories, AllocError>
-    requires { All (λ v. v < length keys.now) used.now.keys }
     ensures { IfOk result (λ memories. AreMemories moves_first keys.now used.now.keys memories.kept.items memories.marks.keys) }
 {
     let mut memories = Memories {

@@ -1,26 +1,15 @@
-use Rattle.std.proofs.Common.{◌∙◌, List, length, nat_eq, subst, ap, ap₂, sym}
-use Rattle.ps_game.specs.Games.{vertex_count}
+use Rattle.std.proofs.Common.{nat_eq, subst, ap₂, sym}
 use Rattle.ps_machine.specs.Assembling.{IsAssembled, machine_of}
 use Rattle.ps_machine.specs.Boards.{board_of}
 use Rattle.ps_machine.specs.Drawing.{IsPlan}
 use Rattle.ps_machine.specs.Extracting.{HasPropositions, IsMachineOf}
 use Rattle.ps_machine.specs.Keys.{mover_of}
 use Rattle.ps_machine.specs.Machines.{LassosWon}
-use Rattle.ps_machine.specs.declared.key.Key.{Key}
-use Rattle.ps_machine.proofs.Assembling.{all_within}
-use Rattle.ps_machine.proofs.Extracted.{same_game, plan_is, assembled, has_propositions, is_machine_of}
+use Rattle.ps_machine.proofs.Extracted.{plan_is, assembled, has_propositions, is_machine_of}
 use Rattle.ps_machine.proofs.LassosAreWon.{each_lasso_won}
 use Rattle.ps_machine.proofs.MachineLemmas.{is_machine}
 use Rattle.ps_machine.proofs.OneGame.{one_game_of}
 use Rattle.ps_machine.proofs.extracting.extract.Goals as goal
-
-pub remembered-requires : goal.remembered-requires
-remembered-requires c =
-    let board = board_of c.args.order c.args.automaton.now in
-    let made = c.in_ok-keys.field-0 in
-    let is = same_game board (mover_of c.args.order) made.keys.keys made.game c.args.game.now.game c.in_ok-keys.ensures c.requires.game in
-    all_within c.game.result.now c.args.certificate.now c.in_ok-used.used.keys (length c.as_slice.result.now)
-    (ap (λ g. vertex_count g) c.game.ensures.game ∙ sym is.by_keys.count ∙ ap (λ (l : List Key). length l) (sym c.as_slice.ensures.keys)) c.in_ok-used.ensures
 
 pub draw-requires : goal.draw-requires
 draw-requires c =

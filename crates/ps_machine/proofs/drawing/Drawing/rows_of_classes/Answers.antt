@@ -8,8 +8,8 @@ use Rattle.ps_machine.specs.Drawing.{IsRow, KeepsRows}
 use Rattle.ps_machine.specs.Moving.{IsFit, IsRest}
 use Rattle.ps_machine.specs.declared.machine.Row.{Row}
 use Rattle.ps_machine.specs.contracts.machine.RowPartialEq.TheImpl as row_eq
-use Rattle.ps_machine.proofs.DrawingLemmas.{keeps_rows, keeps_rows_same, keeps_rows_trans}
-use Rattle.ps_machine.proofs.SecondDrawing.{Names, named_next, rows_next}
+use Rattle.ps_machine.proofs.DrawingLemmas.{all_rows, keeps_rows, keeps_rows_same, keeps_rows_trans}
+use Rattle.ps_machine.proofs.SecondDrawing.{Names, answer_row, named_next}
 use Rattle.ps_machine.proofs.drawing.Drawing.rows_of_classes.Goals as goal
 
 pub loop-class-init : goal.loop-class-init
@@ -59,8 +59,11 @@ returns-in_err-push-clause-same_rows c =
 pub returns-in_err-push-clause-rows : goal.returns-in_err-push-clause-rows
 returns-in_err-push-clause-rows c =
     let plan = c.args.plan.now in
-    rows_next plan.moves_first (board_of plan.order plan.automaton.now) plan.keys.now.keys plan.memories.now.kept.items plan.certificate.now c.args.state c.class-item.result.letter (row_eq.eq-value).it c.loop-class.self.rows.keys c.in_ok-row.row c.insert_full.new.self.keys
-    c.requires.turn c.in_ok-place.ensures.keys c.in_ok-row.ensures c.loop-class.invariant.rows
+    let board = board_of plan.order plan.automaton.now in
+    let kept = plan.memories.now.kept.items in
+    let row = c.in_ok-row.row in
+    all_rows (IsRow plan.moves_first board kept) (row_eq.eq-value).it c.loop-class.self.rows.keys row c.insert_full.new.self.keys c.in_ok-place.ensures.keys c.loop-class.invariant.rows
+    (answer_row plan.moves_first board plan.keys.now.keys kept plan.certificate.now c.args.state c.class-item.result.letter row c.requires.turn c.in_ok-row.ensures)
 
 pub loop-class-preserved : goal.loop-class-preserved
 loop-class-preserved c =
@@ -76,7 +79,8 @@ loop-class-preserved c =
       mask = inv.mask;
       store = inv.store;
       same_rows = keeps_rows_trans c.args.self.now.rows.keys old new inv.same_rows (keeps_rows (row_eq.eq-value).it old c.in_ok-row.row new c.in_ok-place.ensures.keys);
-      rows = rows_next plan.moves_first board keys kept certificate c.args.state c.class-item.result.letter (row_eq.eq-value).it old c.in_ok-row.row new c.requires.turn c.in_ok-place.ensures.keys c.in_ok-row.ensures inv.rows;
+      rows = all_rows (IsRow plan.moves_first board kept) (row_eq.eq-value).it old c.in_ok-row.row new c.in_ok-place.ensures.keys inv.rows
+          (answer_row plan.moves_first board keys kept certificate c.args.state c.class-item.result.letter c.in_ok-row.row c.requires.turn c.in_ok-row.ensures);
       values = named_next board keys kept certificate c.args.state old new c.args.classes.now c.loop-class.class-index c.class-item.result c.loop-class.values.items c.push.new.self.items c.in_ok-place.place c.in_ok-row.row
           c.in_ok-place.ensures.keys inv.values c.loop-class-test.true c.class-item.is c.in_ok-place.ensures.stored c.in_ok-row.ensures c.in_ok-push.ensures.items;
     }
