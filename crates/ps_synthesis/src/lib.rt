@@ -9,16 +9,18 @@
 //! states does against it.
 //!
 //! The stages are here: `read_automaton` gives the automaton of a text, `circuit_of_certificate` the circuit of the player who wins
-//! the start by a certificate, `report_of` the texts; and [`SynthFault`] says why there is no report. The program joins them, and
-//! asks a solver between them.
+//! the start by a certificate, `report_of` the texts, and `certificate_text` that of a certificate alone; [`SynthFault`] says why
+//! there is no report. The program joins them, and asks a solver between them.
 #![tactic(auto)]
 
 mod automata;
 mod circuits;
 mod fault;
 mod report;
+#[cfg(test)]
+mod tests;
 
 pub use automata::read_automaton;
 pub use circuits::circuit_of_certificate;
 pub use fault::SynthFault;
-pub use report::{Report, report_of};
+pub use report::{Report, certificate_text, report_of};

@@ -51,8 +51,12 @@ pub fn report_of(
     })
 }
 
-/// A certificate as one of its two texts.
-fn certificate_text(
+/// A certificate as one of its two texts: with all counts, or the compact one.
+///
+/// # Errors
+///
+/// Fails where a growth was refused.
+pub fn certificate_text(
     alloc: Global,
     certificate: &Certificate,
     game: &NamedGame,

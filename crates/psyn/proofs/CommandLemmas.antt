@@ -1,12 +1,18 @@
 -- What clap makes of the table of commands.
-use Rattle.std.proofs.Common.{◌≡◌, ◌⊎◌, ◌∙◌, List, [], ◌∷◌, ◌||◌, Bool, map, true, false, refl, inl, inr, ap, ap₂, subst}
+use Prim.Native.Nat.{suc}
+use Rattle.std.proofs.Common.{arith, ◌≡◌, ◌⊎◌, ◌∙◌, ◌<◌, ◌+◌, ◌++◌, ℕ, List, [], ◌∷◌, ◌||◌, Bool, Bor, length, map, take, true, false, refl, sym, inl, inr, ap, ap₂, subst}
+use Rattle.std.proofs.Math.ListN.{get_or}
+use Rattle.std.proofs.Math.Seq.{take-length, take-suc}
+use Rattle.std.proofs.lemmas.List.{map-append}
 use Rattle.std.specs.List.{AllByRecursion}
 use Rattle.std.specs.Option.{option_map_or}
-use Rattle.std.specs.Prelude.{Option, codes}
+use Rattle.std.specs.Prelude.{IfOk, Option, Result, Ok, Err, codes}
 use Rattle.std.specs.Str.{bytes_eq}
 use Rattle.clap.specs.Matches.{first_value}
-use Rattle.clap.specs.Simple.{is_simple}
-use Rattle.clap.specs.Words.{App, Text, IsAmong, fault_of, subcommand_of, is_simple_and_free, rows_of}
+use Rattle.clap.specs.Simple.{is_simple, new_shape}
+use Rattle.clap.specs.Words.{App, Text, IsAmong, AddsSubcommand, Rule, app_of, fault_of, subcommand_of, is_simple_and_free, rows_of, with_rule, with_subcommand}
+use Rattle.clap.specs.declared.builder.command.Command.{Command}
+use Rattle.clap.specs.declared.builder.command.Command.TheViews.{out-Command}
 use Rattle.clap.specs.declared.parser.matches.Found.{Found}
 use Rattle.clap.proofs.WalkLemmas.{first_value-rows}
 use Rattle.clap.specs.declared.error.kind.ErrorKind.{ErrorKind}
@@ -14,7 +20,7 @@ use Rattle.clap.specs.declared.error.kind.ErrorKind.TheVariants.{DisplayHelp, Ou
 use Rattle.clap.proofs.OnLiterals.{clap_on_literals}
 use Rattle.psyn.specs.declared.command_line.Line.{Line}
 use Rattle.psyn.specs.declared.command_line.Line.TheVariants.{Refused}
-use Rattle.psyn.specs.CommandLine.{Usage, table, usages, arrangements, is_given, line_refused, line_said, words_with, AreRead, Says, LinesAreRead, AskForHelp}
+use Rattle.psyn.specs.CommandLine.{Usage, command_with, flag, table, usages, arrangements, is_given, line_refused, line_said, words_with, AreRead, Says, LinesAreRead, AskForHelp}
 
 -- clap's answers to the table are those of a simple command
 pub table-simple : is_simple table ≡ true
@@ -83,3 +89,41 @@ none_of {x} {y} {z} is one other = is ∙ ap₂ (λ (a b : Bool). a || b) one ot
 -- a flag, as the words that a parse found tell it
 pub given_is : (found : Found) (name : Text) (value : Option Text) → value ≡ first_value found name → option_map_or (λ text. bytes_eq text (codes "true")) value false ≡ is_given name (rows_of found)
 given_is found name value is = ap (λ (v : Option Text). option_map_or (λ text. bytes_eq text (codes "true")) v false) (is ∙ first_value-rows found name)
+
+-- ---- the table as it grows
+
+-- a command with its flags, by itself
+abbrev pub app_with : Text → List Text → App
+app_with name flags = record { top = command_with name flags; subs = [] }
+
+-- the flags before a place, and the one at that place
+one_more : (flags : List (Bor Text)) (i : ℕ) (default : Bor Text) → i < length flags
+    → map flag (map (λ given. given.now) (take i flags)) ++ flag (get_or flags i default).now ∷ [] ≡ map flag (map (λ given. given.now) (take (i + 1) flags))
+one_more flags i default within =
+    let before : List (Bor Text) = take i flags in
+    let given : Bor Text = get_or flags i default in
+    let next : suc i ≡ i + 1 = omega arith in
+    sym (map-append flag (map (λ (each : Bor Text). each.now) before) (given.now ∷ []))
+    ∙ ap (λ (names : List Text). map flag names)
+    (sym (map-append (λ (each : Bor Text). each.now) before (given ∷ [])) ∙ ap (λ (some : List (Bor Text)). map (λ (each : Bor Text). each.now) some) (sym (take-suc flags i default within) ∙ ap (λ (n : ℕ). take n flags) next))
+
+pub flag_added : (old new : App) (rule : Rule) (name : Text) (flags : List (Bor Text)) (i : ℕ) (default : Bor Text) → i < length flags → new ≡ with_rule old rule
+    → old ≡ app_with name (map (λ given. given.now) (take i flags)) → rule ≡ flag (get_or flags i default).now → new ≡ app_with name (map (λ given. given.now) (take (i + 1) flags))
+flag_added old new rule name flags i default within added were is =
+    added ∙ ap₂ with_rule were is ∙ ap (λ (rules : List Rule). let app : App = record { top = record (new_shape name) { rules = rules }; subs = [] } in app) (one_more flags i default within)
+
+-- a table with one command more
+abbrev pub more : App → Text → List Text → App
+more app name flags = with_subcommand app (command_with name flags)
+
+pub grown : {E : Type 0} (result : Result Command E) (before from : App) (name : Text) (flags : List Text) → before ≡ from
+    → IfOk result (λ command. app_of command ≡ more before name flags) → IfOk result (λ command. app_of command ≡ more from name flags)
+grown (Ok command) before from name flags same is = is ∙ ap (λ (a : App). more a name flags) same
+grown (Err e) before from name flags same is = tt
+
+-- the command with all its flags, put behind the others
+pub flags_whole : {E : Type 0} (result : Result Command E) (psyn command : Command) (name : Text) (flags : List (Bor Text)) (i : ℕ) → i ≡ length flags → app_of command ≡ app_with name (map (λ given. given.now) (take i flags))
+    → (out-Command command).has_globals ≡ false → IfOk result (λ whole. AddsSubcommand psyn command whole) → IfOk result (λ whole. app_of whole ≡ more (app_of psyn) name (map (λ given. given.now) flags))
+flags_whole (Ok whole) psyn command name flags i behind is local adds =
+    adds.shape local ∙ ap (λ (a : App). with_subcommand (app_of psyn) a.top) is ∙ ap (λ (some : List (Bor Text)). more (app_of psyn) name (map (λ (each : Bor Text). each.now) some)) (ap (λ (n : ℕ). take n flags) behind ∙ take-length flags)
+flags_whole (Err e) psyn command name flags i behind is local adds = tt

@@ -1,3 +1,4 @@
+pub mod AutomatonLemmas
 pub mod CertifyingLemmas
 pub mod CircuitLemmas
 pub mod CommandLemmas

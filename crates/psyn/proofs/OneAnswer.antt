@@ -1,7 +1,7 @@
 -- Two answers to one input are one.
 use Rattle.std.proofs.Common.{◌≡◌, ◌≢◌, ◌⊎◌, ◌∙◌, ◌+◌, ◌<◌, ℕ, Bool, true, false, List, [], ◌∷◌, None, Some, take, drop, length, Result, Ok, Err, refl, sym, ap, ap₂, subst, inl, inr, arith}
 use Rattle.std.proofs.lemmas.Bool.{cases_order}
-use Rattle.std.specs.Prelude.{codes, Option}
+use Rattle.std.specs.Prelude.{⊤, codes, Option}
 use Rattle.ps_text.specs.Answers.{Found}
 use Rattle.ps_game.specs.Games.{ParityGame, NamedGameData, IsGame}
 use Rattle.ps_pgsolver.specs.Reading.{Answer}
@@ -29,6 +29,9 @@ use Rattle.ps_hoa.specs.Texts as hoa_text
 use Rattle.ps_hoa.specs.declared.fault.HoaCause.{HoaCause}
 use Rattle.ps_machine.specs.FileGames.{IsGameOfFile}
 use Rattle.ps_machine.specs.declared.key.Order.{Order}
+use Rattle.ps_synthesis.specs.SynthFaults.{IsSynthFault}
+use Rattle.ps_synthesis.specs.declared.fault.SynthFault.{SynthFault}
+use Rattle.ps_synthesis.specs.declared.fault.SynthFault.TheVariants as stage
 use Rattle.ps_simulate.specs.Faults as stimulus
 use Rattle.ps_simulate.specs.Lassos.{HasOneVerdict}
 use Rattle.ps_simulate.specs.Stimuli.{StimulusData}
@@ -42,20 +45,25 @@ use Rattle.clap.specs.declared.error.kind.ErrorKind.{ErrorKind}
 use Rattle.clap.proofs.OnLiterals.{clap_on_literals}
 use Rattle.psyn.specs.declared.command_line.Line.{Line}
 use Rattle.psyn.specs.declared.command_line.Line.TheVariants as line
-use Rattle.psyn.specs.Automata.{Builds, ReadsAutomaton, automaton_line}
+use Rattle.psyn.specs.Automata.{Builds, ReadsAutomaton}
 use Rattle.psyn.specs.Checks.{Tests}
 use Rattle.psyn.specs.CommandLine.{table, words_of, Says, IsLine}
 use Rattle.psyn.specs.Cut.{AreTexts, Cuts, HasFewerMarks, HasNoMark, first_line, behind_line}
-use Rattle.psyn.specs.Determined.{HasOneAnswer, IsOpen, solves, certifies, synthesises}
+use Rattle.psyn.specs.Determined.{AsksFor, HasAutomaton, HasOneAnswer, IsOpen}
 use Rattle.psyn.specs.Faults.{text_line}
-use Rattle.psyn.specs.Games.{AnswersGameText, MakesGame}
+use Rattle.psyn.specs.Games.{AnswersCert, AnswersGameText, MakesGame, ReadsGameOf}
 use Rattle.psyn.specs.Lassos.{AnswersLasso, TellsVerdict, verdict_text}
 use Rattle.psyn.specs.Outcomes.{Then, Reading, printed}
 use Rattle.psyn.specs.Program.{Answers, AnswersLine}
 use Rattle.psyn.specs.Replies.{Reply, line_reply, text_reply}
 use Rattle.psyn.specs.Simulating.{AnswersSim}
-use Rattle.psyn.specs.Solvers.{Solvers}
-use Rattle.psyn.specs.Texts.{CutsInTwo, CutsInThree, ReadsCertified, ReadsSimulated, flaw_text}
+use Rattle.psyn.specs.Solvers.{SolverData, Solvers, answers_now, feed}
+use Rattle.psyn.specs.Solving.{AnswersGame, AnswersSolve}
+use Rattle.psyn.specs.StageFaults.{automaton_line, stage_line}
+use Rattle.psyn.specs.Synthesis.{AnswersBy, AnswersReport}
+use Rattle.psyn.specs.Texts.{CutsInTwo, CutsInThree, ReadsCertified, ReadsGameText, ReadsSimulated, flaw_text}
+use Rattle.psyn.specs.declared.command_line.SynthLine.{SynthLine}
+use Rattle.psyn.proofs.AutomatonLemmas.{no_line, text_refused}
 use Rattle.psyn.proofs.KindLemmas.{one_fault}
 use Rattle.psyn.proofs.OneTrace.{traces_agree}
 
@@ -95,6 +103,22 @@ then_one step next one more x y (inr (v, s, n)) (inl (l, t, e)) = absurd (ok_is_
 then_one {V} {W} step next one more x y (inr (v, s, n)) (inr (w, t, m)) =
     let same : v ≡ w = ap (ok_or v) (one (Ok v) (Ok w) s t) in
     more v x y n (subst (λ (u : V). next u y) (sym same) m)
+
+-- the same, where what comes next may be open
+then_one_or : {V W : Type 0} (step : Result V (List ℕ) → Type 0) (next : V → Result W (List ℕ) → Type 0) (Open : V → Type 0) → IsOne step
+    → ((v : V) (x y : Result W (List ℕ)) → next v x → next v y → (x ≡ y) ⊎ Open v)
+    → (x y : Result W (List ℕ)) → Then step next x → Then step next y → (x ≡ y) ⊎ ((v : V) × step (Ok v) × Open v)
+then_one_or {V} {W} step next Open one more x y (inl (l, s, e)) (inl (m, t, f)) =
+    let same : l ≡ m = ap (err_or l) (one (Err l) (Err m) s t) in inl (e ∙ ap (err_of {V = W}) same ∙ sym f)
+then_one_or step next Open one more x y (inl (l, s, e)) (inr (v, t, n)) = absurd (ok_is_not_err v l (one (Ok v) (Err l) t s))
+then_one_or step next Open one more x y (inr (v, s, n)) (inl (l, t, e)) = absurd (ok_is_not_err v l (one (Ok v) (Err l) s t))
+then_one_or {V} {W} step next Open one more x y (inr (v, s, n)) (inr (w, t, m)) =
+    let same : v ≡ w = ap (ok_or v) (one (Ok v) (Ok w) s t) in
+    by (more v x y n (subst (λ (u : V). next u y) (sym same) m))
+  where
+    by : (x ≡ y) ⊎ Open v → (x ≡ y) ⊎ ((u : V) × step (Ok u) × Open u)
+    by (inl equal) = inl equal
+    by (inr is_open) = inr (v, s, is_open)
 
 ended_one : {W : Type 0} (end : Result W (List ℕ)) → IsOne {V = Result W (List ℕ)} (λ outcome. outcome ≡ end)
 ended_one end x y a b = a ∙ sym b
@@ -249,6 +273,31 @@ tells_one verdicts role file c s (Err l) (Err m) (inl empty) (inr other') = absu
 tells_one verdicts role file c s (Err l) (Err m) (inr other) (inl empty') = absurd (no_empty_lap s.lap empty'.0 other.0)
 tells_one verdicts role file c s (Err l) (Err m) (inr other) (inr other') = ap (err_of {V = Reply}) (other.2 ∙ sym other'.2)
 
+-- ---- texts that are refused
+
+game_accepted : (order : Order) (text : List ℕ) (v : NamedGameData) → ReadsGameOf order text (Ok v) → HasAutomaton text
+game_accepted order text v (inl (l, refused, e)) = absurd (ok_is_not_err v l e)
+game_accepted order text v (inr (file, inl (l, refused, e), made)) = absurd (ok_is_not_err file l e)
+game_accepted order text v (inr (file, inr (read, reads, (admitted, same)), made)) = (read, record { reads = reads; admitted = admitted })
+
+-- the text is refused by a line, which is the outcome, or it is accepted
+abbrev RefusedOr : List ℕ → Result Reply (List ℕ) → Type 0
+RefusedOr text outcome = ((line : List ℕ) × ReadsAutomaton text (Err line) × (outcome ≡ Err line)) ⊎ HasAutomaton text
+
+fault_refused : (solver : SolverData) (order : Order) (text line : List ℕ) (outcome : Result Reply (List ℕ)) (fault : SynthFault) → IsSynthFault (answers_now solver) order text fault → stage_line fault ≡ Some line → outcome ≡ Err line
+    → RefusedOr text outcome
+fault_refused solver order text line outcome (stage.Text cause offset) h told e = inl (line, text_refused text (stage.Text cause offset) line h told, e)
+fault_refused solver order text line outcome (stage.Automaton fault) h told e = inl (line, text_refused text (stage.Automaton fault) line h told, e)
+fault_refused solver order text line outcome (stage.BadCycle ids) h told e = inr (h.file, h.accepted)
+fault_refused solver order text line outcome (stage.Certificate cause offset) h told e = inr (h.file, h.accepted)
+fault_refused solver order text line outcome stage.NotCertified h told e = inr (h.file, h.accepted)
+fault_refused solver order text line outcome stage.CircuitTooLarge h told e = inr (h.file, h.accepted)
+fault_refused solver order text line outcome stage.OutOfMemory h told e = absurd (no_line told)
+
+report_refused : (solver : SolverData) (asked : SynthLine) (text : List ℕ) (outcome : Result Reply (List ℕ)) → AnswersReport solver asked text outcome → RefusedOr text outcome
+report_refused solver asked text outcome (inl (line, (fault, cause, lies, told), e)) = fault_refused solver asked.order text line outcome fault cause told e
+report_refused solver asked text outcome (inr (report, is_report, e)) = inr (is_report.file, is_report.accepted)
+
 module _ (games : OneGame) (certificates : OneCertificate) (flaws : OneFlaw) (circuits : OneCircuit) (stimuli : OneStimulus) (files : OneFile) (refusals : OneRefusal) (outcomes : OneOutcome) (verdicts : OneVerdict) (file_games : OneFileGame) where
   certified_one : (texts : List ℕ) → IsOne (ReadsCertified texts)
   certified_one texts = then_one _ _ (cut_one texts) (λ parts. then_one _ _ (reading_one game.cause_number game.cause_name (Answer parts.0) (games parts.0))
@@ -277,21 +326,66 @@ module _ (games : OneGame) (certificates : OneCertificate) (flaws : OneFlaw) (ci
       (λ c. then_one _ _ (reading_one stimulus.cause_number stimulus.cause_name (stimulus_text.Reads parts.2 (length c.inputs) true) (stimuli parts.2 (length c.inputs) true))
       (tells_one verdicts role file c))))
 
+  game_of_one : (order : Order) (text : List ℕ) → IsOne (ReadsGameOf order text)
+  game_of_one order text = then_one _ _ (automaton_one files refusals outcomes text) (makes_one file_games order)
+
   game_one : (order : Order) (text : List ℕ) → IsOne (AnswersGameText order text)
-  game_one order text = then_one _ _ (then_one _ _ (automaton_one files refusals outcomes text) (makes_one file_games order)) (λ game. ended_one (Ok (text_reply (game_text game))))
+  game_one order text = then_one _ _ (game_of_one order text) (λ game. ended_one (Ok (text_reply (game_text game))))
+
+  -- ---- what a solver has a choice in
+
+  solve_one_or : (solver : SolverData) (compact : Bool) (text : List ℕ) (x y : Result Reply (List ℕ)) → AnswersSolve solver compact text x → AnswersSolve solver compact text y
+      → (x ≡ y) ⊎ IsOpen (line.Solve compact) text
+  solve_one_or solver compact text x y h k = by (then_one_or (ReadsGameText text) (AnswersGame solver compact) (λ _. ⊤) (reading_one game.cause_number game.cause_name (Answer text) (games text)) (λ v x y n m. inr tt) x y h k)
+    where
+      by : (x ≡ y) ⊎ ((v : NamedGameData) × ReadsGameText text (Ok v) × ⊤) → (x ≡ y) ⊎ IsOpen (line.Solve compact) text
+      by (inl same) = inl same
+      by (inr (v, reads, any)) = inr (v, reads)
+
+  cert_one_or : (solver : SolverData) (order : Order) (compact : Bool) (text : List ℕ) (x y : Result Reply (List ℕ)) → AnswersCert solver order compact text x → AnswersCert solver order compact text y
+      → (x ≡ y) ⊎ IsOpen (line.Cert order compact) text
+  cert_one_or solver order compact text x y h k = by (then_one_or (ReadsGameOf order text) (AnswersGame solver compact) (λ _. ⊤) (game_of_one order text) (λ v x y n m. inr tt) x y h k)
+    where
+      by : (x ≡ y) ⊎ ((v : NamedGameData) × ReadsGameOf order text (Ok v) × ⊤) → (x ≡ y) ⊎ IsOpen (line.Cert order compact) text
+      by (inl same) = inl same
+      by (inr (v, reads, any)) = inr (game_accepted order text v reads)
+
+  report_one_or : (solver : SolverData) (asked : SynthLine) (text : List ℕ) (x y : Result Reply (List ℕ)) → AnswersReport solver asked text x → AnswersReport solver asked text y
+      → (x ≡ y) ⊎ HasAutomaton text
+  report_one_or solver asked text x y h k = by (report_refused solver asked text x h) (report_refused solver asked text y k)
+    where
+      by : RefusedOr text x → RefusedOr text y → (x ≡ y) ⊎ HasAutomaton text
+      by (inr choice) other = inr choice
+      by (inl refused) (inr choice) = inr choice
+      by (inl (l, reads, e)) (inl (m, reads', e')) =
+          let same : l ≡ m = ap (err_or l) (automaton_one files refusals outcomes text (Err l) (Err m) reads reads') in inl (e ∙ ap (err_of {V = Reply}) same ∙ sym e')
+
+  synth_one_or : (solvers : Solvers) (asked : SynthLine) (texts : List ℕ) (cert : Bool) (x y : Result Reply (List ℕ)) → AnswersBy cert solvers asked texts x → AnswersBy cert solvers asked texts y
+      → (x ≡ y) ⊎ ((text : List ℕ) × AsksFor cert texts text × HasAutomaton text)
+  synth_one_or solvers asked texts false x y h k = by (report_one_or solvers.built_in asked texts x y h k)
+    where
+      by : (x ≡ y) ⊎ HasAutomaton texts → (x ≡ y) ⊎ ((text : List ℕ) × (texts ≡ text) × HasAutomaton text)
+      by (inl same) = inl same
+      by (inr choice) = inr (texts, refl, choice)
+  synth_one_or solvers asked texts true x y h k =
+      by (then_one_or (CutsInTwo texts) (λ (parts : List ℕ × List ℕ). AnswersReport (feed parts.1 solvers.replay) asked parts.0) (λ (parts : List ℕ × List ℕ). HasAutomaton parts.0) (cut_one texts) (λ parts x y n m. report_one_or (feed parts.1 solvers.replay) asked parts.0 x y n m) x y h k)
+    where
+      by : (x ≡ y) ⊎ ((parts : List ℕ × List ℕ) × CutsInTwo texts (Ok parts) × HasAutomaton parts.0) → (x ≡ y) ⊎ ((text : List ℕ) × AsksFor true texts text × HasAutomaton text)
+      by (inl same) = inl same
+      by (inr (parts, cuts, choice)) = inr (parts.0, (parts.1, cuts), choice)
 
   -- each line that is not open
-  line_one : (solvers : Solvers) (l : Line) (texts : List ℕ) → IsOne (AnswersLine solvers l texts) ⊎ IsOpen l
-  line_one solvers line.Refused texts = inl (ended_one _)
-  line_one solvers line.Help texts = inl (ended_one _)
-  line_one solvers line.Closed texts = inl (then_one _ _ (certified_one texts) (λ both. tests_one IsClosed (codes "closed") both.0 both.1))
-  line_one solvers line.Check texts = inl (then_one _ _ (certified_one texts) (λ both. tests_one IsValid (codes "valid") both.0 both.1))
-  line_one solvers line.Sim texts = inl (sim_one texts)
-  line_one solvers (line.Lasso role) texts = inl (lasso_one role texts)
-  line_one solvers (line.Solve compact) texts = inr (solves compact)
-  line_one solvers (line.Game order) texts = inl (game_one order texts)
-  line_one solvers (line.Cert order compact) texts = inr (certifies order compact)
-  line_one solvers (line.Synth asked) texts = inr (synthesises asked)
+  line_one : (solvers : Solvers) (l : Line) (texts : List ℕ) (x y : Result Reply (List ℕ)) → AnswersLine solvers l texts x → AnswersLine solvers l texts y → (x ≡ y) ⊎ IsOpen l texts
+  line_one solvers line.Refused texts x y h k = inl (ended_one _ x y h k)
+  line_one solvers line.Help texts x y h k = inl (ended_one _ x y h k)
+  line_one solvers line.Closed texts x y h k = inl (then_one _ _ (certified_one texts) (λ both. tests_one IsClosed (codes "closed") both.0 both.1) x y h k)
+  line_one solvers line.Check texts x y h k = inl (then_one _ _ (certified_one texts) (λ both. tests_one IsValid (codes "valid") both.0 both.1) x y h k)
+  line_one solvers line.Sim texts x y h k = inl (sim_one texts x y h k)
+  line_one solvers (line.Lasso role) texts x y h k = inl (lasso_one role texts x y h k)
+  line_one solvers (line.Solve compact) texts x y h k = solve_one_or solvers.built_in compact texts x y h k
+  line_one solvers (line.Game order) texts x y h k = inl (game_one order texts x y h k)
+  line_one solvers (line.Cert order compact) texts x y h k = cert_one_or solvers.built_in order compact texts x y h k
+  line_one solvers (line.Synth asked) texts x y h k = synth_one_or solvers asked texts asked.cert x y h k
 
   -- ---- the line
 
@@ -316,15 +410,17 @@ module _ (games : OneGame) (certificates : OneCertificate) (flaws : OneFlaw) (ci
   is_line_one first a b (inr (not, h)) (inl (utf8, k)) = absurd (not utf8)
   is_line_one first a b (inr (not, h)) (inr (not', k)) = h ∙ sym k
 
-  answers_one : (solvers : Solvers) (input : List ℕ) (a b : Reply) → Answers solvers input a → Answers solvers input b → (a ≡ b) ⊎ ((l : Line) × IsLine (first_line input) l × IsOpen l)
-  answers_one solvers input a b (l, is_line, (outcome, answers, e)) (l', is_line', (outcome', answers', e')) = by (line_one solvers l (behind_line input))
+  answers_one : (solvers : Solvers) (input : List ℕ) (a b : Reply) → Answers solvers input a → Answers solvers input b
+      → (a ≡ b) ⊎ ((l : Line) × IsLine (first_line input) l × IsOpen l (behind_line input))
+  answers_one solvers input a b (l, is_line, (outcome, answers, e)) (l', is_line', (outcome', answers', e')) =
+      by (line_one solvers l (behind_line input) outcome outcome' answers (subst (λ (k : Line). AnswersLine solvers k (behind_line input) outcome') (sym same) answers'))
     where
       same : l ≡ l'
       same = is_line_one (first_line input) l l' is_line is_line'
 
-      by : IsOne (AnswersLine solvers l (behind_line input)) ⊎ IsOpen l → (a ≡ b) ⊎ ((k : Line) × IsLine (first_line input) k × IsOpen k)
-      by (inl one) = inl (e ∙ ap printed (one outcome outcome' answers (subst (λ (k : Line). AnswersLine solvers k (behind_line input) outcome') (sym same) answers')) ∙ sym e')
-      by (inr unsettled) = inr (l, is_line, unsettled)
+      by : (outcome ≡ outcome') ⊎ IsOpen l (behind_line input) → (a ≡ b) ⊎ ((k : Line) × IsLine (first_line input) k × IsOpen k (behind_line input))
+      by (inl one) = inl (e ∙ ap printed one ∙ sym e')
+      by (inr choice) = inr (l, is_line, choice)
 
   pub whole_one : (solvers : Solvers) → HasOneAnswer solvers
   whole_one solvers input a b (inl (long, e)) (inl (long', e')) = inl (e ∙ sym e')

@@ -1,5 +1,6 @@
 -- A command's outcome, step by step.
 use Rattle.std.proofs.Common.{◌≡◌, ℕ, List, Result, Ok, Err, IsErrAnd, inl, inr, refl, subst, sym}
+use Rattle.std.specs.Prelude.{IfOk}
 use Rattle.ps_text.specs.Answers.{Found}
 use Rattle.ps_text.specs.Faults.{UnlessMemory}
 use Rattle.ps_text.specs.declared.faults.Fault.{Fault}
@@ -13,11 +14,17 @@ use Rattle.psyn.specs.Refusals.{IsRefusalOf}
 use Rattle.psyn.specs.Replies.{Reply, reply_of}
 
 -- what is printed for an outcome that the command may give
-pub settles_gives : (step : Result Reply (List ℕ) → Type 0) (outcome : Result Answer Refusal) (answer : Answer)
+settles_gives : (step : Result Reply (List ℕ) → Type 0) (outcome : Result Answer Refusal) (answer : Answer)
     → Gives reply_of step outcome → Settles outcome answer → (told : Result Reply (List ℕ)) × step told × (reply_of answer ≡ printed told)
 settles_gives step (Ok given) answer h same = (Ok (reply_of given), h, same)
 settles_gives step (Err (refusal.Fault fault)) answer h same = (Err (fault_text fault), h, same)
 settles_gives step (Err refusal.OutOfMemory) answer h same = absurd same
+
+-- the same, of what settling gives
+pub settled : {E : Type 0} (step : Result Reply (List ℕ) → Type 0) (outcome : Result Answer Refusal) (result : Result Answer E) (P : Answer → Type 0)
+    → Gives reply_of step outcome → IfOk result (Settles outcome) → ((answer : Answer) (told : Result Reply (List ℕ)) → step told → reply_of answer ≡ printed told → P answer) → IfOk result P
+settled step outcome (Ok answer) P gives settles from = let told = settles_gives step outcome answer gives settles in from answer told.0 told.1 told.2
+settled step outcome (Err e) P gives settles from = tt
 
 -- a fault that is passed on
 pub gives_passed : {X V : Type 0} (view : X → V) (step : Result V (List ℕ) → Type 0) (outcome : Result X Refusal) (fault : Refusal)
@@ -25,6 +32,12 @@ pub gives_passed : {X V : Type 0} (view : X → V) (step : Result V (List ℕ) �
 gives_passed view step (Ok given) fault passed h = absurd passed
 gives_passed {X} view step (Err given) fault passed h =
     subst (λ (refusal : Refusal). Gives {X = X} view step (Err refusal)) (sym passed) h
+
+-- a fault that is handed on as another
+pub gives_handed : {X V : Type 0} (view : X → V) (step : Result V (List ℕ) → Type 0) (outcome : Result X Refusal) (P : Refusal → Type 0)
+    → IsErrAnd outcome P → ((fault : Refusal) → P fault → Gives {X = X} view step (Err fault)) → Gives view step outcome
+gives_handed view step (Ok given) P handed from = absurd handed
+gives_handed view step (Err given) P handed from = from given handed
 
 -- what is refused by a reader is refused by its line
 pub gives_fault : {C X V : Type 0} (number : C → ℕ) (name : C → List ℕ) (reads : Result V (Found C) → Type 0) (view : X → V) (given : Fault C) (refused : Refusal)

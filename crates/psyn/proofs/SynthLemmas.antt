@@ -20,7 +20,8 @@ use Rattle.psyn.specs.Faults.{fault_text}
 use Rattle.psyn.specs.Outcomes.{Gives}
 use Rattle.psyn.specs.Replies.{Reply, reply_of}
 use Rattle.psyn.specs.Solvers.{SolverData, answers_now, solver_of}
-use Rattle.psyn.specs.Synthesis.{AnswersReport, IsOfSolver, IsToldBy, Synthesises}
+use Rattle.psyn.specs.StageFaults.{IsOfSolver, IsTold}
+use Rattle.psyn.specs.Synthesis.{AnswersReport, Synthesises}
 use Rattle.psyn.proofs.SolverLemmas.{unsure}
 
 -- whatever the first solver may answer, the other may
@@ -111,7 +112,7 @@ unsure_of May order text sure _ cause surely lies = absurd lies
 pub gives_told : (solver : SolverData) (order : Order) (compact : Bool) (text : List ℕ) (fault : SynthFault) (refused : Refusal)
     → IsSynthFault (answers_now solver) order text fault
     → (solver.is_sure ≡ true → (file : FileData) → IsAccepted text file → IsSureAnswer (Err fault))
-    → IsToldBy fault refused → Gives (λ (report : Report). report) (Synthesises solver order compact text) (Err refused)
+    → IsTold fault refused → Gives (λ (report : Report). report) (Synthesises solver order compact text) (Err refused)
 gives_told solver order compact text fault (refusal.Fault line) cause surely told =
     (fault, cause, unsure_of (answers_now solver) order text solver.is_sure fault cause surely, told)
 gives_told solver order compact text fault refusal.OutOfMemory cause surely told = tt

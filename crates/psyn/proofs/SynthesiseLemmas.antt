@@ -1,6 +1,6 @@
 -- From what the stages give to a report, or to the cause of a fault.
 use Rattle.std.proofs.Common.{◌≡◌, ◌↔◌, ◌∙◌, ℕ, Bool, List, length, Result, Ok, Err, ap, ap₂, subst, sym}
-use Rattle.std.specs.Prelude.{IfErr, IsTrue}
+use Rattle.std.specs.Prelude.{IfErr, IfOk, IsTrue}
 use Rattle.std.specs.Result.{IsErrAnd}
 use Rattle.ps_aiger.specs.Circuits.{CircuitData}
 use Rattle.ps_automaton.specs.Automata.{AutomatonData, IsBuiltFrom, auto_of}
@@ -140,6 +140,11 @@ sure_circuit order a game certificate (Certificate cause offset) h = absurd h
 sure_circuit order a game certificate NotCertified h = absurd h
 
 -- ## A fault that is handed on
+
+-- there is no report then
+pub no_report : (r : Result Report SynthFault) (P : Report → Type 0) (Q : SynthFault → Type 0) → IsErrAnd r Q → IfOk r P
+no_report (Ok x) P Q is = absurd is
+no_report (Err y) P Q is = tt
 
 pub told_as : (r : Result Report SynthFault) (e : SynthFault) (P : SynthFault → Type 0) → P e → IsErrAnd r (λ (y : SynthFault). y ≡ e) → IfErr r P
 told_as (Ok x) e P h is = absurd is

@@ -1,5 +1,5 @@
 -- Automata of HOA texts, for the commands whose first text is one.
-use Rattle.std.specs.Prelude.{◌≡◌, ⊤, ℕ, List, Option, None, Some, ◌++◌, codes, Result, Ok, Err}
+use Rattle.std.specs.Prelude.{◌≡◌, ⊤, ℕ, List, Some, Result, Ok, Err}
 use Rattle.ps_hoa.specs.CauseNames as hoa_names
 use Rattle.ps_hoa.specs.Causes as hoa
 use Rattle.ps_hoa.specs.Files.{FileData}
@@ -8,23 +8,15 @@ use Rattle.ps_automaton.specs.Answers.{IsAdmitted, IsRefused}
 use Rattle.ps_automaton.specs.Automata.{AutomatonData, IsBuiltFrom}
 use Rattle.ps_automaton.specs.Chains.{Chain}
 use Rattle.ps_automaton.specs.declared.fault.AutomatonFault.{AutomatonFault}
-use Rattle.ps_automaton.specs.declared.fault.AutomatonFault.TheVariants.{ComplementedSet, NonParity, Nondeterministic, OutOfMemory}
 use Rattle.psyn.specs.declared.answer.Refusal.{Refusal}
 use Rattle.psyn.specs.declared.answer.Refusal.TheVariants as refusal
-use Rattle.psyn.specs.Faults.{fault_text, spaced}
+use Rattle.psyn.specs.Faults.{fault_text}
 use Rattle.psyn.specs.Outcomes.{Then, Reading}
+use Rattle.psyn.specs.StageFaults.{automaton_line}
 
 -- an HOA text
 abbrev pub ReadsHoaText : List ℕ → Result FileData (List ℕ) → Type 0
 ReadsHoaText text = Reading hoa.cause_number hoa_names.cause_name (Reads text)
-
--- the line of a fault for which a file has no automaton
-abbrev pub automaton_line : AutomatonFault → Option (List ℕ)
-automaton_line ComplementedSet = Some (codes "fault 18 ComplementedSet")
-automaton_line NonParity = Some (codes "fault 17 NonParity")
-automaton_line (Nondeterministic state first second) =
-    Some (codes "fault 21 Nondeterministic state" ++ spaced state ++ codes " edges" ++ spaced first ++ spaced second)
-automaton_line OutOfMemory = None
 
 -- the file has an automaton, or it has none for the cause that the line tells
 abbrev pub Builds : FileData → Result FileData (List ℕ) → Type 0
@@ -34,11 +26,6 @@ Builds file (Err line) = (fault : AutomatonFault) × IsRefused file fault × (au
 -- the file of an HOA text that has an automaton
 abbrev pub ReadsAutomaton : List ℕ → Result FileData (List ℕ) → Type 0
 ReadsAutomaton text = Then (ReadsHoaText text) Builds
-
--- what is answered where there is no automaton
-abbrev pub IsAnsweredBy : AutomatonFault → Refusal → Type 0
-IsAnsweredBy fault (refusal.Fault line) = automaton_line fault ≡ Some (fault_text line)
-IsAnsweredBy fault refusal.OutOfMemory = fault ≡ OutOfMemory
 
 -- what is given for an HOA text: its automaton, or the line of the first fault, unless a growth was refused
 abbrev pub GivesAutomaton : List ℕ → Result AutomatonData Refusal → Type 0

@@ -26,11 +26,7 @@ words_of line = filter (λ word. not (length word == 0)) (slice_split (λ byte. 
 abbrev pub flag : Text → Rule
 flag name = record (new_rule name) { long = Some name; action = Some SetTrue }
 
--- a command with no flags
-abbrev pub command : Text → Shape
-command name = new_shape name
-
--- a command with flags
+-- a command with its flags
 abbrev pub command_with : Text → List Text → Shape
 command_with name flags = record (new_shape name) { rules = map flag flags }
 
@@ -38,19 +34,19 @@ command_with name flags = record (new_shape name) { rules = map flag flags }
 abbrev pub program : App
 program = on_top (λ top. record top { no_binary_name = true; disable_help_subcommand = true }) (new_app (codes "psyn"))
 
--- the commands that have no flags
-abbrev pub plain_table : App
-plain_table = with_subcommand (with_subcommand (with_subcommand (with_subcommand program
-    (command (codes "help"))) (command (codes "closed"))) (command (codes "check"))) (command (codes "sim"))
+-- each command behind those before it
+abbrev pub with_commands : App → List (Text × List Text) → App
+with_commands app [] = app
+with_commands app (command ∷ more) = with_commands (with_subcommand app (command_with command.0 command.1)) more
 
--- the command that makes a circuit
-abbrev pub synth_shape : Shape
-synth_shape = command_with (codes "synth") (codes "full" ∷ codes "cert" ∷ codes "moore" ∷ codes "compact" ∷ [])
+abbrev pub commands : List (Text × List Text)
+commands = (codes "help", []) ∷ (codes "closed", []) ∷ (codes "check", []) ∷ (codes "sim", [])
+    ∷ (codes "lasso", codes "env" ∷ []) ∷ (codes "solve", codes "compact" ∷ [])
+    ∷ (codes "game", codes "moore" ∷ []) ∷ (codes "cert", codes "moore" ∷ codes "compact" ∷ [])
+    ∷ (codes "synth", codes "full" ∷ codes "cert" ∷ codes "moore" ∷ codes "compact" ∷ []) ∷ []
 
 unfoldable pub table : App
-table = with_subcommand (with_subcommand (with_subcommand (with_subcommand (with_subcommand plain_table
-    (command_with (codes "lasso") (codes "env" ∷ []))) (command_with (codes "solve") (codes "compact" ∷ [])))
-    (command_with (codes "game") (codes "moore" ∷ []))) (command_with (codes "cert") (codes "moore" ∷ codes "compact" ∷ []))) synth_shape
+table = with_commands program commands
 
 -- ---- what the words say
 

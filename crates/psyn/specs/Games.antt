@@ -1,6 +1,6 @@
 -- The commands that print the game of an automaton, and a certificate of that game.
 --     AnswersGameText order text      `game`
---     AnswersCert sure order compact text      `cert`
+--     AnswersCert solver order compact text      `cert`
 use Rattle.std.specs.Prelude.{◌≡◌, ℕ, Bool, List, Result, Ok, Err}
 use Rattle.ps_game.specs.Games.{NamedGameData}
 use Rattle.ps_hoa.specs.Files.{FileData}
@@ -10,6 +10,7 @@ use Rattle.ps_pgsolver.specs.Written.{game_text}
 use Rattle.psyn.specs.Automata.{ReadsAutomaton}
 use Rattle.psyn.specs.Outcomes.{Then}
 use Rattle.psyn.specs.Replies.{Reply, text_reply}
+use Rattle.psyn.specs.Solvers.{SolverData}
 use Rattle.psyn.specs.Solving.{AnswersGame}
 
 -- every automaton has a game
@@ -23,6 +24,6 @@ ReadsGameOf order text = Then (ReadsAutomaton text) (MakesGame order)
 abbrev pub AnswersGameText : Order → List ℕ → Result Reply (List ℕ) → Type 0
 AnswersGameText order text = Then (ReadsGameOf order text) (λ game outcome. outcome ≡ Ok (text_reply (game_text game)))
 
--- whether the solver is sure, and whether the certificate is a compact text
-abbrev pub AnswersCert : Bool → Order → Bool → List ℕ → Result Reply (List ℕ) → Type 0
-AnswersCert sure order compact text = Then (ReadsGameOf order text) (AnswersGame sure compact)
+-- the certificate is a text with all counts, or a compact one
+abbrev pub AnswersCert : SolverData → Order → Bool → List ℕ → Result Reply (List ℕ) → Type 0
+AnswersCert solver order compact text = Then (ReadsGameOf order text) (AnswersGame solver compact)

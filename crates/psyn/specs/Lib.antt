@@ -14,6 +14,7 @@ pub mod Replies
 pub mod Simulating
 pub mod Solvers
 pub mod Solving
+pub mod StageFaults
 pub mod Streams
 pub mod Synthesis
 pub mod Texts

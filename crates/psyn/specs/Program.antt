@@ -25,9 +25,9 @@ AnswersLine solvers Closed texts outcome = AnswersClosed texts outcome
 AnswersLine solvers Check texts outcome = AnswersCheck texts outcome
 AnswersLine solvers Sim texts outcome = AnswersSim texts outcome
 AnswersLine solvers (Lasso role) texts outcome = AnswersLasso role texts outcome
-AnswersLine solvers (Solve compact) texts outcome = AnswersSolve solvers.built_in.is_sure compact texts outcome
+AnswersLine solvers (Solve compact) texts outcome = AnswersSolve solvers.built_in compact texts outcome
 AnswersLine solvers (Game order) texts outcome = AnswersGameText order texts outcome
-AnswersLine solvers (Cert order compact) texts outcome = AnswersCert solvers.built_in.is_sure order compact texts outcome
+AnswersLine solvers (Cert order compact) texts outcome = AnswersCert solvers.built_in order compact texts outcome
 AnswersLine solvers (Synth asked) texts outcome = AnswersSynth solvers asked texts outcome
 
 -- the answer to an input

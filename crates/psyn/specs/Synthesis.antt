@@ -1,23 +1,16 @@
 -- The command that makes a circuit of an automaton.
 --     AnswersSynth solvers asked texts      `synth`
-use Rattle.std.specs.Prelude.{◌≡◌, ⊤, ℕ, Bool, true, false, List, ◌++◌, codes, Option, None, Some, Result, Ok, Err, if◌then◌else◌}
-use Rattle.ps_certificate.specs.Faults as certificate
-use Rattle.ps_hoa.specs.CauseNames as hoa_names
-use Rattle.ps_hoa.specs.Causes as hoa
+use Rattle.std.specs.Prelude.{◌≡◌, ℕ, Bool, true, false, List, ◌++◌, codes, Some, Result, Ok, Err, if◌then◌else◌}
 use Rattle.ps_machine.specs.declared.key.Order.{Order}
 use Rattle.ps_synthesis.specs.Reports.{IsReport}
 use Rattle.ps_synthesis.specs.SynthFaults.{IsSynthFault}
 use Rattle.ps_synthesis.specs.declared.fault.SynthFault.{SynthFault}
-use Rattle.ps_synthesis.specs.declared.fault.SynthFault.TheVariants.{Text, Automaton, BadCycle, Certificate, NotCertified, CircuitTooLarge, OutOfMemory}
 use Rattle.ps_synthesis.specs.declared.report.Report.{Report}
-use Rattle.psyn.specs.declared.answer.Refusal.{Refusal}
-use Rattle.psyn.specs.declared.answer.Refusal.TheVariants as refusal
 use Rattle.psyn.specs.declared.command_line.SynthLine.{SynthLine}
-use Rattle.psyn.specs.Automata.{automaton_line}
-use Rattle.psyn.specs.Faults.{fault_text, ids_text, text_line}
 use Rattle.psyn.specs.Outcomes.{Then}
 use Rattle.psyn.specs.Replies.{Reply}
 use Rattle.psyn.specs.Solvers.{SolverData, Solvers, answers_now, feed}
+use Rattle.psyn.specs.StageFaults.{IsOfSolver, stage_line}
 use Rattle.psyn.specs.Texts.{CutsInTwo}
 
 -- ---- what is printed
@@ -45,37 +38,13 @@ report_text false report = circuit_part report
 abbrev pub report_reply : Bool → Report → Reply
 report_reply full report = record { text = report_text full report; status = verdict_status report.realizable }
 
--- ---- faults
-
--- the line of a fault for which there is no report
-abbrev pub synth_fault_line : SynthFault → Option (List ℕ)
-synth_fault_line (Text cause offset) = Some (text_line (hoa.cause_number cause) (hoa_names.cause_name cause) offset)
-synth_fault_line (Automaton fault) = automaton_line fault
-synth_fault_line (BadCycle ids) = Some (codes "fault 40 BadCycle" ++ ids_text ids.items)
-synth_fault_line (Certificate cause offset) = Some (text_line (certificate.cause_number cause) (certificate.cause_name cause) offset)
-synth_fault_line NotCertified = Some (codes "fault 41 NotCertified")
-synth_fault_line CircuitTooLarge = Some (codes "fault 60 CircuitTooLarge")
-synth_fault_line OutOfMemory = None
-
--- the fault lies with the solver
-abbrev pub IsOfSolver : SynthFault → Type 0
-IsOfSolver (BadCycle ids) = ⊤
-IsOfSolver (Certificate cause offset) = ⊤
-IsOfSolver NotCertified = ⊤
-IsOfSolver fault = ⊥
-
--- what is answered where there is no report
-abbrev pub IsToldBy : SynthFault → Refusal → Type 0
-IsToldBy fault (refusal.Fault line) = synth_fault_line fault ≡ Some (fault_text line)
-IsToldBy fault refusal.OutOfMemory = synth_fault_line fault ≡ None
-
 -- ---- the answer
 
 -- a report, or the line of the fault for which there is none; no such fault lies with a solver that is sure
 abbrev pub Synthesises : SolverData → Order → Bool → List ℕ → Result Report (List ℕ) → Type 0
 Synthesises solver order compact text (Ok report) = IsReport (answers_now solver) order compact text report
 Synthesises solver order compact text (Err line) = (fault : SynthFault) × IsSynthFault (answers_now solver) order text fault
-    × (IsOfSolver fault → solver.is_sure ≡ false) × (synth_fault_line fault ≡ Some line)
+    × (IsOfSolver fault → solver.is_sure ≡ false) × (stage_line fault ≡ Some line)
 
 -- the circuit of an HOA text, by this solver
 abbrev pub AnswersReport : SolverData → SynthLine → List ℕ → Result Reply (List ℕ) → Type 0

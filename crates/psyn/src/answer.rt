@@ -3,7 +3,7 @@
 ghost use Rattle.std.specs.Prelude.{◌≡◌, IfOk};
 ghost use Rattle.psyn.specs.Outcomes.{Settles};
 
-use crate::fault::FaultLine;
+use crate::fault::{FaultLine, PlainFault};
 use ps_text::faults::{Cause, Fault};
 use std::alloc::{AllocError, Global};
 
@@ -189,6 +189,18 @@ impl From<AllocError> for Refusal {
 
     fn from(_: AllocError) -> Self {
         Refusal::OutOfMemory
+    }
+}
+
+/// A fault of no place is answered by its line.
+impl From<PlainFault> for Refusal {
+    ghost use Rattle.psyn.specs.declared.answer.Refusal.TheVariants as refusal;
+    ghost use Rattle.psyn.specs.declared.fault.FaultLine.TheVariants as line;
+
+    ghost from_gives = { λ fault given. given ≡ refusal.Fault (line.Plain fault) };
+
+    fn from(fault: PlainFault) -> Self {
+        Refusal::Fault(FaultLine::Plain(fault))
     }
 }
 

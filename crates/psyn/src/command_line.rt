@@ -4,7 +4,7 @@ ghost use Rattle.std.specs.Prelude.{◌≡◌, false, List, IfOk, map};
 ghost use Rattle.clap.specs.Matches.{found_of};
 ghost use Rattle.clap.specs.Words.{app_of, rows_of, rule_of, subcommand_rows_of, with_subcommand};
 ghost use Rattle.psyn.specs.CommandLine as words;
-ghost use Rattle.psyn.specs.CommandLine.{plain_table, table, words_of, line_said, Says, IsLine, LinesAreRead, AskForHelp};
+ghost use Rattle.psyn.specs.CommandLine.{table, words_of, line_said, Says, IsLine, LinesAreRead, AskForHelp};
 
 use clap::error::ErrorKind;
 use clap::{Arg, ArgAction, ArgMatches, Command};
@@ -110,50 +110,40 @@ fn flag<'a>(alloc: Global, name: &'a str) -> Arg<'a>
 fn commands<'a>(alloc: Global) -> Result<Command<'a>, AllocError>
     ensures { IfOk result (λ command. app_of command ≡ table) }
 {
-    let lasso = Command::new(alloc, "lasso");
-    let lasso = lasso.arg(flag(alloc, "env"))?;
-    let solve = Command::new(alloc, "solve");
-    let solve = solve.arg(flag(alloc, "compact"))?;
-    let game = Command::new(alloc, "game");
-    let game = game.arg(flag(alloc, "moore"))?;
-    let cert = Command::new(alloc, "cert");
-    let cert = cert.arg(flag(alloc, "moore"))?;
-    let cert = cert.arg(flag(alloc, "compact"))?;
-    let psyn = plain_commands(alloc)?;
-    let psyn = psyn.subcommand(lasso)?;
-    let psyn = psyn.subcommand(solve)?;
-    let psyn = psyn.subcommand(game)?;
-    let psyn = psyn.subcommand(cert)?;
-    with_synth(alloc, psyn)
+    let psyn = with_command(alloc, program(alloc), "help", &[])?;
+    let psyn = with_command(alloc, psyn, "closed", &[])?;
+    let psyn = with_command(alloc, psyn, "check", &[])?;
+    let psyn = with_command(alloc, psyn, "sim", &[])?;
+    let psyn = with_command(alloc, psyn, "lasso", &["env"])?;
+    let psyn = with_command(alloc, psyn, "solve", &["compact"])?;
+    let psyn = with_command(alloc, psyn, "game", &["moore"])?;
+    let psyn = with_command(alloc, psyn, "cert", &["moore", "compact"])?;
+    with_command(alloc, psyn, "synth", &["full", "cert", "moore", "compact"])
 }
 
-/// The commands that have no flags.
-fn plain_commands<'a>(alloc: Global) -> Result<Command<'a>, AllocError>
-    ensures { IfOk result (λ command. app_of command ≡ plain_table) }
+/// The program with no command. No name of a program stands before the words of a line.
+fn program<'a>(alloc: Global) -> Command<'a>
+    ensures { app_of result ≡ words.program }
 {
-    let help = Command::new(alloc, "help");
-    let closed = Command::new(alloc, "closed");
-    let check = Command::new(alloc, "check");
-    let sim = Command::new(alloc, "sim");
-    let psyn = Command::new(alloc, "psyn")
+    Command::new(alloc, "psyn")
         .no_binary_name(true)
-        .disable_help_subcommand(true);
-    let psyn = psyn.subcommand(help)?;
-    let psyn = psyn.subcommand(closed)?;
-    let psyn = psyn.subcommand(check)?;
-    psyn.subcommand(sim)
+        .disable_help_subcommand(true)
 }
 
-/// The commands, and `synth` behind them.
-fn with_synth<'a>(alloc: Global, psyn: Command<'a>) -> Result<Command<'a>, AllocError>
-    ensures { IfOk result (λ command. app_of command ≡ with_subcommand (app_of psyn.entry) words.synth_shape) }
+/// The commands, and behind them one more with flags of its own.
+fn with_command<'a>(
+    alloc: Global,
+    psyn: Command<'a>,
+    name: &'a str,
+    flags: &[&'a str],
+) -> Result<Command<'a>, AllocError>
+    ensures { IfOk result (λ command. app_of command ≡ with_subcommand (app_of psyn.entry) (words.command_with name.now (map (λ flag. flag.now) flags.now))) }
 {
-    let synth = Command::new(alloc, "synth");
-    let synth = synth.arg(flag(alloc, "full"))?;
-    let synth = synth.arg(flag(alloc, "cert"))?;
-    let synth = synth.arg(flag(alloc, "moore"))?;
-    let synth = synth.arg(flag(alloc, "compact"))?;
-    psyn.subcommand(synth)
+    let mut command = Command::new(alloc, name);
+    for given in flags {
+        command = command.arg(flag(alloc, given))?;
+    }
+    psyn.subcommand(command)
 }
 
 /// The line that was read.

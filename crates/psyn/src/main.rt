@@ -4,32 +4,28 @@
 pub mod answer;
 pub mod automata;
 pub mod certifying;
-pub mod checks;
 pub mod command_line;
+pub mod commands;
 pub mod cut;
 pub mod fault;
 pub mod fault_text;
 #[cfg(test)]
 mod game_tests;
-pub mod games;
 #[cfg(test)]
 mod lasso_tests;
-pub mod lassos;
 pub mod laws;
 pub mod memory;
 pub mod program;
 pub mod reading;
 pub mod run;
 pub mod sending;
-pub mod simulating;
-pub mod solving;
+pub mod stage_faults;
 pub mod stream;
 #[cfg(test)]
 mod synth_tests;
 pub mod synthesis;
 #[cfg(test)]
 mod synthesis_tests;
-pub mod synthesising;
 #[cfg(test)]
 mod tests;
 pub mod texts;

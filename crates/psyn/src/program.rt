@@ -7,14 +7,14 @@ ghost use Rattle.psyn.specs.Replies.{reply_of};
 ghost use Rattle.psyn.specs.Solvers.{solver_of, solvers_of};
 
 use crate::answer::{Answer, Refusal, settle};
-use crate::checks::{check, closed};
 use crate::command_line::{Line, read_line};
+use crate::commands::check::{check, closed};
+use crate::commands::game::{cert, game};
+use crate::commands::lasso::lasso;
+use crate::commands::sim::sim;
+use crate::commands::solve::solve;
+use crate::commands::synth::synth;
 use crate::cut::first_line;
-use crate::games::{cert, game};
-use crate::lassos::lasso;
-use crate::simulating::sim;
-use crate::solving::solve;
-use crate::synthesising::synth;
 use ps_machine::Solver;
 use std::alloc::{AllocError, Global};
 

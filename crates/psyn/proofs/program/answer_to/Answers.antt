@@ -1,11 +1,10 @@
-use Rattle.std.proofs.Common.{◌≡◌, subst, ℕ, List, Result}
-use Rattle.std.proofs.lemmas.Result.{IfOk-weaker}
-use Rattle.psyn.specs.Outcomes.{printed}
-use Rattle.psyn.specs.Program.{AnswersLine}
+use Rattle.std.proofs.Common.{subst, ℕ, List, Result}
+use Rattle.psyn.specs.Program.{Answers, AnswersLine}
 use Rattle.psyn.specs.CommandLine.{IsLine}
 use Rattle.psyn.specs.Replies.{Reply, reply_of}
 use Rattle.psyn.specs.Solvers.{Solvers, solver_of, solvers_of}
-use Rattle.psyn.proofs.OutcomeLemmas.{settles_gives}
+use Rattle.psyn.specs.declared.answer.Answer.{Answer}
+use Rattle.psyn.proofs.OutcomeLemmas.{settled}
 use Rattle.psyn.proofs.program.answer_to.Goals as goal
 
 pub returns : goal.returns
@@ -15,12 +14,11 @@ returns g c =
     let s = goal.Solver-dyn g (b.vtable, b.value) in
     let t = goal.Solver-dyn g (r.vtable, r.value) in
     let solvers : Solvers = solvers_of (solver_of (s.is_sure b.value) (s.fed b.value) (s.may_answer b.value)) (solver_of (t.is_sure r.value) (t.fed r.value) (t.may_answer r.value)) in
-    IfOk-weaker c.settle.result _ _
-    (λ answer settles. (
-      c.in_ok-line.line,
-      subst (λ (line : List ℕ). IsLine line c.in_ok-line.line) c.first_line.ensures.line c.in_ok-line.ensures,
-      subst (λ (texts : List ℕ). (told : Result Reply (List ℕ)) × AnswersLine solvers c.in_ok-line.line texts told × (reply_of answer ≡ printed told))
-          c.first_line.ensures.rest
-          (settles_gives (AnswersLine solvers c.in_ok-line.line c.first_line.result.1.now) c.answer_line.result answer c.answer_line.ensures settles),
+    let line = c.in_ok-line.line in
+    let input = c.args.input.now in
+    settled (AnswersLine solvers line c.first_line.result.1.now) c.answer_line.result c.settle.result (λ (answer : Answer). Answers solvers input (reply_of answer)) c.answer_line.ensures c.settle.ensures
+    (λ (answer : Answer) (told : Result Reply (List ℕ)) answers same. (
+      line,
+      subst (λ (first : List ℕ). IsLine first line) c.first_line.ensures.line c.in_ok-line.ensures,
+      (told, subst (λ (texts : List ℕ). AnswersLine solvers line texts told) c.first_line.ensures.rest answers, same),
     ))
-    c.settle.ensures

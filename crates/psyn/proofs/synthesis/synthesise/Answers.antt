@@ -1,7 +1,7 @@
 use Rattle.ps_synthesis.specs.Reports.{MayAnswer}
 use Rattle.ps_synthesis.specs.SynthFaults.{IsSynthFault}
 use Rattle.ps_synthesis.specs.declared.fault.SynthFault.TheVariants.{OutOfMemory}
-use Rattle.psyn.proofs.SynthesiseLemmas.{report_is, solver_cause, circuit_cause, text_cause, sure_memory, sure_circuit, told_as, sure_told}
+use Rattle.psyn.proofs.SynthesiseLemmas.{report_is, solver_cause, circuit_cause, text_cause, no_report, sure_memory, sure_circuit, told_as, sure_told}
 use Rattle.psyn.proofs.synthesis.synthesise.Goals as goal
 
 pub returns-clause-report : goal.returns-clause-report
@@ -65,3 +65,35 @@ circuit_of_certificate-requires-clause-game g c = (c.in_ok-game.ensures.game.0, 
 
 pub returns-in_err-report-clause-sure : goal.returns-in_err-report-clause-sure
 returns-in_err-report-clause-sure g c = λ sure file accepted. sure_told c.from_residual-in_err-report.result OutOfMemory tt c.from_residual-in_err-report.ensures.1
+
+pub returns-in_err-automaton-clause-report : goal.returns-in_err-automaton-clause-report
+returns-in_err-automaton-clause-report g c = no_report c.from_residual.result _ _ c.from_residual.ensures.1
+
+pub returns-in_err-game-clause-report : goal.returns-in_err-game-clause-report
+returns-in_err-game-clause-report g c = no_report c.from_residual-in_err-game.result _ _ c.from_residual-in_err-game.ensures.1
+
+pub returns-in_err-certificate-clause-report : goal.returns-in_err-certificate-clause-report
+returns-in_err-certificate-clause-report g c = no_report c.from_residual-in_err-certificate.result _ _ c.from_residual-in_err-certificate.ensures.1
+
+pub returns-in_err-circuit-clause-report : goal.returns-in_err-circuit-clause-report
+returns-in_err-circuit-clause-report g c = no_report c.from_residual-in_err-circuit.result _ _ c.from_residual-in_err-circuit.ensures.1
+
+pub returns-in_err-report-clause-report : goal.returns-in_err-report-clause-report
+returns-in_err-report-clause-report g c = no_report c.from_residual-in_err-report.result _ _ c.from_residual-in_err-report.ensures.1
+
+pub returns-in_err-game-clause-refused : goal.returns-in_err-game-clause-refused
+returns-in_err-game-clause-refused g c =
+    let b = c.args.solver.now in
+    let s = goal.Solver-dyn g (b.vtable, b.value) in
+    let may : MayAnswer = s.may_answer b.value (s.fed b.value) in
+    told_as c.from_residual-in_err-game.result OutOfMemory (IsSynthFault may c.args.order c.args.text.now) tt c.from_residual-in_err-game.ensures.1
+
+pub returns-in_err-game-clause-sure : goal.returns-in_err-game-clause-sure
+returns-in_err-game-clause-sure g c = λ sure file accepted. sure_told c.from_residual-in_err-game.result OutOfMemory tt c.from_residual-in_err-game.ensures.1
+
+pub returns-in_err-report-clause-refused : goal.returns-in_err-report-clause-refused
+returns-in_err-report-clause-refused g c =
+    let b = c.args.solver.now in
+    let s = goal.Solver-dyn g (b.vtable, b.value) in
+    let may : MayAnswer = s.may_answer b.value (s.fed b.value) in
+    told_as c.from_residual-in_err-report.result OutOfMemory (IsSynthFault may c.args.order c.args.text.now) tt c.from_residual-in_err-report.ensures.1

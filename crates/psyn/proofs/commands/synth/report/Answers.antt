@@ -1,0 +1,33 @@
+use Rattle.std.proofs.Common.{◌≡◌, ℕ, List, Result, Ok, ap, inr}
+use Rattle.ps_synthesis.specs.declared.report.Report.{Report}
+use Rattle.psyn.specs.declared.answer.Refusal.{Refusal}
+use Rattle.psyn.specs.declared.answer.Refusal.TheVariants as refusal
+use Rattle.psyn.specs.Replies.{Reply, reply_of}
+use Rattle.psyn.specs.Solvers.{SolverData, solver_of}
+use Rattle.psyn.specs.StageFaults.{IsTold}
+use Rattle.psyn.specs.Synthesis.{AnswersReport, Synthesises, report_reply}
+use Rattle.psyn.proofs.OutcomeLemmas.{gives_failed, gives_handed, gives_passed}
+use Rattle.psyn.proofs.SynthLemmas.{gives_told}
+use Rattle.psyn.proofs.commands.synth.report.Goals as goal
+
+pub returns-in_err-report : goal.returns-in_err-report
+returns-in_err-report g c =
+    let b = c.args.solver.now in
+    let s = goal.Solver-dyn g (b.vtable, b.value) in
+    let solver : SolverData = solver_of (s.is_sure b.value) (s.fed b.value) (s.may_answer b.value) in
+    let asked = c.args.asked in
+    let fault = c.in_err-report.field-0.0 in
+    let Prints : Report → Result Reply (List ℕ) → Type 0 = λ report outcome. outcome ≡ Ok (report_reply asked.full report) in
+    gives_handed reply_of (AnswersReport solver asked c.args.text.now) c.from_residual.result (IsTold fault) c.from_residual.ensures.1
+    (λ (refused : Refusal) told. gives_failed (λ (x : Report). x) (Synthesises solver asked.order asked.compact c.args.text.now) reply_of Prints refused
+    (gives_told solver asked.order asked.compact c.args.text.now fault refused c.in_err-report.ensures.refused c.in_err-report.ensures.sure told))
+
+pub returns-in_err-print : goal.returns-in_err-print
+returns-in_err-print g c =
+    let b = c.args.solver.now in
+    let s = goal.Solver-dyn g (b.vtable, b.value) in
+    let solver : SolverData = solver_of (s.is_sure b.value) (s.fed b.value) (s.may_answer b.value) in
+    gives_passed reply_of (AnswersReport solver c.args.asked c.args.text.now) c.from_residual-in_err-print.result refusal.OutOfMemory c.from_residual-in_err-print.ensures.1 tt
+
+pub returns : goal.returns
+returns g c = inr (c.in_ok-report.report, c.in_ok-report.ensures.report, ap Ok c.in_ok-print.ensures)

@@ -1,0 +1,40 @@
+//! The command that solves a game.
+
+ghost use Rattle.psyn.specs.Outcomes.{Gives};
+ghost use Rattle.psyn.specs.Replies.{reply_of};
+ghost use Rattle.psyn.specs.Solvers.{solver_of};
+ghost use Rattle.psyn.specs.Solving.{AnswersGame, AnswersSolve};
+
+use crate::answer::{Answer, Refusal};
+use crate::certifying::certified;
+use crate::texts::read_game;
+use ps_game::NamedGame;
+use ps_machine::Solver;
+use ps_synthesis::certificate_text;
+use std::alloc::Global;
+
+/// A certificate of the game of a text: who wins each vertex, by which moves.
+pub fn solve(
+    alloc: Global,
+    text: &[u8],
+    solver: &mut Box<dyn Solver>,
+    compact: bool,
+) -> Result<Answer, Refusal>
+    ensures { Gives reply_of (AnswersSolve (solver_of (is_sure solver.old) (fed solver.old) (may_answer solver.old)) compact text.now) result }
+{
+    let game = read_game(alloc, text)?;
+    certify(alloc, &game, solver, compact)
+}
+
+/// The text of a certificate of a game.
+pub fn certify(
+    alloc: Global,
+    game: &NamedGame,
+    solver: &mut Box<dyn Solver>,
+    compact: bool,
+) -> Result<Answer, Refusal>
+    ensures { Gives reply_of (AnswersGame (solver_of (is_sure solver.old) (fed solver.old) (may_answer solver.old)) compact game.now) result }
+{
+    let certificate = certified(alloc, game, solver)?;
+    Ok(Answer::text(certificate_text(alloc, &certificate, game, compact)?))
+}
