@@ -2,10 +2,15 @@
 """Shows that the reading of game texts takes time in proportion to the text.
 
   bench/game_texts.py PROGRAM [ARGUMENTS..]
+  bench/game_texts.py --ids PROGRAM [ARGUMENTS..]
 
 Makes game texts of 1, 2, 4, 8 and 16 MiB, runs the built psyn on `closed` with each of them and a certificate that is
 refused at its first byte, and prints the time of each run and its growth from one size to the next.
+
+With --ids it makes texts of 100,000 vertices that are alike in length, with ids of four kinds: each its own place, rising from
+10^9 on, all over, and all over but rising. It prints the least time of five runs of each, in turn.
 """
+import random
 import subprocess
 import sys
 import time
@@ -27,18 +32,44 @@ def game_text(size):
         vertex += 1
 
 
+def text_of_ids(ids, length):
+    """A vertex for each id, with one successor and a name that fills its line up to the length."""
+    lines = [f"{id_} 1 0 {ids[place * 7 % len(ids)]}" for place, id_ in enumerate(ids)]
+    return "\n".join(f'{line} "{"x" * (length - len(line))}";' for line in lines).encode()
+
+
+def refused(program, text):
+    """The seconds of a run on a game and a certificate that is refused at its first byte."""
+    start = time.monotonic()
+    run = subprocess.run(program, input=b"closed\n" + text + b"\n%%\n", capture_output=True, check=False)
+    return time.monotonic() - start, run.stdout.decode().strip()[:60]
+
+
+def ids(program):
+    """The times for ids of four kinds."""
+    count, dice = 100_000, random.Random(1)
+    spread = dice.sample(range(10**9, 10**10), count)
+    kinds = {"own places": range(count), "rising": range(10**9, 10**9 + count), "spread": spread, "spread, rising": sorted(spread)}
+    texts = {kind: text_of_ids(chosen, 30) for kind, chosen in kinds.items()}
+    least = dict.fromkeys(texts, 1e9)
+    for _ in range(5):
+        for kind, text in texts.items():
+            least[kind] = min(least[kind], refused(program, text)[0])
+    for kind, seconds in least.items():
+        print(f"{kind:16} {seconds:7.3f} s, {seconds / least['own places']:.2f} times that of own places", flush=True)
+
+
 def main():
+    if sys.argv[1:2] == ["--ids"] and len(sys.argv) > 2:
+        return ids(sys.argv[2:])
     program = sys.argv[1:]
     if not program:
         sys.exit(__doc__)
     before = None
     for mebibytes in (1, 2, 4, 8, 16):
-        text = b"closed\n" + game_text(mebibytes * MEBIBYTE) + b"%%\n"
-        start = time.monotonic()
-        run = subprocess.run(program, input=text, capture_output=True, check=False)
-        seconds = time.monotonic() - start
+        seconds, said = refused(program, game_text(mebibytes * MEBIBYTE))
         growth = "" if before is None else f"  growth {seconds / before:.2f}"
-        print(f"{mebibytes:3} MiB  {seconds:7.3f} s{growth}  {run.stdout.decode().strip()[:60]}", flush=True)
+        print(f"{mebibytes:3} MiB  {seconds:7.3f} s{growth}  {said}", flush=True)
         before = seconds
 
 

@@ -1,0 +1,135 @@
+#!/usr/bin/env python3
+"""Runs psyn on texts that are made to be hard, and says how long each run takes and how much memory it holds.
+
+  bench/hostile.py PSYN [--only KIND,..] [--commands COMMAND,..] [--seconds N] [--mebibytes N] [--stack KIBIBYTES]
+
+hostile_texts.py says what the kinds are; most texts have 16 MiB. Each is run through each command that takes it, with a stack of
+1,024 KiB, with at most 2,048 MiB of memory (more is refused), and for at most 60 seconds of processor time, if nothing else is
+given. A line for each run has its kind and its number within the kind, the command, the seconds of processor time and by the
+clock, the most memory held (MB), the bytes of the answer, the status and the answer's first line. Behind it stands, where it is so:
+
+  LARGER    want of memory is the answer that is due: the answer, or counts that it has by definition, are larger
+  SLOW      more than 10 seconds of processor time
+  LARGE     more than 2 GiB: want of memory, which is not due
+  ENDED     it ended by a signal, or with a status that psyn does not have: always wrong, but for a run that was ended for its time
+
+The last line counts them. The status is 1 where a run is ENDED, or where one that is LARGER ends in another answer."""
+import argparse
+import collections
+import multiprocessing
+import os
+import resource
+import signal
+import subprocess
+import sys
+import tempfile
+import time
+
+sys.dont_write_bytecode = True
+sys.path.insert(0, os.path.dirname(os.path.abspath(__file__)))
+
+from hostile_texts import KINDS  # noqa: E402
+
+SLOW = 10
+STATUSES = (0, 1, 2, 10, 20)
+OUT_OF_MEMORY = b"fault 24 OutOfMemory\n"
+
+
+def limits(given):
+    """What the child is held to."""
+    def hold():
+        resource.setrlimit(resource.RLIMIT_STACK, (given.stack << 10, given.stack << 10))
+        resource.setrlimit(resource.RLIMIT_AS, (given.mebibytes << 20, given.mebibytes << 20))
+        resource.setrlimit(resource.RLIMIT_CPU, (given.seconds, given.seconds + 1))
+        resource.setrlimit(resource.RLIMIT_CORE, (0, 0))
+    return hold
+
+
+def written(kind, room):
+    """Writes the inputs of a kind to files, and says how each run is called and whether its answer is larger."""
+    told = []
+    for number, run in enumerate(kind()):
+        with open(os.path.join(room, f"{number}.input"), "wb") as file:
+            # A text that another follows ends before the newline of the line `%%`.
+            texts = [text.removesuffix("\n") for text in run.texts[:-1]] + list(run.texts[-1:])
+            file.write((run.command + "\n" + "\n%%\n".join(texts)).encode())
+        told.append((run.command, run.is_larger))
+    return told
+
+
+def written_apart(kind, room):
+    """The same in a process of its own: what this one holds would be counted as held by those that it starts."""
+    with multiprocessing.get_context("fork").Pool(1) as pool:
+        return pool.apply(written, (kind, room))
+
+
+def measured(given, path):
+    """The status (negative: a signal), the answer's start and length, the resources used, and the seconds by the clock."""
+    with open(path, "rb") as text, tempfile.TemporaryFile() as answer:
+        begin = time.monotonic()
+        child = subprocess.Popen([given.psyn], stdin=text, stdout=answer, preexec_fn=limits(given))
+        _, status, used = os.wait4(child.pid, 0)
+        child.returncode = os.waitstatus_to_exitcode(status)
+        seconds = time.monotonic() - begin
+        length = answer.seek(0, os.SEEK_END)
+        answer.seek(0)
+        return child.returncode, answer.read(80), length, used, seconds
+
+
+def marks(is_larger, status, start, processor):
+    """What is to be said of the run."""
+    found = ["LARGER"] if is_larger else []
+    if processor > SLOW:
+        found.append("SLOW")
+    if start == OUT_OF_MEMORY and not is_larger:
+        found.append("LARGE")
+    if status not in STATUSES:
+        found.append("ENDED")
+    return found
+
+
+def is_wrong(is_larger, status, start):
+    if status in (-signal.SIGXCPU, -signal.SIGKILL):
+        return False
+    return status not in STATUSES or (is_larger and start != OUT_OF_MEMORY)
+
+
+def measure_kind(given, kind, counts):
+    """Prints a line for each run of a kind, and counts them."""
+    with tempfile.TemporaryDirectory() as room:
+        for number, (command, is_larger) in enumerate(written_apart(kind, room)):
+            if given.commands and command not in given.commands.split(","):
+                continue
+            status, start, length, used, seconds = measured(given, os.path.join(room, f"{number}.input"))
+            processor = used.ru_utime + used.ru_stime
+            said = marks(is_larger, status, start, processor)
+            counts.update(["runs", *said, *["wrong"] * is_wrong(is_larger, status, start)])
+            first = start.split(b"\n")[0][:44].decode(errors="replace")
+            row = f"{kind.__name__:19} {number:2} {command[:22]:22} {processor:8.2f} {seconds:8.2f} {used.ru_maxrss >> 10:8} {length:10} {status:7}  {first}"
+            print(row, *said, flush=True)
+
+
+def measure(given, kinds):
+    counts = collections.Counter()
+    print("kind                no command                  proc s  clock s       MB      bytes  status  answer", flush=True)
+    for kind in kinds:
+        measure_kind(given, kind, counts)
+    print(", ".join(f"{count} {mark}" for mark, count in counts.items()))
+    return 1 if counts["wrong"] else 0
+
+
+def main():
+    parser = argparse.ArgumentParser(usage=__doc__)
+    parser.add_argument("psyn", type=os.path.abspath)
+    parser.add_argument("--only", default="")
+    parser.add_argument("--commands", default="")
+    parser.add_argument("--seconds", type=int, default=60)
+    parser.add_argument("--mebibytes", type=int, default=2048)
+    parser.add_argument("--stack", type=int, default=1024)
+    given = parser.parse_args()
+    wanted = given.only.split(",") if given.only else [kind.__name__ for kind in KINDS]
+    return measure(given, [kind for kind in KINDS if kind.__name__ in wanted])
+
+
+if __name__ == "__main__":
+    sys.exit(main())

@@ -1,0 +1,312 @@
+"""Texts that are made to be hard: each function is a kind, and gives the runs that are made of it.
+
+A run is a command line, the texts behind it, and whether its answer, or the counts that it has by definition, are larger than
+any machine holds, so that want of memory is the answer that is due. A text has 16 MiB, as far as its kind has so much to say."""
+import collections
+import os
+import subprocess
+import tempfile
+
+Run = collections.namedtuple("Run", "command texts is_larger", defaults=(False,))
+SIZE = 1 << 24
+AUTOMATON_COMMANDS = (
+    "lasso", "game", "game --moore", "cert", "cert --compact", "synth", "synth --moore", "synth --full --compact", "synth --cert",
+)
+BESIDE = {"lasso": ("", ""), "synth --cert": ("",)}
+CERTIFICATE_START = "psyncert 1\nvertices 1\n"
+
+
+def filled(head, pieces, tail):
+    """The head, as many of the pieces as there is room for, and the tail; blanks behind it, if the pieces end."""
+    parts, room = [head], SIZE - len(head) - len(tail)
+    for piece in pieces:
+        room -= len(piece)
+        if room < 0:
+            break
+        parts.append(piece)
+    return "".join(parts) + tail
+
+
+def repeated(piece, number):
+    return [piece] * number
+
+
+def head(names, controllable, condition, start="Start: 0"):
+    listed = " ".join(f'"{name}"' for name in names)
+    owned = " ".join(map(str, controllable))
+    return f"HOA: v1 {start} AP: {len(names)} {listed} controllable-AP: {owned} Acceptance: {condition} --BODY--\n"
+
+
+def propositions(count):
+    return [f"p{k}" for k in range(count)]
+
+
+def on_automata(text, larger=()):
+    return [Run(command, (text, *BESIDE.get(command, ())), command in larger) for command in AUTOMATON_COMMANDS]
+
+
+# Automata
+
+def label():
+    """One label over two propositions."""
+    pieces = repeated("|!1&0", SIZE // 5)
+    return on_automata(filled(head(propositions(2), [1], "1 Inf(0)") + "State: 0 [0", pieces, "] 0 {0} --END--\n"))
+
+
+def wide_label():
+    """One label over 64 propositions: cubes of six, one after another."""
+    cubes = ("|" + "&".join(f"{'!' * ((k >> b) % 2)}{(k * 7 + b * 11) % 64}" for b in range(6)) for k in range(SIZE))
+    return on_automata(filled(head(propositions(64), range(32), "1 Inf(0)") + "State: 0 [f", cubes, "] 0 {0} --END--\n"))
+
+
+def twined_label():
+    """A label of 200 bytes whose diagram, in the order of the propositions, has 2^33 nodes."""
+    twined = "|".join(f"{k}&{k + 32}" for k in range(32))
+    return on_automata(head(propositions(64), range(32), "0 t") + f"State: 0 [{twined}] 0 --END--\n")
+
+
+def condition():
+    """One condition that is a chain of two million links, and one that is none."""
+    state = " --BODY-- State: 0 0 {0} --END--\n"
+    runs = []
+    for first, links in (("Fin(0)", "|Inf(0)"), ("Inf(0)", "&Inf(1)|Inf(0)")):
+        start = f"HOA: v1 Start: 0 controllable-AP: Acceptance: 2 {first}"
+        runs += on_automata(filled(start, repeated(links, SIZE // len(links)), state))
+    return runs
+
+
+def states():
+    """65,535 states with 16 edges each, by letters over four propositions."""
+    rows = (f"State: {q}\n" + "".join(f"{(q * 31 + e * 977) % 65535} {{{e % 3}}}\n" for e in range(16)) for q in range(65535))
+    return on_automata(filled(head(propositions(4), [2, 3], "3 Fin(2) & (Inf(1) | Fin(0))"), rows, "--END--\n"))
+
+
+def edges():
+    """One state with an edge for each of a million letters, nearly each to a state of its own."""
+    row = (f"{1 + k % 65534} \n" for k in range(1 << 20))
+    return on_automata(filled(head(propositions(20), range(10, 20), "0 t") + "State: 0\n", row, "--END--\n"))
+
+
+def equal_edges():
+    """One state with a million equal edges."""
+    row = repeated("[0&!1] 1 {0}\n", 1 << 20)
+    return on_automata(filled(head(propositions(2), [1], "1 Inf(0)") + "State: 0\n", row, "--END--\n"))
+
+
+def inputs():
+    """64 inputs, of which each of 65,535 states reads one."""
+    rows = (f"State: {q} [{q % 64}] {(q + 1) % 65535} {{0}} [!{q % 64}] {(q * 5 + 2) % 65535}\n" for q in range(65535))
+    return on_automata(filled(head(propositions(64), [], "1 Inf(0)"), rows, "--END--\n"))
+
+
+def cascades():
+    """States that look at 16 inputs one after another, and go on at the first that is true."""
+    def row(q):
+        edges = (f"[{'&'.join([f'!{(q + j) % 48}' for j in range(e)] + [str((q + e) % 48)])}] {(q * 17 + e) % 20000}" for e in range(16))
+        return f"State: {q} {' '.join(edges)}\n"
+    return on_automata(filled(head(propositions(64), range(48, 64), "0 t"), (row(q) for q in range(20000)), "--END--\n"))
+
+
+def nesting():
+    """Labels, and a condition, that nest as deep as is allowed; and a label that nests once more."""
+    deep = "!(" * 128 + "0" + ")" * 128
+    rows = (f"State: {q} [{deep}] 0 {{0}}\n" for q in range(65535))
+    condition_text = "(" * 256 + "Inf(0)" + ")" * 256
+    deeper = filled(head(["a"], [], "0 t") + f"State: 0 [!{deep}", repeated("&0", SIZE // 2), "] 0 --END--\n")
+    return on_automata(filled(head(["a"], [], f"1 {condition_text}"), rows, "--END--\n")) + [Run("game", (deeper,))]
+
+
+def comments():
+    """Comments in comments, closed and not; a string of 16 MiB; signs that open and never close."""
+    half = SIZE // 4 - 100
+    tail = ' Start: 0 controllable-AP: Acceptance: 0 t --BODY-- State: 0 [t] 0 --END--'
+    named = filled('HOA: v1 name: "', repeated("\\\"", SIZE // 2), '"' + tail)
+    closed = "HOA: v1 " + "/*" * half + "*/" * half + tail
+    texts = [closed, named, "HOA: v1 " + "/*" * (2 * half), head(["a"], [], "0 t") + "State: 0 [" + "(" * (SIZE - 200)]
+    return on_automata(closed) + [Run("game", (text,)) for text in texts[1:]]
+
+
+def names():
+    """64 propositions, or 4,096 aliases, with long names that differ in their last bytes alone."""
+    long = ["n" * (SIZE // 65) + f"{k:04}" for k in range(64)]
+    start = head(propositions(8), [7], "1 Inf(0)").removesuffix("--BODY--\n")
+    aliases = [f"@{'n' * 2000}{k:04}" for k in range(4096)]
+    uses = (f"State: {q} [{aliases[(q * 61) % 4096]}&{aliases[(q * 997) % 4096]}] 0 {{0}}\n" for q in range(65535))
+    text = filled(start + "".join(f"Alias: {name} {k % 8}\n" for k, name in enumerate(aliases)) + "--BODY--\n", uses, "--END--\n")
+    return on_automata(head(long, [63], "0 t") + "State: 0 [0] 0 [!0&63] 0 --END--\n") + on_automata(text)
+
+
+# Games
+
+def on_games(text, larger=()):
+    runs = [Run(command, (text,), command in larger) for command in ("solve", "solve --compact")]
+    return runs + [Run(command, (text, CERTIFICATE_START)) for command in ("closed", "check")]
+
+
+def vertices():
+    """Vertices with three edges each and seven priorities."""
+    return on_games(filled("", (f"{v} {v % 7} {v % 2} {v},{max(v - 1, 0)},{v // 2};\n" for v in range(SIZE)), ""))
+
+
+def colliding(count, bits, most):
+    """Numbers that the tables of the toolchain put into one place."""
+    with tempfile.TemporaryDirectory() as room:
+        program = os.path.join(room, "colliding")
+        subprocess.run(["cc", "-O2", "-o", program, os.path.join(os.path.dirname(os.path.abspath(__file__)), "colliding.c")], check=True)
+        found = subprocess.run([program, str(count), str(bits), str(most)], capture_output=True, check=True)
+    return found.stdout.decode().split()
+
+
+def ids():
+    """131,072 ids that meet in a table with a fixed seed."""
+    found = colliding(1 << 17, 14, 1 << 40)
+    pad = "n" * (SIZE // len(found) - 2 * len(found[-1]) - 12)
+    return on_games("".join(f'{vertex} 0 0 {vertex} "{pad}";\n' for vertex in found))
+
+
+def priorities():
+    """Some 900,000 vertices and priorities: loops, a path up, and a path down to a loop."""
+    loops = filled("", (f"{v} {v} 0 {v};\n" for v in range(SIZE)), "")
+    rising = filled("", (f"{v} {v} {v % 2} {v + 1};\n" for v in range(690000)), "690000 690000 0 0;\n")
+    falling = filled("", (f"{v} {v} {v % 2} {max(v - 1, 0)};\n" for v in range(SIZE)), "")
+    larger = ("solve", "solve --compact")
+    return [run for text in (loops, rising, falling) for run in on_games(text, larger)]
+
+
+def fan():
+    """One vertex with some 900,000 edges, to vertices that lead back to it; and one with edges to itself alone."""
+    count = 600000
+    fanned = f"0 1 0 {','.join(map(str, range(1, count)))};\n" + "".join(f"{v} 2 1 0;\n" for v in range(1, count))
+    return on_games(fanned) + on_games(f"0 0 0 0{',0' * (SIZE // 2 - 10)};\n")
+
+
+def ladder():
+    """A ladder of 24 rungs, made for solvers that go down and up again (2^24 calls and more); 120 vertices."""
+    owners, priorities_of = {"a": 1, "b": 0, "c": 1, "d": 0, "e": 0}, {"c": 4, "d": 3, "e": 5}
+    successors = {"a": [("b", 0)], "b": [("a", 0), ("c", 1)], "c": [("b", 0), ("d", 0)], "d": [("e", 0), ("d", -1)], "e": [("b", 1), ("d", 0)]}
+    lines = []
+    for i in range(24):
+        for x in "abcde":
+            priority = 3 * i + priorities_of[x] if x in priorities_of else 1 - i % 2
+            targets = [5 * (i + k) + "abcde".index(y) for y, k in successors[x] if 0 <= i + k < 24]
+            lines.append(f"{len(lines)} {priority} {(i + owners[x]) % 2} {','.join(map(str, targets))};\n")
+    return on_games("".join(lines))
+
+
+def names_of_games():
+    """One name of 16 MiB, and a number of so many digits."""
+    return on_games(f'0 0 0 0 "{"n" * (SIZE - 20)}";\n') + on_games(f'{"0" * (SIZE - 20)} 0 0 0;\n') + on_games("9" * SIZE)
+
+
+def certificates():
+    """Certificates of 16 MiB: right, wrong in the last line, cut short, with a count of a million digits, and compact."""
+    count = 790000
+    game = "".join(f"{v} {v % 5} {v % 2} {max(v - 1, 0)};\n" for v in range(count))
+    begun = [f"{v} 0 {'-' if v % 2 else max(v - 1, 0)}" for v in range(count)]
+    counts = [((v + 4) // 5, (v + 2) // 5) for v in range(count)]
+    start = f"vertices {count}\nodd 1 3\neven 0 2 4\n"
+    lines = [f"{line} {one} {three}\n" for line, (one, three) in zip(begun, counts)]
+    pairs = [f"{line}{f' 1:{one}' * (one > 0)}{f' 3:{three}' * (three > 0)}\n" for line, (one, three) in zip(begun, counts)]
+    right = f"psyncert 1\n{start}{''.join(lines)}"
+    last = right.removesuffix(lines[-1]) + lines[-1].replace(" 0 - ", " 0 7 ")
+    texts = [right, last, right[:-1], f"psyncert 1\n{start}0 0 0 {'1' * 1000000}\n", f"psyncert 2\n{start}{''.join(pairs)}"]
+    return [Run(command, (game, text)) for command in ("closed", "check") for text in texts]
+
+
+# Circuits and stimuli
+
+ONE_STATE = 'HOA: v1 Start: 0 controllable-AP: Acceptance: 0 t --BODY-- State: 0 [t] 0 --END--\n'
+
+
+def on_circuits(text, stimulus):
+    return [Run("sim", (text, stimulus)), Run("lasso", (ONE_STATE, text, "-\n" + stimulus))]
+
+
+def circuit(inputs, latches, outputs, gates, variables):
+    counts = f"aag {variables} {len(inputs)} {len(latches)} {len(outputs)} {len(gates)}\n"
+    return counts + "".join(f"{line}\n" for line in (*inputs, *latches, *outputs, *gates))
+
+
+def gates():
+    """Chains of gates, rising and falling, and one of them closed to a cycle."""
+    count = 620000
+    rising = [f"{2 * v} {2 * v - 1} {2 * v - 2}" for v in range(2, count)]
+    closed = [f"2 {2 * count - 2} 3", *rising]
+    runs = []
+    for listed, inputs_of in ((rising, ["2"]), (rising[::-1], ["2"]), (closed, [])):
+        runs += on_circuits(circuit(inputs_of, [], [str(2 * count - 2)], listed, count), "0\n1\n" if inputs_of else "\n\n")
+    return runs
+
+
+def latches():
+    """900,000 latches, each of which takes the next one's value."""
+    count = 900000
+    listed = [f"{2 * v} {2 * (v % count) + 2}" for v in range(1, count + 1)]
+    return on_circuits(circuit([], listed, [], [], count), "\n\n")
+
+
+def wires():
+    """Two million inputs, and a letter for them; then as many outputs, and symbols."""
+    count = 2000000
+    listed = [str(2 * v) for v in range(1, count + 1)]
+    few = 700000
+    symbols = circuit(listed[:few], [], [], [], few) + "".join(f"i{k} x{k}\n" for k in range(few))
+    named = circuit(["2"], [], [], [], 1) + f"i0 {'n' * (SIZE - 40)}\n"
+    runs = on_circuits(circuit(listed, [], [], [], count), "1" * count + "\n")
+    runs += on_circuits(circuit([], [], repeated("1", 8000000), [], 0), "\n") + on_circuits(symbols, "1" * few + "\n")
+    return runs + on_circuits(named, "1\n")
+
+
+def variables():
+    """130,000 variables that meet in a table with a fixed seed, as latches and as gates."""
+    found = [2 * int(number) for number in colliding(130000, 14, (1 << 31) - 1)]
+    most = (1 << 31) - 1
+    as_latches = circuit([], [f"{v} {w}" for v, w in zip(found, found[1:] + found[:1])], [], [], most)
+    as_gates = circuit([str(found[0])], [], [], [f"{v} {w} {w}" for v, w in zip(found[1:], found)], most)
+    return on_circuits(as_latches, "\n") + on_circuits(as_gates, "0\n")
+
+
+def stimuli():
+    """Letters without a digit, letters of one digit, and one letter of 16 MiB; to the limit of the input without a digit."""
+    none, one = circuit([], [], [], [], 0), circuit(["2"], [], ["2"], [], 1)
+    runs = on_circuits(none, "\n" * SIZE) + on_circuits(one, "1\n" * (SIZE // 2)) + on_circuits(one, "1" * SIZE + "\n")
+    return runs + [Run("sim", (none, "\n" * ((1 << 26) - 50)))]
+
+
+def letters_and_gates():
+    """A circuit of 20,000 gates and a stimulus of 20,000 letters: 400 million gates are worked out."""
+    count = 20000
+    rising = [f"{2 * v} {2 * v - 1} {2 * v - 2}" for v in range(2, count)]
+    return on_circuits(circuit(["2"], [], [str(2 * count - 2)], rising, count), "1\n0\n" * 10000)
+
+
+def counting():
+    """A circuit that counts through 40 latches: a lap of it comes again behind 2^40 laps."""
+    count, lines, gates_of, carry, top = 40, [], [], 1, 40
+    for v in range(1, count + 1):
+        if carry == 1:
+            lines.append(f"{2 * v} {2 * v + 1}")
+            carry = 2 * v
+            continue
+        both, neither, turned = 2 * top + 2, 2 * top + 4, 2 * top + 6
+        gates_of += [f"{both} {2 * v} {carry}", f"{neither} {2 * v + 1} {carry ^ 1}", f"{turned} {both + 1} {neither + 1}"]
+        lines.append(f"{2 * v} {turned}")
+        carry, top = both, top + 3
+    return [Run("lasso", (ONE_STATE, circuit([], lines, [], gates_of, top), "-\n\n"), True)]
+
+
+def inputs_at_the_limit():
+    """Inputs at, and above, the 64 MiB that are read."""
+    return [Run("solve", ("0 0 0 0;" + " " * ((1 << 26) - 100),)), Run("solve", (" " * (1 << 26),))]
+
+
+def first_lines():
+    """First lines of 16 MiB: one word, words of one letter, flags, blanks."""
+    lines = ["x" * SIZE, "x " * (SIZE // 2), "solve" + " --compact" * (SIZE // 10), "solve" + " " * SIZE, "synth --" + "c" * SIZE]
+    return [Run(line, ("0 0 0 0;",)) for line in lines]
+
+
+KINDS = (
+    label, wide_label, twined_label, condition, states, edges, equal_edges, inputs, cascades, nesting, comments, names, vertices, ids, priorities,
+    fan, ladder, names_of_games, certificates, gates, latches, wires, variables, stimuli, letters_and_gates, counting, inputs_at_the_limit, first_lines,
+)

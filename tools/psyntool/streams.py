@@ -1,0 +1,52 @@
+"""Spoils one read or write of a run, and tells which answers are right then. tools/refuse-streams says what is spoiled."""
+import os
+import subprocess
+import tempfile
+
+READ_FAULT = (b"fault 25 ReadFault\n", 1)
+SECONDS = 60
+WAYS = ("fails", "interrupted", "one", "none")
+
+
+def run(program, shim, path, number, way):
+    """What the program writes, with its status, and the letters of its calls: R or W for one that was spoiled."""
+    with open(path, "rb") as text, tempfile.TemporaryFile() as calls:
+        told = {"SPOILED_CALL": str(number), "SPOILED_HOW": way, "SPOILED_TELLS": str(calls.fileno())}
+        done = subprocess.run(
+            [program],
+            stdin=text,
+            stdout=subprocess.PIPE,
+            env={**os.environ, "LD_PRELOAD": shim, **told},
+            pass_fds=[calls.fileno()],
+            timeout=SECONDS,
+            check=False,
+        )
+        calls.seek(0)
+        return (done.stdout, done.returncode), calls.read().decode()
+
+
+def is_right(way, calls, answer, expected):
+    """Whether that is the answer where one call was spoiled, by the letters of the calls."""
+    spoiled = [place for place, letter in enumerate(calls) if letter.isupper()]
+    if way == "one" or not spoiled:
+        return answer == expected
+    behind = calls[spoiled[0] + 1 :]
+    if calls[spoiled[0]] == "R":
+        return answer == READ_FAULT and "r" not in behind
+    return answer[1] == 1 and expected[0].startswith(answer[0]) and not behind
+
+
+def sweep(program, shim, path, expected):
+    """How many calls were spoiled, and the wrong answers: the way, the number of the call, the letters and the answer."""
+    spoiled, wrong = 0, []
+    for way in WAYS:
+        # Each call in turn, until a run ends before the one that was to be spoiled; and, by one byte, each call of one run.
+        numbers = [0] if way == "one" else []
+        calls = run(program, shim, path, 0, "not")[1]
+        numbers += range(1, len(calls) + 2)
+        for number in numbers:
+            answer, calls = run(program, shim, path, number, way)
+            spoiled += any(letter.isupper() for letter in calls)
+            if not is_right(way, calls, answer, expected):
+                wrong.append((way, number, calls, answer))
+    return spoiled, wrong

@@ -1,0 +1,74 @@
+"""Where a read or a write of psyn fails, and that tools/refuse-streams sees a program that goes on."""
+import os
+import shutil
+import subprocess
+import tempfile
+import unittest
+
+from psyntool import streams, sweeps
+
+from tests.test_faults import TOP, built
+
+ANSWER = (b"closed\n", 0)
+CARELESS = """\
+#include <errno.h>
+#include <stdio.h>
+#include <unistd.h>
+
+/* Reads again where a read was interrupted, and does not look at what its write answers. */
+int main(void) {
+    char byte[1];
+    for (;;) {
+        ssize_t count = read(0, byte, 1);
+        if (count == 0 || (count < 0 && errno != EINTR))
+            break;
+    }
+    (void)!write(1, "closed\\n", 7);
+    return 0;
+}
+"""
+
+
+class Rules(unittest.TestCase):
+    def test_a_failed_read_is_a_read_fault_and_nothing_is_read_behind_it(self):
+        self.assertTrue(streams.is_right("fails", "rRw", streams.READ_FAULT, ANSWER))
+        self.assertFalse(streams.is_right("fails", "rRrw", streams.READ_FAULT, ANSWER))
+        self.assertFalse(streams.is_right("interrupted", "rRw", ANSWER, ANSWER))
+
+    def test_a_failed_write_leaves_a_beginning_and_nothing_is_written_behind_it(self):
+        self.assertTrue(streams.is_right("fails", "rrwW", (b"clo", 1), ANSWER))
+        self.assertFalse(streams.is_right("fails", "rrW", (b"", 0), ANSWER))
+        self.assertFalse(streams.is_right("fails", "rrW", (b"lo", 1), ANSWER))
+        self.assertFalse(streams.is_right("none", "rrWw", (b"closed\n", 1), ANSWER))
+
+    def test_one_byte_changes_nothing(self):
+        self.assertTrue(streams.is_right("one", "Rrrw", ANSWER, ANSWER))
+        self.assertFalse(streams.is_right("one", "Rrrw", (b"", 1), ANSWER))
+
+
+@unittest.skipUnless(shutil.which("cc"), "there is no cc")
+class Sweeps(unittest.TestCase):
+    def test_a_careless_program_is_seen(self):
+        with tempfile.TemporaryDirectory() as room, sweeps.library("refuse_stream.c") as shim:
+            source, program, text = (os.path.join(room, name) for name in ("careless.c", "careless", "text"))
+            for path, content in ((source, CARELESS), (text, "ab")):
+                with open(path, "w", encoding="utf-8") as file:
+                    file.write(content)
+            subprocess.run(["cc", "-o", program, source], check=True)
+            spoiled, wrong = streams.sweep(program, shim, text, ANSWER)
+        ways = [(way, number) for way, number, _, _ in wrong]
+        # Three reads and a write: the reads that fail end in an answer, and so do those that are made again.
+        self.assertEqual(ways, [(way, number) for way in ("fails", "interrupted") for number in (1, 2, 3, 4)] + [("one", 0), ("one", 4), ("none", 4)])
+        self.assertEqual(spoiled, 4 + 4 + 5 + 1)
+
+    @unittest.skipUnless(built(), "psyn is not built")
+    def test_each_example_meets_each_spoiled_call(self):
+        folder = os.path.join(TOP, "examples")
+        with sweeps.library("refuse_stream.c") as shim:
+            for name, expected in sweeps.inputs_of(folder).items():
+                with self.subTest(name):
+                    self.assertEqual(streams.sweep(built(), shim, os.path.join(folder, name), expected)[1], [])
+
+
+if __name__ == "__main__":
+    unittest.main()
