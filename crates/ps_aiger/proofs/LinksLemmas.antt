@@ -1,66 +1,69 @@
 -- Links stand for the gates that a gate reads.
-use Rattle.std.proofs.Common.{◌≡◌, ◌≢◌, ℕ, ◌+◌, ◌<◌, IfSome, inl, inr, List, [], ◌∷◌, ◌++◌, map, length, get_or, refl, sym, ap, subst, ◌∙◌, arith, Bool, true, false, cond, nat_eq, Some, None, Option, slice_get, suc, zero, ◌⊎◌, AllPairs, length-append, option_map}
-use Rattle.std.proofs.lemmas.Option.{slice_get_within, slice_get-map, get_or_from_slice_get}
-use Rattle.std.proofs.lemmas.List.{length-map, get_or-map, get_or-append-add}
-use Rattle.std.proofs.lemmas.Bool.{cases_eq, cases_lt, eq-eqb, eqb-true}
+use Rattle.std.proofs.Common.{◌≡◌, ◌≢◌, ℕ, ◌+◌, ◌<◌, IfSome, inl, inr, List, [], ◌∷◌, ◌++◌, map, length, get_or, refl, sym, ap, ap₂, subst, ◌∙◌, arith, nat_eq, Some, None, Option, slice_get, suc, zero, ◌⊎◌, AllPairs, Contains, take, length-append, option_map}
+use Rattle.std.proofs.lemmas.Option.{slice_get_within, slice_get-map, slice_get-get_or, get_or_from_slice_get}
+use Rattle.std.proofs.lemmas.List.{length-map, get_or-map, get_or-append-add, map-append, take_more}
+use Rattle.std.proofs.lemmas.List.Quantifiers.{position-Some}
+use Rattle.std.proofs.lemmas.Bool.{eqb-true}
 use Rattle.ps_aiger.specs.declared.links.Links.{Links}
 use Rattle.ps_aiger.specs.declared.parts.Gate.{Gate}
 use Rattle.ps_components.specs.Graphs.{Way, Link, IsWithin}
 use Rattle.ps_components.specs.Orders.{IsOrder, IsFirstOnCycle}
 use Rattle.ps_aiger.specs.Circuits.{CircuitData, variable, definitions, Reads}
-use Rattle.ps_aiger.specs.Drafts.{ArePlaces, links_by}
+use Rattle.ps_aiger.specs.Drafts.{links_by, place_in}
+use Rattle.ps_ids.specs.Ids.{AreDistinct}
+use Rattle.ps_ids.proofs.IdPlaces.{position_here}
+use Rattle.ps_ids.proofs.Members.{absent_before}
 use Rattle.ps_aiger.specs.GateGraphs.{side_of, target_of, graph_of, AreLinksOf}
 use Rattle.ps_components.proofs.Ways.{Way-map}
 
-eqb_false : (a b : ℕ) → (a ≡ b → ⊥) → nat_eq a b ≡ false
-eqb_false a b ne = which (nat_eq a b) refl
-  where
-    which : (x : Bool) → nat_eq a b ≡ x → nat_eq a b ≡ false
-    which true e = absurd (ne (eqb-true a b e))
-    which false e = e
+no_gate : Gate
+no_gate = record { literal = 0; first = 0; second = 0 }
 
--- one more gate
-pub places-more : (gates : List Gate) (i : ℕ) (g : Gate) (old new : ℕ → Option ℕ) → AllPairs (λ g h. variable g.literal ≢ variable h.literal) gates → slice_get gates i ≡ Some g → ((q : ℕ) → new q ≡ cond (nat_eq (variable g.literal) q) (Some i) (old q)) → ArePlaces gates i old → ArePlaces gates (i + 1) new
-places-more gates i g old new once at_i updates a = record {
-  back = λ v k h. elim (cases_eq (variable g.literal) v) [
-    | inl e ↦ (let now = sym (updates v) ∙ h in let test = eq-eqb (variable g.literal) v e in let k_is : i ≡ k = some_is (cond_true v k test (old v) now) in (g, subst (λ x. slice_get gates x ≡ Some g) k_is at_i, e))
-    | inr ne ↦ a.back v k (cond_false v k ne (sym (updates v) ∙ h))
-  ];
-  forth = λ k h at_k lt. elim (cases_eq (variable g.literal) (variable h.literal)) [
-    | inl e ↦ (let test = eq-eqb (variable g.literal) (variable h.literal) e in updates (variable h.literal) ∙ (rw test (ap Some (same_place k h at_k lt e))))
-    | inr ne ↦ updates (variable h.literal) ∙ when_not (variable h.literal) ne ∙ a.forth k h at_k (elim (cases_lt k i) [ inl less ↦ less | inr le ↦ absurd (ne (ap (λ x. variable x.literal) (gate_at k h at_k (omega arith)))) ])
-  ];
-}
-  where
-    some_is : {m n : ℕ} → Some m ≡ Some n → m ≡ n
-    some_is e = cc
+-- the places of the gates by their variables
+record ArePlaces (gates : List Gate) (place_of : ℕ → Option ℕ) : Type 0 where
+  back : (v k : ℕ) → place_of v ≡ Some k → (g : Gate) × (slice_get gates k ≡ Some g) × (variable g.literal ≡ v)
+  forth : (k : ℕ) (g : Gate) → slice_get gates k ≡ Some g → place_of (variable g.literal) ≡ Some k
 
-    cond_true : (v k : ℕ) → nat_eq (variable g.literal) v ≡ true → (o : Option ℕ) → cond (nat_eq (variable g.literal) v) (Some i) o ≡ Some k → Some i ≡ Some k
-    cond_true v k test o h = rw test at h
+abbrev pub gate_variables : List Gate → List ℕ
+gate_variables gates = map (λ g. variable g.literal) gates
 
-    cond_false : (v k : ℕ) → (variable g.literal ≡ v → ⊥) → cond (nat_eq (variable g.literal) v) (Some i) (old v) ≡ Some k → old v ≡ Some k
-    cond_false v k ne h = rw (eqb_false (variable g.literal) v ne) at h
+-- gates of different variables
+module _ (gates : List Gate) (once : AllPairs (λ g h. variable g.literal ≢ variable h.literal) gates) where
+  many : length (gate_variables gates) ≡ length gates
+  many = length-map gates (λ g. variable g.literal)
 
-    when_not : (v : ℕ) → (variable g.literal ≡ v → ⊥) → cond (nat_eq (variable g.literal) v) (Some i) (old v) ≡ old v
-    when_not v ne = rw (eqb_false (variable g.literal) v ne)
+  variable_at : (k d : ℕ) (g : Gate) → k < length gates → get_or (gate_variables gates) k d ≡ variable (get_or gates k g).literal
+  variable_at k d g l = get_or-map (λ h. variable h.literal) gates k g d l
 
-    gate_at : (k : ℕ) (h : Gate) → slice_get gates k ≡ Some h → k ≡ i → g ≡ h
-    gate_at k h at_k e = (let there : slice_get gates i ≡ Some h = subst (λ x. slice_get gates x ≡ Some h) e at_k in cc)
+  apart : AreDistinct (gate_variables gates)
+  apart i j d less l e =
+      let below : j < length gates = omega (arith, many) in
+      once i j no_gate less below (sym (variable_at i d no_gate (omega arith)) ∙ e ∙ variable_at j d no_gate below)
 
-    same_place : (k : ℕ) (h : Gate) → slice_get gates k ≡ Some h → k < i + 1 → variable g.literal ≡ variable h.literal → i ≡ k
-    same_place k h at_k lt e =
-        elim (cases_lt k i) [
-          | inl less ↦ absurd (once k i g less (slice_get_within gates i g at_i)
-              (ap (λ x. variable x.literal) (get_or_from_slice_get gates k h g at_k) ∙ sym e ∙ sym (ap (λ x. variable x.literal) (get_or_from_slice_get gates i g g at_i))))
-          | inr le ↦ omega arith
-        ]
+  pub variable_fresh : (k : ℕ) (g : Gate) → k < length gates → Contains (take k (gate_variables gates)) (variable (get_or gates k g).literal) → ⊥
+  variable_fresh k g l = subst (λ v. Contains (take k (gate_variables gates)) v → ⊥) (variable_at k 0 g l) (absent_before (gate_variables gates) k apart (omega (arith, many)))
+
+  pub variables_more : (k : ℕ) (g : Gate) → k < length gates → take (k + 1) (gate_variables gates) ≡ take k (gate_variables gates) ++ variable (get_or gates k g).literal ∷ []
+  variables_more k g l = take_more (gate_variables gates) k 0 (omega (arith, many)) ∙ ap (λ v. take k (gate_variables gates) ++ v ∷ []) (variable_at k 0 g l)
+
+  are_places : ArePlaces gates (place_in (gate_variables gates))
+  are_places = record {
+    back = λ v k e.
+        let at = position-Some (λ other. nat_eq v other) (gate_variables gates) k 0 e in
+        let within : k < length gates = omega (arith, many, at.0) in
+        (get_or gates k no_gate, slice_get-get_or gates k no_gate within, sym (variable_at k 0 no_gate within) ∙ sym (eqb-true v _ at.1));
+    forth = λ k g at.
+        let within : k < length gates = slice_get_within gates k g at in
+        position_here (gate_variables gates) (variable g.literal) k apart (omega (arith, many))
+        (variable_at k 0 no_gate within ∙ ap (λ h. variable h.literal) (get_or_from_slice_get gates k g no_gate at));
+  }
 
 length-links_by : (place_of : ℕ → Option ℕ) (gates : List Gate) → length (links_by place_of gates) ≡ length gates
 length-links_by place_of [] = refl
 length-links_by place_of (g ∷ gates) = ap suc (length-links_by place_of gates)
 
 -- the links by the places of all gates
-pub links-by_places : (gates : List Gate) (place_of : ℕ → Option ℕ) (links : List Links) → ArePlaces gates (length gates) place_of → links ≡ links_by place_of gates → AreLinksOf gates links
+links-by_places : (gates : List Gate) (place_of : ℕ → Option ℕ) (links : List Links) → ArePlaces gates place_of → links ≡ links_by place_of gates → AreLinksOf gates links
 links-by_places gates place_of links a e = record {
   each = ap length e ∙ length-links_by place_of gates;
   link_reads = λ i j l. reads i j (subst (λ ls. Link (graph_of ls) i j) e l);
@@ -92,9 +95,27 @@ links-by_places gates place_of links a e = record {
         let at : slice_get (links_by place_of gates) i ≡ Some sides = slice_get-map _ gates i ∙ (rw r.at_i) in
         let from : i < length (links_by place_of gates) = slice_get_within (links_by place_of gates) i sides at in
         elim r.side [
-          | inl e ↦ record { from = from; place = 0; at = omega arith; target = ap (λ o. target_of o 0) at ∙ ap place_of e ∙ a.forth j r.read r.at_j (slice_get_within gates j _ r.at_j) }
-          | inr e ↦ record { from = from; place = 1; at = omega arith; target = ap (λ o. target_of o 1) at ∙ ap place_of e ∙ a.forth j r.read r.at_j (slice_get_within gates j _ r.at_j) }
+          | inl e ↦ record { from = from; place = 0; at = omega arith; target = ap (λ o. target_of o 0) at ∙ ap place_of e ∙ a.forth j r.read r.at_j }
+          | inr e ↦ record { from = from; place = 1; at = omega arith; target = ap (λ o. target_of o 1) at ∙ ap place_of e ∙ a.forth j r.read r.at_j }
         ]
+
+abbrev sides : Option ℕ → Option ℕ → Links
+sides first second = record { first = first; second = second }
+
+-- the links of one gate more
+pub links_by-more : (variables : List ℕ) (gates : List Gate) (k : ℕ) (g : Gate) (links more : List Links) (first second : Option ℕ) → k < length gates →
+    links ≡ links_by (place_in variables) (take k gates) → more ≡ links ++ record { first = first; second = second } ∷ [] →
+    first ≡ place_in variables (variable (get_or gates k g).first) → second ≡ place_in variables (variable (get_or gates k g).second) →
+    more ≡ links_by (place_in variables) (take (k + 1) gates)
+links_by-more variables gates k g links more first second l before e at_first at_second =
+    e ∙ ap₂ (λ (ls : List Links) (made : Links). ls ++ made ∷ []) before (ap₂ sides at_first at_second)
+    ∙ sym (ap (links_by (place_in variables)) (take_more gates k g l) ∙ map-append (λ h. sides (place_in variables (variable h.first)) (place_in variables (variable h.second))) (take k gates) (get_or gates k g ∷ []))
+
+-- the links by the places of the gates' variables
+pub links-by_variables : (gates : List Gate) (variables : List ℕ) (links : List Links) → AllPairs (λ g h. variable g.literal ≢ variable h.literal) gates →
+    variables ≡ gate_variables gates → links ≡ links_by (place_in variables) gates → AreLinksOf gates links
+links-by_variables gates variables links once are e =
+    links-by_places gates (place_in (gate_variables gates)) links (are_places gates once) (e ∙ ap (λ vs. links_by (place_in vs) gates) are)
 
 module _ (gates : List Gate) (links : List Links) (a : AreLinksOf gates links) where
   pub links_within : IsWithin (graph_of links)

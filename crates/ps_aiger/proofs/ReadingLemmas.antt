@@ -1,14 +1,11 @@
 -- Lemmas of the reader.
-use Rattle.std.proofs.Common.{◌≡◌, ◌≢◌, ℕ, ◌+◌, ◌^◌, ◌<◌, ◌≤◌, ◌⊎◌, inr, List, [], ◌∷◌, ◌++◌, Bool, true, false, not, ◌||◌, nat_eq, map, length, take, drop, get_or, set, zero, suc, refl, sym, ap, subst, ◌∙◌, arith, Some, Option, All, AllPairs, Contains, append-nil, append_assoc, flat_map, Vec}
-use Rattle.std.specs.List.{list_any}
+use Rattle.std.proofs.Common.{◌≡◌, ◌≢◌, ℕ, ◌+◌, ◌^◌, ◌<◌, ◌≤◌, ◌⊎◌, List, [], ◌∷◌, ◌++◌, Bool, true, false, map, length, take, drop, get_or, set, suc, refl, sym, ap, subst, ◌∙◌, arith, Some, Option, All, AllPairs, Contains, append-nil, append_assoc, flat_map, Vec}
 use Rattle.std.proofs.lemmas.List.{length-map, get_or-map, map-append, map-set}
-use Rattle.std.proofs.lemmas.Bool.{eq-eqb}
 use Rattle.std.proofs.lemmas.Option.{slice_get_within, slice_get-get_or}
 use Rattle.std.proofs.Math.Seq.{drop-cons}
-use Rattle.std.proofs.lemmas.List.Elements.{All-append, All-push, All-set}
+use Rattle.std.proofs.lemmas.List.Elements.{All-append, All-push, All-set, Contains-get_or}
 use Rattle.std.proofs.lemmas.List.Quantifiers.{all_pairs_push}
 use Rattle.std.specs.Global.{Global}
-use Rattle.indexmap.specs.IndexSet.{insert_key}
 use Rattle.ps_aiger.specs.declared.parts.Gate.{Gate}
 use Rattle.ps_components.specs.Graphs.{Way, last, next}
 use Rattle.ps_aiger.specs.Circuits.{CircuitData, variable, definitions, readings, IsDefinition, IsName, IsDraft, Reads}
@@ -24,25 +21,10 @@ use Rattle.ps_aiger.specs.declared.cursor.Number.{Number}
 use Rattle.std.specs.Bool.{OnTrue}
 use Rattle.std.proofs.lemmas.List.{take_more, take_all, take-append-drop}
 use Rattle.std.proofs.lemmas.List.Concat.{flat_map-append}
-use Rattle.indexmap.proofs.CallerLemmas.{Contains-list_any}
-use Rattle.std.proofs.lemmas.Bool.{eqb-true}
 
-or_false_right : (a b : Bool) → (a || b) ≡ false → b ≡ false
-or_false_right true b h = cc
-or_false_right false b h = h
-
-absent : (ks : List ℕ) (v : ℕ) → list_any (nat_eq v) ks ≡ false → (k d : ℕ) → k < length ks → get_or ks k d ≡ v → ⊥
-absent [] v h k d lt e = omega arith
-absent (x ∷ xs) v h zero d lt e = (let test = eq-eqb v x (sym e) in let no = rw test at h in cc)
-absent (x ∷ xs) v h (suc k) d lt e = absent xs v (or_false_right (nat_eq v x) (list_any (nat_eq v) xs) h) k d (omega arith) e
-
--- a key that is new goes behind the others
-pub new_key : (old new : List ℕ) (v : ℕ) → new ≡ insert_key nat_eq old v → true ≡ not (list_any (nat_eq v) old) → AddsVariable old v new
-new_key old new v e test = by (list_any (nat_eq v) old) refl
-  where
-    by : (b : Bool) → list_any (nat_eq v) old ≡ b → AddsVariable old v new
-    by true is = (let no = rw is at test in cc)
-    by false is = record { behind = e ∙ (rw is); fresh = λ k d lt h. absent old v is k d lt h }
+-- a variable that is none of those goes behind them
+pub adds_variable : (old new : List ℕ) (v : ℕ) → new ≡ old ++ v ∷ [] → (Contains old v → ⊥) → AddsVariable old v new
+adds_variable old new v e none = record { behind = e; fresh = λ k d l h. none (subst (λ x. Contains old x) h (Contains-get_or old k d l)) }
 
 pub defines_one : (most literal : ℕ) (old new : List ℕ) → IsDefinition most literal → AddsVariable old (variable literal) new → Defines most old (literal ∷ []) new
 defines_one most literal old new fits adds = record {
@@ -106,10 +88,6 @@ pub at_true : (b : Bool) (P : Type 0) → b ≡ true → OnTrue b P → P
 at_true true P e h = h
 at_true false P e h = cc
 
-pub new_key_on : (old new : List ℕ) (v : ℕ) (b : Bool) → new ≡ insert_key nat_eq old v → b ≡ not (list_any (nat_eq v) old) → OnTrue b (AddsVariable old v new)
-new_key_on old new v true e t = new_key old new v e t
-new_key_on old new v false e t = tt
-
 pub reads_more : {X : Type 0} (f : X → ℕ) (xs ys : List X) (x : X) (start now then : List ℕ) → ys ≡ xs ++ x ∷ [] → now ≡ start ++ map f xs → then ≡ now ++ f x ∷ [] → then ≡ start ++ map f ys
 reads_more f xs ys x start now then e h k =
     k ∙ ap (λ zs. zs ++ f x ∷ []) h ∙ append_assoc start (map f xs) (f x ∷ []) ∙ ap (λ zs. start ++ zs) (sym (map-append f xs (x ∷ []))) ∙ ap (λ zs. start ++ map f zs) (sym e)
@@ -130,9 +108,6 @@ known_more variables fields i d lt h k = subst (λ fs. All (λ f. IsKnownIn vari
 pub known_all : (variables : List ℕ) (fields : List Number) (i : ℕ) → length fields ≤ i → All (λ f. IsKnownIn variables f.value) (take i fields) → All (λ f. IsKnownIn variables f.value) fields
 known_all variables fields i le h = subst (λ fs. All (λ f. IsKnownIn variables f.value) fs) (take_all i fields le) h
 
-pub contains_true : (variables : List ℕ) (v : ℕ) (b : Bool) → b ≡ list_any (nat_eq v) variables → b ≡ true → (v ≡ 0) ⊎ Contains variables v
-contains_true variables v b e t = inr (Contains-list_any nat_eq (λ x y h. eqb-true x y h) variables v (sym e ∙ t))
-
 -- the first of these that is not defined
 pub first_undefined : (variables : List ℕ) (readings : List Number) (i : ℕ) (d : Number) → i < length readings → All (IsDefined variables) (take i readings) → (IsDefined variables (get_or readings i d) → ⊥) → IsFirstUndefined variables readings (get_or readings i d)
 first_undefined variables readings i d l h n = record { before = take i readings; after = drop (suc i) readings; split = sym (take-append-drop i readings) ∙ ap (λ xs. take i readings ++ xs) (drop-cons readings i d l); before_defined = h; not_defined = n }
@@ -144,10 +119,3 @@ cyclic_tells gates starts i f e first l is same = subst (λ x. TellsCyclic gates
 pub name_set : (names : List (Option (Vec ℕ Global))) (i : ℕ) (name : List ℕ) (v : Vec ℕ Global) → All IsName (map name_bytes names) → v.items ≡ name → 0 < length name → All (λ b. b ≢ 10) name → All IsName (map name_bytes (set names i (Some v)))
 name_set names i name v h e full plain =
     names_set names i v h (subst (λ xs. 0 < length xs) (sym e) full) (subst (λ xs. All (λ b. b ≢ 10) xs) (sym e) plain)
-
-pub twice_of : (old : List ℕ) (v : ℕ) (b : Bool) → b ≡ not (list_any (nat_eq v) old) → b ≡ false → Contains old v
-twice_of old v b e f = go (list_any (nat_eq v) old) refl (sym e ∙ f)
-  where
-    go : (x : Bool) → list_any (nat_eq v) old ≡ x → not x ≡ false → Contains old v
-    go true t h = Contains-list_any nat_eq (λ x y h. eqb-true x y h) old v t
-    go false t h = absurd cc

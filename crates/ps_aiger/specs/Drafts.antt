@@ -1,5 +1,5 @@
 -- What a contract sees of the parts of a circuit.
-use Rattle.std.specs.Prelude.{◌≡◌, ℕ, ◌<◌, List, map, slice_get, Option, Some, Vec}
+use Rattle.std.specs.Prelude.{ℕ, ◌==◌, List, map, position, Option, Vec}
 use Rattle.std.specs.Option.{option_map}
 use Rattle.std.specs.Global.{Global}
 use Rattle.ps_aiger.specs.declared.parts.Gate.{Gate}
@@ -22,11 +22,10 @@ data_of p = record {
   output_names = map name_bytes p.output_names.items;
 }
 
+-- the place of a variable, if it is one of these
+abbrev pub place_in : List ℕ → ℕ → Option ℕ
+place_in variables v = position (λ other. v == other) variables
+
 -- place by place, the gates that each gate reads
 abbrev pub links_by : (ℕ → Option ℕ) → List Gate → List Links
 links_by place_of gates = map (λ g. record { first = place_of (variable g.first); second = place_of (variable g.second) }) gates
-
--- the places of the first n gates by their variables
-pub record ArePlaces (gates : List Gate) (n : ℕ) (place_of : ℕ → Option ℕ) : Type 0 where
-  pub back : (v k : ℕ) → place_of v ≡ Some k → (g : Gate) × (slice_get gates k ≡ Some g) × (variable g.literal ≡ v)
-  pub forth : (k : ℕ) (g : Gate) → slice_get gates k ≡ Some g → k < n → place_of (variable g.literal) ≡ Some k

@@ -63,7 +63,7 @@ TellsHeader old (Err e) new = Stops aig_causes header old (found_of e)
 -- ## Number lines
 
 abbrev pub lines_of : {A : Type 0} → List A → Noted → Lines A
-lines_of items noted = record { items = items; defined = noted.variables.keys; readings = noted.readings.items; starts = noted.starts.items }
+lines_of items noted = record { items = items; defined = noted.variables; readings = noted.readings.items; starts = noted.starts.items }
 
 -- a line more of each kind; a literal that defines its variable is new
 pub record AddsInput (most : ℕ) (c d : Lines ℕ) : Type 0 where
@@ -101,7 +101,7 @@ pub record IsSoundDraft (d : DraftData) : Type 0 where
   pub starts : length d.starts ≡ length d.circuit.gates
 
 abbrev pub draft_data : Draft → DraftData
-draft_data d = record { circuit = data_of d.parts; defined = d.noted.variables.keys; readings = d.noted.readings.items; starts = d.noted.starts.items }
+draft_data d = record { circuit = data_of d.parts; defined = d.noted.variables; readings = d.noted.readings.items; starts = d.noted.starts.items }
 
 abbrev pub FoundAnswers : List ℕ → Option (Found AigCause) → Type 0
 FoundAnswers text None = Unit {0}

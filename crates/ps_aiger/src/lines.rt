@@ -15,13 +15,13 @@ use crate::cursor::{Cursor, Number};
 use crate::fault::{AigCause, AigFault};
 use crate::header::field;
 use crate::parts::{Gate, Latch};
-use indexmap::IndexSet;
+use ps_ids::Ids;
 use std::alloc::Global;
 
 /// The variables that were defined, the literals that were read, and the offset of each gate's line, in the text's order.
 #[derive(Drop)]
 pub struct Noted {
-    pub variables: IndexSet<u64>,
+    pub variables: Ids,
     pub readings: Vec<Number>,
     pub starts: Vec<usize>,
 }
@@ -34,25 +34,24 @@ fn can_define(literal: u64, most: u32) -> bool
 }
 
 /// Notes that a variable is defined, and says whether that is new.
-fn adds(variables: &mut IndexSet<u64>, variable: u64) -> Result<bool, AigFault>
-    ensures new { IfOk result (λ new. OnTrue new (AddsVariable variables.old.keys variable variables.new.keys)) }
-    ensures twice { result ≡ Ok false → Contains variables.old.keys variable }
+fn adds(variables: &mut Ids, variable: u64) -> Result<bool, AigFault>
+    ensures new { IfOk result (λ new. OnTrue new (AddsVariable variables.old variable variables.new)) }
+    ensures twice { result ≡ Ok false → Contains variables.old variable }
     ensures memory { IfErr result (λ e. e ≡ OutOfMemory) }
 {
-    let new = variables.insert(variable)?;
-    Ok(new)
+    if variables.has(variable) {
+        return Ok(false);
+    }
+    variables.push(variable)?;
+    Ok(true)
 }
 
 /// Reads a literal that defines its variable.
-fn definition(
-    cursor: &mut Cursor,
-    variables: &mut IndexSet<u64>,
-    most: u32,
-) -> Result<Number, AigFault>
+fn definition(cursor: &mut Cursor, variables: &mut Ids, most: u32) -> Result<Number, AigFault>
     requires { most < 2 ^ 31 }
-    ensures exact { Tells (λ n. n) (signs.number (WrongDefinition most variables.old.keys)) cursor.old result cursor.new }
+    ensures exact { Tells (λ n. n) (signs.number (WrongDefinition most variables.old)) cursor.old result cursor.new }
     ensures small { IfOk result (λ n. n.value < 2 ^ 32) }
-    ensures defined { IfOk result (λ n. Defines most variables.old.keys (n.value ∷ []) variables.new.keys) }
+    ensures defined { IfOk result (λ n. Defines most variables.old (n.value ∷ []) variables.new) }
 {
     let number = cursor.number()?;
     if !can_define(number.value, most) {

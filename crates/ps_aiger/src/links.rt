@@ -1,13 +1,12 @@
 //! Which gates read which.
 
-ghost use Rattle.std.specs.Prelude.{◌≡◌, ◌≢◌, ℕ, length, IfOk, AllPairs, nat_eq};
+ghost use Rattle.std.specs.Prelude.{◌≡◌, ◌≢◌, IfOk, AllPairs, map};
 ghost use Rattle.ps_aiger.specs.Circuits.{variable};
-ghost use Rattle.ps_aiger.specs.Drafts.{ArePlaces, links_by};
+ghost use Rattle.ps_aiger.specs.Drafts.{links_by, place_in};
 ghost use Rattle.ps_aiger.specs.GateGraphs.{AreLinksOf};
-ghost use Rattle.indexmap.specs.IndexMap.{get};
 
 use crate::parts::Gate;
-use indexmap::IndexMap;
+use ps_ids::Ids;
 use std::alloc::{AllocError, Global};
 
 /// The places of the gates that a gate reads.
@@ -22,36 +21,33 @@ pub fn links_of(alloc: Global, gates: &[Gate]) -> Result<Vec<Links>, AllocError>
     requires once { AllPairs (λ g h. variable g.literal ≢ variable h.literal) gates.now }
     ensures { IfOk result (λ links. AreLinksOf gates.now links.items) }
 {
-    let places = places_of(alloc, gates)?;
-    let links = links_to(alloc, gates, &places)?;
+    let variables = variables_of(alloc, gates)?;
+    let links = links_to(alloc, gates, &variables)?;
     Ok(links)
 }
 
-/// The place of the gate of each variable.
-fn places_of(alloc: Global, gates: &[Gate]) -> Result<IndexMap<u32, usize>, AllocError>
+/// The variables of the gates, in order.
+fn variables_of(alloc: Global, gates: &[Gate]) -> Result<Ids, AllocError>
     requires once { AllPairs (λ g h. variable g.literal ≢ variable h.literal) gates.now }
-    ensures { IfOk result (λ places. ArePlaces gates.now (length gates.now) (get nat_eq places)) }
+    ensures { IfOk result (λ variables. variables ≡ map (λ g. variable g.literal) gates.now) }
 {
-    let mut places = IndexMap::new(alloc);
-    for (place, gate) in gates.iter().enumerate() {
-        let _ = places.insert(gate.literal / 2, place)?;
+    let first = gates.first().map_or(0, |gate| gate.literal / 2);
+    let mut variables = Ids::starting_at(alloc, u64::from(first));
+    for gate in gates {
+        variables.push(u64::from(gate.literal / 2))?;
     }
-    Ok(places)
+    Ok(variables)
 }
 
 /// The links of the gates, by the places of their variables.
-fn links_to(
-    alloc: Global,
-    gates: &[Gate],
-    places: &IndexMap<u32, usize>,
-) -> Result<Vec<Links>, AllocError>
-    ensures { IfOk result (λ links. links.items ≡ links_by (get nat_eq places.now) gates.now) }
+fn links_to(alloc: Global, gates: &[Gate], variables: &Ids) -> Result<Vec<Links>, AllocError>
+    ensures { IfOk result (λ links. links.items ≡ links_by (place_in variables.now) gates.now) }
 {
     let mut links = Vec::new(alloc);
     for gate in gates {
         links.push(Links {
-            first: places.get(&(gate.first / 2)).copied(),
-            second: places.get(&(gate.second / 2)).copied(),
+            first: variables.place(u64::from(gate.first / 2)),
+            second: variables.place(u64::from(gate.second / 2)),
         })?;
     }
     Ok(links)

@@ -18,7 +18,7 @@ use crate::header::read_header;
 use crate::lines::{Noted, gates, inputs, latches, outputs};
 use crate::names::{Names, comment, symbols};
 use crate::parts::Parts;
-use indexmap::IndexSet;
+use ps_ids::Ids;
 use std::alloc::Global;
 
 /// What was read of a text.
@@ -51,7 +51,7 @@ fn read_draft(alloc: Global, text: &[u8]) -> Result<Draft, AigFault>
     let mut cursor = Cursor::new(text);
     let header = read_header(&mut cursor)?;
     let mut noted = Noted {
-        variables: IndexSet::new(alloc),
+        variables: Ids::starting_at(alloc, 1),
         readings: Vec::new(alloc),
         starts: Vec::new(alloc),
     };
@@ -77,7 +77,7 @@ fn read_draft(alloc: Global, text: &[u8]) -> Result<Draft, AigFault>
 
 /// Refuses the first literal whose variable is neither defined nor 0.
 fn all_defined(noted: &Noted) -> Result<(), AigFault>
-    ensures { TellsDefined noted.now.variables.keys noted.now.readings.items result }
+    ensures { TellsDefined noted.now.variables noted.now.readings.items result }
 {
     for &number in &noted.readings {
         if !is_defined(&noted.variables, number.value / 2) {
@@ -88,11 +88,11 @@ fn all_defined(noted: &Noted) -> Result<(), AigFault>
 }
 
 /// Whether the variable is 0 or one of these.
-fn is_defined(variables: &IndexSet<u64>, variable: u64) -> bool
-    ensures defined { IsTrue result → (variable ≡ 0) ⊎ Contains variables.now.keys variable }
-    ensures not_defined { result ≡ false → (variable ≡ 0) ⊎ Contains variables.now.keys variable → ⊥ }
+fn is_defined(variables: &Ids, variable: u64) -> bool
+    ensures defined { IsTrue result → (variable ≡ 0) ⊎ Contains variables.now variable }
+    ensures not_defined { result ≡ false → (variable ≡ 0) ⊎ Contains variables.now variable → ⊥ }
 {
-    variable == 0 || variables.contains(&variable)
+    variable == 0 || variables.has(variable)
 }
 
 /// The refusal of a gate that depends on itself, at its line.

@@ -7,7 +7,7 @@ ghost use Rattle.ps_certificate.specs.Known.{find_in};
 ghost use Rattle.ps_certificate.specs.Reading.{Gives, Moves, byte_at, word_at, number_at, field_at, exactly_at, priorities_at, two_at, winner_at, choice_at, counts_at, comes, numeral, numeral_value, behind};
 
 use crate::fault::{CertCause, CertFault};
-use ps_game::Ids;
+use ps_ids::Ids;
 use std::alloc::Global;
 use std::marker::Model;
 

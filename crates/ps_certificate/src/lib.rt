@@ -2,8 +2,6 @@
 #![tactic(auto)]
 
 mod certificate;
-#[cfg(test)]
-mod check_tests;
 mod checking;
 mod closing;
 mod cursor;
@@ -14,8 +12,6 @@ mod laws;
 mod pairs;
 mod rising;
 mod text;
-#[cfg(test)]
-mod text_tests;
 mod writer;
 
 pub use certificate::{Certificate, Entry};

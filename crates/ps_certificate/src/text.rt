@@ -14,7 +14,8 @@ ghost use Rattle.ps_certificate.specs.declared.fault.CertCause.{CertCause};
 use crate::certificate::{Certificate, Entry};
 use crate::cursor::Cursor;
 use crate::fault::{CertCause, CertFault};
-use ps_game::{Arena, Ids, NamedGame, priorities_of};
+use ps_game::{Arena, NamedGame, priorities_of};
+use ps_ids::Ids;
 use std::alloc::{AllocError, Global};
 
 /// What is known of a game before the text is read.

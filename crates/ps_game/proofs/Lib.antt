@@ -1,10 +1,11 @@
 pub mod Beaten
 pub mod Distinct
 pub mod Finished
+pub mod FlatArrays
 pub mod Groups
-pub mod IdPlaces
 pub mod LoopPriorities
 pub mod Memory
+pub mod MoveLists
 pub mod OnPaths
 pub mod Paths
 pub mod Priorities

@@ -1,7 +1,8 @@
 pub mod Attractors
 pub mod Drafts
 pub mod Games
-pub mod Ids
+pub mod Flat
+pub mod Moves
 pub mod Names
 pub mod Plays
 pub mod Ranking

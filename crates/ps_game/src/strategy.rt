@@ -1,21 +1,27 @@
 ghost use Rattle.std.specs.Prelude.{◌≡◌, ◌<◌, IfOk, Some, None, length, replicate, slice_set};
 ghost use Rattle.ps_game.specs.Regions.{move_at};
 
+use crate::regions::Region;
 use std::alloc::{AllocError, Global};
 use std::marker::Model;
 
-/// A move, or none, for each vertex.
+/// A move, or none, for each vertex: the vertices that have one, and where each of them moves. Any number can be a move, so none
+/// of them stands for no move.
 #[derive(Drop)]
 pub struct Strategy {
-    moves: Vec<Option<usize>>,
+    chosen: Region,
+    moves: Vec<usize>,
 }
 
 impl Model for Strategy {
-    ghost use Rattle.std.specs.Prelude.{List, Option, ℕ};
+    ghost use Rattle.std.specs.Prelude.{◌≡◌, List, Option, ℕ, length};
+    ghost use Rattle.ps_game.specs.Moves.{moves_of};
 
     ghost Value = { List (Option ℕ) };
 
-    ghost view = { λ s. s.moves.items };
+    ghost view = { λ s. moves_of s.chosen s.moves.items };
+
+    ghost invariant = { λ s. length s.chosen ≡ length s.moves.items };
 }
 
 impl Strategy {
@@ -23,8 +29,9 @@ impl Strategy {
     pub fn empty(alloc: Global, places: usize) -> Result<Strategy, AllocError>
         ensures { IfOk result (λ strategy. strategy ≡ replicate places None) }
     {
-        let moves = vec![in alloc; None; places]?;
-        Ok(Strategy { moves })
+        let chosen = Region::empty(alloc, places)?;
+        let moves = vec![in alloc; 0; places]?;
+        Ok(Strategy { chosen, moves })
     }
 
     /// How many vertices can have a move.
@@ -39,7 +46,11 @@ impl Strategy {
         requires { vertex < length self.now }
         ensures { result ≡ move_at self.now vertex }
     {
-        self.moves[vertex]
+        if self.chosen.contains(vertex) {
+            Some(self.moves[vertex])
+        } else {
+            None
+        }
     }
 
     /// Gives a vertex its move.
@@ -47,6 +58,7 @@ impl Strategy {
         requires { vertex < length self.old }
         ensures { self.new ≡ slice_set self.old vertex (Some successor) }
     {
-        self.moves[vertex] = Some(successor);
+        self.chosen.insert(vertex);
+        self.moves[vertex] = successor;
     }
 }

@@ -1,6 +1,9 @@
-ghost use Rattle.std.specs.Prelude.{◌≡◌, ◌<◌, IfOk, length};
+ghost use Rattle.std.specs.Prelude.{◌≡◌, ◌<◌, ◌≤◌, IfOk, length};
 
-use crate::{Arena, GameBuilder, GameFault, NamedGame, Region, priorities_of};
+use crate::{
+    Arena, FlatGame, Game, GameBuilder, GameFault, NamedGame, Numbers, Region, Strategy, Width,
+    fits_narrow, priorities_of,
+};
 use std::alloc::{AllocError, Global};
 use std::test::Fail;
 
@@ -202,5 +205,93 @@ fn full_regions_lose_one_vertex(rt: HostRuntime) -> Result<(), Fail> {
         let empty = Region::empty(alloc, places)?;
         assert!(rt; empty.is_empty());
     }
+    Ok(())
+}
+
+/// Numbers that were put in, written over and cut, at any width.
+fn some_numbers<W: Width>(alloc: Global, greatest: usize) -> Result<Numbers<W>, AllocError>
+    requires { greatest ≤ W.LIMIT }
+    ensures { IfOk result (λ numbers. length numbers ≡ 3) }
+{
+    let mut numbers = Numbers::filled(alloc, greatest, 2)?;
+    numbers.push(greatest / 2)?;
+    numbers.push(greatest)?;
+    numbers.set(1, greatest / 3);
+    numbers.truncate(3);
+    Ok(numbers)
+}
+
+#[test]
+fn numbers_are_kept_at_each_width(rt: HostRuntime) -> Result<(), Fail> {
+    let narrow = some_numbers::<u32>(rt.alloc(), 4_294_967_295)?;
+    assert_eq!(rt; narrow.at(0), 4_294_967_295);
+    assert_eq!(rt; narrow.at(1), 1_431_655_765);
+    assert_eq!(rt; narrow.at(2), 2_147_483_647);
+    assert_eq!(rt;
+        narrow.part(1, 3),
+        [1_431_655_765, 2_147_483_647].as_slice()
+    );
+    let wide = some_numbers::<usize>(rt.alloc(), 18_446_744_073_709_551_615)?;
+    assert_eq!(rt; wide.at(0), 18_446_744_073_709_551_615);
+    assert_eq!(rt; wide.at(1), 6_148_914_691_236_517_205);
+    assert_eq!(rt; wide.part(2, 3), [9_223_372_036_854_775_807].as_slice());
+    Ok(())
+}
+
+/// Whether the flat arrays of a game say at each width what the game says.
+fn flat_agrees(alloc: Global, game: &Game) -> Result<bool, AllocError> {
+    if !fits_narrow(game) {
+        return Ok(false);
+    }
+    let told = rows(alloc, game)?;
+    let narrow = rows(alloc, &FlatGame::<u32>::of(alloc, game)?)?;
+    let wide = rows(alloc, &FlatGame::<usize>::of(alloc, game)?)?;
+    Ok(narrow.as_slice() == told.as_slice() && wide.as_slice() == told.as_slice())
+}
+
+#[test]
+fn no_vertex_is_a_flat_game(rt: HostRuntime) -> Result<(), Fail> {
+    let game = GameBuilder::new(rt.alloc()).finish()?;
+    assert!(rt; flat_agrees(rt.alloc(), &game)?);
+    Ok(())
+}
+
+#[test]
+#[tactic(auto, unfolding(crate::specs::Games::vertex_count))]
+fn one_vertex_is_a_flat_game(rt: HostRuntime) -> Result<(), Fail> {
+    let mut builder = GameBuilder::new(rt.alloc());
+    builder.vertex(1, 18_446_744_073_709_551_615)?;
+    builder.edge(0, 0)?;
+    assert!(rt; flat_agrees(rt.alloc(), &builder.finish()?)?);
+    Ok(())
+}
+
+#[test]
+#[tactic(auto, unfolding(crate::specs::Games::vertex_count))]
+fn each_successor_stands_in_the_arrays(rt: HostRuntime) -> Result<(), Fail> {
+    let mut builder = GameBuilder::new(rt.alloc());
+    builder.vertex(0, 4)?;
+    builder.vertex(1, 7)?;
+    builder.vertex(0, 2)?;
+    builder.edge(0, 1)?;
+    builder.edge(0, 0)?;
+    builder.edge(1, 2)?;
+    builder.edge(2, 2)?;
+    builder.edge(2, 0)?;
+    builder.edge(2, 1)?;
+    assert!(rt; flat_agrees(rt.alloc(), &builder.finish()?)?);
+    Ok(())
+}
+
+#[test]
+fn moves_are_set_and_read(rt: HostRuntime) -> Result<(), Fail> {
+    let mut strategy = Strategy::empty(rt.alloc(), 65)?;
+    strategy.set(64, 18_446_744_073_709_551_615);
+    strategy.set(0, 7);
+    strategy.set(0, 0);
+    assert_eq!(rt; strategy.places(), 65);
+    assert_eq!(rt; strategy.get(64), Some(18_446_744_073_709_551_615));
+    assert_eq!(rt; strategy.get(63), None);
+    assert_eq!(rt; strategy.get(0), Some(0));
     Ok(())
 }

@@ -1,5 +1,4 @@
 pub mod TokenLemmas
-pub mod IdLemmas
 pub mod GameLemmas
 pub mod NodeLemmas
 pub mod GameTokens

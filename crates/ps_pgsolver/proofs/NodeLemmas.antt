@@ -3,7 +3,7 @@ use Rattle.std.proofs.Common.{◌≡◌, ◌≢◌, ℕ, cond, List, [], ◌∷�
 use Rattle.std.proofs.lemmas.List.{get_or_append_left}
 use Rattle.std.proofs.lemmas.List.Sums.{AllPass-from_list_all, list_all-from_AllPass}
 use Rattle.std.proofs.Math.Seq.{get_or-append_seam}
-use Rattle.ps_pgsolver.proofs.IdLemmas.{Contains-any, any-from_Contains}
+use Rattle.ps_ids.proofs.Members.{Contains-any, any-from_Contains}
 use Rattle.std.specs.Result.{is_ok}
 use Rattle.std.specs.List.{All, AllPairs, Contains}
 use Rattle.std.proofs.lemmas.List.{map-append}

@@ -11,7 +11,7 @@ use Rattle.ps_pgsolver.specs.Nodes.{NodeData, ids_of, is_member, KnowsAll}
 use Rattle.ps_pgsolver.specs.Signs.{Sign, Number, Word, Name, Comma, Semicolon, OpenName, Wrong}
 use Rattle.ps_pgsolver.specs.declared.fault.PgCause.{PgCause}
 use Rattle.ps_pgsolver.specs.declared.fault.PgCause.TheVariants as causes
-use Rattle.ps_pgsolver.proofs.IdLemmas.{Contains-any, any-from_Contains}
+use Rattle.ps_ids.proofs.Members.{Contains-any, any-from_Contains}
 use Rattle.ps_pgsolver.proofs.PartLaws.{laws_game, from_priority, from_owner, from_successors, from_name, from_start}
 use Rattle.ps_text.proofs.Simple.{none_is_some, same_some}
 

@@ -8,7 +8,8 @@ ghost use Rattle.ps_pgsolver.specs.Nodes.{IsNode, KnowsAll, ids_of};
 
 use crate::fault::PgFault;
 use crate::node::{Node, Nodes};
-use ps_game::{Game, GameBuilder, GameFault, Ids, NamedGame};
+use ps_game::{Game, GameBuilder, GameFault, NamedGame};
+use ps_ids::Ids;
 use std::alloc::{AllocError, Global};
 
 /// The game of the nodes, with their ids and names.

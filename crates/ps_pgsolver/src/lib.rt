@@ -6,8 +6,6 @@ mod game;
 mod laws;
 mod node;
 mod reader;
-#[cfg(test)]
-mod tests;
 mod token;
 mod writer;
 

@@ -4,7 +4,7 @@ ghost use Rattle.std.specs.Prelude.{◌≡◌, ◌++◌, ◌∷◌, ◌<◌, [],
 ghost use Rattle.ps_pgsolver.specs.Nodes.{NodeData, IsNode, AreNodes, HasTable, ids_of, names_of, is_member, knows_each, knows_all};
 ghost use Rattle.ps_game.specs.Names.{name_bytes};
 
-use ps_game::Ids;
+use ps_ids::Ids;
 use smallvec::SmallVec;
 use std::alloc::{AllocError, Global};
 use std::marker::Model;

@@ -21,7 +21,8 @@ use crate::fault::{PgCause, PgFault};
 use crate::game::named_game;
 use crate::node::{Node, Nodes};
 use crate::token::{Kind, Token, Tokens};
-use ps_game::{Ids, NamedGame};
+use ps_game::NamedGame;
+use ps_ids::Ids;
 use smallvec::SmallVec;
 use std::alloc::Global;
 

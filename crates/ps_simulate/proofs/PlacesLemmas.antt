@@ -1,24 +1,14 @@
 -- The places of a circuit's variables.
-use Rattle.std.proofs.Common.{◌≡◌, ◌≢◌, ℕ, zero, suc, ◌+◌, ◌<◌, inl, inr, List, [], ◌∷◌, ◌++◌, map, length, get_or, refl, sym, ap, subst, ◌∙◌, arith, cond, nat_eq, Some, Option, AllPairs, Contains}
+use Rattle.std.proofs.Common.{◌≡◌, ◌≢◌, ℕ, zero, suc, ◌+◌, ◌<◌, inl, inr, List, [], ◌∷◌, ◌++◌, map, length, get_or, refl, sym, ap, subst, ◌∙◌, arith, nat_eq, AllPairs, Contains}
 use Rattle.std.specs.List.{flat_map}
 use Rattle.std.proofs.lemmas.List.{length-map, get_or-map, get_or_default}
 use Rattle.std.proofs.lemmas.List.Sums.{position_or_len_is}
 use Rattle.std.proofs.lemmas.List.Elements.{All-contains, Contains-get_or, Contains-append_left, Contains-append_right}
 use Rattle.std.proofs.lemmas.Bool.{eq-eqb, ne_eqb}
-use borrow.Author.Count.{below_more}
 use Rattle.ps_aiger.specs.declared.parts.Latch.{Latch}
 use Rattle.ps_aiger.specs.declared.parts.Gate.{Gate}
 use Rattle.ps_aiger.specs.Circuits.{CircuitData, IsCircuit, IsDefinition, IsKnown, variable, definitions, readings}
 use Rattle.ps_simulate.specs.Plans.{variables, place_of}
-
--- one more variable
-pub places-more : (vs : List ℕ) (i : ℕ) (old new : ℕ → Option ℕ) → AllPairs (λ v w. v ≢ w) vs → i < length vs
-    → ((q : ℕ) → new q ≡ cond (nat_eq (get_or vs i 0) q) (Some i) (old q))
-    → ((k : ℕ) → k < i → old (get_or vs k 0) ≡ Some k) → (k : ℕ) → k < i + 1 → new (get_or vs k 0) ≡ Some k
-places-more vs i old new once lt updates before =
-    below_more (λ k. new (get_or vs k 0) ≡ Some k) i
-    (λ k less. updates (get_or vs k 0) ∙ ap (λ t. cond t (Some i) (old (get_or vs k 0))) (ne_eqb _ _ (λ e. once k i 0 less lt (sym e))) ∙ before k less)
-    (updates (get_or vs i 0) ∙ ap (λ t. cond t (Some i) (old (get_or vs i 0))) (eq-eqb _ _ refl))
 
 module _ (c : CircuitData) (is : IsCircuit c) where
   defined : (k d : ℕ) → k < length (definitions c) → IsDefinition c.most (get_or (definitions c) k d)

@@ -1,6 +1,6 @@
 -- The table of gates that a simulator works through. A place is that of a variable in a list: 0, and then the variables of
 -- the inputs, the latches and the gates.
-use Rattle.std.specs.Prelude.{◌≡◌, ℕ, ◌+◌, ◌<◌, ◌%◌, ◌==◌, ◌&&◌, Bool, false, not, if◌then◌else◌, List, [], ◌∷◌, map, length, slice_index_or, slice_set, slice_index, Option, Some}
+use Rattle.std.specs.Prelude.{◌≡◌, ℕ, ◌+◌, ◌<◌, ◌%◌, ◌==◌, ◌&&◌, Bool, false, not, if◌then◌else◌, List, [], ◌∷◌, map, length, slice_index_or, slice_set}
 use Rattle.std.specs.List.{position_or_len}
 use Rattle.ps_aiger.specs.declared.parts.Gate.{Gate}
 use Rattle.ps_aiger.specs.Circuits.{CircuitData, variable, definitions, Reads}
@@ -40,10 +40,6 @@ pub record IsPlan (c : CircuitData) (p : Plan) : Type 0 where
   pub rows_are : AreRows c p.rows.items
   pub outputs_are : p.outputs.items ≡ map (wire_of c) c.outputs
   pub nexts_are : p.nexts.items ≡ map (λ l. wire_of c l.next) c.latches
-
--- the table has the place of each variable of the list
-abbrev pub ArePlaces : List ℕ → (ℕ → Option ℕ) → Type 0
-ArePlaces vs place = (k : ℕ) → k < length vs → place (slice_index vs k) ≡ Some k
 
 -- ---- work
 

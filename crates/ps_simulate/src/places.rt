@@ -1,13 +1,12 @@
 //! The places of a circuit's variables in a table that has no gaps.
 
-ghost use Rattle.std.specs.Prelude.{◌≡◌, ◌≢◌, ◌<◌, length, map, slice_index_or, All, AllPairs, IfOk, nat_eq};
-ghost use Rattle.indexmap.specs.IndexMap.{get};
+ghost use Rattle.std.specs.Prelude.{◌≡◌, ◌≢◌, length, AllPairs, IfOk};
 ghost use Rattle.ps_aiger.specs.Circuits.{IsCircuit};
-ghost use Rattle.ps_simulate.specs.Plans.{variables, ArePlaces};
+ghost use Rattle.ps_simulate.specs.Plans.{variables};
 
 use crate::plan::Wire;
-use indexmap::IndexMap;
 use ps_aiger::Circuit;
+use ps_ids::Ids;
 use std::alloc::{AllocError, Global};
 use std::iter::once;
 use std::marker::Model;
@@ -16,21 +15,19 @@ use std::marker::Model;
 #[derive(Drop)]
 pub struct Places<'a> {
     circuit: &'a Circuit,
-    places: IndexMap<u32, usize>,
-    count: usize,
+    ids: Ids,
 }
 
 impl<'a> Model for Places<'a> {
-    ghost use Rattle.std.specs.Prelude.{◌≡◌, length, nat_eq};
-    ghost use Rattle.indexmap.specs.IndexMap.{get};
+    ghost use Rattle.std.specs.Prelude.{◌≡◌};
     ghost use Rattle.ps_aiger.specs.Circuits.{CircuitData, IsCircuit};
-    ghost use Rattle.ps_simulate.specs.Plans.{variables, ArePlaces};
+    ghost use Rattle.ps_simulate.specs.Plans.{variables};
 
     ghost Value = { CircuitData };
 
     ghost view = { λ p. p.circuit.now };
 
-    ghost invariant = { λ p. ArePlaces (variables p.circuit.now) (get nat_eq p.places) × (p.count ≡ length (variables p.circuit.now)) × IsCircuit p.circuit.now };
+    ghost invariant = { λ p. (p.ids ≡ variables p.circuit.now) × IsCircuit p.circuit.now };
 }
 
 impl<'a> Places<'a> {
@@ -41,20 +38,15 @@ impl<'a> Places<'a> {
         ensures { IfOk result (λ places. places ≡ circuit.now) }
     {
         let variables = variables_of(alloc, circuit)?;
-        let count = variables.len();
-        let places = places_of(alloc, &variables)?;
-        Ok(Places {
-            circuit,
-            places,
-            count,
-        })
+        let ids = ids_of(alloc, &variables)?;
+        Ok(Places { circuit, ids })
     }
 
     /// How many places there are.
     pub fn count(&self) -> usize
         ensures { result ≡ length (variables self.now) }
     {
-        self.count
+        self.ids.list().len()
     }
 
     /// The place of a literal's variable, with the literal's sign.
@@ -62,7 +54,7 @@ impl<'a> Places<'a> {
         requires { IsKnown (definitions self.now) literal }
         ensures { result ≡ wire_of self.now literal }
     {
-        let place = self.places.get(&(literal / 2)).copied().unwrap();
+        let place = self.ids.place(u64::from(literal / 2)).unwrap();
         Wire {
             place,
             is_negated: literal % 2 == 1,
@@ -84,14 +76,14 @@ fn variables_of(alloc: Global, circuit: &Circuit) -> Result<Vec<u32>, AllocError
         .collect(alloc)
 }
 
-/// The place of each of these variables.
-fn places_of(alloc: Global, variables: &[u32]) -> Result<IndexMap<u32, usize>, AllocError>
+/// These variables with their places.
+fn ids_of(alloc: Global, variables: &[u32]) -> Result<Ids, AllocError>
     requires { AllPairs (λ v w. v ≢ w) variables.now }
-    ensures { IfOk result (λ places. ArePlaces variables.now (get nat_eq places)) }
+    ensures { IfOk result (λ ids. ids ≡ variables.now) }
 {
-    let mut places = IndexMap::new(alloc);
-    for (place, &variable) in variables.iter().enumerate() {
-        let _ = places.insert(variable, place)?;
+    let mut ids = Ids::new(alloc);
+    for &variable in variables {
+        ids.push(u64::from(variable))?;
     }
-    Ok(places)
+    Ok(ids)
 }

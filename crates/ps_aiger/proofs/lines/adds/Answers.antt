@@ -1,9 +1,15 @@
-use Rattle.std.proofs.Common.{◌≡◌, false}
-use Rattle.ps_aiger.proofs.ReadingLemmas.{new_key_on, twice_of}
+use Rattle.std.proofs.Common.{◌∙◌, sym}
+use Rattle.ps_ids.proofs.Members.{Contains-any, Contains-none}
+use Rattle.ps_aiger.proofs.ReadingLemmas.{adds_variable}
 use Rattle.ps_aiger.proofs.lines.adds.Goals as goal
 
-pub returns-clause-new : goal.returns-clause-new
-returns-clause-new c = new_key_on c.args.variables.now.keys c.insert.new.self.keys c.args.variable c.in_ok-new.new c.in_ok-new.ensures.keys c.in_ok-new.ensures.added
+pub push-requires : goal.push-requires
+push-requires c = Contains-none c.args.variable c.args.variables.now (sym c.has.ensures ∙ c.if-has.false)
 
-pub returns-clause-twice : goal.returns-clause-twice
-returns-clause-twice c = λ e. let y : c.in_ok-new.new ≡ false = cc in twice_of c.args.variables.now.keys c.args.variable c.in_ok-new.new c.in_ok-new.ensures.added y
+pub returns-clause-new : goal.returns-clause-new
+returns-clause-new c =
+    adds_variable c.args.variables.now c.push.new.self c.args.variable c.in_ok-push.ensures.ok
+    (Contains-none c.args.variable c.args.variables.now (sym c.has.ensures ∙ c.if-has.false))
+
+pub returns-then-has-clause-twice : goal.returns-then-has-clause-twice
+returns-then-has-clause-twice c = λ _. Contains-any c.args.variable c.args.variables.now (sym c.has.ensures ∙ c.if-has.true)

@@ -12,15 +12,15 @@ origin = record { value = 0; offset = 0 }
 pub loop-number-preserved : goal.loop-number-preserved
 loop-number-preserved c =
     let same = c.deref-number-items.ensures.value in
-    let here : IsDefined c.args.noted.now.variables.keys (get_or c.deref-number-items.result.now c.loop-number.number-index origin) = c.is_defined.ensures.defined c.if-not-is_defined.false in
-    known_more c.args.noted.now.variables.keys c.args.noted.now.readings.items c.loop-number.number-index origin (omega (arith, c.loop-number-test.true, ap length same)) c.loop-number.invariant
-    (subst (λ (fs : List Number). IsDefined c.args.noted.now.variables.keys (get_or fs c.loop-number.number-index origin)) same here)
+    let here : IsDefined c.args.noted.now.variables (get_or c.deref-number-items.result.now c.loop-number.number-index origin) = c.is_defined.ensures.defined c.if-not-is_defined.false in
+    known_more c.args.noted.now.variables c.args.noted.now.readings.items c.loop-number.number-index origin (omega (arith, c.loop-number-test.true, ap length same)) c.loop-number.invariant
+    (subst (λ (fs : List Number). IsDefined c.args.noted.now.variables (get_or fs c.loop-number.number-index origin)) same here)
 
 pub returns-then-not-is_defined : goal.returns-then-not-is_defined
 returns-then-not-is_defined c =
     let same = c.deref-number-items.ensures.value in
     let now = c.deref-number-items.result.now in
-    let keys = c.args.noted.now.variables.keys in
+    let keys = c.args.noted.now.variables in
     let inv : All (IsDefined keys) (take c.loop-number.number-index now) = subst (λ (fs : List Number). All (IsDefined keys) (take c.loop-number.number-index fs)) (sym same) c.loop-number.invariant in
     subst (λ (fs : List Number). (x : Number) × (c.refused.result ≡ Text Undefined x.offset) × IsFirstUndefined keys fs x) same (
       get_or now c.loop-number.number-index origin,
@@ -30,4 +30,4 @@ returns-then-not-is_defined c =
 
 pub returns : goal.returns
 returns c =
-    known_all c.args.noted.now.variables.keys c.args.noted.now.readings.items c.loop-number.number-index (omega (arith, c.loop-number-test.false, ap length c.deref-number-items.ensures.value)) c.loop-number.invariant
+    known_all c.args.noted.now.variables c.args.noted.now.readings.items c.loop-number.number-index (omega (arith, c.loop-number-test.false, ap length c.deref-number-items.ensures.value)) c.loop-number.invariant

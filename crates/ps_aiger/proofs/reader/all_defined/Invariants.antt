@@ -3,4 +3,4 @@ use Rattle.ps_aiger.specs.Texts.{IsDefined}
 use Rattle.ps_aiger.proofs.reader.all_defined.Given as goal
 
 abbrev pub invariant-loop-number : goal.invariant-loop-number
-invariant-loop-number l = All (IsDefined l.noted.variables.keys) (take l.number-index l.noted.readings.items)
+invariant-loop-number l = All (IsDefined l.noted.variables) (take l.number-index l.noted.readings.items)

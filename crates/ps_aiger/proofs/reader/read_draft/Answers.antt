@@ -20,8 +20,8 @@ returns-in_err-inputs-clause-exact c =
     let s1 = c.read_header.new.cursor in
     let m1 = header_reads start s1 c.in_ok-header.header.most H.0 H.1.most H.2 in
     let short1 = reads_short header start s1 h m1 c.new-cursor.ensures.small in
-    let c0 : Lines ℕ = record { items = []; defined = c.new.result.keys; readings = c.new-2.result.items; starts = c.new-3.result.items } in
-    let e0 : c0 ≡ no_lines = no_lines_at c.new.result.keys c.new-2.result.items c.new-3.result.items c.new.ensures.empty c.new-2.ensures.items c.new-3.ensures.items in
+    let c0 : Lines ℕ = record { items = []; defined = c.starting_at.result; readings = c.new.result.items; starts = c.new-2.result.items } in
+    let e0 : c0 ≡ no_lines = no_lines_at c.starting_at.result c.new.result.items c.new-2.result.items c.starting_at.ensures c.new.ensures.items c.new-2.ensures.items in
     draft_fails c.args.text.now start _ _ c.new-cursor.ensures.stream (inputs_fail start h s1 m1 c0 e0 _ (c.in_err-inputs.ensures.exact H.0.inputs H.1.inputs short1)) c.from_residual-in_err-inputs.ensures.1
 
 pub returns-in_err-latches-clause-exact : goal.returns-in_err-latches-clause-exact
@@ -32,8 +32,8 @@ returns-in_err-latches-clause-exact c =
     let s1 = c.read_header.new.cursor in
     let m1 = header_reads start s1 c.in_ok-header.header.most H.0 H.1.most H.2 in
     let short1 = reads_short header start s1 h m1 c.new-cursor.ensures.small in
-    let c0 : Lines ℕ = record { items = []; defined = c.new.result.keys; readings = c.new-2.result.items; starts = c.new-3.result.items } in
-    let e0 : c0 ≡ no_lines = no_lines_at c.new.result.keys c.new-2.result.items c.new-3.result.items c.new.ensures.empty c.new-2.ensures.items c.new-3.ensures.items in
+    let c0 : Lines ℕ = record { items = []; defined = c.starting_at.result; readings = c.new.result.items; starts = c.new-2.result.items } in
+    let e0 : c0 ≡ no_lines = no_lines_at c.starting_at.result c.new.result.items c.new-2.result.items c.starting_at.ensures c.new.ensures.items c.new-2.ensures.items in
     let i = lines_of c.in_ok-inputs.inputs.items c.inputs.new.noted in
     let s2 = c.inputs.new.cursor in
     let m2 = c.in_ok-inputs.ensures.exact H.0.inputs H.1.inputs short1 in
@@ -48,8 +48,8 @@ returns-in_err-outputs-clause-exact c =
     let s1 = c.read_header.new.cursor in
     let m1 = header_reads start s1 c.in_ok-header.header.most H.0 H.1.most H.2 in
     let short1 = reads_short header start s1 h m1 c.new-cursor.ensures.small in
-    let c0 : Lines ℕ = record { items = []; defined = c.new.result.keys; readings = c.new-2.result.items; starts = c.new-3.result.items } in
-    let e0 : c0 ≡ no_lines = no_lines_at c.new.result.keys c.new-2.result.items c.new-3.result.items c.new.ensures.empty c.new-2.ensures.items c.new-3.ensures.items in
+    let c0 : Lines ℕ = record { items = []; defined = c.starting_at.result; readings = c.new.result.items; starts = c.new-2.result.items } in
+    let e0 : c0 ≡ no_lines = no_lines_at c.starting_at.result c.new.result.items c.new-2.result.items c.starting_at.ensures c.new.ensures.items c.new-2.ensures.items in
     let i = lines_of c.in_ok-inputs.inputs.items c.inputs.new.noted in
     let s2 = c.inputs.new.cursor in
     let m2 = c.in_ok-inputs.ensures.exact H.0.inputs H.1.inputs short1 in
@@ -68,8 +68,8 @@ returns-in_err-gates-clause-exact c =
     let s1 = c.read_header.new.cursor in
     let m1 = header_reads start s1 c.in_ok-header.header.most H.0 H.1.most H.2 in
     let short1 = reads_short header start s1 h m1 c.new-cursor.ensures.small in
-    let c0 : Lines ℕ = record { items = []; defined = c.new.result.keys; readings = c.new-2.result.items; starts = c.new-3.result.items } in
-    let e0 : c0 ≡ no_lines = no_lines_at c.new.result.keys c.new-2.result.items c.new-3.result.items c.new.ensures.empty c.new-2.ensures.items c.new-3.ensures.items in
+    let c0 : Lines ℕ = record { items = []; defined = c.starting_at.result; readings = c.new.result.items; starts = c.new-2.result.items } in
+    let e0 : c0 ≡ no_lines = no_lines_at c.starting_at.result c.new.result.items c.new-2.result.items c.starting_at.ensures c.new.ensures.items c.new-2.ensures.items in
     let i = lines_of c.in_ok-inputs.inputs.items c.inputs.new.noted in
     let s2 = c.inputs.new.cursor in
     let m2 = c.in_ok-inputs.ensures.exact H.0.inputs H.1.inputs short1 in
@@ -95,8 +95,8 @@ returns-in_err-symbols-clause-exact c =
     let s1 = c.read_header.new.cursor in
     let m1 = header_reads start s1 c.in_ok-header.header.most H.0 H.1.most H.2 in
     let short1 = reads_short header start s1 h m1 c.new-cursor.ensures.small in
-    let c0 : Lines ℕ = record { items = []; defined = c.new.result.keys; readings = c.new-2.result.items; starts = c.new-3.result.items } in
-    let e0 : c0 ≡ no_lines = no_lines_at c.new.result.keys c.new-2.result.items c.new-3.result.items c.new.ensures.empty c.new-2.ensures.items c.new-3.ensures.items in
+    let c0 : Lines ℕ = record { items = []; defined = c.starting_at.result; readings = c.new.result.items; starts = c.new-2.result.items } in
+    let e0 : c0 ≡ no_lines = no_lines_at c.starting_at.result c.new.result.items c.new-2.result.items c.starting_at.ensures c.new.ensures.items c.new-2.ensures.items in
     let i = lines_of c.in_ok-inputs.inputs.items c.inputs.new.noted in
     let s2 = c.inputs.new.cursor in
     let m2 = c.in_ok-inputs.ensures.exact H.0.inputs H.1.inputs short1 in
@@ -125,8 +125,8 @@ returns-in_err-comment-clause-exact c =
     let s1 = c.read_header.new.cursor in
     let m1 = header_reads start s1 c.in_ok-header.header.most H.0 H.1.most H.2 in
     let short1 = reads_short header start s1 h m1 c.new-cursor.ensures.small in
-    let c0 : Lines ℕ = record { items = []; defined = c.new.result.keys; readings = c.new-2.result.items; starts = c.new-3.result.items } in
-    let e0 : c0 ≡ no_lines = no_lines_at c.new.result.keys c.new-2.result.items c.new-3.result.items c.new.ensures.empty c.new-2.ensures.items c.new-3.ensures.items in
+    let c0 : Lines ℕ = record { items = []; defined = c.starting_at.result; readings = c.new.result.items; starts = c.new-2.result.items } in
+    let e0 : c0 ≡ no_lines = no_lines_at c.starting_at.result c.new.result.items c.new-2.result.items c.starting_at.ensures c.new.ensures.items c.new-2.ensures.items in
     let i = lines_of c.in_ok-inputs.inputs.items c.inputs.new.noted in
     let s2 = c.inputs.new.cursor in
     let m2 = c.in_ok-inputs.ensures.exact H.0.inputs H.1.inputs short1 in
@@ -158,8 +158,8 @@ returns-clause-exact c =
     let s1 = c.read_header.new.cursor in
     let m1 = header_reads start s1 c.in_ok-header.header.most H.0 H.1.most H.2 in
     let short1 = reads_short header start s1 h m1 c.new-cursor.ensures.small in
-    let c0 : Lines ℕ = record { items = []; defined = c.new.result.keys; readings = c.new-2.result.items; starts = c.new-3.result.items } in
-    let e0 : c0 ≡ no_lines = no_lines_at c.new.result.keys c.new-2.result.items c.new-3.result.items c.new.ensures.empty c.new-2.ensures.items c.new-3.ensures.items in
+    let c0 : Lines ℕ = record { items = []; defined = c.starting_at.result; readings = c.new.result.items; starts = c.new-2.result.items } in
+    let e0 : c0 ≡ no_lines = no_lines_at c.starting_at.result c.new.result.items c.new-2.result.items c.starting_at.ensures c.new.ensures.items c.new-2.ensures.items in
     let i = lines_of c.in_ok-inputs.inputs.items c.inputs.new.noted in
     let s2 = c.inputs.new.cursor in
     let m2 = c.in_ok-inputs.ensures.exact H.0.inputs H.1.inputs short1 in
@@ -187,8 +187,8 @@ returns-clause-exact c =
 pub returns-clause-sound : goal.returns-clause-sound
 returns-clause-sound c =
     let most = c.in_ok-header.header.most in
-    let c0 : Lines ℕ = record { items = []; defined = c.new.result.keys; readings = c.new-2.result.items; starts = c.new-3.result.items } in
-    let e0 : c0 ≡ no_lines = no_lines_at c.new.result.keys c.new-2.result.items c.new-3.result.items c.new.ensures.empty c.new-2.ensures.items c.new-3.ensures.items in
+    let c0 : Lines ℕ = record { items = []; defined = c.starting_at.result; readings = c.new.result.items; starts = c.new-2.result.items } in
+    let e0 : c0 ≡ no_lines = no_lines_at c.starting_at.result c.new.result.items c.new-2.result.items c.starting_at.ensures c.new.ensures.items c.new-2.ensures.items in
     let i = lines_of c.in_ok-inputs.inputs.items c.inputs.new.noted in
     let l = lines_of c.in_ok-latches.latches.items c.latches.new.noted in
     let u = lines_of c.in_ok-outputs.outputs.items c.outputs.new.noted in

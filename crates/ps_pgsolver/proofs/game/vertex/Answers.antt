@@ -2,7 +2,7 @@ use Rattle.std.proofs.Common.{[], ◌∷◌, ◌++◌, map, take, sym, ap, ◌�
 use Rattle.std.specs.Option.{unwrap_or}
 use Rattle.ps_pgsolver.specs.GamesOf.{place_of, vertex_made}
 use Rattle.ps_pgsolver.proofs.GameLemmas.{edge_made, places_more, vertex_made-within}
-use Rattle.ps_pgsolver.proofs.IdLemmas.{any-from_Contains}
+use Rattle.ps_ids.proofs.Members.{any-from_Contains}
 use Rattle.ps_pgsolver.proofs.game.vertex.Goals as goal
 
 pub loop-id-init : goal.loop-id-init

@@ -1,32 +1,32 @@
-use Rattle.std.proofs.Common.{◌≡◌, ◌∙◌, ◌==◌, ◌%◌, ap, refl, rules, subst, sym, nat_eq, Some, ℕ}
+use Rattle.std.proofs.Common.{◌≡◌, ◌∙◌, ◌==◌, ◌%◌, ap, refl, subst, sym, position, List, Some, ℕ}
 use Rattle.std.specs.Prelude.{IsSome, Option}
-use Rattle.indexmap.specs.IndexMap.{get}
 use Rattle.ps_aiger.specs.Circuits.{CircuitData, IsKnown, definitions, variable}
+use Rattle.ps_ids.proofs.IdPlaces.{position_here}
 use Rattle.ps_simulate.specs.declared.plan.Wire.{Wire}
-use Rattle.ps_simulate.specs.Plans.{place_of}
-use Rattle.ps_simulate.proofs.PlacesLemmas.{place_known}
+use Rattle.ps_simulate.specs.Plans.{place_of, variables}
+use Rattle.ps_simulate.proofs.PlacesLemmas.{place_known, variables_once}
 use Rattle.ps_simulate.proofs.places.Places.wire.Goals as goal
-use Rattle.ps_simulate.proofs.places.Places.wire.Goals.{After-copied}
+use Rattle.ps_simulate.proofs.places.Places.wire.Goals.{After-place}
 
 -- the table has the place of the literal's variable
-found : (c : After-copied) → c.copied.result ≡ Some (place_of c.args.self.now (variable c.args.literal))
+found : (c : After-place) → c.place.result ≡ Some (place_of c.args.self.now (variable c.args.literal))
 found c =
     let circuit = c.self.inside.circuit.now in
     let v = variable c.args.literal in
     let same : circuit ≡ c.args.self.now = c.self.view_is in
     let known : IsKnown (definitions circuit) c.args.literal = subst (λ (d : CircuitData). IsKnown (definitions d) c.args.literal) (sym same) c.requires in
-    let at = place_known circuit c.self.invariant.2 c.args.literal known in
-    let looked_up : c.copied.result ≡ get nat_eq c.self.inside.places v = search rules in
-    let there : get nat_eq c.self.inside.places v ≡ Some (place_of circuit v) =
-    subst (λ (w : ℕ). get nat_eq c.self.inside.places w ≡ Some (place_of circuit v)) at.1 (c.self.invariant.0 (place_of circuit v) at.0) in
-    looked_up ∙ there ∙ ap (λ (d : CircuitData). Some (place_of d v)) same
+    let at = place_known circuit c.self.invariant.1 c.args.literal known in
+    c.place.ensures.place ∙ ap (λ (id : ℕ). position (λ other. id == other) c.self.inside.ids) c.from.ensures
+    ∙ ap (λ (vs : List ℕ). position (λ other. v == other) vs) c.self.invariant.0
+    ∙ position_here (variables circuit) v (place_of circuit v) (variables_once circuit c.self.invariant.1) at.0 at.1
+    ∙ ap (λ (d : CircuitData). Some (place_of d v)) same
 
 pub unwrap-place-requires : goal.unwrap-place-requires
-unwrap-place-requires c = subst (λ (o : Option ℕ). IsSome o) (sym (found (goal.at.unwrap-place-requires c).After-copied)) refl
+unwrap-place-requires c = subst (λ (o : Option ℕ). IsSome o) (sym (found (goal.at.unwrap-place-requires c).After-place)) refl
 
 pub returns : goal.returns
 returns c =
     let same : c.unwrap-place.result ≡ place_of c.args.self.now (variable c.args.literal) =
-    (let e = found (goal.at.returns c).After-copied in let f = c.unwrap-place.ensures in cc) in
+    (let e = found (goal.at.returns c).After-place in let f = c.unwrap-place.ensures in cc) in
     let wire : ℕ → Wire = λ p. record { place = p; is_negated = c.args.literal % 2 == 1 } in
     ap wire same

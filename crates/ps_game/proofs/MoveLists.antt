@@ -1,0 +1,44 @@
+-- Tables of moves in two lists: what they hold, and what a new move does to them.
+use Rattle.std.proofs.Common.{◌≡◌, ℕ, ◌<◌, inl, inr, Bool, true, false, cond, List, length, get_or, set, Option, Some, None, length-set, sym, ap, ap₂, ◌∙◌, arith}
+use Rattle.std.specs.Prelude.{replicate}
+use Rattle.std.proofs.lemmas.Bool.{cases_eq}
+use Rattle.std.proofs.lemmas.Grind.{get_or-set_at}
+use Rattle.std.proofs.lemmas.List.{get_or-set_other, get_or-replicate, length-replicate}
+use Rattle.std.proofs.lemmas.List.FromFn.{get_or-map-range_with_len, length-map-range_with_len, fill_by_all}
+use Rattle.ps_game.specs.Moves.{move_in, moves_of}
+
+pub length-moves_of : (chosen : List Bool) (moves : List ℕ) → length (moves_of chosen moves) ≡ length moves
+unfolding moves_of
+length-moves_of chosen moves = length-map-range_with_len (move_in chosen moves) 0 (length moves)
+
+pub move_inside : (chosen : List Bool) (moves : List ℕ) (v : ℕ) → v < length moves → get_or (moves_of chosen moves) v None ≡ move_in chosen moves v
+unfolding moves_of
+move_inside chosen moves v lt = get_or-map-range_with_len (move_in chosen moves) 0 (length moves) v v None lt (omega arith)
+
+-- a table is that of two lists where it says what they say
+moves_are : (chosen : List Bool) (moves : List ℕ) (table : List (Option ℕ)) → length table ≡ length moves
+    → ((v : ℕ) → v < length moves → get_or table v None ≡ move_in chosen moves v) → moves_of chosen moves ≡ table
+unfolding moves_of
+moves_are chosen moves table long each = sym (fill_by_all (move_in chosen moves) table (length moves) None long each)
+
+pub no_moves : (places : ℕ) → moves_of (replicate places false) (replicate places 0) ≡ replicate places None
+no_moves places =
+    moves_are (replicate places false) (replicate places 0) (replicate places None) (length-replicate places None ∙ sym (length-replicate places 0))
+    (λ v lt.
+    let less : v < places = omega (arith, length-replicate {A = ℕ} places 0) in
+    get_or-replicate places v None None less
+    ∙ ap (λ b. cond b (Some (get_or (replicate places 0) v 0)) None) (sym (get_or-replicate places v false false less)))
+
+pub one_moved : (chosen : List Bool) (moves : List ℕ) (v w : ℕ) → length chosen ≡ length moves → v < length moves
+    → moves_of (set chosen v true) (set moves v w) ≡ set (moves_of chosen moves) v (Some w)
+one_moved chosen moves v w long lt =
+    moves_are (set chosen v true) (set moves v w) (set (moves_of chosen moves) v (Some w))
+    (length-set (moves_of chosen moves) v (Some w) ∙ length-moves_of chosen moves ∙ sym (length-set moves v w))
+    (λ u less. elim (cases_eq u v) [
+      | inl same ↦
+          get_or-set_at (moves_of chosen moves) v u (Some w) None same (omega (arith, length-moves_of chosen moves))
+          ∙ sym (ap₂ (λ b n. cond b (Some n) None) (get_or-set_at chosen v u true false same (omega arith)) (get_or-set_at moves v u w 0 same lt))
+      | inr other ↦
+          get_or-set_other (moves_of chosen moves) v u (Some w) None other ∙ move_inside chosen moves u (omega (arith, length-set moves v w))
+          ∙ sym (ap₂ (λ b n. cond b (Some n) None) (get_or-set_other chosen v u true false other) (get_or-set_other moves v u w 0 other))
+    ])

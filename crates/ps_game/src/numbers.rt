@@ -1,0 +1,88 @@
+ghost use Rattle.std.specs.Prelude.{◌≡◌, ◌<◌, ◌≤◌, ◌∷◌, [], ◌++◌, IfOk, OnOk, OnErr, length, map, replicate, take, slice_index, slice_range, slice_set};
+
+use crate::widths::Width;
+use std::alloc::{AllocError, Global};
+use std::marker::Model;
+
+/// A list of numbers, kept at a stated width.
+#[derive(Drop)]
+pub struct Numbers<W: Width> {
+    items: Vec<W>,
+}
+
+impl<W: Width> Model for Numbers<W> {
+    ghost use Rattle.std.specs.Prelude.{List, ℕ, map};
+
+    ghost Value = { List ℕ };
+
+    ghost view = { λ n. map W.value n.items.items };
+}
+
+impl<W: Width> Numbers<W> {
+    /// One number so many times.
+    pub fn filled(alloc: Global, number: usize, count: usize) -> Result<Numbers<W>, AllocError>
+        requires { number ≤ W.LIMIT }
+        ensures { IfOk result (λ numbers. numbers ≡ replicate count number) }
+    {
+        let items = vec![in alloc; W::of(number); count]?;
+        Ok(Numbers { items })
+    }
+
+    /// No number, with room for so many.
+    pub fn with_capacity(alloc: Global, count: usize) -> Result<Numbers<W>, AllocError>
+        ensures { IfOk result (λ numbers. numbers ≡ []) }
+    {
+        let items = Vec::with_capacity(alloc, count)?;
+        Ok(Numbers { items })
+    }
+
+    /// How many numbers there are.
+    pub fn len(&self) -> usize
+        ensures { result ≡ length self.now }
+    {
+        self.items.len()
+    }
+
+    /// The number at a place.
+    pub fn at(&self, place: usize) -> usize
+        requires { place < length self.now }
+        ensures { result ≡ slice_index self.now place }
+    {
+        self.items[place].number()
+    }
+
+    /// The numbers from a place up to another, as they are kept.
+    pub fn part(&self, start: usize, end: usize) -> &[W]
+        requires order { start ≤ end }
+        requires within { end ≤ length self.now }
+        ensures { map W.value result.now ≡ slice_range self.now start end }
+    {
+        &self.items[start..end]
+    }
+
+    /// Writes a number at a place.
+    pub fn set(&mut self, place: usize, number: usize)
+        requires place { place < length self.old }
+        requires fits { number ≤ W.LIMIT }
+        ensures { self.new ≡ slice_set self.old place number }
+    {
+        self.items[place] = W::of(number);
+    }
+
+    /// Puts a number at the end. For want of memory nothing changes.
+    pub fn push(&mut self, number: usize) -> Result<(), AllocError>
+        requires { number ≤ W.LIMIT }
+        ensures ok { OnOk result (self.new ≡ self.old ++ number ∷ []) }
+        ensures err { OnErr result (self.new ≡ self.old) }
+    {
+        self.items.push(W::of(number))?;
+        Ok(())
+    }
+
+    /// Keeps so many numbers, and drops the rest.
+    pub fn truncate(&mut self, count: usize)
+        ensures { self.new ≡ take count self.old }
+    {
+        self.items.truncate(count);
+    }
+}

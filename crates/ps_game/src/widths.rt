@@ -1,0 +1,61 @@
+ghost use Rattle.std.specs.Prelude.{◌≡◌, ◌^◌, ◌-◌, ◌≤◌, ℕ};
+
+/// A type of numbers as large tables keep them: the fewer bytes, the less memory is read.
+pub trait Width: Copy {
+    /// The number that a value stands for.
+    ghost value: { Self → ℕ };
+
+    /// The greatest number that fits.
+    ghost LIMIT: { ℕ };
+
+    /// The greatest number that fits.
+    const LIMIT: usize;
+
+    /// The value that stands for a number.
+    fn of(number: usize) -> Self
+        requires { number ≤ LIMIT }
+        ensures { value result ≡ number };
+
+    /// The number that the value stands for.
+    fn number(self) -> usize
+        ensures { result ≡ value self };
+
+    /// A value that is cloned stays the same.
+    ghost clones_equal: { (x y : Self) → Self.is_clone x y → y ≡ x };
+}
+
+impl Width for u32 {
+    ghost value = { λ x. x };
+
+    ghost LIMIT = { 2 ^ 32 - 1 };
+
+    const LIMIT: usize = 4_294_967_295;
+
+    fn of(number: usize) -> u32 {
+        number as u32
+    }
+
+    fn number(self) -> usize {
+        self as usize
+    }
+
+    ghost clones_equal = { λ x y clone. clone };
+}
+
+impl Width for usize {
+    ghost value = { λ x. x };
+
+    ghost LIMIT = { 2 ^ 64 - 1 };
+
+    const LIMIT: usize = usize::MAX;
+
+    fn of(number: usize) -> usize {
+        number
+    }
+
+    fn number(self) -> usize {
+        self
+    }
+
+    ghost clones_equal = { λ x y clone. clone };
+}

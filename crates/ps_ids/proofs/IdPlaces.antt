@@ -1,0 +1,122 @@
+-- The place of an id: its own, or by a table.
+use Rattle.std.proofs.Common.{◌≡◌, ◌≢◌, ℕ, ◌⊎◌, ◌+◌, ◌<◌, ◌≤◌, Bool, true, false, eqb, ltb, List, [], ◌∷◌, ◌++◌, length, get_or, Option, None, Some, refl, sym, ap, subst, inl, inr, ⊎_elim, ◌∙◌, arith, length-append}
+use Rattle.std.proofs.lemmas.Bool.{cases_Bool, cases_lt, ltb-true, ltb-false, eqb-true, eq-eqb}
+use Rattle.std.proofs.lemmas.List.{get_or_append_left}
+use Rattle.std.proofs.lemmas.List.Elements.{Contains-get_or}
+use Rattle.std.proofs.lemmas.List.Folds.{list_any-from_Any, list_any_none}
+use Rattle.std.proofs.lemmas.List.Quantifiers.{all_pairs_push, position-Some}
+use Rattle.std.proofs.lemmas.List.Sums.{position_or_len_is, fails_before_first}
+use Rattle.std.proofs.lemmas.Grind.{get_or_default_zero}
+use Rattle.std.proofs.Math.Seq.{get_or-append_seam}
+use Rattle.std.specs.List.{Contains, list_any, position, position_or_len}
+use Rattle.std.specs.Option.{is_some}
+use Rattle.ps_ids.specs.Ids.{AreDistinct, IsTable, KeepsPlace, own_place}
+
+abbrev is_id : ℕ → ℕ → Bool
+is_id id other = eqb id other
+
+some_none : {X : Type 0} (x : X) → Some x ≡ None → ⊥
+some_none x e = let h : Some x ≡ None = e in cc
+
+position_at : (p : ℕ → Bool) (ids : List ℕ) (i : ℕ) → position_or_len p ids ≡ i → i < length ids → position p ids ≡ Some i
+position_at p ids i e l = ⊎_elim
+    (λ (yes : ltb (position_or_len p ids) (length ids) ≡ true). rw yes (ap Some e))
+    (λ (no : ltb (position_or_len p ids) (length ids) ≡ false). absurd (omega (arith, ltb-false _ _ no, e, l)))
+    (cases_Bool (ltb (position_or_len p ids) (length ids)))
+
+position_none : (p : ℕ → Bool) (ids : List ℕ) → length ids ≤ position_or_len p ids → position p ids ≡ None
+position_none p ids l = ⊎_elim
+    (λ (yes : ltb (position_or_len p ids) (length ids) ≡ true). absurd (omega (arith, ltb-true _ _ yes, l)))
+    (λ (no : ltb (position_or_len p ids) (length ids) ≡ false). rw no refl)
+    (cases_Bool (ltb (position_or_len p ids) (length ids)))
+
+unlike : (a b : ℕ) → a ≢ b → eqb a b ≡ false
+unlike a b n = ⊎_elim (λ (yes : eqb a b ≡ true). absurd (n (eqb-true a b yes))) (λ (no : eqb a b ≡ false). no) (cases_Bool (eqb a b))
+
+-- the place where an id of a list without repeats stands is the only one
+pub position_here : (ids : List ℕ) (id place : ℕ) → AreDistinct ids → place < length ids → get_or ids place 0 ≡ id → position (is_id id) ids ≡ Some place
+position_here ids id place distinct l e = position_at (is_id id) ids place
+    (position_or_len_is (is_id id) ids place 0 (omega (arith, l))
+    (λ k below. unlike id (get_or ids k 0) (λ same. distinct k place 0 below l (sym (e ∙ same))))
+    (λ _. eq-eqb id (get_or ids place 0) (sym e))) l
+
+pub position_nowhere : (ids : List ℕ) (id : ℕ) → ((k : ℕ) → k < length ids → get_or ids k 0 ≢ id) → position (is_id id) ids ≡ None
+position_nowhere ids id none = position_none (is_id id) ids
+    (let e : position_or_len (is_id id) ids ≡ length ids =
+    position_or_len_is (is_id id) ids (length ids) 0 (omega arith) (λ k l. unlike id (get_or ids k 0) (λ same. none k l (sym same))) (λ l. absurd (omega (arith, l))) in
+    omega (arith, e))
+
+-- what the table says of an id that does not stand at its own place
+pub position_by_table : (first : ℕ) (ids : List ℕ) (table : ℕ → Option ℕ) (id : ℕ) → IsTable first ids table →
+    (own_place first id < length ids → get_or ids (own_place first id) 0 ≢ id) → table id ≡ position (is_id id) ids
+position_by_table first ids table id is not_own = go (table id) refl
+  where
+    nowhere : table id ≡ None → (k : ℕ) → k < length ids → get_or ids k 0 ≢ id
+    nowhere e k l same = ⊎_elim
+        (λ (own : own_place first (get_or ids k 0) ≡ k).
+        let k_is : k ≡ own_place first id = sym own ∙ ap (own_place first) same in not_own (subst (λ n. n < length ids) k_is l) (subst (λ n. get_or ids n 0 ≡ id) k_is same))
+        (λ (kept : table (get_or ids k 0) ≡ Some k). some_none k (sym kept ∙ ap table same ∙ e))
+        (is.whole k l)
+
+    go : (o : Option ℕ) → table id ≡ o → table id ≡ position (is_id id) ids
+    go None e = e ∙ sym (position_nowhere ids id (nowhere e))
+    go (Some place) e = let at = is.sound id place e in e ∙ sym (position_here ids id place is.distinct at.0 at.1)
+
+pub position_within : (ids : List ℕ) (id place : ℕ) → position (is_id id) ids ≡ Some place → place < length ids
+position_within ids id place e = (position-Some (is_id id) ids place 0 e).0
+
+pub some_position : (p : ℕ → Bool) (ids : List ℕ) → is_some (position p ids) ≡ list_any p ids
+some_position p ids = go (position p ids) refl
+  where
+    go : (o : Option ℕ) → position p ids ≡ o → is_some (position p ids) ≡ list_any p ids
+    go (Some i) e =
+        let at = position-Some p ids i 0 e in
+        ap is_some e ∙ sym (list_any-from_Any p ids (i, get_or ids i 0, at.0, get_or_default_zero ids i _ at.0, at.1))
+    go None e =
+        let long : length ids ≤ position_or_len p ids = ⊎_elim
+        (λ (below : position_or_len p ids < length ids). absurd (some_none _ (sym (position_at p ids _ refl below) ∙ e)))
+        (λ (beyond : length ids ≤ position_or_len p ids). beyond)
+        (cases_lt (position_or_len p ids) (length ids)) in
+        ap is_some e ∙ sym (list_any_none p ids (λ k d l. fails_before_first p ids k d (omega (arith, l, long))))
+
+-- one more id
+pub table_push : (first : ℕ) (ids ids' : List ℕ) (old new : ℕ → Option ℕ) (id place : ℕ) → IsTable first ids old → place ≡ length ids → KeepsPlace first old new id place →
+    (Contains ids id → ⊥) → ids' ≡ ids ++ id ∷ [] → IsTable first ids' new
+table_push first ids ids' old new id place is at keeps absent e = subst (λ xs. IsTable first xs new) (sym e) (record {
+  distinct = all_pairs_push (λ x y. x ≢ y) ids id is.distinct (λ k d l same. absent (subst (λ x. Contains ids x) same (Contains-get_or ids k d l)));
+  sound = λ q p h. ⊎_elim
+      (λ (here : (q ≡ id) × (p ≡ place)). (omega (arith, here.1, at, longer), ap (λ n. get_or (ids ++ id ∷ []) n 0) (here.1 ∙ at) ∙ get_or-append_seam ids id [] 0 ∙ sym here.0))
+      (λ (before : old q ≡ Some p). let r = is.sound q p before in (omega (arith, r.0, longer), get_or_append_left ids (id ∷ []) 0 p r.0 ∙ r.1))
+      (keeps.sound q p h);
+  whole = λ p l. ⊎_elim
+      (λ (below : p < length ids). before p below)
+      (λ (beyond : length ids ≤ p). last p (let x : p ≡ length ids = omega (arith, beyond, l, longer) in x))
+      (cases_lt p (length ids));
+})
+  where
+    longer : length (ids ++ id ∷ []) ≡ length ids + 1
+    longer = length-append ids (id ∷ [])
+
+    before : (p : ℕ) → p < length ids → (own_place first (get_or (ids ++ id ∷ []) p 0) ≡ p) ⊎ (new (get_or (ids ++ id ∷ []) p 0) ≡ Some p)
+    before p l =
+        let same : get_or (ids ++ id ∷ []) p 0 ≡ get_or ids p 0 = get_or_append_left ids (id ∷ []) 0 p l in
+        ⊎_elim
+        (λ (own : own_place first (get_or ids p 0) ≡ p). inl (ap (own_place first) same ∙ own))
+        (λ (kept : old (get_or ids p 0) ≡ Some p). inr (ap new same ∙ keeps.others _ p (λ is_new. absent (subst (λ x. Contains ids x) is_new (Contains-get_or ids p 0 l))) kept))
+        (is.whole p l)
+
+    last : (p : ℕ) → p ≡ length ids → (own_place first (get_or (ids ++ id ∷ []) p 0) ≡ p) ⊎ (new (get_or (ids ++ id ∷ []) p 0) ≡ Some p)
+    last p e =
+        let same : get_or (ids ++ id ∷ []) p 0 ≡ id = ap (λ n. get_or (ids ++ id ∷ []) n 0) e ∙ get_or-append_seam ids id [] 0 in
+        let is_place : p ≡ place = e ∙ sym at in
+        ⊎_elim
+        (λ (own : own_place first id ≡ place). inl (ap (own_place first) same ∙ own ∙ sym is_place))
+        (λ (kept : new id ≡ Some place). inr (ap new same ∙ kept ∙ ap Some (sym is_place)))
+        keeps.kept
+
+pub table_same : (first : ℕ) (ids ids' : List ℕ) (old new : ℕ → Option ℕ) → IsTable first ids old → ids' ≡ ids → ((q : ℕ) → new q ≡ old q) → IsTable first ids' new
+table_same first ids ids' old new is e same = subst (λ xs. IsTable first xs new) (sym e) (record {
+  distinct = is.distinct;
+  sound = λ q p h. is.sound q p (sym (same q) ∙ h);
+  whole = λ p l. ⊎_elim (λ (own : own_place first (get_or ids p 0) ≡ p). inl own) (λ (kept : old (get_or ids p 0) ≡ Some p). inr (same _ ∙ kept)) (is.whole p l);
+})

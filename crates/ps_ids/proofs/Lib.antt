@@ -1,0 +1,2 @@
+pub mod IdPlaces
+pub mod Members
