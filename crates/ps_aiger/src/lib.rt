@@ -27,8 +27,3 @@ pub use laws::one_answer;
 pub use parts::{Gate, Latch};
 pub use reader::read;
 pub use writer::write;
-
-#[cfg(test)]
-mod builder_tests;
-#[cfg(test)]
-mod tests;

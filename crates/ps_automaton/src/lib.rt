@@ -9,11 +9,7 @@
 #![tactic(auto)]
 
 mod automaton;
-#[cfg(test)]
-mod build_tests;
 mod chain;
-#[cfg(test)]
-mod chain_tests;
 mod draft;
 mod fault;
 mod guards;

@@ -35,8 +35,3 @@ pub use classes::{Class, Classes};
 pub use fault::OverlayError;
 pub use store::Store;
 pub use view::{Node, View};
-
-#[cfg(test)]
-mod label_tests;
-#[cfg(test)]
-mod tests;

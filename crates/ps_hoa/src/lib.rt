@@ -5,15 +5,11 @@ mod assembly;
 mod body;
 pub mod condition;
 mod edges;
-#[cfg(test)]
-mod expression_tests;
 pub mod expressions;
 pub mod fault;
 pub mod file;
 mod flaws;
 mod header;
-#[cfg(test)]
-mod header_tests;
 mod indices;
 mod items;
 mod label;
@@ -26,8 +22,6 @@ mod propositions;
 mod reader;
 mod refusal;
 mod rows;
-#[cfg(test)]
-mod samples;
 mod signs;
 mod skipped;
 pub mod tokens;

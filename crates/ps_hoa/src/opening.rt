@@ -63,29 +63,3 @@ pub(crate) fn opened(text: &[u8]) -> Result<Tokens<'_>, HoaFault>
     }
     Ok(Tokens::new(text, stop))
 }
-
-#[cfg(test)]
-mod tests {
-    use crate::fault::{HoaCause, HoaFault};
-    use crate::opening::opened;
-    use std::test::Fail;
-
-    #[test]
-    fn texts_open(rt: HostRuntime) -> Result<(), Fail> {
-        for (text, cause, offset) in [
-            ("HOA", HoaCause::NotHoa, 0),
-            ("/* HOA: v1", HoaCause::NotHoa, 0),
-            ("HOA:", HoaCause::Version, 4),
-            ("HOA: v", HoaCause::Version, 5),
-            ("HOA: v1--BODY--", HoaCause::Version, 5),
-            (" HOA: /*", HoaCause::Version, 6),
-        ] {
-            assert_eq!(rt;
-                opened(text.as_bytes()).err(),
-                Some(HoaFault::Text { cause, offset })
-            );
-        }
-        assert!(rt; opened(b"/*a/*b*/c*/HOA:v1 Start: 0").is_ok());
-        Ok(())
-    }
-}

@@ -5,13 +5,9 @@
 
 mod built_in;
 mod drawing;
-#[cfg(test)]
-mod extract_tests;
 mod extracting;
 mod fault;
 mod game;
-#[cfg(test)]
-mod game_tests;
 mod key;
 mod laws;
 mod machine;
@@ -21,11 +17,7 @@ mod numbering;
 mod replay;
 mod second_drawing;
 mod solver;
-#[cfg(test)]
-mod tests;
 mod used;
-#[cfg(test)]
-mod worked_texts;
 
 pub use built_in::BuiltIn;
 pub use extracting::extract;

@@ -13,8 +13,6 @@ mod plan;
 mod role;
 mod simulator;
 mod stimulus;
-#[cfg(test)]
-mod tests;
 
 pub use fault::{StimulusCause, StimulusFault};
 pub use lanes::LaneSimulator;

@@ -1,9 +1,11 @@
+//! Circuits that are run, stimuli, and verdicts on lassos.
+
 ghost use Rattle.std.specs.Prelude.{◌≡◌, length};
 
-use crate::{
+use ps_automaton::Automaton;
+use ps_simulate::{
     LaneSimulator, Role, Simulator, StimulusCause, StimulusFault, Verdict, lasso, parse_stimulus,
 };
-use ps_automaton::Automaton;
 use std::test::Fail;
 
 /// One input, one latch whose first value is 1, and three gates, none of which stands behind those that it reads.

@@ -1,23 +1,8 @@
-//! Tests of the reading of headers.
+//! Headers of the Hanoi Omega-Automata format.
 
-use crate::fault::{HoaCause, HoaFault};
-use crate::items::header;
-use crate::opening::opened;
-use std::alloc::Global;
+use crate::hoa_texts::refused;
+use ps_hoa::HoaCause;
 use std::test::Fail;
-
-/// What is wrong with the header of a text, and where.
-fn fault(alloc: Global, text: &str) -> Result<(HoaCause, usize), Fail> {
-    let mut tokens = match opened(text.as_bytes()) {
-        Ok(tokens) => tokens,
-        Err(_) => return Err(Fail::new("the text opens")),
-    };
-    match header(alloc, &mut tokens) {
-        Err(HoaFault::Text { cause, offset }) => Ok((cause, offset)),
-        Err(HoaFault::OutOfMemory) => Err(Fail::new("out of memory")),
-        Ok(_) => Err(Fail::new("a header without a fault")),
-    }
-}
 
 #[test]
 fn items_are_refused_where_they_stand(rt: HostRuntime) -> Result<(), Fail> {
@@ -44,7 +29,11 @@ fn items_are_refused_where_they_stand(rt: HostRuntime) -> Result<(), Fail> {
         ("HOA: v1 tool: \"a\" \"b\" \"c\"", HoaCause::Syntax, 22),
         ("HOA: v1 --ABORT--", HoaCause::Aborted, 8),
     ] {
-        assert_eq!(rt; fault(rt.alloc(), text)?, (cause, offset));
+        assert_eq!(rt;
+            refused(rt.alloc(), text.as_bytes()),
+            Some((cause, offset)),
+            "{text}"
+        );
     }
     Ok(())
 }
@@ -86,7 +75,11 @@ fn the_smallest_number_is_answered_at_the_body(rt: HostRuntime) -> Result<(), Fa
             37,
         ),
     ] {
-        assert_eq!(rt; fault(rt.alloc(), text)?, (cause, offset));
+        assert_eq!(rt;
+            refused(rt.alloc(), text.as_bytes()),
+            Some((cause, offset)),
+            "{text}"
+        );
     }
     Ok(())
 }
@@ -95,33 +88,38 @@ fn the_smallest_number_is_answered_at_the_body(rt: HostRuntime) -> Result<(), Fa
 fn items_stand_in_any_order(rt: HostRuntime) -> Result<(), Fail> {
     let text =
         b"HOA: v1 /*a/*b*/c*/ controllable-AP: 1 0 1 acc-name: x 1 \"y\" Alias: @x 0 Alias: @y @x&!1
-        tool: \"a\" \"b\" name: \"c\" Acceptance: 1 Inf(0) AP: 2 \"a\\\"\" \"b\" Start: 3 States: 4 --BODY--";
-    let mut tokens = match opened(text) {
-        Ok(tokens) => tokens,
-        Err(_) => return Err(Fail::new("the text opens")),
-    };
-    let Ok(header) = header(rt.alloc(), &mut tokens) else {
-        return Err(Fail::new("a header without a fault"));
-    };
-    assert_eq!(rt; (header.states, header.start), (Some(4), Some(3)));
-    assert_eq!(rt; (header.propositions(), header.sets()), (2, 1));
-    let aliases = format!(in rt.alloc(); "{:?}", header.aliases)?;
+        tool: \"a\" \"b\" name: \"c\" Acceptance: 1 Inf(0) AP: 2 \"a\\\"\" \"b\" Start: 3 States: 4 --BODY-- --END--";
+    let file = ps_hoa::read(rt.alloc(), text)?;
+    assert_eq!(rt; (file.states(), file.start()), (4, 3));
+    assert_eq!(rt; (file.names().len(), file.sets()), (2, 1));
+    let aliases = format!(in rt.alloc(); "{:?}", file.aliases().as_slice())?;
     assert_eq!(rt;
         aliases.as_str(),
         "[Atom(0), Both([Named(0), Neg(Atom(1))])]"
     );
-    let names = format!(in rt.alloc();
-        "{:?}",
-        header.names.as_ref().map(|names| names.as_slice())
-    )?;
-    assert_eq!(rt; names.as_str(), "Some([[97, 34], [98]])");
-    let controllable = format!(in rt.alloc();
-        "{:?}",
-        header
-            .controllable
-            .as_ref()
-            .map(|indices| indices.as_slice())
-    )?;
-    assert_eq!(rt; controllable.as_str(), "Some([1, 0])");
+    let names = format!(in rt.alloc(); "{:?}", file.names())?;
+    assert_eq!(rt; names.as_str(), "[[97, 34], [98]]");
+    let controllable = format!(in rt.alloc(); "{:?}", file.controllable())?;
+    assert_eq!(rt; controllable.as_str(), "[1, 0]");
+    Ok(())
+}
+
+#[test]
+fn texts_open(rt: HostRuntime) -> Result<(), Fail> {
+    for (text, cause, offset) in [
+        ("HOA", HoaCause::NotHoa, 0),
+        ("/* HOA: v1", HoaCause::NotHoa, 0),
+        ("HOA:", HoaCause::Version, 4),
+        ("HOA: v", HoaCause::Version, 5),
+        ("HOA: v1--BODY--", HoaCause::Version, 5),
+        (" HOA: /*", HoaCause::Version, 6),
+        ("/*a/*b*/c*/HOA:v1 Start: 0", HoaCause::Syntax, 26),
+    ] {
+        assert_eq!(rt;
+            refused(rt.alloc(), text.as_bytes()),
+            Some((cause, offset)),
+            "{text}"
+        );
+    }
     Ok(())
 }

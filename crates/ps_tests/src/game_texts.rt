@@ -1,7 +1,7 @@
 //! What no clause says: that texts are read and written where there is memory, and how a fault prints.
 
-use crate::{PgCause, PgFault, read, write};
 use ps_game::Arena;
+use ps_pgsolver::{PgCause, PgFault, read, write};
 use std::test::Fail;
 
 #[test]

@@ -1,7 +1,6 @@
 //! Automata of texts.
 
-use crate::automaton::Automaton;
-use crate::fault::AutomatonFault;
+use ps_automaton::{Automaton, AutomatonFault};
 use std::alloc::Global;
 use std::test::Fail;
 

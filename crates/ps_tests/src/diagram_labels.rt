@@ -4,7 +4,7 @@ ghost use Rattle.std.specs.Prelude.{◌≡◌, ◌<◌, IfOk};
 ghost use Rattle.ps_label.specs.Expression.{expression};
 ghost use Rattle.ps_diagram.specs.Labels.{IsOver};
 
-use crate::store::Store;
+use ps_diagram::Store;
 use ps_label::{Label, Labels};
 use std::alloc::{AllocError, Global};
 use std::test::Fail;

@@ -1,9 +1,11 @@
+//! The two solvers, and games by keys.
+
 ghost use Rattle.std.specs.Prelude.{◌≡◌};
 ghost use Rattle.ps_machine.specs.declared.key.Key.TheVariants.{First};
 
-use crate::{BuiltIn, Key, Order, Replay, SolveFault, Solver, Successors, game_by_keys};
 use ps_certificate::CertCause;
 use ps_game::{Arena, GameBuilder, NamedGame};
+use ps_machine::{BuiltIn, Key, Order, Replay, SolveFault, Solver, Successors, game_by_keys};
 use std::alloc::{AllocError, Global};
 use std::test::Fail;
 

@@ -1,7 +1,7 @@
 use Rattle.ps_label.specs.Expression.{row_of}
 use Rattle.ps_label.specs.Truth.{expressions}
 use Rattle.ps_diagram.specs.Labels.{AreOver}
-use Rattle.ps_diagram.proofs.label_tests.+random_label.Given as goal
+use Rattle.ps_tests.proofs.diagram_labels.+random_label.Given as goal
 
 abbrev pub decreases-random_label : goal.decreases-random_label
 decreases-random_label l = l.depth

@@ -4,8 +4,8 @@ use Rattle.ps_label.specs.Expression.{expression, row_of}
 use Rattle.ps_label.specs.Truth.{expressions}
 use Rattle.ps_label.proofs.Rows.{expression-Both, expression-Either}
 use Rattle.ps_diagram.specs.Labels.{IsOver, AreOver}
-use Rattle.ps_diagram.proofs.label_tests.+random_label.Goals as goal
-use Rattle.ps_diagram.proofs.label_tests.+random_label.Goals.{then-either, else-either, then-below-eq0+in_ok-new, else-below-eq0}
+use Rattle.ps_tests.proofs.diagram_labels.+random_label.Goals as goal
+use Rattle.ps_tests.proofs.diagram_labels.+random_label.Goals.{then-either, else-either, then-below-eq0+in_ok-new, else-below-eq0}
 
 over_push : (labels : List Label) (label : Label) → AreOver 0 4 (row_of (expressions labels)) → IsOver 0 4 (expression label) → AreOver 0 4 (row_of (expressions (labels ++ label ∷ [])))
 over_push [] label h g = (g, tt)

@@ -1,8 +1,8 @@
 //! Printed games of texts.
 
 use crate::worked_texts::{EXACT, FORETELLING, THREE_PROPOSITIONS, TWO_STATES, automaton_of};
-use crate::{Order, game_of};
 use ps_automaton::Automaton;
+use ps_machine::{Order, game_of};
 use std::alloc::Global;
 use std::test::Fail;
 

@@ -7,10 +7,10 @@ ghost use Rattle.ps_machine.specs.Solving.{IsCertified};
 use crate::worked_texts::{
     CONSTANT, DELAYED, EXACT, FORETELLING, REJECTING, TWO_STATES, automaton_of,
 };
-use crate::{BuiltIn, Machine, Order, Solver, extract, game_of};
 use ps_automaton::Automaton;
 use ps_certificate::{Certificate, check};
 use ps_game::NamedGame;
+use ps_machine::{BuiltIn, Machine, Order, Solver, extract, game_of};
 use std::alloc::{AllocError, Global};
 use std::test::Fail;
 

@@ -1,8 +1,6 @@
 //! Each call with ample memory.
 
-use crate::fault::OverlayError;
-use crate::store::Store;
-use crate::view::View;
+use ps_diagram::{OverlayError, Store, View};
 use std::test::Fail;
 
 #[test]

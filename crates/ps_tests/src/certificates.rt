@@ -1,4 +1,6 @@
-use crate::{Certificate, Entry, Flaw, check, closed, fits};
+//! What is found wrong with certificates.
+
+use ps_certificate::{Certificate, Entry, Flaw, check, closed, fits};
 use ps_game::{Game, GameBuilder};
 use std::alloc::{AllocError, Global};
 use std::test::Fail;

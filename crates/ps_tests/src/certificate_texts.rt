@@ -1,4 +1,6 @@
-use crate::{CertCause, CertFault, Certificate, read, write, write_compact};
+//! Texts of certificates.
+
+use ps_certificate::{CertCause, CertFault, Certificate, read, write, write_compact};
 use ps_game::{Arena, GameBuilder, NamedGame};
 use std::alloc::Global;
 use std::test::Fail;

@@ -1,0 +1,139 @@
+#!/usr/bin/env python3
+"""Times the encoding of machines as circuits, on machines of 100 to some 100,000 memories.
+
+  bench/encode.py [--most MEMORIES] [--program PROGRAM]
+
+psyn has no command that only encodes, so the program bench/encode is made in a temporary folder, over copies of the crates with
+what earlier checks kept in out/. --program gives one that was made before. It reads an automaton, solves its game, makes the
+winner's machine, and encodes that three times, of which the fastest counts. The families are:
+    cycle      a memory leads to the next one, whatever is read; the output is drawn for each
+    drawn      two memories and two output letters are drawn for each memory, and the input chooses
+    wide       as drawn, but each memory reads the conjunction of two of 16 inputs
+    first      the environment moves first, and each of its states has two memories; the next state is drawn for each output
+Each machine has twice as many memories as the one before, up to MEMORIES (131,072). A line for each has the memories, the latches,
+the gates, the milliseconds, how often they grew since the line above (the bits of all codes are worked out one after another, so
+2.0 to 2.3 is growth in proportion to memories times latches), the gates made in a second, and the memories' bits worked out in a second.
+"""
+import argparse
+import os
+import random
+import shutil
+import subprocess
+import sys
+import tempfile
+
+sys.dont_write_bytecode = True
+BENCH = os.path.dirname(os.path.abspath(__file__))
+TOP = os.path.dirname(BENCH)
+sys.path.insert(0, BENCH)
+from sources import copy_program  # noqa: E402
+STANDS_ON = ("ps_aiger", "ps_automaton", "ps_game", "ps_hoa", "ps_machine")
+LEAST = 128
+STATES = 65_535
+
+
+def head(inputs, outputs, acceptance):
+    names = [f'"i{k}"' for k in range(inputs)] + [f'"o{k}"' for k in range(outputs)]
+    owned = " ".join(str(inputs + k) for k in range(outputs))
+    return f"HOA: v1 Start: 0 AP: {len(names)} {' '.join(names)} controllable-AP: {owned} Acceptance: {acceptance} --BODY--\n"
+
+
+def sign(dice, proposition):
+    return f"{dice.choice(('', '!'))}{proposition}"
+
+
+def cycle(count, dice):
+    lines = [f"State: {q} [{sign(dice, 1)}] {(q + 1) % count}\n" for q in range(count)]
+    return head(1, 1, "0 t") + "".join(lines) + "--END--\n"
+
+
+def drawn(count, dice):
+    lines = [
+        f"State: {q} [0&{sign(dice, 1)}&{sign(dice, 2)}] {(q + 1) % count} [!0&{sign(dice, 1)}&{sign(dice, 2)}] {dice.randrange(count)}\n"
+        for q in range(count)
+    ]
+    return head(1, 2, "0 t") + "".join(lines) + "--END--\n"
+
+
+def wide(count, dice):
+    lines = []
+    for q in range(count):
+        a, b = dice.sample(range(16), 2)
+        lines.append(f"State: {q} [{a}&{b}&{sign(dice, 16)}] {(q + 1) % count} [!({a}&{b})&{sign(dice, 16)}] {dice.randrange(count)}\n")
+    return head(16, 1, "0 t") + "".join(lines) + "--END--\n"
+
+
+def first(count, dice):
+    """In each state one input leads on, by either output, in one of two priorities; behind the other one the controller wins."""
+    half = count // 2
+    nexts = list(range(half))
+    dice.shuffle(nexts)
+    lines = []
+    for q in range(half):
+        move = dice.choice(("", "!"))
+        back = "!" if move == "" else ""
+        lines.append(f"State: {q} [{move}0&1] {(q + 1) % half} {{0}} [{move}0&!1] {nexts[q]} [{back}0] {half}\n")
+    lines.append(f"State: {half} [t] {half} {{1}}\n")
+    return head(1, 1, "2 Fin(0) & Inf(1)") + "".join(lines) + "--END--\n"
+
+
+def made(folder):
+    """Makes the program in a folder."""
+    import lanes  # which crates another one stands on
+
+    crates = os.path.join(folder, "crates")
+    below = lanes.lines_below(STANDS_ON)
+    for name in below:
+        shutil.copytree(os.path.join(TOP, "crates", name), os.path.join(crates, name))
+    copy_program("encode", crates)
+    shutil.copy(os.path.join(TOP, "HANDLES"), folder)
+    with open(os.path.join(folder, "crates.txt"), "w", encoding="utf-8") as file:
+        file.writelines([*below.values(), f"encode: anyhow {' '.join(STANDS_ON)}\n"])
+    subprocess.run(["git", "init", "-q"], cwd=folder, check=True)
+    crate = os.path.join(crates, "encode")
+    subprocess.run(["rt", "run"], cwd=crate, check=True, input=cycle(4, random.Random(4)).encode(), stdout=subprocess.DEVNULL)
+    return os.path.join(crate, "out", "encode")
+
+
+def figures(program, text):
+    """The nanoseconds, and the numbers of memories, latches and gates."""
+    run = subprocess.run([program], input=text.encode(), capture_output=True, check=False)
+    if run.returncode != 0:
+        sys.exit(f"status {run.returncode}: {run.stderr[:200]!r}\n{text[:2000]}")
+    return tuple(map(int, run.stdout.split()))
+
+
+def outputs_of(family):
+    return 2 if family is drawn else 1
+
+
+def sizes(family, most):
+    """Numbers of memories, each twice the one before as long as so many states can be read."""
+    most = min(most, 2 * (STATES - 1) if family is first else STATES)
+    count = LEAST
+    while count < most:
+        yield count
+        count *= 2
+    yield most
+
+
+def main():
+    words = argparse.ArgumentParser(description=__doc__.split("\n", maxsplit=1)[0])
+    words.add_argument("--most", type=int, default=131_072)
+    words.add_argument("--program")
+    given = words.parse_args()
+    with tempfile.TemporaryDirectory() as folder:
+        program = given.program or made(folder)
+        print("family   memories  latches     gates          ms  growth    gates/s     bits/s")
+        for family in (cycle, drawn, wide, first):
+            before = None
+            for count in sizes(family, given.most):
+                nanos, memories, latches, gates = figures(program, family(count, random.Random(count)))
+                growth = f"{nanos / before:6.2f}" if before else "      "
+                bits = (latches + outputs_of(family)) * 2 ** latches
+                print(f"{family.__name__:7} {memories:9}  {latches:7} {gates:9}  {nanos / 1e6:10.2f}  {growth} {gates / nanos * 1e9:10.0f} {bits / nanos * 1e9:10.0f}", flush=True)
+                before = nanos
+
+
+if __name__ == "__main__":
+    main()
