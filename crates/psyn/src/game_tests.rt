@@ -2,7 +2,7 @@
 
 mod rows;
 
-use crate::lasso_tests::meets;
+use crate::tests::asking::meets;
 use rows::{CERTIFIED, CONDITIONS, OUTPUTS_FIRST, PRINTED, REFUSED};
 use std::test::Fail;
 

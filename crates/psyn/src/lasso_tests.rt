@@ -2,15 +2,11 @@
 
 mod rows;
 
-use crate::memory::run_in_memory;
-use crate::tests::rows::Row;
-use ps_machine::{BuiltIn, Replay};
+use crate::tests::asking::meets;
 use rows::{
     ACCEPTED_AND_REJECTED, ENVIRONMENTS, FIRST_FAULTS, REFUSED_AUTOMATA, REFUSED_LASSOS,
     REPEATED_LAPS,
 };
-use std::alloc::Global;
-use std::process::Abort;
 use std::test::Fail;
 
 #[test]
@@ -41,24 +37,4 @@ fn refused_automata(rt: HostRuntime) -> Result<(), Fail> {
 #[test]
 fn first_faults(rt: HostRuntime) -> Result<(), Fail> {
     meets(&rt, rt.alloc(), &FIRST_FAULTS)
-}
-
-/// Each row has its answer.
-pub fn meets(rt: &impl Abort, alloc: Global, rows: &[Row]) -> Result<(), Fail> {
-    for row in rows {
-        let answer = run_in_memory(
-            alloc,
-            row.input.as_bytes(),
-            Box::new(alloc, BuiltIn::new(alloc))?,
-            Box::new(alloc, Replay::new(alloc))?,
-        )?;
-        assert_eq!(rt;
-            answer.text.as_slice(),
-            row.output.as_bytes(),
-            "{}",
-            row.name
-        );
-        assert_eq!(rt; answer.status, row.status, "{}", row.name);
-    }
-    Ok(())
 }

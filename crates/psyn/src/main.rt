@@ -12,6 +12,8 @@ pub mod fault_text;
 #[cfg(test)]
 mod game_tests;
 #[cfg(test)]
+mod hostile_tests;
+#[cfg(test)]
 mod lasso_tests;
 pub mod laws;
 pub mod memory;

@@ -3,9 +3,7 @@
 mod generous;
 mod rows;
 
-use crate::lasso_tests::meets;
-use crate::memory::run_in_memory;
-use ps_machine::{BuiltIn, Replay};
+use crate::tests::asking::{meets, reply_to};
 use rows::{CERTIFIED, FLAGS, MADE, OPEN, OUTPUTS_FIRST, REFUSED};
 use std::test::Fail;
 
@@ -37,12 +35,7 @@ fn refused(rt: HostRuntime) -> Result<(), Fail> {
 #[test]
 fn open_moves(rt: HostRuntime) -> Result<(), Fail> {
     for row in OPEN.iter() {
-        let answer = run_in_memory(
-            rt.alloc(),
-            row.input.as_bytes(),
-            Box::new(rt.alloc(), BuiltIn::new(rt.alloc()))?,
-            Box::new(rt.alloc(), Replay::new(rt.alloc()))?,
-        )?;
+        let answer = reply_to(rt.alloc(), row.input.as_bytes())?;
         assert!(rt;
             answer.text.as_slice().starts_with(row.output.as_bytes()),
             "{}",

@@ -1,14 +1,12 @@
 //! The program over memory: worked rows, and readers and writers that fail.
 
+pub mod asking;
 pub mod rows;
 mod solvers;
-mod streams;
+pub mod streams;
 
-use crate::lasso_tests::meets;
-use crate::memory::run_in_memory;
-use crate::run::run;
 use crate::watched::Watched;
-use ps_machine::{BuiltIn, Replay};
+use asking::{meets, reply_to, status_over};
 use rows::{ROWS, SOLVED};
 use std::test::Fail;
 use streams::{Endless, Kept, Script, Written};
@@ -34,22 +32,7 @@ const UNREADABLE: &[u8] = b"fault 25 ReadFault\n";
 
 #[test]
 fn worked_rows(rt: HostRuntime) -> Result<(), Fail> {
-    for row in ROWS.iter() {
-        let answer = run_in_memory(
-            rt.alloc(),
-            row.input.as_bytes(),
-            Box::new(rt.alloc(), BuiltIn::new(rt.alloc()))?,
-            Box::new(rt.alloc(), Replay::new(rt.alloc()))?,
-        )?;
-        assert_eq!(rt;
-            answer.text.as_slice(),
-            row.output.as_bytes(),
-            "{}",
-            row.name
-        );
-        assert_eq!(rt; answer.status, row.status, "{}", row.name);
-    }
-    Ok(())
+    meets(&rt, rt.alloc(), &ROWS)
 }
 
 #[test]
@@ -67,12 +50,7 @@ fn certificates_cut_short(rt: HostRuntime) -> Result<(), Fail> {
             let refused = format!(in rt.alloc(); "fault 53 Syntax at {end}\n")?;
             let is_whole = end == CERTIFICATE.len();
             let expected = if is_whole { answer } else { refused.as_str() };
-            let given = run_in_memory(
-                rt.alloc(),
-                input.as_slice(),
-                Box::new(rt.alloc(), BuiltIn::new(rt.alloc()))?,
-                Box::new(rt.alloc(), Replay::new(rt.alloc()))?,
-            )?;
+            let given = reply_to(rt.alloc(), input.as_slice())?;
             assert_eq!(rt; given.text.as_slice(), expected.as_bytes(), "cut at {end}");
             assert_eq!(rt; given.status, u8::from(!is_whole), "cut at {end}");
         }
@@ -98,13 +76,7 @@ fn more_than_a_buffer(rt: HostRuntime) -> Result<(), Fail> {
     let mut writer = Watched::new(Kept {
         text: Vec::new(rt.alloc()),
     });
-    let status = run(
-        rt.alloc(),
-        &mut reader,
-        &mut writer,
-        Box::new(rt.alloc(), BuiltIn::new(rt.alloc()))?,
-        Box::new(rt.alloc(), Replay::new(rt.alloc()))?,
-    );
+    let status = status_over(rt.alloc(), &mut reader, &mut writer)?;
     assert_eq!(rt; writer.inner().text.as_slice(), expected.as_slice());
     assert_eq!(rt; status, 0);
     Ok(())
@@ -118,13 +90,7 @@ fn reads_that_fail(rt: HostRuntime) -> Result<(), Fail> {
         reader.most = 1;
         reader.calls_left = calls;
         let mut writer = Written::new(rt.alloc());
-        let status = run(
-            rt.alloc(),
-            &mut reader,
-            &mut writer,
-            Box::new(rt.alloc(), BuiltIn::new(rt.alloc()))?,
-            Box::new(rt.alloc(), Replay::new(rt.alloc()))?,
-        );
+        let status = status_over(rt.alloc(), &mut reader, &mut writer)?;
         assert_eq!(rt; writer.text.as_slice(), UNREADABLE, "at call {calls}");
         assert_eq!(rt; status, 1, "at call {calls}");
     }
@@ -136,13 +102,7 @@ fn reads_of_one_byte(rt: HostRuntime) -> Result<(), Fail> {
     let mut reader = Script::new(EXAMPLE.as_bytes());
     reader.most = 1;
     let mut writer = Written::new(rt.alloc());
-    let status = run(
-        rt.alloc(),
-        &mut reader,
-        &mut writer,
-        Box::new(rt.alloc(), BuiltIn::new(rt.alloc()))?,
-        Box::new(rt.alloc(), Replay::new(rt.alloc()))?,
-    );
+    let status = status_over(rt.alloc(), &mut reader, &mut writer)?;
     assert_eq!(rt; writer.text.as_slice(), ANSWER);
     assert_eq!(rt; status, 0);
     Ok(())
@@ -152,13 +112,7 @@ fn reads_of_one_byte(rt: HostRuntime) -> Result<(), Fail> {
 fn reads_without_an_end(rt: HostRuntime) -> Result<(), Fail> {
     let mut reader = Endless { given: 0 };
     let mut writer = Written::new(rt.alloc());
-    let status = run(
-        rt.alloc(),
-        &mut reader,
-        &mut writer,
-        Box::new(rt.alloc(), BuiltIn::new(rt.alloc()))?,
-        Box::new(rt.alloc(), Replay::new(rt.alloc()))?,
-    );
+    let status = status_over(rt.alloc(), &mut reader, &mut writer)?;
     assert_eq!(rt; writer.text.as_slice(), UNREADABLE);
     assert_eq!(rt; status, 1);
     assert_eq!(rt; reader.given, 67_108_865);
@@ -173,13 +127,7 @@ fn writes_that_fail(rt: HostRuntime) -> Result<(), Fail> {
         let mut writer = Written::new(rt.alloc());
         writer.most = 1;
         writer.calls_left = calls as u64;
-        let status = run(
-            rt.alloc(),
-            &mut reader,
-            &mut writer,
-            Box::new(rt.alloc(), BuiltIn::new(rt.alloc()))?,
-            Box::new(rt.alloc(), Replay::new(rt.alloc()))?,
-        );
+        let status = status_over(rt.alloc(), &mut reader, &mut writer)?;
         assert_eq!(rt; writer.text.as_slice(), &ANSWER[..calls], "at call {calls}");
         assert_eq!(rt; writer.calls, calls as u64 + 1, "at call {calls}");
         assert_eq!(rt; status, 1, "at call {calls}");
@@ -192,13 +140,7 @@ fn writes_of_one_byte(rt: HostRuntime) -> Result<(), Fail> {
     let mut reader = Script::new(EXAMPLE.as_bytes());
     let mut writer = Written::new(rt.alloc());
     writer.most = 1;
-    let status = run(
-        rt.alloc(),
-        &mut reader,
-        &mut writer,
-        Box::new(rt.alloc(), BuiltIn::new(rt.alloc()))?,
-        Box::new(rt.alloc(), Replay::new(rt.alloc()))?,
-    );
+    let status = status_over(rt.alloc(), &mut reader, &mut writer)?;
     assert_eq!(rt; writer.text.as_slice(), ANSWER);
     assert_eq!(rt; writer.calls, ANSWER.len() as u64 + 1);
     assert_eq!(rt; status, 0);
@@ -210,13 +152,7 @@ fn writes_that_take_nothing(rt: HostRuntime) -> Result<(), Fail> {
     let mut reader = Script::new(EXAMPLE.as_bytes());
     let mut writer = Written::new(rt.alloc());
     writer.most = 0;
-    let status = run(
-        rt.alloc(),
-        &mut reader,
-        &mut writer,
-        Box::new(rt.alloc(), BuiltIn::new(rt.alloc()))?,
-        Box::new(rt.alloc(), Replay::new(rt.alloc()))?,
-    );
+    let status = status_over(rt.alloc(), &mut reader, &mut writer)?;
     assert!(rt; writer.text.is_empty());
     assert_eq!(rt; writer.calls, 1);
     assert_eq!(rt; status, 1);

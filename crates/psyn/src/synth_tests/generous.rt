@@ -1,6 +1,6 @@
 //! A solver that gives all to player 0.
 
-use crate::memory::run_in_memory;
+use crate::tests::asking::reply_by;
 use ps_certificate::{Certificate, Entry};
 use ps_game::{Arena, Game, NamedGame};
 use ps_machine::{BuiltIn, Replay, SolveFault, Solver};
@@ -74,7 +74,7 @@ fn entry(alloc: Global, game: &Game, vertex: usize) -> Result<Entry, AllocError>
 
 #[test]
 fn what_the_first_solver_gives_is_checked(rt: HostRuntime) -> Result<(), Fail> {
-    let answer = run_in_memory(
+    let answer = reply_by(
         rt.alloc(),
         FORETELLING,
         Box::new(rt.alloc(), Generous { alloc: rt.alloc() })?,
@@ -87,7 +87,7 @@ fn what_the_first_solver_gives_is_checked(rt: HostRuntime) -> Result<(), Fail> {
 
 #[test]
 fn what_the_second_solver_gives_is_checked(rt: HostRuntime) -> Result<(), Fail> {
-    let answer = run_in_memory(
+    let answer = reply_by(
         rt.alloc(),
         FORETELLING_BY_CERTIFICATE,
         Box::new(rt.alloc(), BuiltIn::new(rt.alloc()))?,

@@ -3,7 +3,7 @@
 ghost use Rattle.std.specs.Prelude.{◌≡◌, ◌<◌, IfOk, length};
 ghost use Rattle.std.specs.List.{All};
 
-use crate::memory::run_in_memory;
+use crate::tests::asking::reply_by;
 use ps_certificate::Certificate;
 use ps_game::{Arena, NamedGame};
 use ps_machine::{Replay, SolveFault, Solver};
@@ -54,7 +54,7 @@ fn last_of(alloc: Global, count: usize) -> Result<Vec<usize>, AllocError>
 
 #[test]
 fn a_cycle_is_named_by_its_ids(rt: HostRuntime) -> Result<(), Fail> {
-    let answer = run_in_memory(
+    let answer = reply_by(
         rt.alloc(),
         LOST,
         Box::new(rt.alloc(), Lost { alloc: rt.alloc() })?,
@@ -73,7 +73,7 @@ fn a_certificate_that_is_not_valid_is_not_printed(rt: HostRuntime) -> Result<(),
     // Everything is given to player 0.
     let mut solver = Replay::new(rt.alloc());
     solver.feed(b"psyncert 1\nvertices 2\nodd 1\neven\n10 0 12 0\n12 0 - 0\n")?;
-    let answer = run_in_memory(
+    let answer = reply_by(
         rt.alloc(),
         LOST,
         Box::new(rt.alloc(), solver)?,
@@ -91,7 +91,7 @@ fn a_certificate_that_is_not_valid_is_not_printed(rt: HostRuntime) -> Result<(),
 fn a_certificate_that_was_fed_is_printed(rt: HostRuntime) -> Result<(), Fail> {
     let mut solver = Replay::new(rt.alloc());
     solver.feed(b"psyncert 2\nvertices 2\nodd 1\neven\n10 1 -\n12 1 10\n")?;
-    let answer = run_in_memory(
+    let answer = reply_by(
         rt.alloc(),
         LOST,
         Box::new(rt.alloc(), solver)?,
@@ -105,7 +105,7 @@ fn a_certificate_that_was_fed_is_printed(rt: HostRuntime) -> Result<(), Fail> {
 
 #[test]
 fn a_text_that_was_fed_is_refused_where_it_is_wrong(rt: HostRuntime) -> Result<(), Fail> {
-    let answer = run_in_memory(
+    let answer = reply_by(
         rt.alloc(),
         LOST,
         Box::new(rt.alloc(), Replay::new(rt.alloc()))?,
