@@ -1,4 +1,5 @@
 """What the sweeps share that spoil one call of a run: their inputs, the program, and the C that is loaded before it."""
+import concurrent.futures
 import contextlib
 import os
 import subprocess
@@ -31,7 +32,8 @@ def inputs_of(folder):
 
 def program_and_folder(words):
     """The program and the folder of inputs that the words of a command line name."""
-    program, folder, words = os.path.join(TOP, "crates", "psyn", "out", "psyn"), os.path.join(TOP, "examples"), list(words)
+    program = os.environ.get("PSYN") or os.path.join(TOP, "crates", "psyn", "out", "psyn")
+    folder, words = os.path.join(TOP, "examples"), list(words)
     while words:
         word = words.pop(0)
         if word == "--program" and words:
@@ -50,3 +52,9 @@ def library(source):
         shim = os.path.join(made, source.replace(".c", ".so"))
         subprocess.run(["cc", "-O2", "-shared", "-fPIC", "-o", shim, os.path.join(TOOLS, source)], check=True)
         yield shim
+
+
+def at_once(work, items):
+    """What `work` gives for each item, in their order: as many at a time as there are processors."""
+    with concurrent.futures.ThreadPoolExecutor(os.cpu_count()) as pool:
+        return list(pool.map(work, items))

@@ -4,26 +4,18 @@ import re
 import subprocess
 import unittest
 
-from psyntool import faults
+from psyntool import counts, faults
 from psyntool.command import program
-from psyntool.inputs import Refused
-
-TOP = os.path.join(os.path.dirname(os.path.abspath(__file__)), "..", "..")
+from psyntool.sweeps import TOP
 
 
-def built():
-    try:
-        return program()
-    except Refused:
-        return None
-
-
-@unittest.skipUnless(built(), "psyn is not built")
 class Examples(unittest.TestCase):
     def test_each_example_has_its_answer(self):
-        for fault in faults.read_document():
+        path, document = program(), faults.read_document()
+        counts.ran("examples", "of docs/FAULTS.md", sum(len(fault.examples) for fault in document))
+        for fault in document:
             for given, answer in fault.examples:
-                done = subprocess.run([built()], input=given.encode(), stdout=subprocess.PIPE, check=False)
+                done = subprocess.run([path], input=given.encode(), stdout=subprocess.PIPE, check=False)
                 with self.subTest(fault=fault.name):
                     self.assertEqual(done.stdout.decode(), answer)
                     self.assertEqual(done.returncode, 2 if answer == "fault usage\n" else 1)

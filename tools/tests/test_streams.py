@@ -1,13 +1,11 @@
 """Where a read or a write of psyn fails, and that tools/refuse-streams sees a program that goes on."""
 import os
-import shutil
 import subprocess
 import tempfile
 import unittest
 
-from psyntool import streams, sweeps
-
-from tests.test_faults import TOP, built
+from psyntool import counts, streams, sweeps
+from psyntool.command import program
 
 ANSWER = (b"closed\n", 0)
 CARELESS = """\
@@ -46,7 +44,6 @@ class Rules(unittest.TestCase):
         self.assertFalse(streams.is_right("one", "Rrrw", (b"", 1), ANSWER))
 
 
-@unittest.skipUnless(shutil.which("cc"), "there is no cc")
 class Sweeps(unittest.TestCase):
     def test_a_careless_program_is_seen(self):
         with tempfile.TemporaryDirectory() as room, sweeps.library("refuse_stream.c") as shim:
@@ -61,13 +58,13 @@ class Sweeps(unittest.TestCase):
         self.assertEqual(ways, [(way, number) for way in ("fails", "interrupted") for number in (1, 2, 3, 4)] + [("one", 0), ("one", 4), ("none", 4)])
         self.assertEqual(spoiled, 4 + 4 + 5 + 1)
 
-    @unittest.skipUnless(built(), "psyn is not built")
     def test_each_example_meets_each_spoiled_call(self):
-        folder = os.path.join(TOP, "examples")
+        folder, path = os.path.join(sweeps.TOP, "examples"), program()
+        inputs = sweeps.inputs_of(folder)
         with sweeps.library("refuse_stream.c") as shim:
-            for name, expected in sweeps.inputs_of(folder).items():
-                with self.subTest(name):
-                    self.assertEqual(streams.sweep(built(), shim, os.path.join(folder, name), expected)[1], [])
+            swept = sweeps.at_once(lambda name: streams.sweep(path, shim, os.path.join(folder, name), inputs[name]), inputs)
+        counts.ran("sweeps", "examples with each read and write spoiled", len(swept))
+        self.assertEqual([(name, wrong) for name, (_, wrong) in zip(inputs, swept) if wrong], [])
 
 
 if __name__ == "__main__":

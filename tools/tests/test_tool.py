@@ -7,8 +7,8 @@ import tempfile
 import unittest
 
 from psyntool import binary, formats, inputs, pictures, solutions, waves
-
-from tests.test_faults import TOP, built
+from psyntool.command import program
+from psyntool.sweeps import TOP
 
 TOOL = os.path.join(TOP, "tools", "psyn")
 GAME = b"0 0 1 0,1; 1 1 1 1;\n"
@@ -33,8 +33,11 @@ class OnFiles(unittest.TestCase):
         return subprocess.run(command, input=given, capture_output=True, check=False, env={**os.environ, **(environment or {})})
 
 
-@unittest.skipUnless(built(), "psyn is not built")
 class Commands(OnFiles):
+    @classmethod
+    def setUpClass(cls):
+        program()
+
     def test_the_answer_and_the_status_are_the_programs(self):
         game, certificate = self.file("game", GAME), self.file("certificate", CERTIFICATE)
         done = self.tool("closed", game, certificate)

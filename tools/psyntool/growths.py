@@ -1,0 +1,36 @@
+"""Refuses one growth of memory in a run, and tells which answers are right then. tools/refuse-growths says what is refused."""
+import os
+import subprocess
+
+OUT_OF_MEMORY = (b"fault 24 OutOfMemory\n", 1)
+SECONDS = 60
+
+
+def run(program, shim, path, number):
+    """What the program writes, with its status, and whether the growth of that number was refused."""
+    asked, tells = os.pipe()
+    environment = {**os.environ, "LD_PRELOAD": shim, "REFUSED_GROWTH": str(number), "REFUSED_TELLS": str(tells)}
+    with open(path, "rb") as text:
+        done = subprocess.run(
+            [program], stdin=text, stdout=subprocess.PIPE, env=environment, pass_fds=[tells], timeout=SECONDS, check=False
+        )
+    os.close(tells)
+    was_refused = os.read(asked, 1) != b""
+    os.close(asked)
+    return (done.stdout, done.returncode), was_refused
+
+
+def sweep(program, shim, path, expected):
+    """How many growths the input asks for, how many of them went without an answer of its own, and the wrong answers."""
+    growths, faults, wrong = 0, 0, []
+    answer, _ = run(program, shim, path, 0)
+    if answer != expected:
+        wrong.append((0, answer))
+    while True:
+        answer, was_refused = run(program, shim, path, growths + 1)
+        if not was_refused:
+            return growths, faults, wrong
+        growths += 1
+        faults += answer == OUT_OF_MEMORY != expected
+        if answer not in (expected, OUT_OF_MEMORY):
+            wrong.append((growths, answer))

@@ -1,0 +1,145 @@
+"""Rows: inputs of the program with what must be answered, as the files of examples/rows hold them.
+
+A file is TOML, and each character of its strings stands for a byte (ISO 8859-1). A `[[row]]` has
+
+  name      what it shows; no other row of the file has it
+  input     what the program reads; or parts: texts that stand one behind the other, of which { text = "..", times = 3 }
+            is one that stands there three times
+  answer    what it writes, whole; or one_of: answers of which each is right; or, where a move is open, begins: the first
+            lines, and contains: parts of the answer
+  status    with which status it ends
+
+A `[[cut]]` stands for a row behind each byte of a text:
+
+  name      whose text it is
+  before, text, behind    the input is the first bytes of `text` between the other two
+  early     the number and the name of a fault, which most beginnings have, where the text ends; `ended` bytes further on
+  whole_from, whole, status    from so many bytes on the answer, and its status, are those to the whole
+  [[cut.other]] from, to, answer, status    the answer to the beginnings of `from` to `to` bytes
+"""
+import os
+import subprocess
+import tomllib
+
+SECONDS = 120
+ROW_KEYS = {"name", "input", "parts", "answer", "one_of", "begins", "contains", "status"}
+CUT_KEYS = {"name", "before", "text", "behind", "ended", "early", "whole_from", "whole", "status", "other"}
+OTHER_KEYS = {"from", "to", "answer", "status"}
+
+
+class Malformed(Exception):
+    """A file of rows is not written as it should be; the message says what is wrong."""
+
+
+class Row:
+    """An input and its judge: what is wrong with an answer."""
+
+    def __init__(self, name, given, status, **judged):
+        self.name, self.given, self.status = name, given, status
+        self.one_of = judged.get("one_of")
+        self.begins, self.contains = judged.get("begins", []), judged.get("contains", [])
+
+    def fault_of(self, answer, status):
+        """What is wrong with an answer and its status; None where both are right."""
+        if status != self.status:
+            return f"status {status}, wanted {self.status}; {shown(answer)}"
+        if self.one_of is not None:
+            return None if answer in self.one_of else f"{shown(answer)}, wanted {shown(self.one_of[0])}"
+        lines = answer.split(b"\n")[: len(self.begins)]
+        if lines != self.begins:
+            return f"{shown(answer)}, wanted the first lines {self.begins}"
+        lacking = [part for part in self.contains if part not in answer]
+        return f"{shown(answer)}, which lacks {lacking}" if lacking else None
+
+
+def shown(answer):
+    return repr(answer) if len(answer) <= 400 else f"{answer[:200]!r} .. {answer[-200:]!r} ({len(answer)} bytes)"
+
+
+def in_bytes(text):
+    try:
+        return text.encode("latin-1")
+    except UnicodeEncodeError:
+        raise Malformed(f"{text[:60]!r} has a character that is no byte") from None
+
+
+def exactly(table, known, needed):
+    """Refuses a table with other keys than the known ones, or without one that it needs."""
+    wrong = [*(set(table) - known), *(set(needed) - set(table))]
+    if wrong:
+        raise Malformed(f"{table.get('name', 'a table')!r}: {', '.join(sorted(wrong))} is unknown or missing")
+
+
+def part_of(part):
+    """A part of an input: a text, or one that is repeated."""
+    if isinstance(part, str):
+        return in_bytes(part)
+    exactly(part, {"text", "times"}, {"text", "times"})
+    return in_bytes(part["text"]) * part["times"]
+
+
+def row_of(table):
+    exactly(table, ROW_KEYS, {"name", "status"})
+    inputs = [key for key in ("input", "parts") if key in table]
+    judges = [key for key in ("answer", "one_of") if key in table] + ["begins"] * ("begins" in table or "contains" in table)
+    if len(inputs) != 1 or len(judges) != 1:
+        raise Malformed(f"{table['name']!r} needs one input and one judge of the answer")
+    given = b"".join(part_of(part) for part in table.get("parts", [table.get("input")]))
+    if judges == ["begins"]:
+        judged = {key: [in_bytes(text) for text in table.get(key, [])] for key in ("begins", "contains")}
+    else:
+        judged = {"one_of": [in_bytes(text) for text in table.get("one_of", [table.get("answer")])]}
+    return Row(table["name"], given, table["status"], **judged)
+
+
+def answer_to_beginning(cut, end):
+    """What is answered to the first `end` bytes of a text, and the status."""
+    if end >= cut["whole_from"]:
+        return cut["whole"], cut["status"]
+    for other in cut.get("other", []):
+        if other["from"] <= end <= other["to"]:
+            return other["answer"], other["status"]
+    return f"fault {cut['early']} at {end + cut['ended']}\n", 1
+
+
+def rows_of_cut(cut):
+    """The rows that a cut stands for."""
+    exactly(cut, CUT_KEYS, CUT_KEYS - {"other"})
+    for other in cut.get("other", []):
+        exactly(other, OTHER_KEYS, OTHER_KEYS)
+    before, text, behind = (in_bytes(cut[key]) for key in ("before", "text", "behind"))
+    rows = []
+    for end in range(len(text) + 1):
+        answer, status = answer_to_beginning(cut, end)
+        rows.append(Row(f"{cut['name']}, cut at {end}", before + text[:end] + behind, status, one_of=[in_bytes(answer)]))
+    return rows
+
+
+def read(path):
+    """The rows of a file, those of its cuts among them."""
+    with open(path, "rb") as file:
+        tables = tomllib.load(file)
+    if set(tables) - {"row", "cut"} or not tables:
+        raise Malformed(f"{path} has no rows, or other tables")
+    rows = [row_of(table) for table in tables.get("row", [])]
+    for cut in tables.get("cut", []):
+        rows += rows_of_cut(cut)
+    names = [row.name for row in rows]
+    twice = sorted({name for name in names if names.count(name) > 1}) if len(set(names)) < len(names) else []
+    if twice:
+        raise Malformed(f"{path}: a name stands twice: {twice[0]!r}")
+    return rows
+
+
+def answered(program, row):
+    """What the program writes, and its status; none where it does not end in time."""
+    try:
+        done = subprocess.run([program], input=row.given, stdout=subprocess.PIPE, timeout=SECONDS, check=False)
+    except subprocess.TimeoutExpired:
+        return b"", None
+    return done.stdout, done.returncode
+
+
+def files_of(folder):
+    """The names of the files of rows in a folder."""
+    return sorted(name for name in os.listdir(folder) if name.endswith(".toml") and name != "COUNTS.toml")
