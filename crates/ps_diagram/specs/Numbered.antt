@@ -1,5 +1,7 @@
 -- Leaves with their least letters as classes, and the places of these.
-use Rattle.std.specs.Prelude.{◌≡◌, ℕ, ◌<◌, List, length, Option, Some, slice_index_or}
+use Rattle.std.specs.Prelude.{◌≡◌, ℕ, ◌<◌, List, length, Option, Some, option_and_then, slice_index_or}
+use Rattle.ps_diagram.specs.Known.{IsMapped}
+use Rattle.ps_diagram.specs.Tree.{Tree}
 use Rattle.ps_diagram.specs.declared.classes.Class.{Class}
 
 abbrev pub class_at : List Class → ℕ → Class
@@ -18,3 +20,10 @@ pub record AreOf (leaves : List (ℕ × ℕ)) (n : ℕ) (list : List Class) : Ty
 pub record IsPlaced (places : ℕ → Option ℕ) (list : List Class) : Type 0 where
   pub found : (k i : ℕ) → places k ≡ Some i → (i < length list) × ((class_at list i).rest ≡ k)
   pub placed : (i : ℕ) → i < length list → places (class_at list i).rest ≡ Some i
+
+-- the classes are those of all leaves, and at each letter the second tree has the place of the class of the first tree's leaf
+pub record AreOfLeaves (leaves : List (ℕ × ℕ)) (tree placed : Tree) (list : List Class) : Type 0 where
+  pub listed : AreOf leaves (length leaves) list
+  pub places : ℕ → Option ℕ
+  pub found : IsPlaced places list
+  pub mapped : IsMapped (λ leaf. option_and_then places leaf) tree placed

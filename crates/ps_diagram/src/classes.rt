@@ -3,11 +3,11 @@
 ghost use Rattle.std.specs.Prelude.{◌≡◌, ◌≢◌, ℕ, ◌+◌, ◌<◌, Bool, AllPairs, IfOk, IsSome, Some, length, nat_eq};
 ghost use Rattle.indexmap.specs.IndexMap.{get};
 ghost use Rattle.ps_diagram.specs.Tree.{IsBlind, leaf_at};
-ghost use Rattle.ps_diagram.specs.Table.{IsNode, Keeps, tree_of};
+ghost use Rattle.ps_diagram.specs.Table.{IsNode, IsSound, Keeps, tree_of};
 ghost use Rattle.ps_diagram.specs.Known.{Knows};
 ghost use Rattle.ps_diagram.specs.Split.{IsConstant};
 ghost use Rattle.ps_diagram.specs.Classes.{AreClasses};
-ghost use Rattle.ps_diagram.specs.Numbered.{AreOf, IsPlaced};
+ghost use Rattle.ps_diagram.specs.Numbered.{AreOf, AreOfLeaves, IsPlaced};
 ghost use Rattle.ps_diagram.specs.Rests.{IsDivided, IsDividedTest, IsTested, KnowsTests, LeadsToNodes, test_eq};
 
 use crate::split::Split;
@@ -46,12 +46,41 @@ impl Store {
         ensures keeps { Keeps self.old self.new }
         ensures classes { IfOk result (λ c. AreClasses self.new node split c.places c.list.items) }
     {
+        let divided = self.rests(node, split)?;
+        let leaves = self.leaves(divided)?;
+        let classes = self.classes_of_leaves(divided, &leaves)?;
+        Ok(classes)
+    }
+
+    /// The diagram over the propositions of `split` whose leaf at a letter is the place of the node that is left there.
+    fn rests(&mut self, node: Node, split: u64) -> Result<Node, AllocError>
+        requires held { IsNode self.old node }
+        ensures keeps { Keeps self.old self.new }
+        ensures held { IfOk result (λ made. IsNode self.new made) }
+        ensures leaf { IfOk result
+            (λ made. IsDivided self.new split (tree_of self.old node) (tree_of self.new made)) }
+    {
         let alloc = self.allocator();
         let mut known = IndexMap::new(alloc);
         let mut tests = IndexMap::new(alloc);
-        let divided = self.divided(node, split, &mut known, &mut tests)?;
-        let leaves = self.leaves(divided)?;
-        let (list, places) = numbered(alloc, &leaves)?;
+        self.divided(node, split, &mut known, &mut tests)
+    }
+
+    /// The classes of the leaves of a diagram, and the diagram with the place of each.
+    fn classes_of_leaves(
+        &mut self,
+        divided: Node,
+        leaves: &[(u64, u64)],
+    ) -> Result<Classes, AllocError>
+        requires held { IsNode self.old divided }
+        requires leaves { AllPairs (λ a b. a.0 ≢ b.0) leaves.now }
+        ensures keeps { Keeps self.old self.new }
+        ensures sound { IfOk result (λ _. IsSound self.new) }
+        ensures held { IfOk result (λ c. IsNode self.new c.places) }
+        ensures classes { IfOk result
+            (λ c. AreOfLeaves leaves.now (tree_of self.old divided) (tree_of self.new c.places) c.list.items) }
+    {
+        let (list, places) = numbered(self.allocator(), leaves)?;
         let places = self.placed(divided, &places)?;
         let _ = self.allocator();
         Ok(Classes { list, places })
