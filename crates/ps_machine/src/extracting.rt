@@ -1,31 +1,35 @@
 //! The machine of a certificate.
 
-ghost use Rattle.std.specs.Prelude.{◌≡◌, ◌≤◌, ℕ, List, IfOk, length, map};
+ghost use Rattle.std.specs.Prelude.{◌≡◌, ◌<◌, ◌≤◌, ℕ, List, IfOk, OnOk, length, map};
+ghost use Rattle.std.specs.List.{All};
 ghost use Rattle.ps_automaton.specs.Automata.{IsBuiltFrom};
 ghost use Rattle.ps_automaton.specs.Chains.{Chain};
 ghost use Rattle.ps_certificate.specs.Certificates.{Fits, IsValid};
+ghost use Rattle.ps_game.specs.Games.{ParityGame, vertex_count};
 ghost use Rattle.ps_hoa.specs.Files.{FileData};
 ghost use Rattle.ps_hoa.specs.Memory.{bytes_of};
 ghost use Rattle.ps_hoa.specs.Sound.{AreNames};
 ghost use Rattle.ps_machine.specs.Assembling.{AreDrawn, HasRoles};
 ghost use Rattle.ps_machine.specs.Boards.{IsGameOf, board_of};
-ghost use Rattle.ps_machine.specs.Drawing.{IsPlan};
+ghost use Rattle.ps_machine.specs.Drawing.{AreMemories, AreUsed, IsPlan, IsRow};
 ghost use Rattle.ps_machine.specs.Extracting.{HasPropositions, IsMachineOf};
 ghost use Rattle.ps_machine.specs.Keys.{mover_of};
 ghost use Rattle.ps_machine.specs.Machines.{LassosWon};
+ghost use Rattle.ps_machine.specs.Moving.{IsFit};
 ghost use Rattle.ps_machine.specs.declared.key.Key.{Key};
 
 use crate::drawing::{Drawing, Plan};
 use crate::game::keyed_game_of;
-use crate::key::Order;
+use crate::key::{Key, Order};
 use crate::machine::{Diagrams, Machine, Propositions};
-use crate::memories::remembered;
+use crate::memories::{Memories, remembered};
 use crate::moves::{first_mask, is_first};
 use crate::used::used_vertices;
 use indexmap::IndexSet;
 use ps_automaton::Automaton;
 use ps_certificate::Certificate;
-use ps_game::NamedGame;
+use ps_diagram::Node;
+use ps_game::{Game, NamedGame};
 use std::alloc::{AllocError, Global};
 
 /// The machine of the winner of vertex 0 in the game of an automaton: it plays by a valid certificate's moves, from what is
@@ -50,11 +54,15 @@ pub fn extract(
     ensures propositions { IfOk result (λ m. HasPropositions automaton.now.names (board_of order automaton.now) m) }
     ensures won { IfOk result (λ m. (file : FileData) (chain : Chain) → IsBuiltFrom file chain automaton.now → LassosWon file m) }
 {
-    let keys = keyed_game_of(alloc, automaton, order)?.keys;
-    let used = used_vertices(alloc, game.game(), certificate)?;
-    let player = certificate.winner(0);
-    let moves_first = order.mover() == player;
-    let memories = remembered(alloc, keys.as_slice(), &used, moves_first)?;
+    let keys = keys_of(alloc, automaton, order)?;
+    let moves_first = order.mover() == certificate.winner(0);
+    let memories = memories_of(
+        alloc,
+        keys.as_slice(),
+        game.game(),
+        certificate,
+        moves_first,
+    )?;
     let plan = Plan {
         order,
         automaton,
@@ -63,9 +71,45 @@ pub fn extract(
         moves_first,
         memories: &memories,
     };
-    let diagrams = draw(alloc, &plan)?;
-    let propositions = roles(alloc, automaton, order, moves_first)?;
-    Ok(Machine::new(player, moves_first, propositions, diagrams))
+    machine_by(alloc, &plan)
+}
+
+/// What the vertices of an automaton's game stand for.
+fn keys_of(alloc: Global, automaton: &Automaton, order: Order) -> Result<IndexSet<Key>, AllocError>
+    ensures { IfOk result (λ keys. (game : ParityGame) × IsGameOf (board_of order automaton.now) (mover_of order) keys.keys game) }
+{
+    Ok(keyed_game_of(alloc, automaton, order)?.keys)
+}
+
+/// What the winner of vertex 0 remembers, at the vertices that are reached by the certificate's moves.
+fn memories_of(
+    alloc: Global,
+    keys: &[Key],
+    game: &Game,
+    certificate: &Certificate,
+    moves_first: bool,
+) -> Result<Memories, AllocError>
+    requires some { 0 < vertex_count game.now }
+    requires fits { Fits game.now certificate.now }
+    requires valid { IsValid game.now certificate.now }
+    ensures { IfOk result (λ memories. (used : List ℕ) × AreUsed game.now certificate.now used × AreMemories moves_first keys.now used memories.kept.items memories.marks.keys) }
+{
+    let used = used_vertices(alloc, game, certificate)?;
+    remembered(alloc, keys, &used, moves_first)
+}
+
+/// The machine that a plan describes.
+fn machine_by(alloc: Global, plan: &Plan<'_>) -> Result<Machine, AllocError>
+    requires { IsPlan plan.now.order plan.now.automaton.now plan.now.keys.now.keys plan.now.certificate.now plan.now.moves_first plan.now.memories.now.kept.items plan.now.memories.now.marks.keys }
+    ensures machine { IfOk result (λ m. (game : ParityGame) → IsGameOf (board_of plan.now.order plan.now.automaton.now) (mover_of plan.now.order) plan.now.keys.now.keys game →
+        IsMachineOf (board_of plan.now.order plan.now.automaton.now) (mover_of plan.now.order) plan.now.keys.now.keys game plan.now.certificate.now m) }
+    ensures propositions { IfOk result (λ m. HasPropositions plan.now.automaton.now.names (board_of plan.now.order plan.now.automaton.now) m) }
+    ensures won { IfOk result (λ m. (file : FileData) (chain : Chain) → IsBuiltFrom file chain plan.now.automaton.now → LassosWon file m) }
+{
+    let diagrams = draw(alloc, plan)?;
+    let propositions = roles(alloc, plan.automaton, plan.order, plan.moves_first)?;
+    let player = plan.certificate.winner(0);
+    Ok(Machine::new(player, plan.moves_first, propositions, diagrams))
 }
 
 /// The diagrams of all memories, and their rows.
@@ -80,16 +124,27 @@ fn draw(alloc: Global, plan: &Plan<'_>) -> Result<Diagrams, AllocError>
         rows: IndexSet::new(alloc),
         places: Vec::new(alloc),
     };
-    let mut nodes = Vec::new(alloc);
-    for vertex in &plan.memories.kept {
-        let node = drawing.node(alloc, plan, *vertex)?;
-        nodes.push(node)?;
-    }
+    let nodes = nodes_of(alloc, plan, &mut drawing)?;
     Ok(Diagrams {
         store: drawing.store,
         nodes,
         rows: drawing.rows,
     })
+}
+
+/// Draws the diagrams of all memories.
+fn nodes_of(alloc: Global, plan: &Plan<'_>, drawing: &mut Drawing) -> Result<Vec<Node>, AllocError>
+    requires plan { IsPlan plan.now.order plan.now.automaton.now plan.now.keys.now.keys plan.now.certificate.now plan.now.moves_first plan.now.memories.now.kept.items plan.now.memories.now.marks.keys }
+    requires fit { IsFit plan.now.order plan.now.automaton.now drawing.old.mask drawing.old.store }
+    requires rows { All (IsRow plan.now.moves_first (board_of plan.now.order plan.now.automaton.now) plan.now.memories.now.kept.items) drawing.old.rows.keys }
+    ensures fit { OnOk result (IsFit plan.now.order plan.now.automaton.now drawing.new.mask drawing.new.store) }
+    ensures drawn { IfOk result (λ nodes. AreDrawn plan.now.moves_first (board_of plan.now.order plan.now.automaton.now) plan.now.keys.now.keys plan.now.memories.now.kept.items plan.now.certificate.now drawing.new.store drawing.new.rows.keys nodes.items (length plan.now.memories.now.kept.items)) }
+{
+    let mut nodes = Vec::new(alloc);
+    for vertex in &plan.memories.kept {
+        nodes.push(drawing.node(alloc, plan, *vertex)?)?;
+    }
+    Ok(nodes)
 }
 
 /// The propositions of an automaton, as they are read and played by the player who moves first, or by the other one.

@@ -1,7 +1,7 @@
 use Rattle.ps_machine.specs.Assembling.{AreDrawn}
 use Rattle.ps_machine.specs.Boards.{board_of}
 use Rattle.ps_machine.specs.Moving.{IsFit}
-use Rattle.ps_machine.proofs.extracting.draw.Given as goal
+use Rattle.ps_machine.proofs.extracting.nodes_of.Given as goal
 
 -- the memories that were looked at have their diagrams
 abbrev pub invariant-loop-vertex : goal.invariant-loop-vertex
