@@ -5,8 +5,8 @@ A file is TOML, and each character of its strings stands for a byte (ISO 8859-1)
   name      what it shows; no other row of the file has it
   input     what the program reads; or parts: texts that stand one behind the other, of which { text = "..", times = 3 }
             is one that stands there three times
-  answer    what it writes, whole; or one_of: answers of which each is right; or, where a move is open, begins: the first
-            lines, and contains: parts of the answer
+  answer    what it writes, whole, as a text or as parts; or one_of: answers of which each is right; or, where a move is
+            open, begins: the first lines, and contains: texts that stand in the answer
   status    with which status it ends
 
 A `[[cut]]` stands for a row behind each byte of a text:
@@ -70,12 +70,16 @@ def exactly(table, known, needed):
         raise Malformed(f"{table.get('name', 'a table')!r}: {', '.join(sorted(wrong))} is unknown or missing")
 
 
-def part_of(part):
-    """A part of an input: a text, or one that is repeated."""
-    if isinstance(part, str):
-        return in_bytes(part)
-    exactly(part, {"text", "times"}, {"text", "times"})
-    return in_bytes(part["text"]) * part["times"]
+def joined(parts):
+    """The bytes of a text, or of parts: texts, and texts that are repeated."""
+    if isinstance(parts, str):
+        return in_bytes(parts)
+    made = []
+    for part in parts:
+        if not isinstance(part, str):
+            exactly(part, {"text", "times"}, {"text", "times"})
+        made.append(in_bytes(part) if isinstance(part, str) else in_bytes(part["text"]) * part["times"])
+    return b"".join(made)
 
 
 def row_of(table):
@@ -84,12 +88,11 @@ def row_of(table):
     judges = [key for key in ("answer", "one_of") if key in table] + ["begins"] * ("begins" in table or "contains" in table)
     if len(inputs) != 1 or len(judges) != 1:
         raise Malformed(f"{table['name']!r} needs one input and one judge of the answer")
-    given = b"".join(part_of(part) for part in table.get("parts", [table.get("input")]))
     if judges == ["begins"]:
         judged = {key: [in_bytes(text) for text in table.get(key, [])] for key in ("begins", "contains")}
     else:
-        judged = {"one_of": [in_bytes(text) for text in table.get("one_of", [table.get("answer")])]}
-    return Row(table["name"], given, table["status"], **judged)
+        judged = {"one_of": [joined(answer) for answer in table.get("one_of", [table.get("answer")])]}
+    return Row(table["name"], joined(table[inputs[0]]), table["status"], **judged)
 
 
 def answer_to_beginning(cut, end):

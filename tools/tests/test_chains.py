@@ -1,0 +1,96 @@
+"""Inputs above 100,000 bytes that no part repeated gives: a game and an automaton that are chains, each to every command."""
+import unittest
+
+from psyntool import counts, rows
+from psyntool.command import program
+
+VERTICES = 8_000
+STATES = 6_000
+
+# Player 0 passes all vertices, of priority 1, but the last, of priority 2, which leads to itself.
+GAME = "".join(f"{place} 1 0 {place + 1};\n" for place in range(VERTICES - 1)) + f"{VERTICES - 1} 2 0 {VERTICES - 1};\n"
+
+# One state leads to the next, and the last to itself; nothing is read, written or asked.
+AUTOMATON = (
+    "HOA: v1 Start: 0 controllable-AP: Acceptance: 0 t --BODY--\n"
+    + "".join(f"State: {state} [t] {min(state + 1, STATES - 1)}\n" for state in range(STATES))
+    + "--END--\n"
+)
+
+
+def certificate_of_game(version):
+    """The count of a vertex is how many vertices of priority 1 come behind it."""
+    lines = [f"psyncert {version}", f"vertices {VERTICES}", "odd 1", "even 2"]
+    for place in range(VERTICES):
+        move, count = min(place + 1, VERTICES - 1), max(0, VERTICES - 2 - place)
+        written = f" {count}" if version == 1 else f" 1:{count}" if count else ""
+        lines.append(f"{place} 0 {move}{written}")
+    return "\n".join(lines) + "\n"
+
+
+def game_of_automaton():
+    """Each state is a vertex of the environment and one of the controller."""
+    lines = [f"parity {2 * STATES - 1};"]
+    for state in range(STATES):
+        lines.append(f'{2 * state} 0 1 {2 * state + 1} "{state}/0";')
+        lines.append(f'{2 * state + 1} 0 0 {2 * min(state + 1, STATES - 1)} "{state}:";')
+    return "\n".join(lines) + "\n"
+
+
+def certificate_of_automaton():
+    lines = ["psyncert 1", f"vertices {2 * STATES}", "odd", "even 0"]
+    for state in range(STATES):
+        lines += [f"{2 * state} 0 -", f"{2 * state + 1} 0 {2 * min(state + 1, STATES - 1)}"]
+    return "\n".join(lines) + "\n"
+
+
+class Chains(unittest.TestCase):
+    @classmethod
+    def setUpClass(cls):
+        cls.program = program()
+        cls.asked = 0
+
+    @classmethod
+    def tearDownClass(cls):
+        counts.ran("examples", "asked of chains", cls.asked)
+
+    def ask(self, command, *texts):
+        """The answer to texts, and the status."""
+        given = f"{command}\n" + "%%\n".join(texts)
+        type(self).asked += 1
+        answer, status = rows.answered(self.program, rows.Row(command, given.encode(), 0))
+        return answer.decode(), status
+
+    def test_a_game(self):
+        for version, flag in ((1, ""), (2, " --compact")):
+            certificate = certificate_of_game(version)
+            self.assertGreater(min(len(GAME), len(certificate)), 100_000)
+            with self.subTest(version=version):
+                self.assertTrue(self.ask("solve" + flag, GAME) == (certificate, 0), "solve")
+                self.assertEqual(self.ask("check", GAME, certificate), ("valid\n", 0))
+                self.assertEqual(self.ask("closed", GAME, certificate), ("closed\n", 0))
+                raised = certificate.replace(f"\n5000 0 5001 {'1:' if flag else ''}2998\n", f"\n5000 0 5001 {'1:' if flag else ''}2997\n")
+                self.assertEqual(self.ask("check", GAME, raised), ("fault 52 Rank 5000 5001 1\n", 1))
+
+    def test_an_automaton(self):
+        certificate = certificate_of_automaton()
+        self.assertGreater(min(len(AUTOMATON), len(certificate)), 100_000)
+        self.assertTrue(self.ask("game", AUTOMATON) == (game_of_automaton(), 0), "game")
+        self.assertTrue(self.ask("cert", AUTOMATON) == (certificate, 0), "cert")
+        circuit, status = self.ask("synth --cert", AUTOMATON, certificate)
+        self.assertEqual((circuit[:11], status), ("REALIZABLE\n", 10))
+        self.assertTrue(self.ask("synth", AUTOMATON) == (circuit, 10), "synth")
+        whole = f"{circuit}%%\n{game_of_automaton()}%%\n{certificate}"
+        self.assertTrue(self.ask("synth --full", AUTOMATON) == (whole, 10), "synth --full")
+
+    def test_the_circuit_of_an_automaton(self):
+        circuit = self.ask("synth", AUTOMATON)[0].removeprefix("REALIZABLE\n")
+        self.assertGreater(len(circuit), 100_000)
+        self.assertEqual(self.ask("lasso", AUTOMATON, circuit, "-\n\n"), (f"accepted stem {STATES - 1} lap 1\n", 0))
+        lines = self.ask("sim", circuit, "\n" * STATES)[0].splitlines()
+        width = (STATES - 1).bit_length()
+        self.assertTrue(lines == [f"{state:0{width}b}"[::-1] + "||" for state in range(STATES)], "sim")
+
+
+if __name__ == "__main__":
+    unittest.main()
