@@ -7,7 +7,7 @@
  *   none         a write takes nothing and answers 0; a read is left as it is
  *   not          nothing is spoiled
  *
- * To the file descriptor in SPOILED_TELLS it writes a letter for each call as it begins: r or w, and R or W for one that
+ * Where SPOILED_OTHERS is set, a call that is not spoiled moves one byte at most. To the file descriptor in SPOILED_TELLS it writes a letter for each call as it begins: r or w, and R or W for one that
  * was spoiled. It counts the calls of the process on standard input and standard output.
  */
 #include <errno.h>
@@ -41,12 +41,18 @@ static int is_refused(char spoils, ssize_t *answer) {
     return spoils == 'f' || spoils == 'i' || spoils == 'n';
 }
 
+/* How many bytes the call is to move at most. */
+static size_t most(int is_counted, char spoils, size_t count) {
+    int is_short = is_counted && (spoils == 'o' || getenv("SPOILED_OTHERS") != NULL);
+    return is_short && count > 1 ? 1 : count;
+}
+
 ssize_t read(int file, void *buffer, size_t count) {
     ssize_t answer;
     char spoils = file == 0 ? way('r') : 0;
     if (is_refused(spoils, &answer))
         return answer;
-    return syscall(SYS_read, file, buffer, spoils == 'o' && count > 1 ? 1 : count);
+    return syscall(SYS_read, file, buffer, most(file == 0, spoils, count));
 }
 
 ssize_t write(int file, const void *buffer, size_t count) {
@@ -54,5 +60,5 @@ ssize_t write(int file, const void *buffer, size_t count) {
     char spoils = file == 1 ? way('w') : 0;
     if (is_refused(spoils, &answer))
         return answer;
-    return syscall(SYS_write, file, buffer, spoils == 'o' && count > 1 ? 1 : count);
+    return syscall(SYS_write, file, buffer, most(file == 1, spoils, count));
 }

@@ -8,10 +8,15 @@ SECONDS = 60
 WAYS = ("fails", "interrupted", "one", "none")
 
 
-def run(program, shim, path, number, way):
-    """What the program writes, with its status, and the letters of its calls: R or W for one that was spoiled."""
+def run(program, shim, path, number, way, others=None):
+    """What the program writes, with its status, and the letters of its calls: R or W for one that was spoiled.
+
+    With `others` each other call moves one byte at most.
+    """
     with open(path, "rb") as text, tempfile.TemporaryFile() as calls:
         told = {"SPOILED_CALL": str(number), "SPOILED_HOW": way, "SPOILED_TELLS": str(calls.fileno())}
+        if others:
+            told["SPOILED_OTHERS"] = others
         done = subprocess.run(
             [program],
             stdin=text,
@@ -50,3 +55,29 @@ def sweep(program, shim, path, expected):
             if not is_right(way, calls, answer, expected):
                 wrong.append((way, number, calls, answer))
     return spoiled, wrong
+
+
+def by_bytes(length, number, expected):
+    """The answer, and the letters of the calls, where each call moves one byte and that of the number fails (0: none does)."""
+    reads = "r" * (length + 1)
+    if number == 0:
+        return expected, reads + "w" * len(expected[0])
+    if number <= len(reads):
+        return READ_FAULT, reads[: number - 1] + "R" + "w" * len(READ_FAULT[0])
+    written = number - len(reads) - 1
+    return (expected[0][:written], 1), reads + "w" * written + "W"
+
+
+def sweep_by_bytes(program, shim, path, expected, at_once):
+    """How many runs there were in which each call moves one byte, and the wrong ones: each call fails in turn, and none does."""
+    length = os.path.getsize(path)
+    calls = length + 1 + len(expected[0])
+    runs = [("not", 0), *((way, number) for way in ("fails", "interrupted") for number in range(1, calls + 1))]
+    runs += [("none", number) for number in range(length + 2, calls + 1)]
+
+    def fault_of(chosen):
+        way, number = chosen
+        found = run(program, shim, path, number, way, others="one")
+        return None if found == by_bytes(length, number, expected) else (way, number, found)
+
+    return len(runs), [wrong for wrong in at_once(fault_of, runs) if wrong]

@@ -66,6 +66,30 @@ class Sweeps(unittest.TestCase):
         counts.ran("sweeps", "examples with each read and write spoiled", len(swept))
         self.assertEqual([(name, wrong) for name, (_, wrong) in zip(inputs, swept) if wrong], [])
 
+    def test_each_byte_is_a_read_and_a_write_that_may_fail(self):
+        folder, path, runs = os.path.join(sweeps.TOP, "examples"), program(), 0
+        inputs = sweeps.inputs_of(folder)
+        with sweeps.library("refuse_stream.c") as shim:
+            for name in ("closed-escape-repaired", "synth-full"):
+                done, wrong = streams.sweep_by_bytes(path, shim, os.path.join(folder, name), inputs[name], sweeps.at_once)
+                runs += done
+                self.assertEqual(wrong, [], name)
+        counts.ran("sweeps", "runs byte by byte with a read or a write that fails", runs)
+
+
+class Ends(unittest.TestCase):
+    def test_a_reader_without_an_end_is_a_read_fault_in_bounded_memory(self):
+        limited = ["bash", "-c", 'ulimit -v 1048576; yes | "$0"', program()]
+        done = subprocess.run(limited, stdout=subprocess.PIPE, timeout=streams.SECONDS, check=False)
+        self.assertEqual((done.stdout, done.returncode), streams.READ_FAULT)
+
+    def test_one_byte_too_many_is_read_and_none_behind_it(self):
+        with tempfile.TemporaryFile() as zeros:
+            zeros.truncate(100_000_000)
+            done = subprocess.run([program()], stdin=zeros, stdout=subprocess.PIPE, timeout=streams.SECONDS, check=False)
+            self.assertEqual((done.stdout, done.returncode), streams.READ_FAULT)
+            self.assertEqual(os.lseek(zeros.fileno(), 0, os.SEEK_CUR), 67_108_865)
+
 
 if __name__ == "__main__":
     unittest.main()
