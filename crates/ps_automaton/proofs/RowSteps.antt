@@ -28,19 +28,20 @@ level_by_same base (link ∷ links) f g few same =
     let rest : level_by base links f ≡ level_by base links g = level_by_same base links f g (λ k d l. few (suc k) d (omega (arith, l))) same in
     ap (λ (b : Bool). cond b first (level_by base links f)) (same link.colour (few 0 link (omega arith))) ∙ ap (λ n. cond (g link.colour) first n) rest
 
+-- each leaf of joined edges is the place of a target
+pub leaf_within : (file : FileData) (row : RowData) (count : ℕ) (targets : List Target) (t : Table) (node : ℕ) → IsUnion file row count targets t node → (letter : ℕ) → letter < 2 ^ length file.names → IfSome (leaf_of t node letter) (λ k. k < length targets)
+leaf_within file row count targets t node union letter small = by_leaf (leaf_of t node letter) refl
+  where
+    by_leaf : (o : Option ℕ) → leaf_of t node letter ≡ o → IfSome o (λ k. k < length targets)
+    by_leaf None e = tt
+    by_leaf (Some k) e =
+        let there : IsTargetAt row (union.from letter k small e).edge targets k = at_leaf (IsTargetAt row (union.from letter k small e).edge targets) (leaf_of t node letter) k e (union.there letter small (union.from letter k small e)) in
+        slice_get_within targets k there.0 there.1
+
 -- the leaf of a taken edge, and none where no edge is taken, in a joined row of all edges
 module _ (file : FileData) (sound : IsSound file) (row : RowData) (row_sound : IsSoundRow file row) (chain : Chain) (few : AreSetsBelow 64 chain.links)
     (targets : List Target) (t : Table) (node : ℕ) (union : IsUnion file row (length row.edges) targets t node)
     (steps : List Step) (all_steps : AreSteps file.states steps) (places : List ℕ) (are_places : ArePlaces chain targets steps places) where
-  pub leaf_within : (letter : ℕ) → letter < 2 ^ length file.names → IfSome (leaf_of t node letter) (λ k. k < length targets)
-  leaf_within letter small = by_leaf (leaf_of t node letter) refl
-    where
-      by_leaf : (o : Option ℕ) → leaf_of t node letter ≡ o → IfSome o (λ k. k < length targets)
-      by_leaf None e = tt
-      by_leaf (Some k) e =
-          let there : IsTargetAt row (union.from letter k small e).edge targets k = at_leaf (IsTargetAt row (union.from letter k small e).edge targets) (leaf_of t node letter) k e (union.there letter small (union.from letter k small e)) in
-          slice_get_within targets k there.0 there.1
-
   -- the leaf that is made of one
   abbrev pub made_of : Option ℕ → ℕ
   made_of o = unwrap_or (option_map (λ k. slice_index places k) o) 0

@@ -1,6 +1,6 @@
 //! Automata whose steps stand in decision diagrams.
 
-ghost use Rattle.std.specs.Prelude.{◌≡◌, ◌+◌, ◌^◌, ◌<◌, ◌≤◌, ◌↔◌, All, IfErr, IfOk, IsTrue, OnOk, length, map};
+ghost use Rattle.std.specs.Prelude.{◌≡◌, ◌+◌, ◌^◌, ◌<◌, ◌≤◌, ◌↔◌, All, IfErr, IfOk, IsTrue, OnOk, Some, length, map};
 ghost use Rattle.ps_diagram.specs.Table.{IsNode};
 ghost use Rattle.ps_hoa.specs.Files.{FileData};
 ghost use Rattle.ps_hoa.specs.Memory.{bytes_of};
@@ -9,7 +9,8 @@ ghost use Rattle.ps_automaton.specs.Acceptance.{IsAccepted};
 ghost use Rattle.ps_automaton.specs.Answers.{IsAdmitted, IsRefused};
 ghost use Rattle.ps_automaton.specs.Automata.{IsBuiltFrom, IsWhole, auto_of, node_of, pair_of, step_of};
 ghost use Rattle.ps_automaton.specs.Autos.{greatest_along, greatest_of_laps, state_after, state_behind};
-ghost use Rattle.ps_automaton.specs.Chains.{Chain};
+ghost use Rattle.ps_automaton.specs.Chains.{Chain, chain_of};
+ghost use Rattle.ps_automaton.specs.Drafts.{IsDraft};
 ghost use Rattle.ps_automaton.specs.Returning.{Returns};
 
 use crate::chain::{chain_of, is_complemented};
@@ -64,21 +65,24 @@ impl Automaton {
         ensures admitted { OnOk result (IsAdmitted file.now) }
         ensures refused { IfErr result (IsRefused file.now) }
     {
-        if is_complemented(file.condition()) {
-            return Err(AutomatonFault::ComplementedSet);
-        }
-        let Some(chain) = chain_of(alloc, file.condition())? else {
-            return Err(AutomatonFault::NonParity);
-        };
-        let numbers = table_of(&chain);
-        let levels = Levels { chain, numbers };
-        let Draft { pairs, nodes } = drafted(alloc, file, &levels)?;
+        let draft = draft_of(alloc, file)?;
+        Ok(Automaton::from_draft(alloc, file, draft)?)
+    }
+
+    /// The automaton of a file whose diagrams are made.
+    fn from_draft(alloc: Global, file: &HoaFile, draft: Draft) -> Result<Automaton, AllocError>
+        requires { (chain : Chain) × (chain_of file.now.condition ≡ Some chain) × IsDraft file.now chain draft.pairs.steps.keys draft.pairs.store draft.nodes.items }
+        ensures { IfOk result (λ automaton. (chain : Chain) × IsBuiltFrom file.now chain automaton) }
+    {
+        let names = copied(alloc, file.names())?;
+        let controllable = file.controllable().to_vec(alloc)?;
+        let Draft { pairs, nodes } = draft;
         let Pairs { store, steps, .. } = pairs;
         let _ = steps.as_slice();
         Ok(Automaton {
             alloc,
-            names: copied(alloc, file.names())?,
-            controllable: file.controllable().to_vec(alloc)?,
+            names,
+            controllable,
             states: file.states(),
             start: file.start(),
             store,
@@ -229,6 +233,22 @@ impl Automaton {
         }
         greatest
     }
+}
+
+/// The diagrams of a file whose condition is a chain without complements.
+fn draft_of(alloc: Global, file: &HoaFile) -> Result<Draft, AutomatonFault>
+    ensures draft { IfOk result (λ draft. (chain : Chain) × (chain_of file.now.condition ≡ Some chain) × IsDraft file.now chain draft.pairs.steps.keys draft.pairs.store draft.nodes.items) }
+    ensures admitted { OnOk result (IsAdmitted file.now) }
+    ensures refused { IfErr result (IsRefused file.now) }
+{
+    if is_complemented(file.condition()) {
+        return Err(AutomatonFault::ComplementedSet);
+    }
+    let Some(chain) = chain_of(alloc, file.condition())? else {
+        return Err(AutomatonFault::NonParity);
+    };
+    let numbers = table_of(&chain);
+    drafted(alloc, file, &Levels { chain, numbers })
 }
 
 /// A copy of names.

@@ -1,8 +1,8 @@
 //! The steps of all states, as diagrams.
 
-ghost use Rattle.std.specs.Prelude.{◌≡◌, ℕ, ◌+◌, ◌<◌, ◌≤◌, IfErr, IfOk, OnOk, Some, length, slice_get};
+ghost use Rattle.std.specs.Prelude.{◌≡◌, ℕ, ◌+◌, ◌^◌, ◌<◌, ◌≤◌, List, IfErr, IfOk, IfSome, OnOk, Some, length, option_map, slice_get, slice_index, unwrap_or};
 ghost use Rattle.ps_diagram.specs.Labels.{AreNodesOf};
-ghost use Rattle.ps_diagram.specs.Table.{IsNode, Keeps};
+ghost use Rattle.ps_diagram.specs.Table.{IsNode, Keeps, leaf_of};
 ghost use Rattle.ps_hoa.specs.Sound.{IsSoundRow};
 ghost use Rattle.ps_hoa.specs.Views.{row_data};
 ghost use Rattle.ps_hoa.specs.Edges.{row_of};
@@ -16,7 +16,7 @@ use crate::levels::Levels;
 use crate::pairs::{Pairs, Source};
 use crate::step::Step;
 use crate::targets::Target;
-use crate::union::joined;
+use crate::union::{Union, joined};
 use indexmap::IndexSet;
 use ps_diagram::{Node, Store};
 use ps_hoa::{HoaFile, Row};
@@ -39,29 +39,65 @@ pub(crate) fn drafted(
     ensures draft { IfOk result (λ draft. IsDraft file.now (chain_data levels.now.chain) draft.pairs.steps.keys draft.pairs.store draft.nodes.items) }
     ensures refused { IfErr result (IsDraftFault file.now) }
 {
-    let mut store = Store::new(alloc, file.names().len() as u32);
-    let aliases = store.of_aliases(file.aliases())?;
+    let mut pairs = opened(alloc, file)?;
+    let nodes = nodes_of(&mut pairs, file, levels)?;
+    Ok(Draft { pairs, nodes })
+}
+
+/// No diagrams yet, and the step that leads to the sink.
+fn opened(alloc: Global, file: &HoaFile) -> Result<Pairs, AllocError>
+    ensures letters { IfOk result (λ pairs. pairs.store.propositions ≡ length file.now.names) }
+    ensures steps { IfOk result (λ pairs. AreSteps file.now.states pairs.steps.keys) }
+{
     let mut steps = IndexSet::new(alloc);
     let _ = steps.insert(Step {
         state: file.states(),
         priority: 1,
     })?;
-    let mut pairs = Pairs {
+    Ok(Pairs {
         alloc,
-        store,
+        store: Store::new(alloc, file.names().len() as u32),
         steps,
-    };
+    })
+}
+
+/// The diagrams of the steps of all states, and that of the sink.
+fn nodes_of(pairs: &mut Pairs, file: &HoaFile, levels: &Levels) -> Result<Vec<Node>, AutomatonFault>
+    requires levels { AreLevels levels.now }
+    requires letters { pairs.old.store.propositions ≡ length file.now.names }
+    requires steps { AreSteps file.now.states pairs.old.steps.keys }
+    ensures draft { IfOk result (λ nodes. IsDraft file.now (chain_data levels.now.chain) pairs.new.steps.keys pairs.new.store nodes.items) }
+    ensures refused { IfErr result (IsDraftFault file.now) }
+{
+    let aliases = pairs.store.of_aliases(file.aliases())?;
     let source = Source {
         file,
         levels,
         aliases: &aliases,
     };
-    let mut nodes = Vec::new(alloc);
-    for state in 0..file.states() {
-        nodes.push(state_node(&mut pairs, &source, state)?)?;
-    }
+    let mut nodes = nodes_of_states(pairs, &source)?;
     nodes.push(pairs.store.leaf(0)?)?;
-    Ok(Draft { pairs, nodes })
+    Ok(nodes)
+}
+
+/// The diagrams of the steps of all states.
+fn nodes_of_states(pairs: &mut Pairs, source: &Source) -> Result<Vec<Node>, AutomatonFault>
+    requires levels { AreLevels source.now.levels.now }
+    requires letters { pairs.old.store.propositions ≡ length source.now.file.now.names }
+    requires aliases { AreNodesOf pairs.old.store source.now.file.now.aliases source.now.aliases.now }
+    requires steps { AreSteps source.now.file.now.states pairs.old.steps.keys }
+    ensures letters { OnOk result (pairs.new.store.propositions ≡ length source.now.file.now.names) }
+    ensures steps { OnOk result (AreSteps source.now.file.now.states pairs.new.steps.keys) }
+    ensures one_each { IfOk result (λ nodes. length nodes.items ≡ source.now.file.now.states) }
+    ensures states { IfOk result (λ nodes. (q : ℕ) → q < source.now.file.now.states
+        → IsStepsOf source.now.file.now (chain_data source.now.levels.now.chain) q pairs.new.steps.keys pairs.new.store (slice_index nodes.items q)) }
+    ensures refused { IfErr result (IsDraftFault source.now.file.now) }
+{
+    let mut nodes = Vec::new(pairs.alloc);
+    for state in 0..source.file.states() {
+        nodes.push(state_node(pairs, source, state)?)?;
+    }
+    Ok(nodes)
 }
 
 /// The diagram of a state's steps.
@@ -113,6 +149,22 @@ fn row_node(pairs: &mut Pairs, levels: &Levels, guards: &Guards) -> Result<Node,
     ensures refused { IfErr result (IsRowFault guards.now.file.now (row_data guards.now.row.now)) }
 {
     let union = joined(pairs.alloc, &mut pairs.store, guards)?;
+    Ok(node_of_union(pairs, levels, &union)?)
+}
+
+/// The diagram of the steps to the targets of joined edges, and of that to the sink where no edge is taken.
+fn node_of_union(pairs: &mut Pairs, levels: &Levels, union: &Union) -> Result<Node, AllocError>
+    requires levels { AreLevels levels.now }
+    requires held { IsNode pairs.old.store union.now.node }
+    requires within { (letter : ℕ) → letter < 2 ^ pairs.old.store.propositions → IfSome (leaf_of pairs.old.store union.now.node letter) (λ k. k < length union.now.targets.keys) }
+    ensures keeps { OnOk result (Keeps pairs.old.store pairs.new.store) }
+    ensures extends { OnOk result (Extends pairs.old.steps.keys pairs.new.steps.keys) }
+    ensures within { OnOk result ((states : ℕ) → ((k : ℕ) (target : Target) → slice_get union.now.targets.keys k ≡ Some target → target.state ≤ states)
+        → AreSteps states pairs.old.steps.keys → AreSteps states pairs.new.steps.keys) }
+    ensures held { IfOk result (λ node. IsNode pairs.new.store node) }
+    ensures leaf { IfOk result (λ node. (places : List ℕ) × ArePlaces (chain_data levels.now.chain) union.now.targets.keys pairs.new.steps.keys places
+        × ((letter : ℕ) → leaf_of pairs.new.store node letter ≡ Some (unwrap_or (option_map (λ k. slice_index places k) (leaf_of pairs.old.store union.now.node letter)) 0))) }
+{
     let places = places_of(
         pairs.alloc,
         &mut pairs.steps,
@@ -120,7 +172,7 @@ fn row_node(pairs: &mut Pairs, levels: &Levels, guards: &Guards) -> Result<Node,
         union.targets.as_slice(),
     )?;
     let named = pairs.store.relabel(union.node, &places)?;
-    Ok(pairs.store.fill(named, 0)?)
+    pairs.store.fill(named, 0)
 }
 
 /// The places of the steps to targets.

@@ -35,10 +35,22 @@ pub(crate) fn joined(
         node: store.none()?,
         targets: IndexSet::new(alloc),
     };
-    for place in 0..guards.row.edges.len() {
-        add(store, guards, place, &mut union)?;
-    }
+    add_all(store, guards, &mut union)?;
     Ok(union)
+}
+
+/// Joins all edges of the row, one after the other.
+fn add_all(store: &mut Store, guards: &Guards, union: &mut Union) -> Result<(), AutomatonFault>
+    requires ready { IsReady store.old guards.now }
+    requires union { IsUnion guards.now.file.now (row_data guards.now.row.now) 0 union.old.targets.keys store.old union.old.node }
+    ensures keeps { OnOk result (Keeps store.old store.new) }
+    ensures union { OnOk result (IsUnion guards.now.file.now (row_data guards.now.row.now) (length guards.now.row.now.edges.items) union.new.targets.keys store.new union.new.node) }
+    ensures refused { IfErr result (IsRowFault guards.now.file.now (row_data guards.now.row.now)) }
+{
+    for place in 0..guards.row.edges.len() {
+        add(store, guards, place, union)?;
+    }
+    Ok(())
 }
 
 /// Joins the edge at that place to those before it.

@@ -1,7 +1,7 @@
 use Rattle.ps_diagram.specs.Table.{Keeps}
 use Rattle.ps_hoa.specs.Views.{row_data}
 use Rattle.ps_automaton.specs.Drafts.{IsReady, IsUnion}
-use Rattle.ps_automaton.proofs.union.joined.Given as goal
+use Rattle.ps_automaton.proofs.union.add_all.Given as goal
 
 abbrev pub invariant-loop-place : goal.invariant-loop-place
 invariant-loop-place l = record {
