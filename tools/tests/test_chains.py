@@ -1,4 +1,4 @@
-"""Inputs above 100,000 bytes that no part repeated gives: a game and an automaton that are chains, each to every command."""
+"""Inputs above 100,000 bytes that no part repeated gives: a game, an automaton and a circuit that are chains, to each command."""
 import unittest
 
 from psyntool import counts, rows
@@ -6,6 +6,7 @@ from psyntool.command import program
 
 VERTICES = 8_000
 STATES = 6_000
+GATES = 8_000
 
 # Player 0 passes all vertices, of priority 1, but the last, of priority 2, which leads to itself.
 GAME = "".join(f"{place} 1 0 {place + 1};\n" for place in range(VERTICES - 1)) + f"{VERTICES - 1} 2 0 {VERTICES - 1};\n"
@@ -15,6 +16,19 @@ AUTOMATON = (
     "HOA: v1 Start: 0 controllable-AP: Acceptance: 0 t --BODY--\n"
     + "".join(f"State: {state} [t] {min(state + 1, STATES - 1)}\n" for state in range(STATES))
     + "--END--\n"
+)
+
+# Each gate joins the one before it and the input, so the output is the input.
+CIRCUIT = (
+    f"aag {GATES + 1} 1 0 1 {GATES}\n2\n{2 * (GATES + 1)}\n"
+    + "".join(f"{2 * gate} {2 * (gate - 1)} 2\n" for gate in range(2, GATES + 2))
+    + "i0 r\no0 g\n"
+)
+
+# Each request is granted at some later step.
+GRANTS = (
+    'HOA: v1 Start: 0 AP: 2 "r" "g" controllable-AP: 1 Acceptance: 1 Inf(0) --BODY-- '
+    "State: 0 [!0|1] 0 {0} [0&!1] 1 State: 1 [1] 0 {0} [!1] 1 --END--\n"
 )
 
 
@@ -85,11 +99,15 @@ class Chains(unittest.TestCase):
 
     def test_the_circuit_of_an_automaton(self):
         circuit = self.ask("synth", AUTOMATON)[0].removeprefix("REALIZABLE\n")
-        self.assertGreater(len(circuit), 100_000)
         self.assertEqual(self.ask("lasso", AUTOMATON, circuit, "-\n\n"), (f"accepted stem {STATES - 1} lap 1\n", 0))
         lines = self.ask("sim", circuit, "\n" * STATES)[0].splitlines()
         width = (STATES - 1).bit_length()
         self.assertTrue(lines == [f"{state:0{width}b}"[::-1] + "||" for state in range(STATES)], "sim")
+
+    def test_a_circuit(self):
+        self.assertGreater(len(CIRCUIT), 100_000)
+        self.assertEqual(self.ask("sim", CIRCUIT, "1\n0\n"), ("|1|1\n|0|0\n", 0))
+        self.assertEqual(self.ask("lasso", GRANTS, CIRCUIT, "1\n-\n0\n1\n"), ("accepted stem 1 lap 2\n", 0))
 
 
 if __name__ == "__main__":
