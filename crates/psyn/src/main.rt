@@ -9,12 +9,6 @@ pub mod commands;
 pub mod cut;
 pub mod fault;
 pub mod fault_text;
-#[cfg(test)]
-mod game_tests;
-#[cfg(test)]
-mod hostile_tests;
-#[cfg(test)]
-mod lasso_tests;
 pub mod laws;
 pub mod memory;
 pub mod program;
@@ -23,13 +17,7 @@ pub mod run;
 pub mod sending;
 pub mod stage_faults;
 pub mod stream;
-#[cfg(test)]
-mod synth_tests;
 pub mod synthesis;
-#[cfg(test)]
-mod synthesis_tests;
-#[cfg(test)]
-mod tests;
 pub mod texts;
 pub mod watched;
 
