@@ -4,8 +4,10 @@ ghost use Rattle.ps_game.specs.Plays.{Holds};
 ghost use Rattle.ps_game.specs.Regions.{has, move_at};
 ghost use Rattle.ps_zielonka.specs.Answers.{others, MovesWithin};
 ghost use Rattle.ps_zielonka.specs.Depths.{IsDepth};
+ghost use Rattle.ps_zielonka.specs.Stacks.{IsSolvedBy};
 
 use crate::answer::{region_of, strategy_of};
+use crate::board::Board;
 use crate::nest::Nest;
 use ps_attractor::Sources;
 use ps_game::{Arena, Counts, Region, Strategy};
@@ -27,11 +29,37 @@ pub fn regions<A: Arena>(
     ensures depth { OnOk result (IsDepth (A.game arena.now) counts.new.depth) }
     ensures raises { counts.new.raises ≡ counts.old.raises }
 {
+    let nest = solved_nest(alloc, arena)?;
+    counts.depth = nest.depth as u64;
+    answer_of(alloc, arena, &nest.board)
+}
+
+/// A nest of calls in which each vertex is decided.
+fn solved_nest<A: Arena>(alloc: Global, arena: &A) -> Result<Nest, AllocError>
+    ensures solved { IfOk result (λ nest. IsSolvedBy (A.game arena.now) nest.board.tables nest.board.winner.items) }
+    ensures depth { IfOk result (λ nest. IsDepth (A.game arena.now) nest.depth) }
+{
     let sources = Sources::of(alloc, arena)?;
     let mut nest = Nest::new(alloc, arena)?;
     nest.solve(arena, &sources)?;
-    counts.depth = nest.depth as u64;
-    let board = &nest.board;
+    Ok(nest)
+}
+
+/// The vertices that player 0 wins, and the moves of both players, as they are decided.
+fn answer_of<A: Arena>(
+    alloc: Global,
+    arena: &A,
+    board: &Board,
+) -> Result<(Region, Strategy, Strategy), AllocError>
+    requires { IsSolvedBy (A.game arena.now) board.now.tables board.now.winner.items }
+    ensures region_places { IfOk result (λ answer. length answer.0 ≡ vertex_count (A.game arena.now)) }
+    ensures first_places { IfOk result (λ answer. length answer.1 ≡ vertex_count (A.game arena.now)) }
+    ensures second_places { IfOk result (λ answer. length answer.2 ≡ vertex_count (A.game arena.now)) }
+    ensures first_holds { IfOk result (λ answer. Holds (A.game arena.now) 0 (has answer.0) (move_at answer.1)) }
+    ensures second_holds { IfOk result (λ answer. Holds (A.game arena.now) 1 (others answer.0) (move_at answer.2)) }
+    ensures first_moves { IfOk result (λ answer. MovesWithin (A.game arena.now) 0 (has answer.0) answer.1) }
+    ensures second_moves { IfOk result (λ answer. MovesWithin (A.game arena.now) 1 (others answer.0) answer.2) }
+{
     let region = region_of(alloc, &board.winner)?;
     let first = strategy_of(alloc, arena, &board.tables, &board.winner, 0)?;
     let second = strategy_of(alloc, arena, &board.tables, &board.winner, 1)?;
