@@ -8,12 +8,11 @@ use Rattle.ps_game.specs.Games.{ParityGame, vertex_count, owner_of}
 use Rattle.ps_game.specs.Subgames.{IsWithin, IsSubgame}
 use Rattle.ps_game.specs.Attractors.{LeadsDown, Falls}
 use Rattle.ps_game.specs.Regions.{has, move_at}
-use Rattle.ps_attractor.specs.declared.aim.Aim.{Aim}
 use Rattle.ps_attractor.specs.declared.attractor.TheConstants.{OUTSIDE, PLACED, FREE}
 use Rattle.ps_attractor.specs.Tables.{TablesData, level_of, moves_of, place_in}
 use Rattle.ps_attractor.specs.Aims.{StandsFrom, IsPosed, IsTaken, IsGrown, rank_of}
 use Rattle.ps_attractor.specs.Steps.{with_placed}
-use Rattle.ps_attractor.specs.Results.{AreLaidOut, IsRegionTo, AreMovesTo, rank_at}
+use Rattle.ps_attractor.specs.Results.{AreLaidOut, IsRegionTo, AreMovesTo, aim_of, rank_at}
 
 pub laid_placed : (subgame target : List Bool) (n : ℕ) (old : TablesData) → n < length old.level → IsTrue (has target n) → AreLaidOut subgame target n old → AreLaidOut subgame target (n + 1) (with_placed old n PLACED)
 laid_placed subgame target n old within there laid =
@@ -98,9 +97,6 @@ first_place_more trail places count k within size low so_far v i after inside is
 
 -- ## The whole
 
-abbrev pub the_aim : ℕ → Aim
-the_aim player = record { player = player; begin = 0; mark = PLACED; free = FREE }
-
 -- what is in a list of truth values is below its length
 below_length : (region : List Bool) (v : ℕ) → IsTrue (has region v) → v < length region
 below_length region v inside = elim (cases_lt v (length region)) [
@@ -122,7 +118,7 @@ pub record Answer (game : ParityGame) (player : ℕ) (subgame target : List Bool
   pub subgame_places : length subgame ≡ vertex_count game
   pub target_places : length target ≡ vertex_count game
   pub laid : AreLaidOut subgame target (vertex_count game) old
-  pub grown : IsGrown (the_aim player) old new
+  pub grown : IsGrown (aim_of player) old new
   pub placed : IsRegionTo new (vertex_count game) region
 
 -- a vertex that is free at first is in the subgame, and not of the target
@@ -135,21 +131,21 @@ free_inside game subgame target old v laid is_vertex free = elim (in_or_not targ
   ]
 ]
 
-pub answer_posed : (game : ParityGame) (player : ℕ) (subgame target : List Bool) (old new : TablesData) (region : List Bool) → Answer game player subgame target old new region → IsPosed game (the_aim player) old (has subgame) (has target)
-answer_posed game player subgame target old new region answer = record {
-  is_subgame = answer.is_subgame;
+pub laid_posed : (game : ParityGame) (player : ℕ) (subgame target : List Bool) (old : TablesData) → IsSubgame game (has subgame) → IsWithin (has target) (has subgame) → AreLaidOut subgame target (vertex_count game) old → IsPosed game (aim_of player) old (has subgame) (has target)
+laid_posed game player subgame target old is_subgame target_within laid = record {
+  is_subgame = is_subgame;
   split = λ v inside. elim (in_or_not target v) [
     | inl there ↦ inr there
-    | inr not_there ↦ inl (answer.laid.frees v (answer.is_subgame.vertices v inside) not_there inside)
+    | inr not_there ↦ inl (laid.frees v (is_subgame.vertices v inside) not_there inside)
   ];
-  frees = λ v is_vertex free. free_inside game subgame target old v answer.laid is_vertex free;
-  target_within = answer.target_within;
+  frees = λ v is_vertex free. free_inside game subgame target old v laid is_vertex free;
+  target_within = target_within;
   target_placed = λ v there free. (
-      let is_vertex : v < vertex_count game = answer.is_subgame.vertices v (answer.target_within v there) in
-      let level : level_of old v ≡ PLACED = answer.laid.targets v is_vertex there in
+      let is_vertex : v < vertex_count game = is_subgame.vertices v (target_within v there) in
+      let level : level_of old v ≡ PLACED = laid.targets v is_vertex there in
       absurd (omega arith));
-  target_stands = λ v there. answer.laid.stands v (answer.is_subgame.vertices v (answer.target_within v there)) there;
-  only_target = λ j after within. answer.laid.only j within;
+  target_stands = λ v there. laid.stands v (is_subgame.vertices v (target_within v there)) there;
+  only_target = λ j after within. laid.only j within;
 }
 
 -- a vertex that is placed at first is of the target
@@ -169,7 +165,7 @@ region_vertex game player subgame target old new region v answer inside = elim (
   | inr past ↦ absurd (false≢true (sym (answer.placed.later v past) ∙ inside))
 ]
 
-pub answer_taken : (game : ParityGame) (player : ℕ) (subgame target : List Bool) (old new : TablesData) (region : List Bool) → Answer game player subgame target old new region → IsTaken (the_aim player) new (has subgame) (has region)
+pub answer_taken : (game : ParityGame) (player : ℕ) (subgame target : List Bool) (old new : TablesData) (region : List Bool) → Answer game player subgame target old new region → IsTaken (aim_of player) new (has subgame) (has region)
 answer_taken game player subgame target old new region answer = record {
   within = λ v inside. (
       let is_vertex = region_vertex game player subgame target old new region v answer inside in
@@ -208,10 +204,10 @@ answer_stands game player subgame target old new region v answer inside =
     ]
 
 -- the fall in the tables is that by the moves and the ranks that are read off
-pub answer_falls : (game : ParityGame) (player : ℕ) (subgame target : List Bool) (old new : TablesData) (region : List Bool) (moves : List (Option ℕ)) (rank : List ℕ) → Answer game player subgame target old new region → AreMovesTo game new player target (vertex_count game) moves → ((v : ℕ) → StandsFrom new 0 v → get_or rank v 0 ≡ place_in new.trail v) → Falls game (has subgame) player (has target) (has region) (moves_of new) (rank_of (the_aim player) new) → Falls game (has subgame) player (has target) (has region) (move_at moves) (rank_at rank)
+pub answer_falls : (game : ParityGame) (player : ℕ) (subgame target : List Bool) (old new : TablesData) (region : List Bool) (moves : List (Option ℕ)) (rank : List ℕ) → Answer game player subgame target old new region → AreMovesTo game new player target (vertex_count game) moves → ((v : ℕ) → StandsFrom new 0 v → get_or rank v 0 ≡ place_in new.trail v) → Falls game (has subgame) player (has target) (has region) (moves_of new) (rank_of (aim_of player) new) → Falls game (has subgame) player (has target) (has region) (move_at moves) (rank_at rank)
 answer_falls game player subgame target old new region moves rank answer given places falls =
     let same_rank = λ (v : ℕ) (inside : IsTrue (has region v)). places v (answer_stands game player subgame target old new region v answer inside) in
-    let down = λ (v w : ℕ) (inside : IsTrue (has region v)) (leads : LeadsDown game (has subgame) (has region) (rank_of (the_aim player) new) v w). (
+    let down = λ (v w : ℕ) (inside : IsTrue (has region v)) (leads : LeadsDown game (has subgame) (has region) (rank_of (aim_of player) new) v w). (
     let low : place_in new.trail w < place_in new.trail v = leads.falls in
     let down : LeadsDown game (has subgame) (has region) (rank_at rank) v w = record { leads = leads.leads; inside = leads.inside; falls = omega (arith, same_rank v inside, same_rank w leads.inside) } in
     down) in

@@ -1,10 +1,11 @@
 -- From tables to a region, moves and ranks: what the public answer has of what the worklist left.
 use Rattle.std.specs.Prelude.{◌≡◌, ℕ, ◌<◌, ◌≤◌, List, length, Option, Some, None, Bool, false, IsTrue, slice_index}
-use Rattle.ps_game.specs.Games.{ParityGame, owner_of}
+use Rattle.ps_game.specs.Games.{ParityGame, owner_of, vertex_count}
 use Rattle.ps_game.specs.Regions.{has, move_at}
 use Rattle.ps_attractor.specs.declared.attractor.TheConstants.{OUTSIDE, PLACED, FREE}
-use Rattle.ps_attractor.specs.Tables.{TablesData, level_of}
-use Rattle.ps_attractor.specs.Aims.{StandsFrom}
+use Rattle.ps_attractor.specs.declared.aim.Aim.{Aim}
+use Rattle.ps_attractor.specs.Tables.{TablesData, level_of, moves_of}
+use Rattle.ps_attractor.specs.Aims.{IsAttracted, IsGrown, IsTaken, StandsFrom, rank_of}
 
 -- the vertices before n have their levels, and those of the target among them stand in the trail
 pub record AreLaidOut (subgame target : List Bool) (n : ℕ) (tables : TablesData) : Type 0 where
@@ -15,6 +16,18 @@ pub record AreLaidOut (subgame target : List Bool) (n : ℕ) (tables : TablesDat
   pub stands : (v : ℕ) → v < n → IsTrue (has target v) → StandsFrom tables 0 v
   pub only : (j : ℕ) → j < length tables.trail → IsTrue (has target (slice_index tables.trail j))
   pub before : (j : ℕ) → j < length tables.trail → slice_index tables.trail j < n
+
+-- the player aims from the front of the trail
+abbrev pub aim_of : ℕ → Aim
+aim_of player = record { player = player; begin = 0; mark = PLACED; free = FREE }
+
+-- the tables grew from those in which just the target is placed, to the attractor
+pub record AreAttracted (game : ParityGame) (player : ℕ) (subgame target : List Bool) (tables : TablesData) : Type 0 where
+  pub old : TablesData
+  pub laid : AreLaidOut subgame target (vertex_count game) old
+  pub grown : IsGrown (aim_of player) old tables
+  pub attracted : (set : ℕ → Bool) → IsTaken (aim_of player) tables (has subgame) set
+      → IsAttracted game (has subgame) player (has target) set (moves_of tables) (rank_of (aim_of player) tables)
 
 -- of the vertices before n the region has just those that were placed
 pub record IsRegionTo (tables : TablesData) (n : ℕ) (region : List Bool) : Type 0 where

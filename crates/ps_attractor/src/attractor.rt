@@ -5,7 +5,7 @@ ghost use Rattle.ps_game.specs.Attractors.{IsClosed, Falls, IsLeast};
 ghost use Rattle.ps_game.specs.Regions.{has, move_at};
 ghost use Rattle.ps_attractor.specs.Tables.{FitsGame, level_of, place_in};
 ghost use Rattle.ps_attractor.specs.Aims.{StandsFrom};
-ghost use Rattle.ps_attractor.specs.Results.{AreLaidOut, IsRegionTo, AreMovesTo, rank_at};
+ghost use Rattle.ps_attractor.specs.Results.{AreAttracted, AreLaidOut, IsRegionTo, AreMovesTo, rank_at};
 
 use crate::aim::Aim;
 use crate::sources::Sources;
@@ -59,10 +59,34 @@ pub fn attract<A: Arena>(
     ensures falls { IfOk result (λ attracted. Falls (A.game arena.now) (has subgame.now) player (has target.now)
         (has attracted.region) (move_at attracted.moves) (rank_at attracted.rank.items)) }
 {
-    let count = arena.count();
+    let tables = attracted_tables(alloc, arena, subgame, player, target)?;
+    let region = placed_region(alloc, &tables, arena.count())?;
+    let moves = placed_moves(alloc, arena, &tables, player, target)?;
+    let rank = first_places(alloc, &tables, arena.count())?;
+    Ok(Attracted {
+        region,
+        moves,
+        rank,
+    })
+}
+
+/// Tables in which the target and all that is attracted to it are placed.
+fn attracted_tables<A: Arena>(
+    alloc: Global,
+    arena: &A,
+    subgame: &Subgame,
+    player: u8,
+    target: &Region,
+) -> Result<Tables, AllocError>
+    requires subgame { IsSubgame (A.game arena.now) (has subgame.now) }
+    requires target { IsWithin (has target.now) (has subgame.now) }
+    requires subgame_places { length subgame.now ≡ vertex_count (A.game arena.now) }
+    requires target_places { length target.now ≡ vertex_count (A.game arena.now) }
+    ensures fits { IfOk result (FitsGame (A.game arena.now)) }
+    ensures attracted { IfOk result (AreAttracted (A.game arena.now) player subgame.now target.now) }
+{
     let sources = Sources::of(alloc, arena)?;
-    let mut tables = Tables::new(alloc, count, OUTSIDE)?;
-    lay_out(&mut tables, count, subgame.region(), target)?;
+    let mut tables = laid_out(alloc, arena.count(), subgame.region(), target)?;
     let aim = Aim {
         player,
         begin: 0,
@@ -70,14 +94,25 @@ pub fn attract<A: Arena>(
         free: FREE,
     };
     tables.attract(arena, &sources, aim)?;
-    let region = placed_region(alloc, &tables, count)?;
-    let moves = placed_moves(alloc, arena, &tables, player, target)?;
-    let rank = first_places(alloc, &tables, count)?;
-    Ok(Attracted {
-        region,
-        moves,
-        rank,
-    })
+    Ok(tables)
+}
+
+/// Tables in which just the vertices of the target are placed.
+fn laid_out(
+    alloc: Global,
+    count: usize,
+    subgame: &Region,
+    target: &Region,
+) -> Result<Tables, AllocError>
+    requires subgame { length subgame.now ≡ count }
+    requires target { length target.now ≡ count }
+    ensures levels { IfOk result (λ tables. length tables.level ≡ count) }
+    ensures moves { IfOk result (λ tables. length tables.moves ≡ count) }
+    ensures laid_out { IfOk result (AreLaidOut subgame.now target.now count) }
+{
+    let mut tables = Tables::new(alloc, count, OUTSIDE)?;
+    lay_out(&mut tables, count, subgame, target)?;
+    Ok(tables)
 }
 
 /// Gives each vertex its level, and puts those of the target on the trail.
