@@ -47,13 +47,36 @@ UNREALIZABLE), 1 for a fault, 2 for a refused command line. What is wrong is exp
 says so, and places are those of your file.
 
 Before COMMAND:
+  -o PREFIX         of synth: the circuit, the game and the certificate go to PREFIX.aag, PREFIX.pg and PREFIX.cert, and the
+                    first line alone is printed
   --keep-returns    leave carriage returns where they are
   --zero-resets     unset latches of a circuit (their own literal as reset) begin with 0
   --quiet           explain nothing
 
+`tools/psyn help`, `tools/psyn COMMAND --help` and `tools/psyn --version` answer without the program.
+
 The program is $PSYN, or the one that `rt run` leaves at crates/psyn/out/psyn.
 """
 REFUSED = 2
+KIT = "rattle-kit-13b"
+USES = {
+    "synth": "synth [--full] [--moore] [--compact] AUTOMATON: a controller, or an environment that defeats every finite-state one\n"
+    "synth --cert [--full] [--moore] [--compact] AUTOMATON CERTIFICATE: the same by a certificate of the automaton's game",
+    "game": "game [--moore] AUTOMATON: the parity game of an automaton",
+    "cert": "cert [--moore] [--compact] AUTOMATON: a certificate of that game",
+    "solve": "solve [--compact] GAME: a certificate of a game",
+    "check": "check GAME CERTIFICATE: valid, or the first flaw",
+    "closed": "closed GAME CERTIFICATE: whether the moves keep each player's region",
+    "sim": "sim CIRCUIT STIMULUS: what a circuit does, letter by letter",
+    "lasso": "lasso [--env] AUTOMATON CIRCUIT STIMULUS: whether the automaton accepts what the circuit does",
+    "show": "show FILE..: a picture of a game with its certificate, of an automaton or of a circuit, as Graphviz DOT",
+    "wave": "wave CIRCUIT STIMULUS: what sim prints, as a VCD file",
+    "certificate": "certificate GAME SOLUTION: a certificate with counts 0 of another solver's answer",
+}
+FLAGS = """\
+--full      the game and the certificate too      --moore   outputs before inputs
+--compact   the compact text of a certificate     --cert    by a certificate that is given
+--env       the circuit is an environment"""
 
 
 class Settings:
@@ -61,9 +84,15 @@ class Settings:
 
     def __init__(self, words):
         known = {"--keep-returns", "--zero-resets", "--quiet"}
-        mine = []
-        while words and words[0] in known:
-            mine.append(words.pop(0))
+        mine, self.prefix = [], None
+        while words and (words[0] in known or words[0] == "-o"):
+            word = words.pop(0)
+            if word == "-o" and not words:
+                raise inputs.Refused("-o stands before the beginning of the names of three files: -o PREFIX")
+            if word == "-o":
+                self.prefix = words.pop(0)
+            else:
+                mine.append(word)
         self.keep_returns = "--keep-returns" in mine
         self.zero_resets = "--zero-resets" in mine
         self.quiet = "--quiet" in mine
@@ -133,10 +162,28 @@ def texts_of(command, flags, paths, settings):
     return texts
 
 
+def stored(answer, prefix):
+    """Writes the circuit, the game and the certificate of a full report to files of their own, and gives the first line."""
+    first, _, rest = answer.partition(b"\n")
+    for ending, text in zip((".aag", ".pg", ".cert"), rest.split(b"%%\n")):
+        try:
+            with open(prefix + ending, "wb") as file:
+                file.write(text)
+        except OSError as error:
+            raise inputs.Refused(f"{prefix + ending}: {error.strerror}") from None
+    return first + b"\n"
+
+
 def run(command, flags, paths, settings):
     """Runs a command of the program on files."""
+    if settings.prefix is not None:
+        if command != "synth":
+            raise inputs.Refused(f"-o is for synth, which has three texts to write, and not for {command}")
+        flags = [*flags, *(["--full"] if "--full" not in flags else [])]
     texts = texts_of(command, flags, paths, settings)
     answer, status = answered(inputs.joined(command, flags, texts))
+    if settings.prefix is not None and not answer.startswith(b"fault "):
+        answer = stored(answer, settings.prefix)
     sys.stdout.buffer.write(answer)
     sys.stdout.buffer.flush()
     if answer.startswith(b"fault ") and not settings.quiet:
@@ -162,10 +209,16 @@ def wave(paths, settings):
 
 def chosen(words):
     settings = Settings(words)
-    if not words or words[0] in ("--help", "-h"):
+    if not words or words[0] in ("--help", "-h", "help"):
         print(HELP, end="")
         return 0
+    if words[0] in ("--version", "-V"):
+        print(f"psyn, proved with {KIT}; circuits in ASCII AIGER 1.9, automata in HOA v1, games of PGSolver's format")
+        return 0
     command = words.pop(0)
+    if command in USES and ("--help" in words or "-h" in words):
+        print(f"{USES[command]}\n\n{FLAGS}")
+        return 0
     flags = [word for word in words if word.startswith("--")]
     paths = [word for word in words if not word.startswith("--")]
     if command == "show":

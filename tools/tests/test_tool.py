@@ -66,6 +66,19 @@ class Commands(OnFiles):
         refused = self.tool("synth", "--cert", automaton, wrong)
         self.assertEqual((refused.stdout, refused.returncode), (b"fault 41 NotCertified\n", 1))
 
+    def test_a_report_goes_to_three_files(self):
+        automaton, prefix = self.file("automaton", AUTOMATON), os.path.join(self.room, "out")
+        done = self.tool("-o", prefix, "synth", automaton)
+        self.assertEqual((done.stdout, done.returncode), (b"REALIZABLE\n", 10))
+        whole = self.tool("synth", "--full", automaton).stdout
+        parts = []
+        for ending in (".aag", ".pg", ".cert"):
+            with open(prefix + ending, "rb") as file:
+                parts.append(file.read())
+        self.assertEqual(done.stdout + b"%%\n".join(parts), whole)
+        self.assertEqual(self.tool("check", prefix + ".pg", prefix + ".cert").stdout, b"valid\n")
+        self.assertEqual(self.tool("-o", prefix, "game", automaton).returncode, 2)
+
     def test_a_place_in_an_automaton_is_one_of_the_file(self):
         automaton = self.file("automaton", AUTOMATON.replace(b"[!0|1] 0 {0}", b"[!0|1] 0 {1}"))
         done = self.tool("lasso", automaton, self.file("circuit", b""), self.file("stimulus", b""))
@@ -152,6 +165,16 @@ class Refusals(OnFiles):
     def test_a_program_that_is_not_there(self):
         done = self.tool("sim", self.file("circuit", CIRCUIT), "-", environment={"PSYN": os.path.join(self.room, "none")})
         self.assertIn(b"psyn is not built", done.stderr)
+
+
+class Help(OnFiles):
+    def test_help_and_version_need_no_program(self):
+        nowhere = {"PSYN": os.path.join(self.room, "nowhere")}
+        for words in (["help"], ["--help"], ["--version"], *([word, "--help"] for word in ("synth", "show", "wave", *inputs.KINDS))):
+            with self.subTest(words):
+                done = self.tool(*words, environment=nowhere)
+                self.assertEqual((done.returncode, done.stderr), (0, b""))
+                self.assertIn(words[0].encode() if len(words) > 1 else b"psyn", done.stdout)
 
 
 class Texts(unittest.TestCase):
