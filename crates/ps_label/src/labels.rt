@@ -114,23 +114,3 @@ fn truth_by(label: &Label, letter: u64, known: &[bool]) -> bool
         }
     }
 }
-
-#[cfg(test)]
-mod tests {
-    use crate::label::Label;
-    use crate::labels::Labels;
-    use std::test::Fail;
-
-    #[test]
-    fn aliases_are_followed(rt: HostRuntime) -> Result<(), Fail> {
-        let alloc = rt.alloc();
-        let mut labels = Labels::new(alloc);
-        labels.push(Label::Atom(1))?;
-        labels.push(Label::Neg(Box::new(alloc, Label::Named(0))?))?;
-        let label = Label::Named(1);
-        let mut scratch = [false; 2];
-        assert!(rt; labels.eval(&label, 1, &mut scratch));
-        assert!(rt; !labels.eval(&label, 2, &mut scratch));
-        Ok(())
-    }
-}

@@ -1,10 +1,9 @@
 //! Tokens of the Hanoi Omega-Automata format.
 
 use ps_hoa::{Kind, Tokens};
-use std::test::Fail;
 
 #[test]
-fn tokens_have_their_spans(rt: HostRuntime) -> Result<(), Fail> {
+fn tokens_have_their_spans(rt: HostRuntime) {
     let text = b"t--BODY-- @a-b 0t /*a/*b*/*/ \"x\\\"\" 007 AP: AP: [!0|t] --END-- x";
     let mut tokens = Tokens::new(text, 0);
     for (kind, start, stop) in [
@@ -27,9 +26,6 @@ fn tokens_have_their_spans(rt: HostRuntime) -> Result<(), Fail> {
         (Kind::Finish, 63, 63),
     ] {
         let token = tokens.advance();
-        assert_eq!(rt; token.kind, kind);
-        assert_eq!(rt; token.start, start);
-        assert_eq!(rt; token.stop, stop);
+        assert_eq!(rt; (token.kind, token.start, token.stop), (kind, start, stop));
     }
-    Ok(())
 }

@@ -1,0 +1,93 @@
+//! Each call on diagrams that may want memory, with ample memory.
+
+use ps_diagram::{OverlayError, Store};
+use ps_label::{Label, Labels};
+use std::alloc::{AllocError, Global};
+use std::test::Fail;
+
+/// What each rule makes of the leaf 2, or of no leaf.
+fn changed(store: &mut Store) -> Result<[Option<u64>; 3], AllocError> {
+    let two = store.leaf(2)?;
+    let relabelled = store.relabel(two, &[4, 5, 6])?;
+    let guarded = store.guard(two, 7)?;
+    let none = store.none()?;
+    let filled = store.fill(none, 9)?;
+    Ok([
+        store.eval(relabelled, 0),
+        store.eval(guarded, 0),
+        store.eval(filled, 0),
+    ])
+}
+
+/// Whether the leaves 4 and 1 clash.
+fn clashes(store: &mut Store) -> Result<bool, AllocError> {
+    let first = store.leaf(4)?;
+    let second = store.leaf(1)?;
+    Ok(matches!(
+        store.overlay(first, second),
+        Err(OverlayError::Clash {
+            first: 4,
+            second: 1
+        })
+    ))
+}
+
+/// The least letter that leads to the leaf of a label.
+fn least_letter(alloc: Global, store: &mut Store) -> Result<Option<u64>, AllocError> {
+    if store.propositions() != 2 {
+        return Ok(None);
+    }
+    let node = store.of_label(&Labels::new(alloc), &Label::Atom(1))?;
+    store.path_to(node, 1)
+}
+
+/// How many leaves the diagram of a letter has, and how many classes its inputs have.
+fn leaves_and_classes(store: &mut Store) -> Result<(usize, usize), AllocError> {
+    if store.propositions() != 2 {
+        return Ok((0, 0));
+    }
+    let node = store.of_letter(3)?;
+    let leaves = store.leaves(node)?.len();
+    let classes = store.classes(node, 1)?;
+    Ok((leaves, classes.list.len()))
+}
+
+/// What the calls answer, over two propositions.
+#[derive(Debug, Drop, PartialEq, Eq)]
+struct Answered {
+    changed: [Option<u64>; 3],
+    clashes: bool,
+    least_letter: Option<u64>,
+    leaves_and_classes: (usize, usize),
+    copied_propositions: u32,
+}
+
+/// The answers of a store.
+fn answers_of(alloc: Global, store: &mut Store) -> Result<Answered, AllocError> {
+    Ok(Answered {
+        changed: changed(store)?,
+        clashes: clashes(store)?,
+        least_letter: least_letter(alloc, store)?,
+        leaves_and_classes: leaves_and_classes(store)?,
+        copied_propositions: store.copy()?.propositions(),
+    })
+}
+
+/// The answers of a new one.
+fn answers(alloc: Global) -> Result<Answered, AllocError> {
+    let mut store = Store::new(alloc, 2);
+    answers_of(alloc, &mut store)
+}
+
+#[test]
+fn each_call_answers(rt: HostRuntime) -> Result<(), Fail> {
+    let wanted = Answered {
+        changed: [Some(6), Some(7), Some(9)],
+        clashes: true,
+        least_letter: Some(2),
+        leaves_and_classes: (1, 2),
+        copied_propositions: 2,
+    };
+    assert_eq!(rt; answers(rt.alloc())?, wanted);
+    Ok(())
+}
