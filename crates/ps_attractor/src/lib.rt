@@ -6,8 +6,6 @@ mod attractor;
 mod numbers;
 mod sources;
 mod tables;
-#[cfg(test)]
-mod tests;
 mod worklist;
 
 pub use aim::Aim;

@@ -16,6 +16,3 @@ pub use arranging::{Arrangement, arrange};
 pub use components::{Components, components_from, components_of};
 pub use graph::Graph;
 pub use trail::way_back;
-
-#[cfg(test)]
-mod tests;

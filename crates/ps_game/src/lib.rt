@@ -14,8 +14,6 @@ mod ranking;
 mod regions;
 mod strategy;
 mod subgame;
-#[cfg(test)]
-mod tests;
 mod widths;
 mod words;
 

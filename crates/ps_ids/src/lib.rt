@@ -2,7 +2,5 @@
 #![tactic(auto)]
 
 mod ids;
-#[cfg(test)]
-mod tests;
 
 pub use ids::Ids;

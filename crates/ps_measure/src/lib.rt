@@ -13,8 +13,6 @@ mod low;
 mod measuring;
 mod remaining;
 mod table;
-#[cfg(test)]
-mod tests;
 
 pub use fault::MeasureFault;
 pub use measuring::ranks;

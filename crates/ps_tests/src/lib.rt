@@ -5,15 +5,9 @@
 #[cfg(test)]
 mod builders;
 #[cfg(test)]
-mod certificate_texts;
-#[cfg(test)]
-mod certificates;
-#[cfg(test)]
 mod circuits;
 #[cfg(test)]
 mod encodings;
-#[cfg(test)]
-mod game_texts;
 #[cfg(test)]
 mod games_of_automata;
 #[cfg(test)]

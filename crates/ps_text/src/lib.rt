@@ -4,6 +4,4 @@
 
 pub mod answers;
 pub mod faults;
-#[cfg(test)]
-mod tests;
 pub mod tokens;

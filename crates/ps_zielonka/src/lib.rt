@@ -7,7 +7,5 @@ mod frame;
 mod nest;
 mod order;
 mod solver;
-#[cfg(test)]
-mod tests;
 
 pub use solver::regions;

@@ -1,9 +1,9 @@
-//! The laws at a format and at a lexicon.
+//! The laws of texts, at a format and at a lexicon.
 
 ghost use Rattle.std.specs.Prelude.{◌≡◌, [], ◌∷◌, length};
 
-use crate::answers::{Format, one_answer};
-use crate::tokens::{Lexicon, one_tokenisation};
+use ps_text::answers::{Format, one_answer};
+use ps_text::tokens::{Lexicon, one_tokenisation};
 
 /// Any bytes, which mean how many they are; none is refused.
 struct Bytes;
@@ -34,11 +34,7 @@ impl Lexicon for Marks {
 }
 
 #[test]
-fn law_of_a_format() {
+fn laws_of_texts() {
     one_answer::<Bytes>();
-}
-
-#[test]
-fn law_of_a_lexicon() {
     one_tokenisation::<Marks>();
 }

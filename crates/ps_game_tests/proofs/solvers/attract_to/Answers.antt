@@ -3,7 +3,7 @@ use Rattle.std.proofs.lemmas.List.{length-replicate, get_or-replicate}
 use Rattle.ps_game.specs.Games.{vertex_count}
 use Rattle.ps_game.specs.Regions.{has}
 use Rattle.ps_game.proofs.SubgameFacts.{has-below}
-use Rattle.ps_attractor.proofs.tests.attract_to.Goals as goal
+use Rattle.ps_game_tests.proofs.solvers.attract_to.Goals as goal
 
 pub attract-requires-clause-target : goal.attract-requires-clause-target
 attract-requires-clause-target g c v inside =

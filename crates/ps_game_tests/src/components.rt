@@ -1,0 +1,99 @@
+//! The components, orders and trails of small graphs, which were found by hand.
+
+ghost use Rattle.std.specs.Prelude.{◌≡◌, ℕ, ◌+◌, ◌*◌, ◌/◌, ◌<◌, nat_lt, length, slice_index, Some, None, if◌then◌else◌};
+
+use ps_components::{Arrangement, Graph, arrange, components_from, components_of, way_back};
+use std::alloc::Global;
+
+/// Two targets for each vertex. One that is no vertex is none.
+#[derive(Drop)]
+struct Table<'a> {
+    targets: &'a [usize],
+}
+
+impl Graph for Table<'_> {
+    ghost graph = { λ t. record { count = length t.targets.now / 2; degree = λ _. 2; target = λ v p. if nat_lt (slice_index t.targets.now (2 * v + p)) (length t.targets.now / 2) then Some (slice_index t.targets.now (2 * v + p)) else None } };
+
+    fn count(&self) -> usize {
+        self.targets.len() / 2
+    }
+
+    fn degree(&self, _item: usize) -> usize {
+        2
+    }
+
+    fn target(&self, item: usize, place: usize) -> Option<usize> {
+        let to = self.targets[2 * item + place];
+        if to < self.targets.len() / 2 {
+            Some(to)
+        } else {
+            None
+        }
+    }
+}
+
+/// 0 and 1 lead to one another and to 2; 2 leads to itself and to 3; 4 leads to 0 and 3.
+const TARGETS: [usize; 10] = [1, 2, 0, 9, 2, 3, 9, 9, 0, 3];
+
+/// The numbers of the components of all vertices, where there is memory.
+fn numbers_of_all(alloc: Global) -> Option<[Option<usize>; 5]> {
+    let found = components_of(alloc, &Table { targets: &TARGETS }).ok()?;
+    Some([
+        found.number(0),
+        found.number(1),
+        found.number(2),
+        found.number(3),
+        found.number(4),
+    ])
+}
+
+/// The numbers of the components of 0 and 2, of what the roots lead to.
+fn numbers_from_roots(alloc: Global) -> Option<[Option<usize>; 2]> {
+    let found = components_from(alloc, &Table { targets: &TARGETS }, &[3, 2, 3]).ok()?;
+    Some([found.number(0), found.number(2)])
+}
+
+#[test]
+fn numbers_of_components(rt: HostRuntime) {
+    let all = Some([Some(2), Some(2), Some(1), Some(0), Some(4)]);
+    assert_eq!(rt; numbers_of_all(rt.alloc()), all);
+    assert_eq!(rt; numbers_from_roots(rt.alloc()), Some([None, Some(1)]));
+}
+
+/// Whether the vertices of a graph can be arranged, and stand in this order.
+fn is_order(alloc: Global, targets: &[usize], wanted: &[usize]) -> bool {
+    match arrange(alloc, &Table { targets }) {
+        Ok(Arrangement::Order(order)) => order.as_slice() == wanted,
+        _ => false,
+    }
+}
+
+/// The first vertex that leads back to itself.
+fn knot(alloc: Global, targets: &[usize]) -> Option<usize> {
+    match arrange(alloc, &Table { targets }) {
+        Ok(Arrangement::Cyclic(vertex)) => Some(vertex),
+        _ => None,
+    }
+}
+
+/// Whether this is a trail from a vertex to another one.
+fn is_way_back(alloc: Global, start: usize, end: usize, wanted: Option<&[usize]>) -> bool {
+    let graph = Table { targets: &TARGETS };
+    if start >= graph.count() {
+        return false;
+    }
+    match way_back(alloc, &graph, start, end) {
+        Ok(Some(trail)) => wanted == Some(trail.as_slice()),
+        Ok(None) => wanted.is_none(),
+        Err(_) => false,
+    }
+}
+
+#[test]
+fn orders_and_trails(rt: HostRuntime) {
+    assert_eq!(rt; knot(rt.alloc(), &TARGETS), Some(0));
+    assert!(rt; is_order(rt.alloc(), &[1, 9, 9, 9], &[1, 0]));
+    assert!(rt; is_way_back(rt.alloc(), 4, 2, Some(&[2, 0, 4])));
+    assert!(rt; is_way_back(rt.alloc(), 3, 3, Some(&[3])));
+    assert!(rt; is_way_back(rt.alloc(), 2, 0, None));
+}

@@ -1,0 +1,51 @@
+//! Texts of games are read and written where there is memory, and a fault is told in words.
+
+use ps_game::Arena;
+use ps_pgsolver::{PgCause, PgFault, read, write};
+use std::alloc::Global;
+use std::test::Fail;
+
+/// The text of the game of a text, where there is memory.
+fn written(alloc: Global, text: &[u8]) -> Option<Vec<u8>> {
+    let game = read(alloc, text).ok()?;
+    if game.game().count() > 0 {
+        write(alloc, &game).ok()
+    } else {
+        None
+    }
+}
+
+/// Whether the game of a text is written as a text.
+fn is_written_as(alloc: Global, text: &[u8], wanted: &[u8]) -> bool {
+    match written(alloc, text) {
+        Some(again) => again.as_slice() == wanted,
+        None => false,
+    }
+}
+
+#[test]
+fn a_game_is_written_as_it_was_read(rt: HostRuntime) {
+    let sink =
+        b"parity 4;\n0 0 1 1,2 \"0/0\";\n1 0 0 0,3 \"0:0\";\n2 0 0 3,0 \"0:1\";\n3 1 1 4 \"sink/1\";\n4 0 0 3 \"sink:0\";\n";
+    assert!(rt; is_written_as(rt.alloc(), sink, sink));
+    let great = b"parity 9;\n9 3 1 4,9;\n4 18446744073709551615 0 9 \"\";\n";
+    assert!(rt; is_written_as(rt.alloc(), great, great));
+}
+
+#[test]
+fn a_game_is_read(rt: HostRuntime) {
+    let text = b"parity 9; start 4; 9 3 1 4,9,4 \"a b\"; 4 18446744073709551615 0 9;";
+    let wanted = b"parity 9;\n9 3 1 4,9 \"a b\";\n4 18446744073709551615 0 9;\n";
+    assert!(rt; is_written_as(rt.alloc(), text, wanted));
+}
+
+#[test]
+fn a_fault_is_told(rt: HostRuntime) -> Result<(), Fail> {
+    let fault = PgFault::Text {
+        cause: PgCause::UnknownSuccessor,
+        offset: 6,
+    };
+    let told = format!(in rt.alloc(); "{fault}")?;
+    assert_eq!(rt; told.as_str(), "UnknownSuccessor at byte 6");
+    Ok(())
+}

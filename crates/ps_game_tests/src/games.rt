@@ -1,0 +1,129 @@
+//! Games that are built, and the same games in arrays.
+
+use ps_game::{Arena, FlatGame, Game, GameBuilder, GameFault, fits_narrow, priorities_of};
+use std::alloc::{AllocError, Global};
+use std::test::Fail;
+
+/// A vertex as it is read: its owner, its priority and its successors.
+type Row<'a> = (u8, u64, &'a [usize]);
+
+/// Whether a vertex has these successors, in this order.
+fn leads_to<A: Arena>(arena: &A, vertex: usize, successors: &[usize]) -> bool {
+    if vertex >= arena.count() || arena.degree(vertex) != successors.len() {
+        return false;
+    }
+    for (number, &successor) in successors.iter().enumerate() {
+        if arena.successor(vertex, number) != successor {
+            return false;
+        }
+    }
+    true
+}
+
+/// Whether code over any arena reads these vertices.
+fn reads_as<A: Arena>(arena: &A, rows: &[Row]) -> bool {
+    if arena.count() != rows.len() {
+        return false;
+    }
+    for (vertex, &(owner, priority, successors)) in rows.iter().enumerate() {
+        if arena.owner(vertex) != owner || arena.priority(vertex) != priority {
+            return false;
+        }
+        if !leads_to(arena, vertex, successors) {
+            return false;
+        }
+    }
+    true
+}
+
+/// Whether the game and its arrays at each width are read as these vertices.
+fn all_read_as(alloc: Global, game: &Game, rows: &[Row]) -> Result<bool, AllocError> {
+    if !fits_narrow(game) || !reads_as(game, rows) {
+        return Ok(false);
+    }
+    if !reads_as(&FlatGame::<u32>::of(alloc, game)?, rows) {
+        return Ok(false);
+    }
+    Ok(reads_as(&FlatGame::<usize>::of(alloc, game)?, rows))
+}
+
+/// Three vertices; 0 leads twice to 1.
+#[tactic(auto, unfolding(ps_game::specs::Games::vertex_count))]
+fn three_vertices(alloc: Global) -> Result<GameBuilder, AllocError> {
+    let mut builder = GameBuilder::new(alloc);
+    builder.vertex(0, 5)?;
+    builder.vertex(1, 3)?;
+    builder.vertex(0, 5)?;
+    builder.edge(0, 1)?;
+    builder.edge(0, 0)?;
+    builder.edge(0, 1)?;
+    builder.edge(1, 2)?;
+    builder.edge(2, 2)?;
+    Ok(builder)
+}
+
+/// Two vertices without an edge from 1, and two edges from 0.
+#[tactic(auto, unfolding(ps_game::specs::Games::vertex_count))]
+fn a_bare_vertex(alloc: Global) -> Result<GameBuilder, AllocError> {
+    let mut builder = GameBuilder::new(alloc);
+    builder.vertex(0, 0)?;
+    builder.vertex(0, 0)?;
+    builder.edge(0, 2)?;
+    Ok(builder)
+}
+
+/// A vertex with two edges to others that were not made.
+#[tactic(auto, unfolding(ps_game::specs::Games::vertex_count))]
+fn unknown_successors(alloc: Global) -> Result<GameBuilder, AllocError> {
+    let mut builder = GameBuilder::new(alloc);
+    builder.vertex(0, 0)?;
+    builder.edge(0, 6)?;
+    builder.edge(0, 5)?;
+    Ok(builder)
+}
+
+#[test]
+fn built_games_are_read(rt: HostRuntime) -> Result<(), Fail> {
+    let game = three_vertices(rt.alloc())?.finish()?;
+    let rows: [Row; 3] = [(0, 5, &[1, 0]), (1, 3, &[2]), (0, 5, &[2])];
+    assert!(rt; all_read_as(rt.alloc(), &game, &rows)?);
+    Ok(())
+}
+
+#[test]
+fn no_vertex_is_a_game(rt: HostRuntime) -> Result<(), Fail> {
+    let game = GameBuilder::new(rt.alloc()).finish()?;
+    assert!(rt; all_read_as(rt.alloc(), &game, &[])?);
+    Ok(())
+}
+
+/// Whether these are the priorities of a parity.
+fn are_priorities(alloc: Global, game: &Game, parity: u64, wanted: &[u64]) -> bool {
+    match priorities_of(alloc, game, parity) {
+        Ok(priorities) => priorities.as_slice() == wanted,
+        Err(_) => false,
+    }
+}
+
+#[test]
+fn each_priority_of_a_parity_is_listed_once(rt: HostRuntime) -> Result<(), Fail> {
+    let game = three_vertices(rt.alloc())?.finish()?;
+    assert!(rt; are_priorities(rt.alloc(), &game, 1, &[3, 5]));
+    assert!(rt; are_priorities(rt.alloc(), &game, 0, &[]));
+    Ok(())
+}
+
+#[test]
+fn drafts_that_are_no_games(rt: HostRuntime) -> Result<(), Fail> {
+    let bare = GameFault::NoSuccessor { vertex: 1 };
+    assert_eq!(rt; a_bare_vertex(rt.alloc())?.finish().err(), Some(bare));
+    let unknown = GameFault::UnknownSuccessor {
+        vertex: 0,
+        successor: 6,
+    };
+    assert_eq!(rt;
+        unknown_successors(rt.alloc())?.finish().err(),
+        Some(unknown)
+    );
+    Ok(())
+}

@@ -1,0 +1,22 @@
+//! Tests of the libraries of games, a file for each thing that is tested. A crate with tests is proved once more with them, so
+//! they stand here, apart from the libraries. What a command of psyn shows is a row of `examples/rows` and no test.
+#![tactic(auto)]
+
+#[cfg(test)]
+mod certificates;
+#[cfg(test)]
+mod components;
+#[cfg(test)]
+mod game_texts;
+#[cfg(test)]
+mod games;
+#[cfg(test)]
+mod ids;
+#[cfg(test)]
+mod laws;
+#[cfg(test)]
+mod numbers;
+#[cfg(test)]
+mod regions;
+#[cfg(test)]
+mod solvers;

@@ -1,0 +1,282 @@
+//! Attractors, regions that are won and counts of small games, which were found by hand, and how much work they took.
+
+use ps_attractor::{Attracted, Sources, attract, places_by_number};
+use ps_game::{Arena, Counts, Game, GameBuilder, Region, Strategy, Subgame};
+use ps_measure::{MeasureFault, Ranks, ranks};
+use ps_pgsolver::read;
+use ps_zielonka::regions;
+use std::alloc::{AllocError, Global};
+use std::test::Fail;
+
+/// From 0, which is player 0's, edges lead to 1 and 2, and from 1, which is player 1's, to 0 and 3; 2 and 3 lead to
+/// themselves.
+const FORK: &[u8] = b"0 0 0 1,2; 1 0 1 0,3; 2 0 1 2; 3 0 0 3;";
+
+/// Vertex 0 leads to 1, which leads to itself, and 2 leads to itself and to 0.
+const LOOPS: &[u8] = b"0 2 0 1; 1 1 1 1; 2 1 0 2,0;";
+
+/// Whether a region has these vertices and no others.
+fn has_just(region: &Region, vertices: &[usize]) -> bool {
+    for &vertex in vertices {
+        if vertex >= region.places() || !region.contains(vertex) {
+            return false;
+        }
+    }
+    region.count() == vertices.len()
+}
+
+/// Whether a table has these moves.
+fn has_moves(strategy: &Strategy, wanted: &[Option<usize>]) -> bool {
+    if strategy.places() != wanted.len() {
+        return false;
+    }
+    for (vertex, &choice) in wanted.iter().enumerate() {
+        if strategy.get(vertex) != choice {
+            return false;
+        }
+    }
+    true
+}
+
+/// The attractor within the whole of an arena to some of its vertices.
+fn attract_to<A: Arena>(
+    alloc: Global,
+    arena: &A,
+    player: u8,
+    vertices: &[usize],
+) -> Result<Attracted, AllocError> {
+    let mut target = Region::empty(alloc, arena.count())?;
+    for &vertex in vertices {
+        if vertex < target.places() {
+            target.insert(vertex);
+        }
+    }
+    let subgame = Subgame::whole(alloc, arena)?;
+    attract(alloc, arena, &subgame, player, &target)
+}
+
+/// Whether a player attracts these vertices of the fork to some of them, by these moves.
+fn attracts(
+    alloc: Global,
+    player: u8,
+    vertices: &[usize],
+    wanted: &[usize],
+    moves: &[Option<usize>],
+) -> bool {
+    let Ok(named) = read(alloc, FORK) else {
+        return false;
+    };
+    match attract_to(alloc, named.game(), player, vertices) {
+        Ok(found) => has_just(&found.region, wanted) && has_moves(&found.moves, moves),
+        Err(_) => false,
+    }
+}
+
+#[test]
+fn attractors(rt: HostRuntime) {
+    let along_an_edge = [Some(2), None, None, None];
+    assert!(rt; attracts(rt.alloc(), 0, &[2], &[0, 2], &along_an_edge));
+    assert!(rt; attracts(rt.alloc(), 0, &[2, 3], &[0, 1, 2, 3], &along_an_edge));
+    assert!(rt; attracts(rt.alloc(), 0, &[3], &[3], &[None, None, None, None]));
+    assert!(rt; attracts(rt.alloc(), 1, &[3], &[1, 3], &[None, Some(3), None, None]));
+}
+
+/// Whether these vertices lead to vertex 3 of a game of four.
+fn are_sources(alloc: Global, game: &Game, wanted: &[usize]) -> bool {
+    if game.count() != 4 {
+        return false;
+    }
+    match Sources::of(alloc, game) {
+        Ok(sources) => sources.at(3) == wanted,
+        Err(_) => false,
+    }
+}
+
+/// Whether these are the places of some numbers.
+fn are_places(alloc: Global, wanted: &[usize]) -> bool {
+    match places_by_number(alloc, &[2, 0, 2, 1], 3) {
+        Ok(places) => places.as_slice() == wanted,
+        Err(_) => false,
+    }
+}
+
+#[test]
+fn lists_by_number(rt: HostRuntime) -> Result<(), Fail> {
+    let named = read(rt.alloc(), FORK)?;
+    assert!(rt; are_sources(rt.alloc(), named.game(), &[1, 3]));
+    assert!(rt; are_places(rt.alloc(), &[1, 3, 0, 2]));
+    Ok(())
+}
+
+/// Whether player 0 wins just these vertices of a game, by these moves, and player 1 the others, by those.
+fn is_won(
+    alloc: Global,
+    game: &Game,
+    counts: &mut Counts,
+    vertices: &[usize],
+    moves: [&[Option<usize>]; 2],
+) -> bool {
+    match regions(alloc, game, counts) {
+        Ok((region, first, second)) => {
+            has_just(&region, vertices)
+                && has_moves(&first, moves[0])
+                && has_moves(&second, moves[1])
+        }
+        Err(_) => false,
+    }
+}
+
+#[test]
+fn the_rest_is_solved_again(rt: HostRuntime) -> Result<(), Fail> {
+    let named = read(rt.alloc(), LOOPS)?;
+    let mut counts = Counts {
+        depth: 7,
+        raises: 3,
+    };
+    let moves: [&[Option<usize>]; 2] = [&[None, None, None], &[None, Some(1), None]];
+    assert!(rt; is_won(rt.alloc(), named.game(), &mut counts, &[], moves));
+    assert!(rt; counts.depth == 2 && counts.raises == 3);
+    Ok(())
+}
+
+#[test]
+fn each_player_wins_a_vertex(rt: HostRuntime) -> Result<(), Fail> {
+    let named = read(rt.alloc(), b"0 0 0 1,0; 1 1 1 0,1;")?;
+    let moves: [&[Option<usize>]; 2] = [&[Some(0), None], &[None, Some(1)]];
+    assert!(rt;
+        is_won(
+            rt.alloc(),
+            named.game(),
+            &mut Counts::default(),
+            &[0],
+            moves
+        )
+    );
+    Ok(())
+}
+
+#[test]
+fn a_game_without_vertices_has_no_call(rt: HostRuntime) -> Result<(), Fail> {
+    let game = GameBuilder::new(rt.alloc()).finish()?;
+    let mut counts = Counts {
+        depth: 7,
+        raises: 3,
+    };
+    assert!(rt; is_won(rt.alloc(), &game, &mut counts, &[], [&[], &[]]));
+    assert!(rt; counts.depth == 0);
+    Ok(())
+}
+
+/// One vertex, or all.
+fn region_of(alloc: Global, places: usize, only: Option<usize>) -> Result<Region, AllocError> {
+    let Some(vertex) = only else {
+        return Region::full(alloc, places);
+    };
+    let mut region = Region::empty(alloc, places)?;
+    if vertex < places {
+        region.insert(vertex);
+    }
+    Ok(region)
+}
+
+/// A move at one vertex.
+fn moving(
+    alloc: Global,
+    places: usize,
+    (vertex, successor): (usize, usize),
+) -> Result<Strategy, AllocError> {
+    let mut strategy = Strategy::empty(alloc, places)?;
+    if vertex < places {
+        strategy.set(vertex, successor);
+    }
+    Ok(strategy)
+}
+
+/// What is wanted of the counts of a region.
+#[derive(Clone, Copy)]
+enum Wanted<'a> {
+    /// One priority, and the count of each of three vertices.
+    Counts(u64, [u64; 3]),
+    /// A cycle that is lost.
+    Cycle(&'a [usize]),
+}
+
+impl Wanted<'_> {
+    /// Whether that was found.
+    fn is(self, found: &Result<Ranks, MeasureFault>) -> bool {
+        match (self, found) {
+            (Wanted::Counts(priority, counts), Ok(ranks)) => are_counts(ranks, priority, counts),
+            (Wanted::Cycle(wanted), Err(MeasureFault::BadCycle { cycle })) => {
+                cycle.as_slice() == wanted
+            }
+            _ => false,
+        }
+    }
+}
+
+/// Whether these are the priority that is counted, and the counts.
+fn are_counts(ranks: &Ranks, priority: u64, counts: [u64; 3]) -> bool {
+    ranks.priorities.as_slice() == [priority].as_slice()
+        && ranks.counts.len() == 3
+        && ranks.counts[0].as_slice() == [counts[0]].as_slice()
+        && ranks.counts[1].as_slice() == [counts[1]].as_slice()
+        && ranks.counts[2].as_slice() == [counts[2]].as_slice()
+}
+
+/// Whether a player's region has the wanted counts, where the player moves from one vertex.
+fn is_ranked(
+    alloc: Global,
+    game: &Game,
+    (player, region): (u8, &Region),
+    chosen: (usize, usize),
+    counts: &mut Counts,
+    wanted: Wanted,
+) -> bool {
+    let Ok(strategy) = moving(alloc, game.count(), chosen) else {
+        return false;
+    };
+    player < 2
+        && region.places() == game.count()
+        && strategy.places() == game.count()
+        && wanted.is(&ranks(alloc, game, player, region, &strategy, counts))
+}
+
+/// The same of one vertex of the loops, or of all.
+fn are_ranked(
+    alloc: Global,
+    (player, only): (u8, Option<usize>),
+    chosen: (usize, usize),
+    counts: &mut Counts,
+    wanted: Wanted,
+) -> bool {
+    let Ok(named) = read(alloc, LOOPS) else {
+        return false;
+    };
+    match region_of(alloc, named.game().count(), only) {
+        Ok(region) => is_ranked(
+            alloc,
+            named.game(),
+            (player, &region),
+            chosen,
+            counts,
+            wanted,
+        ),
+        Err(_) => false,
+    }
+}
+
+#[test]
+fn counts_of_a_region(rt: HostRuntime) {
+    let mut counts = Counts {
+        depth: 3,
+        raises: 7,
+    };
+    let all = Wanted::Counts(2, [1, 0, 1]);
+    assert!(rt; are_ranked(rt.alloc(), (1, None), (1, 1), &mut counts, all));
+    assert!(rt; counts.depth == 3 && counts.raises == 2);
+    let one = Wanted::Counts(1, [0, 0, 0]);
+    assert!(rt; are_ranked(rt.alloc(), (0, Some(2)), (3, 0), &mut counts, one));
+    assert!(rt; counts.depth == 3 && counts.raises == 0);
+    let lost = Wanted::Cycle(&[1]);
+    assert!(rt; are_ranked(rt.alloc(), (0, None), (2, 0), &mut counts, lost));
+}
