@@ -53,7 +53,7 @@ module _ (order : Order) (text : List ℕ) (a : AutomatonData) (keys : List Key)
     machine_of = subst (λ (board : Board). IsMachineOf board (mover_of order) keys game.game certificate m) board_same (e.machine_of keys is_game);
   }
 
-  pub report_is : (May : MayAnswer) (compact : Bool) (certificate : CertificateData) (circuit : CircuitData) (report : Report) → May game (Ok certificate) → IsCertified game certificate
+  report_is : (May : MayAnswer) (compact : Bool) (certificate : CertificateData) (circuit : CircuitData) (report : Report) → May game (Ok certificate) → IsCertified game certificate
       → BothHold game.game certificate → NoneWinsOutside game.game certificate → IsCircuitOf order a game.game certificate circuit
       → ((file : FileData) (chain : Chain) → IsBuiltFrom file chain a → IsAnswer order file (winner certificate) circuit)
       → (IsTrue report.realizable ↔ (winner certificate ≡ 0)) → PrintsCircuit report.circuit_text.items circuit → PrintsGame report.game_text.items game → PrintsCertificate compact report.certificate_text.items game certificate
@@ -81,6 +81,17 @@ module _ (order : Order) (text : List ℕ) (a : AutomatonData) (keys : List Key)
     answers = answers of.file of.chain of.built;
   }
 
+  -- the same of a report that is made with that circuit
+  pub reports : (May : MayAnswer) (compact : Bool) (certificate : CertificateData) (result : Result Report SynthFault) → May game (Ok certificate) → IsCertified game certificate → BothHold game.game certificate
+      → NoneWinsOutside game.game certificate → IfOk result (λ report. IsTrue report.realizable ↔ (winner certificate ≡ 0))
+      → IfOk result (λ report. (circuit : CircuitData) × PrintsCircuit report.circuit_text.items circuit × IsCircuitOf order a game.game certificate circuit
+      × ((file : FileData) (chain : Chain) → IsBuiltFrom file chain a → IsAnswer order file (winner certificate) circuit))
+      → IfOk result (λ report. PrintsGame report.game_text.items game) → IfOk result (λ report. PrintsCertificate compact report.certificate_text.items game certificate)
+      → IfOk result (IsReport May order compact text)
+  reports May compact certificate (Ok report) may certified hold outside realizable made prints_game prints_certificate =
+      report_is May compact certificate made.0 report may certified hold outside made.2 made.3 realizable made.1 prints_game prints_certificate
+  reports May compact certificate (Err fault) may certified hold outside realizable made prints_game prints_certificate = tt
+
   pub solver_cause : (May : MayAnswer) (fault : SynthFault) → IsSolverFault May game fault → IsSynthFault May order text fault
   solver_cause May (BadCycle ids) h = record { file = of.file; accepted = of.accepted; game = game; is_game = of_file; holds = h }
   solver_cause May (Certificate cause offset) h = record { file = of.file; accepted = of.accepted; game = game; is_game = of_file; holds = h }
@@ -90,7 +101,7 @@ module _ (order : Order) (text : List ℕ) (a : AutomatonData) (keys : List Key)
   solver_cause May (Automaton fault) h = absurd h
   solver_cause May CircuitTooLarge h = absurd h
 
-  pub circuit_cause : (May : MayAnswer) (certificate : CertificateData) (fault : SynthFault) → May game (Ok certificate) → IsCertified game certificate → IsCircuitFault order a game.game certificate fault → IsSynthFault May order text fault
+  circuit_cause : (May : MayAnswer) (certificate : CertificateData) (fault : SynthFault) → May game (Ok certificate) → IsCertified game certificate → IsCircuitFault order a game.game certificate fault → IsSynthFault May order text fault
   circuit_cause May certificate CircuitTooLarge may certified h = record {
     file = of.file;
     accepted = of.accepted;
@@ -113,6 +124,11 @@ module _ (order : Order) (text : List ℕ) (a : AutomatonData) (keys : List Key)
   circuit_cause May certificate (Certificate cause offset) may certified h = absurd h
   circuit_cause May certificate NotCertified may certified h = absurd h
 
+  pub circuit_causes : (May : MayAnswer) (certificate : CertificateData) (result : Result Report SynthFault) → May game (Ok certificate) → IsCertified game certificate
+      → IfErr result (IsCircuitFault order a game.game certificate) → IfErr result (IsSynthFault May order text)
+  circuit_causes May certificate (Ok report) may certified h = tt
+  circuit_causes May certificate (Err fault) may certified h = circuit_cause May certificate fault may certified h
+
 pub text_cause : (May : MayAnswer) (order : Order) (text : List ℕ) (fault : SynthFault) → IsTextFault text fault → IsSynthFault May order text fault
 text_cause May order text (Text cause offset) h = h
 text_cause May order text (Automaton fault) h = h
@@ -130,7 +146,7 @@ refused_with fault = Err fault
 pub sure_memory : (fault : SynthFault) → fault ≡ OutOfMemory → IsSureAnswer (refused_with fault)
 sure_memory fault is = subst (λ (f : SynthFault). IsSureAnswer (refused_with f)) (sym is) tt
 
-pub sure_circuit : (order : Order) (a : AutomatonData) (game : ParityGame) (certificate : CertificateData) (fault : SynthFault) → IsCircuitFault order a game certificate fault → IsSureAnswer (refused_with fault)
+sure_circuit : (order : Order) (a : AutomatonData) (game : ParityGame) (certificate : CertificateData) (fault : SynthFault) → IsCircuitFault order a game certificate fault → IsSureAnswer (refused_with fault)
 sure_circuit order a game certificate CircuitTooLarge h = tt
 sure_circuit order a game certificate OutOfMemory h = tt
 sure_circuit order a game certificate (Text cause offset) h = absurd h
@@ -138,6 +154,10 @@ sure_circuit order a game certificate (Automaton fault) h = absurd h
 sure_circuit order a game certificate (BadCycle ids) h = absurd h
 sure_circuit order a game certificate (Certificate cause offset) h = absurd h
 sure_circuit order a game certificate NotCertified h = absurd h
+
+pub sure_circuits : (order : Order) (a : AutomatonData) (game : ParityGame) (certificate : CertificateData) (result : Result Report SynthFault) → IfErr result (IsCircuitFault order a game certificate) → IsSureAnswer result
+sure_circuits order a game certificate (Ok report) h = tt
+sure_circuits order a game certificate (Err fault) h = sure_circuit order a game certificate fault h
 
 -- ## A fault that is handed on
 
