@@ -17,7 +17,7 @@ use Rattle.psyn.specs.declared.answer.Refusal.{Refusal}
 use Rattle.psyn.specs.declared.answer.Refusal.TheVariants as refusal
 use Rattle.psyn.specs.Automata.{ReadsAutomaton, GivesAutomaton}
 use Rattle.psyn.specs.Faults.{fault_text}
-use Rattle.psyn.specs.Lassos.{AnswersLasso, TellsVerdict, verdict_text}
+use Rattle.psyn.specs.Lassos.{AnswersLasso, RunsCircuit, TellsVerdict, verdict_text}
 use Rattle.psyn.specs.Outcomes.{Gives}
 use Rattle.psyn.specs.Replies.{Reply, line_reply, reply_of}
 use Rattle.psyn.specs.Texts.{CutsInThree, ReadsCircuitText, ReadsStimulusText}
@@ -28,29 +28,35 @@ module _ (role : Role) (texts first second third : List ℕ) (cuts : CutsInThree
   lasso_automaton_fault (refusal.Fault fault) h = inr ((first, second, third), cuts, inl (fault_text fault, h, refl))
   lasso_automaton_fault refusal.OutOfMemory h = tt
 
-  module _ (file : FileData) (is_file : ReadsAutomaton first (Ok file)) where
-    -- the fault of a circuit's text behind an automaton's
-    pub lasso_circuit_fault : (fault : Refusal) → Gives {X = CircuitData} (λ circuit. circuit) (ReadsCircuitText second) (Err fault) → Gives {X = Answer} reply_of (AnswersLasso role texts) (Err fault)
-    lasso_circuit_fault (refusal.Fault fault) h = inr ((first, second, third), cuts, inr (file, is_file, inl (fault_text fault, h, refl)))
-    lasso_circuit_fault refusal.OutOfMemory h = tt
+  -- what the circuit's text and the stimulus give behind it
+  pub lasso_run : (file : FileData) → ReadsAutomaton first (Ok file) → (outcome : Result Answer Refusal) → Gives reply_of (RunsCircuit role file second third) outcome → Gives reply_of (AnswersLasso role texts) outcome
+  lasso_run file is_file (Ok answer) h = inr ((first, second, third), cuts, inr (file, is_file, h))
+  lasso_run file is_file (Err (refusal.Fault fault)) h = inr ((first, second, third), cuts, inr (file, is_file, h))
+  lasso_run file is_file (Err refusal.OutOfMemory) h = tt
 
-    module _ (c : CircuitData) (is_circuit : ReadsCircuitText second (Ok c)) (width : ℕ) (is_width : width ≡ length c.inputs) where
-      -- the fault of a stimulus behind both
-      pub lasso_stimulus_fault : (fault : Refusal) → Gives {X = StimulusData} (λ stimulus. stimulus) (ReadsStimulusText width true third) (Err fault) → Gives {X = Answer} reply_of (AnswersLasso role texts) (Err fault)
-      lasso_stimulus_fault (refusal.Fault fault) h =
-          let same = subst (λ (n : ℕ). ReadsStimulusText n true third (Err (fault_text fault))) is_width h in
-          inr ((first, second, third), cuts, inr (file, is_file, inr (c, is_circuit, inl (fault_text fault, same, refl))))
-      lasso_stimulus_fault refusal.OutOfMemory h = tt
+module _ (role : Role) (file : FileData) (text letters : List ℕ) where
+  -- the fault of a circuit's text
+  pub run_circuit_fault : (fault : Refusal) → Gives {X = CircuitData} (λ circuit. circuit) (ReadsCircuitText text) (Err fault) → Gives {X = Answer} reply_of (RunsCircuit role file text letters) (Err fault)
+  run_circuit_fault (refusal.Fault fault) h = inl (fault_text fault, h, refl)
+  run_circuit_fault refusal.OutOfMemory h = tt
 
-      -- the verdict
-      pub lasso_told : (s : StimulusData) → ReadsStimulusText width true third (Ok s) → (outcome : Result Answer Refusal) → Gives reply_of (TellsVerdict role file c s) outcome → Gives reply_of (AnswersLasso role texts) outcome
-      lasso_told s is_stimulus (Ok answer) h =
-          let same = subst (λ (n : ℕ). ReadsStimulusText n true third (Ok s)) is_width is_stimulus in
-          inr ((first, second, third), cuts, inr (file, is_file, inr (c, is_circuit, inr (s, same, h))))
-      lasso_told s is_stimulus (Err (refusal.Fault fault)) h =
-          let same = subst (λ (n : ℕ). ReadsStimulusText n true third (Ok s)) is_width is_stimulus in
-          inr ((first, second, third), cuts, inr (file, is_file, inr (c, is_circuit, inr (s, same, h))))
-      lasso_told s is_stimulus (Err refusal.OutOfMemory) h = tt
+  module _ (c : CircuitData) (is_circuit : ReadsCircuitText text (Ok c)) (width : ℕ) (is_width : width ≡ length c.inputs) where
+    -- the fault of a stimulus behind it
+    pub run_stimulus_fault : (fault : Refusal) → Gives {X = StimulusData} (λ stimulus. stimulus) (ReadsStimulusText width true letters) (Err fault) → Gives {X = Answer} reply_of (RunsCircuit role file text letters) (Err fault)
+    run_stimulus_fault (refusal.Fault fault) h =
+        let same = subst (λ (n : ℕ). ReadsStimulusText n true letters (Err (fault_text fault))) is_width h in
+        inr (c, is_circuit, inl (fault_text fault, same, refl))
+    run_stimulus_fault refusal.OutOfMemory h = tt
+
+    -- the verdict
+    pub run_told : (s : StimulusData) → ReadsStimulusText width true letters (Ok s) → (outcome : Result Answer Refusal) → Gives reply_of (TellsVerdict role file c s) outcome → Gives reply_of (RunsCircuit role file text letters) outcome
+    run_told s is_stimulus (Ok answer) h =
+        let same = subst (λ (n : ℕ). ReadsStimulusText n true letters (Ok s)) is_width is_stimulus in
+        inr (c, is_circuit, inr (s, same, h))
+    run_told s is_stimulus (Err (refusal.Fault fault)) h =
+        let same = subst (λ (n : ℕ). ReadsStimulusText n true letters (Ok s)) is_width is_stimulus in
+        inr (c, is_circuit, inr (s, same, h))
+    run_told s is_stimulus (Err refusal.OutOfMemory) h = tt
 
 -- ---- the verdict
 

@@ -26,7 +26,10 @@ TellsVerdict role file c s (Ok reply) = IsCircuit c × HasOneValues c × (0 < le
 TellsVerdict role file c s (Err line) = ((s.lap ≡ []) × (line ≡ codes "fault 71 EmptyLap"))
     ⊎ ((0 < length s.lap) × ¬ HasSymbols role file.names file.controllable c × (line ≡ codes "fault 72 Symbols"))
 
+-- the circuit of a text in that role, on the stimulus of another text, which has a divider
+abbrev pub RunsCircuit : Role → FileData → List ℕ → List ℕ → Result Reply (List ℕ) → Type 0
+RunsCircuit role file text letters = Then (ReadsCircuitText text) (λ c. Then (ReadsStimulusText (length c.inputs) true letters) (TellsVerdict role file c))
+
 -- `lasso` of an automaton, a circuit of that role and a stimulus with a divider
 abbrev pub AnswersLasso : Role → List ℕ → Result Reply (List ℕ) → Type 0
-AnswersLasso role texts = Then (CutsInThree texts) (λ parts. Then (ReadsAutomaton parts.0) (λ file. Then (ReadsCircuitText parts.1) (λ c.
-    Then (ReadsStimulusText (length c.inputs) true parts.2) (TellsVerdict role file c))))
+AnswersLasso role texts = Then (CutsInThree texts) (λ parts. Then (ReadsAutomaton parts.0) (λ file. RunsCircuit role file parts.1 parts.2))

@@ -5,7 +5,7 @@ ghost use Rattle.ps_aiger.specs.Circuits.{IsCircuit};
 ghost use Rattle.ps_automaton.specs.Automata.{IsBuiltFrom};
 ghost use Rattle.ps_automaton.specs.Chains.{Chain};
 ghost use Rattle.ps_hoa.specs.Files.{FileData};
-ghost use Rattle.psyn.specs.Lassos.{AnswersLasso, TellsVerdict, verdict_text};
+ghost use Rattle.psyn.specs.Lassos.{AnswersLasso, RunsCircuit, TellsVerdict, verdict_text};
 ghost use Rattle.psyn.specs.Outcomes.{Gives};
 ghost use Rattle.psyn.specs.Replies.{reply_of};
 
@@ -24,10 +24,23 @@ pub fn lasso(alloc: Global, role: Role, texts: &[u8]) -> Result<Answer, Refusal>
 {
     let (hoa, aag, letters) = three_texts(texts)?;
     let automaton = read_automaton(alloc, hoa)?;
+    run_circuit(alloc, role, &automaton, aag, letters)
+}
+
+/// The verdict of an automaton on what the circuit of a text does on the stimulus of another.
+fn run_circuit(
+    alloc: Global,
+    role: Role,
+    automaton: &Automaton,
+    aag: &[u8],
+    letters: &[u8],
+) -> Result<Answer, Refusal>
+    ensures { (file : FileData) (chain : Chain) → IsBuiltFrom file chain automaton.now → Gives reply_of (RunsCircuit role file aag.now letters.now) result }
+{
     let circuit = read_circuit(alloc, aag)?;
     let width = circuit.inputs().len();
     let stimulus = read_stimulus(alloc, letters, width, true)?;
-    tell(alloc, role, &automaton, &circuit, &stimulus)
+    tell(alloc, role, automaton, &circuit, &stimulus)
 }
 
 /// The verdict on a stimulus, or what is wrong with the lap or the symbols.
