@@ -10,7 +10,7 @@ use Rattle.std.specs.Prelude.{IfOk, Option, Result, Ok, Err, codes}
 use Rattle.std.specs.Str.{bytes_eq}
 use Rattle.clap.specs.Matches.{first_value}
 use Rattle.clap.specs.Simple.{is_simple, new_shape}
-use Rattle.clap.specs.Words.{App, Text, IsAmong, AddsSubcommand, Rule, app_of, fault_of, subcommand_of, is_simple_and_free, rows_of, with_rule, with_subcommand}
+use Rattle.clap.specs.Words.{App, Shape, Text, IsAmong, AddsSubcommand, Rule, app_of, fault_of, subcommand_of, is_simple_and_free, rows_of, with_rule, with_subcommand}
 use Rattle.clap.specs.declared.builder.command.Command.{Command}
 use Rattle.clap.specs.declared.builder.command.Command.TheViews.{out-Command}
 use Rattle.clap.specs.declared.parser.matches.Found.{Found}
@@ -20,7 +20,7 @@ use Rattle.clap.specs.declared.error.kind.ErrorKind.TheVariants.{DisplayHelp, Ou
 use Rattle.clap.proofs.OnLiterals.{clap_on_literals}
 use Rattle.psyn.specs.declared.command_line.Line.{Line}
 use Rattle.psyn.specs.declared.command_line.Line.TheVariants.{Refused}
-use Rattle.psyn.specs.CommandLine.{Usage, command_with, flag, table, usages, arrangements, is_given, line_refused, line_said, words_with, AreRead, Says, LinesAreRead, AskForHelp}
+use Rattle.psyn.specs.CommandLine.{Usage, HasFlags, command_with, commands, flag, program, table, with_commands, usages, arrangements, is_given, line_refused, line_said, words_with, AreRead, Says, LinesAreRead, AskForHelp}
 
 -- clap's answers to the table are those of a simple command
 pub table-simple : is_simple table ≡ true
@@ -112,18 +112,48 @@ pub flag_added : (old new : App) (rule : Rule) (name : Text) (flags : List (Bor 
 flag_added old new rule name flags i default within added were is =
     added ∙ ap₂ with_rule were is ∙ ap (λ (rules : List Rule). let app : App = record { top = record (new_shape name) { rules = rules }; subs = [] } in app) (one_more flags i default within)
 
+-- the command with all its flags
+pub flags_whole : (command : Command) (name : Text) (flags : List (Bor Text)) (i : ℕ) → i ≡ length flags → app_of command ≡ app_with name (map (λ given. given.now) (take i flags))
+    → (out-Command command).has_globals ≡ false → HasFlags name (map (λ given. given.now) flags) command
+flags_whole command name flags i behind is local = record {
+  shape = ap (λ (a : App). a.top) is ∙ ap (λ (some : List (Bor Text)). command_with name (map (λ (each : Bor Text). each.now) some)) (ap (λ (n : ℕ). take n flags) behind ∙ take-length flags);
+  local = local;
+}
+
 -- a table with one command more
 abbrev pub more : App → Text → List Text → App
 more app name flags = with_subcommand app (command_with name flags)
 
-pub grown : {E : Type 0} (result : Result Command E) (before from : App) (name : Text) (flags : List Text) → before ≡ from
-    → IfOk result (λ command. app_of command ≡ more before name flags) → IfOk result (λ command. app_of command ≡ more from name flags)
-grown (Ok command) before from name flags same is = is ∙ ap (λ (a : App). more a name flags) same
-grown (Err e) before from name flags same is = tt
+pub grown : {E : Type 0} (result : Result Command E) (psyn command : Command) (name : Text) (flags : List Text) → HasFlags name flags command → IfOk result (λ whole. AddsSubcommand psyn command whole)
+    → IfOk result (λ whole. app_of whole ≡ more (app_of psyn) name flags)
+grown (Ok whole) psyn command name flags has adds = adds.shape has.local ∙ ap (λ (shape : Shape). with_subcommand (app_of psyn) shape) has.shape
+grown (Err e) psyn command name flags has adds = tt
 
--- the command with all its flags, put behind the others
-pub flags_whole : {E : Type 0} (result : Result Command E) (psyn command : Command) (name : Text) (flags : List (Bor Text)) (i : ℕ) → i ≡ length flags → app_of command ≡ app_with name (map (λ given. given.now) (take i flags))
-    → (out-Command command).has_globals ≡ false → IfOk result (λ whole. AddsSubcommand psyn command whole) → IfOk result (λ whole. app_of whole ≡ more (app_of psyn) name (map (λ given. given.now) flags))
-flags_whole (Ok whole) psyn command name flags i behind is local adds =
-    adds.shape local ∙ ap (λ (a : App). with_subcommand (app_of psyn) a.top) is ∙ ap (λ (some : List (Bor Text)). more (app_of psyn) name (map (λ (each : Bor Text). each.now) some)) (ap (λ (n : ℕ). take n flags) behind ∙ take-length flags)
-flags_whole (Err e) psyn command name flags i behind is local adds = tt
+-- a row of the table in the code
+abbrev Row : Type 0
+Row = Bor Text × Bor (List (Bor Text))
+
+abbrev row_of : Row → Text × List Text
+row_of row = (row.0.now, map (λ flag. flag.now) row.1.now)
+
+abbrev pub rows_of_table : List Row → List (Text × List Text)
+rows_of_table rows = map row_of rows
+
+with_one_more : (app : App) (rows : List (Text × List Text)) (row : Text × List Text) → with_commands app (rows ++ row ∷ []) ≡ more (with_commands app rows) row.0 row.1
+with_one_more app [] row = refl
+with_one_more app (first ∷ rows) row = with_one_more (more app first.0 first.1) rows row
+
+-- the table up to a row, and that row
+pub row_added : (old new app : App) (rows : List Row) (i : ℕ) (default : Row) → i < length rows → new ≡ more old (get_or rows i default).0.now (map (λ flag. flag.now) (get_or rows i default).1.now)
+    → old ≡ with_commands app (rows_of_table (take i rows)) → new ≡ with_commands app (rows_of_table (take (i + 1) rows))
+row_added old new app rows i default within added were =
+    let row : Row = get_or rows i default in
+    let next : suc i ≡ i + 1 = omega arith in
+    added ∙ ap (λ (a : App). more a row.0.now (map (λ (flag : Bor Text). flag.now) row.1.now)) were
+    ∙ sym (with_one_more app (rows_of_table (take i rows)) (row_of row))
+    ∙ ap (with_commands app) (sym (map-append row_of (take i rows) (row ∷ [])) ∙ ap rows_of_table (sym (take-suc rows i default within) ∙ ap (λ (n : ℕ). take n rows) next))
+
+-- the whole table
+pub rows_whole : (app : App) (rows : List Row) (i : ℕ) → i ≡ length rows → app ≡ with_commands program (rows_of_table (take i rows)) → rows_of_table rows ≡ commands → app ≡ table
+unfolding table
+rows_whole app rows i behind is same = is ∙ ap (λ (some : List Row). with_commands program (rows_of_table some)) (ap (λ (n : ℕ). take n rows) behind ∙ take-length rows) ∙ ap (with_commands program) same

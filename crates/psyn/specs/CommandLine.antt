@@ -3,9 +3,11 @@ use Rattle.std.specs.Prelude.{◌≡◌, ◌⊎◌, ◌==◌, ℕ, Bool, true, f
 use Rattle.std.specs.List.{slice_split, AllByRecursion}
 use Rattle.std.specs.Option.{option_map_or}
 use Rattle.std.specs.Str.{bytes_eq}
-use Rattle.clap.specs.Words.{App, Row, Rule, Shape, Text, first_of, new_app, new_rule, with_subcommand, subcommand_of, fault_of, IsAmong}
+use Rattle.clap.specs.Words.{App, Row, Rule, Shape, Text, app_of, first_of, new_app, new_rule, with_subcommand, subcommand_of, fault_of, IsAmong}
 use Rattle.clap.specs.Simple.{new_shape, on_top}
 use Rattle.clap.specs.declared.builder.action.ArgAction.TheVariants.{SetTrue}
+use Rattle.clap.specs.declared.builder.command.Command.{Command}
+use Rattle.clap.specs.declared.builder.command.Command.TheViews.{out-Command}
 use Rattle.clap.specs.declared.error.kind.ErrorKind.{ErrorKind}
 use Rattle.clap.specs.declared.error.kind.ErrorKind.TheVariants.{DisplayHelp}
 use Rattle.ps_machine.specs.declared.key.Order.{Order}
@@ -29,6 +31,11 @@ flag name = record (new_rule name) { long = Some name; action = Some SetTrue }
 -- a command with its flags
 abbrev pub command_with : Text → List Text → Shape
 command_with name flags = record (new_shape name) { rules = map flag flags }
+
+-- the command has these flags, and none of them is for other commands too
+pub record HasFlags (name : Text) (flags : List Text) (command : Command) : Type 0 where
+  pub shape : (app_of command).top ≡ command_with name flags
+  pub local : (out-Command command).has_globals ≡ false
 
 -- the words of a line are a command and its flags, and no name of a program stands before them
 abbrev pub program : App

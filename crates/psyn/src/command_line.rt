@@ -13,7 +13,7 @@ use ps_simulate::Role;
 use std::alloc::{AllocError, Global};
 
 /// What the first line asks for.
-#[derive(Clone, Copy, Debug, PartialEq, Eq)]
+#[derive(Clone, Copy)]
 pub enum Line {
     /// It is no command with flags of its own, each given at most once.
     Refused,
@@ -46,7 +46,7 @@ pub enum Line {
 }
 
 /// How a circuit is asked for.
-#[derive(Clone, Copy, Debug, PartialEq, Eq)]
+#[derive(Clone, Copy)]
 pub struct SynthLine {
     /// With the game and its certificate.
     pub full: bool,
@@ -107,18 +107,28 @@ fn flag<'a>(alloc: Global, name: &'a str) -> Arg<'a>
 }
 
 /// The commands, each with its flags.
+const COMMANDS: &[(&str, &[&str])] = &[
+    ("help", &[]),
+    ("closed", &[]),
+    ("check", &[]),
+    ("sim", &[]),
+    ("lasso", &["env"]),
+    ("solve", &["compact"]),
+    ("game", &["moore"]),
+    ("cert", &["moore", "compact"]),
+    ("synth", &["full", "cert", "moore", "compact"]),
+];
+
+/// The program with its commands.
 fn commands<'a>(alloc: Global) -> Result<Command<'a>, AllocError>
     ensures { IfOk result (λ command. app_of command ≡ table) }
 {
-    let psyn = with_command(alloc, program(alloc), "help", &[])?;
-    let psyn = with_command(alloc, psyn, "closed", &[])?;
-    let psyn = with_command(alloc, psyn, "check", &[])?;
-    let psyn = with_command(alloc, psyn, "sim", &[])?;
-    let psyn = with_command(alloc, psyn, "lasso", &["env"])?;
-    let psyn = with_command(alloc, psyn, "solve", &["compact"])?;
-    let psyn = with_command(alloc, psyn, "game", &["moore"])?;
-    let psyn = with_command(alloc, psyn, "cert", &["moore", "compact"])?;
-    with_command(alloc, psyn, "synth", &["full", "cert", "moore", "compact"])
+    let mut psyn = program(alloc);
+    let rows: &[(&'a str, &[&'a str])] = COMMANDS;
+    for &(name, flags) in rows {
+        psyn = with_command(alloc, psyn, name, flags)?;
+    }
+    Ok(psyn)
 }
 
 /// The program with no command. No name of a program stands before the words of a line.
@@ -139,11 +149,22 @@ fn with_command<'a>(
 ) -> Result<Command<'a>, AllocError>
     ensures { IfOk result (λ command. app_of command ≡ with_subcommand (app_of psyn.entry) (words.command_with name.now (map (λ flag. flag.now) flags.now))) }
 {
+    psyn.subcommand(command_with(alloc, name, flags)?)
+}
+
+/// A command with flags of its own.
+fn command_with<'a>(
+    alloc: Global,
+    name: &'a str,
+    flags: &[&'a str],
+) -> Result<Command<'a>, AllocError>
+    ensures { IfOk result (words.HasFlags name.now (map (λ flag. flag.now) flags.now)) }
+{
     let mut command = Command::new(alloc, name);
     for given in flags {
         command = command.arg(flag(alloc, given))?;
     }
-    psyn.subcommand(command)
+    Ok(command)
 }
 
 /// The line that was read.
