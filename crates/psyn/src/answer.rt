@@ -113,7 +113,7 @@ takes files by name, explains them.
 ";
 
 /// What the program writes, and its exit status.
-#[derive(Debug, Drop)]
+#[derive(Drop)]
 pub struct Answer {
     /// The bytes.
     pub text: Vec<u8>,
@@ -174,7 +174,7 @@ impl Answer {
 }
 
 /// Why a command has no answer.
-#[derive(Debug, Drop)]
+#[derive(Drop)]
 pub enum Refusal {
     /// A fault, which is answered in its place.
     Fault(FaultLine),

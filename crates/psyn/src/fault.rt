@@ -1,7 +1,7 @@
 //! The faults that the program answers, each in one line.
 
 /// A fault of no place.
-#[derive(Clone, Copy, Debug)]
+#[derive(Clone, Copy)]
 pub enum PlainFault {
     NonParity,
     ComplementedSet,
@@ -15,7 +15,7 @@ pub enum PlainFault {
 }
 
 /// What the program answers in place of an answer. Vertices are named by the game's ids.
-#[derive(Debug, Drop)]
+#[derive(Drop)]
 pub enum FaultLine {
     /// The command line is refused.
     Usage,
