@@ -109,6 +109,14 @@ class Chains(unittest.TestCase):
         self.assertEqual(self.ask("sim", CIRCUIT, "1\n0\n"), ("|1|1\n|0|0\n", 0))
         self.assertEqual(self.ask("lasso", GRANTS, CIRCUIT, "1\n-\n0\n1\n"), ("accepted stem 1 lap 2\n", 0))
 
+    def test_aliases_at_their_limit(self):
+        head, body = 'HOA: v1 Start: 0 AP: 1 "a" controllable-AP: ', "Acceptance: 0 t --BODY-- State: 0 [@a4095] 0 --END--"
+        aliases = [f"Alias: @a{number} 0 " for number in range(4_097)]
+        game = 'parity 4;\n0 0 1 1,2 "0/0";\n1 0 0 3 "0:0";\n2 0 0 0 "0:1";\n3 1 1 4 "sink/1";\n4 0 0 3 "sink:0";\n'
+        self.assertEqual(self.ask("game", head + "".join(aliases[:-1]) + body), (game, 0))
+        last = len(head + "".join(aliases[:-1]) + "Alias: ")
+        self.assertEqual(self.ask("game", head + "".join(aliases) + body), (f"fault 9 Limit at {last}\n", 1))
+
 
 if __name__ == "__main__":
     unittest.main()
