@@ -11,7 +11,7 @@ use Rattle.ps_components.specs.Graphs.{Digraph, Link}
 use Rattle.ps_game.specs.Games.{ParityGame, vertex_count}
 use Rattle.ps_measure.specs.Sums.{sum_below, counted, count_below}
 use Rattle.ps_measure.specs.Ranks.{count_of, count_in, width_of, width_in, total_of, raised_of, most_raises, count_with, AreRows, AreLeastFor}
-use Rattle.ps_measure.specs.Filling.{IsEmptyAt, Fills, IsFilled}
+use Rattle.ps_measure.specs.Filling.{AreRanked, IsEmptyAt, Fills, IsFilled}
 use Rattle.ps_measure.specs.Remaining.{LowData, low_graph, low_weight}
 use Rattle.ps_measure.specs.Columns.{AreRoots}
 use Rattle.ps_measure.proofs.Steps.{weight_light}
@@ -156,13 +156,6 @@ raised-le-most game player set table priorities rows columns =
     (λ k within. column_most game player set table (slice_index priorities k) (λ v. count_of rows v k) (columns k within))
 
 -- ---- the columns so far
-
--- the first columns hold least counts, the later ones none, and so many counts are not 0
-pub record AreRanked (game : ParityGame) (player : ℕ) (set : ℕ → Bool) (table : ℕ → Option ℕ) (priorities : List ℕ) (rows : List Row) (place raises : ℕ) : Type 0 where
-  pub shape : AreRows rows (vertex_count game) (length priorities)
-  pub columns : (k : ℕ) → k < place → AreLeastFor game player set table (slice_index priorities k) (λ v. count_of rows v k)
-  pub empty : (k : ℕ) → place ≤ k → IsEmptyAt rows k
-  pub raises_is : raises ≡ raised_of rows (vertex_count game) place
 
 -- least counts, read at other places
 pub least_same : (game : ParityGame) (player : ℕ) (set : ℕ → Bool) (table : ℕ → Option ℕ) (p : ℕ) (counts other : ℕ → ℕ) → ((v : ℕ) → other v ≡ counts v) → AreLeastFor game player set table p counts → AreLeastFor game player set table p other

@@ -9,10 +9,10 @@ use Rattle.ps_game.specs.Ranking.{ListsPriorities}
 use Rattle.ps_measure.specs.declared.fault.MeasureFault.{MeasureFault}
 use Rattle.ps_measure.specs.declared.fault.MeasureFault.TheVariants.{BadCycle, OutOfMemory}
 use Rattle.ps_measure.specs.Remaining.{RemainingData, remaining_graph, star_graph, IsReverse, LowData, low_graph, low_weight}
-use Rattle.ps_measure.specs.Filling.{IsEmptyAt, Fills, IsFilled, IsLowRefusal, AreLevels}
+use Rattle.ps_measure.specs.Filling.{AreRanked, IsEmptyAt, Fills, IsFilled, IsLowRefusal, AreLevels}
 use Rattle.ps_measure.specs.Ranks.{AreRanks, AreRows, AreLeastFor, IsRefusal, count_of, width_of, total_of, raised_of, most_raises}
 use Rattle.ps_measure.proofs.Least.{least_for, lost_cycle, zero_past}
-use Rattle.ps_measure.proofs.Rows.{Row, AreRanked, ranked_more, raised-le-total, raised-le-most}
+use Rattle.ps_measure.proofs.Rows.{Row, ranked_more, raised-le-total, raised-le-most}
 
 -- the graph for the priority at a place
 pub record IsAtPlace (r : RemainingData) (low : LowData) (priorities : List ℕ) (place : ℕ) : Type 0 where

@@ -1,5 +1,5 @@
 -- Columns of counts written into rows, and cycles in a graph of low vertices.
-use Rattle.std.specs.Prelude.{◌≡◌, ◌≢◌, ℕ, ◌<◌, ◌≤◌, List, length, Vec, nat_lt, slice_index}
+use Rattle.std.specs.Prelude.{◌≡◌, ◌≢◌, ℕ, ◌<◌, ◌≤◌, Bool, List, length, Option, Vec, nat_lt, slice_index}
 use Rattle.std.specs.Global.{Global}
 use Rattle.ps_components.specs.Graphs.{Digraph}
 use Rattle.ps_components.specs.Trails.{IsTrail}
@@ -10,7 +10,7 @@ use Rattle.ps_measure.specs.Sums.{count_below}
 use Rattle.ps_measure.specs.Remaining.{LowData, low_graph, low_weight}
 use Rattle.ps_measure.specs.Columns.{AreLeast}
 use Rattle.ps_measure.specs.Outcomes.{IsClosing}
-use Rattle.ps_measure.specs.Ranks.{width_of, count_of}
+use Rattle.ps_measure.specs.Ranks.{AreLeastFor, AreRows, width_of, count_of, raised_of}
 
 -- no count at a place
 abbrev pub IsEmptyAt : List (Vec ℕ Global) → ℕ → Type 0
@@ -46,3 +46,10 @@ IsLowRefusal low OutOfMemory = Unit {0}
 pub record AreLevels (game : ParityGame) (levels : List ℕ) : Type 0 where
   pub each : length levels ≡ vertex_count game
   pub is : (v : ℕ) → v < vertex_count game → slice_index levels v ≡ priority_of game v
+
+-- the first columns hold least counts, the later ones none, and so many counts are not 0
+pub record AreRanked (game : ParityGame) (player : ℕ) (set : ℕ → Bool) (table : ℕ → Option ℕ) (priorities : List ℕ) (rows : List (Vec ℕ Global)) (place raises : ℕ) : Type 0 where
+  pub shape : AreRows rows (vertex_count game) (length priorities)
+  pub columns : (k : ℕ) → k < place → AreLeastFor game player set table (slice_index priorities k) (λ v. count_of rows v k)
+  pub empty : (k : ℕ) → place ≤ k → IsEmptyAt rows k
+  pub raises_is : raises ≡ raised_of rows (vertex_count game) place
