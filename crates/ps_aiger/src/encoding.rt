@@ -1,6 +1,6 @@
 //! The circuit of a machine.
 
-ghost use Rattle.std.specs.Prelude.{◌≡◌, ◌≢◌, ℕ, ◌+◌, ◌*◌, ◌^◌, ◌<◌, ◌≤◌, All, IfOk, IsTrue, Some, None, length, map, replicate, slice_get, slice_index};
+ghost use Rattle.std.specs.Prelude.{◌≡◌, ◌≢◌, ℕ, ◌+◌, ◌*◌, ◌^◌, ◌<◌, ◌≤◌, All, IfOk, IsTrue, Some, None, [], length, map, replicate, slice_get, slice_index};
 ghost use Rattle.std.specs.List.{range_with_len};
 ghost use Rattle.ps_machine.specs.Machines.{IsMachine, memories_of};
 ghost use Rattle.ps_aiger.specs.Drafts.{data_of, name_bytes};
@@ -34,12 +34,51 @@ pub fn encode(alloc: Global, machine: &Machine) -> Result<Circuit, EncodeFault>
 {
     let latches = latches_for(machine.memories());
     let mut builder = Builder::new(alloc, machine.inputs().len() as u32 + latches);
-    let next_bits = next_bits(alloc, latches)?;
-    let next = literals_of(alloc, &mut builder, machine, latches, &next_bits)?;
-    let output_bits = output_bits(alloc, machine)?;
-    let outputs = literals_of(alloc, &mut builder, machine, latches, &output_bits)?;
+    let next = next_literals(alloc, &mut builder, machine, latches)?;
+    let outputs = output_literals(alloc, &mut builder, machine, latches)?;
     let circuit = circuit_of(alloc, &builder, machine, latches, &next, outputs)?;
     Ok(circuit)
+}
+
+/// The literals of the next values of the latches. They are made before any others.
+fn next_literals(
+    alloc: Global,
+    builder: &mut Builder,
+    machine: &Machine,
+    latches: u32,
+) -> Result<Vec<u32>, EncodeFault>
+    requires few { latches ≤ 64 }
+    requires given { builder.old.given ≡ length machine.now.inputs + latches }
+    requires empty { builder.old.gates ≡ [] }
+    requires small { length machine.now.inputs ≤ 64 }
+    ensures extends { Extends builder.old builder.new }
+    ensures many { IfOk result (λ next. length next.items ≡ latches) }
+    ensures each { IfOk result (λ next. (j : ℕ) → j < latches → IsLiteralAt machine.now (Next j) builder.new latches 0 (slice_index next.items j)) }
+    ensures made { IfOk result (λ next. next_wires machine.now latches ≡ record { draft = builder.new; literals = next.items }) }
+    ensures too_large { result ≡ Err EncodeFault.CircuitTooLarge → 2147483647 < variables_of (next_wires machine.now latches).draft }
+{
+    let next_bits = next_bits(alloc, latches)?;
+    literals_of(alloc, builder, machine, latches, &next_bits)
+}
+
+/// The literals of the outputs, made behind those of the next values of the latches.
+fn output_literals(
+    alloc: Global,
+    builder: &mut Builder,
+    machine: &Machine,
+    latches: u32,
+) -> Result<Vec<u32>, EncodeFault>
+    requires few { latches ≤ 64 }
+    requires given { builder.old.given ≡ length machine.now.inputs + latches }
+    requires behind { builder.old ≡ (next_wires machine.now latches).draft }
+    requires machine { IsMachine machine.now }
+    ensures extends { Extends builder.old builder.new }
+    ensures literals { IfOk result (λ outputs. AreLiterals machine.now builder.new latches (map Output machine.now.outputs) outputs.items) }
+    ensures made { IfOk result (λ outputs. output_wires machine.now latches ≡ record { draft = builder.new; literals = outputs.items }) }
+    ensures too_large { result ≡ Err EncodeFault.CircuitTooLarge → 2147483647 < variables_of (output_wires machine.now latches).draft }
+{
+    let output_bits = output_bits(alloc, machine)?;
+    literals_of(alloc, builder, machine, latches, &output_bits)
 }
 
 /// The circuit with these next literals and outputs.

@@ -1,0 +1,47 @@
+use Rattle.std.proofs.Common.{◌≡◌, ◌∙◌, ◌<◌, ℕ, List, Vec, All, map, subst, sym, ap}
+use Rattle.std.specs.Global.{Global}
+use Rattle.std.proofs.lemmas.Result.{IfOk-weaker}
+use Rattle.ps_aiger.specs.declared.functions.Wanted.{Wanted}
+use Rattle.ps_aiger.specs.Built.{AreLiterals}
+use Rattle.ps_aiger.specs.Functions.{wanted_place}
+use Rattle.ps_aiger.specs.Building.{variables_of}
+use Rattle.ps_machine.specs.Machines.{MachineData}
+use Rattle.ps_aiger.specs.Building.{Drafted}
+use Rattle.ps_aiger.specs.Gates.{Wired, next_wires, output_wires, wired}
+use Rattle.ps_aiger.specs.declared.functions.Wanted.TheVariants.{Output}
+use Rattle.ps_aiger.proofs.EncodeLemmas.{few_inputs, output_bits_within}
+use Rattle.ps_aiger.proofs.encoding.output_literals.Goals as goal
+
+-- the outputs are wired behind the next values
+all_wired : (m : MachineData) (latches : ℕ) (bits : List Wanted) (d : Drafted) → d ≡ (next_wires m latches).draft → bits ≡ map Output m.outputs → output_wires m latches ≡ wired m latches bits d
+all_wired m latches bits d behind is = ap (λ (e : Drafted). wired m latches (map Output m.outputs) e) (sym behind) ∙ ap (λ ws. wired m latches ws d) (sym is)
+
+pub literals_of-requires-clause-within : goal.literals_of-requires-clause-within
+literals_of-requires-clause-within c =
+    subst (λ (xs : List Wanted). All (λ bit. wanted_place bit < 64) xs) (sym c.deref.ensures.value)
+    (output_bits_within c.args.machine.now c.requires.machine c.in_ok-output_bits.output_bits.items c.in_ok-output_bits.ensures)
+
+pub literals_of-requires-clause-small : goal.literals_of-requires-clause-small
+literals_of-requires-clause-small c = few_inputs c.args.machine.now c.requires.machine
+
+pub returns-clause-literals : goal.returns-clause-literals
+returns-clause-literals c =
+    let m = c.args.machine.now in
+    let P : Vec ℕ Global → Type 0 = λ literals. AreLiterals m c.literals_of.new.builder c.args.latches c.deref.result.now literals.items in
+    IfOk-weaker c.literals_of.result P _
+    (λ literals l. subst (λ (xs : List Wanted). AreLiterals m c.literals_of.new.builder c.args.latches xs literals.items) (c.deref.ensures.value ∙ c.in_ok-output_bits.ensures) l) c.literals_of.ensures.literals
+
+pub returns-clause-made : goal.returns-clause-made
+returns-clause-made c =
+    let m = c.args.machine.now in
+    let latches = c.args.latches in
+    let whole = all_wired m latches c.deref.result.now c.args.builder.now c.requires.behind (c.deref.ensures.value ∙ c.in_ok-output_bits.ensures) in
+    let P : Vec ℕ Global → Type 0 = λ literals. wired m latches c.deref.result.now c.args.builder.now ≡ record { draft = c.literals_of.new.builder; literals = literals.items } in
+    IfOk-weaker c.literals_of.result P _ (λ literals made. whole ∙ made) c.literals_of.ensures.made
+
+pub returns-clause-too_large : goal.returns-clause-too_large
+returns-clause-too_large c e =
+    let m = c.args.machine.now in
+    let latches = c.args.latches in
+    let whole = all_wired m latches c.deref.result.now c.args.builder.now c.requires.behind (c.deref.ensures.value ∙ c.in_ok-output_bits.ensures) in
+    subst (λ (n : Wired). 2147483647 < variables_of n.draft) (sym whole) (c.literals_of.ensures.too_large e)
