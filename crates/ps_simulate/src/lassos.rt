@@ -1,6 +1,6 @@
 //! Lassos: a stem that is read once and a lap that is read again and again, until the latches repeat themselves.
 
-ghost use Rattle.std.specs.Prelude.{◌≡◌, ◌+◌, ◌*◌, ◌^◌, ◌<◌, ◌≤◌, List, ℕ, false, length, All, IfOk, IfErr, IsTrue, IsOk, OnOk};
+ghost use Rattle.std.specs.Prelude.{◌≡◌, ◌+◌, ◌*◌, ◌^◌, ◌<◌, ◌≤◌, List, [], ℕ, false, length, All, IfOk, IfErr, IsTrue, IsOk, OnOk, vec_len};
 ghost use Rattle.ps_aiger.specs.Values.{resets};
 ghost use Rattle.ps_hoa.specs.Files.{FileData};
 ghost use Rattle.ps_automaton.specs.Automata.{IsBuiltFrom};
@@ -114,7 +114,26 @@ pub fn lasso(
     let Some(naming) = Naming::new(alloc, circuit, automaton, role)? else {
         return Err(LassoFault::Symbols);
     };
-    let repetition = first_repetition(alloc, circuit, &naming, stem, lap)?;
+    Ok(verdict_of(alloc, circuit, automaton, &naming, stem, lap)?)
+}
+
+/// The verdict, where the names of the naming are those of the automaton.
+fn verdict_of(
+    alloc: Global,
+    circuit: &Circuit,
+    automaton: &Automaton,
+    naming: &Naming,
+    stem: &[Vec<bool>],
+    lap: &[Vec<bool>],
+) -> Result<Verdict, AllocError>
+    requires stem { All (λ letter. length letter ≡ length circuit.now.inputs) (letters_of stem.now) }
+    requires lap { All (λ letter. length letter ≡ length circuit.now.inputs) (letters_of lap.now) }
+    requires some { 0 < length lap.now }
+    requires naming { IsNaming circuit.now naming.now }
+    requires names { names_of naming.now ≡ automaton.now.names }
+    ensures { IfOk result (λ verdict. (file : FileData) (chain : Chain) → IsBuiltFrom file chain automaton.now → IsVerdictOf file circuit.now (letters_of stem.now) (letters_of lap.now) verdict) }
+{
+    let repetition = first_repetition(alloc, circuit, naming, stem, lap)?;
     let letters = repetition.letters.as_slice();
     let start = stem.len() + repetition.first * lap.len();
     let (before, behind) = letters.split_at(start);
@@ -159,16 +178,76 @@ fn first_repetition(
     requires naming { IsNaming circuit.now naming.now }
     ensures { IfOk result (λ r. RepeatsBy (names_of naming.now) circuit.now (letters_of stem.now) (letters_of lap.now) r.first r.letters.items) }
 {
-    let mut simulator = Simulator::new(alloc, circuit)?;
-    let mut outputs = vec![in alloc; false; circuit.outputs().len()]?;
-    let mut letters = Vec::new(alloc);
-    let mut seen = IndexSet::new(alloc);
-    read_word(naming, &mut simulator, &mut outputs, &mut letters, stem)?;
-    'laps: loop {
-        if let Some(first) = see(alloc, &mut seen, simulator.latches())? {
-            return Ok(Repetition { letters, first });
+    let mut run = Run::new(alloc, circuit)?;
+    let first = run.first_repetition(alloc, naming, stem, lap)?;
+    Ok(Repetition {
+        letters: run.letters,
+        first,
+    })
+}
+
+/// A circuit that runs, and the automaton's letters so far.
+#[derive(Drop)]
+struct Run<'a> {
+    simulator: Simulator<'a>,
+    outputs: Vec<bool>,
+    letters: Vec<u64>,
+}
+
+impl<'a> Run<'a> {
+    /// The latches are at their resets, and nothing was read.
+    fn new(alloc: Global, circuit: &'a Circuit) -> Result<Run<'a>, AllocError>
+        ensures circuit { IfOk result (λ run. run.simulator.circuit ≡ circuit.now) }
+        ensures latches { IfOk result (λ run. run.simulator.latches ≡ resets circuit.now) }
+        ensures outputs { IfOk result (λ run. vec_len run.outputs ≡ length circuit.now.outputs) }
+        ensures letters { IfOk result (λ run. run.letters.items ≡ []) }
+    {
+        let simulator = Simulator::new(alloc, circuit)?;
+        let outputs = vec![in alloc; false; circuit.outputs().len()]?;
+        Ok(Run {
+            simulator,
+            outputs,
+            letters: Vec::new(alloc),
+        })
+    }
+
+    /// Reads the stem, and laps until one begins with latches that an earlier one began with, and answers the number of that one.
+    fn first_repetition(
+        &mut self,
+        alloc: Global,
+        naming: &Naming,
+        stem: &[Vec<bool>],
+        lap: &[Vec<bool>],
+    ) -> Result<usize, AllocError>
+        requires stem { All (λ letter. length letter ≡ length self.old.simulator.circuit.inputs) (letters_of stem.now) }
+        requires lap { All (λ letter. length letter ≡ length self.old.simulator.circuit.inputs) (letters_of lap.now) }
+        requires some { 0 < length lap.now }
+        requires naming { IsNaming self.old.simulator.circuit naming.now }
+        requires latches { self.old.simulator.latches ≡ resets self.old.simulator.circuit }
+        requires outputs { vec_len self.old.outputs ≡ length self.old.simulator.circuit.outputs }
+        requires letters { self.old.letters.items ≡ [] }
+        ensures { IfOk result (λ first. RepeatsBy (names_of naming.now) self.old.simulator.circuit (letters_of stem.now) (letters_of lap.now) first self.new.letters.items) }
+    {
+        read_word(
+            naming,
+            &mut self.simulator,
+            &mut self.outputs,
+            &mut self.letters,
+            stem,
+        )?;
+        let mut seen = IndexSet::new(alloc);
+        'laps: loop {
+            if let Some(first) = see(alloc, &mut seen, self.simulator.latches())? {
+                return Ok(first);
+            }
+            read_word(
+                naming,
+                &mut self.simulator,
+                &mut self.outputs,
+                &mut self.letters,
+                lap,
+            )?;
         }
-        read_word(naming, &mut simulator, &mut outputs, &mut letters, lap)?;
     }
 }
 

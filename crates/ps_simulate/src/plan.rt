@@ -40,11 +40,19 @@ impl Plan {
         ensures { IfOk result (IsPlan circuit.now) }
     {
         let places = Places::new(alloc, circuit)?;
+        Plan::by_places(alloc, circuit, &places)
+    }
+
+    /// The plan of a circuit whose variables have these places.
+    fn by_places(alloc: Global, circuit: &Circuit, places: &Places) -> Result<Self, AllocError>
+        requires { places.now ≡ circuit.now }
+        ensures { IfOk result (IsPlan circuit.now) }
+    {
         Ok(Plan {
             size: places.count(),
-            rows: rows_of(alloc, circuit, &places)?,
-            outputs: output_wires(alloc, circuit, &places)?,
-            nexts: next_wires(alloc, circuit, &places)?,
+            rows: rows_of(alloc, circuit, places)?,
+            outputs: output_wires(alloc, circuit, places)?,
+            nexts: next_wires(alloc, circuit, places)?,
         })
     }
 }
