@@ -17,8 +17,6 @@ mod automata;
 mod circuits;
 mod fault;
 mod report;
-#[cfg(test)]
-mod tests;
 
 pub use automata::read_automaton;
 pub use circuits::circuit_of_certificate;

@@ -1,0 +1,74 @@
+//! The machine of a worked automaton's winner, and its circuit.
+
+use ps_aiger::{encode, write};
+use ps_automaton::Automaton;
+use ps_machine::{BuiltIn, Machine, Order, Solver, extract, game_of};
+use ps_synthesis::read_automaton;
+use std::alloc::Global;
+use std::test::Fail;
+
+/// A grant has to come exactly where there is a request. The controller moves first, and so the environment wins: it sees the
+/// grant, and asks where there is none.
+const EXACT: &[u8] =
+    b"HOA: v1 Start: 0 AP: 2 \"r\" \"g\" controllable-AP: 1 Acceptance: 0 t --BODY-- State: 0 [0&1 | !0&!1] 0 --END--";
+
+/// The machine of the winner of an automaton's game.
+fn machine_for(alloc: Global, automaton: &Automaton) -> Result<Machine, Fail> {
+    let game = game_of(alloc, automaton, Order::Moore)?;
+    let Ok(certificate) = BuiltIn::new(alloc).solve(&game) else {
+        return Err(Fail::new("a certificate"));
+    };
+    Ok(extract(alloc, automaton, Order::Moore, &game, &certificate)?)
+}
+
+/// The machine of the winner.
+fn machine_of(alloc: Global, text: &[u8]) -> Result<Machine, Fail> {
+    let automaton = read_automaton(alloc, text)?;
+    machine_for(alloc, &automaton)
+}
+
+/// The next memory and the letter that is played, where the memory is there.
+fn step(machine: &Machine, memory: usize, letter: u64) -> Option<(usize, u64)> {
+    if memory >= machine.memories() {
+        return None;
+    }
+    let row = machine.step(memory, letter);
+    Some((row.memory, row.letter))
+}
+
+/// The steps of the winner's machine at two memories and at both letters of the grant.
+fn steps_of(alloc: Global, text: &[u8]) -> Result<[Option<(usize, u64)>; 4], Fail> {
+    let machine = machine_of(alloc, text)?;
+    Ok([
+        step(&machine, 0, 0b00),
+        step(&machine, 0, 0b10),
+        step(&machine, 1, 0b00),
+        step(&machine, 1, 0b10),
+    ])
+}
+
+#[test]
+fn a_machine_remembers_and_plays(rt: HostRuntime) -> Result<(), Fail> {
+    let wanted = [Some((1, 1)), Some((1, 0)), Some((1, 0)), Some((1, 0))];
+    assert_eq!(rt; steps_of(rt.alloc(), EXACT)?, wanted);
+    Ok(())
+}
+
+/// The text of the circuit of a machine.
+fn circuit_text(alloc: Global, machine: &Machine) -> Result<Vec<u8>, Fail> {
+    let circuit = encode(alloc, machine)?;
+    Ok(write(alloc, &circuit)?)
+}
+
+/// Whether the circuit of the winner's machine has such a text.
+fn has_circuit(alloc: Global, text: &[u8], wanted: &[u8]) -> Result<bool, Fail> {
+    let machine = machine_of(alloc, text)?;
+    Ok(circuit_text(alloc, &machine)?.as_slice() == wanted)
+}
+
+#[test]
+fn a_machine_has_a_circuit(rt: HostRuntime) -> Result<(), Fail> {
+    let wanted = b"aag 3 1 1 1 1\n2\n4 1\n6\n6 5 3\ni0 g\no0 r\n";
+    assert!(rt; has_circuit(rt.alloc(), EXACT, wanted)?);
+    Ok(())
+}

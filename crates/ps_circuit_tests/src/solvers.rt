@@ -1,0 +1,46 @@
+//! A solver that is fed certificates.
+
+use ps_game::NamedGame;
+use ps_machine::{Replay, SolveFault, Solver};
+use std::alloc::Global;
+use std::test::Fail;
+
+/// Two vertices of player 1.
+const GAME: &[u8] = b"7 0 1 9; 9 1 1 9;";
+
+/// How many vertices the certificate has, or at which byte the text is refused.
+fn answer(solver: &mut Replay, game: &NamedGame) -> Result<usize, Option<usize>> {
+    match solver.solve(game) {
+        Ok(certificate) => Ok(certificate.entries.len()),
+        Err(SolveFault::Text { offset, .. }) => Err(Some(offset)),
+        Err(_) => Err(None),
+    }
+}
+
+/// What is answered before any text, after one that ends early, and after a whole one.
+type Answers = [Result<usize, Option<usize>>; 3];
+
+/// The answers for a game.
+fn answers_for(alloc: Global, game: &NamedGame) -> Result<Answers, Fail> {
+    let mut solver = Replay::new(alloc);
+    let none = answer(&mut solver, game);
+    solver.feed(b"psyncert 1\n")?;
+    let early = answer(&mut solver, game);
+    solver.feed(b"psyncert 1\nvertices 2\nodd 1\neven 0\n7 1 9 0\n9 1 - 12\n")?;
+    Ok([none, early, answer(&mut solver, game)])
+}
+
+/// The answers for the game of a text.
+fn answers_of(alloc: Global, text: &[u8]) -> Result<Answers, Fail> {
+    let game = ps_pgsolver::read(alloc, text)?;
+    answers_for(alloc, &game)
+}
+
+#[test]
+fn the_text_that_was_fed_last_is_answered(rt: HostRuntime) -> Result<(), Fail> {
+    assert_eq!(rt;
+        answers_of(rt.alloc(), GAME)?,
+        [Err(Some(0)), Err(Some(11)), Ok(2)]
+    );
+    Ok(())
+}
