@@ -1,7 +1,7 @@
 //! Automata of texts: the lassos that they accept, and the truths of labels.
 
 use ps_automaton::Automaton;
-use std::alloc::{AllocError, Global};
+use std::alloc::Global;
 use std::test::Fail;
 
 /// The automaton of a text.
@@ -15,7 +15,7 @@ const TWO_STATES: &str =
     "HOA: v1\nStates: 2\nStart: 0\nAP: 2 \"r\" \"g\"\ncontrollable-AP: 1\nAcceptance: 1 Inf(0)\n--BODY--\nState: 0\n[!0|1] 0 {0}\n[0&!1] 1\nState: 1\n[1] 0 {0}\n[!1] 1\n--END--\n";
 
 /// Whether two lassos over two propositions are accepted.
-fn verdicts(automaton: &Automaton) -> Result<[bool; 2], AllocError> {
+fn verdicts(automaton: &Automaton) -> Result<[bool; 2], Fail> {
     if automaton.names().len() != 2 {
         return Ok([false; 2]);
     }
@@ -28,7 +28,7 @@ fn verdicts(automaton: &Automaton) -> Result<[bool; 2], AllocError> {
 /// The same for the automaton of a text.
 fn verdicts_of(alloc: Global, text: &str) -> Result<[bool; 2], Fail> {
     let automaton = automaton_of(alloc, text)?;
-    Ok(verdicts(&automaton)?)
+    verdicts(&automaton)
 }
 
 #[test]
