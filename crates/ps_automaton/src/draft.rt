@@ -172,7 +172,8 @@ fn node_of_union(pairs: &mut Pairs, levels: &Levels, union: &Union) -> Result<No
         union.targets.as_slice(),
     )?;
     let named = pairs.store.relabel(union.node, &places)?;
-    pairs.store.fill(named, 0)
+    let filled = pairs.store.fill(named, 0)?;
+    Ok(filled)
 }
 
 /// The places of the steps to targets.

@@ -1,8 +1,7 @@
 use Rattle.std.proofs.Common.{◌≡◌, ℕ, ◌<◌, Option, Some, subst, sym, ap, ◌∙◌, List}
 use Rattle.std.specs.List.{slice_get}
 use Rattle.std.specs.Option.{IfSome, unwrap_or}
-use Rattle.std.proofs.lemmas.Result.{IfOk-weaker}
-use Rattle.ps_diagram.specs.Table.{IsNode, leaf_of}
+use Rattle.ps_diagram.specs.Table.{leaf_of}
 use Rattle.ps_automaton.specs.Drafts.{ArePlaces}
 use Rattle.ps_automaton.specs.Views.{chain_data}
 use Rattle.ps_automaton.specs.declared.targets.Target.{Target}
@@ -19,15 +18,10 @@ relabel-requires-clause-within c = λ letter small.
     subst (λ n. IfSome (leaf_of c.args.pairs.now.store union.node letter) (λ k. k < n)) (sym are_places.one_each) (c.requires.within letter small)
 
 pub returns-clause-keeps : goal.returns-clause-keeps
-returns-clause-keeps c = IfOk-weaker c.fill.result (IsNode c.fill.new.self) _ (λ node h. keeps_both c.args.pairs.now.store c.relabel.new.self c.fill.new.self c.relabel.ensures.keeps c.fill.ensures.keeps) c.fill.ensures.held
-
-pub returns-clause-extends : goal.returns-clause-extends
-returns-clause-extends c = IfOk-weaker c.fill.result (IsNode c.fill.new.self) _ (λ node h. c.in_ok-places.ensures.extends) c.fill.ensures.held
+returns-clause-keeps c = keeps_both c.args.pairs.now.store c.relabel.new.self c.fill.new.self c.relabel.ensures.keeps c.fill.ensures.keeps
 
 pub returns-clause-within : goal.returns-clause-within
-returns-clause-within c =
-    IfOk-weaker c.fill.result (IsNode c.fill.new.self) _
-    (λ node h states low. c.in_ok-places.ensures.within states (λ k target e. low k target (subst (λ (ts : List Target). slice_get ts k ≡ Some target) c.as_slice.ensures.keys e))) c.fill.ensures.held
+returns-clause-within c = λ states low. c.in_ok-places.ensures.within states (λ k target e. low k target (subst (λ (ts : List Target). slice_get ts k ≡ Some target) c.as_slice.ensures.keys e))
 
 pub returns-clause-leaf : goal.returns-clause-leaf
 returns-clause-leaf c =
@@ -35,5 +29,4 @@ returns-clause-leaf c =
     let new = c.places_of.new.steps.keys in
     let are_places = subst (λ (ts : List Target). ArePlaces chain ts new c.deref.result.now) c.as_slice.ensures.keys
     (subst (ArePlaces chain c.as_slice.result.now new) (sym c.deref.ensures.value) c.in_ok-places.ensures.places) in
-    IfOk-weaker c.fill.result (λ node. (letter : ℕ) → leaf_of c.fill.new.self node letter ≡ Some (unwrap_or (leaf_of c.relabel.new.self c.in_ok-named.named letter) 0)) _
-    (λ node leaf. (c.deref.result.now, are_places, λ letter. leaf letter ∙ ap (λ (o : Option ℕ). Some (unwrap_or o 0)) (c.in_ok-named.ensures.leaf letter))) c.fill.ensures.leaf
+    (c.deref.result.now, are_places, λ letter. c.in_ok-filled.ensures.leaf letter ∙ ap (λ (o : Option ℕ). Some (unwrap_or o 0)) (c.in_ok-named.ensures.leaf letter))
