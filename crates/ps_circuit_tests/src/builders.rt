@@ -12,8 +12,8 @@ fn mux(builder: &mut Builder, s: u32, high: u32, low: u32) -> Option<u32> {
     builder.mux(s, high, low).ok()
 }
 
-/// The first choice of the table that is not made of such a literal, with so many variables behind it.
-fn wrong_choice(alloc: Global) -> Option<(u32, u32)> {
+/// Whether each choice of the table is made of such a literal, with so many variables behind it.
+fn choices_are_right(alloc: Global) -> bool {
     let mut builder = Builder::new(alloc, 3);
     for (high, low, literal, variables) in [
         (4, 4, 4, 3),
@@ -26,15 +26,15 @@ fn wrong_choice(alloc: Global) -> Option<(u32, u32)> {
         (4, 6, 19, 9),
     ] {
         if mux(&mut builder, 2, high, low) != Some(literal) || builder.variables() != variables {
-            return Some((high, low));
+            return false;
         }
     }
-    None
+    true
 }
 
 #[test]
 fn each_row_of_the_table_of_choices(rt: HostRuntime) {
-    assert_eq!(rt; wrong_choice(rt.alloc()), None);
+    assert!(rt; choices_are_right(rt.alloc()));
 }
 
 /// The literal that is true where both are, where they are there.
@@ -55,47 +55,32 @@ fn or(builder: &mut Builder, x: u32, y: u32) -> Option<Result<u32, EncodeFault>>
     Some(builder.or(x, y))
 }
 
-/// The literals of gates over two variables, the literal for one of them, and how many gates are there then.
-fn gates(alloc: Global) -> ([Option<Result<u32, EncodeFault>>; 6], usize) {
+/// Whether gates over two variables have such literals, and one gate is made in all.
+fn gates_are_right(alloc: Global) -> bool {
     let mut builder = Builder::new(alloc, 2);
-    let literals = [
-        and(&mut builder, 2, 4),
-        and(&mut builder, 4, 2),
-        and(&mut builder, 2, 3),
-        and(&mut builder, 2, 2),
-        and(&mut builder, 1, 4),
-        or(&mut builder, 3, 5),
-    ];
-    (literals, builder.gates().len())
+    for (x, y, literal) in [(2, 4, 6), (4, 2, 6), (2, 3, 0), (2, 2, 2), (1, 4, 4)] {
+        if and(&mut builder, x, y) != Some(Ok(literal)) {
+            return false;
+        }
+    }
+    or(&mut builder, 3, 5) == Some(Ok(7)) && builder.gates().len() == 1
 }
 
 #[test]
 fn a_gate_is_made_once(rt: HostRuntime) {
-    let (literals, count) = gates(rt.alloc());
-    assert_eq!(rt;
-        literals,
-        [6, 6, 0, 2, 4, 7].map(|literal| Some(Ok(literal)))
-    );
-    assert_eq!(rt; count, 1);
+    assert!(rt; gates_are_right(rt.alloc()));
 }
 
-/// The literals where one variable is left.
-fn last_gates(alloc: Global) -> [Option<Result<u32, EncodeFault>>; 4] {
+/// Whether one more variable is given, and then none.
+fn last_gates_are_right(alloc: Global) -> bool {
     let mut builder = Builder::new(alloc, 2147483646);
-    [
-        and(&mut builder, 2, 4),
-        and(&mut builder, 4, 2),
-        and(&mut builder, 2, 5),
-        and(&mut builder, 2, 3),
-    ]
+    and(&mut builder, 2, 4) == Some(Ok(4294967294))
+        && and(&mut builder, 4, 2) == Some(Ok(4294967294))
+        && and(&mut builder, 2, 5) == Some(Err(EncodeFault::CircuitTooLarge))
+        && and(&mut builder, 2, 3) == Some(Ok(0))
 }
 
 #[test]
 fn no_variable_is_left(rt: HostRuntime) {
-    let last = Some(Ok(4294967294));
-    let too_large = Some(Err(EncodeFault::CircuitTooLarge));
-    assert_eq!(rt;
-        last_gates(rt.alloc()),
-        [last, last, too_large, Some(Ok(0))]
-    );
+    assert!(rt; last_gates_are_right(rt.alloc()));
 }

@@ -13,18 +13,18 @@ const EXACT: &[u8] =
     b"HOA: v1 Start: 0 AP: 2 \"r\" \"g\" controllable-AP: 1 Acceptance: 0 t --BODY-- State: 0 [0&1 | !0&!1] 0 --END--";
 
 /// The machine of the winner of an automaton's game.
-fn machine_for(alloc: Global, automaton: &Automaton) -> Result<Machine, Fail> {
-    let game = game_of(alloc, automaton, Order::Moore)?;
+fn machine_for(alloc: Global, automaton: &Automaton, order: Order) -> Result<Machine, Fail> {
+    let game = game_of(alloc, automaton, order)?;
     let Ok(certificate) = BuiltIn::new(alloc).solve(&game) else {
         return Err(Fail::new("a certificate"));
     };
-    Ok(extract(alloc, automaton, Order::Moore, &game, &certificate)?)
+    Ok(extract(alloc, automaton, order, &game, &certificate)?)
 }
 
-/// The machine of the winner.
+/// The machine of the winner where the controller moves first.
 fn machine_of(alloc: Global, text: &[u8]) -> Result<Machine, Fail> {
     let automaton = read_automaton(alloc, text)?;
-    machine_for(alloc, &automaton)
+    machine_for(alloc, &automaton, Order::Moore)
 }
 
 /// The next memory and the letter that is played, where the memory is there.
@@ -60,10 +60,15 @@ fn circuit_text(alloc: Global, machine: &Machine) -> Result<Vec<u8>, Fail> {
     Ok(write(alloc, &circuit)?)
 }
 
-/// Whether the circuit of the winner's machine has such a text.
-fn has_circuit(alloc: Global, text: &[u8], wanted: &[u8]) -> Result<bool, Fail> {
+/// The text of the circuit of the winner's machine.
+fn circuit_text_of(alloc: Global, text: &[u8]) -> Result<Vec<u8>, Fail> {
     let machine = machine_of(alloc, text)?;
-    Ok(circuit_text(alloc, &machine)?.as_slice() == wanted)
+    circuit_text(alloc, &machine)
+}
+
+/// Whether that is such a text.
+fn has_circuit(alloc: Global, text: &[u8], wanted: &[u8]) -> Result<bool, Fail> {
+    Ok(circuit_text_of(alloc, text)?.as_slice() == wanted)
 }
 
 #[test]
