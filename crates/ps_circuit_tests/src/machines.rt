@@ -1,7 +1,12 @@
 //! The machine of a worked automaton's winner, and its circuit.
 
+ghost use Rattle.std.specs.Prelude.{IfOk};
+ghost use Rattle.ps_machine.specs.Solving.{IsCertified};
+
 use ps_aiger::{encode, write};
 use ps_automaton::Automaton;
+use ps_certificate::Certificate;
+use ps_game::NamedGame;
 use ps_machine::{BuiltIn, Machine, Order, Solver, extract, game_of};
 use ps_synthesis::read_automaton;
 use std::alloc::Global;
@@ -12,12 +17,20 @@ use std::test::Fail;
 const EXACT: &[u8] =
     b"HOA: v1 Start: 0 AP: 2 \"r\" \"g\" controllable-AP: 1 Acceptance: 0 t --BODY-- State: 0 [0&1 | !0&!1] 0 --END--";
 
+/// The certificate that the built-in solver finds.
+fn solved(alloc: Global, game: &NamedGame) -> Result<Certificate, Fail>
+    ensures { IfOk result (IsCertified game.now) }
+{
+    match BuiltIn::new(alloc).solve(game) {
+        Ok(certificate) => Ok(certificate),
+        Err(_) => Err(Fail::new("a certificate")),
+    }
+}
+
 /// The machine of the winner of an automaton's game.
 fn machine_for(alloc: Global, automaton: &Automaton, order: Order) -> Result<Machine, Fail> {
     let game = game_of(alloc, automaton, order)?;
-    let Ok(certificate) = BuiltIn::new(alloc).solve(&game) else {
-        return Err(Fail::new("a certificate"));
-    };
+    let certificate = solved(alloc, &game)?;
     Ok(extract(alloc, automaton, order, &game, &certificate)?)
 }
 
