@@ -1,8 +1,11 @@
 //! The commands that print the game of an automaton, and a certificate of that game.
 
 ghost use Rattle.std.specs.Prelude.{◌<◌, IfOk};
+ghost use Rattle.ps_automaton.specs.Automata.{IsBuiltFrom};
+ghost use Rattle.ps_automaton.specs.Chains.{Chain};
 ghost use Rattle.ps_game.specs.Games.{vertex_count};
-ghost use Rattle.psyn.specs.Games.{AnswersCert, AnswersGameText, ReadsGameOf};
+ghost use Rattle.ps_hoa.specs.Files.{FileData};
+ghost use Rattle.psyn.specs.Games.{AnswersCert, AnswersGameText, MakesGame, ReadsGameOf};
 ghost use Rattle.psyn.specs.Outcomes.{Gives};
 ghost use Rattle.psyn.specs.Replies.{reply_of};
 ghost use Rattle.psyn.specs.Solvers.{solver_of};
@@ -10,6 +13,7 @@ ghost use Rattle.psyn.specs.Solvers.{solver_of};
 use crate::answer::{Answer, Refusal};
 use crate::automata::read_automaton;
 use crate::commands::solve::certify;
+use ps_automaton::Automaton;
 use ps_game::NamedGame;
 use ps_machine::{Order, Solver, game_of};
 use std::alloc::Global;
@@ -42,5 +46,13 @@ fn read_game_of(alloc: Global, order: Order, text: &[u8]) -> Result<NamedGame, R
     ensures some { IfOk result (λ game. 0 < vertex_count game.game) }
 {
     let automaton = read_automaton(alloc, text)?;
-    Ok(game_of(alloc, &automaton, order)?)
+    make_game(alloc, order, &automaton)
+}
+
+/// The game of an automaton.
+fn make_game(alloc: Global, order: Order, automaton: &Automaton) -> Result<NamedGame, Refusal>
+    ensures game { (file : FileData) (chain : Chain) → IsBuiltFrom file chain automaton.now → Gives (λ game. game) (MakesGame order file) result }
+    ensures some { IfOk result (λ game. 0 < vertex_count game.game) }
+{
+    Ok(game_of(alloc, automaton, order)?)
 }

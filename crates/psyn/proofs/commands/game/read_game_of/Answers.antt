@@ -1,7 +1,10 @@
-use Rattle.std.proofs.Common.{inr}
+use Rattle.ps_game.specs.Games.{NamedGameData}
+use Rattle.psyn.specs.Automata.{ReadsAutomaton}
+use Rattle.psyn.specs.Games.{MakesGame}
+use Rattle.psyn.proofs.OutcomeLemmas.{gives_after}
 use Rattle.psyn.proofs.commands.game.read_game_of.Goals as goal
 
 pub returns-clause-game : goal.returns-clause-game
 returns-clause-game c =
     let a = c.in_ok-automaton.ensures in
-    inr (a.0, a.1, c.in_ok-game_of.ensures.file a.0 a.2.0 a.2.1)
+    gives_after (ReadsAutomaton c.args.text.now) (λ (game : NamedGameData). game) (MakesGame c.args.order) a.0 c.make_game.result a.1 (c.make_game.ensures.game a.0 a.2.0 a.2.1)
