@@ -1,5 +1,6 @@
 pub mod AutomatonLemmas
 pub mod CertifyingLemmas
+pub mod CheckLemmas
 pub mod CircuitLemmas
 pub mod CommandLemmas
 pub mod KindLemmas

@@ -1,35 +1,26 @@
-use Rattle.std.proofs.Common.{◌≡◌, false, true, refl, subst, sym, inr}
+use Rattle.std.proofs.Common.{◌↔◌, codes, subst}
+use Rattle.std.specs.Prelude.{IfErr, IsOk}
 use Rattle.ps_game.specs.Games.{ParityGame}
 use Rattle.ps_certificate.specs.Certificates.{IsClosed, IsFirstFlaw}
-use Rattle.psyn.proofs.TextLemmas.{flaw_names_vertices}
+use Rattle.psyn.specs.Checks.{Tests}
+use Rattle.psyn.specs.Replies.{reply_of}
+use Rattle.psyn.specs.Texts.{ReadsCertified}
+use Rattle.psyn.proofs.CheckLemmas.{outcome_names_vertices, tests_told}
+use Rattle.psyn.proofs.OutcomeLemmas.{gives_after}
+use Rattle.psyn.proofs.TextLemmas.{Both}
 use Rattle.psyn.proofs.commands.check.closed.Goals as goal
 
-pub returns-in-Ok : goal.returns-in-Ok
-returns-in-Ok c = inr (
-  (c.in_ok-game.game, c.in_ok-game.certificate),
-  c.in_ok-game.ensures.read,
-  (
-    subst (λ (arena : ParityGame). IsClosed arena c.in_ok-game.certificate) c.game-2.ensures.game (c.in-Ok.ensures.exact.0 refl),
-    c.in_ok-line-in-Ok.ensures,
-  ),
-)
-
-pub flaw_line-requires : goal.flaw_line-requires
-flaw_line-requires c =
-    flaw_names_vertices c.in_ok-game.game.game c.in_ok-game.certificate c.in-Err.flaw c.game-2.ensures.well_formed.is_game c.in_ok-game.ensures.fits
-    (subst (λ (arena : ParityGame). IsFirstFlaw arena c.in_ok-game.certificate c.in-Err.flaw) c.game-2.ensures.game c.in-Err.ensures.flaw).is_flaw
+pub tell-requires : goal.tell-requires
+tell-requires c =
+    let outcome = c.closed-outcome.result in
+    outcome_names_vertices c.in_ok-game.game.game c.in_ok-game.certificate outcome c.game-2.ensures.well_formed.is_game c.in_ok-game.ensures.fits
+    (subst (λ (arena : ParityGame). IfErr outcome (IsFirstFlaw arena c.in_ok-game.certificate)) c.game-2.ensures.game c.closed-outcome.ensures.flaw)
 
 pub returns : goal.returns
-returns c = inr (
-  (c.in_ok-game.game, c.in_ok-game.certificate),
-  c.in_ok-game.ensures.read,
-  (
-    c.game-2.ensures.well_formed.is_game,
-    (λ good. let bad : false ≡ true = c.in-Err.ensures.exact.1 (subst (λ (arena : ParityGame). IsClosed arena c.in_ok-game.certificate) (sym c.game-2.ensures.game) good) in cc),
-    (
-      c.in-Err.flaw,
-      subst (λ (arena : ParityGame). IsFirstFlaw arena c.in_ok-game.certificate c.in-Err.flaw) c.game-2.ensures.game c.in-Err.ensures.flaw,
-      c.flaw_line.ensures,
-    ),
-  ),
-)
+returns c =
+    let outcome = c.closed-outcome.result in
+    let both : Both = (c.in_ok-game.game, c.in_ok-game.certificate) in
+    gives_after (ReadsCertified c.args.texts.now) reply_of (λ (each : Both). Tests IsClosed (codes "closed") each.0 each.1) both c.tell.result c.in_ok-game.ensures.read
+    (tests_told IsClosed (codes "closed") c.in_ok-game.game c.in_ok-game.certificate outcome c.tell.result c.game-2.ensures.well_formed.is_game
+    (subst (λ (arena : ParityGame). IsOk outcome ↔ IsClosed arena c.in_ok-game.certificate) c.game-2.ensures.game c.closed-outcome.ensures.exact)
+    (subst (λ (arena : ParityGame). IfErr outcome (IsFirstFlaw arena c.in_ok-game.certificate)) c.game-2.ensures.game c.closed-outcome.ensures.flaw) c.tell.ensures)
