@@ -212,7 +212,7 @@ module _ (game : ParityGame) (region : List Bool) (lost : ℕ → Bool) (first s
       keeps v w k r same within (inl s) (inr t) = absurd (omega (arith, same, s.winner, t.winner))
       keeps v w k r same within (inr s) (inl t) = absurd (omega (arith, same, s.winner, t.winner))
 
-  pub certified : Fits game (record { odd = odd; even = even; entries = entries }) × IsValid game (record { odd = odd; even = even; entries = entries })
+  certified : Fits game (record { odd = odd; even = even; entries = entries }) × IsValid game (record { odd = odd; even = even; entries = entries })
   unfolding made
   certified = (fits, valid)
 
@@ -239,3 +239,19 @@ lost_rest game region full lost whole is v within = (λ e. now ∙ ap not e, λ 
     back : (x : Bool) → not x ≡ true → x ≡ false
     back true e = search rules
     back false e = refl
+
+-- the same where the second region has all vertices that the first one has not
+pub certified_both : (game : ParityGame) (region full lost : List Bool) (first second : ℕ → Option ℕ) (odd even : List ℕ) (odd_rows even_rows : List (Vec ℕ Global)) (entries : List EntryData) →
+    IsGame game → full ≡ replicate (vertex_count game) true → ((v : ℕ) → has lost v ≡ (has full v && not (has region v))) → Holds game 0 (has region) first → Holds game 1 (others region) second →
+    AreRanks game 0 (has region) first odd odd_rows → AreRanks game 1 (has lost) second even even_rows → AreEntries game region first second odd_rows even_rows (vertex_count game) entries →
+    Fits game (record { odd = odd; even = even; entries = entries }) × IsValid game (record { odd = odd; even = even; entries = entries })
+certified_both game region full lost first second odd even odd_rows even_rows entries is_game whole is holds_first holds_second odd_ranks even_ranks are_entries =
+    certified game region (has lost) first second odd even odd_rows even_rows entries (record {
+      is_game = is_game;
+      holds_first = holds_first;
+      holds_second = lost_held game region full lost second whole is holds_second;
+      rest = lost_rest game region full lost whole is;
+      odd_ranks = odd_ranks;
+      even_ranks = even_ranks;
+      are_entries = are_entries;
+    })

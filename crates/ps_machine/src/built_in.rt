@@ -2,19 +2,20 @@
 
 ghost use Rattle.std.specs.Prelude.{◌≡◌, ◌≢◌, ◌<◌, ℕ, true, None, Vec, IfOk, IfErr, OnOk, length, slice_get, Some};
 ghost use Rattle.std.specs.Global.{Global};
+ghost use Rattle.ps_certificate.specs.Certificates.{Fits, IsValid};
+ghost use Rattle.ps_game.specs.Flat.{FitsWithin};
 ghost use Rattle.ps_game.specs.Games.{vertex_count, owner_of};
 ghost use Rattle.ps_game.specs.Plays.{Holds};
 ghost use Rattle.ps_game.specs.Regions.{has, move_at};
 ghost use Rattle.ps_measure.specs.Ranks.{AreRanks};
 ghost use Rattle.ps_machine.specs.Building.{AreEntries, HasRow, IsEntryFor};
 ghost use Rattle.ps_zielonka.specs.Answers.{others};
-ghost use Rattle.ps_machine.specs.Solving.{IsCertified};
 ghost use Rattle.ps_machine.specs.declared.fault.SolveFault.TheVariants as faults;
 
 use crate::fault::SolveFault;
 use crate::solver::Solver;
 use ps_certificate::{Certificate, Entry};
-use ps_game::{Arena, Counts, Game, NamedGame, Region, Strategy};
+use ps_game::{Arena, Counts, FlatGame, Game, NamedGame, Region, Strategy, Width, fits_narrow};
 use ps_measure::{MeasureFault, Ranks, ranks};
 use ps_zielonka::regions;
 use std::alloc::{AllocError, Global};
@@ -50,31 +51,56 @@ impl Solver for BuiltIn {
     }
 
     fn solve(&mut self, game: &NamedGame) -> Result<Certificate, SolveFault> {
-        let mut counts = Counts::default();
-        let (won, first, second) = regions(self.alloc, game.game(), &mut counts)?;
-        certificate_from(self.alloc, game, &won, &first, &second)
+        let game = game.game();
+        if fits_narrow(game) {
+            certificate_in::<u32>(self.alloc, game)
+        } else {
+            certificate_in::<usize>(self.alloc, game)
+        }
     }
+}
+
+/// The certificate of a game, worked out on flat arrays with numbers of a stated width.
+fn certificate_in<W: Width>(alloc: Global, game: &Game) -> Result<Certificate, SolveFault>
+    requires { FitsWithin game.now W.LIMIT }
+    ensures fits { IfOk result (Fits game.now) }
+    ensures valid { IfOk result (IsValid game.now) }
+    ensures memory { IfErr result (λ fault. fault ≡ faults.OutOfMemory) }
+{
+    let flat = FlatGame::<W>::of(alloc, game)?;
+    certificate_of(alloc, &flat)
+}
+
+/// The certificate of a game: the regions of both players are found first, and then the counts that show them.
+fn certificate_of<A: Arena>(alloc: Global, arena: &A) -> Result<Certificate, SolveFault>
+    ensures fits { IfOk result (Fits (A.game arena.now)) }
+    ensures valid { IfOk result (IsValid (A.game arena.now)) }
+    ensures memory { IfErr result (λ fault. fault ≡ faults.OutOfMemory) }
+{
+    let mut counts = Counts::default();
+    let (won, first, second) = regions(alloc, arena, &mut counts)?;
+    certificate_from(alloc, arena, &won, &first, &second)
 }
 
 /// The certificate of a game of which player 0 holds a region by the first table, and player 1 all other vertices by the
 /// second.
-fn certificate_from(
+fn certificate_from<A: Arena>(
     alloc: Global,
-    game: &NamedGame,
+    arena: &A,
     won: &Region,
     first: &Strategy,
     second: &Strategy,
 ) -> Result<Certificate, SolveFault>
-    requires region { length won.now ≡ vertex_count game.now.game }
-    requires first { length first.now ≡ vertex_count game.now.game }
-    requires second { length second.now ≡ vertex_count game.now.game }
-    requires holds_first { Holds game.now.game 0 (has won.now) (move_at first.now) }
-    requires holds_second { Holds game.now.game 1 (others won.now) (move_at second.now) }
-    ensures certified { IfOk result (IsCertified game.now) }
+    requires region { length won.now ≡ vertex_count (A.game arena.now) }
+    requires first { length first.now ≡ vertex_count (A.game arena.now) }
+    requires second { length second.now ≡ vertex_count (A.game arena.now) }
+    requires holds_first { Holds (A.game arena.now) 0 (has won.now) (move_at first.now) }
+    requires holds_second { Holds (A.game arena.now) 1 (others won.now) (move_at second.now) }
+    ensures fits { IfOk result (Fits (A.game arena.now)) }
+    ensures valid { IfOk result (IsValid (A.game arena.now)) }
     ensures memory { IfErr result (λ fault. fault ≡ faults.OutOfMemory) }
 {
-    let arena = game.game();
-    let mut lost = Region::full(alloc, won.places())?;
+    let mut lost = Region::full(alloc, arena.count())?;
     lost.difference_with(won);
     let odd = counts_of(alloc, arena, 0, won, first)?;
     let even = counts_of(alloc, arena, 1, &lost, second)?;
@@ -87,18 +113,18 @@ fn certificate_from(
 }
 
 /// The counts of a region that its player holds.
-fn counts_of(
+fn counts_of<A: Arena>(
     alloc: Global,
-    arena: &Game,
+    arena: &A,
     player: u8,
     region: &Region,
     strategy: &Strategy,
 ) -> Result<Ranks, SolveFault>
     requires player { player < 2 }
-    requires region { length region.now ≡ vertex_count arena.now }
-    requires strategy { length strategy.now ≡ vertex_count arena.now }
-    requires holds { Holds arena.now player (has region.now) (move_at strategy.now) }
-    ensures ranks { IfOk result (λ r. AreRanks arena.now player (has region.now) (move_at strategy.now) r.priorities.items r.counts.items) }
+    requires region { length region.now ≡ vertex_count (A.game arena.now) }
+    requires strategy { length strategy.now ≡ vertex_count (A.game arena.now) }
+    requires holds { Holds (A.game arena.now) player (has region.now) (move_at strategy.now) }
+    ensures ranks { IfOk result (λ r. AreRanks (A.game arena.now) player (has region.now) (move_at strategy.now) r.priorities.items r.counts.items) }
     ensures memory { IfErr result (λ fault. fault ≡ faults.OutOfMemory) }
 {
     let mut counts = Counts::default();
@@ -110,22 +136,22 @@ fn counts_of(
 }
 
 /// The entry of each vertex: its winner, the winner's move, and the winner's row of counts, which is moved.
-fn entries_of(
+fn entries_of<A: Arena>(
     alloc: Global,
-    arena: &Game,
+    arena: &A,
     won: &Region,
     first: &Strategy,
     second: &Strategy,
     mut first_rows: Vec<Vec<u64>>,
     mut second_rows: Vec<Vec<u64>>,
 ) -> Result<Vec<Entry>, AllocError>
-    requires region { length won.now ≡ vertex_count arena.now }
-    requires first { length first.now ≡ vertex_count arena.now }
-    requires second { length second.now ≡ vertex_count arena.now }
-    requires first_rows { length first_rows.items ≡ vertex_count arena.now }
-    requires second_rows { length second_rows.items ≡ vertex_count arena.now }
+    requires region { length won.now ≡ vertex_count (A.game arena.now) }
+    requires first { length first.now ≡ vertex_count (A.game arena.now) }
+    requires second { length second.now ≡ vertex_count (A.game arena.now) }
+    requires first_rows { length first_rows.items ≡ vertex_count (A.game arena.now) }
+    requires second_rows { length second_rows.items ≡ vertex_count (A.game arena.now) }
     ensures { IfOk result
-        (λ entries. AreEntries arena.now won.now (move_at first.now) (move_at second.now) first_rows.items second_rows.items (vertex_count arena.now) entries.items) }
+        (λ entries. AreEntries (A.game arena.now) won.now (move_at first.now) (move_at second.now) first_rows.items second_rows.items (vertex_count (A.game arena.now)) entries.items) }
 {
     let mut entries = Vec::new(alloc);
     for vertex in 0..arena.count() {
@@ -162,10 +188,16 @@ fn row_at(alloc: Global, rows: &mut Vec<Vec<u64>>, vertex: usize) -> Vec<u64>
 }
 
 /// The entry of a vertex that a player wins, with its counts.
-fn entry(arena: &Game, vertex: usize, player: u8, strategy: &Strategy, counts: Vec<u64>) -> Entry
-    requires vertex { vertex < vertex_count arena.now }
-    requires strategy { length strategy.now ≡ vertex_count arena.now }
-    ensures { IsEntryFor arena.now player (move_at strategy.now) vertex counts.items result }
+fn entry<A: Arena>(
+    arena: &A,
+    vertex: usize,
+    player: u8,
+    strategy: &Strategy,
+    counts: Vec<u64>,
+) -> Entry
+    requires vertex { vertex < vertex_count (A.game arena.now) }
+    requires strategy { length strategy.now ≡ vertex_count (A.game arena.now) }
+    ensures { IsEntryFor (A.game arena.now) player (move_at strategy.now) vertex counts.items result }
 {
     let choice = if arena.owner(vertex) == player {
         strategy.get(vertex)

@@ -9,10 +9,10 @@ use Rattle.ps_machine.proofs.built_in.entries_of.Goals as goal
 use Rattle.ps_machine.proofs.built_in.entries_of.Goals.{then-contains, else-contains}
 
 pub loop-vertex-preserved : goal.loop-vertex-preserved
-loop-vertex-preserved c =
+loop-vertex-preserved g c =
     let inv = c.loop-vertex.invariant in
     let v = c.loop-vertex.vertex in
-    let game = c.args.arena.now in
+    let game = g.A.Arena.game c.args.arena.now in
     let one = move_at c.args.first.now in
     let two = move_at c.args.second.now in
     let ones = c.args.first_rows.items in
