@@ -18,24 +18,18 @@ use Rattle.ps_machine.specs.declared.machine.Propositions.{Propositions}
 use Rattle.ps_machine.proofs.Following.{used_first}
 use Rattle.ps_machine.proofs.KeptMemories.{all_kept, each_kept, some_kept}
 use Rattle.ps_machine.proofs.MachineLemmas.{is_step}
-use Rattle.ps_machine.proofs.OneGame.{one_game_of}
 use Rattle.std.proofs.lemmas.Option.{slice_get_within}
-
--- the keys of the game that was made are those of the game that was handed in
-pub same_game : (board : Board) (mover : ℕ) (keys : List Key) (made game : ParityGame) → IsGameOf board mover keys made → (others : List Key) × IsGameOf board mover others game → IsGameOf board mover keys game
-same_game board mover keys made game is other =
-    subst (λ ks. IsGameOf board mover ks game) (sym (one_game_of board mover keys other.0 made game is other.1).0) other.1
 
 pub some_vertices : (board : Board) (mover : ℕ) (keys : List Key) (game : ParityGame) → IsGameOf board mover keys game → 0 < vertex_count game
 some_vertices board mover keys game is = (let first = slice_get_within keys 0 _ is.by_keys.begins in omega (arith, first, is.by_keys.count))
 
 -- what is known before the diagrams are drawn
-unfoldable pub plan_is : (order : Order) (a : AutomatonData) (keys seen : List Key) (made game shown : ParityGame) (certificate : CertificateData) (first : Bool) (found kept marks : List ℕ) →
-    IsGameOf (board_of order a) (mover_of order) keys made → (others : List Key) × IsGameOf (board_of order a) (mover_of order) others game → Fits game certificate → IsValid game certificate →
+unfoldable pub plan_is : (order : Order) (a : AutomatonData) (keys seen : List Key) (game shown : ParityGame) (certificate : CertificateData) (first : Bool) (found kept marks : List ℕ) →
+    IsGameOf (board_of order a) (mover_of order) keys game → Fits game certificate → IsValid game certificate →
     first ≡ (mover_of order == winner certificate) → shown ≡ game → AreUsed shown certificate found → seen ≡ keys → AreMemories first seen found kept marks → IsPlan order a keys certificate first kept marks
-plan_is order a keys seen made game shown certificate first found kept marks is other fits valid turn same are_used these memories = record {
+plan_is order a keys seen game shown certificate first found kept marks is fits valid turn same are_used these memories = record {
   game = game;
-  is_game = same_game (board_of order a) (mover_of order) keys made game is other;
+  is_game = is;
   fits = fits;
   valid = valid;
   turn = turn;

@@ -19,7 +19,7 @@ ghost use Rattle.ps_machine.specs.Moving.{IsFit};
 ghost use Rattle.ps_machine.specs.declared.key.Key.{Key};
 
 use crate::drawing::{Drawing, Plan};
-use crate::game::keyed_game_of;
+use crate::game::AutomatonGame;
 use crate::key::{Key, Order};
 use crate::machine::{Diagrams, Machine, Propositions};
 use crate::memories::{Memories, remembered};
@@ -34,7 +34,8 @@ use std::alloc::{AllocError, Global};
 
 /// The machine of the winner of vertex 0 in the game of an automaton: it plays by a valid certificate's moves, from what is
 /// reached by them. A winner who moves first remembers the vertex; one who moves second its state. Each word of the machine
-/// is accepted by the automaton where the winner is player 0, and none is where it is player 1.
+/// is accepted by the automaton where the winner is player 0, and none is where it is player 1. The game is made again for
+/// its keys: `machine_of_certificate` takes them.
 ///
 /// # Errors
 ///
@@ -54,31 +55,46 @@ pub fn extract(
     ensures propositions { IfOk result (λ m. HasPropositions automaton.now.names (board_of order automaton.now) m) }
     ensures won { IfOk result (λ m. (file : FileData) (chain : Chain) → IsBuiltFrom file chain automaton.now → LassosWon file m) }
 {
-    let keys = keys_of(alloc, automaton, order)?;
+    let keyed = AutomatonGame::build(alloc, automaton, order)?;
+    machine_of_certificate(alloc, automaton, order, &keyed, certificate)
+}
+
+/// The same machine, of an automaton's game with its keys.
+///
+/// # Errors
+///
+/// Fails where a growth was refused.
+pub fn machine_of_certificate(
+    alloc: Global,
+    automaton: &Automaton,
+    order: Order,
+    game: &AutomatonGame,
+    certificate: &Certificate,
+) -> Result<Machine, AllocError>
+    requires game { IsGameOf (board_of order automaton.now) (mover_of order) game.now.keys.keys game.now.game.game }
+    requires fits { Fits game.now.game.game certificate.now }
+    requires valid { IsValid game.now.game.game certificate.now }
+    ensures machine { IfOk result (IsMachineOf (board_of order automaton.now) (mover_of order) game.now.keys.keys game.now.game.game certificate.now) }
+    ensures propositions { IfOk result (λ m. HasPropositions automaton.now.names (board_of order automaton.now) m) }
+    ensures won { IfOk result (λ m. (file : FileData) (chain : Chain) → IsBuiltFrom file chain automaton.now → LassosWon file m) }
+{
     let moves_first = order.mover() == certificate.winner(0);
     let memories = memories_of(
         alloc,
-        keys.as_slice(),
-        game.game(),
+        game.keys.as_slice(),
+        game.game.game(),
         certificate,
         moves_first,
     )?;
     let plan = Plan {
         order,
         automaton,
-        keys: &keys,
+        keys: &game.keys,
         certificate,
         moves_first,
         memories: &memories,
     };
     machine_by(alloc, &plan)
-}
-
-/// What the vertices of an automaton's game stand for.
-fn keys_of(alloc: Global, automaton: &Automaton, order: Order) -> Result<IndexSet<Key>, AllocError>
-    ensures { IfOk result (λ keys. (game : ParityGame) × IsGameOf (board_of order automaton.now) (mover_of order) keys.keys game) }
-{
-    Ok(keyed_game_of(alloc, automaton, order)?.keys)
 }
 
 /// What the winner of vertex 0 remembers, at the vertices that are reached by the certificate's moves.

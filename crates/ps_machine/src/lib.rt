@@ -20,9 +20,9 @@ mod solver;
 mod used;
 
 pub use built_in::BuiltIn;
-pub use extracting::extract;
+pub use extracting::{extract, machine_of_certificate};
 pub use fault::SolveFault;
-pub use game::game_of;
+pub use game::{AutomatonGame, game_of};
 pub use key::{Key, Order};
 pub use laws::{lassos_won, one_game, one_game_of_file};
 pub use machine::{Machine, Row};
