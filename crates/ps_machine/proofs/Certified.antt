@@ -1,16 +1,17 @@
--- Two regions that are held and part the game, with the counts of both, make a valid certificate.
-use Rattle.std.proofs.Common.{◌≡◌, ◌≢◌, ◌⊎◌, inl, inr, ℕ, zero, suc, ◌+◌, ◌<◌, List, [], ◌∷◌, length, get_or, Option, Some, None, IfSome, IsSomeAnd, Bool, true, false, IsTrue, Vec, refl, ap, sym, subst, ◌∙◌, rules, arith, ◌==◌, ◌&&◌, not, replicate}
+-- Two regions that are held and part the game, with the least counts of both, make a valid certificate with the least counts.
+use Rattle.std.proofs.Common.{◌≡◌, ◌≢◌, ◌⊎◌, inl, inr, ℕ, zero, suc, ◌+◌, ◌<◌, ◌≤◌, List, [], ◌∷◌, length, get_or, Option, Some, None, IfSome, IsSomeAnd, Bool, true, false, IsTrue, Vec, refl, ap, sym, subst, ◌∙◌, rules, arith, ◌==◌, ◌&&◌, not, replicate}
 use Rattle.std.specs.Global.{Global}
 use Rattle.std.specs.List.{slice_get}
 use Rattle.std.proofs.lemmas.List.{get_or-replicate}
 use Rattle.std.proofs.lemmas.Bool.Decides.{nat_tests}
 use Rattle.ps_game.specs.Games.{ParityGame, IsGame, HasEdge, owner_of, priority_of, vertex_count}
 use Rattle.ps_game.specs.Plays.{Holds, IsPath, Follows}
-use Rattle.ps_game.specs.Ranking.{RemainsFor, KeepsRule}
+use Rattle.ps_game.specs.Ranking.{RemainsFor, KeepRuleWithin, KeepsRule}
 use Rattle.ps_game.specs.Regions.{has}
 use Rattle.ps_certificate.specs.Certificates.{CertificateData, EntryData, no_entry, winner_of, choice_of, counts_of, opposing, opposing_at, Fits, Remains, HasRightMove, KeepsCount, IsValid}
 use Rattle.ps_measure.specs.Ranks.{AreRanks, count_of, count_in, width_in}
 use Rattle.ps_machine.specs.Building.{IsEntryAmong, AreEntries}
+use Rattle.ps_machine.specs.Solving.{DiffersInCounts, HasLeastCounts}
 use Rattle.ps_zielonka.specs.Answers.{others}
 
 -- what a certificate says of a vertex that a player wins: it is in the player's set, and has the table's move and its row
@@ -107,6 +108,35 @@ module _ (game : ParityGame) (is_game : IsGame game) (player : ℕ) (set : ℕ �
       subst (λ p. K p (get_or (counts_of c v) k 0) (get_or (counts_of c w) k 0)) at
       (subst (λ x. K (get_or priorities k 0) x (get_or (counts_of c w) k 0)) (sym (s.count k))
       (subst (λ y. K (get_or priorities k 0) (count_of rows v k) y) (sym (t.count k)) keep))
+
+  -- the counts of a valid certificate that differs in counts alone keep the rule on the edges of the table
+  others_keep : (d : CertificateData) → IsValid game d → DiffersInCounts game c d → opposing d player ≡ priorities →
+      ((u : ℕ) → u < vertex_count game → IsTrue (set u) → IsSide game player set table priorities rows c u) → (k : ℕ) → k < length priorities →
+      KeepRuleWithin game player set table (get_or priorities k 0) (λ u. get_or (counts_of d u) k 0)
+  others_keep d valid differs listed sides k within u w r =
+      let from = r.remains.edge.0 in
+      let to = is_game.within u w r.remains.edge in
+      let s = sides u from r.from in
+      let t = sides w to r.to in
+      let one : winner_of d u ≡ player = sym (differs.winners u from) ∙ s.winner in
+      let two : winner_of d w ≡ player = sym (differs.winners w to) ∙ t.winner in
+      let remains : Remains game d u w =
+      record { edge = r.remains.edge; chosen = λ owns. sym (differs.moves u from) ∙ s.own (owns ∙ one) ∙ r.remains.chosen (owns ∙ one) } in
+      let lists : opposing d (winner_of d u) ≡ priorities = ap (λ q. opposing d q) one ∙ listed in
+      subst (λ l. KeepsRule (get_or l k 0) (priority_of game u) (priority_of game w) (get_or (counts_of d u) k 0) (get_or (counts_of d w) k 0)) lists
+      (valid.counts u w k remains (two ∙ sym one) (subst (λ l. k < length l) (sym lists) within))
+
+  side_least : (d : CertificateData) → IsValid game d → DiffersInCounts game c d → opposing d player ≡ priorities →
+      ((u : ℕ) → u < vertex_count game → IsTrue (set u) → IsSide game player set table priorities rows c u) → (v k : ℕ) → IsSide game player set table priorities rows c v → k < length (counts_of c v) →
+      get_or (counts_of c v) k 0 ≤ get_or (counts_of d v) k 0
+  side_least d valid differs listed sides v k s inside =
+      let within = subst (λ n. k < n) s.long inside in
+      subst (λ x. x ≤ get_or (counts_of d v) k 0) (sym (s.count k)) ((ranks.columns k within).least (λ u. get_or (counts_of d u) k 0) (others_keep d valid differs listed sides k within) v)
+
+  side_without_meaning : (v k : ℕ) → IsSide game player set table priorities rows c v → opposing c player ≡ priorities → k < length (counts_of c v) → opposing_at c v k < priority_of game v → get_or (counts_of c v) k 0 ≡ 0
+  side_without_meaning v k s listed inside below =
+      let at : opposing_at c v k ≡ get_or priorities k 0 = ap (λ l. get_or l k 0) (ap (λ q. opposing c q) s.winner ∙ listed) in
+      s.count k ∙ (ranks.columns k (subst (λ n. k < n) s.long inside)).above v (subst (λ p. p < priority_of game v) at below)
 
 -- the two regions, and all that is known of them
 pub record AreBoth (game : ParityGame) (region : List Bool) (lost : ℕ → Bool) (first second : ℕ → Option ℕ) (odd even : List ℕ) (odd_rows even_rows : List (Vec ℕ Global)) (entries : List EntryData) : Type 0 where
@@ -212,9 +242,27 @@ module _ (game : ParityGame) (region : List Bool) (lost : ℕ → Bool) (first s
       keeps v w k r same within (inl s) (inr t) = absurd (omega (arith, same, s.winner, t.winner))
       keeps v w k r same within (inr s) (inl t) = absurd (omega (arith, same, s.winner, t.winner))
 
+  least : HasLeastCounts game made
+  unfolding One Two made opposing
+  least = record {
+    least = λ d d_fits d_valid differs v k within inside. at_most d d_valid differs v k within inside (sides v within);
+    without_meaning = λ v k within inside below. without v k inside below (sides v within);
+  }
+    where
+      at_most : (d : CertificateData) → IsValid game d → DiffersInCounts game made d → (v k : ℕ) → v < vertex_count game → k < length (counts_of made v) → One v ⊎ Two v → get_or (counts_of made v) k 0 ≤ get_or (counts_of d v) k 0
+      at_most d d_valid differs v k within inside (inl s) =
+          side_least game b.is_game 0 (has region) first odd odd_rows made b.holds_first b.odd_ranks d d_valid differs (sym differs.odd) (λ u below. one_side u below) v k s inside
+      at_most d d_valid differs v k within inside (inr s) =
+          side_least game b.is_game 1 lost second even even_rows made b.holds_second b.even_ranks d d_valid differs (sym differs.even) (λ u below. two_side u below) v k s inside
+
+      without : (v k : ℕ) → k < length (counts_of made v) → opposing_at made v k < priority_of game v → One v ⊎ Two v → get_or (counts_of made v) k 0 ≡ 0
+      without v k inside below (inl s) = side_without_meaning game b.is_game 0 (has region) first odd odd_rows made b.holds_first b.odd_ranks v k s opposing_first inside below
+      without v k inside below (inr s) = side_without_meaning game b.is_game 1 lost second even even_rows made b.holds_second b.even_ranks v k s opposing_second inside below
+
   certified : Fits game (record { odd = odd; even = even; entries = entries }) × IsValid game (record { odd = odd; even = even; entries = entries })
+      × HasLeastCounts game (record { odd = odd; even = even; entries = entries })
   unfolding made
-  certified = (fits, valid)
+  certified = (fits, valid, least)
 
 -- a player who holds a set of vertices holds each set with the same vertices of the game
 holds_same : (game : ParityGame) (player : ℕ) (set other : ℕ → Bool) (table : ℕ → Option ℕ) → ((v : ℕ) → v < vertex_count game → set v ≡ other v) → Holds game player set table → Holds game player other table
@@ -245,6 +293,7 @@ pub certified_both : (game : ParityGame) (region full lost : List Bool) (first s
     IsGame game → full ≡ replicate (vertex_count game) true → ((v : ℕ) → has lost v ≡ (has full v && not (has region v))) → Holds game 0 (has region) first → Holds game 1 (others region) second →
     AreRanks game 0 (has region) first odd odd_rows → AreRanks game 1 (has lost) second even even_rows → AreEntries game region first second odd_rows even_rows (vertex_count game) entries →
     Fits game (record { odd = odd; even = even; entries = entries }) × IsValid game (record { odd = odd; even = even; entries = entries })
+    × HasLeastCounts game (record { odd = odd; even = even; entries = entries })
 certified_both game region full lost first second odd even odd_rows even_rows entries is_game whole is holds_first holds_second odd_ranks even_ranks are_entries =
     certified game region (has lost) first second odd even odd_rows even_rows entries (record {
       is_game = is_game;

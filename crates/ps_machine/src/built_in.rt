@@ -10,6 +10,7 @@ ghost use Rattle.ps_game.specs.Regions.{has, move_at};
 ghost use Rattle.ps_measure.specs.Ranks.{AreRanks};
 ghost use Rattle.ps_machine.specs.Building.{AreEntries, HasRow, IsEntryFor};
 ghost use Rattle.ps_zielonka.specs.Answers.{others};
+ghost use Rattle.ps_machine.specs.Solving.{HasLeastCounts};
 ghost use Rattle.ps_machine.specs.declared.fault.SolveFault.TheVariants as faults;
 
 use crate::fault::SolveFault;
@@ -20,7 +21,8 @@ use ps_measure::{MeasureFault, Ranks, ranks};
 use ps_zielonka::regions;
 use std::alloc::{AllocError, Global};
 
-/// Finds the regions of both players, with their moves, and then the counts that show it. It is sure, and ignores what it is fed.
+/// Finds the regions of both players, with their moves, and then the least counts that show it. It is sure, and ignores what it
+/// is fed.
 #[derive(Drop)]
 pub struct BuiltIn {
     alloc: Global,
@@ -38,13 +40,13 @@ impl BuiltIn {
 
 impl Solver for BuiltIn {
     ghost use Rattle.std.specs.Prelude.{true, None};
-    ghost use Rattle.ps_machine.specs.Solving.{AnswersSurely};
+    ghost use Rattle.ps_machine.specs.Solving.{AnswersLeast};
 
     ghost is_sure = { λ _. true };
 
     ghost fed = { λ _. None };
 
-    ghost may_answer = { λ _ _ game answer. AnswersSurely game answer };
+    ghost may_answer = { λ _ _ game answer. AnswersLeast game answer };
 
     fn feed(&mut self, _text: &[u8]) -> Result<(), AllocError> {
         Ok(())
@@ -65,6 +67,7 @@ fn certificate_in<W: Width>(alloc: Global, game: &Game) -> Result<Certificate, S
     requires { FitsWithin game.now W.LIMIT }
     ensures fits { IfOk result (Fits game.now) }
     ensures valid { IfOk result (IsValid game.now) }
+    ensures least { IfOk result (HasLeastCounts game.now) }
     ensures memory { IfErr result (λ fault. fault ≡ faults.OutOfMemory) }
 {
     let flat = FlatGame::<W>::of(alloc, game)?;
@@ -75,6 +78,7 @@ fn certificate_in<W: Width>(alloc: Global, game: &Game) -> Result<Certificate, S
 fn certificate_of<A: Arena>(alloc: Global, arena: &A) -> Result<Certificate, SolveFault>
     ensures fits { IfOk result (Fits (A.game arena.now)) }
     ensures valid { IfOk result (IsValid (A.game arena.now)) }
+    ensures least { IfOk result (HasLeastCounts (A.game arena.now)) }
     ensures memory { IfErr result (λ fault. fault ≡ faults.OutOfMemory) }
 {
     let mut counts = Counts::default();
@@ -98,6 +102,7 @@ fn certificate_from<A: Arena>(
     requires holds_second { Holds (A.game arena.now) 1 (others won.now) (move_at second.now) }
     ensures fits { IfOk result (Fits (A.game arena.now)) }
     ensures valid { IfOk result (IsValid (A.game arena.now)) }
+    ensures least { IfOk result (HasLeastCounts (A.game arena.now)) }
     ensures memory { IfErr result (λ fault. fault ≡ faults.OutOfMemory) }
 {
     let mut lost = Region::full(alloc, arena.count())?;

@@ -1,5 +1,5 @@
 use Rattle.std.proofs.Common.{◌∙◌, true, replicate, ap}
-use Rattle.ps_game.specs.Regions.{has, move_at}
+use Rattle.ps_game.specs.Regions.{move_at}
 use Rattle.ps_machine.proofs.Certified.{certified_both, lost_held}
 use Rattle.ps_machine.proofs.built_in.certificate_from.Goals as goal
 
@@ -26,3 +26,12 @@ returns-clause-valid g c =
     c.in_ok-odd.odd.priorities.items c.in_ok-even.even.priorities.items c.in_ok-odd.odd.counts.items c.in_ok-even.even.counts.items c.in_ok-entries.entries.items
     c.count.ensures.well_formed whole c.difference_with.ensures.difference c.requires.holds_first c.requires.holds_second c.in_ok-odd.ensures.ranks c.in_ok-even.ensures.ranks c.in_ok-entries.ensures in
     both.1
+
+pub returns-clause-least : goal.returns-clause-least
+returns-clause-least g c =
+    let whole = c.in_ok-lost.ensures ∙ ap (λ n. replicate n true) c.count.ensures.vertices in
+    let both =
+    certified_both (g.A.Arena.game c.args.arena.now) c.args.won.now c.in_ok-lost.lost c.difference_with.new.self (move_at c.args.first.now) (move_at c.args.second.now)
+    c.in_ok-odd.odd.priorities.items c.in_ok-even.even.priorities.items c.in_ok-odd.odd.counts.items c.in_ok-even.even.counts.items c.in_ok-entries.entries.items
+    c.count.ensures.well_formed whole c.difference_with.ensures.difference c.requires.holds_first c.requires.holds_second c.in_ok-odd.ensures.ranks c.in_ok-even.ensures.ranks c.in_ok-entries.ensures in
+    both.2
