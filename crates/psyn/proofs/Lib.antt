@@ -1,17 +1,2 @@
-pub mod AutomatonLemmas
 pub mod CertifyingLemmas
-pub mod CheckLemmas
-pub mod CircuitLemmas
-pub mod CommandLemmas
-pub mod KindLemmas
-pub mod LassoLemmas
-pub mod OneAnswer
-pub mod OneTrace
-pub mod OutcomeLemmas
-pub mod ProgramLemmas
-pub mod SolverLemmas
-pub mod StreamLemmas
-pub mod SynthLemmas
 pub mod SynthesiseLemmas
-pub mod TextLemmas
-pub mod TraceLemmas

@@ -1,8 +1,5 @@
-//! The commands, by their names.
+//! The commands that ask a solver, by their names.
 
-pub mod check;
-pub mod game;
-pub mod lasso;
-pub mod sim;
+pub mod cert;
 pub mod solve;
 pub mod synth;

@@ -1,28 +1,16 @@
 //! psyn: reads a command and its texts from standard input, and writes the answer.
 #![tactic(auto)]
 
-pub mod answer;
-pub mod automata;
 pub mod certifying;
-pub mod command_line;
 pub mod commands;
-pub mod cut;
-pub mod fault;
-pub mod fault_text;
-pub mod laws;
 pub mod memory;
 pub mod program;
-pub mod reading;
 pub mod run;
-pub mod sending;
-pub mod stage_faults;
-pub mod stream;
 pub mod synthesis;
-pub mod texts;
-pub mod watched;
 
-use answer::{FAULT, OUT_OF_MEMORY};
 use ps_machine::{BuiltIn, Replay};
+pub use ps_program::{Reader, Sink, Source, Watched, Writer};
+use ps_program::{FAULT, OUT_OF_MEMORY, send};
 use std::alloc::AllocError;
 use std::process::ExitCode;
 
@@ -30,8 +18,8 @@ fn main(rt: HostRuntime) -> ExitCode {
     match answered(&rt) {
         Ok(status) => ExitCode::from(status),
         Err(_) => {
-            let mut writer = watched::Watched::new(rt.stdout());
-            let _written = sending::send(&mut writer, OUT_OF_MEMORY);
+            let mut writer = Watched::new(rt.stdout());
+            let _written = send(&mut writer, OUT_OF_MEMORY);
             ExitCode::from(FAULT)
         }
     }
@@ -41,7 +29,7 @@ fn main(rt: HostRuntime) -> ExitCode {
 fn answered(rt: &HostRuntime) -> Result<u8, AllocError> {
     let built_in = Box::new(rt.alloc(), BuiltIn::new(rt.alloc()))?;
     let replay = Box::new(rt.alloc(), Replay::new(rt.alloc()))?;
-    let mut reader = watched::Watched::new(rt.stdin());
-    let mut writer = watched::Watched::new(rt.stdout());
+    let mut reader = Watched::new(rt.stdin());
+    let mut writer = Watched::new(rt.stdout());
     Ok(run::run(rt.alloc(), &mut reader, &mut writer, built_in, replay))
 }

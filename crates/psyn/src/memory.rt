@@ -1,14 +1,13 @@
 //! The program over an input in memory.
 
 ghost use Rattle.std.specs.Prelude.{◌≡◌, [], Some, false, IfOk};
-ghost use Rattle.psyn.specs.Program.{RepliesTo};
-ghost use Rattle.psyn.specs.Replies.{reply_of};
-ghost use Rattle.psyn.specs.Solvers.{solver_of, solvers_of};
+ghost use Rattle.ps_program.specs.Program.{RepliesTo};
+ghost use Rattle.ps_program.specs.Replies.{reply_of};
+ghost use Rattle.ps_program.specs.Solvers.{solver_of, solvers_of};
 
-use crate::answer::Answer;
 use crate::run::run;
-use crate::stream::{Sink, Source};
 use ps_machine::Solver;
+use ps_program::{Answer, Sink, Source};
 use std::alloc::{AllocError, Global};
 use std::io;
 

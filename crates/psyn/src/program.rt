@@ -1,21 +1,18 @@
 //! The answer to an input.
 
 ghost use Rattle.std.specs.Prelude.{IfOk};
-ghost use Rattle.psyn.specs.Outcomes.{Gives};
-ghost use Rattle.psyn.specs.Program.{Answers, AnswersLine};
-ghost use Rattle.psyn.specs.Replies.{reply_of};
-ghost use Rattle.psyn.specs.Solvers.{solver_of, solvers_of};
+ghost use Rattle.ps_program.specs.Outcomes.{Gives};
+ghost use Rattle.ps_program.specs.Program.{Answers, AnswersLine};
+ghost use Rattle.ps_program.specs.Replies.{reply_of};
+ghost use Rattle.ps_program.specs.Solvers.{solver_of, solvers_of};
 
-use crate::answer::{Answer, Refusal, settle};
-use crate::command_line::{Line, read_line};
-use crate::commands::check::{check, closed};
-use crate::commands::game::{cert, game};
-use crate::commands::lasso::lasso;
-use crate::commands::sim::sim;
+use crate::commands::cert::cert;
 use crate::commands::solve::solve;
 use crate::commands::synth::synth;
-use crate::cut::first_line;
 use ps_machine::Solver;
+use ps_program::{
+    Answer, Line, Refusal, check, closed, first_line, game, lasso, read_line, settle, sim,
+};
 use std::alloc::{AllocError, Global};
 
 /// The answer to an input: to its first line, and to the texts behind it. The second solver is for certificates that the

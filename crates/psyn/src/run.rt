@@ -1,18 +1,17 @@
 //! The program, from what it reads to what it writes.
 
 ghost use Rattle.std.specs.Prelude.{◌≡◌, ◌+◌, false};
-ghost use Rattle.psyn.specs.Input.{ConsumesAtMost, input_limit};
-ghost use Rattle.psyn.specs.Solvers.{solver_of, solvers_of};
-ghost use Rattle.psyn.specs.Streams.{sink_state};
-ghost use Rattle.psyn.specs.Replies.{Reply};
-ghost use Rattle.psyn.specs.Program.{Replies, Writes};
+ghost use Rattle.ps_program.specs.Input.{ConsumesAtMost, input_limit};
+ghost use Rattle.ps_program.specs.Solvers.{solver_of, solvers_of};
+ghost use Rattle.ps_program.specs.Streams.{sink_state};
+ghost use Rattle.ps_program.specs.Replies.{Reply};
+ghost use Rattle.ps_program.specs.Program.{Replies, Writes};
 
-use crate::answer::{Answer, FAULT, OUT_OF_MEMORY, READ_FAULT};
 use crate::program::answer_to;
-use crate::reading::{InputFault, read_input};
-use crate::sending::send;
-use crate::stream::{Sink, Source};
 use ps_machine::Solver;
+use ps_program::{
+    Answer, FAULT, InputFault, OUT_OF_MEMORY, READ_FAULT, Sink, Source, read_input, send,
+};
 use std::alloc::Global;
 
 /// Reads the whole input, writes the answer to it, and gives the exit status.

@@ -1,15 +1,14 @@
 //! The command that solves a game.
 
-ghost use Rattle.psyn.specs.Outcomes.{Gives};
-ghost use Rattle.psyn.specs.Replies.{reply_of};
-ghost use Rattle.psyn.specs.Solvers.{solver_of};
-ghost use Rattle.psyn.specs.Solving.{AnswersGame, AnswersSolve};
+ghost use Rattle.ps_program.specs.Outcomes.{Gives};
+ghost use Rattle.ps_program.specs.Replies.{reply_of};
+ghost use Rattle.ps_program.specs.Solvers.{solver_of};
+ghost use Rattle.ps_program.specs.Solving.{AnswersGame, AnswersSolve};
 
-use crate::answer::{Answer, Refusal};
 use crate::certifying::certified;
-use crate::texts::read_game;
 use ps_game::NamedGame;
 use ps_machine::Solver;
+use ps_program::{Answer, Refusal, read_game};
 use ps_synthesis::certificate_text;
 use std::alloc::Global;
 

@@ -1,24 +1,18 @@
 //! The command that makes a circuit of an automaton.
 
-ghost use Rattle.std.specs.Prelude.{◌≡◌, ◌++◌, ℕ, List, Option, Result, IfOk};
+ghost use Rattle.std.specs.Prelude.{◌≡◌, ℕ, List, Option, Result, IfOk};
 ghost use Rattle.ps_certificate.specs.Certificates.{CertificateData};
 ghost use Rattle.ps_game.specs.Games.{NamedGameData};
 ghost use Rattle.ps_machine.specs.declared.fault.SolveFault.{SolveFault};
-ghost use Rattle.psyn.specs.Outcomes.{Gives};
-ghost use Rattle.psyn.specs.Replies.{reply_of};
-ghost use Rattle.psyn.specs.Solvers.{fed_with, solver_of, solvers_of};
-ghost use Rattle.psyn.specs.Synthesis.{AnswersCertified, AnswersReport, AnswersSynth, proof_text, report_reply, verdict_line, verdict_status};
+ghost use Rattle.ps_program.specs.Outcomes.{Gives};
+ghost use Rattle.ps_program.specs.Replies.{reply_of};
+ghost use Rattle.ps_program.specs.Solvers.{fed_with, solver_of, solvers_of};
+ghost use Rattle.ps_program.specs.Synthesis.{AnswersCertified, AnswersReport, AnswersSynth};
 
-use crate::answer::{Answer, REALIZABLE, Refusal, UNREALIZABLE};
-use crate::command_line::SynthLine;
 use crate::synthesis::synthesise;
-use crate::texts::two_texts;
 use ps_machine::Solver;
-use ps_synthesis::Report;
+use ps_program::{Answer, Refusal, SynthLine, print, two_texts};
 use std::alloc::{AllocError, Global};
-
-/// What stands between the parts of an answer.
-const DIVIDER: &[u8] = b"%%\n";
 
 /// The circuit of the automaton of a text. The second solver is fed the certificate that stands behind the text.
 pub fn synth(
@@ -73,39 +67,4 @@ fn report(
 {
     let report = synthesise(alloc, text, asked.order, asked.compact, solver)?;
     Ok(print(alloc, &report, asked.full)?)
-}
-
-/// What is printed of a report.
-fn print(alloc: Global, report: &Report, full: bool) -> Result<Answer, AllocError>
-    ensures { IfOk result (λ answer. reply_of answer ≡ report_reply full report.now) }
-{
-    let (word, status) = verdict(report.realizable);
-    let mut text = word.as_bytes().to_vec(alloc)?;
-    text.extend_from_slice(&report.circuit_text)?;
-    if full {
-        add_proof(&mut text, report)?;
-    }
-    Ok(Answer { text, status })
-}
-
-/// The line that says who wins, and the exit status.
-fn verdict(realizable: bool) -> (&'static str, u8)
-    ensures word { result.0.now ≡ verdict_line realizable }
-    ensures status { result.1 ≡ verdict_status realizable }
-{
-    if realizable {
-        ("REALIZABLE\n", REALIZABLE)
-    } else {
-        ("UNREALIZABLE\n", UNREALIZABLE)
-    }
-}
-
-/// The game and its certificate, each behind a line `%%`.
-fn add_proof(text: &mut Vec<u8>, report: &Report) -> Result<(), AllocError>
-    ensures { IfOk result (λ _. text.new.items ≡ text.old.items ++ proof_text report.now) }
-{
-    text.extend_from_slice(DIVIDER)?;
-    text.extend_from_slice(&report.game_text)?;
-    text.extend_from_slice(DIVIDER)?;
-    text.extend_from_slice(&report.certificate_text)
 }

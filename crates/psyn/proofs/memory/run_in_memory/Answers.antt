@@ -1,5 +1,5 @@
-use Rattle.psyn.specs.Solvers.{Solvers, solver_of, solvers_of}
-use Rattle.psyn.proofs.ProgramLemmas.{replies_to_whole}
+use Rattle.ps_program.specs.Solvers.{Solvers, solver_of, solvers_of}
+use Rattle.ps_program.proofs.ProgramLemmas.{replies_to_whole}
 use Rattle.psyn.proofs.memory.run_in_memory.Goals as goal
 
 pub returns : goal.returns

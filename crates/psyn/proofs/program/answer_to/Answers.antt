@@ -1,10 +1,10 @@
 use Rattle.std.proofs.Common.{subst, ℕ, List, Result}
-use Rattle.psyn.specs.Program.{Answers, AnswersLine}
-use Rattle.psyn.specs.CommandLine.{IsLine}
-use Rattle.psyn.specs.Replies.{Reply, reply_of}
-use Rattle.psyn.specs.Solvers.{Solvers, solver_of, solvers_of}
-use Rattle.psyn.specs.declared.answer.Answer.{Answer}
-use Rattle.psyn.proofs.OutcomeLemmas.{settled}
+use Rattle.ps_program.specs.Program.{Answers, AnswersLine}
+use Rattle.ps_program.specs.CommandLine.{IsLine}
+use Rattle.ps_program.specs.Replies.{Reply, reply_of}
+use Rattle.ps_program.specs.Solvers.{Solvers, solver_of, solvers_of}
+use Rattle.ps_program.specs.declared.answer.Answer.{Answer}
+use Rattle.ps_program.proofs.OutcomeLemmas.{settled}
 use Rattle.psyn.proofs.program.answer_to.Goals as goal
 
 pub returns : goal.returns

@@ -1,9 +1,9 @@
 use Rattle.std.proofs.Common.{subst, ℕ, List}
-use Rattle.psyn.specs.Program.{Answers, Writes}
-use Rattle.psyn.specs.Replies.{reply_of}
-use Rattle.psyn.specs.Solvers.{Solvers, solver_of, solvers_of}
-use Rattle.psyn.specs.Streams.{sink_state}
-use Rattle.psyn.proofs.ProgramLemmas.{replies_answer}
+use Rattle.ps_program.specs.Program.{Answers, Writes}
+use Rattle.ps_program.specs.Replies.{reply_of}
+use Rattle.ps_program.specs.Solvers.{Solvers, solver_of, solvers_of}
+use Rattle.ps_program.specs.Streams.{sink_state}
+use Rattle.ps_program.proofs.ProgramLemmas.{replies_answer}
 use Rattle.psyn.proofs.run.run.Goals as goal
 
 pub returns-in-Ok-answer_to-clause-answered : goal.returns-in-Ok-answer_to-clause-answered

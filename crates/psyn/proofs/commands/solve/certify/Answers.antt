@@ -1,14 +1,14 @@
 use Rattle.std.proofs.Common.{◌≡◌, ◌∙◌, ap, inr, List, ℕ, Result, Ok}
 use Rattle.ps_certificate.specs.Certificates.{CertificateData}
 use Rattle.ps_certificate.specs.Written.{text_in}
-use Rattle.psyn.specs.declared.answer.Refusal.{Refusal}
-use Rattle.psyn.specs.declared.answer.Refusal.TheVariants as refusal
-use Rattle.psyn.specs.Replies.{Reply, reply_of, text_reply}
-use Rattle.psyn.specs.Solvers.{SolverData, solver_of}
-use Rattle.psyn.specs.Solving.{AnswersGame, Certifies}
-use Rattle.psyn.specs.StageFaults.{IsTold}
-use Rattle.psyn.proofs.OutcomeLemmas.{gives_failed, gives_handed, gives_passed}
-use Rattle.psyn.proofs.SolverLemmas.{certifies_refused}
+use Rattle.ps_program.specs.declared.answer.Refusal.{Refusal}
+use Rattle.ps_program.specs.declared.answer.Refusal.TheVariants as refusal
+use Rattle.ps_program.specs.Replies.{Reply, reply_of, text_reply}
+use Rattle.ps_program.specs.Solvers.{SolverData, solver_of}
+use Rattle.ps_program.specs.Solving.{AnswersGame, Certifies}
+use Rattle.ps_program.specs.StageFaults.{IsTold}
+use Rattle.ps_program.proofs.OutcomeLemmas.{gives_failed, gives_handed, gives_passed}
+use Rattle.ps_program.proofs.SolverLemmas.{certifies_refused}
 use Rattle.psyn.proofs.commands.solve.certify.Goals as goal
 
 pub returns-in_err-certificate : goal.returns-in_err-certificate

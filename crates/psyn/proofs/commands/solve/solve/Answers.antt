@@ -1,9 +1,9 @@
 use Rattle.ps_game.specs.Games.{NamedGameData}
-use Rattle.psyn.specs.Replies.{reply_of}
-use Rattle.psyn.specs.Solvers.{SolverData, solver_of}
-use Rattle.psyn.specs.Solving.{AnswersGame, AnswersSolve}
-use Rattle.psyn.specs.Texts.{ReadsGameText}
-use Rattle.psyn.proofs.OutcomeLemmas.{gives_after, gives_failed, gives_passed}
+use Rattle.ps_program.specs.Replies.{reply_of}
+use Rattle.ps_program.specs.Solvers.{SolverData, solver_of}
+use Rattle.ps_program.specs.Solving.{AnswersGame, AnswersSolve}
+use Rattle.ps_program.specs.Texts.{ReadsGameText}
+use Rattle.ps_program.proofs.OutcomeLemmas.{gives_after, gives_failed, gives_passed}
 use Rattle.psyn.proofs.commands.solve.solve.Goals as goal
 
 pub returns-in_err-game : goal.returns-in_err-game

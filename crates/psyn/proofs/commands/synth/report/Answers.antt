@@ -1,13 +1,13 @@
 use Rattle.std.proofs.Common.{◌≡◌, ℕ, List, Result, Ok, ap, inr}
 use Rattle.ps_synthesis.specs.declared.report.Report.{Report}
-use Rattle.psyn.specs.declared.answer.Refusal.{Refusal}
-use Rattle.psyn.specs.declared.answer.Refusal.TheVariants as refusal
-use Rattle.psyn.specs.Replies.{Reply, reply_of}
-use Rattle.psyn.specs.Solvers.{SolverData, solver_of}
-use Rattle.psyn.specs.StageFaults.{IsTold}
-use Rattle.psyn.specs.Synthesis.{AnswersReport, Synthesises, report_reply}
-use Rattle.psyn.proofs.OutcomeLemmas.{gives_failed, gives_handed, gives_passed}
-use Rattle.psyn.proofs.SynthLemmas.{gives_told}
+use Rattle.ps_program.specs.declared.answer.Refusal.{Refusal}
+use Rattle.ps_program.specs.declared.answer.Refusal.TheVariants as refusal
+use Rattle.ps_program.specs.Replies.{Reply, reply_of}
+use Rattle.ps_program.specs.Solvers.{SolverData, solver_of}
+use Rattle.ps_program.specs.StageFaults.{IsTold}
+use Rattle.ps_program.specs.Synthesis.{AnswersReport, Synthesises, report_reply}
+use Rattle.ps_program.proofs.OutcomeLemmas.{gives_failed, gives_handed, gives_passed}
+use Rattle.ps_program.proofs.SynthLemmas.{gives_told}
 use Rattle.psyn.proofs.commands.synth.report.Goals as goal
 
 pub returns-in_err-report : goal.returns-in_err-report

@@ -1,10 +1,10 @@
 use Rattle.std.proofs.Common.{ℕ, List}
-use Rattle.psyn.specs.Replies.{reply_of}
-use Rattle.psyn.specs.Solvers.{SolverData, fed_with, feed, solver_of}
-use Rattle.psyn.specs.Synthesis.{AnswersReport}
-use Rattle.psyn.specs.Texts.{CutsInTwo}
-use Rattle.psyn.proofs.OutcomeLemmas.{gives_after}
-use Rattle.psyn.proofs.SynthLemmas.{gives_fed}
+use Rattle.ps_program.specs.Replies.{reply_of}
+use Rattle.ps_program.specs.Solvers.{SolverData, fed_with, feed, solver_of}
+use Rattle.ps_program.specs.Synthesis.{AnswersReport}
+use Rattle.ps_program.specs.Texts.{CutsInTwo}
+use Rattle.ps_program.proofs.OutcomeLemmas.{gives_after}
+use Rattle.ps_program.proofs.SynthLemmas.{gives_fed}
 use Rattle.psyn.proofs.commands.synth.report_by_certificate.Goals as goal
 
 pub returns : goal.returns

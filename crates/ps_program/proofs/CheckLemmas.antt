@@ -1,0 +1,61 @@
+-- What is told of a certificate that was tested.
+use Rattle.std.proofs.Common.{◌≡◌, ◌↔◌, ℕ, List, Result, Ok, Err, false, true, ap, refl}
+use Rattle.std.specs.Prelude.{IfErr, IsOk}
+use Rattle.ps_game.specs.Games.{NamedGameData, ParityGame, IsGame, vertex_count}
+use Rattle.ps_certificate.specs.Certificates.{CertificateData, Fits, IsFirstFlaw}
+use Rattle.ps_certificate.specs.declared.flaw.Flaw.{Flaw}
+use Rattle.ps_program.specs.declared.answer.Answer.{Answer}
+use Rattle.ps_program.specs.declared.answer.Refusal.{Refusal}
+use Rattle.ps_program.specs.declared.answer.Refusal.TheVariants as refusal
+use Rattle.ps_program.specs.Checks.{Tests, test_told}
+use Rattle.ps_program.specs.Faults.{fault_text}
+use Rattle.ps_program.specs.Outcomes.{Gives}
+use Rattle.ps_program.specs.Replies.{Reply, line_reply, reply_of}
+use Rattle.ps_program.specs.Texts.{NamesVertices, flaw_text}
+use Rattle.ps_program.proofs.TextLemmas.{flaw_names_vertices}
+
+reply_or : Reply → Result Reply (List ℕ) → Reply
+reply_or other (Ok reply) = reply
+reply_or other (Err line) = other
+
+line_or : List ℕ → Result Reply (List ℕ) → List ℕ
+line_or other (Ok reply) = other
+line_or other (Err line) = line
+
+abbrev with_reply : Reply → Result Reply (List ℕ)
+with_reply reply = Ok reply
+
+abbrev with_line : List ℕ → Result Reply (List ℕ)
+with_line line = Err line
+
+same_reply : (reply other : Reply) → with_reply reply ≡ with_reply other → reply ≡ other
+unfolding reply_or
+same_reply reply other same = ap (reply_or reply) same
+
+same_line : (line other : List ℕ) → with_line line ≡ with_line other → line ≡ other
+unfolding line_or
+same_line line other same = ap (line_or line) same
+
+no_ok : false ≡ true → ⊥
+no_ok same = cc
+
+no_reply : {reply : Reply} {line : List ℕ} → Ok reply ≡ Err line → ⊥
+no_reply same = cc
+
+no_fault : {reply : Reply} {line : List ℕ} → Err line ≡ Ok reply → ⊥
+no_fault same = cc
+
+-- the flaw speaks of vertices of the game
+pub outcome_names_vertices : (game : ParityGame) (given : CertificateData) (outcome : Result (Unit {0}) Flaw) → IsGame game → Fits game given → IfErr outcome (IsFirstFlaw game given) → IfErr outcome (NamesVertices (vertex_count game))
+outcome_names_vertices game given (Ok done) is_game fits first = tt
+outcome_names_vertices game given (Err flaw) is_game fits first = flaw_names_vertices game given flaw is_game fits first.is_flaw
+
+-- what is told is the answer of the test
+pub tests_told : (IsGood : ParityGame → CertificateData → Type 0) (word : List ℕ) (named : NamedGameData) (given : CertificateData) (outcome : Result (Unit {0}) Flaw) (result : Result Answer Refusal) → IsGame named.game
+    → (IsOk outcome ↔ IsGood named.game given) → IfErr outcome (IsFirstFlaw named.game given) → Gives reply_of (λ told. told ≡ test_told word named outcome) result → Gives reply_of (Tests IsGood word named given) result
+tests_told IsGood word named given (Ok done) (Ok answer) is_game exact first told = (exact.0 refl, same_reply (reply_of answer) (line_reply word) told)
+tests_told IsGood word named given (Ok done) (Err (refusal.Fault fault)) is_game exact first told = absurd (no_fault told)
+tests_told IsGood word named given (Ok done) (Err refusal.OutOfMemory) is_game exact first told = tt
+tests_told IsGood word named given (Err flaw) (Ok answer) is_game exact first told = absurd (no_reply told)
+tests_told IsGood word named given (Err flaw) (Err (refusal.Fault fault)) is_game exact first told = (is_game, (λ good. no_ok (exact.1 good)), (flaw, first, same_line (fault_text fault) (flaw_text named flaw) told))
+tests_told IsGood word named given (Err flaw) (Err refusal.OutOfMemory) is_game exact first told = tt

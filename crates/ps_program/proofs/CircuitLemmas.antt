@@ -1,0 +1,28 @@
+-- Texts of circuits and of stimuli.
+use Rattle.std.proofs.Common.{ℕ, false, List, length, Ok, Err, refl, inl, inr}
+use Rattle.ps_aiger.specs.Circuits.{CircuitData}
+use Rattle.ps_simulate.specs.Stimuli.{StimulusData}
+use Rattle.ps_program.specs.declared.answer.Refusal.{Refusal}
+use Rattle.ps_program.specs.declared.answer.Refusal.TheVariants as refusal
+use Rattle.ps_program.specs.Faults.{fault_text}
+use Rattle.ps_program.specs.Outcomes.{Gives}
+use Rattle.ps_program.specs.Texts.{CutsInTwo, ReadsCircuitText, ReadsStimulusText, ReadsSimulated}
+
+-- a circuit with a stimulus for it
+abbrev pub Run : Type 0
+Run = CircuitData × StimulusData
+
+abbrev pub run_view : Run → Run
+run_view both = (both.0, both.1)
+
+-- the fault of a circuit's text is the fault of both texts
+pub simulated_circuit_fault : (texts first second : List ℕ) (fault : Refusal) → CutsInTwo texts (Ok (first, second))
+    → Gives {X = CircuitData} (λ given. given) (ReadsCircuitText first) (Err fault) → Gives run_view (ReadsSimulated texts) (Err fault)
+simulated_circuit_fault texts first second (refusal.Fault fault) cuts h = inr ((first, second), cuts, inl (fault_text fault, h, refl))
+simulated_circuit_fault texts first second refusal.OutOfMemory cuts h = tt
+
+-- so is the fault of a stimulus behind the text of a circuit
+pub simulated_stimulus_fault : (texts first second : List ℕ) (c : CircuitData) (fault : Refusal) → CutsInTwo texts (Ok (first, second)) → ReadsCircuitText first (Ok c)
+    → Gives {X = StimulusData} (λ given. given) (ReadsStimulusText (length c.inputs) false second) (Err fault) → Gives run_view (ReadsSimulated texts) (Err fault)
+simulated_stimulus_fault texts first second c (refusal.Fault fault) cuts reads h = inr ((first, second), cuts, inr (c, reads, inl (fault_text fault, h, refl)))
+simulated_stimulus_fault texts first second c refusal.OutOfMemory cuts reads h = tt

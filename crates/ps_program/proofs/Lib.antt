@@ -1,0 +1,15 @@
+pub mod AutomatonLemmas
+pub mod CheckLemmas
+pub mod CircuitLemmas
+pub mod CommandLemmas
+pub mod KindLemmas
+pub mod LassoLemmas
+pub mod OneAnswer
+pub mod OneTrace
+pub mod OutcomeLemmas
+pub mod ProgramLemmas
+pub mod SolverLemmas
+pub mod StreamLemmas
+pub mod SynthLemmas
+pub mod TextLemmas
+pub mod TraceLemmas

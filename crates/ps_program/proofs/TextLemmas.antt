@@ -1,0 +1,44 @@
+-- Faults of texts, and the vertices of flaws.
+use Rattle.std.proofs.Common.{◌<◌, ℕ, List, Option, IfSome, Ok, Err, refl, inl, inr, subst}
+use Rattle.ps_game.specs.Games.{ParityGame, NamedGameData, IsGame, vertex_count}
+use Rattle.ps_certificate.specs.declared.flaw.Flaw.{Flaw}
+use Rattle.ps_certificate.specs.declared.flaw.Flaw.TheVariants as flaw
+use Rattle.ps_certificate.specs.Certificates.{CertificateData, Fits, Remains, IsFlaw}
+use Rattle.ps_program.specs.declared.answer.Refusal.{Refusal}
+use Rattle.ps_program.specs.declared.answer.Refusal.TheVariants as refusal
+use Rattle.ps_program.specs.Faults.{fault_text}
+use Rattle.ps_program.specs.Outcomes.{Gives}
+use Rattle.ps_program.specs.Texts.{CutsInTwo, ReadsGameText, ReadsCertificateText, ReadsCertified, NamesVertices}
+
+-- a flaw speaks of vertices of the game
+remains_within : (game : ParityGame) (given : CertificateData) (v w : ℕ) → IsGame game → Remains game given v w
+    → (v < vertex_count game) × (w < vertex_count game)
+remains_within game given v w is_game remains = (remains.edge.0, is_game.within v w remains.edge)
+
+pub flaw_names_vertices : (game : ParityGame) (given : CertificateData) (found : Flaw) → IsGame game → Fits game given
+    → IsFlaw game given found → NamesVertices (vertex_count game) found
+flaw_names_vertices game given (flaw.Move v choice) is_game fits h =
+    (h.0, subst (λ (move : Option ℕ). IfSome move (λ w. w < vertex_count game)) h.1 (fits.choices v h.0))
+flaw_names_vertices game given (flaw.Escape v w) is_game fits h = remains_within game given v w is_game h.0
+flaw_names_vertices game given (flaw.Rank v w p) is_game fits h = remains_within game given v w is_game h.remains
+
+-- a game with a certificate of it
+abbrev pub Both : Type 0
+Both = NamedGameData × CertificateData
+
+abbrev pub both_view : Both → Both
+both_view both = (both.0, both.1)
+
+-- the fault of a game text is the fault of both texts
+pub certified_game_fault : (texts first second : List ℕ) (fault : Refusal) → CutsInTwo texts (Ok (first, second))
+    → Gives {X = NamedGameData} (λ named. named) (ReadsGameText first) (Err fault) → Gives both_view (ReadsCertified texts) (Err fault)
+certified_game_fault texts first second (refusal.Fault fault) cuts h = inr ((first, second), cuts, inl (fault_text fault, h, refl))
+certified_game_fault texts first second refusal.OutOfMemory cuts h = tt
+
+-- so is the fault of a certificate text behind a game text
+pub certified_certificate_fault : (texts first second : List ℕ) (named : NamedGameData) (fault : Refusal) → CutsInTwo texts (Ok (first, second))
+    → ReadsGameText first (Ok named) → Gives {X = CertificateData} (λ given. given) (ReadsCertificateText named second) (Err fault)
+    → Gives both_view (ReadsCertified texts) (Err fault)
+certified_certificate_fault texts first second named (refusal.Fault fault) cuts reads h =
+    inr ((first, second), cuts, inr (named, reads, inl (fault_text fault, h, refl)))
+certified_certificate_fault texts first second named refusal.OutOfMemory cuts reads h = tt

@@ -1,0 +1,15 @@
+use Rattle.std.proofs.Common.{length, ◌-◌, ◌≡◌, false, ◌≤◌, take}
+use Rattle.std.specs.Io.KnownBytes.{Appends}
+use Rattle.ps_program.proofs.sending.send.Given as goal
+
+-- what has gone out is the front of the text, and no call has failed or stalled
+abbrev pub invariant-chunks : goal.invariant-chunks
+invariant-chunks g l = record {
+  within : l.sent ≤ length l.text;
+  sound : g.W.Sink.has_failed l.writer ≡ false;
+  moving : g.W.Sink.has_stalled l.writer ≡ false;
+  appended : Appends (g.W.Sink.contents l.initial.writer) (g.W.Sink.contents l.writer) (take l.sent l.text);
+}
+
+abbrev pub decreases-chunks : goal.decreases-chunks
+decreases-chunks g l = length l.text - l.sent

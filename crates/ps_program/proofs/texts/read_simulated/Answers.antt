@@ -1,0 +1,35 @@
+use Rattle.std.proofs.Common.{ℕ, false, refl, inr, ap, length, subst, Ok, Err}
+use Rattle.ps_simulate.specs.Stimuli.{StimulusData}
+use Rattle.ps_program.specs.Outcomes.{Gives}
+use Rattle.ps_program.specs.Texts.{ReadsSimulated, ReadsStimulusText}
+use Rattle.ps_program.proofs.OutcomeLemmas.{gives_passed}
+use Rattle.ps_program.proofs.CircuitLemmas.{run_view, simulated_circuit_fault, simulated_stimulus_fault}
+use Rattle.ps_program.proofs.texts.read_simulated.Goals as goal
+
+pub returns-in_err-circuit-clause-read : goal.returns-in_err-circuit-clause-read
+returns-in_err-circuit-clause-read c =
+    gives_passed run_view (ReadsSimulated c.args.texts.now) _ _ c.from_residual-in_err-circuit.ensures.1
+    (simulated_circuit_fault _ _ _ c.in_err-circuit.field-0.0 c.in_ok-text.ensures c.in_err-circuit.ensures)
+
+pub returns-in_err-stimulus-clause-read : goal.returns-in_err-stimulus-clause-read
+returns-in_err-stimulus-clause-read c =
+    gives_passed run_view (ReadsSimulated c.args.texts.now) _ _ c.from_residual-in_err-stimulus.ensures.1
+    (simulated_stimulus_fault _ _ _ _ c.in_err-stimulus.field-0.0 c.in_ok-text.ensures c.in_ok-circuit.ensures
+    (subst (λ (width : ℕ). Gives {X = StimulusData} (λ given. given) (ReadsStimulusText width false c.in_ok-text.letters.now) (Err c.in_err-stimulus.field-0.0))
+    (ap length c.inputs-width.ensures.inputs) c.in_err-stimulus.ensures))
+
+pub returns-clause-read : goal.returns-clause-read
+returns-clause-read c =
+    inr (
+      (c.in_ok-text.text.now, c.in_ok-text.letters.now),
+      c.in_ok-text.ensures,
+      inr (
+        c.in_ok-circuit.circuit,
+        c.in_ok-circuit.ensures,
+        inr (
+          c.in_ok-stimulus.stimulus,
+          subst (λ (width : ℕ). ReadsStimulusText width false c.in_ok-text.letters.now (Ok c.in_ok-stimulus.stimulus)) (ap length c.inputs-width.ensures.inputs) c.in_ok-stimulus.ensures,
+          refl,
+        ),
+      ),
+    )

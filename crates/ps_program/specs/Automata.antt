@@ -1,0 +1,35 @@
+-- Automata of HOA texts, for the commands whose first text is one.
+use Rattle.std.specs.Prelude.{◌≡◌, ⊤, ℕ, List, Some, Result, Ok, Err}
+use Rattle.ps_hoa.specs.CauseNames as hoa_names
+use Rattle.ps_hoa.specs.Causes as hoa
+use Rattle.ps_hoa.specs.Files.{FileData}
+use Rattle.ps_hoa.specs.Texts.{Reads}
+use Rattle.ps_automaton.specs.Answers.{IsAdmitted, IsRefused}
+use Rattle.ps_automaton.specs.Automata.{AutomatonData, IsBuiltFrom}
+use Rattle.ps_automaton.specs.Chains.{Chain}
+use Rattle.ps_automaton.specs.declared.fault.AutomatonFault.{AutomatonFault}
+use Rattle.ps_program.specs.declared.answer.Refusal.{Refusal}
+use Rattle.ps_program.specs.declared.answer.Refusal.TheVariants as refusal
+use Rattle.ps_program.specs.Faults.{fault_text}
+use Rattle.ps_program.specs.Outcomes.{Then, Reading}
+use Rattle.ps_program.specs.StageFaults.{automaton_line}
+
+-- an HOA text
+abbrev pub ReadsHoaText : List ℕ → Result FileData (List ℕ) → Type 0
+ReadsHoaText text = Reading hoa.cause_number hoa_names.cause_name (Reads text)
+
+-- the file has an automaton, or it has none for the cause that the line tells
+abbrev pub Builds : FileData → Result FileData (List ℕ) → Type 0
+Builds file (Ok built) = IsAdmitted file × (built ≡ file)
+Builds file (Err line) = (fault : AutomatonFault) × IsRefused file fault × (automaton_line fault ≡ Some line)
+
+-- the file of an HOA text that has an automaton
+abbrev pub ReadsAutomaton : List ℕ → Result FileData (List ℕ) → Type 0
+ReadsAutomaton text = Then (ReadsHoaText text) Builds
+
+-- what is given for an HOA text: its automaton, or the line of the first fault, unless a growth was refused
+abbrev pub GivesAutomaton : List ℕ → Result AutomatonData Refusal → Type 0
+GivesAutomaton text (Ok automaton) =
+    (file : FileData) × ReadsAutomaton text (Ok file) × ((chain : Chain) × IsBuiltFrom file chain automaton)
+GivesAutomaton text (Err (refusal.Fault fault)) = ReadsAutomaton text (Err (fault_text fault))
+GivesAutomaton text (Err refusal.OutOfMemory) = ⊤

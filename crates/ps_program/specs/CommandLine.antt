@@ -1,0 +1,195 @@
+-- What the input's first line asks for.
+use Rattle.std.specs.Prelude.{◌≡◌, ◌⊎◌, ◌==◌, ℕ, Bool, true, false, List, [], length, Option, None, Some, codes, filter, not, IsUtf8, if◌then◌else◌, ◌∷◌, ◌++◌, map, flat_map}
+use Rattle.std.specs.List.{slice_split, AllByRecursion}
+use Rattle.std.specs.Option.{option_map_or}
+use Rattle.std.specs.Str.{bytes_eq}
+use Rattle.clap.specs.Words.{App, Row, Rule, Shape, Text, app_of, first_of, new_app, new_rule, with_subcommand, subcommand_of, fault_of, IsAmong}
+use Rattle.clap.specs.Simple.{new_shape, on_top}
+use Rattle.clap.specs.declared.builder.action.ArgAction.TheVariants.{SetTrue}
+use Rattle.clap.specs.declared.builder.command.Command.{Command}
+use Rattle.clap.specs.declared.builder.command.Command.TheViews.{out-Command}
+use Rattle.clap.specs.declared.error.kind.ErrorKind.{ErrorKind}
+use Rattle.clap.specs.declared.error.kind.ErrorKind.TheVariants.{DisplayHelp}
+use Rattle.ps_machine.specs.declared.key.Order.{Order}
+use Rattle.ps_machine.specs.declared.key.Order.TheVariants.{Mealy, Moore}
+use Rattle.ps_simulate.specs.declared.role.Role.{Role}
+use Rattle.ps_simulate.specs.declared.role.Role.TheVariants.{Controller, Environment}
+use Rattle.ps_program.specs.declared.command_line.Line.{Line}
+use Rattle.ps_program.specs.declared.command_line.Line.TheVariants.{Refused, Help, Closed, Check, Sim, Lasso, Solve, Game, Cert, Synth}
+use Rattle.ps_program.specs.declared.command_line.SynthLine.{SynthLine}
+
+-- what stands between runs of spaces
+abbrev pub words_of : List ℕ → List Text
+words_of line = filter (λ word. not (length word == 0)) (slice_split (λ byte. byte == 32) line)
+
+-- ---- the commands, each with its flags
+
+-- a flag by its name, behind `--`
+abbrev pub flag : Text → Rule
+flag name = record (new_rule name) { long = Some name; action = Some SetTrue }
+
+-- a command with its flags
+abbrev pub command_with : Text → List Text → Shape
+command_with name flags = record (new_shape name) { rules = map flag flags }
+
+-- the command has these flags, and none of them is for other commands too
+pub record HasFlags (name : Text) (flags : List Text) (command : Command) : Type 0 where
+  pub shape : (app_of command).top ≡ command_with name flags
+  pub local : (out-Command command).has_globals ≡ false
+
+-- the words of a line are a command and its flags, and no name of a program stands before them
+abbrev pub program : App
+program = on_top (λ top. record top { no_binary_name = true; disable_help_subcommand = true }) (new_app (codes "psyn"))
+
+-- each command behind those before it
+abbrev pub with_commands : App → List (Text × List Text) → App
+with_commands app [] = app
+with_commands app (command ∷ more) = with_commands (with_subcommand app (command_with command.0 command.1)) more
+
+abbrev pub commands : List (Text × List Text)
+commands = (codes "help", []) ∷ (codes "closed", []) ∷ (codes "check", []) ∷ (codes "sim", [])
+    ∷ (codes "lasso", codes "env" ∷ []) ∷ (codes "solve", codes "compact" ∷ [])
+    ∷ (codes "game", codes "moore" ∷ []) ∷ (codes "cert", codes "moore" ∷ codes "compact" ∷ [])
+    ∷ (codes "synth", codes "full" ∷ codes "cert" ∷ codes "moore" ∷ codes "compact" ∷ []) ∷ []
+
+unfoldable pub table : App
+table = with_commands program commands
+
+-- ---- what the words say
+
+-- the flag is given
+abbrev pub is_given : Text → List Row → Bool
+is_given name rows = option_map_or (λ text. bytes_eq text (codes "true")) (first_of name rows) false
+
+-- the part that a lasso's circuit plays
+abbrev pub role_said : List Row → Role
+role_said rows = if is_given (codes "env") rows then Environment else Controller
+
+-- who moves first
+abbrev pub order_said : List Row → Order
+order_said rows = if is_given (codes "moore") rows then Moore else Mealy
+
+-- how a circuit is asked for
+abbrev pub synth_said : List Row → SynthLine
+synth_said rows = record {
+  full = is_given (codes "full") rows;
+  cert = is_given (codes "cert") rows;
+  order = order_said rows;
+  compact = is_given (codes "compact") rows;
+}
+
+-- the line of a command
+abbrev pub line_named : Text → List Row → Line
+line_named name rows = if bytes_eq name (codes "help") then Help
+    else if bytes_eq name (codes "closed") then Closed
+    else if bytes_eq name (codes "check") then Check
+    else if bytes_eq name (codes "sim") then Sim
+    else if bytes_eq name (codes "lasso") then Lasso (role_said rows)
+    else if bytes_eq name (codes "solve") then Solve (is_given (codes "compact") rows)
+    else if bytes_eq name (codes "game") then Game (order_said rows)
+    else if bytes_eq name (codes "cert") then Cert (order_said rows) (is_given (codes "compact") rows)
+    else if bytes_eq name (codes "synth") then Synth (synth_said rows)
+    else Refused
+
+-- the line of the command that the words name, if they name one
+abbrev pub line_said : Option (Text × List Row) → Line
+line_said (Some command) = line_named command.0 command.1
+line_said None = Refused
+
+-- the answer to words that are no line of the table: `--help` and `-h` ask for help
+abbrev pub line_refused : ErrorKind → Line
+line_refused DisplayHelp = Help
+line_refused _ = Refused
+
+-- the words say the line
+abbrev pub Says : List Text → Line → Type 0
+Says words line = ((fault_of table words ≡ []) × (line ≡ line_said (subcommand_of table words)))
+    ⊎ ((kind : ErrorKind) × IsAmong kind (fault_of table words) × (line ≡ line_refused kind))
+
+-- the input's first line says the line
+abbrev pub IsLine : List ℕ → Line → Type 0
+IsLine first_line line = (IsUtf8 first_line × Says (words_of first_line) line)
+    ⊎ (¬ (IsUtf8 first_line) × (line ≡ Refused))
+
+-- ---- the lines that are read
+
+-- a command, its flags, and its line where some of them are given
+pub record Usage : Type 0 where
+  pub name : Text
+  pub flags : List Text
+  pub line : List Text → Line
+
+-- the line of a lasso with these flags
+abbrev pub lasso_line : List Text → Line
+lasso_line [] = Lasso Controller
+lasso_line (flag ∷ flags) = Lasso Environment
+
+-- the line of `solve` with these flags
+abbrev pub solve_line : List Text → Line
+solve_line [] = Solve false
+solve_line (flag ∷ flags) = Solve true
+
+-- the line of `game` with these flags
+abbrev pub game_line : List Text → Line
+game_line [] = Game Mealy
+game_line (flag ∷ flags) = Game Moore
+
+-- the flag is among these
+abbrev pub has_flag : Text → List Text → Bool
+has_flag name [] = false
+has_flag name (flag ∷ flags) = if bytes_eq name flag then true else has_flag name flags
+
+-- who moves first with these flags
+abbrev pub order_of : List Text → Order
+order_of flags = if has_flag (codes "moore") flags then Moore else Mealy
+
+-- the line of `cert` with these flags
+abbrev pub cert_line : List Text → Line
+cert_line flags = Cert (order_of flags) (has_flag (codes "compact") flags)
+
+-- the line of `synth` with these flags
+abbrev pub synth_line : List Text → Line
+synth_line flags = Synth (record {
+  full = has_flag (codes "full") flags;
+  cert = has_flag (codes "cert") flags;
+  order = order_of flags;
+  compact = has_flag (codes "compact") flags;
+})
+
+abbrev pub usages : List Usage
+usages = record { name = codes "help"; flags = []; line = λ _. Help }
+    ∷ record { name = codes "closed"; flags = []; line = λ _. Closed }
+    ∷ record { name = codes "check"; flags = []; line = λ _. Check }
+    ∷ record { name = codes "sim"; flags = []; line = λ _. Sim }
+    ∷ record { name = codes "lasso"; flags = codes "env" ∷ []; line = lasso_line }
+    ∷ record { name = codes "solve"; flags = codes "compact" ∷ []; line = solve_line }
+    ∷ record { name = codes "game"; flags = codes "moore" ∷ []; line = game_line }
+    ∷ record { name = codes "cert"; flags = codes "moore" ∷ codes "compact" ∷ []; line = cert_line }
+    ∷ record { name = codes "synth"; flags = codes "full" ∷ codes "cert" ∷ codes "moore" ∷ codes "compact" ∷ []; line = synth_line } ∷ []
+
+-- a word put at each place of a list
+abbrev pub insertions : Text → List Text → List (List Text)
+insertions word [] = (word ∷ []) ∷ []
+insertions word (x ∷ xs) = (word ∷ (x ∷ xs)) ∷ map (λ rest. x ∷ rest) (insertions word xs)
+
+-- different words of a list, each choice in each order
+abbrev pub arrangements : List Text → List (List Text)
+arrangements [] = [] ∷ []
+arrangements (x ∷ xs) = arrangements xs ++ flat_map (insertions x) (arrangements xs)
+
+-- a command and some flags, as a line has them
+abbrev pub words_with : Text → List Text → List Text
+words_with name flags = name ∷ map (λ flag. codes "--" ++ flag) flags
+
+-- the words are taken, and say the line
+abbrev pub AreRead : List Text → Line → Type 0
+AreRead words line = (fault_of table words ≡ []) × (line_said (subcommand_of table words) ≡ line)
+
+-- a command with different flags of its own, in any order, is read as that command
+abbrev pub LinesAreRead : Type 0
+LinesAreRead = AllByRecursion (λ usage. AllByRecursion (λ flags. AreRead (words_with usage.name flags) (usage.line flags))
+    (arrangements usage.flags)) usages
+
+-- words that ask for help, and are nothing else
+abbrev pub AskForHelp : Type 0
+AskForHelp = (fault_of table (codes "--help" ∷ []) ≡ DisplayHelp ∷ []) × (fault_of table (codes "-h" ∷ []) ≡ DisplayHelp ∷ [])

@@ -1,0 +1,71 @@
+-- What the program answers to an input, and what it writes of that.
+use Rattle.std.specs.Prelude.{◌≡◌, ◌≤◌, ◌<◌, ◌⊎◌, ℕ, Bool, true, false, List, length, Option, Result, Ok}
+use Rattle.std.specs.Io.KnownBytes.{Appends}
+use Rattle.ps_program.specs.declared.command_line.Line.{Line}
+use Rattle.ps_program.specs.declared.command_line.Line.TheVariants.{Refused, Help, Closed, Check, Sim, Lasso, Solve, Game, Cert, Synth}
+use Rattle.ps_program.specs.CommandLine.{IsLine}
+use Rattle.ps_program.specs.Checks.{AnswersClosed, AnswersCheck}
+use Rattle.ps_program.specs.Cut.{first_line, behind_line}
+use Rattle.ps_program.specs.Games.{AnswersGameText, AnswersCert}
+use Rattle.ps_program.specs.Input.{AgreesWith, input_limit}
+use Rattle.ps_program.specs.Lassos.{AnswersLasso}
+use Rattle.ps_program.specs.Outcomes.{printed}
+use Rattle.ps_program.specs.Replies.{Reply, usage, help, read_fault, out_of_memory}
+use Rattle.ps_program.specs.Simulating.{AnswersSim}
+use Rattle.ps_program.specs.Solvers.{Solvers}
+use Rattle.ps_program.specs.Solving.{AnswersSolve}
+use Rattle.ps_program.specs.Streams.{SinkState, AppendsSome, Breaks}
+use Rattle.ps_program.specs.Synthesis.{AnswersSynth}
+
+-- the answer to a line, with what stands behind it; a line that asks a solver goes by what is known of it
+abbrev pub AnswersLine : Solvers → Line → List ℕ → Result Reply (List ℕ) → Type 0
+AnswersLine solvers Refused texts outcome = outcome ≡ Ok usage
+AnswersLine solvers Help texts outcome = outcome ≡ Ok help
+AnswersLine solvers Closed texts outcome = AnswersClosed texts outcome
+AnswersLine solvers Check texts outcome = AnswersCheck texts outcome
+AnswersLine solvers Sim texts outcome = AnswersSim texts outcome
+AnswersLine solvers (Lasso role) texts outcome = AnswersLasso role texts outcome
+AnswersLine solvers (Solve compact) texts outcome = AnswersSolve solvers.built_in compact texts outcome
+AnswersLine solvers (Game order) texts outcome = AnswersGameText order texts outcome
+AnswersLine solvers (Cert order compact) texts outcome = AnswersCert solvers.built_in order compact texts outcome
+AnswersLine solvers (Synth asked) texts outcome = AnswersSynth solvers asked texts outcome
+
+-- the answer to an input
+abbrev pub Answers : Solvers → List ℕ → Reply → Type 0
+Answers solvers input reply =
+    (line : Line) × IsLine (first_line input) line
+    × ((outcome : Result Reply (List ℕ)) × AnswersLine solvers line (behind_line input) outcome × (reply ≡ printed outcome))
+
+-- the same, of an input that may be too long
+abbrev pub AnswersWhole : Solvers → List ℕ → Reply → Type 0
+AnswersWhole solvers input reply = ((input_limit < length input) × (reply ≡ read_fault))
+    ⊎ ((length input ≤ input_limit) × Answers solvers input reply)
+
+-- the same, where any growth may have been refused
+abbrev pub RepliesTo : Solvers → List ℕ → Reply → Type 0
+RepliesTo solvers input reply = (reply ≡ out_of_memory) ⊎ AnswersWhole solvers input reply
+
+-- the answer to what a source has, where a read failed or none did: any growth may have been refused
+abbrev pub Replies : Solvers → Option (List ℕ) → Bool → Reply → Type 0
+Replies solvers known true reply = reply ≡ read_fault
+Replies solvers known false reply = (reply ≡ out_of_memory)
+    ⊎ ((input : List ℕ) × AgreesWith known input × AnswersWhole solvers input reply)
+
+-- the answer went out whole and was flushed
+pub record WritesAll (before after : SinkState) (reply : Reply) (status : ℕ) : Type 0 where
+  pub sound : after.has_failed ≡ false
+  pub moving : after.has_stalled ≡ false
+  pub text : Appends before.contents after.contents reply.text
+  pub flushed : after.is_flushed ≡ true
+  pub answered : status ≡ reply.status
+
+-- a write or the flush failed, or a write took no bytes: a beginning of the answer went out
+pub record WritesPart (before after : SinkState) (reply : Reply) (status : ℕ) : Type 0 where
+  pub broken : Breaks after.has_failed after.has_stalled
+  pub text : AppendsSome before.contents after.contents reply.text
+  pub refused : status ≡ 1
+
+-- what went out, and the exit status
+abbrev pub Writes : SinkState → SinkState → Reply → ℕ → Type 0
+Writes before after reply status =
+    WritesAll before after reply status ⊎ WritesPart before after reply status

@@ -1,0 +1,13 @@
+-- What a reader's fault is to the program.
+use Rattle.std.specs.Prelude.{◌≡◌, ⊤, ℕ, List}
+use Rattle.ps_text.specs.declared.faults.Fault.{Fault}
+use Rattle.ps_text.specs.declared.faults.Fault.TheVariants as fault
+use Rattle.ps_program.specs.declared.answer.Refusal.{Refusal}
+use Rattle.ps_program.specs.declared.answer.Refusal.TheVariants as refusal
+use Rattle.ps_program.specs.Faults.{fault_text, text_line}
+
+-- a cause is refused by the line of its number and its name, and want of memory as such
+abbrev pub IsRefusalOf : {C : Type 0} → (C → ℕ) → (C → List ℕ) → Fault C → Refusal → Type 0
+IsRefusalOf number name (fault.Text cause offset) (refusal.Fault line) = fault_text line ≡ text_line (number cause) (name cause) offset
+IsRefusalOf number name fault.OutOfMemory refusal.OutOfMemory = ⊤
+IsRefusalOf number name given other = ⊥

@@ -1,0 +1,39 @@
+-- What the program answers, as bytes and an exit status.
+use Rattle.std.specs.Prelude.{ℕ, List, ◌++◌, codes}
+use Rattle.ps_program.specs.declared.answer.TheConstants.{HELP}
+use Rattle.ps_program.specs.declared.answer.Answer.{Answer}
+
+-- the bytes that are written, and the exit status
+pub record Reply : Type 0 where
+  pub text : List ℕ
+  pub status : ℕ
+
+abbrev pub reply_of : Answer → Reply
+reply_of answer = record { text = answer.text.items; status = answer.status }
+
+-- an answer of some text
+abbrev pub text_reply : List ℕ → Reply
+text_reply text = record { text = text; status = 0 }
+
+-- an answer of one line
+abbrev pub line_reply : List ℕ → Reply
+line_reply line = text_reply (line ++ codes "\n")
+
+-- the line of a fault
+abbrev pub fault_reply : List ℕ → Reply
+fault_reply line = record { text = line ++ codes "\n"; status = 1 }
+
+-- the command line is refused
+abbrev pub usage : Reply
+usage = record { text = codes "fault usage\n"; status = 2 }
+
+-- what psyn can do
+abbrev pub help : Reply
+help = text_reply HELP.now
+
+abbrev pub out_of_memory : Reply
+out_of_memory = fault_reply (codes "fault 24 OutOfMemory")
+
+-- a read failed, or the input is too long
+abbrev pub read_fault : Reply
+read_fault = fault_reply (codes "fault 25 ReadFault")

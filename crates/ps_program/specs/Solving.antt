@@ -1,0 +1,27 @@
+-- The command that solves a game, by a solver that was handed in.
+use Rattle.std.specs.Prelude.{◌≡◌, ℕ, Bool, false, List, Some, Result, Ok, Err}
+use Rattle.ps_game.specs.Games.{NamedGameData}
+use Rattle.ps_certificate.specs.Certificates.{CertificateData}
+use Rattle.ps_certificate.specs.Written.{text_in}
+use Rattle.ps_machine.specs.Solving.{IsCertified}
+use Rattle.ps_synthesis.specs.Stages.{IsSolverFault}
+use Rattle.ps_synthesis.specs.declared.fault.SynthFault.{SynthFault}
+use Rattle.ps_program.specs.Outcomes.{Then}
+use Rattle.ps_program.specs.Replies.{Reply, text_reply}
+use Rattle.ps_program.specs.Solvers.{SolverData, answers_now}
+use Rattle.ps_program.specs.StageFaults.{stage_line}
+use Rattle.ps_program.specs.Texts.{ReadsGameText}
+
+-- a certificate that the solver may answer, which fits the game and is valid; or the line of its fault, which a sure solver has not
+abbrev pub Certifies : SolverData → NamedGameData → Result CertificateData (List ℕ) → Type 0
+Certifies solver named (Ok certificate) = IsCertified named certificate × answers_now solver named (Ok certificate)
+Certifies solver named (Err line) = (fault : SynthFault) × IsSolverFault (answers_now solver) named fault
+    × (solver.is_sure ≡ false) × (stage_line fault ≡ Some line)
+
+-- the text of such a certificate, with all counts or as a compact one
+abbrev pub AnswersGame : SolverData → Bool → NamedGameData → Result Reply (List ℕ) → Type 0
+AnswersGame solver compact named = Then (Certifies solver named) (λ certificate outcome. outcome ≡ Ok (text_reply (text_in compact named certificate)))
+
+-- `solve`, and whether `--compact` is given
+abbrev pub AnswersSolve : SolverData → Bool → List ℕ → Result Reply (List ℕ) → Type 0
+AnswersSolve solver compact text = Then (ReadsGameText text) (AnswersGame solver compact)

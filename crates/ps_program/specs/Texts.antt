@@ -1,0 +1,87 @@
+-- The texts of the commands, as their readers answer them.
+use Rattle.std.specs.Prelude.{◌≡◌, ◌<◌, ℕ, Bool, false, IfSome, List, [], ◌∷◌, ◌++◌, codes, length, Result, Ok, Err, option_map, slice_index}
+use Rattle.ps_game.specs.Games.{NamedGameData}
+use Rattle.ps_pgsolver.specs.Causes as game
+use Rattle.ps_pgsolver.specs.Reading.{Answer}
+use Rattle.ps_certificate.specs.declared.flaw.Flaw.{Flaw}
+use Rattle.ps_certificate.specs.declared.flaw.Flaw.TheVariants as flaw
+use Rattle.ps_certificate.specs.Certificates.{CertificateData}
+use Rattle.ps_certificate.specs.Faults as certificate
+use Rattle.ps_certificate.specs.Texts.{Reads}
+use Rattle.ps_aiger.specs.Causes as circuit
+use Rattle.ps_aiger.specs.CauseNames as circuit_names
+use Rattle.ps_aiger.specs.Circuits.{CircuitData}
+use Rattle.ps_aiger.specs.Texts as circuit_text
+use Rattle.ps_simulate.specs.Faults as stimulus
+use Rattle.ps_simulate.specs.Stimuli.{StimulusData}
+use Rattle.ps_simulate.specs.StimulusTexts as stimulus_text
+use Rattle.ps_program.specs.Cut.{AreTexts, HasFewerMarks}
+use Rattle.ps_program.specs.Faults.{spaced, choice_text}
+use Rattle.ps_program.specs.Outcomes.{Then, Reading}
+
+-- ---- the cut
+
+abbrev pub missing_text : List ℕ
+missing_text = codes "fault 27 MissingText"
+
+-- two texts
+abbrev pub CutsInTwo : List ℕ → Result (List ℕ × List ℕ) (List ℕ) → Type 0
+CutsInTwo texts (Ok parts) = AreTexts texts (parts.0 ∷ parts.1 ∷ [])
+CutsInTwo texts (Err line) = HasFewerMarks 1 texts × (line ≡ missing_text)
+
+-- three texts; each missing one is told before any is read
+abbrev pub CutsInThree : List ℕ → Result (List ℕ × List ℕ × List ℕ) (List ℕ) → Type 0
+CutsInThree texts (Ok parts) = AreTexts texts (parts.0 ∷ parts.1 ∷ parts.2 ∷ [])
+CutsInThree texts (Err line) = HasFewerMarks 2 texts × (line ≡ missing_text)
+
+-- ---- game texts
+
+-- the text of a game
+abbrev pub ReadsGameText : List ℕ → Result NamedGameData (List ℕ) → Type 0
+ReadsGameText text = Reading game.cause_number game.cause_name (Answer text)
+
+-- ---- certificate texts
+
+-- the text of a certificate of that game
+abbrev pub ReadsCertificateText : NamedGameData → List ℕ → Result CertificateData (List ℕ) → Type 0
+ReadsCertificateText named text = Reading certificate.cause_number certificate.cause_name (Reads named text)
+
+-- a game text and the text of a certificate of that game
+abbrev pub ReadsCertified : List ℕ → Result (NamedGameData × CertificateData) (List ℕ) → Type 0
+ReadsCertified texts =
+    Then (CutsInTwo texts) (λ parts. Then (ReadsGameText parts.0) (λ named.
+    Then (ReadsCertificateText named parts.1) (λ given outcome. outcome ≡ Ok (named, given))))
+
+-- ---- circuit texts and stimuli
+
+-- the text of a circuit
+abbrev pub ReadsCircuitText : List ℕ → Result CircuitData (List ℕ) → Type 0
+ReadsCircuitText text = Reading circuit.cause_number circuit_names.cause_name (circuit_text.Reads text)
+
+-- the text of a stimulus for so many inputs, with a divider or without
+abbrev pub ReadsStimulusText : ℕ → Bool → List ℕ → Result StimulusData (List ℕ) → Type 0
+ReadsStimulusText width split text = Reading stimulus.cause_number stimulus.cause_name (stimulus_text.Reads text width split)
+
+-- the text of a circuit, and that of a stimulus that is all stem
+abbrev pub ReadsSimulated : List ℕ → Result (CircuitData × StimulusData) (List ℕ) → Type 0
+ReadsSimulated texts =
+    Then (CutsInTwo texts) (λ parts. Then (ReadsCircuitText parts.0) (λ c.
+    Then (ReadsStimulusText (length c.inputs) false parts.1) (λ s outcome. outcome ≡ Ok (c, s))))
+
+-- ---- flaws
+
+abbrev pub id_of : NamedGameData → ℕ → ℕ
+id_of named v = slice_index named.ids v
+
+-- the line of a flaw, which names vertices by their ids
+abbrev pub flaw_text : NamedGameData → Flaw → List ℕ
+flaw_text named (flaw.Move v choice) = codes "fault 50 Move" ++ spaced (id_of named v) ++ choice_text (option_map (id_of named) choice)
+flaw_text named (flaw.Escape v w) = codes "fault 51 Escape" ++ spaced (id_of named v) ++ spaced (id_of named w)
+flaw_text named (flaw.Rank v w p) =
+    codes "fault 52 Rank" ++ spaced (id_of named v) ++ spaced (id_of named w) ++ spaced p
+
+-- the flaw speaks of vertices below a number
+abbrev pub NamesVertices : ℕ → Flaw → Type 0
+NamesVertices count (flaw.Move v choice) = (v < count) × IfSome choice (λ w. w < count)
+NamesVertices count (flaw.Escape v w) = (v < count) × (w < count)
+NamesVertices count (flaw.Rank v w p) = (v < count) × (w < count)

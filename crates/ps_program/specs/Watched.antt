@@ -1,0 +1,20 @@
+-- What a watched reader or writer holds, and what a call answered.
+use Rattle.std.specs.Prelude.{Bool, Option, None, Some, Result, Ok, Err}
+use Rattle.ps_program.specs.declared.watched.Watched.{Watched}
+
+-- the reader or writer that is watched
+abbrev pub watched_inner : {T : Type 0} → Watched T → T
+watched_inner watched = watched.inner
+
+-- a call answered a fault
+abbrev pub watched_failed : {T : Type 0} → Watched T → Bool
+watched_failed watched = watched.has_failed
+
+-- a write took none of the bytes that it was given
+abbrev pub watched_stalled : {T : Type 0} → Watched T → Bool
+watched_stalled watched = watched.has_stalled
+
+-- what a call answered, and nothing where it failed
+abbrev pub answered : {T E : Type 0} → Result T E → Option T
+answered (Ok value) = Some value
+answered (Err error) = None

@@ -1,0 +1,14 @@
+//! The automaton of an HOA text, for the commands whose first text is one.
+
+ghost use Rattle.ps_program.specs.Automata.{GivesAutomaton};
+
+use crate::answer::Refusal;
+use ps_automaton::Automaton;
+use std::alloc::Global;
+
+/// The automaton of an HOA text.
+pub fn read_automaton(alloc: Global, text: &[u8]) -> Result<Automaton, Refusal>
+    ensures { GivesAutomaton text.now result }
+{
+    Ok(ps_synthesis::read_automaton(alloc, text)?)
+}

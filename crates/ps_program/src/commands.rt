@@ -1,0 +1,6 @@
+//! The commands that ask no solver, by their names.
+
+pub mod check;
+pub mod game;
+pub mod lasso;
+pub mod sim;

@@ -1,0 +1,48 @@
+//! The commands that test a certificate of a game.
+
+ghost use Rattle.std.specs.Prelude.{◌≡◌, IfErr};
+ghost use Rattle.ps_game.specs.Games.{vertex_count};
+ghost use Rattle.ps_program.specs.Checks.{AnswersClosed, AnswersCheck, test_told};
+ghost use Rattle.ps_program.specs.Outcomes.{Gives};
+ghost use Rattle.ps_program.specs.Replies.{reply_of};
+ghost use Rattle.ps_program.specs.Texts.{NamesVertices};
+
+use crate::answer::{Answer, Refusal};
+use crate::texts::{flaw_line, read_certified};
+use ps_certificate::Flaw;
+use ps_game::NamedGame;
+use std::alloc::Global;
+
+/// Whether each path that follows the certificate's moves stays in its region.
+pub fn closed(alloc: Global, texts: &[u8]) -> Result<Answer, Refusal>
+    ensures { Gives reply_of (AnswersClosed texts.now) result }
+{
+    let (game, certificate) = read_certified(alloc, texts)?;
+    let outcome = ps_certificate::closed(game.game(), &certificate);
+    tell(alloc, &game, "closed", outcome)
+}
+
+/// Whether the certificate is valid.
+pub fn check(alloc: Global, texts: &[u8]) -> Result<Answer, Refusal>
+    ensures { Gives reply_of (AnswersCheck texts.now) result }
+{
+    let (game, certificate) = read_certified(alloc, texts)?;
+    let outcome = ps_certificate::check(game.game(), &certificate);
+    tell(alloc, &game, "valid", outcome)
+}
+
+/// The word where a test found nothing wrong, or else the line of the flaw that it found.
+fn tell(
+    alloc: Global,
+    game: &NamedGame,
+    word: &str,
+    outcome: Result<(), Flaw>,
+) -> Result<Answer, Refusal>
+    requires { IfErr outcome (NamesVertices (vertex_count game.now.game)) }
+    ensures { Gives reply_of (λ told. told ≡ test_told word.now game.now outcome) result }
+{
+    match outcome {
+        Ok(()) => Ok(Answer::line(alloc, word)?),
+        Err(flaw) => Err(Refusal::Fault(flaw_line(game, flaw))),
+    }
+}

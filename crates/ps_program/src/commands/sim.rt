@@ -1,0 +1,66 @@
+//! The command that runs a circuit.
+
+ghost use Rattle.std.specs.Prelude.{◌≡◌, ◌++◌, ◌∷◌, [], length, All, OnOk, IfOk};
+ghost use Rattle.ps_simulate.specs.StimulusTexts.{digits_of};
+ghost use Rattle.ps_program.specs.Outcomes.{Gives};
+ghost use Rattle.ps_program.specs.Replies.{reply_of};
+ghost use Rattle.ps_program.specs.Simulating.{AnswersSim, PrintsTrace, PrintsStep};
+
+use crate::answer::{Answer, Refusal};
+use crate::texts::read_simulated;
+use ps_aiger::Circuit;
+use ps_simulate::{Simulator, Stimulus, circuit_has_one_values};
+use std::alloc::{AllocError, Global};
+
+/// What a circuit does, letter by letter.
+pub fn sim(alloc: Global, texts: &[u8]) -> Result<Answer, Refusal>
+    ensures { Gives reply_of (AnswersSim texts.now) result }
+{
+    let (circuit, stimulus) = read_simulated(alloc, texts)?;
+    circuit_has_one_values(&circuit);
+    let text = trace_text(alloc, &circuit, &stimulus)?;
+    Ok(Answer::text(text))
+}
+
+/// A line for each letter of the stem.
+fn trace_text(alloc: Global, circuit: &Circuit, stimulus: &Stimulus) -> Result<Vec<u8>, AllocError>
+    requires { All (λ letter. length letter ≡ length circuit.now.inputs) stimulus.now.stem }
+    ensures { IfOk result (λ text. PrintsTrace circuit.now stimulus.now.stem text.items) }
+{
+    let mut simulator = Simulator::new(alloc, circuit)?;
+    let mut outputs = vec![in alloc; false; circuit.outputs().len()]?;
+    let mut text = Vec::new(alloc);
+    for letter in &stimulus.stem {
+        write_step(&mut text, &mut simulator, letter, &mut outputs)?;
+    }
+    Ok(text)
+}
+
+/// Takes a letter, and writes its line.
+fn write_step(
+    text: &mut Vec<u8>,
+    simulator: &mut Simulator,
+    inputs: &[bool],
+    outputs: &mut [bool],
+) -> Result<(), AllocError>
+    requires inputs_fit { length inputs.now ≡ length simulator.old.circuit.inputs }
+    requires outputs_fit { length outputs.old ≡ length simulator.old.circuit.outputs }
+    ensures step { OnOk result (PrintsStep simulator.old simulator.new inputs.now text.old.items text.new.items) }
+    ensures circuit { simulator.new.circuit ≡ simulator.old.circuit }
+{
+    write_bits(text, simulator.latches(), b'|')?;
+    write_bits(text, inputs, b'|')?;
+    simulator.step(inputs, outputs);
+    write_bits(text, outputs, b'\n')
+}
+
+/// Writes a digit for each bit, and what stands behind them.
+fn write_bits(text: &mut Vec<u8>, bits: &[bool], end: u8) -> Result<(), AllocError>
+    ensures { OnOk result (text.new.items ≡ text.old.items ++ digits_of bits.now ++ end ∷ []) }
+{
+    for &bit in bits {
+        text.push(if bit { b'1' } else { b'0' })?;
+    }
+    text.push(end)?;
+    Ok(())
+}

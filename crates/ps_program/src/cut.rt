@@ -1,0 +1,69 @@
+//! Cuts the input into its first line and its texts.
+
+ghost use Rattle.std.specs.Prelude.{◌≡◌, ◌==◌, ◌≤◌, ◌<◌, length, slice_index, IfSome, IfNone};
+ghost use Rattle.std.specs.List.{before_first, after_first, position_or_len};
+ghost use Rattle.ps_program.specs.Cut.{is_mark, ends_line, Cuts, HasNoMark};
+
+/// The first line without its newline, and what follows that.
+pub fn first_line(input: &[u8]) -> (&[u8], &[u8])
+    ensures line { result.0.now ≡ before_first (λ byte. byte == 10) input.now }
+    ensures rest { result.1.now ≡ after_first (λ byte. byte == 10) input.now }
+{
+    let end = line_length(input);
+    let behind = (end + 1).min(input.len());
+    (&input[..end], &input[behind..])
+}
+
+/// How many bytes stand before the first newline, or in all where there is none.
+fn line_length(input: &[u8]) -> usize
+    ensures within { result ≤ length input.now }
+    ensures length { result ≡ position_or_len (λ byte. byte == 10) input.now }
+{
+    for (place, byte) in input.iter().enumerate() {
+        if *byte == b'\n' {
+            return place;
+        }
+    }
+    input.len()
+}
+
+/// What stands before the first line `%%`, and what stands behind it.
+pub fn cut(texts: &[u8]) -> Option<(&[u8], &[u8])>
+    ensures found { IfSome result (λ parts. Cuts texts.now parts.0.now parts.1.now) }
+    ensures missing { IfNone result (HasNoMark texts.now) }
+{
+    for mark in 0..texts.len() {
+        if stands_mark(texts, mark) {
+            let behind = (mark + 3).min(texts.len());
+            return Some((&texts[..mark], &texts[behind..]));
+        }
+    }
+    None
+}
+
+/// Whether the line `%%` begins at `place`.
+fn stands_mark(texts: &[u8], place: usize) -> bool
+    requires { place < length texts.now }
+    ensures { result ≡ is_mark texts.now place }
+{
+    let begins = place == 0 || texts[place - 1] == b'\n';
+    begins
+        && is_byte(texts, place, b'%')
+        && is_byte(texts, place + 1, b'%')
+        && is_line_end(texts, place + 2)
+}
+
+/// Whether the byte stands at `place`.
+fn is_byte(text: &[u8], place: usize, byte: u8) -> bool
+    requires { 0 < byte }
+    ensures { result ≡ (slice_index text.now place == byte) }
+{
+    place < text.len() && text[place] == byte
+}
+
+/// Whether the text or a line ends at `place`.
+fn is_line_end(text: &[u8], place: usize) -> bool
+    ensures { result ≡ ends_line text.now place }
+{
+    place >= text.len() || text[place] == b'\n'
+}

@@ -1,0 +1,24 @@
+//! The law that the program's answer is determined, but for the choice of a solver.
+
+ghost use Rattle.ps_program.specs.Determined.{HasOneAnswer};
+ghost use Rattle.ps_program.specs.Solvers.{solver_of, solvers_of};
+
+use ps_machine::Solver;
+
+/// An input has one answer at most, whatever the solvers, unless its line is `solve`, `cert` or `synth` and its text is accepted:
+/// whoever meets the definitions writes the same bytes and ends with the same status, or wants memory.
+pub fn one_answer<S: Solver, T: Solver>(built_in: &S, replay: &T)
+    ensures { HasOneAnswer (solvers_of
+        (solver_of (S.is_sure built_in.now) (S.fed built_in.now) (S.may_answer built_in.now))
+        (solver_of (T.is_sure replay.now) (T.fed replay.now) (T.may_answer replay.now))) }
+{
+    ps_pgsolver::one_answer();
+    ps_certificate::certificate_text_has_one_answer();
+    ps_certificate::first_flaw_is_one();
+    ps_aiger::one_answer();
+    ps_hoa::one_answer();
+    ps_automaton::refusal_is_one();
+    ps_machine::one_game_of_file();
+    ps_simulate::verdict_is_one();
+    ps_simulate::stimulus_text_has_one_answer();
+}

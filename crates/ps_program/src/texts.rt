@@ -1,0 +1,139 @@
+//! The texts of the commands, read, and the lines of what is wrong with them.
+
+ghost use Rattle.std.specs.Prelude.{◌≡◌, ◌<◌, length, All, IfOk};
+ghost use Rattle.ps_aiger.specs.Circuits.{IsCircuit};
+ghost use Rattle.ps_certificate.specs.Certificates.{Fits};
+ghost use Rattle.ps_game.specs.Games.{vertex_count};
+ghost use Rattle.ps_program.specs.Faults.{fault_text};
+ghost use Rattle.ps_program.specs.Outcomes.{Gives};
+ghost use Rattle.ps_program.specs.Texts.{CutsInTwo, CutsInThree, ReadsGameText, ReadsCertificateText, ReadsCertified, ReadsCircuitText, ReadsStimulusText, ReadsSimulated, NamesVertices, flaw_text};
+
+use crate::answer::Refusal;
+use crate::cut::cut;
+use crate::fault::{FaultLine, PlainFault};
+use ps_aiger::Circuit;
+use ps_certificate::{Certificate, Flaw};
+use ps_game::NamedGame;
+use ps_simulate::Stimulus;
+use std::alloc::Global;
+
+/// Two texts.
+pub fn two_texts(texts: &[u8]) -> Result<(&[u8], &[u8]), Refusal>
+    ensures { Gives (λ parts. (parts.0.now, parts.1.now)) (CutsInTwo texts.now) result }
+{
+    match cut(texts) {
+        Some(parts) => Ok(parts),
+        None => Err(Refusal::Fault(FaultLine::Plain(PlainFault::MissingText))),
+    }
+}
+
+/// Three texts. A missing one is told before any text is read.
+pub fn three_texts(texts: &[u8]) -> Result<(&[u8], &[u8], &[u8]), Refusal>
+    ensures { Gives (λ parts. (parts.0.now, parts.1.now, parts.2.now)) (CutsInThree texts.now) result }
+{
+    if let Some((first, rest)) = cut(texts)
+        && let Some((second, third)) = cut(rest)
+    {
+        return Ok((first, second, third));
+    }
+    Err(Refusal::Fault(FaultLine::Plain(PlainFault::MissingText)))
+}
+
+/// A game.
+pub fn read_game(alloc: Global, text: &[u8]) -> Result<NamedGame, Refusal>
+    ensures { Gives (λ game. game) (ReadsGameText text.now) result }
+{
+    match ps_pgsolver::read(alloc, text) {
+        Ok(game) => Ok(game),
+        Err(fault) => Err(Refusal::from(fault)),
+    }
+}
+
+/// A certificate of the game.
+fn read_certificate(alloc: Global, game: &NamedGame, text: &[u8]) -> Result<Certificate, Refusal>
+    ensures read { Gives (λ certificate. certificate) (ReadsCertificateText game.now text.now) result }
+    ensures fits { IfOk result (Fits game.now.game) }
+{
+    match ps_certificate::read(alloc, text, game) {
+        Ok(certificate) => Ok(certificate),
+        Err(fault) => Err(Refusal::from(fault)),
+    }
+}
+
+/// A game, and a certificate of it.
+pub fn read_certified(alloc: Global, texts: &[u8]) -> Result<(NamedGame, Certificate), Refusal>
+    ensures read { Gives (λ both. (both.0, both.1)) (ReadsCertified texts.now) result }
+    ensures fits { IfOk result (λ both. Fits both.0.game both.1) }
+{
+    let (first, second) = two_texts(texts)?;
+    let game = read_game(alloc, first)?;
+    let certificate = read_certificate(alloc, &game, second)?;
+    Ok((game, certificate))
+}
+
+/// A circuit.
+pub fn read_circuit(alloc: Global, text: &[u8]) -> Result<Circuit, Refusal>
+    ensures { Gives (λ circuit. circuit) (ReadsCircuitText text.now) result }
+{
+    match ps_aiger::read(alloc, text) {
+        Ok(circuit) => Ok(circuit),
+        Err(fault) => Err(Refusal::from(fault)),
+    }
+}
+
+/// A stimulus for so many inputs, with a line `-` or without.
+pub fn read_stimulus(
+    alloc: Global,
+    text: &[u8],
+    width: usize,
+    split: bool,
+) -> Result<Stimulus, Refusal>
+    ensures { Gives (λ stimulus. stimulus) (ReadsStimulusText width split text.now) result }
+{
+    match ps_simulate::parse_stimulus(alloc, text, width, split) {
+        Ok(stimulus) => Ok(stimulus),
+        Err(fault) => Err(Refusal::from(fault)),
+    }
+}
+
+/// A circuit, and a stimulus for it.
+pub fn read_simulated(alloc: Global, texts: &[u8]) -> Result<(Circuit, Stimulus), Refusal>
+    ensures read { Gives (λ both. (both.0, both.1)) (ReadsSimulated texts.now) result }
+    ensures fits { IfOk result (λ both. All (λ letter. length letter ≡ length both.0.inputs) both.1.stem) }
+    ensures circuit { IfOk result (λ both. IsCircuit both.0) }
+{
+    let (text, letters) = two_texts(texts)?;
+    let circuit = read_circuit(alloc, text)?;
+    let width = circuit.inputs().len();
+    let stimulus = read_stimulus(alloc, letters, width, false)?;
+    Ok((circuit, stimulus))
+}
+
+/// The line of a flaw, which names vertices by their ids.
+pub fn flaw_line(game: &NamedGame, flaw: Flaw) -> FaultLine
+    requires { NamesVertices (vertex_count game.now.game) flaw }
+    ensures { fault_text result ≡ flaw_text game.now flaw }
+{
+    match flaw {
+        Flaw::Move { vertex, choice } => FaultLine::Move {
+            vertex: game.id(vertex),
+            choice: match choice {
+                Some(successor) => Some(game.id(successor)),
+                None => None,
+            },
+        },
+        Flaw::Escape { vertex, successor } => FaultLine::Escape {
+            vertex: game.id(vertex),
+            successor: game.id(successor),
+        },
+        Flaw::Rank {
+            vertex,
+            successor,
+            priority,
+        } => FaultLine::Rank {
+            vertex: game.id(vertex),
+            successor: game.id(successor),
+            priority,
+        },
+    }
+}

@@ -1,5 +1,0 @@
-use Rattle.psyn.proofs.CommandLemmas.{lines_read, help_asked}
-use Rattle.psyn.proofs.command_line.lines_are_read.Goals as goal
-
-pub returns : goal.returns
-returns c = record { lines = lines_read; help = help_asked }

@@ -1,6 +1,0 @@
-use Rattle.std.proofs.Common.{◌≡◌, ◌++◌, take}
-use Rattle.ps_simulate.specs.StimulusTexts.{digits_of}
-use Rattle.psyn.proofs.commands.sim.write_bits.Given as goal
-
-abbrev pub invariant-loop-bit : goal.invariant-loop-bit
-invariant-loop-bit l = l.text.items ≡ l.initial.text.items ++ digits_of (take l.bit-index l.bits)

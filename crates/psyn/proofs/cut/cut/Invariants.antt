@@ -1,6 +1,0 @@
-use Rattle.std.proofs.Common.{◌≡◌, ◌<◌, ℕ, false}
-use Rattle.psyn.specs.Cut.{is_mark}
-use Rattle.psyn.proofs.cut.cut.Given as goal
-
-abbrev pub invariant-loop-mark : goal.invariant-loop-mark
-invariant-loop-mark l = (place : ℕ) → place < l.mark → is_mark l.texts place ≡ false

@@ -1,0 +1,25 @@
+//! The command that prints a certificate of the game of an automaton.
+
+ghost use Rattle.ps_program.specs.Games.{AnswersCert};
+ghost use Rattle.ps_program.specs.Outcomes.{Gives};
+ghost use Rattle.ps_program.specs.Replies.{reply_of};
+ghost use Rattle.ps_program.specs.Solvers.{solver_of};
+
+use crate::commands::solve::certify;
+use ps_machine::{Order, Solver};
+use ps_program::{Answer, Refusal, read_game_of};
+use std::alloc::Global;
+
+/// The text of a certificate of the game of an automaton, in that order of moves.
+pub fn cert(
+    alloc: Global,
+    order: Order,
+    text: &[u8],
+    solver: &mut Box<dyn Solver>,
+    compact: bool,
+) -> Result<Answer, Refusal>
+    ensures { Gives reply_of (AnswersCert (solver_of (is_sure solver.old) (fed solver.old) (may_answer solver.old)) order compact text.now) result }
+{
+    let game = read_game_of(alloc, order, text)?;
+    certify(alloc, &game, solver, compact)
+}
