@@ -1,6 +1,12 @@
 //! psyn: reads a command and its texts from standard input, and writes the answer.
 #![tactic(auto)]
 
+ghost use Rattle.std.specs.Prelude.{◌≡◌, ℕ, true, List, [], Option, Some, Result};
+ghost use Rattle.ps_certificate.specs.Certificates.{CertificateData};
+ghost use Rattle.ps_game.specs.Games.{NamedGameData};
+ghost use Rattle.ps_machine.specs.Solving.{Replays};
+ghost use Rattle.ps_machine.specs.declared.fault.SolveFault.{SolveFault};
+
 pub mod certifying;
 pub mod commands;
 pub mod memory;
@@ -8,7 +14,7 @@ pub mod program;
 pub mod run;
 pub mod synthesis;
 
-use ps_machine::{BuiltIn, Replay};
+use ps_machine::{BuiltIn, Replay, Solver};
 pub use ps_program::{Reader, Sink, Source, Watched, Writer};
 use ps_program::{FAULT, OUT_OF_MEMORY, send};
 use std::alloc::AllocError;
@@ -29,7 +35,16 @@ fn main(rt: HostRuntime) -> ExitCode {
 fn answered(rt: &HostRuntime) -> Result<u8, AllocError> {
     let built_in = Box::new(rt.alloc(), BuiltIn::new(rt.alloc()))?;
     let replay = Box::new(rt.alloc(), Replay::new(rt.alloc()))?;
+    Ok(answered_by(rt, built_in, replay))
+}
+
+/// Answers with a solver that is sure, and with one that gives what reading the text that it was fed gives.
+fn answered_by(rt: &HostRuntime, built_in: Box<dyn Solver>, replay: Box<dyn Solver>) -> u8
+    requires sure { is_sure built_in ≡ true }
+    requires unfed { fed replay ≡ Some [] }
+    requires replays { (text : Option (List ℕ)) (game : NamedGameData) (answer : Result CertificateData SolveFault) → may_answer replay text game answer → Replays game text answer }
+{
     let mut reader = Watched::new(rt.stdin());
     let mut writer = Watched::new(rt.stdout());
-    Ok(run::run(rt.alloc(), &mut reader, &mut writer, built_in, replay))
+    run::run(rt.alloc(), &mut reader, &mut writer, built_in, replay)
 }
