@@ -1,1 +1,2 @@
 pub mod CircuitFaults
+pub mod Reporting

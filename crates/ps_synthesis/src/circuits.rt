@@ -1,6 +1,6 @@
 //! The circuit of a certificate's winner.
 
-ghost use Rattle.std.specs.Prelude.{ℕ, List, IfOk, IfErr};
+ghost use Rattle.std.specs.Prelude.{IfOk, IfErr};
 ghost use Rattle.ps_automaton.specs.Automata.{IsBuiltFrom};
 ghost use Rattle.ps_automaton.specs.Chains.{Chain};
 ghost use Rattle.ps_hoa.specs.Files.{FileData};
@@ -8,7 +8,6 @@ ghost use Rattle.ps_machine.specs.Boards.{IsGameOf, board_of};
 ghost use Rattle.ps_machine.specs.Extracting.{winner};
 ghost use Rattle.ps_machine.specs.Keys.{mover_of};
 ghost use Rattle.ps_machine.specs.Solving.{IsCertified};
-ghost use Rattle.ps_machine.specs.declared.key.Key.{Key};
 ghost use Rattle.ps_synthesis.specs.Stages.{IsCircuitFault, IsCircuitOf};
 ghost use Rattle.ps_traces.specs.Answers.{IsAnswer};
 
@@ -16,8 +15,7 @@ use crate::fault::SynthFault;
 use ps_aiger::{Circuit, encode};
 use ps_automaton::Automaton;
 use ps_certificate::Certificate;
-use ps_game::NamedGame;
-use ps_machine::{Order, extract};
+use ps_machine::{AutomatonGame, Order, machine_of_certificate, one_game};
 use ps_simulate::circuit_has_one_values;
 use ps_traces::certified_circuit_answers;
 use std::alloc::Global;
@@ -31,16 +29,17 @@ pub fn circuit_of_certificate(
     alloc: Global,
     automaton: &Automaton,
     order: Order,
-    game: &NamedGame,
+    game: &AutomatonGame,
     certificate: &Certificate,
 ) -> Result<Circuit, SynthFault>
-    requires game { (keys : List Key) × IsGameOf (board_of order automaton.now) (mover_of order) keys game.now.game }
-    requires certified { IsCertified game.now certificate.now }
-    ensures made { IfOk result (IsCircuitOf order automaton.now game.now.game certificate.now) }
+    requires game { IsGameOf (board_of order automaton.now) (mover_of order) game.now.keys.keys game.now.game.game }
+    requires certified { IsCertified game.now.game certificate.now }
+    ensures made { IfOk result (IsCircuitOf order automaton.now game.now.game.game certificate.now) }
     ensures answers { IfOk result (λ circuit. (file : FileData) (chain : Chain) → IsBuiltFrom file chain automaton.now → IsAnswer order file (winner certificate.now) circuit) }
-    ensures refused { IfErr result (IsCircuitFault order automaton.now game.now.game certificate.now) }
+    ensures refused { IfErr result (IsCircuitFault order automaton.now game.now.game.game certificate.now) }
 {
-    let machine = extract(alloc, automaton, order, game, certificate)?;
+    one_game();
+    let machine = machine_of_certificate(alloc, automaton, order, game, certificate)?;
     let circuit = encode(alloc, &machine)?;
     circuit_has_one_values(&circuit);
     certified_circuit_answers();

@@ -8,17 +8,20 @@
 //! the start; else it is an environment's, and the automaton accepts none of them, nor what any controller of finitely many
 //! states does against it.
 //!
-//! The stages are here: `read_automaton` gives the automaton of a text, `circuit_of_certificate` the circuit of the player who wins
-//! the start by a certificate, `report_of` the texts, and `certificate_text` that of a certificate alone; [`SynthFault`] says why
-//! there is no report. The program joins them, and asks a solver between them.
+//! [`Problem`] is made of a text, asked for its game, and answered by a certificate of the game. Who has a solver needs no more:
+//! the program asks its own between the two. The stages are here too: `read_automaton` gives the automaton of a text,
+//! `circuit_of_certificate` the circuit of the player who wins the start by a certificate, `report_of` the texts, and
+//! `certificate_text` that of a certificate alone; [`SynthFault`] says why there is no report.
 #![tactic(auto)]
 
 mod automata;
 mod circuits;
 mod fault;
+mod problem;
 mod report;
 
 pub use automata::read_automaton;
 pub use circuits::circuit_of_certificate;
 pub use fault::SynthFault;
+pub use problem::Problem;
 pub use report::{Report, certificate_text, report_of};

@@ -1,133 +1,104 @@
--- From what the stages give to a report, or to the cause of a fault.
-use Rattle.std.proofs.Common.{◌≡◌, ◌↔◌, ◌∙◌, ℕ, Bool, List, length, Result, Ok, Err, ap, ap₂, subst, sym}
-use Rattle.std.specs.Prelude.{IfErr, IfOk, IsTrue}
+-- From what a problem and its solver give to a report, or to the cause of a fault.
+use Rattle.std.proofs.Common.{◌≡◌, ℕ, Bool, List, Result, Ok, Err, subst, sym}
+use Rattle.std.specs.Prelude.{IfErr, IfOk}
 use Rattle.std.specs.Result.{IsErrAnd}
-use Rattle.ps_aiger.specs.Circuits.{CircuitData}
-use Rattle.ps_automaton.specs.Automata.{AutomatonData, IsBuiltFrom, auto_of}
-use Rattle.ps_automaton.specs.Chains.{Chain}
+use Rattle.ps_automaton.specs.Automata.{AutomatonData}
 use Rattle.ps_certificate.specs.Certificates.{CertificateData}
-use Rattle.ps_certificate.specs.Regions.{BothHold, NoneWinsOutside}
 use Rattle.ps_game.specs.Games.{NamedGameData, ParityGame}
-use Rattle.ps_hoa.specs.Files.{FileData}
-use Rattle.ps_machine.specs.Boards.{Board, IsGameOf, board_of, is_first_of}
-use Rattle.ps_machine.specs.Extracting.{HasPropositions, IsMachineOf, winner}
-use Rattle.ps_machine.specs.FileGames.{IsGameOfFile, board_of_file}
-use Rattle.ps_machine.specs.KeyNames.{AreNamed}
-use Rattle.ps_machine.specs.Keys.{mover_of}
-use Rattle.ps_machine.specs.Machines.{MachineData}
-use Rattle.ps_machine.specs.Solving.{IsCertified}
-use Rattle.ps_machine.specs.declared.key.Key.{Key}
+use Rattle.ps_machine.specs.declared.fault.SolveFault.{SolveFault}
 use Rattle.ps_machine.specs.declared.key.Order.{Order}
-use Rattle.ps_synthesis.specs.Printing.{PrintsCertificate, PrintsCircuit, PrintsGame}
-use Rattle.ps_synthesis.specs.Reports.{IsReport, IsWinners, MayAnswer}
-use Rattle.ps_synthesis.specs.Stages.{IsAutomatonOf, IsCircuitFault, IsCircuitOf, IsExtracted, IsSolverFault, IsTextFault}
+use Rattle.ps_synthesis.specs.Problems.{Gives, IsProblemOf, ProblemData}
+use Rattle.ps_synthesis.specs.Reports.{IsReport, MayAnswer}
+use Rattle.ps_synthesis.specs.Stages.{IsCircuitFault, IsSolverFault, IsTextFault}
 use Rattle.ps_synthesis.specs.SynthFaults.{IsSureAnswer, IsSynthFault}
 use Rattle.ps_synthesis.specs.declared.fault.SynthFault.{SynthFault}
 use Rattle.ps_synthesis.specs.declared.fault.SynthFault.TheVariants.{Text, Automaton, BadCycle, Certificate, NotCertified, CircuitTooLarge, OutOfMemory}
 use Rattle.ps_synthesis.specs.declared.report.Report.{Report}
-use Rattle.ps_traces.specs.Answers.{IsAnswer}
 
--- the answers of a text's automaton, and of its game
-module _ (order : Order) (text : List ℕ) (a : AutomatonData) (keys : List Key) (game : NamedGameData) (of : IsAutomatonOf text a)
-    (is_game : IsGameOf (board_of order a) (mover_of order) keys game.game) (are_named : AreNamed (board_of order a) keys game) where
-  board_same : board_of order a ≡ board_of_file order of.file (auto_of a)
-  board_same =
-      ap₂ (λ (q n : ℕ). let board : Board = record { auto = auto_of a; states = q; propositions = n; is_first = is_first_of order a.controllable } in board) of.built.states (ap length of.built.names)
-      ∙ ap (λ (owned : List ℕ). let board : Board = record { auto = auto_of a; states = of.file.states; propositions = length of.file.names; is_first = is_first_of order owned } in board) of.built.controllable
+-- ## A certificate that the solver may answer
 
-  abbrev of_file : IsGameOfFile order of.file game
-  of_file = record {
-    chain = of.chain;
-    is_chain = of.built.is_chain;
-    auto = auto_of a;
-    is_auto = of.built.auto;
-    keys = keys;
-    is_game = subst (λ (board : Board). IsGameOf board (mover_of order) keys game.game) board_same is_game;
-    are_named = subst (λ (board : Board). AreNamed board keys game) board_same are_named;
+module _ (May : MayAnswer) (game : NamedGameData) (certificate : CertificateData) (may : May game (Ok certificate)) (order : Order) (text : List ℕ) where
+  too : (asked : NamedGameData) (answer : Result CertificateData SolveFault) → Gives game certificate asked answer → May asked answer
+  too asked answer given = subst (λ (g : NamedGameData). May g answer) (sym given.0) (subst (λ (r : Result CertificateData SolveFault). May game r) (sym given.1) may)
+
+  report_by : (compact : Bool) (report : Report) → IsReport (Gives game certificate) order compact text report → IsReport May order compact text report
+  report_by compact report is = record {
+    file = is.file;
+    accepted = is.accepted;
+    game = is.game;
+    is_game = is.is_game;
+    game_text = is.game_text;
+    certificate = is.certificate;
+    answered = too is.game (Ok is.certificate) is.answered;
+    certified = is.certified;
+    certificate_text = is.certificate_text;
+    both_hold = is.both_hold;
+    none_wins_outside = is.none_wins_outside;
+    realizable = is.realizable;
+    circuit = is.circuit;
+    circuit_text = is.circuit_text;
+    machine = is.machine;
+    winners = is.winners;
+    encodes = is.encodes;
+    tidy = is.tidy;
+    wired = is.wired;
+    answers = is.answers;
   }
 
-  winners : (certificate : CertificateData) (m : MachineData) → IsExtracted order a game.game certificate m → IsWinners order of.file game of_file certificate m
-  winners certificate m e = record {
-    is_machine = e.is_machine;
-    propositions = subst (λ (names : List (List ℕ)). HasPropositions names (board_of_file order of.file (auto_of a)) m) of.built.names (subst (λ (board : Board). HasPropositions a.names board m) board_same e.propositions);
-    machine_of = subst (λ (board : Board). IsMachineOf board (mover_of order) keys game.game certificate m) board_same (e.machine_of keys is_game);
+  pub reports_by : (compact : Bool) (result : Result Report SynthFault) → IfOk result (IsReport (Gives game certificate) order compact text) → IfOk result (IsReport May order compact text)
+  reports_by compact (Ok report) is = report_by compact report is
+  reports_by compact (Err fault) is = tt
+
+  fault_by : (fault : SynthFault) → IsSynthFault (Gives game certificate) order text fault → IsSynthFault May order text fault
+  fault_by (Text cause offset) h = h
+  fault_by (Automaton fault) h = h
+  fault_by (BadCycle ids) h = record {
+    file = h.file;
+    accepted = h.accepted;
+    game = h.game;
+    is_game = h.is_game;
+    holds = record { cycle = h.holds.cycle; answered = too h.game _ h.holds.answered; some = h.holds.some; vertices = h.holds.vertices; ids_are = h.holds.ids_are };
   }
-
-  report_is : (May : MayAnswer) (compact : Bool) (certificate : CertificateData) (circuit : CircuitData) (report : Report) → May game (Ok certificate) → IsCertified game certificate
-      → BothHold game.game certificate → NoneWinsOutside game.game certificate → IsCircuitOf order a game.game certificate circuit
-      → ((file : FileData) (chain : Chain) → IsBuiltFrom file chain a → IsAnswer order file (winner certificate) circuit)
-      → (IsTrue report.realizable ↔ (winner certificate ≡ 0)) → PrintsCircuit report.circuit_text.items circuit → PrintsGame report.game_text.items game → PrintsCertificate compact report.certificate_text.items game certificate
-      → IsReport May order compact text report
-  report_is May compact certificate circuit report may certified hold outside made answers realizable prints_circuit prints_game prints_certificate = record {
-    file = of.file;
-    accepted = of.accepted;
-    game = game;
-    is_game = of_file;
-    game_text = prints_game;
-    certificate = certificate;
-    answered = may;
-    certified = certified;
-    certificate_text = prints_certificate;
-    both_hold = hold;
-    none_wins_outside = outside;
-    realizable = realizable;
-    circuit = circuit;
-    circuit_text = prints_circuit;
-    machine = made.machine;
-    winners = winners certificate made.machine made.extracted;
-    encodes = made.encodes;
-    tidy = made.tidy;
-    wired = made.wired;
-    answers = answers of.file of.chain of.built;
+  fault_by (Certificate cause offset) h = record { file = h.file; accepted = h.accepted; game = h.game; is_game = h.is_game; holds = too h.game _ h.holds }
+  fault_by NotCertified h = record {
+    file = h.file;
+    accepted = h.accepted;
+    game = h.game;
+    is_game = h.is_game;
+    holds = record { certificate = h.holds.certificate; answered = too h.game _ h.holds.answered; wrong = h.holds.wrong };
   }
-
-  -- the same of a report that is made with that circuit
-  pub reports : (May : MayAnswer) (compact : Bool) (certificate : CertificateData) (result : Result Report SynthFault) → May game (Ok certificate) → IsCertified game certificate → BothHold game.game certificate
-      → NoneWinsOutside game.game certificate → IfOk result (λ report. IsTrue report.realizable ↔ (winner certificate ≡ 0))
-      → IfOk result (λ report. (circuit : CircuitData) × PrintsCircuit report.circuit_text.items circuit × IsCircuitOf order a game.game certificate circuit
-      × ((file : FileData) (chain : Chain) → IsBuiltFrom file chain a → IsAnswer order file (winner certificate) circuit))
-      → IfOk result (λ report. PrintsGame report.game_text.items game) → IfOk result (λ report. PrintsCertificate compact report.certificate_text.items game certificate)
-      → IfOk result (IsReport May order compact text)
-  reports May compact certificate (Ok report) may certified hold outside realizable made prints_game prints_certificate =
-      report_is May compact certificate made.0 report may certified hold outside made.2 made.3 realizable made.1 prints_game prints_certificate
-  reports May compact certificate (Err fault) may certified hold outside realizable made prints_game prints_certificate = tt
-
-  pub solver_cause : (May : MayAnswer) (fault : SynthFault) → IsSolverFault May game fault → IsSynthFault May order text fault
-  solver_cause May (BadCycle ids) h = record { file = of.file; accepted = of.accepted; game = game; is_game = of_file; holds = h }
-  solver_cause May (Certificate cause offset) h = record { file = of.file; accepted = of.accepted; game = game; is_game = of_file; holds = h }
-  solver_cause May NotCertified h = record { file = of.file; accepted = of.accepted; game = game; is_game = of_file; holds = h }
-  solver_cause May OutOfMemory h = tt
-  solver_cause May (Text cause offset) h = absurd h
-  solver_cause May (Automaton fault) h = absurd h
-  solver_cause May CircuitTooLarge h = absurd h
-
-  circuit_cause : (May : MayAnswer) (certificate : CertificateData) (fault : SynthFault) → May game (Ok certificate) → IsCertified game certificate → IsCircuitFault order a game.game certificate fault → IsSynthFault May order text fault
-  circuit_cause May certificate CircuitTooLarge may certified h = record {
-    file = of.file;
-    accepted = of.accepted;
-    game = game;
-    is_game = of_file;
+  fault_by CircuitTooLarge h = record {
+    file = h.file;
+    accepted = h.accepted;
+    game = h.game;
+    is_game = h.is_game;
     holds = record {
-      certificate = certificate;
-      answered = may;
-      certified = certified;
-      is_game = of_file;
-      machine = h.machine;
-      winners = winners certificate h.machine h.extracted;
-      out_of_literals = h.out_of_literals;
+      certificate = h.holds.certificate;
+      answered = too h.game _ h.holds.answered;
+      certified = h.holds.certified;
+      is_game = h.holds.is_game;
+      machine = h.holds.machine;
+      winners = h.holds.winners;
+      out_of_literals = h.holds.out_of_literals;
     };
   }
-  circuit_cause May certificate OutOfMemory may certified h = tt
-  circuit_cause May certificate (Text cause offset) may certified h = absurd h
-  circuit_cause May certificate (Automaton fault) may certified h = absurd h
-  circuit_cause May certificate (BadCycle ids) may certified h = absurd h
-  circuit_cause May certificate (Certificate cause offset) may certified h = absurd h
-  circuit_cause May certificate NotCertified may certified h = absurd h
+  fault_by OutOfMemory h = tt
 
-  pub circuit_causes : (May : MayAnswer) (certificate : CertificateData) (result : Result Report SynthFault) → May game (Ok certificate) → IsCertified game certificate
-      → IfErr result (IsCircuitFault order a game.game certificate) → IfErr result (IsSynthFault May order text)
-  circuit_causes May certificate (Ok report) may certified h = tt
-  circuit_causes May certificate (Err fault) may certified h = circuit_cause May certificate fault may certified h
+  pub faults_by : (result : Result Report SynthFault) → IfErr result (IsSynthFault (Gives game certificate) order text) → IfErr result (IsSynthFault May order text)
+  faults_by (Ok report) h = tt
+  faults_by (Err fault) h = fault_by fault h
+
+-- ## A fault before the report
+
+module _ (May : MayAnswer) (order : Order) (text : List ℕ) (p : ProblemData) (of : IsProblemOf order text p) where
+  pub solver_cause : (fault : SynthFault) → IsSolverFault May p.game fault → IsSynthFault May order text fault
+  solver_cause (BadCycle ids) h = record { file = of.automaton_of.file; accepted = of.automaton_of.accepted; game = p.game; is_game = of.game_of; holds = h }
+  solver_cause (Certificate cause offset) h = record { file = of.automaton_of.file; accepted = of.automaton_of.accepted; game = p.game; is_game = of.game_of; holds = h }
+  solver_cause NotCertified h = record { file = of.automaton_of.file; accepted = of.automaton_of.accepted; game = p.game; is_game = of.game_of; holds = h }
+  solver_cause OutOfMemory h = tt
+  solver_cause (Text cause offset) h = absurd h
+  solver_cause (Automaton fault) h = absurd h
+  solver_cause CircuitTooLarge h = absurd h
 
 pub text_cause : (May : MayAnswer) (order : Order) (text : List ℕ) (fault : SynthFault) → IsTextFault text fault → IsSynthFault May order text fault
 text_cause May order text (Text cause offset) h = h

@@ -1,0 +1,163 @@
+//! A synthesis problem: made of a text, asked for its game, and answered by a certificate of the game.
+
+ghost use Rattle.std.specs.Prelude.{◌≡◌, ◌<◌, ◌↔◌, ℕ, IsTrue, List, IfOk, IfErr};
+ghost use Rattle.std.specs.Result.{IsErrAnd};
+ghost use Rattle.ps_aiger.specs.Circuits.{CircuitData};
+ghost use Rattle.ps_automaton.specs.Automata.{IsBuiltFrom};
+ghost use Rattle.ps_automaton.specs.Chains.{Chain};
+ghost use Rattle.ps_game.specs.Games.{vertex_count};
+ghost use Rattle.ps_hoa.specs.Files.{FileData};
+ghost use Rattle.ps_machine.specs.Boards.{IsGameOf, board_of};
+ghost use Rattle.ps_machine.specs.Extracting.{winner};
+ghost use Rattle.ps_machine.specs.Keys.{mover_of};
+ghost use Rattle.ps_machine.specs.Solving.{IsCertified};
+ghost use Rattle.ps_machine.specs.declared.key.Order.{Order};
+ghost use Rattle.ps_synthesis.specs.Printing.{PrintsCertificate, PrintsCircuit, PrintsGame};
+ghost use Rattle.ps_synthesis.specs.Problems.{Gives, IsProblem, IsProblemOf, IsReportFault};
+ghost use Rattle.ps_synthesis.specs.Reports.{IsAccepted, IsReport};
+ghost use Rattle.ps_synthesis.specs.Stages.{IsCircuitFault, IsCircuitOf, IsTextFault};
+ghost use Rattle.ps_synthesis.specs.SynthFaults.{IsSynthFault};
+ghost use Rattle.ps_synthesis.specs.declared.fault.SynthFault.TheVariants.{NotCertified, OutOfMemory};
+ghost use Rattle.ps_traces.specs.Answers.{IsAnswer};
+
+use crate::automata::read_automaton;
+use crate::circuits::circuit_of_certificate;
+use crate::fault::SynthFault;
+use crate::report::{Report, report_of};
+use ps_automaton::Automaton;
+use ps_certificate::{Certificate, check, fits, no_strategy_wins_outside, valid_regions_are_held};
+use ps_game::NamedGame;
+use ps_machine::{AutomatonGame, Order};
+use std::alloc::Global;
+use std::marker::Model;
+
+/// A synthesis problem: the automaton of a text, who moves first, and the game that they define. It is solved by a certificate of
+/// the game: that says who wins, and how.
+#[derive(Drop)]
+pub struct Problem {
+    order: Order,
+    automaton: Automaton,
+    game: AutomatonGame,
+}
+
+impl Model for Problem {
+    ghost use Rattle.ps_synthesis.specs.Problems.{IsProblem, ProblemData};
+
+    ghost Value = { ProblemData };
+
+    ghost view = { λ p. record { order = p.order; automaton = p.automaton; keys = p.game.keys.keys; game = p.game.game } };
+
+    ghost invariant = { λ p. IsProblem (record { order = p.order; automaton = p.automaton; keys = p.game.keys.keys; game = p.game.game }) };
+}
+
+impl Problem {
+    /// The problem of an HOA text, in that order of moves.
+    ///
+    /// # Errors
+    ///
+    /// The first cause for which the text is refused, or else why its file has no automaton. Fails also where a growth was refused.
+    pub fn read(alloc: Global, text: &[u8], order: Order) -> Result<Problem, SynthFault>
+        ensures problem { IfOk result (IsProblemOf order text.now) }
+        ensures refused { IfErr result (IsTextFault text.now) }
+        ensures accepted { (file : FileData) → IsAccepted text.now file → IfErr result (λ fault. fault ≡ OutOfMemory) }
+    {
+        let automaton = read_automaton(alloc, text)?;
+        let game = AutomatonGame::build(alloc, &automaton, order)?;
+        Ok(Problem {
+            order,
+            automaton,
+            game,
+        })
+    }
+
+    /// The game, which a solver is to solve.
+    pub fn game(&self) -> &NamedGame
+        ensures game { result.now ≡ self.now.game }
+        ensures problem { IsProblem self.now }
+    {
+        &self.game.game
+    }
+
+    /// The report by a certificate of the game, with all counts or as a compact text: who wins, and the winner's circuit.
+    ///
+    /// # Errors
+    ///
+    /// `NotCertified` where the certificate does not fit the game or is not valid, and else that the circuit is too large. Fails
+    /// also where a growth was refused.
+    pub fn report(
+        &self,
+        alloc: Global,
+        certificate: &Certificate,
+        compact: bool,
+    ) -> Result<Report, SynthFault>
+        ensures report { (order : Order) (text : List ℕ) → IsProblemOf order text self.now → IfOk result (IsReport (Gives self.now.game certificate.now) order compact text) }
+        ensures refused { IfErr result (IsReportFault self.now certificate.now) }
+        ensures not_certified { ¬ IsCertified self.now.game certificate.now → IsErrAnd result (λ fault. fault ≡ NotCertified) }
+    {
+        if !is_certified(self.game(), certificate) {
+            return Err(SynthFault::NotCertified);
+        }
+        self.report_of_certified(alloc, certificate, compact)
+    }
+
+    /// The same report, by a certificate that was checked before.
+    ///
+    /// # Errors
+    ///
+    /// Fails where the circuit would need more variables than can be named, or a growth was refused.
+    pub fn report_of_certified(
+        &self,
+        alloc: Global,
+        certificate: &Certificate,
+        compact: bool,
+    ) -> Result<Report, SynthFault>
+        requires { IsCertified self.now.game certificate.now }
+        ensures report { (order : Order) (text : List ℕ) → IsProblemOf order text self.now → IfOk result (IsReport (Gives self.now.game certificate.now) order compact text) }
+        ensures refused { (order : Order) (text : List ℕ) → IsProblemOf order text self.now → IfErr result (IsSynthFault (Gives self.now.game certificate.now) order text) }
+        ensures cause { IfErr result (IsCircuitFault self.now.order self.now.automaton self.now.game.game certificate.now) }
+    {
+        valid_regions_are_held();
+        no_strategy_wins_outside();
+        let _ = self.game.game.game();
+        report_of_certificate(
+            alloc,
+            &self.automaton,
+            self.order,
+            &self.game,
+            certificate,
+            compact,
+        )
+    }
+}
+
+/// Whether a certificate fits a game and is valid.
+fn is_certified(game: &NamedGame, certificate: &Certificate) -> bool
+    ensures { IsTrue result ↔ IsCertified game.now certificate.now }
+{
+    fits(game.game(), certificate) && check(game.game(), certificate).is_ok()
+}
+
+/// The report of a certificate of an automaton's game, with the circuit of the player who wins the start.
+fn report_of_certificate(
+    alloc: Global,
+    automaton: &Automaton,
+    order: Order,
+    game: &AutomatonGame,
+    certificate: &Certificate,
+    compact: bool,
+) -> Result<Report, SynthFault>
+    requires game { IsGameOf (board_of order automaton.now) (mover_of order) game.now.keys.keys game.now.game.game }
+    requires some { 0 < vertex_count game.now.game.game }
+    requires certified { IsCertified game.now.game certificate.now }
+    ensures realizable { IfOk result (λ report. IsTrue report.realizable ↔ (winner certificate.now ≡ 0)) }
+    ensures circuit { IfOk result (λ report. (circuit : CircuitData)
+        × PrintsCircuit report.circuit_text.items circuit
+        × IsCircuitOf order automaton.now game.now.game.game certificate.now circuit
+        × ((file : FileData) (chain : Chain) → IsBuiltFrom file chain automaton.now → IsAnswer order file (winner certificate.now) circuit)) }
+    ensures game { IfOk result (λ report. PrintsGame report.game_text.items game.now.game) }
+    ensures certificate { IfOk result (λ report. PrintsCertificate compact report.certificate_text.items game.now.game certificate.now) }
+    ensures refused { IfErr result (IsCircuitFault order automaton.now game.now.game.game certificate.now) }
+{
+    let circuit = circuit_of_certificate(alloc, automaton, order, game, certificate)?;
+    Ok(report_of(alloc, &game.game, certificate, &circuit, compact)?)
+}
