@@ -1,7 +1,7 @@
 //! Attractors, regions that are won and counts of small games, which were found by hand, and how much work they took.
 
 use ps_attractor::{Attracted, Sources, attract, places_by_number};
-use ps_game::{Arena, Counts, Game, GameBuilder, Region, Strategy, Subgame};
+use ps_game::{Arena, Counts, FlatGame, Game, GameBuilder, Region, Strategy, Subgame, fits_narrow};
 use ps_measure::{MeasureFault, Ranks, ranks};
 use ps_pgsolver::read;
 use ps_zielonka::regions;
@@ -279,4 +279,79 @@ fn counts_of_a_region(rt: HostRuntime) {
     assert!(rt; counts.depth == 3 && counts.raises == 0);
     let lost = Wanted::Cycle(&[1]);
     assert!(rt; are_ranked(rt.alloc(), (0, None), (2, 0), &mut counts, lost));
+}
+
+/// Adds the vertices of a region, and the moves of a table.
+fn add_table(
+    found: &mut Vec<Option<u64>>,
+    region: &Region,
+    moves: &Strategy,
+) -> Result<(), AllocError> {
+    for vertex in 0..region.places() {
+        found.push(region.contains(vertex).then_some(vertex as u64))?;
+    }
+    for vertex in 0..moves.places() {
+        found.push(moves.get(vertex).map(|successor| successor as u64))?;
+    }
+    Ok(())
+}
+
+/// Adds what a player attracts to the first vertex.
+fn add_attracted<A: Arena>(
+    alloc: Global,
+    arena: &A,
+    player: u8,
+    found: &mut Vec<Option<u64>>,
+) -> Result<(), AllocError> {
+    let attracted = attract_to(alloc, arena, player, &[0])?;
+    add_table(found, &attracted.region, &attracted.moves)?;
+    for &rank in &attracted.rank {
+        found.push(Some(rank as u64))?;
+    }
+    Ok(())
+}
+
+/// Adds what is won, by which moves, and the counts of player 0's region.
+fn add_won<A: Arena>(
+    alloc: Global,
+    arena: &A,
+    found: &mut Vec<Option<u64>>,
+) -> Result<(), MeasureFault> {
+    let mut counts = Counts::default();
+    let (won, first, second) = regions(alloc, arena, &mut counts)?;
+    add_table(found, &won, &first)?;
+    add_table(found, &won, &second)?;
+    for row in &ranks(alloc, arena, 0, &won, &first, &mut counts)?.counts {
+        for &count in row {
+            found.push(Some(count))?;
+        }
+    }
+    Ok(())
+}
+
+/// What is found of a game that is kept in some form.
+fn found_in<A: Arena>(alloc: Global, arena: &A) -> Result<Vec<Option<u64>>, MeasureFault> {
+    let mut found = Vec::new(alloc);
+    add_attracted(alloc, arena, 0, &mut found)?;
+    add_attracted(alloc, arena, 1, &mut found)?;
+    add_won(alloc, arena, &mut found)?;
+    Ok(found)
+}
+
+#[test]
+fn arrays_of_each_width_have_the_same_answers(rt: HostRuntime) -> Result<(), Fail> {
+    let alloc = rt.alloc();
+    let without_repeating: &[u8] = b"0 1 0 1,2; 1 1 0 0; 2 1 0 0;";
+    let two_vertices: &[u8] = b"parity 1; 0 1 0 0,1; 1 2 0 0;";
+    for text in [FORK, LOOPS, without_repeating, two_vertices] {
+        let named = read(alloc, text)?;
+        let game = named.game();
+        let found = found_in(alloc, game)?;
+        assert!(rt; fits_narrow(game) && found.len() > game.count());
+        let narrow = FlatGame::<u32>::of(alloc, game)?;
+        assert!(rt; found_in(alloc, &narrow)? == found);
+        let wide = FlatGame::<usize>::of(alloc, game)?;
+        assert!(rt; found_in(alloc, &wide)? == found);
+    }
+    Ok(())
 }
