@@ -220,7 +220,7 @@ impl<'a> Cursor<'a> {
     pub(crate) fn counts(&mut self, alloc: Global, count: usize) -> Result<Vec<u64>, CertFault>
         ensures { Gives (λ v. v.items) result self.new (counts_at count self.old) }
     {
-        let mut counts = Vec::new(alloc);
+        let mut counts = Vec::with_capacity(alloc, count)?;
         for _ in 0..count {
             self.byte(b' ')?;
             counts.push(self.number()?)?;

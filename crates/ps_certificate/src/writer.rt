@@ -8,8 +8,8 @@ ghost use Rattle.ps_certificate.specs.Texts.{Reads, lost_by};
 ghost use Rattle.ps_certificate.specs.Written.{IsWord, IsWritable, fields, pairs, counts_text, line_with, entry_lines, version_digit, head_text, text_in, certificate_text, compact_text};
 
 use crate::certificate::{Certificate, Entry};
-use itoa::Buffer;
 use ps_game::{Arena, NamedGame};
+use ps_text::numbers::write_number;
 use std::alloc::{AllocError, Global};
 
 /// Writes a certificate of a game: the first line, the number of vertices, the odd and the even priorities, and a line for
@@ -196,11 +196,4 @@ fn write_fields(out: &mut Vec<u8>, numbers: &[u64]) -> Result<(), AllocError>
         write_number(out, number)?;
     }
     Ok(())
-}
-
-fn write_number(out: &mut Vec<u8>, number: u64) -> Result<(), AllocError>
-    ensures { OnOk result (out.new.items ≡ out.old.items ++ decimal number) }
-{
-    let mut buffer = Buffer::new();
-    out.extend_from_slice(buffer.format(number).as_bytes())
 }

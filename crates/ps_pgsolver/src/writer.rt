@@ -7,8 +7,8 @@ ghost use Rattle.ps_game.specs.Plays.{greatest};
 ghost use Rattle.ps_pgsolver.specs.Reading.{Answers, text_limit};
 ghost use Rattle.ps_pgsolver.specs.Written.{IsWord, list_text, name_text, vertex_line, vertex_lines, head_text, game_text};
 
-use itoa::Buffer;
 use ps_game::{Arena, NamedGame};
+use ps_text::numbers::write_number;
 use std::alloc::{AllocError, Global};
 
 /// Writes a game: a line with the greatest id, and a line for each vertex.
@@ -100,11 +100,4 @@ fn write_name(out: &mut Vec<u8>, name: Option<&[u8]>) -> Result<(), AllocError>
         out.push(b'"')?;
     }
     Ok(())
-}
-
-fn write_number(out: &mut Vec<u8>, number: u64) -> Result<(), AllocError>
-    ensures { OnOk result (out.new.items ≡ out.old.items ++ decimal number) }
-{
-    let mut buffer = Buffer::new();
-    out.extend_from_slice(buffer.format(number).as_bytes())
 }

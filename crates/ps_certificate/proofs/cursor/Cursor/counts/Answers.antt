@@ -6,7 +6,7 @@ use Rattle.ps_certificate.proofs.cursor.Cursor.counts.Goals as goal
 
 pub returns-in_err-byte : goal.returns-in_err-byte
 returns-in_err-byte c =
-    let p = err_from_is_err_and c.from_residual.result c.from_residual.ensures.1 in
+    let p = err_from_is_err_and c.from_residual-in_err-byte.result c.from_residual-in_err-byte.ensures.1 in
     let next = count_next c.args.count c.loop.counter c.loop.self c.loop-test.true in
     let now = ap (with_front c.loop.counts.items) (sym next) ∙ c.loop.invariant in
     rw (p.1, p.2) (stops c.in_err-byte.field-0.0 c.loop.counts.items (count_at c.loop.self) _ _ (fails_first c.in_err-byte.field-0.0 (byte_at 32 c.loop.self) number_at c.in_err-byte.ensures) now)
