@@ -11,6 +11,7 @@ pub mod Holding
 pub mod Keeping
 pub mod Lists
 pub mod Loops
+pub mod NumberAhead
 pub mod NumberPart
 pub mod Numerals
 pub mod OneFlaw

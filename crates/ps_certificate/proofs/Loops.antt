@@ -1,17 +1,11 @@
 -- What a loop of the reader has read, and what it still reads.
-use Rattle.std.proofs.Common.{◌≡◌, ℕ, suc, ◌+◌, ◌-◌, ◌*◌, ◌^◌, ◌<◌, ◌≤◌, Bool, List, [], ◌∷◌, ◌++◌, length, get_or, drop, None, Some, true, false, nat_lt, Result, Ok, Err, refl, sym, ap, ◌∙◌, append_assoc, inl, inr, arith}
-use Rattle.std.specs.Prelude.{◌==◌, take_while}
-use Rattle.std.specs.List.{All}
-use Rattle.std.specs.Char.{is_ascii_digit}
-use Rattle.std.proofs.lemmas.Bool.{cases_Bool, le-ltb, lt-ltb}
-use Rattle.std.proofs.lemmas.List.Elements.{All-nil, All-cons}
-use Rattle.std.proofs.lemmas.List.Sums.{take_while-cons}
-use Rattle.std.proofs.lemmas.List.{append-nil, drop_more, drop_all, at_drop_all}
+use Rattle.std.proofs.Common.{◌≡◌, ℕ, suc, ◌+◌, ◌-◌, ◌<◌, ◌≤◌, Bool, List, [], ◌∷◌, ◌++◌, length, get_or, drop, true, false, Result, Ok, Err, refl, sym, ap, ◌∙◌, append_assoc, arith}
+use Rattle.std.proofs.lemmas.List.{append-nil, drop_more, drop_all}
 use Rattle.ps_certificate.specs.Faults.{CertFault}
 use Rattle.ps_text.specs.declared.faults.Fault.TheVariants.{Text, OutOfMemory}
 use Rattle.ps_certificate.specs.Places.{Place}
 use Rattle.ps_certificate.specs.declared.fault.CertCause.TheVariants.{OtherGame}
-use Rattle.ps_certificate.specs.Reading.{Fault, ◌>>=◌, Fails, KnownData, comes, byte_at, number_at, exactly_at, priorities_at, counts_at, entries_at, entry_at, value_from, numeral, numeral_value}
+use Rattle.ps_certificate.specs.Reading.{Fault, ◌>>=◌, Fails, KnownData, comes, byte_at, number_at, exactly_at, priorities_at, counts_at, entries_at, entry_at}
 
 -- what was read before, and what is still read
 abbrev pub with_front : {A : Type 0} → List A → Result (List A × Place) Fault → Result (List A × Place) Fault
@@ -89,50 +83,3 @@ entry_next compact known ids i place lt = rw (drop_more ids i 0 lt) refl
 pub no_entry_left : (compact : Bool) (known : KnownData) (ids : List ℕ) (i : ℕ) (place : Place) → length ids ≤ i → entries_at compact known (drop i ids) place ≡ Ok ([], place)
 unfolding entries_at
 no_entry_left compact known ids i place le = rw (drop_all i ids le) refl
-
--- ---- the number of a run of digits
-
-pub value_from-ge : (n : ℕ) (digits : List ℕ) → n ≤ value_from n digits
-value_from-ge n [] = omega arith
-value_from-ge n (d ∷ digits) = omega (arith, value_from-ge (n * 10 + (d - 48)) digits)
-
--- one digit more
-pub value_next : (n : ℕ) (digits : List ℕ) (i : ℕ) → i < length digits → value_from n (drop i digits) ≡ value_from (n * 10 + (get_or digits i 0 - 48)) (drop (i + 1) digits)
-value_next n digits i lt = rw (drop_more digits i 0 lt) refl
-
-pub value_is_none : (digits : List ℕ) → 2 ^ 64 ≤ value_from 0 digits → numeral_value digits ≡ None
-value_is_none [] le = refl
-value_is_none (d ∷ digits) le = let e : nat_lt (value_from 0 (d ∷ digits)) (2 ^ 64) ≡ false = le-ltb _ _ le in rw e refl
-
-pub value_is_some : (digits : List ℕ) → 0 < length digits → value_from 0 digits < 2 ^ 64 → numeral_value digits ≡ Some (value_from 0 digits)
-value_is_some [] long lt = absurd (omega arith)
-value_is_some (d ∷ digits) long lt = let e : nat_lt (value_from 0 (d ∷ digits)) (2 ^ 64) ≡ true = lt-ltb _ _ lt in rw e refl
-
-pub overflows : (digits : List ℕ) (v i : ℕ) → i < length digits → value_from v (drop i digits) ≡ value_from 0 digits → 2 ^ 64 ≤ v * 10 + (get_or digits i 0 - 48) → numeral_value digits ≡ None
-overflows digits v i lt same le =
-    value_is_none digits (omega (arith, value_next v digits i lt, same, value_from-ge (v * 10 + (get_or digits i 0 - 48)) (drop (i + 1) digits)))
-
-pub value_is_whole : (digits : List ℕ) (v i : ℕ) → length digits ≤ i → value_from v (drop i digits) ≡ value_from 0 digits → v ≡ value_from 0 digits
-value_is_whole digits v i le same = sym (at_drop_all (value_from v) digits i le) ∙ same
-
-pub not_empty : (digits : List ℕ) → false ≡ (length digits == 0) → 0 < length digits
-not_empty [] e = absurd cc
-not_empty (d ∷ digits) e = omega arith
-
-digit_low : (b : ℕ) → is_ascii_digit b ≡ true → 48 ≤ b
-digit_low b so = grind arith
-
--- each digit of a numeral is one
-pub digits-take_while : (bytes : List ℕ) → All (λ d. 48 ≤ d) (take_while is_ascii_digit bytes)
-digits-take_while [] = All-nil (λ d. 48 ≤ d)
-digits-take_while (b ∷ bytes) = rw take_while-cons
-    (elim (cases_Bool (is_ascii_digit b)) [
-      | inl so ↦ rw so (All-cons (λ d. 48 ≤ d) b (take_while is_ascii_digit bytes) (digit_low b so) (digits-take_while bytes))
-      | inr other ↦ rw other (All-nil (λ d. 48 ≤ d))
-    ])
-
-pub numeral_digits : (bytes : List ℕ) → All (λ d. 48 ≤ d) (numeral bytes)
-numeral_digits bytes = elim (cases_Bool (comes 48 bytes)) [
-  | inl so ↦ rw so (All-cons (λ d. 48 ≤ d) 48 [] (omega arith) (All-nil (λ d. 48 ≤ d)))
-  | inr other ↦ rw other (digits-take_while bytes)
-]

@@ -1,13 +1,13 @@
 //! A place in the text of a certificate, and the fields that are read from there on.
 
-ghost use Rattle.std.specs.Prelude.{◌≡◌, ◌==◌, ◌≤◌, [], true, false, length, All, take_while};
+ghost use Rattle.std.specs.Prelude.{◌≡◌, ◌==◌, ◌≤◌, [], true, false, length, IfNone, IfSome, None, Some};
 ghost use Rattle.ps_text.specs.declared.faults.Fault.TheVariants as faults;
-ghost use Rattle.std.specs.Char.{is_ascii_digit};
 ghost use Rattle.ps_certificate.specs.Known.{find_in};
-ghost use Rattle.ps_certificate.specs.Reading.{Gives, Moves, byte_at, word_at, number_at, field_at, exactly_at, priorities_at, two_at, winner_at, choice_at, counts_at, comes, numeral, numeral_value, behind};
+ghost use Rattle.ps_certificate.specs.Reading.{Gives, Moves, byte_at, word_at, number_at, field_at, exactly_at, priorities_at, two_at, winner_at, choice_at, counts_at, comes, numeral, numeral_value};
 
 use crate::fault::{CertCause, CertFault};
 use ps_ids::Ids;
+use ps_text::numbers::{LeadingNumber, leading_number};
 use std::alloc::Global;
 use std::marker::Model;
 
@@ -89,31 +89,35 @@ impl<'a> Cursor<'a> {
         Ok(())
     }
 
-    /// The longest run of digits without a leading zero that comes next, and goes behind it.
-    fn numeral(&mut self) -> &'a [u8]
-        ensures digits { result.now ≡ numeral self.old.rest }
-        ensures rest { self.new ≡ behind (numeral self.old.rest) self.old }
-    {
-        let count = if self.comes(b'0') {
-            1
-        } else {
-            digits_ahead(self.rest)
-        };
-        let (digits, rest) = self.rest.split_at(count);
-        self.rest = rest;
-        self.at += count;
-        digits
-    }
-
     /// The number that comes next: 0, or digits that don't begin with it.
     #[tactic(auto, unfolding(crate::specs::Reading::number_at))]
     pub(crate) fn number(&mut self) -> Result<u64, CertFault>
         ensures { Gives (λ n. n) result self.new (number_at self.old) }
     {
-        let refused = self.fault(CertCause::Syntax);
-        match value_of(self.numeral()) {
-            Some(number) => Ok(number),
-            None => Err(refused),
+        let Some(number) = self.number_ahead() else {
+            return Err(self.fault(CertCause::Syntax));
+        };
+        self.rest = &self.rest[number.digits..];
+        self.at += number.digits;
+        Ok(number.value)
+    }
+
+    /// The number that comes next, and how many digits it has.
+    fn number_ahead(&self) -> Option<LeadingNumber>
+        ensures value { IfSome result (λ number. numeral_value (numeral self.now.rest) ≡ Some number.value) }
+        ensures digits { IfSome result (λ number. number.digits ≡ length (numeral self.now.rest)) }
+        ensures within { IfSome result (λ number. number.digits ≤ length self.now.rest) }
+        ensures none { IfNone result (numeral_value (numeral self.now.rest) ≡ None) }
+    {
+        if self.comes(b'0') {
+            return Some(LeadingNumber {
+                value: 0,
+                digits: 1,
+            });
+        }
+        match leading_number(self.rest) {
+            Some(number) if number.digits > 0 => Some(number),
+            _ => None,
         }
     }
 
@@ -227,31 +231,4 @@ impl<'a> Cursor<'a> {
         }
         Ok(counts)
     }
-}
-
-/// How many digits the bytes begin with.
-fn digits_ahead(bytes: &[u8]) -> usize
-    ensures count { result ≡ length (take_while is_ascii_digit bytes.now) }
-    ensures within { result ≤ length bytes.now }
-{
-    bytes
-        .iter()
-        .take_while(|byte| byte.is_ascii_digit())
-        .count()
-}
-
-/// The number that the digits write, if there are digits and a `u64` holds it.
-fn value_of(digits: &[u8]) -> Option<u64>
-    requires { All (λ digit. 48 ≤ digit) digits.now }
-    ensures { result ≡ numeral_value digits.now }
-{
-    if digits.is_empty() {
-        return None;
-    }
-    let mut value: u64 = 0;
-    for digit in digits {
-        let shifted = value.checked_mul(10)?;
-        value = shifted.checked_add(u64::from(digit - b'0'))?;
-    }
-    Some(value)
 }

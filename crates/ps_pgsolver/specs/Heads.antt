@@ -1,10 +1,11 @@
 -- What a token of the code stands for.
-use Rattle.std.specs.Prelude.{◌≡◌, ◌≤◌, ℕ, Bool, true, false, List, Option, None, Some, length}
+use Rattle.std.specs.Prelude.{◌≡◌, ◌<◌, ◌≤◌, ℕ, Bool, true, false, List, Option, None, Some, length}
 use Rattle.std.specs.List.{AllPass}
 use Rattle.ps_text.specs.Answers.{Stream, next_of, offset_of}
 use Rattle.ps_text.specs.Readers.{tail}
 use Rattle.ps_text.specs.Digits.{decimal_value}
-use Rattle.ps_pgsolver.specs.Bytes.{is_digit, is_inner}
+use Rattle.ps_pgsolver.specs.Bytes.{is_inner}
+use Rattle.ps_pgsolver.specs.GameTexts.{too_large}
 use Rattle.ps_pgsolver.specs.Lexer.{stream_from}
 use Rattle.ps_pgsolver.specs.Signs.{Sign, Number, Word, Name, Comma, Semicolon, OpenName, Wrong}
 use Rattle.ps_pgsolver.specs.declared.token.Kind.{Kind}
@@ -13,7 +14,8 @@ use Rattle.ps_pgsolver.specs.declared.token.Token.{Token}
 
 -- the sign of a token, or none at the end
 abbrev pub sign_of : Kind → Option Sign
-sign_of (kinds.Number digits) = Some (Number (decimal_value digits.now))
+sign_of (kinds.Number value) = Some (Number value)
+sign_of (kinds.LargeNumber digits) = Some (Number (decimal_value digits.now))
 sign_of (kinds.Word letters) = Some (Word letters.now)
 sign_of (kinds.Name inner) = Some (Name inner.now)
 sign_of kinds.Comma = Some Comma
@@ -39,9 +41,10 @@ abbrev pub name_of : Option Sign → Option (List ℕ)
 name_of (Some (Name inner)) = Some inner
 name_of _ = None
 
--- a number has digits alone, and a name has no quote
+-- a number is held by a word, or too large, and a name has no quote
 abbrev pub IsPlain : Kind → Type 0
-IsPlain (kinds.Number digits) = AllPass is_digit digits.now
+IsPlain (kinds.Number value) = value < too_large
+IsPlain (kinds.LargeNumber digits) = too_large ≤ decimal_value digits.now
 IsPlain (kinds.Name inner) = AllPass is_inner inner.now
 IsPlain _ = Unit {0}
 

@@ -1,15 +1,13 @@
 //! The reading of a game text.
 
-ghost use Rattle.std.specs.Prelude.{◌≡◌, ◌≤◌, ◌<◌, Some, None, Ok, IfOk, option_copied, nat_lt, if◌then◌else◌, IfErr, length};
+ghost use Rattle.std.specs.Prelude.{◌≡◌, ◌≤◌, ◌<◌, Some, None, Ok, IfOk, option_copied, IfErr, length};
 ghost use Rattle.ps_text.specs.declared.faults.Fault.TheVariants as faults;
-ghost use Rattle.std.specs.List.{AllPass, Contains};
+ghost use Rattle.std.specs.List.{Contains};
 ghost use Rattle.smallvec.specs.SmallVec.{small_vec_len};
 ghost use Rattle.ps_text.specs.Answers.{next_of, offset_of};
 ghost use Rattle.ps_game.specs.Games.{HasNoQuote};
 ghost use Rattle.ps_game.specs.Names.{name_bytes};
-ghost use Rattle.ps_text.specs.Digits.{decimal_value};
 ghost use Rattle.ps_pgsolver.specs.Answered.{Reads, ReadsKnown, AddsKnown, TextAnswers, FaultAnswers, KnownAnswers, found_of, number_answer, id_answer, owner_answer, successor_answer, first_answer, comma_answer, semicolon_answer, end_answer};
-ghost use Rattle.ps_pgsolver.specs.Bytes.{is_digit};
 ghost use Rattle.ps_pgsolver.specs.GameTexts as parts;
 ghost use Rattle.ps_pgsolver.specs.Causes.{StandsWithin};
 ghost use Rattle.ps_pgsolver.specs.Heads.{IsPlain, sign_of};
@@ -341,29 +339,14 @@ fn semicolon_of(token: Token) -> Result<(), PgFault>
 }
 
 /// The number that a token is.
+#[tactic(auto, using(crate::proofs::ValueLemmas::number_small, crate::proofs::ValueLemmas::number_large))]
 fn number_of(token: Token) -> Result<u64, PgFault>
     requires { IsPlain token.kind }
     ensures { result ≡ number_answer (sign_of token.entry.kind) token.entry.start }
 {
-    let Kind::Number(digits) = token.kind else {
-        return Err(fault(PgCause::Syntax, token));
-    };
-    match value(digits) {
-        Some(value) => Ok(value),
-        None => Err(fault(PgCause::Number, token)),
+    match token.kind {
+        Kind::Number(value) => Ok(value),
+        Kind::LargeNumber(_) => Err(fault(PgCause::Number, token)),
+        _ => Err(fault(PgCause::Syntax, token)),
     }
-}
-
-/// The value of a run of digits, if it is below 2 to the 64.
-fn value(digits: &[u8]) -> Option<u64>
-    requires { AllPass is_digit digits.now }
-    ensures { result ≡ (if nat_lt (decimal_value digits.now) parts.too_large then Some (decimal_value digits.now) else None) }
-{
-    let mut value = 0u64;
-    for digit in digits {
-        value = value
-            .checked_mul(10)?
-            .checked_add(u64::from(*digit - b'0'))?;
-    }
-    Some(value)
 }

@@ -1,14 +1,16 @@
 //! Tokens of game texts.
 
-ghost use Rattle.std.specs.Prelude.{◌≡◌, ◌+◌, ◌≤◌, ◌<◌, ◌^◌, [], length, take, drop};
+ghost use Rattle.std.specs.Prelude.{◌≡◌, ◌+◌, ◌≤◌, ◌<◌, ◌^◌, [], length, take, take_while, drop, Some};
 ghost use Rattle.std.specs.List.{prefix_len, AllPass};
 ghost use Rattle.ps_pgsolver.specs.Bytes.{is_blank, is_digit, is_letter, ends_in};
 ghost use Rattle.ps_pgsolver.specs.Classes.{in_class};
 ghost use Rattle.ps_text.specs.Answers.{Stream};
-ghost use Rattle.ps_pgsolver.specs.Signs.{Sign};
+ghost use Rattle.ps_text.specs.Digits.{decimal_value};
+ghost use Rattle.ps_pgsolver.specs.Signs.{Sign, Number};
 ghost use Rattle.ps_pgsolver.specs.Heads.{sign_of, IsPlain, IsAhead};
 ghost use Rattle.ps_pgsolver.specs.Lexer.{stream_of, stream_from, first_sign, first_size, number_sign, word_sign, name_sign, name_size, mark_sign};
 
+use ps_text::numbers::leading_number;
 use std::marker::Model;
 
 /// A class of bytes.
@@ -46,7 +48,10 @@ pub fn run_length(text: &[u8], class: Class) -> usize
 /// What a token is, with its bytes.
 #[derive(Clone, Copy)]
 pub enum Kind<'a> {
-    Number(&'a [u8]),
+    /// A number, by its value.
+    Number(u64),
+    /// The digits of a number that no `u64` holds.
+    LargeNumber(&'a [u8]),
     Word(&'a [u8]),
     /// A name, without its quotes.
     Name(&'a [u8]),
@@ -83,7 +88,7 @@ impl<'a> Model for Tokens<'a> {
 }
 
 impl<'a> Tokens<'a> {
-    ghost use Rattle.std.specs.Prelude.{◌↔◌, IsTrue, IfSome, Some, option_copied};
+    ghost use Rattle.std.specs.Prelude.{◌↔◌, IsTrue, IfSome, option_copied};
     ghost use Rattle.ps_text.specs.Answers.{next_of};
     ghost use Rattle.ps_text.specs.Readers.{tail};
     ghost use Rattle.ps_pgsolver.specs.Heads.{IsHead, is_number, is_comma, name_of};
@@ -131,6 +136,7 @@ impl<'a> Tokens<'a> {
     {
         match self.peek().kind {
             Kind::Number(_) => true,
+            Kind::LargeNumber(_) => true,
             _ => false,
         }
     }
@@ -217,13 +223,28 @@ fn number_at<'a>(before: &[u8], rest: &'a [u8]) -> (Kind<'a>, usize)
     ensures plain { IsPlain result.0 }
     ensures within { result.1 ≤ length rest.now }
 {
-    let size = run_length(rest, Class::Digit);
-    let kind = if ends_in_class(before, Class::Letter) {
-        Kind::Wrong
+    let (kind, size) = digits_at(rest);
+    if ends_in_class(before, Class::Letter) {
+        (Kind::Wrong, size)
     } else {
-        Kind::Number(&rest[..size])
-    };
-    (kind, size)
+        (kind, size)
+    }
+}
+
+/// The number that a run of digits writes, and how many bytes it has.
+fn digits_at<'a>(rest: &'a [u8]) -> (Kind<'a>, usize)
+    ensures sign { sign_of result.0 ≡ Some (Number (decimal_value (take_while is_digit rest.now))) }
+    ensures size { result.1 ≡ prefix_len is_digit rest.now }
+    ensures plain { IsPlain result.0 }
+    ensures within { result.1 ≤ length rest.now }
+{
+    match leading_number(rest) {
+        Some(number) => (Kind::Number(number.value), number.digits),
+        None => {
+            let size = run_length(rest, Class::Digit);
+            (Kind::LargeNumber(&rest[..size]), size)
+        }
+    }
 }
 
 /// A run of letters, and how many bytes it has.

@@ -11,3 +11,4 @@ pub mod Whole
 pub mod Branches
 pub mod Barred
 pub mod OneTokenisation
+pub mod LeadingDigits

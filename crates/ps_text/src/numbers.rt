@@ -1,6 +1,9 @@
 //! Numbers in decimal.
 
-ghost use Rattle.std.specs.Prelude.{◌≡◌, ◌++◌, decimal, OnOk};
+ghost use Rattle.std.specs.Prelude.{◌≡◌, ◌++◌, ◌^◌, ◌≤◌, decimal, length, take_while, IfNone, IfSome, OnOk};
+ghost use Rattle.std.specs.Char.{is_ascii_digit};
+ghost use Rattle.std.specs.List.{prefix_len};
+ghost use Rattle.ps_text.specs.Digits.{decimal_value};
 
 use itoa::Buffer;
 use std::alloc::AllocError;
@@ -15,4 +18,30 @@ pub fn write_number(out: &mut Vec<u8>, number: u64) -> Result<(), AllocError>
     }
     let mut buffer = Buffer::new();
     out.extend_from_slice(buffer.format(number).as_bytes())
+}
+
+/// The number that the first digits of a text write.
+#[derive(Clone, Copy)]
+pub struct LeadingNumber {
+    /// The number, which is 0 where there are no digits.
+    pub value: u64,
+    /// How many digits there are.
+    pub digits: usize,
+}
+
+/// The number that the digits write with which a text begins, leading zeros and all; none where a `u64` does not hold it.
+pub fn leading_number(text: &[u8]) -> Option<LeadingNumber>
+    ensures value { IfSome result (λ number. number.value ≡ decimal_value (take_while is_ascii_digit text.now)) }
+    ensures digits { IfSome result (λ number. number.digits ≡ prefix_len is_ascii_digit text.now) }
+    ensures within { IfSome result (λ number. number.digits ≤ length text.now) }
+    ensures none { IfNone result (2 ^ 64 ≤ decimal_value (take_while is_ascii_digit text.now)) }
+{
+    let mut value: u64 = 0;
+    let mut digits = 0;
+    while digits < text.len() && text[digits].is_ascii_digit() {
+        let shifted = value.checked_mul(10)?;
+        value = shifted.checked_add(u64::from(text[digits] - b'0'))?;
+        digits += 1;
+    }
+    Some(LeadingNumber { value, digits })
 }
