@@ -32,7 +32,7 @@ pub(crate) const EDGE_LIMIT: usize = 1_048_576;
 const STATE_LIMIT: u32 = 65_535;
 
 /// How the edges of a state are labelled.
-#[derive(Clone, Copy, Debug, PartialEq, Eq)]
+#[derive(Clone, Copy)]
 pub(crate) enum Labelling {
     /// By the state's label.
     ByState,

@@ -93,19 +93,10 @@ fn speaks_beyond(count: usize, label: &Label) -> bool
     ensures { (result ≡ true) ↔ parts.SpeaksBeyond count (expression label.now) }
 {
     match label {
-        Label::Truth(_) => false,
+        Label::Truth(_) | Label::Named(_) => false,
         Label::Atom(proposition) => count <= *proposition as usize,
-        Label::Named(_) => false,
         Label::Neg(operand) => speaks_beyond(count, operand),
-        Label::Both(operands) => {
-            for operand in operands {
-                if speaks_beyond(count, operand) {
-                    return true;
-                }
-            }
-            false
-        }
-        Label::Either(operands) => {
+        Label::Both(operands) | Label::Either(operands) => {
             for operand in operands {
                 if speaks_beyond(count, operand) {
                     return true;
@@ -131,19 +122,9 @@ fn names_set_beyond(count: u32, condition: &Cond) -> bool
     ensures { (result ≡ true) ↔ parts.NamesSetBeyond count (condition_of condition.now) }
 {
     match condition {
-        Cond::Always => false,
-        Cond::Never => false,
-        Cond::Inf(set, _) => count <= *set,
-        Cond::Fin(set, _) => count <= *set,
-        Cond::All(operands) => {
-            for operand in operands {
-                if names_set_beyond(count, operand) {
-                    return true;
-                }
-            }
-            false
-        }
-        Cond::Any(operands) => {
+        Cond::Always | Cond::Never => false,
+        Cond::Inf(set, _) | Cond::Fin(set, _) => count <= *set,
+        Cond::All(operands) | Cond::Any(operands) => {
             for operand in operands {
                 if names_set_beyond(count, operand) {
                     return true;
