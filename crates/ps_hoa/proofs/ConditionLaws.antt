@@ -9,12 +9,12 @@ use Rattle.ps_text.proofs.Simple.{Taken, BadSign, none_is_some, laws_one, laws_t
 use Rattle.ps_text.proofs.Covered.{laws_either}
 use Rattle.ps_hoa.specs.Tokens.{Sign}
 use Rattle.ps_hoa.specs.Operands.{is_not, is_left, is_right, mark}
-use Rattle.ps_hoa.specs.Conditions.{SetData, Condition, constant_of, constant_value, constant_in, often_value, often_in, visits, set_value, set_in, IsBadSet, BadSet, set, any_set, closed_set, often_or_not, visit, IsBadStart, BadStart, atom, all_together, any_together, operand, condition}
+use Rattle.ps_hoa.specs.Conditions.{SetData, Condition, constant_of, constant_value, constant_in, often_value, often_in, visits, set_value, set_in, IsBadSet, BadSet, set, any_set, closed_set, often_or_not, visit, IsBadStart, BadStart, atom, together, operand, condition}
 use Rattle.ps_hoa.specs.declared.fault.HoaCause.{HoaCause}
 use Rattle.ps_hoa.specs.declared.tokens.Kind.{Kind}
 use Rattle.ps_hoa.specs.declared.tokens.Kind.TheVariants.{Word, Int, Not, LeftParen}
 use Rattle.ps_hoa.proofs.OperandLaws.{Odd, Of, false_true, nothing_apart, plain_odd, only_first, laws_behind, laws_closed}
-use Rattle.ps_hoa.proofs.LabelLaws.{is_start, plain_start, laws_not, laws_left, laws_right, AndOrMore, laws_either_row, laws_nested, no_more, no_null}
+use Rattle.ps_hoa.proofs.LabelLaws.{is_start, plain_start, laws_not, laws_left, laws_right, AndOrMore, laws_rows, laws_nested, no_more, no_null}
 
 abbrev pub is_word : Kind → Bool
 is_word Word = true
@@ -185,11 +185,11 @@ first_operand t (inr h) = left_start t.kind h
 pub laws_operand : (room : ℕ) → Laws Odd (operand room) (Of is_start) Nothing ⊥
 unfolding operand
 laws_operand zero = weaker (laws_atom 0) (first_atom 0) (λ t h. h) (λ h. h)
-laws_operand (suc room) = weaker (laws_either (laws_word room) (laws_nested (operand room) all_together any_together (laws_operand room)) word_left (λ h k. h))
+laws_operand (suc room) = weaker (laws_either (laws_word room) (laws_nested (operand room) together (laws_operand room)) word_left (λ h k. h))
     first_operand (no_more (Of is_left) (Of is_word)) no_null
 
 pub laws_condition : (room : ℕ) → Laws Odd (condition room) (Of is_start) AndOrMore ⊥
-laws_condition room = laws_either_row (operand room) all_together any_together (laws_operand room)
+laws_condition room = laws_rows (operand room) together (laws_operand room)
 
 pub one_condition : (room : ℕ) (text : List Sign) (v w : Condition) → (condition room).IsText text v → (condition room).IsText text w → v ≡ w
 one_condition room = (laws_condition room).one_value

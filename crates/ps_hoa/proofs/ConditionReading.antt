@@ -1,5 +1,5 @@
--- How acceptance conditions are read: the rows of their operands, the forms of an operand, and sets.
-use Rattle.std.proofs.Common.{◌≡◌, ℕ, zero, suc, ◌-◌, ◌<◌, Bool, true, false, List, [], ◌∷◌, codes, Option, None, Some, Result, Ok, refl, sym, subst, ◌∙◌, ap, arith}
+-- How acceptance conditions are read: the forms of an operand, and sets.
+use Rattle.std.proofs.Common.{◌≡◌, ℕ, zero, suc, ◌<◌, Bool, true, false, List, [], ◌∷◌, codes, Option, None, Some, Result, Ok, refl, sym, ◌∙◌, ap, arith}
 use Rattle.ps_text.specs.Answers.{Piece, first_of, Stream, Found, signs, next_of as there_of}
 use Rattle.ps_text.specs.Parts.{NoBad, one, then_by}
 use Rattle.ps_text.specs.Readers.{Stops, Reads, Meets}
@@ -9,35 +9,20 @@ use Rattle.ps_text.proofs.Covered.{Avoids, enters_read, enters_then}
 use Rattle.ps_text.proofs.Exits.{reads_then, reads_mapped, stops_first, stops_behind, stops_mapped, then_meets}
 use Rattle.ps_text.proofs.Branches.{Stands, reads_as, stops_as_well, meets_as, left_entered, right_entered, left_otherwise, right_otherwise}
 use Rattle.ps_hoa.specs.Causes.{hoa_causes, found_of}
-use Rattle.ps_hoa.specs.Conditions.{SetData, Condition, constant_in, often_in, visits, set_in, BadSet, set, any_set, closed_set, often_or_not, visit, BadStart, atom, all_together, any_together, conjunction, disjunction, operand, condition}
-use Rattle.ps_hoa.specs.Operands.{is_not, is_and, is_or, is_left, is_right, mark, inner, before}
+use Rattle.ps_hoa.specs.Conditions.{SetData, Condition, constant_in, often_in, visits, set_in, BadSet, set, any_set, closed_set, often_or_not, visit, BadStart, atom, together, operand}
+use Rattle.ps_hoa.specs.Operands.{is_not, is_left, is_right, mark, inner, rows, before}
 use Rattle.ps_hoa.specs.Scan.{next_of, behind_next}
 use Rattle.ps_hoa.specs.Tokens.{Sign}
+use Rattle.ps_hoa.specs.declared.connective.Connective.TheVariants as connectives
 use Rattle.ps_hoa.specs.declared.fault.HoaCause.{HoaCause}
 use Rattle.ps_hoa.specs.Causes.{HoaFault}
-use Rattle.ps_hoa.specs.declared.tokens.Kind.TheVariants.{Word, Int, Not, And, Or as OrSign, LeftParen}
-use Rattle.ps_hoa.proofs.OperandLaws.{Odd, Of, nothing_apart, joint_mark}
-use Rattle.ps_hoa.proofs.LabelLaws.{is_start, AndMore, AndOrMore, laws_not, laws_and, laws_or, laws_left, laws_both, laws_either_row, laws_nested, apart_or, apart_right}
+use Rattle.ps_hoa.specs.declared.tokens.Kind.TheVariants.{Word, Int, Not, LeftParen}
+use Rattle.ps_hoa.proofs.OperandLaws.{Odd, Of, joint_mark}
+use Rattle.ps_hoa.proofs.LabelLaws.{laws_not, laws_left, laws_rows, laws_nested, apart_right}
 use Rattle.ps_hoa.proofs.ConditionLaws.{laws_set, laws_complement, not_int, laws_often, laws_closed_set, joint_closed_set, behind_often, joint_visit, laws_visit, laws_constant, atom_often, laws_word, word_left, laws_operand}
 use Rattle.ps_hoa.proofs.SingleSigns.{IsOfSigns, reads_one}
-use Rattle.ps_hoa.proofs.MarkReading.{tests_not, tests_and, tests_or, tests_left, mark_read, mark_elsewhere, mark_enters, enters_inner, inner_reads, inner_fails, inner_stays_open}
-use Rattle.ps_hoa.proofs.RowReading.{Row}
-
-pub and_row : (room : ℕ) → Row is_and And (operand room) (Of is_start) Nothing
-and_row room = record {
-  tests = tests_and;
-  mark_laws = laws_and;
-  laws = laws_operand room;
-  apart = nothing_apart (Of is_and);
-}
-
-pub or_row : (room : ℕ) → Row is_or OrSign (conjunction (operand room)) (Of is_start) AndMore
-or_row room = record {
-  tests = tests_or;
-  mark_laws = laws_or;
-  laws = laws_both (operand room) all_together any_together (laws_operand room);
-  apart = apart_or;
-}
+use Rattle.ps_hoa.proofs.MarkReading.{tests_not, tests_left, mark_read, mark_elsewhere, mark_enters, enters_inner}
+use Rattle.ps_hoa.proofs.OperandReading.{Operands}
 
 pub constant_signs : (room : ℕ) → IsOfSigns constant_in (BadStart room)
 constant_signs room = record { sign = record { kind = Word; text = codes "t" }; value = _; taken = refl; end = refl; good = λ f b. b }
@@ -51,38 +36,19 @@ often_signs = record { sign = record { kind = Word; text = codes "Inf" }; value 
 -- ## Operands in parentheses
 
 module _ (room : ℕ) where
-  laws_row_under : Laws Odd (disjunction (operand room)) (Of is_start) AndOrMore ⊥
-  laws_row_under = laws_either_row (operand room) all_together any_together (laws_operand room)
+  laws_held_under : Laws Odd (inner (rows together connectives.Or (operand room))) (Of is_left) Nothing ⊥
+  laws_held_under = laws_nested (operand room) together (laws_operand room)
 
-  laws_held_under : Laws Odd (inner (disjunction (operand room))) (Of is_left) Nothing ⊥
-  laws_held_under = laws_nested (operand room) all_together any_together (laws_operand room)
-
-  stands_paren : {old mid : Stream Sign} → Reads (mark is_left) old tt mid → Stands (there_of old) (inner (disjunction (operand room))) (operand (suc room))
+  stands_paren : {old mid : Stream Sign} → Reads (mark is_left) old tt mid → Stands (there_of old) (inner (rows together connectives.Or (operand room))) (operand (suc room))
   unfolding operand
-  stands_paren {old} r = right_entered (laws_word room) laws_held_under (there_of old) word_left (enters_inner laws_row_under apart_right r)
+  stands_paren {old} r = right_entered (laws_word room) laws_held_under (there_of old) word_left (enters_inner (laws_rows (operand room) together (laws_operand room)) apart_right r)
 
   stands_atom : (old : Stream Sign) → Avoids (Of is_left) (there_of old) → Stands (there_of old) (atom (suc room)) (operand (suc room))
   unfolding operand
   stands_atom old a = left_otherwise (laws_word room) laws_held_under (there_of old) a (λ h. h)
 
-module _ (room : ℕ) (some : 0 < room) where
-  one_less : suc (room - 1) ≡ room
-  one_less = omega (arith, some)
-
-  pub paren_reads : {old mid next new : Stream Sign} {v : Condition} → (next_of old).sign.kind ≡ LeftParen → mid ≡ behind_next old → Reads (condition (room - 1)) mid v next →
-      Reads (mark is_right) next tt new → Reads (operand room) old v new
-  paren_reads {old} {new = new} {v = v} e n m q = let r = mark_read tests_left e n in
-      subst (λ k. Reads (operand k) old v new) one_less (reads_as (stands_paren (room - 1) r) (inner_reads (laws_row_under (room - 1)) apart_right r m q))
-
-  pub paren_fails : (old : Stream Sign) {mid : Stream Sign} (o : Option (Found HoaCause)) → (next_of old).sign.kind ≡ LeftParen → mid ≡ behind_next old → Stops hoa_causes (condition (room - 1)) mid o →
-      Stops hoa_causes (operand room) old o
-  paren_fails old o e n s = let r = mark_read tests_left e n in
-      subst (λ k. Stops hoa_causes (operand k) old o) one_less (stops_as_well hoa_causes old o (stands_paren (room - 1) r) (inner_fails (laws_row_under (room - 1)) apart_right o r s))
-
-  pub paren_stays_open : (old : Stream Sign) {mid next : Stream Sign} {v : Condition} (o : Option (Found HoaCause)) → (next_of old).sign.kind ≡ LeftParen → mid ≡ behind_next old →
-      Reads (condition (room - 1)) mid v next → Stops hoa_causes (mark is_right) next o → Stops hoa_causes (operand room) old o
-  paren_stays_open old o e n m s = let r = mark_read tests_left e n in
-      subst (λ k. Stops hoa_causes (operand k) old o) one_less (stops_as_well hoa_causes old o (stands_paren (room - 1) r) (inner_stays_open (laws_row_under (room - 1)) apart_right o r m s))
+pub condition_operands : Operands together operand
+condition_operands = record { laws = laws_operand; stands = stands_paren }
 
 -- no `(` stands there, or no more may nest
 pub atom_stands : {X : Type 0} (view : X → Condition) (room : ℕ) (old new : Stream Sign) (result : Result X HoaFault) →

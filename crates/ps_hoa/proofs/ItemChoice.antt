@@ -1,8 +1,8 @@
 -- Which item stands by its name.
 --     stands_states, .., stands_other      at its name, an item is read in place of any item
 --     enters_item      at the name of an item, an item is entered
-use Rattle.std.proofs.Common.{ℕ, List, [], codes, Option, None, Some, refl, subst, inl, inr}
-use Rattle.ps_text.specs.Parts.{Part, IsBroken, StopsAt, NoCauseAt, NoBad, then_by, either}
+use Rattle.std.proofs.Common.{ℕ, List, codes, Some, subst, inl, inr}
+use Rattle.ps_text.specs.Parts.{Part, NoBad, then_by, either}
 use Rattle.ps_text.proofs.Laws.{Laws, Joint, Apart}
 use Rattle.ps_text.proofs.Simple.{same_some}
 use Rattle.ps_text.proofs.Covered.{Avoids, Enters, enters_one, enters_then}
@@ -11,38 +11,11 @@ use Rattle.ps_hoa.specs.Tokens.{Sign}
 use Rattle.ps_hoa.specs.Header.{HeaderData, name_value, item_name, states_item, IsSecondStart, start_item, names_item, alias_item, acceptance_item, controllable_item, tool_item, name_item, other_value, other_item, item}
 use Rattle.ps_hoa.specs.declared.fault.HoaCause.{HoaCause}
 use Rattle.ps_hoa.proofs.OperandLaws.{Odd}
+use Rattle.ps_hoa.proofs.OperandReading.{stands_within}
 use Rattle.ps_hoa.proofs.SignLaws.{Named, Other, FirstOf}
 use Rattle.ps_hoa.proofs.HeaderLaws.{ItemMore, laws_states, joint_states, start_name, laws_start, joint_start, laws_names, joint_names, laws_alias, joint_alias, laws_acceptance, joint_acceptance, laws_controllable, joint_controllable, laws_tool, joint_tool, laws_name_item, joint_name_item, other_name, laws_other, joint_other, behind_tool, behind_controllable, behind_acceptance, behind_alias, behind_names, behind_start, behind_states, ItemFirst, from_name, from_tool, from_controllable, from_acceptance, from_alias, from_names, from_start, name_apart, tool_apart, controllable_apart, acceptance_apart, alias_apart, names_apart_rest, start_apart, states_apart, laws_from_name, laws_from_tool, laws_from_controllable, laws_from_acceptance, laws_from_alias, laws_from_names, laws_from_start}
 
 -- ## Which item stands
-
-broken_within : {V : Type 0} {P Q : Part Sign V HoaCause} (there : Option Sign) → Stands there P Q → IsBroken P [] there → IsBroken Q [] there
-broken_within {P = P} {Q = Q} there s b = record {
-  before = record { more = b.before.more; value = b.before.value; is_text = s.covers.text b.before.more b.before.value b.before.is_text };
-  no_text = s.starts b;
-  stops = stops there s b.stops;
-  no_cause = quiet there s b.no_cause;
-}
-  where
-    stops : (there : Option Sign) → Stands there P Q → StopsAt P [] there → StopsAt Q [] there
-    stops None s k = tt
-    stops (Some u) s k = λ m. k (record { more = m.more; value = m.value; is_text = s.covers.text_back u m.more m.value refl m.is_text })
-
-    quiet : (there : Option Sign) → Stands there P Q → NoCauseAt P [] there → NoCauseAt Q [] there
-    quiet None s k = tt
-    quiet (Some u) s k = λ f c. k f (s.covers.cause_back [] u f refl c)
-
--- what stands for one of two forms stands for the whole
-stands_within : {V : Type 0} {P Q R : Part Sign V HoaCause} (there : Option Sign) → Stands there P Q → Stands there Q R → Stands there P R
-stands_within there s r = record {
-  covers = record {
-    text = λ text v h. r.covers.text text v (s.covers.text text v h);
-    cause = λ front t f c. r.covers.cause front t f (s.covers.cause front t f c);
-    text_back = λ t text v e h. s.covers.text_back t text v e (r.covers.text_back t text v e h);
-    cause_back = λ front t f e c. s.covers.cause_back front t f e (r.covers.cause_back front t f e c);
-  };
-  starts = λ b v h. r.starts (broken_within there s b) v h;
-}
 
 -- the sign begins the first form, or the other one
 avoids : {A B : Sign → Type 0} (t : Sign) → Apart A B → A t → Avoids B (Some t)

@@ -6,8 +6,10 @@ use Rattle.ps_text.proofs.Laws.{Laws, Nothing, Or, When, Within, Apart, weaker}
 use Rattle.ps_text.proofs.Simple.{Taken, BadSign, none_is_some, laws_one, laws_mapped}
 use Rattle.ps_text.proofs.Covered.{laws_either}
 use Rattle.ps_hoa.specs.Tokens.{Sign}
-use Rattle.ps_hoa.specs.Operands.{is_not, is_and, is_or, is_left, is_right, mark, inner, row}
-use Rattle.ps_hoa.specs.Labels.{ScopeData, leaf_value, leaf_in, IsBadLeaf, BadLeaf, leaf, all_together, any_together, disjunction, negation, operand, label}
+use Rattle.ps_hoa.specs.Operands.{is_not, is_and, is_or, is_left, is_right, mark, inner, rows}
+use Rattle.ps_hoa.specs.Labels.{ScopeData, leaf_value, leaf_in, IsBadLeaf, BadLeaf, leaf, together, negation, operand, label}
+use Rattle.ps_hoa.specs.declared.connective.Connective.{Connective}
+use Rattle.ps_hoa.specs.declared.connective.Connective.TheVariants as connectives
 use Rattle.ps_hoa.specs.declared.fault.HoaCause.{HoaCause}
 use Rattle.ps_hoa.specs.declared.tokens.Kind.{Kind}
 use Rattle.ps_hoa.specs.declared.tokens.Kind.TheVariants.{Word, Int, AliasName, Not, And, Or as OrSign, LeftParen, RightParen}
@@ -168,15 +170,15 @@ apart_right t (inl (inl h)) k = h
 apart_right t (inl (inr h)) k = and_right t h k
 apart_right t (inr h) k = or_right t h k
 
-module _ {V : Type 0} {F : Sign → Type 0} (P : Part Sign V HoaCause) (all any : List V → V) (l : Laws Odd P F Nothing ⊥) where
-  pub laws_both : Laws Odd (row is_and all P) F AndMore ⊥
-  laws_both = laws_row is_and P laws_and l (nothing_apart (Of is_and)) all
+module _ {V : Type 0} {F : Sign → Type 0} (P : Part Sign V HoaCause) (together : Connective → List V → V) (l : Laws Odd P F Nothing ⊥) where
+  pub laws_both : Laws Odd (rows together connectives.And P) F AndMore ⊥
+  laws_both = laws_row is_and P laws_and l (nothing_apart (Of is_and)) (together connectives.And)
 
-  pub laws_either_row : Laws Odd (row is_or any (row is_and all P)) F AndOrMore ⊥
-  laws_either_row = laws_row is_or (row is_and all P) laws_or laws_both apart_or any
+  pub laws_rows : Laws Odd (rows together connectives.Or P) F AndOrMore ⊥
+  laws_rows = laws_row is_or (rows together connectives.And P) laws_or laws_both apart_or (together connectives.Or)
 
-  pub laws_nested : Laws Odd (inner (row is_or any (row is_and all P))) (Of is_left) Nothing ⊥
-  laws_nested = laws_behind is_left laws_left (laws_held laws_right laws_either_row apart_right)
+  pub laws_nested : Laws Odd (inner (rows together connectives.Or P)) (Of is_left) Nothing ⊥
+  laws_nested = laws_behind is_left laws_left (laws_held laws_right laws_rows apart_right)
 
 pub laws_negation : {F : Sign → Type 0} (P : Part Sign Expression HoaCause) → Laws Odd P F Nothing ⊥ → Laws Odd (negation P) (Of is_not) Nothing ⊥
 laws_negation P l = laws_behind is_not laws_not (laws_mapped not_of P l)
@@ -205,8 +207,8 @@ no_null (inl h) = h
 no_null (inr h) = h
 
 -- the two forms that nest
-pub laws_deep : {F : Sign → Type 0} (P : Part Sign Expression HoaCause) → Laws Odd P F Nothing ⊥ → Laws Odd (either (negation P) (inner (disjunction P))) (Or (Of is_not) (Of is_left)) Nothing ⊥
-laws_deep P l = weaker (laws_either (laws_negation P l) (laws_nested P all_together any_together l) not_left (λ h k. h)) (λ t h. h) (no_more (Of is_left) (Of is_not)) no_null
+pub laws_deep : {F : Sign → Type 0} (P : Part Sign Expression HoaCause) → Laws Odd P F Nothing ⊥ → Laws Odd (either (negation P) (inner (rows together connectives.Or P))) (Or (Of is_not) (Of is_left)) Nothing ⊥
+laws_deep P l = weaker (laws_either (laws_negation P l) (laws_nested P together l) not_left (λ h k. h)) (λ t h. h) (no_more (Of is_left) (Of is_not)) no_null
 
 pub laws_operand : (scope : ScopeData) (room : ℕ) → Laws Odd (operand scope room) (Of is_start) Nothing ⊥
 unfolding operand
@@ -215,7 +217,7 @@ laws_operand scope (suc room) = let l = laws_deep (operand scope room) (laws_ope
     weaker (laws_either (laws_single scope room) l single_nested (λ h k. h)) first_operand (no_more (Or (Of is_not) (Of is_left)) (Of is_single)) no_null
 
 pub laws_label : (scope : ScopeData) (room : ℕ) → Laws Odd (label scope room) (Of is_start) AndOrMore ⊥
-laws_label scope room = laws_either_row (operand scope room) all_together any_together (laws_operand scope room)
+laws_label scope room = laws_rows (operand scope room) together (laws_operand scope room)
 
 pub one_label : (scope : ScopeData) (room : ℕ) (text : List Sign) (v w : Expression) → (label scope room).IsText text v → (label scope room).IsText text w → v ≡ w
 one_label scope room = (laws_label scope room).one_value

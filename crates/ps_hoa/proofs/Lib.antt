@@ -12,8 +12,8 @@ pub mod ConditionLaws
 pub mod MarkReading
 pub mod RowReading
 pub mod NestedRows
-pub mod LabelNesting
-pub mod ConditionNesting
+pub mod Nesting
+pub mod OperandReading
 pub mod LabelReading
 pub mod CondRows
 pub mod ConditionReading

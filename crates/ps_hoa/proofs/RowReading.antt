@@ -1,7 +1,7 @@
 -- The loop that reads operands with a sign between them.
 --     IsRow sign operand old vs now      from old on these operands were read; where it was only one, the sign stands at now
 --     Row sign operand      the laws that the lemmas on rows need
-use Rattle.std.proofs.Common.{◌≡◌, ◌+◌, ◌<◌, ◌↔◌, Bool, true, false, List, [], ◌∷◌, ◌++◌, length, map, Option, refl, sym, ap, subst, ◌∙◌, arith, length-append}
+use Rattle.std.proofs.Common.{◌≡◌, ℕ, ◌+◌, ◌<◌, ◌↔◌, Bool, true, false, List, [], ◌∷◌, ◌++◌, length, map, Option, refl, sym, ap, subst, ◌∙◌, arith, length-append}
 use Rattle.std.proofs.lemmas.List.{map-append}
 use Rattle.ps_text.specs.Answers.{Stream, Found}
 use Rattle.ps_text.specs.Parts.{Part, many}
@@ -12,10 +12,17 @@ use Rattle.ps_hoa.specs.Causes.{hoa_causes}
 use Rattle.ps_hoa.specs.Operands.{mark, single, with_last, joined, further, operands, row}
 use Rattle.ps_hoa.specs.Scan.{next_of, behind_next}
 use Rattle.ps_hoa.specs.Tokens.{Sign}
+use Rattle.ps_hoa.specs.declared.connective.Connective.{Connective}
+use Rattle.ps_hoa.specs.declared.connective.Connective.TheVariants as connectives
 use Rattle.ps_hoa.specs.declared.fault.HoaCause.{HoaCause}
 use Rattle.ps_hoa.specs.declared.tokens.Kind.{Kind}
 use Rattle.ps_hoa.proofs.OperandLaws.{Odd, Of, false_true, row_fails, row_alone, row_begins, row_goes_on, row_stops, row_ends}
 use Rattle.ps_hoa.proofs.MarkReading.{Tests, mark_read, mark_avoided, behind_shrinks}
+
+-- how many calls deep what stands between connectives is read
+abbrev pub binding : Connective → ℕ
+binding connectives.And = 1
+binding connectives.Or = 3
 
 -- the values of what a `Vec` holds, one more behind the others
 pub first_value : {X V : Type 0} (view : X → V) (x : X) (none all : List X) → all ≡ none ++ x ∷ [] → none ≡ [] → map view all ≡ single (view x)

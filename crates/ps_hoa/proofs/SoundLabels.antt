@@ -12,10 +12,12 @@ use Rattle.ps_text.specs.Digits.{decimal_value}
 use Rattle.ps_text.specs.Parts.{Part}
 use Rattle.ps_text.proofs.Simple.{none_is_some, same_some}
 use Rattle.ps_hoa.specs.Header.{SpeaksBeyond, SomeSpeaksBeyond}
-use Rattle.ps_hoa.specs.Labels.{ScopeData, boolean_in, constant_in, alias_number, alias_in, leaf_value, leaf_in, IsBeyond, IsBadLeaf, BadLeaf, leaf, all_together, any_together, conjunction, disjunction, negation, operand, label}
-use Rattle.ps_hoa.specs.Operands.{is_not, is_and, is_or, is_left, is_right, mark, before, inner, single, with_last, joined, further, operands, row}
+use Rattle.ps_hoa.specs.Labels.{ScopeData, boolean_in, constant_in, alias_number, alias_in, leaf_value, leaf_in, IsBeyond, IsBadLeaf, BadLeaf, leaf, together, negation, operand, label}
+use Rattle.ps_hoa.specs.Operands.{is_not, is_and, is_or, is_left, is_right, mark, before, inner, single, with_last, joined, further, operands, row, rows}
 use Rattle.ps_hoa.specs.Sound.{IsLabel, AreLabels}
 use Rattle.ps_hoa.specs.Tokens.{Sign}
+use Rattle.ps_hoa.specs.declared.connective.Connective.{Connective}
+use Rattle.ps_hoa.specs.declared.connective.Connective.TheVariants as connectives
 use Rattle.ps_hoa.specs.declared.fault.HoaCause.{HoaCause}
 use Rattle.ps_hoa.specs.declared.fault.HoaCause.TheVariants as causes
 use Rattle.ps_hoa.specs.declared.tokens.Kind.{Kind}
@@ -131,23 +133,22 @@ some_beyond scope count [] e a h = h
 some_beyond scope count (x ∷ es) e a (inl h) = a.0.1 (subst (λ o. Beyond o x) (sym e) h)
 some_beyond scope count (x ∷ es) e a (inr h) = some_beyond scope count es e a.1 h
 
-all_sound : (scope : ScopeData) (es : List Expression) → AllByRecursion (InScope scope) es → InScope scope (all_together es)
-all_sound scope es a = (names_together scope es a, go scope.propositions refl)
+together_sound : (scope : ScopeData) (c : Connective) (es : List Expression) → AllByRecursion (InScope scope) es → InScope scope (together c es)
+together_sound scope c es a = (names c, go c scope.propositions refl)
   where
-    go : (o : Option ℕ) → scope.propositions ≡ o → Beyond o (all_together es) → ⊥
-    go None e h = h
-    go (Some count) e h = some_beyond scope count es e a h
+    names : (c : Connective) → NamesBelow (length scope.names) (together c es)
+    names connectives.And = names_together scope es a
+    names connectives.Or = names_together scope es a
 
-any_sound : (scope : ScopeData) (es : List Expression) → AllByRecursion (InScope scope) es → InScope scope (any_together es)
-any_sound scope es a = (names_together scope es a, go scope.propositions refl)
-  where
-    go : (o : Option ℕ) → scope.propositions ≡ o → Beyond o (any_together es) → ⊥
-    go None e h = h
-    go (Some count) e h = some_beyond scope count es e a h
+    go : (c : Connective) (o : Option ℕ) → scope.propositions ≡ o → Beyond o (together c es) → ⊥
+    go c None e h = h
+    go connectives.And (Some count) e h = some_beyond scope count es e a h
+    go connectives.Or (Some count) e h = some_beyond scope count es e a h
 
 module _ (scope : ScopeData) where
-  keeps_disjunction : (part : Part Sign Expression HoaCause) → Keeps part (InScope scope) → Keeps (disjunction part) (InScope scope)
-  keeps_disjunction part k = keeps_row (InScope scope) is_or any_together (conjunction part) (keeps_row (InScope scope) is_and all_together part k (all_sound scope)) (any_sound scope)
+  keeps_rows : (part : Part Sign Expression HoaCause) → Keeps part (InScope scope) → Keeps (rows together connectives.Or part) (InScope scope)
+  keeps_rows part k = keeps_row (InScope scope) is_or (together connectives.Or) (rows together connectives.And part)
+      (keeps_row (InScope scope) is_and (together connectives.And) part k (together_sound scope connectives.And)) (together_sound scope connectives.Or)
 
   keeps_negation : (part : Part Sign Expression HoaCause) → Keeps part (InScope scope) → Keeps (negation part) (InScope scope)
   keeps_negation part k = keeps_then (keeps_nothing (mark is_not)) (λ _ _. keeps_mapped (InScope scope) not_of part
@@ -157,7 +158,7 @@ module _ (scope : ScopeData) where
   unfolding operand
   keeps_operand zero = keeps_leaf scope 0
   keeps_operand (suc room) = let k = keeps_operand room in
-      keeps_either (keeps_leaf scope (suc room)) (keeps_either (keeps_negation (operand scope room) k) (keeps_inner (InScope scope) (disjunction (operand scope room)) (keeps_disjunction (operand scope room) k)))
+      keeps_either (keeps_leaf scope (suc room)) (keeps_either (keeps_negation (operand scope room) k) (keeps_inner (InScope scope) (rows together connectives.Or (operand scope room)) (keeps_rows (operand scope room) k)))
 
   pub keeps_label : (room : ℕ) → Keeps (label scope room) (InScope scope)
-  keeps_label room = keeps_disjunction (operand scope room) (keeps_operand room)
+  keeps_label room = keeps_rows (operand scope room) (keeps_operand room)

@@ -8,8 +8,10 @@ use Rattle.std.specs.Str.{bytes_eq}
 use Rattle.ps_text.specs.Digits.{decimal_value}
 use Rattle.ps_text.specs.Parts.{Part, NoBad, one, then_by, either}
 use Rattle.ps_hoa.specs.Labels.{boolean_in}
-use Rattle.ps_hoa.specs.Operands.{is_not, is_and, is_or, is_left, mark, inner, row, closed, number_limit}
+use Rattle.ps_hoa.specs.Operands.{is_not, is_left, mark, inner, rows, closed, number_limit}
 use Rattle.ps_hoa.specs.Tokens.{Sign}
+use Rattle.ps_hoa.specs.declared.connective.Connective.{Connective}
+use Rattle.ps_hoa.specs.declared.connective.Connective.TheVariants as connectives
 use Rattle.ps_hoa.specs.declared.fault.HoaCause.{HoaCause}
 use Rattle.ps_hoa.specs.declared.fault.HoaCause.TheVariants as causes
 use Rattle.ps_hoa.specs.declared.tokens.Kind.{Kind}
@@ -102,21 +104,14 @@ BadStart room sign f = IsBadStart room sign.kind f
 abbrev pub atom : ℕ → Part Sign Condition HoaCause
 atom room = either (one constant_in (BadStart room)) visit
 
-abbrev pub all_together : List Condition → Condition
-all_together cs = all_hold (row_of cs)
-
-abbrev pub any_together : List Condition → Condition
-any_together cs = any_holds (row_of cs)
-
-abbrev pub conjunction : Part Sign Condition HoaCause → Part Sign Condition HoaCause
-conjunction operand = row is_and all_together operand
-
-abbrev pub disjunction : Part Sign Condition HoaCause → Part Sign Condition HoaCause
-disjunction operand = row is_or any_together (conjunction operand)
+-- what operands with a connective between them are together
+abbrev pub together : Connective → List Condition → Condition
+together connectives.And cs = all_hold (row_of cs)
+together connectives.Or cs = any_holds (row_of cs)
 
 unfoldable pub operand : ℕ → Part Sign Condition HoaCause
 operand zero = atom 0
-operand (suc room) = either (atom (suc room)) (inner (disjunction (operand room)))
+operand (suc room) = either (atom (suc room)) (inner (rows together connectives.Or (operand room)))
 
 abbrev pub condition : ℕ → Part Sign Condition HoaCause
-condition room = disjunction (operand room)
+condition room = rows together connectives.Or (operand room)

@@ -9,8 +9,10 @@ use Rattle.std.specs.Str.{bytes_eq}
 use Rattle.ps_label.specs.Expression.{Expression, constant, proposition, alias, not_of, all_of, any_of, row_of}
 use Rattle.ps_text.specs.Digits.{decimal_value}
 use Rattle.ps_text.specs.Parts.{Part, one, then_by, either, mapped}
-use Rattle.ps_hoa.specs.Operands.{is_not, is_and, is_or, mark, inner, row, number_limit}
+use Rattle.ps_hoa.specs.Operands.{is_not, mark, inner, rows, number_limit}
 use Rattle.ps_hoa.specs.Tokens.{Sign}
+use Rattle.ps_hoa.specs.declared.connective.Connective.{Connective}
+use Rattle.ps_hoa.specs.declared.connective.Connective.TheVariants as connectives
 use Rattle.ps_hoa.specs.declared.fault.HoaCause.{HoaCause}
 use Rattle.ps_hoa.specs.declared.fault.HoaCause.TheVariants as causes
 use Rattle.ps_hoa.specs.declared.tokens.Kind.{Kind}
@@ -66,26 +68,17 @@ BadLeaf scope room sign f = IsBadLeaf scope room sign.kind sign.text f
 abbrev pub leaf : ScopeData → ℕ → Part Sign Expression HoaCause
 leaf scope room = one (leaf_in scope.names) (BadLeaf scope room)
 
-abbrev pub all_together : List Expression → Expression
-all_together es = all_of (row_of es)
-
-abbrev pub any_together : List Expression → Expression
-any_together es = any_of (row_of es)
-
--- operands with `&` between them
-abbrev pub conjunction : Part Sign Expression HoaCause → Part Sign Expression HoaCause
-conjunction operand = row is_and all_together operand
-
--- these with `|` between them
-abbrev pub disjunction : Part Sign Expression HoaCause → Part Sign Expression HoaCause
-disjunction operand = row is_or any_together (conjunction operand)
+-- what operands with a connective between them are together
+abbrev pub together : Connective → List Expression → Expression
+together connectives.And es = all_of (row_of es)
+together connectives.Or es = any_of (row_of es)
 
 abbrev pub negation : Part Sign Expression HoaCause → Part Sign Expression HoaCause
 negation operand = then_by (mark is_not) (λ _. mapped not_of operand)
 
 unfoldable pub operand : ScopeData → ℕ → Part Sign Expression HoaCause
 operand scope zero = leaf scope 0
-operand scope (suc room) = either (leaf scope (suc room)) (either (negation (operand scope room)) (inner (disjunction (operand scope room))))
+operand scope (suc room) = either (leaf scope (suc room)) (either (negation (operand scope room)) (inner (rows together connectives.Or (operand scope room))))
 
 abbrev pub label : ScopeData → ℕ → Part Sign Expression HoaCause
-label scope room = disjunction (operand scope room)
+label scope room = rows together connectives.Or (operand scope room)

@@ -14,8 +14,7 @@ pub mod Body
 pub mod Texts
 pub mod Values
 pub mod Reads
-pub mod LabelNesting
-pub mod ConditionNesting
+pub mod Nesting
 pub mod Memory
 pub mod Views
 pub mod FileViews

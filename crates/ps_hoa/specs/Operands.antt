@@ -2,9 +2,12 @@
 --     mark test      a sign of such a kind, by itself
 --     inner part      the part between parentheses
 --     row sign join operand      operands with that sign between them: one stands for itself, and several are joined, all at once
+--     rows together connective operand      operands with a connective between them, where `&` binds tighter than `|`
 use Rattle.std.specs.Prelude.{ℕ, Bool, true, false, List, [], ◌∷◌, ◌++◌, if◌then◌else◌, Option, None, Some}
 use Rattle.ps_text.specs.Parts.{Part, NoBad, one, then_by, many, mapped}
 use Rattle.ps_hoa.specs.Tokens.{Sign}
+use Rattle.ps_hoa.specs.declared.connective.Connective.{Connective}
+use Rattle.ps_hoa.specs.declared.connective.Connective.TheVariants as connectives
 use Rattle.ps_hoa.specs.declared.fault.HoaCause.{HoaCause}
 use Rattle.ps_hoa.specs.declared.tokens.Kind.{Kind}
 use Rattle.ps_hoa.specs.declared.tokens.Kind.TheVariants as kinds
@@ -63,6 +66,24 @@ operands sign operand = then_by (mapped single operand) (λ vs. many (λ ws. fur
 
 abbrev pub row : {V : Type 0} → (Kind → Bool) → (List V → V) → Part Sign V HoaCause → Part Sign V HoaCause
 row sign join operand = mapped (joined join) (operands sign operand)
+
+-- ## Connectives
+
+abbrev pub kind_of : Connective → Kind
+kind_of connectives.And = kinds.And
+kind_of connectives.Or = kinds.Or
+
+abbrev pub is_sign_of : Connective → Kind → Bool
+is_sign_of connectives.And = is_and
+is_sign_of connectives.Or = is_or
+
+-- what stands between connectives: between `&` operands, and between `|` rows of these with `&`
+abbrev pub between : {V : Type 0} → (Connective → List V → V) → Connective → Part Sign V HoaCause → Part Sign V HoaCause
+between together connectives.And operand = operand
+between together connectives.Or operand = row is_and (together connectives.And) operand
+
+abbrev pub rows : {V : Type 0} → (Connective → List V → V) → Connective → Part Sign V HoaCause → Part Sign V HoaCause
+rows together connective operand = row (is_sign_of connective) (together connective) (between together connective operand)
 
 -- the greatest INT
 abbrev pub number_limit : ℕ

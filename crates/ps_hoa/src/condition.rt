@@ -1,13 +1,14 @@
 //! Acceptance conditions, and the reading of them.
 
-ghost use Rattle.std.specs.Prelude.{◌≡◌};
+ghost use Rattle.std.specs.Prelude.{◌≡◌, map};
 ghost use Rattle.ps_text.specs.Parts.{one};
 ghost use Rattle.ps_hoa.specs.Conditions as conditions;
-ghost use Rattle.ps_hoa.specs.Operands.{nesting_limit};
+ghost use Rattle.ps_hoa.specs.Operands.{between, nesting_limit, rows};
 ghost use Rattle.ps_hoa.specs.Reads.{Reads, Takes};
 ghost use Rattle.ps_hoa.specs.Spans.{piece_of};
 ghost use Rattle.ps_hoa.specs.Values.{condition_of, set_data};
 
+use crate::connective::{Connective, is_at};
 use crate::fault::{HoaCause, HoaFault};
 use crate::label::NESTING_LIMIT;
 use crate::number::int_of;
@@ -44,53 +45,66 @@ struct Set {
 pub(crate) fn condition(alloc: Global, tokens: &mut Tokens) -> Result<Cond, HoaFault>
     ensures { Reads condition_of (conditions.condition nesting_limit) tokens.old result tokens.new }
 {
-    disjunction(alloc, tokens, NESTING_LIMIT)
+    row(alloc, tokens, NESTING_LIMIT, Connective::Or)
 }
 
-/// Reads operands with `|` between them, where `(` may nest so many deep.
+/// Reads operands with a connective between them, where `(` may nest so many deep.
 #[cycle(condition)]
-fn disjunction(alloc: Global, tokens: &mut Tokens, room: usize) -> Result<Cond, HoaFault>
-    ensures { Reads condition_of (conditions.condition room) tokens.old result tokens.new }
+fn row(
+    alloc: Global,
+    tokens: &mut Tokens,
+    room: usize,
+    connective: Connective,
+) -> Result<Cond, HoaFault>
+    ensures { Reads condition_of (rows conditions.together connective (conditions.operand room)) tokens.old result tokens.new }
 {
-    let first = conjunction(alloc, tokens, room)?;
-    if !tokens.is_at(Kind::Or) {
+    let first = part(alloc, tokens, room, connective)?;
+    if !is_at(tokens, connective) {
         return Ok(first);
     }
     let mut operands = Vec::new(alloc);
     operands.push(first)?;
-    'more: while tokens.is_at(Kind::Or) {
+    'more: while is_at(tokens, connective) {
         tokens.advance();
-        operands.push(conjunction(alloc, tokens, room)?)?;
+        operands.push(part(alloc, tokens, room, connective)?)?;
     }
-    Ok(Cond::Any(operands))
+    Ok(together(connective, operands))
 }
 
-/// Reads operands with `&` between them.
+/// Reads what stands between such connectives.
 #[cycle(condition)]
-fn conjunction(alloc: Global, tokens: &mut Tokens, room: usize) -> Result<Cond, HoaFault>
-    ensures { Reads condition_of (conditions.conjunction (conditions.operand room)) tokens.old result tokens.new }
+fn part(
+    alloc: Global,
+    tokens: &mut Tokens,
+    room: usize,
+    connective: Connective,
+) -> Result<Cond, HoaFault>
+    ensures { Reads condition_of (between conditions.together connective (conditions.operand room)) tokens.old result tokens.new }
 {
-    let first = operand(alloc, tokens, room)?;
-    if !tokens.is_at(Kind::And) {
-        return Ok(first);
+    match connective {
+        Connective::And => operand(alloc, tokens, room),
+        Connective::Or => row(alloc, tokens, room, Connective::And),
     }
-    let mut operands = Vec::new(alloc);
-    operands.push(first)?;
-    'more: while tokens.is_at(Kind::And) {
-        tokens.advance();
-        operands.push(operand(alloc, tokens, room)?)?;
-    }
-    Ok(Cond::All(operands))
 }
 
-/// Reads an operand of `&`.
+/// What operands with a connective between them are together.
+fn together(connective: Connective, operands: Vec<Cond>) -> Cond
+    ensures { condition_of result ≡ conditions.together connective (map condition_of operands.items) }
+{
+    match connective {
+        Connective::And => Cond::All(operands),
+        Connective::Or => Cond::Any(operands),
+    }
+}
+
+/// Reads an operand.
 #[cycle(condition)]
 fn operand(alloc: Global, tokens: &mut Tokens, room: usize) -> Result<Cond, HoaFault>
     ensures { Reads condition_of (conditions.operand room) tokens.old result tokens.new }
 {
     if room > 0 && tokens.is_at(Kind::LeftParen) {
         tokens.advance();
-        let inner = disjunction(alloc, tokens, room - 1)?;
+        let inner = row(alloc, tokens, room - 1, Connective::Or)?;
         mark(tokens, Kind::RightParen)?;
         return Ok(inner);
     }

@@ -2,11 +2,13 @@
 
 ghost use Rattle.std.specs.Prelude.{◌≡◌, ◌↔◌, true};
 ghost use Rattle.ps_label.specs.Expression.{expression};
+ghost use Rattle.ps_label.specs.Truth.{expressions};
 ghost use Rattle.ps_hoa.specs.Labels as labels;
-ghost use Rattle.ps_hoa.specs.Operands.{nesting_limit};
+ghost use Rattle.ps_hoa.specs.Operands.{between, nesting_limit, rows};
 ghost use Rattle.ps_hoa.specs.Reads.{Reads, Takes};
 ghost use Rattle.ps_hoa.specs.Spans.{piece_of};
 
+use crate::connective::{Connective, is_at};
 use crate::fault::{HoaCause, HoaFault};
 use crate::names::Scope;
 use crate::number::int_of;
@@ -23,56 +25,61 @@ pub(crate) const NESTING_LIMIT: usize = 256;
 pub(crate) fn label(alloc: Global, tokens: &mut Tokens, scope: &Scope) -> Result<Label, HoaFault>
     ensures { Reads expression (labels.label scope.now nesting_limit) tokens.old result tokens.new }
 {
-    disjunction(alloc, tokens, scope, NESTING_LIMIT)
+    row(alloc, tokens, scope, NESTING_LIMIT, Connective::Or)
 }
 
-/// Reads operands with `|` between them, where `!` and `(` may nest so many deep.
+/// Reads operands with a connective between them, where `!` and `(` may nest so many deep.
 #[cycle(label)]
-fn disjunction(
+fn row(
     alloc: Global,
     tokens: &mut Tokens,
     scope: &Scope,
     room: usize,
+    connective: Connective,
 ) -> Result<Label, HoaFault>
-    ensures { Reads expression (labels.label scope.now room) tokens.old result tokens.new }
+    ensures { Reads expression (rows labels.together connective (labels.operand scope.now room)) tokens.old result tokens.new }
 {
-    let first = conjunction(alloc, tokens, scope, room)?;
-    if !tokens.is_at(Kind::Or) {
+    let first = part(alloc, tokens, scope, room, connective)?;
+    if !is_at(tokens, connective) {
         return Ok(first);
     }
     let mut operands = Vec::new(alloc);
     operands.push(first)?;
-    'more: while tokens.is_at(Kind::Or) {
+    'more: while is_at(tokens, connective) {
         tokens.advance();
-        operands.push(conjunction(alloc, tokens, scope, room)?)?;
+        operands.push(part(alloc, tokens, scope, room, connective)?)?;
     }
-    Ok(Label::Either(operands))
+    Ok(together(connective, operands))
 }
 
-/// Reads operands with `&` between them.
+/// Reads what stands between such connectives.
 #[cycle(label)]
-fn conjunction(
+fn part(
     alloc: Global,
     tokens: &mut Tokens,
     scope: &Scope,
     room: usize,
+    connective: Connective,
 ) -> Result<Label, HoaFault>
-    ensures { Reads expression (labels.conjunction (labels.operand scope.now room)) tokens.old result tokens.new }
+    ensures { Reads expression (between labels.together connective (labels.operand scope.now room)) tokens.old result tokens.new }
 {
-    let first = operand(alloc, tokens, scope, room)?;
-    if !tokens.is_at(Kind::And) {
-        return Ok(first);
+    match connective {
+        Connective::And => operand(alloc, tokens, scope, room),
+        Connective::Or => row(alloc, tokens, scope, room, Connective::And),
     }
-    let mut operands = Vec::new(alloc);
-    operands.push(first)?;
-    'more: while tokens.is_at(Kind::And) {
-        tokens.advance();
-        operands.push(operand(alloc, tokens, scope, room)?)?;
-    }
-    Ok(Label::Both(operands))
 }
 
-/// Reads an operand of `&`.
+/// What operands with a connective between them are together.
+fn together(connective: Connective, operands: Vec<Label>) -> Label
+    ensures { expression result ≡ labels.together connective (expressions operands.items) }
+{
+    match connective {
+        Connective::And => Label::Both(operands),
+        Connective::Or => Label::Either(operands),
+    }
+}
+
+/// Reads an operand.
 #[cycle(label)]
 fn operand(
     alloc: Global,
@@ -89,7 +96,7 @@ fn operand(
     }
     if room > 0 && tokens.is_at(Kind::LeftParen) {
         tokens.advance();
-        let inner = disjunction(alloc, tokens, scope, room - 1)?;
+        let inner = row(alloc, tokens, scope, room - 1, Connective::Or)?;
         mark(tokens, Kind::RightParen)?;
         return Ok(inner);
     }

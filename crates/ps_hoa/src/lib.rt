@@ -4,6 +4,7 @@
 mod assembly;
 mod body;
 pub mod condition;
+mod connective;
 mod edges;
 pub mod expressions;
 pub mod fault;

@@ -1,114 +1,74 @@
 use Rattle.std.proofs.Common.{sym, subst, ◌∙◌, arith}
 use Rattle.ps_hoa.specs.Values.{condition_of}
-use Rattle.ps_hoa.proofs.CondRows.{condition_of-All, condition_of-Any}
 use Rattle.ps_text.specs.Readers.{Reads as Goes}
 use Rattle.ps_text.proofs.Exits.{exits}
 use Rattle.ps_hoa.specs.Causes.{hoa_causes, found_of}
-use Rattle.ps_hoa.specs.Conditions.{operand, conjunction, condition, all_together, any_together}
+use Rattle.ps_hoa.specs.Conditions.{operand, together}
 use Rattle.ps_hoa.specs.Scan.{stream_of}
 use Rattle.ps_hoa.proofs.RowReading.{first_value, last_value, first_fails, first_alone, row_starts, row_more, row_fails_later, row_done, row_shrinks}
-use Rattle.ps_hoa.specs.Operands.{is_right}
+use Rattle.ps_hoa.specs.Operands.{is_right, rows}
 use Rattle.ps_hoa.proofs.OperandLaws.{false_true}
 use Rattle.ps_hoa.proofs.MarkReading.{tests_right}
-use Rattle.ps_hoa.proofs.ConditionReading.{and_row, or_row, paren_reads, paren_fails, paren_stays_open, atom_stands}
+use Rattle.ps_hoa.proofs.ConditionReading.{condition_operands, atom_stands}
+use Rattle.ps_hoa.proofs.OperandReading.{operand_row, paren_reads, paren_fails, paren_stays_open}
 use Rattle.ps_hoa.proofs.condition.+condition.Goals as goal
 use Rattle.ps_hoa.proofs.condition.+condition.Goals.{operand-else-room-gt0-via-then-room-gt0+else-is_at, operand-else-room-gt0-via-else-room-gt0}
 
-pub conjunction-returns-in_err-first : goal.conjunction-returns-in_err-first
-conjunction-returns-in_err-first t c =
-    let row = and_row c.args.room in
-    exits found_of hoa_causes condition_of _ _ _ _ _ (first_fails row all_together _ _ c.in_err-first.ensures) c.from_residual.ensures.1
+pub row-returns-in_err-first : goal.row-returns-in_err-first
+row-returns-in_err-first t c =
+    let row = operand_row condition_operands c.args.room c.args.connective in
+    exits found_of hoa_causes condition_of _ _ _ _ _ (first_fails row (together c.args.connective) _ _ c.in_err-first.ensures) c.from_residual.ensures.1
 
-pub conjunction-returns-then-not-is_at : goal.conjunction-returns-then-not-is_at
-conjunction-returns-then-not-is_at t c =
-    let row = and_row c.args.room in
-    first_alone row all_together c.is_at.result c.in_ok-first.ensures c.is_at.ensures c.if-not-is_at.true
+pub row-returns-then-not-is_at : goal.row-returns-then-not-is_at
+row-returns-then-not-is_at t c =
+    let row = operand_row condition_operands c.args.room c.args.connective in
+    first_alone row (together c.args.connective) c.is_at.result c.in_ok-first.ensures c.is_at.ensures c.if-not-is_at.true
 
-pub conjunction-more-init : goal.conjunction-more-init
-conjunction-more-init t c =
-    let row = and_row c.args.room in
+pub row-more-init : goal.row-more-init
+row-more-init t c =
+    let row = operand_row condition_operands c.args.room c.args.connective in
     row_starts row c.is_at.result c.in_ok-first.ensures c.is_at.ensures c.if-not-is_at.false
     (first_value condition_of c.in_ok-first.first _ _ c.in_ok-push.ensures.items c.new-operands.ensures.items)
 
-pub conjunction-returns-in_err-operand : goal.conjunction-returns-in_err-operand
-conjunction-returns-in_err-operand t c =
-    let row = and_row c.args.room in
+pub row-returns-in_err-part : goal.row-returns-in_err-part
+row-returns-in_err-part t c =
+    let row = operand_row condition_operands c.args.room c.args.connective in
     exits found_of hoa_causes condition_of _ _ _ _ _
-    (row_fails_later row all_together c.is_at-in-more.result _ c.more.invariant c.is_at-in-more.ensures c.more-test.true c.advance.ensures.rest c.in_err-operand.ensures)
-    c.from_residual-in_err-operand.ensures.1
+    (row_fails_later row (together c.args.connective) c.is_at-in-more.result _ c.more.invariant c.is_at-in-more.ensures c.more-test.true c.advance.ensures.rest c.in_err-part.ensures)
+    c.from_residual-in_err-part.ensures.1
 
-pub conjunction-more-preserved : goal.conjunction-more-preserved
-conjunction-more-preserved t c =
-    let row = and_row c.args.room in
-    row_more row c.is_at-in-more.result c.more.invariant c.is_at-in-more.ensures c.more-test.true c.advance.ensures.rest c.in_ok-operand.ensures
-    (last_value condition_of c.in_ok-operand.field-0 _ _ c.in_ok-push-2.ensures.items)
+pub row-more-preserved : goal.row-more-preserved
+row-more-preserved t c =
+    let row = operand_row condition_operands c.args.room c.args.connective in
+    row_more row c.is_at-in-more.result c.more.invariant c.is_at-in-more.ensures c.more-test.true c.advance.ensures.rest c.in_ok-part.ensures
+    (last_value condition_of c.in_ok-part.field-0 _ _ c.in_ok-push-2.ensures.items)
 
-pub conjunction-returns : goal.conjunction-returns
-conjunction-returns t c =
-    let row = and_row c.args.room in
-    subst (λ v. Goes (conjunction (operand c.args.room)) (stream_of c.args.tokens.now) v (stream_of c.more.tokens)) (sym (condition_of-All c.more.operands))
-    (row_done row all_together c.is_at-in-more.result c.more.invariant c.is_at-in-more.ensures c.more-test.false)
+pub row-returns : goal.row-returns
+row-returns t c =
+    let row = operand_row condition_operands c.args.room c.args.connective in
+    subst (λ v. Goes (rows together c.args.connective (operand c.args.room)) (stream_of c.args.tokens.now) v (stream_of c.more.tokens)) (sym c.together.ensures)
+    (row_done row (together c.args.connective) c.is_at-in-more.result c.more.invariant c.is_at-in-more.ensures c.more-test.false)
 
-pub conjunction-more-smaller : goal.conjunction-more-smaller
-conjunction-more-smaller t c =
-    let row = and_row c.args.room in
-    row_shrinks row _ c.advance.ensures.rest c.in_ok-operand.ensures
-
-pub disjunction-returns-in_err-first : goal.disjunction-returns-in_err-first
-disjunction-returns-in_err-first t c =
-    let row = or_row c.args.room in
-    exits found_of hoa_causes condition_of _ _ _ _ _ (first_fails row any_together _ _ c.in_err-first.ensures) c.from_residual.ensures.1
-
-pub disjunction-returns-then-not-is_at : goal.disjunction-returns-then-not-is_at
-disjunction-returns-then-not-is_at t c =
-    let row = or_row c.args.room in
-    first_alone row any_together c.is_at.result c.in_ok-first.ensures c.is_at.ensures c.if-not-is_at.true
-
-pub disjunction-more-init : goal.disjunction-more-init
-disjunction-more-init t c =
-    let row = or_row c.args.room in
-    row_starts row c.is_at.result c.in_ok-first.ensures c.is_at.ensures c.if-not-is_at.false
-    (first_value condition_of c.in_ok-first.first _ _ c.in_ok-push.ensures.items c.new-operands.ensures.items)
-
-pub disjunction-returns-in_err-conjunction : goal.disjunction-returns-in_err-conjunction
-disjunction-returns-in_err-conjunction t c =
-    let row = or_row c.args.room in
-    exits found_of hoa_causes condition_of _ _ _ _ _
-    (row_fails_later row any_together c.is_at-in-more.result _ c.more.invariant c.is_at-in-more.ensures c.more-test.true c.advance.ensures.rest c.in_err-conjunction.ensures)
-    c.from_residual-in_err-conjunction.ensures.1
-
-pub disjunction-more-preserved : goal.disjunction-more-preserved
-disjunction-more-preserved t c =
-    let row = or_row c.args.room in
-    row_more row c.is_at-in-more.result c.more.invariant c.is_at-in-more.ensures c.more-test.true c.advance.ensures.rest c.in_ok-conjunction.ensures
-    (last_value condition_of c.in_ok-conjunction.field-0 _ _ c.in_ok-push-2.ensures.items)
-
-pub disjunction-returns : goal.disjunction-returns
-disjunction-returns t c =
-    let row = or_row c.args.room in
-    subst (λ v. Goes (condition c.args.room) (stream_of c.args.tokens.now) v (stream_of c.more.tokens)) (sym (condition_of-Any c.more.operands))
-    (row_done row any_together c.is_at-in-more.result c.more.invariant c.is_at-in-more.ensures c.more-test.false)
-
-pub disjunction-more-smaller : goal.disjunction-more-smaller
-disjunction-more-smaller t c =
-    let row = or_row c.args.room in
-    row_shrinks row _ c.advance.ensures.rest c.in_ok-conjunction.ensures
+pub row-more-smaller : goal.row-more-smaller
+row-more-smaller t c =
+    let row = operand_row condition_operands c.args.room c.args.connective in
+    row_shrinks row _ c.advance.ensures.rest c.in_ok-part.ensures
 
 pub operand-returns-in_err-inner : goal.operand-returns-in_err-inner
 operand-returns-in_err-inner t c =
     exits found_of hoa_causes condition_of _ _ _ _ _
-    (paren_fails c.args.room c.if-room-gt0.true _ _ (c.is_at.ensures.0 c.if-is_at.true) c.advance.ensures.rest c.in_err-inner.ensures)
+    (paren_fails condition_operands c.args.room c.if-room-gt0.true _ _ (c.is_at.ensures.0 c.if-is_at.true) c.advance.ensures.rest c.in_err-inner.ensures)
     c.from_residual.ensures.1
 
 pub operand-returns-in_err-mark : goal.operand-returns-in_err-mark
 operand-returns-in_err-mark t c =
     exits found_of hoa_causes condition_of _ _ _ _ _
-    (paren_stays_open c.args.room c.if-room-gt0.true _ _ (c.is_at.ensures.0 c.if-is_at.true) c.advance.ensures.rest c.in_ok-inner.ensures (c.in_err-mark.ensures is_right (tests_right.passes, tests_right.only)))
+    (paren_stays_open condition_operands c.args.room c.if-room-gt0.true _ _ (c.is_at.ensures.0 c.if-is_at.true) c.advance.ensures.rest c.in_ok-inner.ensures (c.in_err-mark.ensures is_right (tests_right.passes, tests_right.only)))
     c.from_residual-in_err-mark.ensures.1
 
 pub operand-returns-then-is_at : goal.operand-returns-then-is_at
 operand-returns-then-is_at t c =
-    paren_reads c.args.room c.if-room-gt0.true (c.is_at.ensures.0 c.if-is_at.true) c.advance.ensures.rest c.in_ok-inner.ensures
+    paren_reads condition_operands c.args.room c.if-room-gt0.true (c.is_at.ensures.0 c.if-is_at.true) c.advance.ensures.rest c.in_ok-inner.ensures
     (c.in_ok-mark.ensures is_right (tests_right.passes, tests_right.only))
 
 pub operand-returns : goal.operand-returns

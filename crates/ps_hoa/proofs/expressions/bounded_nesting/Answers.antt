@@ -1,5 +1,4 @@
-use Rattle.ps_hoa.proofs.ConditionNesting.{condition_nesting}
-use Rattle.ps_hoa.proofs.LabelNesting.{label_nesting}
+use Rattle.ps_hoa.proofs.Nesting.{label_nesting, condition_nesting}
 use Rattle.ps_hoa.proofs.expressions.bounded_nesting.Goals as goal
 
 pub returns : goal.returns
