@@ -1,90 +1,70 @@
--- A code for what a text means, by which a proof tells two of them apart. Of a condition it is the steps in which stacks of
--- conditions and of operands make it.
-use Rattle.std.specs.Prelude.{◌≡◌, ℕ, ◌⊎◌, Bool, true, false, List, [], ◌∷◌, Option, None, Some, refl}
-use Rattle.std.proofs.Common.{inl, inr, ◌∙◌}
-use Rattle.std.specs.Coded.{Coded, code_by, coded_list, coded_option, coded×, coded⊎, coded_bool, coded_ℕ}
+-- A code for what a text means, by which a proof tells two of them apart. That of a condition is an expression's.
+use Rattle.std.specs.Prelude.{◌≡◌, ℕ, ◌⊎◌, Bool, true, false, List, Option, None, Some, refl}
+use Rattle.std.proofs.Common.{inl, inr, ap}
+use Rattle.std.specs.Coded.{Coded, code_by, coded_list, coded_option, coded×, coded⊎, coded_ℕ}
 use Rattle.ps_label.specs.Codes.{expression_code}
-use Rattle.ps_label.specs.Expression.{Expression}
-use Rattle.ps_hoa.specs.Conditions.{SetData, Condition, Conditions, constant, infinitely, finitely, all_hold, any_holds, last, more}
+use Rattle.ps_label.specs.Expression as expressions
+use Rattle.ps_label.specs.Expression.{Expression, Operands}
+use Rattle.ps_hoa.specs.Conditions.{Condition, Conditions, constant, infinitely, finitely, all_hold, any_holds, last, more}
 use Rattle.ps_hoa.specs.Files.{GuardData, EdgeData, RowData, FileData, stated, of_state, at_letter}
 
--- a constant, or some sets that are visited often or seldom; or what is made of what lies on the stacks
-abbrev pub Step : Type 0
-Step = (Bool ⊎ ((ℕ × Bool) ⊎ (ℕ × Bool))) ⊎ (Bool ⊎ Bool)
+-- a set that is visited infinitely often stands as a proposition, one finitely often as an alias, and a complement as a negation
+abbrev expression_of_set : Bool → Expression → Expression
+expression_of_set true e = expressions.not_of e
+expression_of_set false e = e
 
-abbrev conjunction : Step
-conjunction = inr (inl true)
+abbrev complement : Condition → Condition
+complement (infinitely s) = infinitely (record { number = s.number; complemented = true })
+complement (finitely s) = finitely (record { number = s.number; complemented = true })
+complement c = c
 
-abbrev disjunction : Step
-disjunction = inr (inl false)
-
-abbrev no_operand : Step
-no_operand = inr (inr true)
-
-abbrev one_operand : Step
-one_operand = inr (inr false)
-
-abbrev pub Stacks : Type 0
-Stacks = List Condition × List Conditions
-
-abbrev set_of : ℕ × Bool → SetData
-set_of s = record { number = s.0; complemented = s.1 }
-
-abbrev after : Step → List Condition → List Conditions → Stacks
-after (inl (inl b)) cs rows = (constant b ∷ cs, rows)
-after (inl (inr (inl s))) cs rows = (infinitely (set_of s) ∷ cs, rows)
-after (inl (inr (inr s))) cs rows = (finitely (set_of s) ∷ cs, rows)
-after (inr (inl true)) cs (row ∷ rows) = (all_hold row ∷ cs, rows)
-after (inr (inl false)) cs (row ∷ rows) = (any_holds row ∷ cs, rows)
-after (inr (inr true)) cs rows = (cs, last ∷ rows)
-after (inr (inr false)) (c ∷ cs) (row ∷ rows) = (cs, more c row ∷ rows)
-after step cs rows = (cs, rows)
-
-abbrev run : List Step → Stacks → Stacks
-run [] stacks = stacks
-run (step ∷ steps) stacks = run steps (after step stacks.0 stacks.1)
-
--- the steps of a condition, in front of others
 abbrev mutual
-  steps_onto : Condition → List Step → List Step
-  steps_onto (constant b) steps = inl (inl b) ∷ steps
-  steps_onto (infinitely s) steps = inl (inr (inl (s.number, s.complemented))) ∷ steps
-  steps_onto (finitely s) steps = inl (inr (inr (s.number, s.complemented))) ∷ steps
-  steps_onto (all_hold row) steps = row_onto row (conjunction ∷ steps)
-  steps_onto (any_holds row) steps = row_onto row (disjunction ∷ steps)
+  expression_of : Condition → Expression
+  expression_of (constant b) = expressions.constant b
+  expression_of (infinitely s) = expression_of_set s.complemented (expressions.proposition s.number)
+  expression_of (finitely s) = expression_of_set s.complemented (expressions.alias s.number)
+  expression_of (all_hold row) = expressions.all_of (operands_of row)
+  expression_of (any_holds row) = expressions.any_of (operands_of row)
 
-  row_onto : Conditions → List Step → List Step
-  row_onto last steps = no_operand ∷ steps
-  row_onto (more c row) steps = row_onto row (steps_onto c (one_operand ∷ steps))
+  operands_of : Conditions → Operands
+  operands_of last = expressions.last
+  operands_of (more c row) = expressions.more (expression_of c) (operands_of row)
+
+abbrev mutual
+  condition_by : Expression → Condition
+  condition_by (expressions.constant b) = constant b
+  condition_by (expressions.proposition n) = infinitely (record { number = n; complemented = false })
+  condition_by (expressions.alias n) = finitely (record { number = n; complemented = false })
+  condition_by (expressions.not_of e) = complement (condition_by e)
+  condition_by (expressions.all_of es) = all_hold (conditions_by es)
+  condition_by (expressions.any_of es) = any_holds (conditions_by es)
+
+  conditions_by : Operands → Conditions
+  conditions_by expressions.last = last
+  conditions_by (expressions.more e es) = more (condition_by e) (conditions_by es)
+
+same_infinitely : (n : ℕ) (b : Bool) → condition_by (expression_of_set b (expressions.proposition n)) ≡ infinitely (record { number = n; complemented = b })
+same_infinitely n true = refl
+same_infinitely n false = refl
+
+same_finitely : (n : ℕ) (b : Bool) → condition_by (expression_of_set b (expressions.alias n)) ≡ finitely (record { number = n; complemented = b })
+same_finitely n true = refl
+same_finitely n false = refl
 
 mutual
-  run_steps : (c : Condition) (steps : List Step) (stacks : Stacks) → run (steps_onto c steps) stacks ≡ run steps (c ∷ stacks.0, stacks.1)
-  run_steps (constant b) steps stacks = refl
-  run_steps (infinitely s) steps stacks = refl
-  run_steps (finitely s) steps stacks = refl
-  run_steps (all_hold row) steps stacks = run_row row (conjunction ∷ steps) stacks
-  run_steps (any_holds row) steps stacks = run_row row (disjunction ∷ steps) stacks
+  pub same_condition : (c : Condition) → condition_by (expression_of c) ≡ c
+  same_condition (constant b) = refl
+  same_condition (infinitely s) = same_infinitely s.number s.complemented
+  same_condition (finitely s) = same_finitely s.number s.complemented
+  same_condition (all_hold row) = ap all_hold (same_conditions row)
+  same_condition (any_holds row) = ap any_holds (same_conditions row)
 
-  run_row : (row : Conditions) (steps : List Step) (stacks : Stacks) → run (row_onto row steps) stacks ≡ run steps (stacks.0, row ∷ stacks.1)
-  run_row last steps stacks = refl
-  run_row (more c row) steps stacks = run_row row (steps_onto c (one_operand ∷ steps)) stacks ∙ run_steps c (one_operand ∷ steps) (stacks.0, row ∷ stacks.1)
-
-abbrev top : List Condition → Condition
-top [] = constant false
-top (c ∷ cs) = c
-
-abbrev steps_of : Condition → List Step
-steps_of c = steps_onto c []
-
-abbrev made_by : List Step → Condition
-made_by steps = top (run steps ([], [])).0
-
-pub made_by_steps : (c : Condition) → made_by (steps_of c) ≡ c
-made_by_steps c = let same : run (steps_onto c []) ([], []) ≡ (c ∷ [], []) = run_steps c [] ([], []) in λ i. top (same i).0
+  same_conditions : (row : Conditions) → conditions_by (operands_of row) ≡ row
+  same_conditions last = refl
+  same_conditions (more c row) = λ i. more (same_condition c i) (same_conditions row i)
 
 abbrev pub condition_code : Coded Condition
-condition_code = code_by (List Step) (coded_list (coded⊎ (coded⊎ coded_bool (coded⊎ (coded× coded_ℕ coded_bool) (coded× coded_ℕ coded_bool))) (coded⊎ coded_bool coded_bool)))
-    steps_of made_by made_by_steps
+condition_code = code_by Expression expression_code expression_of condition_by same_condition
 
 abbrev parts_of_guard : GuardData → Expression ⊎ Option ℕ
 parts_of_guard (stated e) = inl e
