@@ -205,20 +205,34 @@ class Pictures(unittest.TestCase):
     def test_a_game_with_its_certificate(self):
         dot = self.drawn(GAME, CERTIFICATE)
         self.assertIn('v0 [shape=box, label="0: 0", style=filled, fillcolor=lightsalmon];', dot)
-        self.assertIn("v0 -> v1 [style=bold, penwidth=2];", dot)
+        self.assertIn("v0 -> v1 [style=bold, penwidth=3, color=firebrick];", dot)
         self.assertIn("v0 -> v0;", dot)
+        self.assertIn("player 1 wins from there, by the bold red edges", dot)
+        self.assertNotIn("bold", self.drawn(GAME))
 
     def test_an_automaton(self):
         dot = self.drawn(AUTOMATON)
-        self.assertIn('s0 -> s0 [label="!0|1\\n{0}"];', dot)
-        self.assertIn('label="Inf(0)\\n0 r (environment), 1 g (controller)"', dot)
+        self.assertIn('s0 -> s0 [label="!r|g\\n{0}"];', dot)
+        self.assertIn('label="Inf(0)\\nenvironment: r\\ncontroller: g"', dot)
         self.assertIn('s0 [label="0 off"];', dot)
+
+    def test_long_names_and_labels_are_wrapped(self):
+        named = AUTOMATON.replace(b'"off"', b'"waits until the client is granted"').replace(b"[!0|1]", b"[@a0 & (0 | !1) & (0 | !1) & 0]")
+        dot = self.drawn(named)
+        self.assertIn('s0 [shape=box, style=rounded, label="0\\nwaits until the client is\\ngranted"];', dot)
+        self.assertIn('label="@a0 & (r | !g) & (r | !g) &\\nr\\n{0}"', dot)
+
+    def test_an_edge_without_a_label_bears_its_letter(self):
+        dot = self.drawn(b'HOA: v1 States: 1 Start: 0 AP: 1 "a" Acceptance: 0 t --BODY-- State: 0 0 0 --END--')
+        self.assertIn('s0 -> s0 [label="!a"];', dot)
+        self.assertIn('s0 -> s0 [label="a"];', dot)
 
     def test_a_circuit(self):
         dot = self.drawn(CIRCUIT)
         self.assertIn('n1 [shape=invtriangle, label="push"];', dot)
         self.assertIn("n4 -> n5 [style=dashed];", dot)
         self.assertIn("n0 -> o2 [style=dashed];", dot)
+        self.assertIn("negated", dot)
 
     def test_what_can_not_be_drawn(self):
         for texts in ([b"no game"], [CERTIFICATE], [b"0 0 0 0;", CERTIFICATE], [b"aag x"], [b"HOA: v1 --BODY-- State: x"]):
