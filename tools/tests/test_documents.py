@@ -1,0 +1,70 @@
+"""The documents are short enough to be read, their links lead to files, and what their commands print is what they show."""
+import glob
+import os
+import tempfile
+import unittest
+
+from psyntool import counts, documents
+from psyntool.command import program
+from psyntool.sweeps import TOP
+
+ALL = ["README.md", "CONTRIBUTING.md", *sorted(os.path.relpath(path, TOP) for path in glob.glob(os.path.join(TOP, "docs", "*.md")))]
+WITH_COMMANDS = ["README.md", "CONTRIBUTING.md", "docs/CERTIFICATES.md", "docs/INTEROP.md", "docs/TUTORIAL.md"]
+LINES = {"README.md": 60, "CONTRIBUTING.md": 150, "docs/TESTED.md": 120}
+SHORT = ["README.md", "docs/PROVED.md", "docs/TESTED.md"]
+
+
+class Forms(unittest.TestCase):
+    def found(self, wrong):
+        self.assertFalse(wrong, "\n".join(["", *wrong]))
+
+    def test_lines(self):
+        long = []
+        for name in ALL:
+            lines = documents.read(name)
+            long += [f"{name}:{at}: {len(line)}" for at, line in enumerate(lines, 1) if len(line) > (160 if line.startswith("|") else 120)]
+            if len(lines) - 1 > LINES.get(name, len(lines)):
+                long.append(f"{name}: {len(lines) - 1} lines")
+        self.found(long)
+
+    def test_sentences_and_cells(self):
+        long = []
+        for name in SHORT:
+            paragraphs, cells = documents.prose_of(documents.read(name))
+            long += [f"{name}:{at}: a cell of {len(cell.split())} words" for at, cell in cells if len(cell.split()) > 25]
+            for at, paragraph in paragraphs:
+                sentences = documents.sentences_of(paragraph) if not paragraph.startswith("Unless memory runs out") else []
+                long += [f"{name}:{at}: {sentence}" for sentence in sentences if len(sentence.split()) > 40]
+        self.found(long)
+
+    def test_links_lead_to_files(self):
+        folders = {name: os.path.join(TOP, os.path.dirname(name)) for name in ALL}
+        links = [(name, at, target) for name in ALL for at, target in documents.links_of(documents.read(name))]
+        self.assertTrue(links)
+        self.found([f"{name}:{at}: {target}" for name, at, target in links if not os.path.exists(os.path.join(folders[name], target))])
+
+
+class Commands(unittest.TestCase):
+    def test_each_prints_what_is_shown(self):
+        path, wrong, ran = program(), [], 0
+        for name in WITH_COMMANDS:
+            fences = documents.fences_of(documents.read(name))
+            wrong += [f"{name}:{fence.line}: a fence of no known kind" for fence in fences if not fence.is_known()]
+            shown = [fence for fence in fences if fence.kind == "console" and fence.mark is None]
+            ran += sum(len(fence.commands()) for fence in shown)
+            with tempfile.TemporaryDirectory() as room:
+                wrong += documents.wrong_answers(name, shown, room, os.path.abspath(path))
+        counts.ran("examples", "commands of documents", ran)
+        self.assertFalse(wrong, "\n".join(["", *wrong]))
+
+    def test_a_wrong_answer_is_seen(self):
+        lines = ["```console", "$ echo a; \\", "> echo b", "a", "b", "$ false", "$ echo c", "d", "```", "```", "x", "```"]
+        shown, unmarked = documents.fences_of(lines)
+        self.assertFalse(unmarked.is_known())
+        with tempfile.TemporaryDirectory() as room:
+            wrong = documents.wrong_answers("it", [shown], room, "psyn")
+        self.assertEqual(wrong, ["it:1: echo c\nc\n"])
+
+
+if __name__ == "__main__":
+    unittest.main()
