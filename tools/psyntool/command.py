@@ -5,7 +5,7 @@ import sys
 import threading
 import time
 
-from psyntool import binary, faults, inputs, pictures, solutions, waves
+from psyntool import binary, commands, faults, inputs, pictures, solutions, waves
 from psyntool.formats import Unreadable
 
 HELP = """\
@@ -59,24 +59,6 @@ The program is $PSYN, or the one that `rt run` leaves at crates/psyn/out/psyn.
 """
 REFUSED = 2
 KIT = "rattle-kit-13b"
-USES = {
-    "synth": "synth [--full] [--moore] [--compact] AUTOMATON: a controller, or an environment that defeats every finite-state one\n"
-    "synth --cert [--full] [--moore] [--compact] AUTOMATON CERTIFICATE: the same by a certificate of the automaton's game",
-    "game": "game [--moore] AUTOMATON: the parity game of an automaton",
-    "cert": "cert [--moore] [--compact] AUTOMATON: a certificate of that game",
-    "solve": "solve [--compact] GAME: a certificate of a game",
-    "check": "check GAME CERTIFICATE: valid, or the first flaw",
-    "closed": "closed GAME CERTIFICATE: whether the moves keep each player's region",
-    "sim": "sim CIRCUIT STIMULUS: what a circuit does, letter by letter",
-    "lasso": "lasso [--env] AUTOMATON CIRCUIT STIMULUS: whether the automaton accepts what the circuit does",
-    "show": "show FILE..: a picture of a game with its certificate, of an automaton or of a circuit, as Graphviz DOT",
-    "wave": "wave CIRCUIT STIMULUS: what sim prints, as a VCD file",
-    "certificate": "certificate GAME SOLUTION: a certificate with counts 0 of another solver's answer",
-}
-FLAGS = """\
---full      the game and the certificate too      --moore   outputs before inputs
---compact   the compact text of a certificate     --cert    by a certificate that is given
---env       the circuit is an environment"""
 
 
 class Settings:
@@ -100,8 +82,10 @@ class Settings:
 
 def program():
     """The path of the built program."""
-    top = os.path.join(os.path.dirname(os.path.abspath(__file__)), "..", "..")
-    path = os.environ.get("PSYN") or os.path.normpath(os.path.join(top, "crates", "psyn", "out", "psyn"))
+    top = os.path.normpath(os.path.join(os.path.dirname(os.path.realpath(__file__)), "..", ".."))
+    installed = os.path.join(top, "psyn")
+    built = os.path.join(top, "crates", "psyn", "out", "psyn")
+    path = os.environ.get("PSYN") or (installed if os.path.isfile(installed) else built)
     if not os.path.isfile(path):
         raise inputs.Refused("psyn is not built: run `rt run < stdin` in crates/psyn once, or name the program by PSYN=FILE")
     return path
@@ -216,8 +200,8 @@ def chosen(words):
         print(f"psyn, proved with {KIT}; circuits in ASCII AIGER 1.9, automata in HOA v1, games of PGSolver's format")
         return 0
     command = words.pop(0)
-    if command in USES and ("--help" in words or "-h" in words):
-        print(f"{USES[command]}\n\n{FLAGS}")
+    if commands.use_of(command) and ("--help" in words or "-h" in words):
+        print(commands.use_of(command), end="")
         return 0
     flags = [word for word in words if word.startswith("--")]
     paths = [word for word in words if not word.startswith("--")]

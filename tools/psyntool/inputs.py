@@ -2,17 +2,10 @@
 import bisect
 import re
 
+from psyntool.commands import COMMANDS
+
 # What each command reads, in order.
-KINDS = {
-    "solve": ["game"],
-    "game": ["automaton"],
-    "cert": ["automaton"],
-    "synth": ["automaton"],
-    "closed": ["game", "certificate"],
-    "check": ["game", "certificate"],
-    "sim": ["circuit", "stimulus"],
-    "lasso": ["automaton", "circuit", "stimulus"],
-}
+KINDS = {name: command.kinds for name, command in COMMANDS.items()}
 
 
 class Refused(Exception):
@@ -108,9 +101,7 @@ def read_text(kind, path, stdin, converter, settings):
 
 def kinds_of(command, flags=()):
     """What the command reads, in order; None for a command that this tool does not know."""
-    if command == "synth" and "--cert" in flags:
-        return ["automaton", "certificate"]
-    return KINDS.get(command)
+    return COMMANDS[command].kinds_with(flags) if command in COMMANDS else None
 
 
 def joined(command, flags, texts):

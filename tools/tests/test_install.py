@@ -1,0 +1,105 @@
+"""What tools/install puts in place, the man page, and the table of commands from which completions are written."""
+import glob
+import os
+import pty
+import re
+import shutil
+import subprocess
+import sys
+import tempfile
+import time
+import unittest
+
+from psyntool import completions, manual
+from psyntool.command import program
+from psyntool.commands import COMMANDS
+from psyntool.sweeps import TOP
+
+SLOW = "#!/bin/sh\ncat > /dev/null\nsleep 3.5\necho valid\n"
+
+
+class Installed(unittest.TestCase):
+    @classmethod
+    def setUpClass(cls):
+        cls.prefix = tempfile.mkdtemp()
+        cls.addClassCleanup(shutil.rmtree, cls.prefix)
+        done = subprocess.run(
+            [sys.executable, os.path.join(TOP, "tools", "install"), cls.prefix], env={**os.environ, "PSYN": program()}, capture_output=True, check=False
+        )
+        assert done.returncode == 0, done.stderr
+
+    def psyn(self, *words):
+        without = {name: value for name, value in os.environ.items() if name != "PSYN"}
+        command = [os.path.join(self.prefix, "bin", "psyn"), *words]
+        return subprocess.run(command, capture_output=True, check=False, env=without, cwd=os.path.join(TOP, "examples", "files"))
+
+    def test_the_tool_answers_and_explains(self):
+        self.assertEqual(self.psyn("check", "loop.pg", "loop.cert").stdout, b"valid\n")
+        self.assertEqual(self.psyn("synth", "arbiter.hoa").returncode, 10)
+        refused = self.psyn("check", "loop.pg", "stays.cert")
+        self.assertEqual((refused.stdout, refused.returncode), (b"fault 52 Rank 0 0 1\n", 1))
+        self.assertIn(b"mend: ", refused.stderr)
+
+    def test_the_manual_is_there(self):
+        with open(os.path.join(self.prefix, "share", "man", "man1", "psyn.1"), encoding="utf-8") as file:
+            self.assertEqual(file.read(), manual.page())
+
+    def completed(self, *words):
+        path = os.path.join(self.prefix, "share", "bash-completion", "completions", "psyn")
+        script = 'source "$0"; COMP_WORDS=("$@"); COMP_CWORD=$(($# - 1)); _psyn; printf "%s\\n" "${COMPREPLY[@]}"'
+        done = subprocess.run(["bash", "-c", script, path, *words], capture_output=True, check=True, cwd=os.path.join(TOP, "examples", "files"))
+        return done.stdout.decode().split()
+
+    def test_bash_completes_commands_flags_and_files(self):
+        self.assertEqual(self.completed("psyn", "sy"), ["synth"])
+        self.assertEqual(self.completed("psyn", "cl"), ["closed"])
+        self.assertEqual(self.completed("psyn", "-o", "out", "synth", "--co"), ["--compact"])
+        self.assertEqual(self.completed("psyn", "check", "--"), [])
+        self.assertEqual(self.completed("psyn", "check", "loop"), ["loop.cert", "loop.pg"])
+
+    @unittest.skipUnless(shutil.which("zsh"), "zsh is not installed")
+    def test_zsh_reads_its_completion(self):
+        subprocess.run(["zsh", "-n", os.path.join(self.prefix, "share", "zsh", "site-functions", "_psyn")], check=True)
+
+
+class Tables(unittest.TestCase):
+    def test_the_commands_are_those_of_the_program(self):
+        (path,) = glob.glob(os.path.join(TOP, "crates", "*", "src", "command_line.rt"))
+        with open(path, encoding="utf-8") as file:
+            table = re.search(r"const COMMANDS: .*?= &\[(.*?)\n\];", file.read(), re.S)[1]
+        rows = {name: re.findall(r'"(\w+)"', flags) for name, flags in re.findall(r'\("(\w+)", &\[(.*?)\]\)', table)}
+        self.assertEqual({**{name: command.flags for name, command in COMMANDS.items()}, "help": []}, rows)
+
+    def test_the_stored_manual_is_written_from_the_tables(self):
+        with open(os.path.join(TOP, "docs", "psyn.1"), encoding="utf-8") as file:
+            self.assertEqual(file.read(), manual.page(), "tools/install --manual > docs/psyn.1")
+
+    def test_each_command_is_completed(self):
+        for name, command in COMMANDS.items():
+            for text in (completions.bash(), completions.zsh()):
+                self.assertIn(name, text)
+                self.assertTrue(all(f"--{flag}" in text for flag in command.flags))
+
+
+class OnATerminal(unittest.TestCase):
+    def test_a_run_above_two_seconds_tells_how_long(self):
+        files = os.path.join(TOP, "examples", "files")
+        with tempfile.TemporaryDirectory() as room:
+            slow = os.path.join(room, "slow")
+            with open(slow, "w", encoding="utf-8") as file:
+                file.write(SLOW)
+            os.chmod(slow, 0o755)
+            words = [sys.executable, os.path.join(TOP, "tools", "psyn"), "check", *(os.path.join(files, name) for name in ("loop.pg", "loop.cert"))]
+            ours, theirs = pty.openpty()
+            running = subprocess.Popen(words, stdout=subprocess.PIPE, stderr=theirs, env={**os.environ, "PSYN": slow})
+            answer = running.communicate()[0]
+            os.close(theirs)
+            time.sleep(0.1)
+            told = os.read(ours, 1000)
+            os.close(ours)
+        self.assertEqual(answer, b"valid\n")
+        self.assertRegex(told, rb"\r[23] s")
+
+
+if __name__ == "__main__":
+    unittest.main()
