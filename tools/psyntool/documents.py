@@ -4,6 +4,7 @@ A fence that begins with ```console shows commands, each behind `$ ` (its furthe
 prints, on standard output and standard error. ```console foreign shows commands of other tools, and ```console gate those
 that build or prove psyn; ```text and the like show no command.
 """
+import glob
 import os
 import re
 import subprocess
@@ -87,6 +88,25 @@ def links_of(lines):
         for target in re.findall(r"\]\(([^)\s]+)\)", line)
         if not re.match(r"\w+://|#", target)
     ]
+
+
+def sources(*folders):
+    """All that stands in these folders of the crates."""
+    paths = [path for folder in folders for path in glob.glob(os.path.join(TOP, "crates", "*", folder, "**", "*.*t*"), recursive=True)]
+    return "\n".join(open(path, encoding="utf-8").read() for path in sorted(paths))
+
+
+def calls_of(lines):
+    """The names of calls and clauses in the first cells of tables, each with its line."""
+    cells = [(number, line.split("|")[1]) for number, line in enumerate(lines, 1) if line.startswith("| `")]
+    return [(number, name) for number, cell in cells for code in re.findall(r"`([^`]+)`", cell) for name in re.findall(r"[A-Za-z]\w+", code)]
+
+
+def definitions_of(lines):
+    """The files and the names that stand in the brackets behind definitions, each with the line of the definition."""
+    paragraphs, _ = prose_of(lines)
+    behind = [(number, re.findall(r"`([^`]+)`", found[-1])) for number, text in paragraphs if (found := re.findall(r"\([^()]*\)\.?$", text))]
+    return [(number, code) for number, codes in behind for code in codes]
 
 
 def wrong_answers(name, fences, room, program):

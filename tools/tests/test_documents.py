@@ -1,6 +1,7 @@
 """The documents are short enough to be read, their links lead to files, and what their commands print is what they show."""
 import glob
 import os
+import re
 import tempfile
 import unittest
 
@@ -42,6 +43,27 @@ class Forms(unittest.TestCase):
         links = [(name, at, target) for name in ALL for at, target in documents.links_of(documents.read(name))]
         self.assertTrue(links)
         self.found([f"{name}:{at}: {target}" for name, at, target in links if not os.path.exists(os.path.join(folders[name], target))])
+
+
+class Names(unittest.TestCase):
+    def test_calls_and_clauses_that_are_proved_are_there(self):
+        text, crates = documents.sources("src"), {os.path.basename(path) for path in glob.glob(os.path.join(TOP, "crates", "*"))}
+        known = {*re.findall(r"\b(?:fn|struct|trait|enum|ensures)\s+(\w+)", text), *crates}
+        calls = documents.calls_of(documents.read("docs/PROVED.md"))
+        flags = {"synth", "cert", "closed", "solve", "game", "sim"}
+        self.assertTrue(calls)
+        self.assertEqual([call for call in calls if call[1] not in known | flags], [])
+
+    def test_definitions_are_where_they_are_said_to_be(self):
+        text = documents.sources("specs")
+        known = set(re.findall(r"(?m)^\s*(?:\w+ )*pub (?:\w+ )*(\w+)", text))
+        wrong = []
+        for line, code in documents.definitions_of(documents.read("docs/definitions.md")):
+            is_file = code.endswith(".antt")
+            is_there = glob.glob(os.path.join(TOP, "crates", "*", "specs", code) if "/" not in code else os.path.join(TOP, "crates", code)) if is_file else code in known
+            if not is_there:
+                wrong.append(f"docs/definitions.md:{line}: {code}")
+        self.assertFalse(wrong, "\n".join(["", *wrong]))
 
 
 class Commands(unittest.TestCase):
