@@ -12,7 +12,6 @@ from psyntool.sweeps import TOP
 ALL = ["README.md", "CONTRIBUTING.md", *sorted(os.path.relpath(path, TOP) for path in glob.glob(os.path.join(TOP, "docs", "*.md")))]
 WITH_COMMANDS = ["README.md", "CONTRIBUTING.md", "docs/CERTIFICATES.md", "docs/INTEROP.md", "docs/TUTORIAL.md"]
 LINES = {"README.md": 60, "CONTRIBUTING.md": 150, "docs/TESTED.md": 120}
-SHORT = ["README.md", "docs/PROVED.md", "docs/TESTED.md"]
 
 
 class Forms(unittest.TestCase):
@@ -30,7 +29,7 @@ class Forms(unittest.TestCase):
 
     def test_sentences_and_cells(self):
         long = []
-        for name in SHORT:
+        for name in ALL:
             paragraphs, cells = documents.prose_of(documents.read(name))
             long += [f"{name}:{at}: a cell of {len(cell.split())} words" for at, cell in cells if len(cell.split()) > 25]
             for at, paragraph in paragraphs:
