@@ -102,9 +102,14 @@ def automaton_picture(text):
     states = sorted({automaton.start, *automaton.state_names, *(edge[2] for edge in automaton.edges)})
     lines += [state_line(state, automaton.state_names.get(state, "")) for state in states]
     lines += ["  begin [shape=point];", f"  begin -> s{automaton.start};"]
+    between = {}
     for source, label, target, marks in automaton.edges:
-        said = wrapped(named(label, automaton.names), "&|") + (f"\n{{{marks}}}" if marks else "")
-        lines.append(f"  s{source} -> s{target} [label={quoted(said)}];")
+        said = wrapped(named(label, automaton.names), "&|") + (f" {{{marks}}}" if marks else "")
+        between.setdefault((source, target), []).append(said)
+    # one line for all edges from a state to another, so that no label lies on another one
+    for (source, target), said in between.items():
+        label = "\n".join(said)
+        lines.append(f"  s{source} -> s{target} [label={quoted(label)}];")
     return "\n".join([*lines, "}", ""])
 
 

@@ -212,7 +212,7 @@ class Pictures(unittest.TestCase):
 
     def test_an_automaton(self):
         dot = self.drawn(AUTOMATON)
-        self.assertIn('s0 -> s0 [label="!r|g\\n{0}"];', dot)
+        self.assertIn('s0 -> s0 [label="!r|g {0}"];', dot)
         self.assertIn('label="Inf(0)\\nenvironment: r\\ncontroller: g"', dot)
         self.assertIn('s0 [label="0 off"];', dot)
 
@@ -220,12 +220,11 @@ class Pictures(unittest.TestCase):
         named = AUTOMATON.replace(b'"off"', b'"waits until the client is granted"').replace(b"[!0|1]", b"[@a0 & (0 | !1) & (0 | !1) & 0]")
         dot = self.drawn(named)
         self.assertIn('s0 [shape=box, style=rounded, label="0\\nwaits until the client is\\ngranted"];', dot)
-        self.assertIn('label="@a0 & (r | !g) & (r | !g) &\\nr\\n{0}"', dot)
+        self.assertIn('label="@a0 & (r | !g) & (r | !g) &\\nr {0}"', dot)
 
     def test_an_edge_without_a_label_bears_its_letter(self):
         dot = self.drawn(b'HOA: v1 States: 1 Start: 0 AP: 1 "a" Acceptance: 0 t --BODY-- State: 0 0 0 --END--')
-        self.assertIn('s0 -> s0 [label="!a"];', dot)
-        self.assertIn('s0 -> s0 [label="a"];', dot)
+        self.assertIn('s0 -> s0 [label="!a\\na"];', dot)
 
     def test_a_circuit(self):
         dot = self.drawn(CIRCUIT)
