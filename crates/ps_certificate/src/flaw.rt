@@ -1,5 +1,7 @@
 //! What is wrong with a certificate.
 
+ghost use Rattle.std.specs.Prelude.{◌≡◌};
+
 /// The first thing that is wrong with a certificate. Vertices are given by place, from 0.
 #[derive(Clone, Copy, Debug, PartialEq, Eq)]
 pub enum Flaw {
@@ -28,4 +30,30 @@ pub enum Flaw {
         /// The opposing priority.
         priority: u64,
     },
+}
+
+impl Flaw {
+    ghost use Rattle.ps_certificate.specs.Faults.{flaw_number, flaw_name};
+
+    /// The flaw's number in psyn's list of faults.
+    pub fn number(self) -> u8
+        ensures { result ≡ flaw_number self }
+    {
+        match self {
+            Flaw::Move { .. } => 50,
+            Flaw::Escape { .. } => 51,
+            Flaw::Rank { .. } => 52,
+        }
+    }
+
+    /// The flaw's name.
+    pub fn name(self) -> &'static str
+        ensures { result.now ≡ flaw_name self }
+    {
+        match self {
+            Flaw::Move { .. } => "Move",
+            Flaw::Escape { .. } => "Escape",
+            Flaw::Rank { .. } => "Rank",
+        }
+    }
 }

@@ -1,5 +1,5 @@
 -- A lasso's outcome, text by text.
-use Rattle.std.proofs.Common.{◌≡◌, ◌∙◌, ◌<◌, ℕ, Bool, true, List, All, length, Result, Ok, Err, refl, inl, inr, subst, sym, codes}
+use Rattle.std.proofs.Common.{◌≡◌, ◌≢◌, ◌∙◌, ◌<◌, ℕ, Bool, true, List, All, length, Result, Ok, Err, refl, inl, inr, subst, sym, codes}
 use Rattle.ps_aiger.specs.Circuits.{CircuitData, IsCircuit}
 use Rattle.ps_aiger.specs.Values.{HasOneValues}
 use Rattle.ps_automaton.specs.Automata.{AutomatonData, IsBuiltFrom}
@@ -9,7 +9,8 @@ use Rattle.ps_simulate.specs.LassoFaults.{IsSound, Stands}
 use Rattle.ps_simulate.specs.Lassos.{IsVerdictOf}
 use Rattle.ps_simulate.specs.Stimuli.{StimulusData}
 use Rattle.ps_simulate.specs.Symbols.{HasSymbols}
-use Rattle.ps_simulate.specs.declared.lassos.LassoFault.TheVariants.{Width, EmptyLap, Symbols}
+use Rattle.ps_simulate.specs.declared.lassos.LassoFault.{LassoFault}
+use Rattle.ps_simulate.specs.declared.lassos.LassoFault.TheVariants.{Width, EmptyLap, Symbols, OutOfMemory}
 use Rattle.ps_simulate.specs.declared.lassos.Verdict.{Verdict}
 use Rattle.ps_simulate.specs.declared.role.Role.{Role}
 use Rattle.ps_program.specs.declared.answer.Answer.{Answer}
@@ -17,7 +18,7 @@ use Rattle.ps_program.specs.declared.answer.Refusal.{Refusal}
 use Rattle.ps_program.specs.declared.answer.Refusal.TheVariants as refusal
 use Rattle.ps_program.specs.Automata.{ReadsAutomaton, GivesAutomaton}
 use Rattle.ps_program.specs.Faults.{fault_text}
-use Rattle.ps_program.specs.Lassos.{AnswersLasso, RunsCircuit, TellsVerdict, verdict_text}
+use Rattle.ps_program.specs.Lassos.{AnswersLasso, RunsCircuit, TellsVerdict, verdict_text, lasso_line}
 use Rattle.ps_program.specs.Outcomes.{Gives}
 use Rattle.ps_program.specs.Replies.{Reply, line_reply, reply_of}
 use Rattle.ps_program.specs.Texts.{CutsInThree, ReadsCircuitText, ReadsStimulusText}
@@ -84,11 +85,17 @@ module _ (role : Role) (file : FileData) (chain : Chain) (a : AutomatonData) (c 
     ),
   )
 
-  pub tells_no_lap : (line : List ℕ) → Stands role a c stem lap EmptyLap → line ≡ codes "fault 71 EmptyLap" → TellsVerdict role file c s (Err line)
+  tells_no_lap : (line : List ℕ) → Stands role a c stem lap EmptyLap → line ≡ lasso_line EmptyLap → TellsVerdict role file c s (Err line)
   tells_no_lap line stands is = inl (sym same_lap ∙ stands.1, is)
 
-  pub tells_no_symbols : (line : List ℕ) → Stands role a c stem lap Symbols → line ≡ codes "fault 72 Symbols" → TellsVerdict role file c s (Err line)
+  tells_no_symbols : (line : List ℕ) → Stands role a c stem lap Symbols → line ≡ lasso_line Symbols → TellsVerdict role file c s (Err line)
   tells_no_symbols line stands is = inr (some_of_lap stands.1, (λ has. stands.2 (symbols_of_automaton has)), is)
+
+  pub tells_fault : (fault : LassoFault) (line : List ℕ) → fault ≢ Width → fault ≢ OutOfMemory → Stands role a c stem lap fault → line ≡ lasso_line fault → TellsVerdict role file c s (Err line)
+  tells_fault Width line not_width some stands is = absurd (not_width refl)
+  tells_fault EmptyLap line not_width some stands is = tells_no_lap line stands is
+  tells_fault Symbols line not_width some stands is = tells_no_symbols line stands is
+  tells_fault OutOfMemory line not_width some stands is = absurd (some refl)
 
 -- each letter of a stimulus has a bit for each input
 pub is_wide : (role : Role) (a : AutomatonData) (c : CircuitData) (s : StimulusData) (stem lap : List (List Bool)) → stem ≡ s.stem → lap ≡ s.lap → All (λ letter. length letter ≡ length c.inputs) s.stem

@@ -3,13 +3,16 @@ use Rattle.std.specs.Prelude.{◌≡◌, ◌<◌, ◌⊎◌, ℕ, true, List, []
 use Rattle.ps_aiger.specs.Circuits.{CircuitData, IsCircuit}
 use Rattle.ps_aiger.specs.Values.{HasOneValues}
 use Rattle.ps_hoa.specs.Files.{FileData}
+use Rattle.ps_simulate.specs.LassoFaultNames.{fault_number, fault_name}
 use Rattle.ps_simulate.specs.Lassos.{IsVerdictOf}
 use Rattle.ps_simulate.specs.Stimuli.{StimulusData}
 use Rattle.ps_simulate.specs.Symbols.{HasSymbols}
+use Rattle.ps_simulate.specs.declared.lassos.LassoFault.{LassoFault}
+use Rattle.ps_simulate.specs.declared.lassos.LassoFault.TheVariants.{EmptyLap, Symbols}
 use Rattle.ps_simulate.specs.declared.lassos.Verdict.{Verdict}
 use Rattle.ps_simulate.specs.declared.role.Role.{Role}
 use Rattle.ps_program.specs.Automata.{ReadsAutomaton}
-use Rattle.ps_program.specs.Faults.{spaced}
+use Rattle.ps_program.specs.Faults.{spaced, line_text}
 use Rattle.ps_program.specs.Outcomes.{Then}
 use Rattle.ps_program.specs.Replies.{Reply, line_reply}
 use Rattle.ps_program.specs.Texts.{CutsInThree, ReadsCircuitText, ReadsStimulusText}
@@ -18,13 +21,17 @@ use Rattle.ps_program.specs.Texts.{CutsInThree, ReadsCircuitText, ReadsStimulusT
 abbrev pub verdict_text : Verdict → List ℕ
 verdict_text v = (if v.accepted then codes "accepted" else codes "rejected") ++ codes " stem" ++ spaced v.stem ++ codes " lap" ++ spaced v.lap
 
+-- the line of what is wrong with the lap or the symbols
+abbrev pub lasso_line : LassoFault → List ℕ
+lasso_line fault = line_text (fault_number fault) (fault_name fault) []
+
 -- the verdict, where the lap has a letter and the symbols are those of the role, or else the first of these that is wrong; the
 -- values of the circuit are those of its equations and no others
 abbrev pub TellsVerdict : Role → FileData → CircuitData → StimulusData → Result Reply (List ℕ) → Type 0
 TellsVerdict role file c s (Ok reply) = IsCircuit c × HasOneValues c × (0 < length s.lap) × HasSymbols role file.names file.controllable c
     × ((v : Verdict) × IsVerdictOf file c s.stem s.lap v × (reply ≡ line_reply (verdict_text v)))
-TellsVerdict role file c s (Err line) = ((s.lap ≡ []) × (line ≡ codes "fault 71 EmptyLap"))
-    ⊎ ((0 < length s.lap) × ¬ HasSymbols role file.names file.controllable c × (line ≡ codes "fault 72 Symbols"))
+TellsVerdict role file c s (Err line) = ((s.lap ≡ []) × (line ≡ lasso_line EmptyLap))
+    ⊎ ((0 < length s.lap) × ¬ HasSymbols role file.names file.controllable c × (line ≡ lasso_line Symbols))
 
 -- the circuit of a text in that role, on the stimulus of another text, which has a divider
 abbrev pub RunsCircuit : Role → FileData → List ℕ → List ℕ → Result Reply (List ℕ) → Type 0

@@ -1,34 +1,42 @@
--- The faults of synthesis, as the program answers them.
+-- The faults of synthesis, as the program answers them: by the number and the name that each says of itself.
 --     automaton_line fault      the line of a fault for which a file has no automaton
 --     stage_line fault      the line of a fault for which there is no certificate, no circuit or no report
-use Rattle.std.specs.Prelude.{◌≡◌, ⊤, ℕ, List, ◌++◌, codes, Option, None, Some}
+use Rattle.std.specs.Prelude.{◌≡◌, ⊤, ℕ, List, [], Option, None, Some}
+use Rattle.ps_automaton.specs.FaultNames as automaton_faults
 use Rattle.ps_automaton.specs.declared.fault.AutomatonFault.{AutomatonFault}
 use Rattle.ps_automaton.specs.declared.fault.AutomatonFault.TheVariants as automaton
-use Rattle.ps_certificate.specs.Faults as certificate
-use Rattle.ps_hoa.specs.CauseNames as hoa_names
-use Rattle.ps_hoa.specs.Causes as hoa
+use Rattle.ps_synthesis.specs.SynthFaultNames as synth_faults
 use Rattle.ps_synthesis.specs.declared.fault.SynthFault.{SynthFault}
 use Rattle.ps_synthesis.specs.declared.fault.SynthFault.TheVariants.{Text, Automaton, BadCycle, Certificate, NotCertified, CircuitTooLarge, OutOfMemory}
 use Rattle.ps_program.specs.declared.answer.Refusal.{Refusal}
 use Rattle.ps_program.specs.declared.answer.Refusal.TheVariants as refusal
-use Rattle.ps_program.specs.Faults.{fault_text, ids_text, spaced, text_line}
+use Rattle.ps_program.specs.Faults.{byte_text, edges_text, fault_text, ids_text, line_text}
 
--- for want of memory there is none
+-- where a fault stands; want of memory has no line
+abbrev pub automaton_place : AutomatonFault → Option (List ℕ)
+automaton_place automaton.ComplementedSet = Some []
+automaton_place automaton.NonParity = Some []
+automaton_place (automaton.Nondeterministic state first second) = Some (edges_text state first second)
+automaton_place automaton.OutOfMemory = None
+
+abbrev pub stage_place : SynthFault → Option (List ℕ)
+stage_place (Text cause offset) = Some (byte_text offset)
+stage_place (Automaton fault) = automaton_place fault
+stage_place (BadCycle ids) = Some (ids_text ids.items)
+stage_place (Certificate cause offset) = Some (byte_text offset)
+stage_place NotCertified = Some []
+stage_place CircuitTooLarge = Some []
+stage_place OutOfMemory = None
+
+abbrev pub line_at : ℕ → List ℕ → Option (List ℕ) → Option (List ℕ)
+line_at number name None = None
+line_at number name (Some place) = Some (line_text number name place)
+
 abbrev pub automaton_line : AutomatonFault → Option (List ℕ)
-automaton_line automaton.ComplementedSet = Some (codes "fault 18 ComplementedSet")
-automaton_line automaton.NonParity = Some (codes "fault 17 NonParity")
-automaton_line (automaton.Nondeterministic state first second) =
-    Some (codes "fault 21 Nondeterministic state" ++ spaced state ++ codes " edges" ++ spaced first ++ spaced second)
-automaton_line automaton.OutOfMemory = None
+automaton_line fault = line_at (automaton_faults.fault_number fault) (automaton_faults.fault_name fault) (automaton_place fault)
 
 abbrev pub stage_line : SynthFault → Option (List ℕ)
-stage_line (Text cause offset) = Some (text_line (hoa.cause_number cause) (hoa_names.cause_name cause) offset)
-stage_line (Automaton fault) = automaton_line fault
-stage_line (BadCycle ids) = Some (codes "fault 40 BadCycle" ++ ids_text ids.items)
-stage_line (Certificate cause offset) = Some (text_line (certificate.cause_number cause) (certificate.cause_name cause) offset)
-stage_line NotCertified = Some (codes "fault 41 NotCertified")
-stage_line CircuitTooLarge = Some (codes "fault 60 CircuitTooLarge")
-stage_line OutOfMemory = None
+stage_line fault = line_at (synth_faults.fault_number fault) (synth_faults.fault_name fault) (stage_place fault)
 
 -- the fault lies with the solver
 abbrev pub IsOfSolver : SynthFault → Type 0

@@ -16,13 +16,13 @@ use Rattle.ps_simulate.specs.Faults as stimulus
 use Rattle.ps_simulate.specs.Stimuli.{StimulusData}
 use Rattle.ps_simulate.specs.StimulusTexts as stimulus_text
 use Rattle.ps_program.specs.Cut.{AreTexts, HasFewerMarks}
-use Rattle.ps_program.specs.Faults.{spaced, choice_text}
+use Rattle.ps_program.specs.Faults.{spaced, choice_text, line_text}
 use Rattle.ps_program.specs.Outcomes.{Then, Reading}
 
 -- ---- the cut
 
 abbrev pub missing_text : List ℕ
-missing_text = codes "fault 27 MissingText"
+missing_text = line_text 27 (codes "MissingText") []
 
 -- two texts
 abbrev pub CutsInTwo : List ℕ → Result (List ℕ × List ℕ) (List ℕ) → Type 0
@@ -73,12 +73,15 @@ ReadsSimulated texts =
 abbrev pub id_of : NamedGameData → ℕ → ℕ
 id_of named v = slice_index named.ids v
 
--- the line of a flaw, which names vertices by their ids
+-- where a flaw stands: vertices are named by their ids
+abbrev pub flaw_place : NamedGameData → Flaw → List ℕ
+flaw_place named (flaw.Move v choice) = spaced (id_of named v) ++ choice_text (option_map (id_of named) choice)
+flaw_place named (flaw.Escape v w) = spaced (id_of named v) ++ spaced (id_of named w)
+flaw_place named (flaw.Rank v w p) = spaced (id_of named v) ++ spaced (id_of named w) ++ spaced p
+
+-- the line of a flaw
 abbrev pub flaw_text : NamedGameData → Flaw → List ℕ
-flaw_text named (flaw.Move v choice) = codes "fault 50 Move" ++ spaced (id_of named v) ++ choice_text (option_map (id_of named) choice)
-flaw_text named (flaw.Escape v w) = codes "fault 51 Escape" ++ spaced (id_of named v) ++ spaced (id_of named w)
-flaw_text named (flaw.Rank v w p) =
-    codes "fault 52 Rank" ++ spaced (id_of named v) ++ spaced (id_of named w) ++ spaced p
+flaw_text named flaw = line_text (certificate.flaw_number flaw) (certificate.flaw_name flaw) (flaw_place named flaw)
 
 -- the flaw speaks of vertices below a number
 abbrev pub NamesVertices : ℕ → Flaw → Type 0

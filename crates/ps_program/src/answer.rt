@@ -3,7 +3,7 @@
 ghost use Rattle.std.specs.Prelude.{◌≡◌, IfOk};
 ghost use Rattle.ps_program.specs.Outcomes.{Settles};
 
-use crate::fault::{FaultLine, PlainFault};
+use crate::fault::{FaultLine, Place};
 use ps_text::faults::{Cause, Fault};
 use std::alloc::{AllocError, Global};
 
@@ -21,6 +21,9 @@ pub const UNREALIZABLE: u8 = 20;
 
 /// The status of a refused command line.
 const REFUSED: u8 = 2;
+
+/// The line of a command line that is refused.
+const USAGE: &str = "fault usage\n";
 
 /// The line of an input that can't be read.
 pub const READ_FAULT: &[u8] = b"fault 25 ReadFault\n";
@@ -156,8 +159,7 @@ impl Answer {
     pub fn usage(alloc: Global) -> Result<Answer, AllocError>
         ensures { IfOk result (λ answer. reply_of answer ≡ reply.usage) }
     {
-        let fault = FaultLine::Usage;
-        let text = format!(in alloc; "{fault}\n")?.into_bytes();
+        let text = String::from_str(alloc, USAGE)?.into_bytes();
         Ok(Answer {
             text,
             status: REFUSED,
@@ -192,18 +194,6 @@ impl From<AllocError> for Refusal {
     }
 }
 
-/// A fault of no place is answered by its line.
-impl From<PlainFault> for Refusal {
-    ghost use Rattle.ps_program.specs.declared.answer.Refusal.TheVariants as refusal;
-    ghost use Rattle.ps_program.specs.declared.fault.FaultLine.TheVariants as line;
-
-    ghost from_gives = { λ fault given. given ≡ refusal.Fault (line.Plain fault) };
-
-    fn from(fault: PlainFault) -> Self {
-        Refusal::Fault(FaultLine::Plain(fault))
-    }
-}
-
 /// A text's fault is answered by the number and the name of its cause.
 impl<C: Cause> From<Fault<C>> for Refusal {
     ghost use Rattle.ps_program.specs.Refusals.{IsRefusalOf};
@@ -212,10 +202,10 @@ impl<C: Cause> From<Fault<C>> for Refusal {
 
     fn from(fault: Fault<C>) -> Self {
         match fault {
-            Fault::Text { cause, offset } => Refusal::Fault(FaultLine::Text {
+            Fault::Text { cause, offset } => Refusal::Fault(FaultLine {
                 number: cause.number(),
                 name: cause.name(),
-                offset,
+                place: Place::Byte(offset),
             }),
             Fault::OutOfMemory => Refusal::OutOfMemory,
         }

@@ -1,52 +1,43 @@
 //! The faults that the program answers, each in one line.
 
-/// A fault of no place.
-#[derive(Clone, Copy)]
-pub enum PlainFault {
-    NonParity,
-    ComplementedSet,
-    OutOfMemory,
-    ReadFault,
-    MissingText,
-    NotCertified,
-    CircuitTooLarge,
-    EmptyLap,
-    Symbols,
+/// What the program answers in place of an answer: a fault's number and name, as docs/FAULTS.md lists them, and where it stands.
+#[derive(Drop)]
+pub struct FaultLine {
+    /// The number.
+    pub number: u8,
+    /// The name.
+    pub name: &'static str,
+    /// Where it stands.
+    pub place: Place,
 }
 
-/// What the program answers in place of an answer. Vertices are named by the game's ids.
+/// Where a fault stands. Vertices are named by the game's ids.
 #[derive(Drop)]
-pub enum FaultLine {
-    /// The command line is refused.
-    Usage,
-    /// A fault at a byte of a text, counted from 0, by the number and the name of its cause.
-    Text {
-        number: u8,
-        name: &'static str,
-        offset: usize,
-    },
-    /// A fault of no place.
-    Plain(PlainFault),
-    /// Two edges of a state share a letter, and differ.
-    Nondeterministic {
+pub enum Place {
+    /// In no place.
+    Nowhere,
+    /// At a byte of a text, counted from 0.
+    Byte(usize),
+    /// At two edges of a state.
+    Edges {
         state: usize,
         first: usize,
         second: usize,
     },
-    /// The vertices of a cycle that the player of the region loses.
-    BadCycle(Vec<u64>),
-    /// The vertex has a move that it may not have, or has none.
+    /// On a cycle of vertices.
+    Cycle(Vec<u64>),
+    /// At a vertex, with its move.
     Move {
         vertex: u64,
         choice: Option<u64>,
     },
-    /// The edge leads out of the region.
-    Escape {
+    /// At an edge of a game.
+    Edge {
         vertex: u64,
         successor: u64,
     },
-    /// The edge breaks the rule of counts for the priority.
-    Rank {
+    /// At an edge of a game, with the count for a priority.
+    Count {
         vertex: u64,
         successor: u64,
         priority: u64,

@@ -1,30 +1,10 @@
 //! The bytes of a fault's line.
 
 ghost use Rattle.std.specs.Prelude.{Some};
-ghost use Rattle.ps_program.specs.Faults.{plain_label, fault_text, ids_text};
+ghost use Rattle.ps_program.specs.Faults.{fault_text, ids_text, place_text};
 
-use crate::fault::{FaultLine, PlainFault};
+use crate::fault::{FaultLine, Place};
 use std::fmt;
-
-/// The fault's number and name.
-impl fmt::Display for PlainFault {
-    ghost output = { λ fault. Some (plain_label fault) };
-
-    fn fmt<W: fmt::Write>(&self, f: &mut fmt::Formatter<W>) -> fmt::Result {
-        let label = match self {
-            PlainFault::NonParity => "17 NonParity",
-            PlainFault::ComplementedSet => "18 ComplementedSet",
-            PlainFault::OutOfMemory => "24 OutOfMemory",
-            PlainFault::ReadFault => "25 ReadFault",
-            PlainFault::MissingText => "27 MissingText",
-            PlainFault::NotCertified => "41 NotCertified",
-            PlainFault::CircuitTooLarge => "60 CircuitTooLarge",
-            PlainFault::EmptyLap => "71 EmptyLap",
-            PlainFault::Symbols => "72 Symbols",
-        };
-        f.write_str(label)
-    }
-}
 
 /// Numbers, each behind a space.
 #[derive(Clone, Copy)]
@@ -41,47 +21,51 @@ impl fmt::Display for Ids<'_> {
     }
 }
 
+/// The place, behind a space where there is one.
+impl fmt::Display for Place {
+    ghost output = { λ place. Some (place_text place) };
+
+    fn fmt<W: fmt::Write>(&self, f: &mut fmt::Formatter<W>) -> fmt::Result {
+        match self {
+            Place::Nowhere => Ok(()),
+            Place::Byte(offset) => write!(f, " at {offset}"),
+            Place::Edges {
+                state,
+                first,
+                second,
+            } => write!(f, " state {state} edges {first} {second}"),
+            Place::Cycle(ids) => {
+                let ids = Ids(ids.as_slice());
+                write!(f, "{ids}")
+            }
+            Place::Move {
+                vertex,
+                choice: Some(choice),
+            } => write!(f, " {vertex} {choice}"),
+            Place::Move {
+                vertex,
+                choice: None,
+            } => write!(f, " {vertex} -"),
+            Place::Edge { vertex, successor } => write!(f, " {vertex} {successor}"),
+            Place::Count {
+                vertex,
+                successor,
+                priority,
+            } => write!(f, " {vertex} {successor} {priority}"),
+        }
+    }
+}
+
 /// The line, without the newline that ends it.
 impl fmt::Display for FaultLine {
     ghost output = { λ line. Some (fault_text line) };
 
     fn fmt<W: fmt::Write>(&self, f: &mut fmt::Formatter<W>) -> fmt::Result {
-        match self {
-            FaultLine::Usage => write!(f, "fault usage"),
-            FaultLine::Text {
-                number,
-                name,
-                offset,
-            } => write!(f, "fault {number} {name} at {offset}"),
-            FaultLine::Plain(fault) => write!(f, "fault {fault}"),
-            FaultLine::Nondeterministic {
-                state,
-                first,
-                second,
-            } => write!(
-                f,
-                "fault 21 Nondeterministic state {state} edges {first} {second}"
-            ),
-            FaultLine::BadCycle(ids) => {
-                let ids = Ids(ids.as_slice());
-                write!(f, "fault 40 BadCycle{ids}")
-            }
-            FaultLine::Move {
-                vertex,
-                choice: Some(choice),
-            } => write!(f, "fault 50 Move {vertex} {choice}"),
-            FaultLine::Move {
-                vertex,
-                choice: None,
-            } => write!(f, "fault 50 Move {vertex} -"),
-            FaultLine::Escape { vertex, successor } => {
-                write!(f, "fault 51 Escape {vertex} {successor}")
-            }
-            FaultLine::Rank {
-                vertex,
-                successor,
-                priority,
-            } => write!(f, "fault 52 Rank {vertex} {successor} {priority}"),
-        }
+        let FaultLine {
+            number,
+            name,
+            place,
+        } = self;
+        write!(f, "fault {number} {name}{place}")
     }
 }

@@ -34,7 +34,7 @@ pub use commands::game::{game, read_game_of};
 pub use commands::lasso::lasso;
 pub use commands::sim::sim;
 pub use cut::first_line;
-pub use fault::{FaultLine, PlainFault};
+pub use fault::{FaultLine, Place};
 pub use laws::one_answer;
 pub use printing::print;
 pub use reading::{INPUT_LIMIT, InputFault, read_input};

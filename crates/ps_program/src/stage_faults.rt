@@ -1,10 +1,9 @@
 //! The faults of synthesis, as the program answers them.
 
 use crate::answer::Refusal;
-use crate::fault::{FaultLine, PlainFault};
+use crate::fault::{FaultLine, Place};
 use ps_automaton::AutomatonFault;
 use ps_synthesis::SynthFault;
-use ps_text::faults::Fault;
 
 /// Why a file has no automaton.
 impl From<AutomatonFault> for Refusal {
@@ -13,20 +12,24 @@ impl From<AutomatonFault> for Refusal {
     ghost from_gives = { IsAutomatonTold };
 
     fn from(fault: AutomatonFault) -> Self {
-        match fault {
-            AutomatonFault::ComplementedSet => Refusal::from(PlainFault::ComplementedSet),
-            AutomatonFault::NonParity => Refusal::from(PlainFault::NonParity),
+        let place = match fault {
+            AutomatonFault::ComplementedSet | AutomatonFault::NonParity => Place::Nowhere,
             AutomatonFault::Nondeterministic {
                 state,
                 first,
                 second,
-            } => Refusal::Fault(FaultLine::Nondeterministic {
+            } => Place::Edges {
                 state: state as usize,
                 first,
                 second,
-            }),
-            AutomatonFault::OutOfMemory => Refusal::OutOfMemory,
-        }
+            },
+            AutomatonFault::OutOfMemory => return Refusal::OutOfMemory,
+        };
+        Refusal::Fault(FaultLine {
+            number: fault.number(),
+            name: fault.name(),
+            place,
+        })
     }
 }
 
@@ -37,16 +40,20 @@ impl From<SynthFault> for Refusal {
     ghost from_gives = { IsTold };
 
     fn from(fault: SynthFault) -> Self {
-        match fault {
-            SynthFault::Text { cause, offset } => Refusal::from(Fault::Text { cause, offset }),
-            SynthFault::Automaton(fault) => Refusal::from(fault),
-            SynthFault::BadCycle(ids) => Refusal::Fault(FaultLine::BadCycle(ids)),
-            SynthFault::Certificate { cause, offset } => {
-                Refusal::from(Fault::Text { cause, offset })
-            }
-            SynthFault::NotCertified => Refusal::from(PlainFault::NotCertified),
-            SynthFault::CircuitTooLarge => Refusal::from(PlainFault::CircuitTooLarge),
-            SynthFault::OutOfMemory => Refusal::OutOfMemory,
-        }
+        let number = fault.number();
+        let name = fault.name();
+        let place = match fault {
+            SynthFault::Automaton(fault) => return Refusal::from(fault),
+            SynthFault::Text { cause: _, offset } | SynthFault::Certificate { cause: _, offset } =>
+                { Place::Byte(offset) }
+            SynthFault::BadCycle(ids) => Place::Cycle(ids),
+            SynthFault::NotCertified | SynthFault::CircuitTooLarge => Place::Nowhere,
+            SynthFault::OutOfMemory => return Refusal::OutOfMemory,
+        };
+        Refusal::Fault(FaultLine {
+            number,
+            name,
+            place,
+        })
     }
 }

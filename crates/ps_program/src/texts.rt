@@ -6,16 +6,27 @@ ghost use Rattle.ps_certificate.specs.Certificates.{Fits};
 ghost use Rattle.ps_game.specs.Games.{vertex_count};
 ghost use Rattle.ps_program.specs.Faults.{fault_text};
 ghost use Rattle.ps_program.specs.Outcomes.{Gives};
-ghost use Rattle.ps_program.specs.Texts.{CutsInTwo, CutsInThree, ReadsGameText, ReadsCertificateText, ReadsCertified, ReadsCircuitText, ReadsStimulusText, ReadsSimulated, NamesVertices, flaw_text};
+ghost use Rattle.ps_program.specs.Texts.{CutsInTwo, CutsInThree, ReadsGameText, ReadsCertificateText, ReadsCertified, ReadsCircuitText, ReadsStimulusText, ReadsSimulated, NamesVertices, flaw_text, missing_text};
 
 use crate::answer::Refusal;
 use crate::cut::cut;
-use crate::fault::{FaultLine, PlainFault};
+use crate::fault::{FaultLine, Place};
 use ps_aiger::Circuit;
 use ps_certificate::{Certificate, Flaw};
 use ps_game::NamedGame;
 use ps_simulate::Stimulus;
 use std::alloc::Global;
+
+/// The line of a text that is missing.
+fn missing_text() -> FaultLine
+    ensures { fault_text result ≡ missing_text }
+{
+    FaultLine {
+        number: 27,
+        name: "MissingText",
+        place: Place::Nowhere,
+    }
+}
 
 /// Two texts.
 pub fn two_texts(texts: &[u8]) -> Result<(&[u8], &[u8]), Refusal>
@@ -23,7 +34,7 @@ pub fn two_texts(texts: &[u8]) -> Result<(&[u8], &[u8]), Refusal>
 {
     match cut(texts) {
         Some(parts) => Ok(parts),
-        None => Err(Refusal::Fault(FaultLine::Plain(PlainFault::MissingText))),
+        None => Err(Refusal::Fault(missing_text())),
     }
 }
 
@@ -36,7 +47,7 @@ pub fn three_texts(texts: &[u8]) -> Result<(&[u8], &[u8], &[u8]), Refusal>
     {
         return Ok((first, second, third));
     }
-    Err(Refusal::Fault(FaultLine::Plain(PlainFault::MissingText)))
+    Err(Refusal::Fault(missing_text()))
 }
 
 /// A game.
@@ -114,15 +125,15 @@ pub fn flaw_line(game: &NamedGame, flaw: Flaw) -> FaultLine
     requires { NamesVertices (vertex_count game.now.game) flaw }
     ensures { fault_text result ≡ flaw_text game.now flaw }
 {
-    match flaw {
-        Flaw::Move { vertex, choice } => FaultLine::Move {
+    let place = match flaw {
+        Flaw::Move { vertex, choice } => Place::Move {
             vertex: game.id(vertex),
             choice: match choice {
                 Some(successor) => Some(game.id(successor)),
                 None => None,
             },
         },
-        Flaw::Escape { vertex, successor } => FaultLine::Escape {
+        Flaw::Escape { vertex, successor } => Place::Edge {
             vertex: game.id(vertex),
             successor: game.id(successor),
         },
@@ -130,10 +141,15 @@ pub fn flaw_line(game: &NamedGame, flaw: Flaw) -> FaultLine
             vertex,
             successor,
             priority,
-        } => FaultLine::Rank {
+        } => Place::Count {
             vertex: game.id(vertex),
             successor: game.id(successor),
             priority,
         },
+    };
+    FaultLine {
+        number: flaw.number(),
+        name: flaw.name(),
+        place,
     }
 }

@@ -1,5 +1,7 @@
 -- The numbers and the names of the faults for which a text gets no report.
 use Rattle.std.specs.Prelude.{ℕ, List, codes}
+use Rattle.ps_aiger.specs.EncodeFaultNames as encode
+use Rattle.ps_aiger.specs.declared.encode_fault.EncodeFault.TheVariants as encoding
 use Rattle.ps_automaton.specs.FaultNames as automaton
 use Rattle.ps_certificate.specs.Faults as certificate
 use Rattle.ps_hoa.specs.CauseNames as hoa_names
@@ -13,7 +15,7 @@ fault_number (Automaton fault) = automaton.fault_number fault
 fault_number (BadCycle ids) = 40
 fault_number (Certificate cause offset) = certificate.cause_number cause
 fault_number NotCertified = 41
-fault_number CircuitTooLarge = 60
+fault_number CircuitTooLarge = encode.fault_number encoding.CircuitTooLarge
 fault_number OutOfMemory = 24
 
 abbrev pub fault_name : SynthFault → List ℕ
@@ -22,5 +24,5 @@ fault_name (Automaton fault) = automaton.fault_name fault
 fault_name (BadCycle ids) = codes "BadCycle"
 fault_name (Certificate cause offset) = certificate.cause_name cause
 fault_name NotCertified = codes "NotCertified"
-fault_name CircuitTooLarge = codes "CircuitTooLarge"
+fault_name CircuitTooLarge = encode.fault_name encoding.CircuitTooLarge
 fault_name OutOfMemory = codes "OutOfMemory"

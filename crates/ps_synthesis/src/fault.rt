@@ -60,7 +60,7 @@ impl SynthFault {
             SynthFault::BadCycle(_) => 40,
             SynthFault::Certificate { cause, .. } => cause.number(),
             SynthFault::NotCertified => 41,
-            SynthFault::CircuitTooLarge => 60,
+            SynthFault::CircuitTooLarge => EncodeFault::CircuitTooLarge.number(),
             SynthFault::OutOfMemory => 24,
         }
     }
@@ -75,7 +75,7 @@ impl SynthFault {
             SynthFault::BadCycle(_) => "BadCycle",
             SynthFault::Certificate { cause, .. } => cause.name(),
             SynthFault::NotCertified => "NotCertified",
-            SynthFault::CircuitTooLarge => "CircuitTooLarge",
+            SynthFault::CircuitTooLarge => EncodeFault::CircuitTooLarge.name(),
             SynthFault::OutOfMemory => "OutOfMemory",
         }
     }

@@ -11,7 +11,7 @@ ghost use Rattle.ps_program.specs.Replies.{reply_of};
 
 use crate::answer::{Answer, Refusal};
 use crate::automata::read_automaton;
-use crate::fault::{FaultLine, PlainFault};
+use crate::fault::{FaultLine, Place};
 use crate::texts::{read_circuit, read_stimulus, three_texts};
 use ps_aiger::Circuit;
 use ps_automaton::Automaton;
@@ -66,10 +66,13 @@ fn tell(
         &stimulus.lap,
     ) {
         Ok(verdict) => Ok(Answer::text(verdict_line(alloc, verdict)?)),
-        Err(LassoFault::EmptyLap) => Err(Refusal::Fault(FaultLine::Plain(PlainFault::EmptyLap))),
-        Err(LassoFault::Symbols) => Err(Refusal::Fault(FaultLine::Plain(PlainFault::Symbols))),
         Err(LassoFault::OutOfMemory) => Err(Refusal::OutOfMemory),
         Err(LassoFault::Width) => unreachable!(),
+        Err(fault) => Err(Refusal::Fault(FaultLine {
+            number: fault.number(),
+            name: fault.name(),
+            place: Place::Nowhere,
+        })),
     }
 }
 
