@@ -25,7 +25,7 @@ BENCH = os.path.dirname(os.path.abspath(__file__))
 TOP = os.path.dirname(BENCH)
 sys.path.insert(0, BENCH)
 from sources import copy_program  # noqa: E402
-STANDS_ON = ("ps_aiger", "ps_simulate")
+STANDS_ON = ("ps_circuit", "ps_simulate")
 SIZES = (10_000, 100_000, 1_000_000)
 LETTERS = 8
 

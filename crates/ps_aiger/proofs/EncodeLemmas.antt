@@ -7,34 +7,34 @@ use Rattle.std.proofs.lemmas.List.{length-map, get_or-map, same_lists, length-re
 use Rattle.std.proofs.lemmas.List.Concat.{flat_map-cons}
 use Rattle.std.proofs.lemmas.List.Elements.{All-append, All-map}
 use Rattle.std.proofs.lemmas.Option.{slice_get_within, slice_get-get_or, get_or_from_slice_get}
-use Rattle.ps_aiger.specs.declared.builder.Sides.{Sides}
+use Rattle.ps_circuit.specs.declared.builder.Sides.{Sides}
 use Rattle.ps_aiger.specs.declared.functions.Wanted.{Wanted}
 use Rattle.ps_aiger.specs.declared.functions.Wanted.TheVariants.{Next, Output}
-use Rattle.ps_aiger.specs.declared.parts.Gate.{Gate}
-use Rattle.ps_aiger.specs.declared.parts.Latch.{Latch}
+use Rattle.ps_circuit.specs.declared.parts.Gate.{Gate}
+use Rattle.ps_circuit.specs.declared.parts.Latch.{Latch}
 use Rattle.ps_label.specs.Truth.{is_in}
 use Rattle.ps_hoa.specs.Files.{is_among}
 use Rattle.ps_machine.specs.Machines.{MachineData, IsMachine, memories_of, step_of, next_of, plays}
-use Rattle.ps_aiger.specs.Circuits.{CircuitData, IsDraft, IsCircuit, IsDefinition, IsKnown, IsName, Reads, variable, definitions}
-use Rattle.ps_aiger.specs.Building.{Drafted, Extends, AreSides, IsSound, Meets, bit}
+use Rattle.ps_circuit.specs.Circuits.{CircuitData, IsDraft, IsCircuit, IsDefinition, IsKnown, IsName, Reads, variable, definitions}
+use Rattle.ps_circuit.specs.Building.{Drafted, Extends, AreSides, IsSound, Meets, bit}
 use Rattle.ps_aiger.specs.Built.{AreLiterals, IsBuilt}
 use Rattle.ps_aiger.specs.Encoded.{Encodes, IsTidy, IsTidyGate, SeesNoInput, StepsAs, number_of, memory_of, letter_over, bits_over, symbols_of}
-use Rattle.ps_aiger.specs.Values.{Steps, bit_of, value_of, resets}
+use Rattle.ps_circuit.specs.Values.{Steps, bit_of, value_of, resets}
 use Rattle.std.specs.Option.{unwrap_or}
 use Rattle.std.proofs.lemmas.Bool.{ltb-true}
 use Rattle.std.proofs.lemmas.List.{get_or_default, get_or_append_left, get_or_push, map-append, take_more}
 use Rattle.std.specs.Global.{Global}
 use Rattle.ps_hoa.specs.Memory.{bytes_of}
-use Rattle.ps_aiger.specs.Drafts.{name_bytes}
+use Rattle.ps_circuit.specs.Drafts.{name_bytes}
 use Rattle.ps_hoa.specs.Header.{has_control, is_control, is_empty}
 use Rattle.ps_hoa.specs.Sound.{AreNames}
 use Rattle.ps_machine.specs.Machines.{row_of}
-use Rattle.ps_aiger.specs.Values.{MeetsGate}
+use Rattle.ps_circuit.specs.Values.{MeetsGate}
 use Rattle.ps_aiger.specs.Functions.{wanted_bit, wanted_place, HasInputs, IsLiteralAt, latches_before, memory_at}
 use Rattle.ps_aiger.proofs.LetterLemmas.{AreFrom, few_rise, letter_bit, bit_for-at, bit_for-none, number_is, number_of_letter}
 use Rattle.ps_aiger.proofs.RangeLemmas.{even_literals, even-append, length-even, even-at}
 use Rattle.ps_aiger.proofs.FunctionLemmas.{at-kept}
-use Rattle.ps_aiger.proofs.GateLemmas.{bool_cases, true_is_not_false, bit-plain, sides_are}
+use Rattle.ps_circuit.proofs.GateLemmas.{bool_cases, true_is_not_false, bit-plain, sides_are}
 
 pub no_gate : Gate
 no_gate = record { literal = 0; first = 0; second = 0 }

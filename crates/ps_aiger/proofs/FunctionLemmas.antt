@@ -7,7 +7,7 @@ use Rattle.std.proofs.lemmas.List.{get_or_past}
 use Rattle.std.proofs.lemmas.Option.{slice_get_within}
 use Rattle.std.proofs.lemmas.Nat.{one_shl}
 use Rattle.std.proofs.Math.Nat.{pow-suc}
-use Rattle.ps_aiger.specs.declared.encode_fault.EncodeFault.{EncodeFault}
+use Rattle.ps_circuit.specs.declared.encode_fault.EncodeFault.{EncodeFault}
 use Rattle.std.proofs.lemmas.Nat.Bits.{bit_at_above}
 use Rattle.ps_label.specs.Truth.{is_in}
 use Rattle.ps_hoa.specs.Files.{is_among}
@@ -16,9 +16,9 @@ use Rattle.ps_diagram.specs.Views.{SeesTest}
 use Rattle.ps_machine.specs.Machines.{MachineData, row_of, step_of}
 use Rattle.ps_aiger.specs.declared.functions.Wanted.{Wanted}
 use Rattle.ps_aiger.specs.declared.functions.Wanted.TheVariants.{Next, Output}
-use Rattle.ps_aiger.specs.Building.{Drafted, Extends, IsHeld, Meets, bit}
+use Rattle.ps_circuit.specs.Building.{Drafted, Extends, IsHeld, Meets, bit}
 use Rattle.ps_aiger.specs.Functions.{wanted_bit, IsLiteralOf, KnowsLiterals, latches_before, memory_at, IsLiteralAt}
-use Rattle.ps_aiger.proofs.GateLemmas.{bool_cases, bit-plain, held-extends, meets-extends}
+use Rattle.ps_circuit.proofs.GateLemmas.{bool_cases, bit-plain, held-extends, meets-extends}
 
 pub not_among : (q : ℕ) (ps : List ℕ) → ((k : ℕ) → k < length ps → get_or ps k 0 ≡ q → ⊥) → is_among q ps ≡ false
 not_among q [] h = refl

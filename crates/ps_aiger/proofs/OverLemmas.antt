@@ -11,14 +11,15 @@ use Rattle.ps_diagram.specs.Table.{leaf_of}
 use Rattle.ps_diagram.specs.Views.{SeesTest, HeedsBehind}
 use Rattle.ps_machine.specs.Machines.{MachineData, IsMachine, row_of}
 use Rattle.ps_aiger.specs.declared.functions.Wanted.{Wanted}
-use Rattle.ps_aiger.specs.Building.{Drafted, Extends}
+use Rattle.ps_circuit.specs.Building.{Drafted, Extends}
 use Rattle.ps_aiger.specs.Encoded.{letter_over}
 use Rattle.ps_aiger.specs.Functions.{wanted_bit, row_by}
-use Rattle.ps_aiger.specs.Gates.{Made, mux_of, over_variables, node_made}
+use Rattle.ps_circuit.specs.Gates.{Made, mux_of}
+use Rattle.ps_aiger.specs.Wires.{over_variables, node_made}
 use Rattle.ps_aiger.proofs.LetterLemmas.{AreFrom, bit_for, letter_bit, bit_for-at, bit_for-none, no_test}
 use Rattle.ps_aiger.proofs.FunctionLemmas.{by_cond, no_row, nothing_wanted}
-use Rattle.ps_aiger.proofs.GateLemmas.{extends-refl, extends-trans}
-use Rattle.ps_aiger.proofs.MadeLemmas.{IsThere, mux-extends, mux-again, mux-same}
+use Rattle.ps_circuit.proofs.GateLemmas.{extends-refl, extends-trans}
+use Rattle.ps_circuit.proofs.MadeLemmas.{IsThere, mux-extends, mux-again, mux-same}
 
 -- ## Functions of some variables
 

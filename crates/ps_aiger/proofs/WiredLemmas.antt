@@ -9,15 +9,16 @@ use Rattle.std.proofs.lemmas.Option.{get_or_from_slice_get}
 use Rattle.ps_machine.specs.Machines.{MachineData, memories_of}
 use Rattle.ps_aiger.specs.declared.functions.Wanted.{Wanted}
 use Rattle.ps_aiger.specs.declared.functions.Wanted.TheVariants.{Next, Output}
-use Rattle.ps_aiger.specs.declared.parts.Latch.{Latch}
-use Rattle.ps_aiger.specs.Building.{Drafted, Extends, variables_of}
+use Rattle.ps_circuit.specs.declared.parts.Latch.{Latch}
+use Rattle.ps_circuit.specs.Building.{Drafted, Extends, variables_of}
 use Rattle.ps_aiger.specs.Built.{AreGates, IsBuilt, IsOutOfLiterals, IsWired, IsWiredBy}
-use Rattle.ps_aiger.specs.Circuits.{CircuitData}
+use Rattle.ps_circuit.specs.Circuits.{CircuitData}
 use Rattle.ps_aiger.specs.Functions.{memory_at}
-use Rattle.ps_aiger.specs.Gates.{Made, Wired, KnowsMade, mux_of, node_made, code_made, wired, next_wires, output_wires}
+use Rattle.ps_circuit.specs.Gates.{Made, mux_of}
+use Rattle.ps_aiger.specs.Wires.{Wired, KnowsMade, node_made, code_made, wired, next_wires, output_wires}
 use Rattle.ps_aiger.proofs.EncodeLemmas.{no_latch}
-use Rattle.ps_aiger.proofs.GateLemmas.{bool_cases, drafted_are, extends-refl, extends-trans}
-use Rattle.ps_aiger.proofs.MadeLemmas.{above-extends, mux-extends}
+use Rattle.ps_circuit.proofs.GateLemmas.{bool_cases, drafted_are, extends-refl, extends-trans}
+use Rattle.ps_circuit.proofs.MadeLemmas.{above-extends, mux-extends}
 use Rattle.ps_aiger.proofs.OverLemmas.{choose, inputs-again, inputs-extends}
 
 -- ## A choice of what was made before

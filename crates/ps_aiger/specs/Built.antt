@@ -7,14 +7,14 @@ use Rattle.std.specs.Prelude.{◌≡◌, ℕ, ◌+◌, ◌*◌, ◌^◌, ◌<◌
 use Rattle.std.specs.List.{range_with_len}
 use Rattle.ps_machine.specs.Machines.{MachineData, memories_of}
 use Rattle.ps_aiger.specs.declared.functions.Wanted.{Wanted}
-use Rattle.ps_aiger.specs.declared.parts.Gate.{Gate}
-use Rattle.ps_aiger.specs.declared.parts.Latch.{Latch}
-use Rattle.ps_aiger.specs.declared.builder.Sides.{Sides}
-use Rattle.ps_aiger.specs.Circuits.{CircuitData}
+use Rattle.ps_circuit.specs.declared.parts.Gate.{Gate}
+use Rattle.ps_circuit.specs.declared.parts.Latch.{Latch}
+use Rattle.ps_circuit.specs.declared.builder.Sides.{Sides}
+use Rattle.ps_circuit.specs.Circuits.{CircuitData}
 use Rattle.ps_aiger.specs.Encoded.{symbols_of}
-use Rattle.ps_aiger.specs.Building.{Drafted, variables_of}
+use Rattle.ps_circuit.specs.Building.{Drafted, variables_of}
 use Rattle.ps_aiger.specs.Functions.{IsLiteralAt}
-use Rattle.ps_aiger.specs.Gates.{next_wires, output_wires}
+use Rattle.ps_aiger.specs.Wires.{next_wires, output_wires}
 
 pub record AreLiterals (m : MachineData) (d : Drafted) (latches : ℕ) (wanted : List Wanted) (literals : List ℕ) : Type 0 where
   pub many : length literals ≡ length wanted

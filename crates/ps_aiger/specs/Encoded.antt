@@ -7,9 +7,9 @@
 use Rattle.std.specs.Prelude.{◌≡◌, ◌≢◌, ℕ, ◌+◌, ◌*◌, ◌^◌, ◌<◌, ◌≤◌, Bool, false, cond, List, [], ◌∷◌, length, map, Option, Some, None, All, AllPairs, nat_lt, if◌then◌else◌, slice_index_or}
 use Rattle.std.specs.List.{range_with_len}
 use Rattle.ps_label.specs.Truth.{is_in}
-use Rattle.ps_aiger.specs.declared.parts.Gate.{Gate}
-use Rattle.ps_aiger.specs.Circuits.{CircuitData, IsCircuit, variable, definitions}
-use Rattle.ps_aiger.specs.Values.{Steps, resets}
+use Rattle.ps_circuit.specs.declared.parts.Gate.{Gate}
+use Rattle.ps_circuit.specs.Circuits.{CircuitData, IsCircuit, variable, definitions}
+use Rattle.ps_circuit.specs.Values.{Steps, resets}
 use Rattle.ps_machine.specs.Machines.{MachineData, memories_of, next_of, plays}
 
 abbrev pub number_of : List Bool → ℕ

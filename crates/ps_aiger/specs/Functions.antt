@@ -13,7 +13,7 @@ use Rattle.ps_machine.specs.declared.machine.Row.{Row}
 use Rattle.ps_machine.specs.Machines.{MachineData, memories_of, row_of, step_of}
 use Rattle.ps_aiger.specs.declared.functions.Wanted.{Wanted}
 use Rattle.ps_aiger.specs.declared.functions.Wanted.TheVariants.{Next, Output}
-use Rattle.ps_aiger.specs.Building.{Drafted, IsHeld, Meets, bit}
+use Rattle.ps_circuit.specs.Building.{Drafted, IsHeld, Meets, bit}
 
 abbrev pub wanted_bit : Wanted → Row → Bool
 wanted_bit (Next j) row = is_in j row.memory

@@ -3,19 +3,16 @@
 ghost use Rattle.std.specs.Prelude.{◌≡◌, ◌≢◌, ℕ, ◌+◌, ◌*◌, ◌^◌, ◌<◌, ◌≤◌, All, IfOk, IsTrue, Some, None, [], length, map, replicate, slice_get, slice_index};
 ghost use Rattle.std.specs.List.{range_with_len};
 ghost use Rattle.ps_machine.specs.Machines.{IsMachine, memories_of};
-ghost use Rattle.ps_aiger.specs.Drafts.{data_of, name_bytes};
+ghost use Rattle.ps_circuit.specs.Drafts.{data_of, name_bytes};
 ghost use Rattle.ps_aiger.specs.Encoded.{Encodes, IsTidy, SeesNoInput, symbols_of};
-ghost use Rattle.ps_aiger.specs.Building.{Extends, IsSound, variables_of};
+ghost use Rattle.ps_circuit.specs.Building.{Extends, IsSound, variables_of};
 ghost use Rattle.ps_aiger.specs.Built.{AreGates, AreLatches, AreLiterals, IsBuilt, IsOutOfLiterals, IsWired};
-ghost use Rattle.ps_aiger.specs.Gates.{next_wires, output_wires, wired};
+ghost use Rattle.ps_aiger.specs.Wires.{next_wires, output_wires, wired};
 ghost use Rattle.ps_aiger.specs.Functions.{IsLiteralAt, wanted_place};
 ghost use Rattle.ps_aiger.specs.declared.functions.Wanted.TheVariants.{Next, Output};
 
-use crate::builder::{Builder, Sides};
-use crate::circuit::Circuit;
-use crate::encode_fault::EncodeFault;
 use crate::functions::{Wanted, literal_of};
-use crate::parts::{Gate, Latch, Parts};
+use ps_circuit::{Builder, Circuit, EncodeFault, Gate, Latch, Parts, Sides};
 use ps_machine::Machine;
 use std::alloc::{AllocError, Global};
 

@@ -5,13 +5,12 @@ ghost use Rattle.ps_hoa.specs.Files.{is_among};
 ghost use Rattle.indexmap.specs.IndexMap.{get};
 ghost use Rattle.ps_diagram.specs.Table.{IsNode};
 ghost use Rattle.ps_machine.specs.Machines.{memories_of, row_of};
-ghost use Rattle.ps_aiger.specs.Building.{Extends, variables_of};
+ghost use Rattle.ps_circuit.specs.Building.{Extends, variables_of};
 ghost use Rattle.ps_aiger.specs.Functions.{IsLiteralAt, IsLiteralOf, KnowsLiterals, memory_at, wanted_bit, wanted_place};
-ghost use Rattle.ps_aiger.specs.Gates.{KnowsMade, code_made, node_made};
+ghost use Rattle.ps_aiger.specs.Wires.{KnowsMade, code_made, node_made};
 
-use crate::builder::Builder;
-use crate::encode_fault::EncodeFault;
 use indexmap::IndexMap;
+use ps_circuit::{Builder, EncodeFault};
 use ps_diagram::{Node, View};
 use ps_machine::{Machine, Row};
 use std::alloc::Global;

@@ -1,29 +1,10 @@
-//! Circuits of and-gates and latches, read from the ASCII form of AIGER 1.9 and written to it.
+//! Circuits of machines, and all of `ps_circuit` by name: circuits, their builder, reader and writer.
 #![tactic(auto)]
 
-mod builder;
-mod circuit;
-mod cursor;
-mod encode_fault;
 mod encoding;
-mod fault;
 mod functions;
-mod gate_graph;
-mod header;
-mod laws;
-mod lines;
-mod links;
-mod names;
-mod parts;
-mod reader;
-mod writer;
 
-pub use builder::{Builder, Sides};
-pub use circuit::Circuit;
-pub use encode_fault::EncodeFault;
 pub use encoding::encode;
-pub use fault::{AigCause, AigFault};
-pub use laws::one_answer;
-pub use parts::{Gate, Latch};
-pub use reader::read;
-pub use writer::write;
+pub use ps_circuit::{
+    AigCause, AigFault, Builder, Circuit, EncodeFault, Gate, Latch, Sides, one_answer, read, write,
+};

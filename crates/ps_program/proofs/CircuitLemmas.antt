@@ -1,6 +1,6 @@
 -- Texts of circuits and of stimuli.
 use Rattle.std.proofs.Common.{ℕ, false, List, length, Ok, Err, refl, inl, inr}
-use Rattle.ps_aiger.specs.Circuits.{CircuitData}
+use Rattle.ps_circuit.specs.Circuits.{CircuitData}
 use Rattle.ps_simulate.specs.Stimuli.{StimulusData}
 use Rattle.ps_program.specs.declared.answer.Refusal.{Refusal}
 use Rattle.ps_program.specs.declared.answer.Refusal.TheVariants as refusal

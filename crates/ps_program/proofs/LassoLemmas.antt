@@ -1,7 +1,7 @@
 -- A lasso's outcome, text by text.
 use Rattle.std.proofs.Common.{◌≡◌, ◌≢◌, ◌∙◌, ◌<◌, ℕ, Bool, true, List, All, length, Result, Ok, Err, refl, inl, inr, subst, sym, codes}
-use Rattle.ps_aiger.specs.Circuits.{CircuitData, IsCircuit}
-use Rattle.ps_aiger.specs.Values.{HasOneValues}
+use Rattle.ps_circuit.specs.Circuits.{CircuitData, IsCircuit}
+use Rattle.ps_circuit.specs.Values.{HasOneValues}
 use Rattle.ps_automaton.specs.Automata.{AutomatonData, IsBuiltFrom}
 use Rattle.ps_automaton.specs.Chains.{Chain}
 use Rattle.ps_hoa.specs.Files.{FileData}

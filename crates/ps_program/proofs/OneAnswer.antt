@@ -13,12 +13,12 @@ use Rattle.ps_certificate.specs.Faults as certificate
 use Rattle.ps_certificate.specs.Texts as certificate_text
 use Rattle.ps_certificate.specs.declared.fault.CertCause.{CertCause}
 use Rattle.ps_certificate.specs.declared.flaw.Flaw.{Flaw}
-use Rattle.ps_aiger.specs.CauseNames as circuit_names
-use Rattle.ps_aiger.specs.Causes as circuit
-use Rattle.ps_aiger.specs.Circuits.{CircuitData, IsCircuit}
-use Rattle.ps_aiger.specs.Values.{HasOneValues}
-use Rattle.ps_aiger.specs.Texts as circuit_text
-use Rattle.ps_aiger.specs.declared.fault.AigCause.{AigCause}
+use Rattle.ps_circuit.specs.CauseNames as circuit_names
+use Rattle.ps_circuit.specs.Causes as circuit
+use Rattle.ps_circuit.specs.Circuits.{CircuitData, IsCircuit}
+use Rattle.ps_circuit.specs.Values.{HasOneValues}
+use Rattle.ps_circuit.specs.Texts as circuit_text
+use Rattle.ps_circuit.specs.declared.fault.AigCause.{AigCause}
 use Rattle.ps_automaton.specs.Answers.{IsAdmitted, IsRefused}
 use Rattle.ps_automaton.specs.declared.fault.AutomatonFault.{AutomatonFault}
 use Rattle.ps_automaton.specs.declared.fault.AutomatonFault.TheVariants.{OutOfMemory as no_memory}

@@ -1,10 +1,10 @@
 -- A circuit whose values are one has one trace for given letters.
 use Rattle.std.proofs.Common.{◌≡◌, ◌∙◌, ℕ, Bool, true, false, List, [], ◌∷◌, ◌++◌, All, map, flat_map, get_or, drop, refl, sym, ap, ap₂, subst, arith}
 use Rattle.std.proofs.lemmas.List.Elements.{All-cons, All-head, All-tail}
-use Rattle.ps_aiger.specs.Circuits.{CircuitData, IsCircuit, IsKnown, definitions}
-use Rattle.ps_aiger.specs.declared.parts.Gate.{Gate}
-use Rattle.ps_aiger.specs.declared.parts.Latch.{Latch}
-use Rattle.ps_aiger.specs.Values.{Moment, Steps, GoesOn, HasOneValues, bit_of, resets}
+use Rattle.ps_circuit.specs.Circuits.{CircuitData, IsCircuit, IsKnown, definitions}
+use Rattle.ps_circuit.specs.declared.parts.Gate.{Gate}
+use Rattle.ps_circuit.specs.declared.parts.Latch.{Latch}
+use Rattle.ps_circuit.specs.Values.{Moment, Steps, GoesOn, HasOneValues, bit_of, resets}
 use Rattle.ps_program.specs.Simulating.{PrintsTrace, moment_line}
 
 -- ---- lists

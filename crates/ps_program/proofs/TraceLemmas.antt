@@ -2,10 +2,10 @@
 use Rattle.std.proofs.Common.{◌≡◌, ◌∙◌, ◌+◌, ◌<◌, ℕ, Bool, List, [], ◌∷◌, ◌++◌, Vec, All, length, take, get_or, refl, sym, ap, subst, arith}
 use Rattle.std.specs.Global.{Global}
 use Rattle.std.proofs.lemmas.List.{map_push, flat_map_more, take_more, get_or-map, length-map}
-use Rattle.ps_aiger.specs.Circuits.{CircuitData}
+use Rattle.ps_circuit.specs.Circuits.{CircuitData}
 use Rattle.ps_simulate.specs.Simulations.{Simulation}
 use Rattle.ps_simulate.specs.Stimuli.{letters_of}
-use Rattle.ps_aiger.specs.Values.{Moment, Steps, GoesOn, resets}
+use Rattle.ps_circuit.specs.Values.{Moment, Steps, GoesOn, resets}
 use Rattle.ps_program.specs.Simulating.{moment_line, HasPrinted, PrintsStep, PrintsTrace}
 
 -- one more step

@@ -1,7 +1,7 @@
 -- The command that runs a circuit on a stem and a lap, and asks an automaton about what it does.
 use Rattle.std.specs.Prelude.{◌≡◌, ◌<◌, ◌⊎◌, ℕ, true, List, [], ◌++◌, length, codes, Result, Ok, Err, if◌then◌else◌}
-use Rattle.ps_aiger.specs.Circuits.{CircuitData, IsCircuit}
-use Rattle.ps_aiger.specs.Values.{HasOneValues}
+use Rattle.ps_circuit.specs.Circuits.{CircuitData, IsCircuit}
+use Rattle.ps_circuit.specs.Values.{HasOneValues}
 use Rattle.ps_hoa.specs.Files.{FileData}
 use Rattle.ps_simulate.specs.LassoFaultNames.{fault_number, fault_name}
 use Rattle.ps_simulate.specs.Lassos.{IsVerdictOf}

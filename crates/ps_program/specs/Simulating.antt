@@ -1,8 +1,8 @@
 -- The command that runs a circuit.
 use Rattle.std.specs.Prelude.{◌≡◌, ℕ, Bool, List, ◌++◌, map, flat_map, codes, Result, Ok}
-use Rattle.ps_aiger.specs.Circuits.{CircuitData, IsCircuit}
+use Rattle.ps_circuit.specs.Circuits.{CircuitData, IsCircuit}
 use Rattle.ps_simulate.specs.StimulusTexts.{digits_of}
-use Rattle.ps_aiger.specs.Values.{Moment, Steps, IsTrace, GoesOn, HasOneValues, resets}
+use Rattle.ps_circuit.specs.Values.{Moment, Steps, IsTrace, GoesOn, HasOneValues, resets}
 use Rattle.ps_simulate.specs.Simulations.{Simulation}
 use Rattle.ps_program.specs.Outcomes.{Then}
 use Rattle.ps_program.specs.Replies.{Reply, text_reply}

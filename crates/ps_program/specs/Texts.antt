@@ -8,10 +8,10 @@ use Rattle.ps_certificate.specs.declared.flaw.Flaw.TheVariants as flaw
 use Rattle.ps_certificate.specs.Certificates.{CertificateData}
 use Rattle.ps_certificate.specs.Faults as certificate
 use Rattle.ps_certificate.specs.Texts.{Reads}
-use Rattle.ps_aiger.specs.Causes as circuit
-use Rattle.ps_aiger.specs.CauseNames as circuit_names
-use Rattle.ps_aiger.specs.Circuits.{CircuitData}
-use Rattle.ps_aiger.specs.Texts as circuit_text
+use Rattle.ps_circuit.specs.Causes as circuit
+use Rattle.ps_circuit.specs.CauseNames as circuit_names
+use Rattle.ps_circuit.specs.Circuits.{CircuitData}
+use Rattle.ps_circuit.specs.Texts as circuit_text
 use Rattle.ps_simulate.specs.Faults as stimulus
 use Rattle.ps_simulate.specs.Stimuli.{StimulusData}
 use Rattle.ps_simulate.specs.StimulusTexts as stimulus_text

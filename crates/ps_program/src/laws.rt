@@ -15,7 +15,7 @@ pub fn one_answer<S: Solver, T: Solver>(built_in: &S, replay: &T)
     ps_pgsolver::one_answer();
     ps_certificate::certificate_text_has_one_answer();
     ps_certificate::first_flaw_is_one();
-    ps_aiger::one_answer();
+    ps_circuit::one_answer();
     ps_hoa::one_answer();
     ps_automaton::refusal_is_one();
     ps_machine::one_game_of_file();

@@ -1,7 +1,7 @@
 //! The texts of the commands, read, and the lines of what is wrong with them.
 
 ghost use Rattle.std.specs.Prelude.{◌≡◌, ◌<◌, length, All, IfOk};
-ghost use Rattle.ps_aiger.specs.Circuits.{IsCircuit};
+ghost use Rattle.ps_circuit.specs.Circuits.{IsCircuit};
 ghost use Rattle.ps_certificate.specs.Certificates.{Fits};
 ghost use Rattle.ps_game.specs.Games.{vertex_count};
 ghost use Rattle.ps_program.specs.Faults.{fault_text};
@@ -11,8 +11,9 @@ ghost use Rattle.ps_program.specs.Texts.{CutsInTwo, CutsInThree, ReadsGameText, 
 use crate::answer::Refusal;
 use crate::cut::cut;
 use crate::fault::{FaultLine, Place};
-use ps_aiger::Circuit;
+use ps_circuit::Circuit;
 use ps_certificate::{Certificate, Flaw};
+use ps_circuit::Circuit;
 use ps_game::NamedGame;
 use ps_simulate::Stimulus;
 use std::alloc::Global;
@@ -86,7 +87,7 @@ pub fn read_certified(alloc: Global, texts: &[u8]) -> Result<(NamedGame, Certifi
 pub fn read_circuit(alloc: Global, text: &[u8]) -> Result<Circuit, Refusal>
     ensures { Gives (λ circuit. circuit) (ReadsCircuitText text.now) result }
 {
-    match ps_aiger::read(alloc, text) {
+    match ps_circuit::read(alloc, text) {
         Ok(circuit) => Ok(circuit),
         Err(fault) => Err(Refusal::from(fault)),
     }

@@ -11,7 +11,7 @@ use Rattle.std.proofs.lemmas.List.{get_or-map, map-set, map-append, length-map, 
 use Rattle.std.proofs.lemmas.Option.{slice_get-map, slice_get_read}
 use Rattle.std.proofs.lemmas.Nat.Bits.{bit_at-lt, bit_at_and, bit_at_xor, bit_at_ones, bit_at-zero, shr_and_one}
 use Rattle.std.proofs.lemmas.Simd.{get_or-zip2, get_or-replicate}
-use Rattle.ps_aiger.specs.declared.parts.Latch.{Latch}
+use Rattle.ps_circuit.specs.declared.parts.Latch.{Latch}
 use Rattle.ps_simulate.specs.declared.plan.Wire.{Wire}
 use Rattle.ps_simulate.specs.declared.plan.Row.{Row}
 use Rattle.ps_simulate.specs.Lanes.{all_or_none, bit_in, lane_of}

@@ -15,8 +15,8 @@ use Rattle.std.proofs.Math.ListN.{get_or-append}
 use Rattle.std.proofs.Math.Seq.{get_or-append_seam}
 use Rattle.std.proofs.Math.Nat.{mul-le-mul_right, mul-sub, mul_comm}
 use Rattle.ps_label.specs.Truth.{is_in}
-use Rattle.ps_aiger.specs.Circuits.{CircuitData}
-use Rattle.ps_aiger.specs.Values.{Moment, Steps, GoesOn, resets}
+use Rattle.ps_circuit.specs.Circuits.{CircuitData}
+use Rattle.ps_circuit.specs.Values.{Moment, Steps, GoesOn, resets}
 use Rattle.ps_simulate.specs.Stimuli.{letters_of}
 use Rattle.ps_simulate.specs.Lassos.{IsLetterOf, AreLetters, laps_of, latches_along, IsVerdictOf}
 use Rattle.ps_simulate.specs.LassoRuns.{IsSeen, ReadsWord, RepeatsBy, HasRead}

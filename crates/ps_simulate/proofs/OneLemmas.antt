@@ -4,10 +4,10 @@ use Rattle.std.specs.Prelude.{slice_get, replicate}
 use Rattle.std.proofs.lemmas.List.{length-map, length-replicate, get_or-map}
 use Rattle.std.proofs.lemmas.Bool.{cases_lt}
 use Rattle.std.proofs.lemmas.Option.{slice_get-get_or, get_or_from_slice_get, slice_get_within}
-use Rattle.ps_aiger.specs.declared.parts.Latch.{Latch}
+use Rattle.ps_circuit.specs.declared.parts.Latch.{Latch}
 use Rattle.ps_components.specs.Orders.{IsOrder}
-use Rattle.ps_aiger.specs.Circuits.{CircuitData, IsCircuit, IsKnown, Reads, variable, definitions}
-use Rattle.ps_aiger.specs.Values.{AreValues, HasOneValues, value_of, bit_of}
+use Rattle.ps_circuit.specs.Circuits.{CircuitData, IsCircuit, IsKnown, Reads, variable, definitions}
+use Rattle.ps_circuit.specs.Values.{AreValues, HasOneValues, value_of, bit_of}
 use Rattle.ps_simulate.specs.Plans.{row_at, no_gate}
 use Rattle.ps_simulate.proofs.PlacesLemmas.{sides_known}
 use Rattle.ps_simulate.proofs.RowLemmas.{no_latch, length-definitions, length-variables, definitions_input, definitions_latch, definitions_gate}

@@ -9,10 +9,10 @@ use Rattle.std.proofs.lemmas.Nat.Bits.{same_from_bits_below, bit_at-lt}
 use Rattle.std.proofs.Math.Nat.{mul-le-mul_right}
 use Rattle.ps_hoa.specs.Files.{FileData, is_among}
 use Rattle.ps_automaton.specs.Acceptance.{IsAccepted}
-use Rattle.ps_aiger.specs.Circuits.{CircuitData, IsCircuit, IsKnown, definitions}
-use Rattle.ps_aiger.specs.declared.parts.Gate.{Gate}
-use Rattle.ps_aiger.specs.declared.parts.Latch.{Latch}
-use Rattle.ps_aiger.specs.Values.{Moment, Steps, GoesOn, HasOneValues, bit_of, resets}
+use Rattle.ps_circuit.specs.Circuits.{CircuitData, IsCircuit, IsKnown, definitions}
+use Rattle.ps_circuit.specs.declared.parts.Gate.{Gate}
+use Rattle.ps_circuit.specs.declared.parts.Latch.{Latch}
+use Rattle.ps_circuit.specs.Values.{Moment, Steps, GoesOn, HasOneValues, bit_of, resets}
 use Rattle.ps_simulate.specs.declared.role.Role.{Role}
 use Rattle.ps_simulate.specs.declared.role.Role.TheVariants.{Controller, Environment}
 use Rattle.ps_simulate.specs.declared.lassos.Verdict.{Verdict}

@@ -1,9 +1,9 @@
 -- Lanes that go on as plain runs do.
 use Rattle.std.proofs.Common.{◌≡◌, ◌∙◌, ℕ, suc, ◌<◌, Bool, true, false, List, [], ◌∷◌, map, length, get_or, drop, refl, sym, ap, ap₂, subst, arith}
 use Rattle.std.proofs.lemmas.Simd.{map-map}
-use Rattle.ps_aiger.specs.Circuits.{CircuitData, IsCircuit}
-use Rattle.ps_aiger.specs.declared.parts.Latch.{Latch}
-use Rattle.ps_aiger.specs.Values.{Moment, Steps, GoesOn, HasOneValues, bit_of}
+use Rattle.ps_circuit.specs.Circuits.{CircuitData, IsCircuit}
+use Rattle.ps_circuit.specs.declared.parts.Latch.{Latch}
+use Rattle.ps_circuit.specs.Values.{Moment, Steps, GoesOn, HasOneValues, bit_of}
 use Rattle.ps_simulate.specs.Lanes.{lane_of}
 use Rattle.ps_simulate.specs.LaneRuns.{LaneMoment, moment_in, GoOnInLanes, AreLanesPlain}
 use Rattle.ps_simulate.proofs.PlacesLemmas.{output_known, next_known}

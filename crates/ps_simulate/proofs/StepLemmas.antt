@@ -2,11 +2,11 @@
 use Rattle.std.proofs.Common.{◌≡◌, ℕ, suc, ◌<◌, Bool, false, List, [], ◌∷◌, map, length, get_or, refl, sym, ap, ap₂, subst, ◌∙◌, arith, All}
 use Rattle.std.proofs.lemmas.List.{length-map}
 use Rattle.std.proofs.lemmas.List.Elements.{All-from_get_or, All-map}
-use Rattle.ps_aiger.specs.declared.parts.Latch.{Latch}
-use Rattle.ps_aiger.specs.Circuits.{CircuitData, IsCircuit}
+use Rattle.ps_circuit.specs.declared.parts.Latch.{Latch}
+use Rattle.ps_circuit.specs.Circuits.{CircuitData, IsCircuit}
 use Rattle.ps_simulate.specs.declared.plan.Wire.{Wire}
 use Rattle.ps_simulate.specs.declared.plan.Plan.{Plan}
-use Rattle.ps_aiger.specs.Values.{AreValues, Steps, bit_of}
+use Rattle.ps_circuit.specs.Values.{AreValues, Steps, bit_of}
 use Rattle.ps_simulate.specs.Plans.{IsPlan, IsWithin, IsWorkedOut, read, wire_of, variables}
 use Rattle.ps_simulate.specs.Tables.{IsTable}
 use Rattle.ps_simulate.proofs.PlacesLemmas.{place_known, output_known, next_known}

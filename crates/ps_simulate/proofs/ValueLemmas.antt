@@ -6,10 +6,10 @@ use Rattle.std.proofs.lemmas.List.{length-map, get_or-map, ext_get_or, get_or_ap
 use Rattle.std.proofs.lemmas.List.FromFn.{get_or-map-range_with_len, length-map-range_with_len}
 use Rattle.std.proofs.lemmas.List.Elements.{All-from_get_or}
 use Rattle.std.proofs.lemmas.Bool.{ne_eqb}
-use Rattle.ps_aiger.specs.declared.parts.Latch.{Latch}
-use Rattle.ps_aiger.specs.Circuits.{CircuitData, IsCircuit, IsDefinition, IsKnown, variable, definitions}
+use Rattle.ps_circuit.specs.declared.parts.Latch.{Latch}
+use Rattle.ps_circuit.specs.Circuits.{CircuitData, IsCircuit, IsDefinition, IsKnown, variable, definitions}
 use Rattle.ps_simulate.specs.declared.plan.Row.{Row}
-use Rattle.ps_aiger.specs.Values.{AreValues, MeetsGate, value_of, bit_of}
+use Rattle.ps_circuit.specs.Values.{AreValues, MeetsGate, value_of, bit_of}
 use Rattle.ps_simulate.specs.Plans.{variables, place_of, wire_of, row_at, no_gate, AreRows, Holds, read, work_out}
 use Rattle.ps_simulate.proofs.PlacesLemmas.{place_of-at, sides_known}
 use Rattle.ps_simulate.proofs.RowLemmas.{no_latch, length-definitions, length-variables, definitions_input, definitions_latch, definitions_gate, place_of-definition, row_is, row_of_gate, target_is, IsScheduled-rows, IsWithin-row}

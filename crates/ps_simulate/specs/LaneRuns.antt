@@ -1,7 +1,7 @@
 -- Runs of a circuit on 256 stimuli at once, and each of them alone.
 use Rattle.std.specs.Prelude.{◌≡◌, ℕ, ◌<◌, Bool, List, [], ◌∷◌, map}
-use Rattle.ps_aiger.specs.Circuits.{CircuitData}
-use Rattle.ps_aiger.specs.Values.{Moment, Steps, GoesOn}
+use Rattle.ps_circuit.specs.Circuits.{CircuitData}
+use Rattle.ps_circuit.specs.Values.{Moment, Steps, GoesOn}
 use Rattle.ps_simulate.specs.Lanes.{lane_of}
 
 -- the words of one step, the latches' before it

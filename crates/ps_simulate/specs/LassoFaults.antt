@@ -1,7 +1,7 @@
 -- Why a lasso has no verdict.
 --     Stands fault role names controllable c stem lap      what is said by the fault: of width, then of an empty lap, then of symbols
 use Rattle.std.specs.Prelude.{◌≡◌, ⊤, ◌<◌, Bool, List, [], length, All}
-use Rattle.ps_aiger.specs.Circuits.{CircuitData}
+use Rattle.ps_circuit.specs.Circuits.{CircuitData}
 use Rattle.ps_automaton.specs.Automata.{AutomatonData}
 use Rattle.ps_simulate.specs.Symbols.{HasSymbols}
 use Rattle.ps_simulate.specs.declared.role.Role.{Role}

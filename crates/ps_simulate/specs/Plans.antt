@@ -2,8 +2,8 @@
 -- the inputs, the latches and the gates.
 use Rattle.std.specs.Prelude.{◌≡◌, ℕ, ◌+◌, ◌<◌, ◌%◌, ◌==◌, ◌&&◌, Bool, false, not, if◌then◌else◌, List, [], ◌∷◌, map, length, slice_index_or, slice_set}
 use Rattle.std.specs.List.{position_or_len}
-use Rattle.ps_aiger.specs.declared.parts.Gate.{Gate}
-use Rattle.ps_aiger.specs.Circuits.{CircuitData, variable, definitions, Reads}
+use Rattle.ps_circuit.specs.declared.parts.Gate.{Gate}
+use Rattle.ps_circuit.specs.Circuits.{CircuitData, variable, definitions, Reads}
 use Rattle.ps_components.specs.Orders.{IsOrder}
 use Rattle.ps_simulate.specs.declared.plan.Wire.{Wire}
 use Rattle.ps_simulate.specs.declared.plan.Row.{Row}

@@ -1,6 +1,6 @@
 -- What a contract sees of a simulator.
 use Rattle.std.specs.Prelude.{Bool, List}
-use Rattle.ps_aiger.specs.Circuits.{CircuitData}
+use Rattle.ps_circuit.specs.Circuits.{CircuitData}
 
 -- a circuit, and the latches' values now
 pub record Simulation : Type 0 where

@@ -1,6 +1,6 @@
 -- What a simulator keeps true of its table.
 use Rattle.std.specs.Prelude.{◌≡◌, Bool, false, List, length, slice_index_or}
-use Rattle.ps_aiger.specs.Circuits.{CircuitData, IsCircuit}
+use Rattle.ps_circuit.specs.Circuits.{CircuitData, IsCircuit}
 use Rattle.ps_simulate.specs.declared.plan.Plan.{Plan}
 use Rattle.ps_simulate.specs.Plans.{IsPlan, variables}
 

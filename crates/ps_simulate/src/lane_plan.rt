@@ -5,7 +5,7 @@ ghost use Rattle.ps_simulate.specs.LanePlans.{AreInOrder, AreKept, AreOnce, IsGa
 ghost use Rattle.ps_simulate.specs.Plans.{IsWithin};
 
 use crate::plan::{Plan, Row, Wire};
-use ps_aiger::Circuit;
+use ps_circuit::Circuit;
 use std::alloc::{AllocError, Global};
 
 /// The two literals that a gate reads. A literal is twice a place in the table of values, and one more where it is negated.
@@ -33,7 +33,7 @@ pub struct LanePlan {
 
 impl LanePlan {
     ghost use Rattle.std.specs.Prelude.{List};
-    ghost use Rattle.ps_aiger.specs.Circuits.{IsCircuit};
+    ghost use Rattle.ps_circuit.specs.Circuits.{IsCircuit};
     ghost use Rattle.ps_simulate.specs.LanePlans.{IsLanePlan};
     ghost use Rattle.ps_simulate.specs.declared.plan.Plan.{Plan};
 

@@ -1,14 +1,14 @@
 //! A circuit that is run on 256 stimuli at once.
 
 ghost use Rattle.std.specs.Prelude.{◌≡◌, ℕ, ◌+◌, ◌/◌, ◌<◌, ◌≤◌, ◌⊎◌, [], length, map, slice_get, slice_index_or, All, IfOk, Some, false};
-ghost use Rattle.ps_aiger.specs.Circuits.{IsCircuit};
-ghost use Rattle.ps_aiger.specs.Values.{resets};
+ghost use Rattle.ps_circuit.specs.Circuits.{IsCircuit};
+ghost use Rattle.ps_circuit.specs.Values.{resets};
 ghost use Rattle.ps_simulate.specs.Lanes.{all_or_none, bit_in, lane_of};
 ghost use Rattle.ps_simulate.specs.LanePlans.{rows_from, wire_in};
 ghost use Rattle.ps_simulate.specs.Plans.{IsWithin, IsWorkedOut, read, work_out};
 
 use crate::lane_plan::{LanePlan, Operands};
-use ps_aiger::Circuit;
+use ps_circuit::Circuit;
 use std::alloc::{AllocError, Global};
 use std::marker::Model;
 use std::simd::prelude::*;

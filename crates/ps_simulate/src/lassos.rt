@@ -1,7 +1,7 @@
 //! Lassos: a stem that is read once and a lap that is read again and again, until the latches repeat themselves.
 
 ghost use Rattle.std.specs.Prelude.{◌≡◌, ◌+◌, ◌*◌, ◌^◌, ◌<◌, ◌≤◌, List, [], ℕ, false, length, All, IfOk, IfErr, IsTrue, IsOk, OnOk, vec_len};
-ghost use Rattle.ps_aiger.specs.Values.{resets};
+ghost use Rattle.ps_circuit.specs.Values.{resets};
 ghost use Rattle.ps_hoa.specs.Files.{FileData};
 ghost use Rattle.ps_automaton.specs.Automata.{IsBuiltFrom};
 ghost use Rattle.ps_automaton.specs.Chains.{Chain};
@@ -16,8 +16,8 @@ use crate::naming::Naming;
 use crate::role::Role;
 use crate::simulator::Simulator;
 use indexmap::IndexSet;
-use ps_aiger::Circuit;
 use ps_automaton::Automaton;
+use ps_circuit::Circuit;
 use std::alloc::{AllocError, Global};
 use thiserror::Error;
 

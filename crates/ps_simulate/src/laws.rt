@@ -1,15 +1,15 @@
 //! Laws of circuits.
 
 ghost use Rattle.std.specs.Prelude.{Bool, List};
-ghost use Rattle.ps_aiger.specs.Circuits.{CircuitData, IsCircuit};
-ghost use Rattle.ps_aiger.specs.Values.{HasOneValues};
+ghost use Rattle.ps_circuit.specs.Circuits.{CircuitData, IsCircuit};
+ghost use Rattle.ps_circuit.specs.Values.{HasOneValues};
 ghost use Rattle.ps_hoa.specs.Files.{FileData};
 ghost use Rattle.ps_simulate.specs.LaneRuns.{AreLanesPlain};
 ghost use Rattle.ps_simulate.specs.Lassos.{HasOneVerdict};
 ghost use Rattle.ps_simulate.specs.Symbols.{HasSymbols};
 ghost use Rattle.ps_simulate.specs.declared.role.Role.{Role};
 
-use ps_aiger::Circuit;
+use ps_circuit::Circuit;
 
 /// A law: for given inputs and latches a circuit has values, and they agree at each literal whose variable is 0 or defined.
 pub fn circuit_has_one_values(circuit: &Circuit)

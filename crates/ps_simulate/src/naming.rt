@@ -10,8 +10,8 @@ ghost use Rattle.ps_simulate.specs.Symbols.{AreNamesOnce, HasSymbols};
 ghost use Rattle.ps_simulate.specs.Namings.{ArePlacesOf, ArePut, IsNaming, IsPropositionOf, bit_at_place, names_of};
 
 use crate::role::Role;
-use ps_aiger::Circuit;
 use ps_automaton::Automaton;
+use ps_circuit::Circuit;
 use std::alloc::{AllocError, Global};
 
 /// For each proposition the input or the output that has its name.

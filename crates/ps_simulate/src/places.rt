@@ -1,11 +1,11 @@
 //! The places of a circuit's variables in a table that has no gaps.
 
 ghost use Rattle.std.specs.Prelude.{◌≡◌, ◌≢◌, length, AllPairs, IfOk};
-ghost use Rattle.ps_aiger.specs.Circuits.{IsCircuit};
+ghost use Rattle.ps_circuit.specs.Circuits.{IsCircuit};
 ghost use Rattle.ps_simulate.specs.Plans.{variables};
 
 use crate::plan::Wire;
-use ps_aiger::Circuit;
+use ps_circuit::Circuit;
 use ps_ids::Ids;
 use std::alloc::{AllocError, Global};
 use std::iter::once;
@@ -20,7 +20,7 @@ pub struct Places<'a> {
 
 impl<'a> Model for Places<'a> {
     ghost use Rattle.std.specs.Prelude.{◌≡◌};
-    ghost use Rattle.ps_aiger.specs.Circuits.{CircuitData, IsCircuit};
+    ghost use Rattle.ps_circuit.specs.Circuits.{CircuitData, IsCircuit};
     ghost use Rattle.ps_simulate.specs.Plans.{variables};
 
     ghost Value = { CircuitData };
@@ -31,7 +31,7 @@ impl<'a> Model for Places<'a> {
 }
 
 impl<'a> Places<'a> {
-    ghost use Rattle.ps_aiger.specs.Circuits.{IsKnown, definitions};
+    ghost use Rattle.ps_circuit.specs.Circuits.{IsKnown, definitions};
     ghost use Rattle.ps_simulate.specs.Plans.{variables, wire_of};
 
     pub fn new(alloc: Global, circuit: &'a Circuit) -> Result<Self, AllocError>

@@ -4,7 +4,7 @@ ghost use Rattle.std.specs.Prelude.{◌≡◌, ◌<◌, length, map, slice_index
 ghost use Rattle.ps_simulate.specs.Plans.{AreRows, wire_of};
 
 use crate::places::Places;
-use ps_aiger::Circuit;
+use ps_circuit::Circuit;
 use std::alloc::{AllocError, Global};
 
 /// A literal of a circuit, by the place of its variable in the table of values.

@@ -1,11 +1,11 @@
 //! A circuit that is run.
 
 ghost use Rattle.std.specs.Prelude.{◌≡◌, ℕ, ◌+◌, ◌<◌, ◌≤◌, ◌⊎◌, length, map, slice_get, slice_index_or, All, IfOk, Some, false};
-ghost use Rattle.ps_aiger.specs.Circuits.{IsCircuit};
+ghost use Rattle.ps_circuit.specs.Circuits.{IsCircuit};
 ghost use Rattle.ps_simulate.specs.Plans.{IsWithin, IsWorkedOut, read, work_out};
 
 use crate::plan::{Plan, Row, Wire};
-use ps_aiger::Circuit;
+use ps_circuit::Circuit;
 use std::alloc::{AllocError, Global};
 use std::marker::Model;
 
@@ -31,7 +31,7 @@ impl<'a> Model for Simulator<'a> {
 }
 
 impl<'a> Simulator<'a> {
-    ghost use Rattle.ps_aiger.specs.Values.{Steps, resets};
+    ghost use Rattle.ps_circuit.specs.Values.{Steps, resets};
     ghost use Rattle.ps_simulate.specs.Plans.{variables};
 
     /// Starts a circuit, its latches at their resets.

@@ -3,8 +3,8 @@ use Rattle.std.proofs.Common.{◌≡◌, Result, Ok, Err, refl, subst, sym}
 use Rattle.std.specs.Prelude.{IfErr}
 use Rattle.std.specs.Result.{IsErrAnd}
 use Rattle.ps_aiger.specs.Built.{IsOutOfLiterals}
-use Rattle.ps_aiger.specs.declared.encode_fault.EncodeFault.{EncodeFault}
-use Rattle.ps_aiger.specs.declared.encode_fault.EncodeFault.TheVariants as circuit
+use Rattle.ps_circuit.specs.declared.encode_fault.EncodeFault.{EncodeFault}
+use Rattle.ps_circuit.specs.declared.encode_fault.EncodeFault.TheVariants as circuit
 use Rattle.ps_automaton.specs.Automata.{AutomatonData}
 use Rattle.ps_certificate.specs.Certificates.{CertificateData}
 use Rattle.ps_game.specs.Games.{ParityGame}

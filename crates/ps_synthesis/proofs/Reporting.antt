@@ -2,7 +2,7 @@
 use Rattle.std.proofs.Common.{◌≡◌, ◌↔◌, ◌∙◌, ℕ, Bool, List, length, Result, Ok, Err, refl, ap, ap₂, subst, sym}
 use Rattle.std.specs.Prelude.{IfErr, IfOk, IsTrue}
 use Rattle.std.specs.Result.{IsErrAnd}
-use Rattle.ps_aiger.specs.Circuits.{CircuitData}
+use Rattle.ps_circuit.specs.Circuits.{CircuitData}
 use Rattle.ps_automaton.specs.Automata.{AutomatonData, IsBuiltFrom, auto_of}
 use Rattle.ps_automaton.specs.Chains.{Chain}
 use Rattle.ps_certificate.specs.Certificates.{CertificateData}

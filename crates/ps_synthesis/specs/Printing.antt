@@ -3,9 +3,9 @@
 --     PrintsCertificate compact text game certificate      the text of a certificate, with all counts or as a compact one
 --     PrintsCircuit text circuit      the text of a circuit
 use Rattle.std.specs.Prelude.{◌≡◌, ℕ, ◌≤◌, Bool, List, length, Ok}
-use Rattle.ps_aiger.specs.Circuits.{CircuitData}
-use Rattle.ps_aiger.specs.Texts as circuits
-use Rattle.ps_aiger.specs.Written.{text_of}
+use Rattle.ps_circuit.specs.Circuits.{CircuitData}
+use Rattle.ps_circuit.specs.Texts as circuits
+use Rattle.ps_circuit.specs.Written.{text_of}
 use Rattle.ps_certificate.specs.Certificates.{CertificateData}
 use Rattle.ps_certificate.specs.Texts as certificates
 use Rattle.ps_certificate.specs.Written.{text_in}

@@ -9,10 +9,10 @@
 --     of_text, of_automaton, of_circuit      the faults of the layers below
 use Rattle.std.specs.Prelude.{◌≡◌, ℕ, List, Err, map, slice_index}
 use Rattle.ps_aiger.specs.Built.{IsOutOfLiterals, IsWired}
-use Rattle.ps_aiger.specs.Circuits.{CircuitData}
+use Rattle.ps_circuit.specs.Circuits.{CircuitData}
 use Rattle.ps_aiger.specs.Encoded.{Encodes, IsTidy}
-use Rattle.ps_aiger.specs.declared.encode_fault.EncodeFault.{EncodeFault}
-use Rattle.ps_aiger.specs.declared.encode_fault.EncodeFault.TheVariants as circuit
+use Rattle.ps_circuit.specs.declared.encode_fault.EncodeFault.{EncodeFault}
+use Rattle.ps_circuit.specs.declared.encode_fault.EncodeFault.TheVariants as circuit
 use Rattle.ps_automaton.specs.Automata.{AutomatonData, IsBuiltFrom}
 use Rattle.ps_automaton.specs.Chains.{Chain}
 use Rattle.ps_automaton.specs.declared.fault.AutomatonFault.{AutomatonFault}

@@ -1,7 +1,7 @@
 -- The numbers and the names of the faults for which a text gets no report.
 use Rattle.std.specs.Prelude.{ℕ, List, codes}
-use Rattle.ps_aiger.specs.EncodeFaultNames as encode
-use Rattle.ps_aiger.specs.declared.encode_fault.EncodeFault.TheVariants as encoding
+use Rattle.ps_circuit.specs.EncodeFaultNames as encode
+use Rattle.ps_circuit.specs.declared.encode_fault.EncodeFault.TheVariants as encoding
 use Rattle.ps_automaton.specs.FaultNames as automaton
 use Rattle.ps_certificate.specs.Faults as certificate
 use Rattle.ps_hoa.specs.CauseNames as hoa_names

@@ -2,7 +2,7 @@
 
 ghost use Rattle.std.specs.Prelude.{◌≡◌, ◌<◌, ◌↔◌, ℕ, IsTrue, List, IfOk, IfErr};
 ghost use Rattle.std.specs.Result.{IsErrAnd};
-ghost use Rattle.ps_aiger.specs.Circuits.{CircuitData};
+ghost use Rattle.ps_circuit.specs.Circuits.{CircuitData};
 ghost use Rattle.ps_automaton.specs.Automata.{IsBuiltFrom};
 ghost use Rattle.ps_automaton.specs.Chains.{Chain};
 ghost use Rattle.ps_game.specs.Games.{vertex_count};

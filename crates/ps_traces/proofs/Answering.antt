@@ -3,8 +3,8 @@ use Rattle.std.proofs.Common.{◌≡◌, ◌≢◌, ℕ, Bool, if◌then◌else�
 use Rattle.std.proofs.lemmas.Bool.{ne_eqb}
 use Rattle.ps_hoa.specs.Files.{FileData}
 use Rattle.ps_hoa.specs.Sound.{AreNames}
-use Rattle.ps_aiger.specs.Circuits.{CircuitData}
-use Rattle.ps_aiger.specs.Values.{HasOneValues}
+use Rattle.ps_circuit.specs.Circuits.{CircuitData}
+use Rattle.ps_circuit.specs.Values.{HasOneValues}
 use Rattle.ps_aiger.specs.Encoded.{Encodes}
 use Rattle.ps_machine.specs.Machines.{MachineData, IsMachine, LassosWon}
 use Rattle.ps_machine.specs.declared.key.Order.{Order}

@@ -2,8 +2,8 @@
 use Rattle.std.proofs.Common.{◌≡◌, ℕ, zero, suc, ◌+◌, ◌-◌, ◌^◌, ◌<◌, Bool, List, [], ◌++◌, length, refl, ap, ap₂, sym, ◌∙◌, subst, arith, add-zero}
 use Rattle.std.proofs.Math.Nat.{mul-le-mul_right}
 use Rattle.std.proofs.lemmas.List.{length-map, map-append}
-use Rattle.ps_aiger.specs.Circuits.{CircuitData}
-use Rattle.ps_aiger.specs.Values.{Moment, GoesOn, HasOneValues, resets}
+use Rattle.ps_circuit.specs.Circuits.{CircuitData}
+use Rattle.ps_circuit.specs.Values.{Moment, GoesOn, HasOneValues, resets}
 use Rattle.ps_aiger.specs.Encoded.{number_of}
 use Rattle.ps_simulate.specs.Lassos.{laps_of}
 use Rattle.ps_simulate.specs.LassoFaults.{AreWide}

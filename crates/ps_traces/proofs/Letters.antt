@@ -8,8 +8,8 @@ use Rattle.ps_diagram.specs.Letters.{letter_of}
 use Rattle.ps_diagram.proofs.Letters.{letter_is, letter_lt}
 use Rattle.ps_hoa.specs.Files.{is_among}
 use Rattle.ps_hoa.specs.Sound.{AreNames}
-use Rattle.ps_aiger.specs.Circuits.{CircuitData}
-use Rattle.ps_aiger.specs.Values.{Moment}
+use Rattle.ps_circuit.specs.Circuits.{CircuitData}
+use Rattle.ps_circuit.specs.Values.{Moment}
 use Rattle.ps_simulate.specs.Symbols.{IsSymbol, AreNamesOnce, HasSymbols, reads_controllable, sets_controllable}
 use Rattle.ps_simulate.specs.Lassos.{IsLetterOf, AreLetters}
 use Rattle.ps_simulate.specs.declared.role.Role.{Role}

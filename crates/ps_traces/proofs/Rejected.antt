@@ -1,8 +1,8 @@
 -- The meeting is rejected where no lasso trace is accepted.
 use Rattle.ps_hoa.specs.Files.{FileData}
 use Rattle.ps_hoa.specs.Sound.{AreNames}
-use Rattle.ps_aiger.specs.Circuits.{CircuitData}
-use Rattle.ps_aiger.specs.Values.{HasOneValues}
+use Rattle.ps_circuit.specs.Circuits.{CircuitData}
+use Rattle.ps_circuit.specs.Values.{HasOneValues}
 use Rattle.ps_machine.specs.declared.key.Order.{Order}
 use Rattle.ps_simulate.specs.declared.role.Role.TheVariants.{Environment}
 use Rattle.ps_traces.specs.Traces.{NoneAccepted}

@@ -6,7 +6,7 @@ use Rattle.std.proofs.lemmas.Bool.{cases_lt, cases_order}
 use Rattle.std.proofs.lemmas.List.{length-map, get_or-map, get_or_past}
 use Rattle.ps_hoa.specs.Files.{FileData, is_among}
 use Rattle.ps_hoa.specs.Sound.{AreNames}
-use Rattle.ps_aiger.specs.Circuits.{CircuitData}
+use Rattle.ps_circuit.specs.Circuits.{CircuitData}
 use Rattle.ps_aiger.specs.Encoded.{Encodes, SeesNoInput, bits_over, letter_over, memory_of, symbols_of}
 use Rattle.ps_machine.specs.Machines.{MachineData, IsMachine}
 use Rattle.ps_machine.specs.declared.key.Order.{Order}

@@ -8,8 +8,8 @@ use Rattle.std.proofs.lemmas.List.Elements.{All-head, All-tail}
 use Rattle.ps_label.specs.Truth.{is_in}
 use Rattle.ps_diagram.proofs.Letters.{no_bit}
 use Rattle.ps_hoa.specs.Files.{FileData, is_among}
-use Rattle.ps_aiger.specs.Circuits.{CircuitData}
-use Rattle.ps_aiger.specs.Values.{Moment, GoesOn, Steps, resets}
+use Rattle.ps_circuit.specs.Circuits.{CircuitData}
+use Rattle.ps_circuit.specs.Values.{Moment, GoesOn, Steps, resets}
 use Rattle.ps_aiger.specs.Encoded.{Encodes, StepsAs, number_of, memory_of, letter_over}
 use Rattle.ps_machine.specs.Machines.{MachineData, IsMachine, IsOutput, IsLasso, LassosWon, Makes, memories_of, next_of, plays}
 use Rattle.ps_simulate.specs.Symbols.{IsSymbol}

@@ -4,8 +4,8 @@
 --                                       environment's meeting with any finite-state controller goes on in one, which is rejected
 use Rattle.std.specs.Prelude.{◌≡◌, ◌≢◌, ℕ, List, if◌then◌else◌, nat_eq}
 use Rattle.ps_hoa.specs.Files.{FileData}
-use Rattle.ps_aiger.specs.Circuits.{CircuitData, IsCircuit}
-use Rattle.ps_aiger.specs.Values.{Moment}
+use Rattle.ps_circuit.specs.Circuits.{CircuitData, IsCircuit}
+use Rattle.ps_circuit.specs.Values.{Moment}
 use Rattle.ps_machine.specs.declared.key.Order.{Order}
 use Rattle.ps_simulate.specs.declared.role.Role.{Role}
 use Rattle.ps_simulate.specs.declared.role.Role.TheVariants.{Controller, Environment}

@@ -3,8 +3,8 @@
 --     GoesOnInLasso c stem lap      some lasso trace reads the stem and some laps, at least one, and then again and again some laps, at least one
 --     EachInputGoesOn c      for each stem and each lap, not empty, of letters of the circuit's width
 use Rattle.std.specs.Prelude.{◌≡◌, ℕ, ◌<◌, Bool, List, ◌++◌, length, map}
-use Rattle.ps_aiger.specs.Circuits.{CircuitData}
-use Rattle.ps_aiger.specs.Values.{Moment}
+use Rattle.ps_circuit.specs.Circuits.{CircuitData}
+use Rattle.ps_circuit.specs.Values.{Moment}
 use Rattle.ps_simulate.specs.Lassos.{AreLetters, laps_of}
 use Rattle.ps_simulate.specs.LassoFaults.{AreWide}
 use Rattle.ps_traces.specs.Traces.{IsLassoTrace}

@@ -4,7 +4,7 @@
 --     IsMachineFor order role file m      the machine has the file's names, reads the propositions that the role reads, and moves in its turn
 use Rattle.std.specs.Prelude.{◌≡◌, ℕ, ◌<◌, Bool, true, false, not, IsTrue, List, length}
 use Rattle.ps_hoa.specs.Files.{FileData, is_among}
-use Rattle.ps_aiger.specs.Circuits.{CircuitData}
+use Rattle.ps_circuit.specs.Circuits.{CircuitData}
 use Rattle.ps_aiger.specs.Encoded.{SeesNoInput}
 use Rattle.ps_machine.specs.Machines.{MachineData}
 use Rattle.ps_machine.specs.declared.key.Order.{Order}

@@ -5,8 +5,8 @@
 use Rattle.std.specs.Prelude.{ℕ, ◌<◌, Bool, List, length}
 use Rattle.ps_hoa.specs.Files.{FileData}
 use Rattle.ps_automaton.specs.Acceptance.{IsAccepted}
-use Rattle.ps_aiger.specs.Circuits.{CircuitData}
-use Rattle.ps_aiger.specs.Values.{Moment, GoesOn, resets}
+use Rattle.ps_circuit.specs.Circuits.{CircuitData}
+use Rattle.ps_circuit.specs.Values.{Moment, GoesOn, resets}
 use Rattle.ps_simulate.specs.Lassos.{AreLetters}
 
 pub record IsLassoTrace (c : CircuitData) (stem lap : List Moment) : Type 0 where

@@ -1,7 +1,7 @@
 //! The command that runs a circuit on a stem and a lap, and asks an automaton about what it does.
 
 ghost use Rattle.std.specs.Prelude.{◌≡◌, ◌++◌, codes, length, All, IfOk};
-ghost use Rattle.ps_aiger.specs.Circuits.{IsCircuit};
+ghost use Rattle.ps_circuit.specs.Circuits.{IsCircuit};
 ghost use Rattle.ps_automaton.specs.Automata.{IsBuiltFrom};
 ghost use Rattle.ps_automaton.specs.Chains.{Chain};
 ghost use Rattle.ps_hoa.specs.Files.{FileData};
@@ -13,8 +13,8 @@ use crate::answer::{Answer, Refusal};
 use crate::automata::read_automaton;
 use crate::fault::{FaultLine, Place};
 use crate::texts::{read_circuit, read_stimulus, three_texts};
-use ps_aiger::Circuit;
 use ps_automaton::Automaton;
+use ps_circuit::Circuit;
 use ps_simulate::{LassoFault, Role, Stimulus, Verdict, circuit_has_one_values};
 use std::alloc::{AllocError, Global};
 

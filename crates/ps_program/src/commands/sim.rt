@@ -8,7 +8,7 @@ ghost use Rattle.ps_program.specs.Simulating.{AnswersSim, PrintsTrace, PrintsSte
 
 use crate::answer::{Answer, Refusal};
 use crate::texts::read_simulated;
-use ps_aiger::Circuit;
+use ps_circuit::Circuit;
 use ps_simulate::{Simulator, Stimulus, circuit_has_one_values};
 use std::alloc::{AllocError, Global};
 

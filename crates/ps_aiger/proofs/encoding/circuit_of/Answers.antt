@@ -1,7 +1,7 @@
 use Rattle.std.proofs.Common.{◌≡◌, subst, sym}
 use Rattle.std.proofs.lemmas.Result.{IfOk-weaker}
-use Rattle.ps_aiger.specs.Circuits.{CircuitData, IsCircuit}
-use Rattle.ps_aiger.specs.Drafts.{data_of}
+use Rattle.ps_circuit.specs.Circuits.{CircuitData, IsCircuit}
+use Rattle.ps_circuit.specs.Drafts.{data_of}
 use Rattle.ps_aiger.specs.Encoded.{Encodes, IsTidy, SeesNoInput}
 use Rattle.ps_aiger.proofs.EncodeLemmas.{draft, ordered, is_tidy, sees, encodes, ok_with}
 use Rattle.ps_aiger.specs.Built.{IsWired}

@@ -1,10 +1,10 @@
 use Rattle.std.proofs.Common.{Err, ◌≡◌, ◌∙◌, ◌+◌, ◌^◌, ◌<◌, ◌≤◌, ℕ, List, get_or, length, subst, sym, ap, arith}
 use Rattle.ps_machine.specs.Machines.{MachineData}
 use Rattle.ps_aiger.specs.declared.functions.Wanted.TheVariants.{Next}
-use Rattle.ps_aiger.specs.Building.{Drafted, Extends}
-use Rattle.ps_aiger.specs.Gates.{Wired}
+use Rattle.ps_circuit.specs.Building.{Drafted, Extends}
+use Rattle.ps_aiger.specs.Wires.{Wired}
 use Rattle.ps_aiger.specs.Functions.{IsLiteralAt}
-use Rattle.ps_aiger.proofs.GateLemmas.{passed}
+use Rattle.ps_circuit.proofs.GateLemmas.{passed}
 use Rattle.ps_aiger.proofs.EncodeLemmas.{few_inputs}
 use Rattle.ps_aiger.proofs.FunctionLemmas.{at-kept}
 use Rattle.ps_aiger.proofs.WiredLemmas.{above-outputs, out_of_literals}

@@ -1,5 +1,5 @@
 use Rattle.std.proofs.Common.{◌≡◌, ℕ, ◌+◌, ◌*◌, ◌<◌, length, Some, slice_get}
-use Rattle.ps_aiger.specs.declared.builder.Sides.{Sides}
+use Rattle.ps_circuit.specs.declared.builder.Sides.{Sides}
 use Rattle.ps_aiger.proofs.encoding.gates_of.Given as goal
 
 abbrev pub invariant-loop-place : goal.invariant-loop-place

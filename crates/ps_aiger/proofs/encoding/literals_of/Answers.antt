@@ -1,8 +1,8 @@
 use Rattle.std.proofs.Common.{◌≡◌, ◌∙◌, ◌<◌, ◌≤◌, Err, ap, arith, length, sym, subst}
 use Rattle.std.proofs.lemmas.Option.{slice_get-get_or, slice_get_within}
-use Rattle.ps_aiger.specs.Building.{variables_of}
-use Rattle.ps_aiger.specs.Gates.{Wired}
-use Rattle.ps_aiger.proofs.GateLemmas.{extends-trans, passed}
+use Rattle.ps_circuit.specs.Building.{variables_of}
+use Rattle.ps_aiger.specs.Wires.{Wired}
+use Rattle.ps_circuit.proofs.GateLemmas.{extends-trans, passed}
 use Rattle.ps_aiger.proofs.EncodeLemmas.{literals_more, one_longer}
 use Rattle.ps_aiger.proofs.WiredLemmas.{wired-step, wired-above, wired-end}
 use Rattle.ps_aiger.proofs.encoding.literals_of.Goals as goal

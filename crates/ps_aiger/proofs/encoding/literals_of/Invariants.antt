@@ -1,8 +1,8 @@
 use Rattle.std.proofs.Common.{◌≡◌, ℕ, ◌<◌, length, Some, slice_get, get_or, drop}
 use Rattle.ps_aiger.specs.declared.functions.Wanted.{Wanted}
-use Rattle.ps_aiger.specs.Building.{Extends}
+use Rattle.ps_circuit.specs.Building.{Extends}
 use Rattle.ps_aiger.specs.Functions.{IsLiteralAt}
-use Rattle.ps_aiger.specs.Gates.{wired}
+use Rattle.ps_aiger.specs.Wires.{wired}
 use Rattle.ps_aiger.proofs.WiredLemmas.{behind}
 use Rattle.ps_aiger.proofs.encoding.literals_of.Given as goal
 

@@ -4,8 +4,8 @@ use Rattle.std.proofs.lemmas.Result.{IfOk-weaker}
 use Rattle.ps_aiger.specs.declared.functions.Wanted.{Wanted}
 use Rattle.ps_aiger.specs.Built.{AreLiterals}
 use Rattle.ps_aiger.specs.Functions.{wanted_place}
-use Rattle.ps_aiger.specs.Building.{variables_of}
-use Rattle.ps_aiger.specs.Gates.{Wired, wired}
+use Rattle.ps_circuit.specs.Building.{variables_of}
+use Rattle.ps_aiger.specs.Wires.{Wired, wired}
 use Rattle.ps_aiger.proofs.EncodeLemmas.{next_bits_within, next_of_bits}
 use Rattle.ps_aiger.proofs.WiredLemmas.{first_wired, bits_are}
 use Rattle.ps_aiger.proofs.encoding.next_literals.Goals as goal

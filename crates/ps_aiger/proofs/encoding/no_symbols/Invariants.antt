@@ -1,6 +1,6 @@
 use Rattle.std.proofs.Common.{◌≡◌, None, map, vec_len}
 use Rattle.std.specs.Prelude.{replicate}
-use Rattle.ps_aiger.specs.Drafts.{name_bytes}
+use Rattle.ps_circuit.specs.Drafts.{name_bytes}
 use Rattle.ps_aiger.proofs.encoding.no_symbols.Given as goal
 
 abbrev pub invariant-loop : goal.invariant-loop

@@ -4,10 +4,10 @@ use Rattle.std.proofs.lemmas.Result.{IfOk-weaker}
 use Rattle.ps_aiger.specs.declared.functions.Wanted.{Wanted}
 use Rattle.ps_aiger.specs.Built.{AreLiterals}
 use Rattle.ps_aiger.specs.Functions.{wanted_place}
-use Rattle.ps_aiger.specs.Building.{variables_of}
+use Rattle.ps_circuit.specs.Building.{variables_of}
 use Rattle.ps_machine.specs.Machines.{MachineData}
-use Rattle.ps_aiger.specs.Building.{Drafted}
-use Rattle.ps_aiger.specs.Gates.{Wired, next_wires, output_wires, wired}
+use Rattle.ps_circuit.specs.Building.{Drafted}
+use Rattle.ps_aiger.specs.Wires.{Wired, next_wires, output_wires, wired}
 use Rattle.ps_aiger.specs.declared.functions.Wanted.TheVariants.{Output}
 use Rattle.ps_aiger.proofs.EncodeLemmas.{few_inputs, output_bits_within}
 use Rattle.ps_aiger.proofs.encoding.output_literals.Goals as goal

@@ -1,5 +1,5 @@
 use Rattle.std.proofs.Common.{◌≡◌, map, take}
-use Rattle.ps_aiger.specs.Drafts.{name_bytes}
+use Rattle.ps_circuit.specs.Drafts.{name_bytes}
 use Rattle.ps_aiger.specs.Encoded.{symbols_of}
 use Rattle.ps_aiger.proofs.encoding.symbols.Given as goal
 

@@ -5,9 +5,10 @@ use Rattle.ps_hoa.specs.Files.{is_among}
 use Rattle.indexmap.specs.IndexMap.{get}
 use Rattle.ps_diagram.specs.Table.{Table, leaf_of}
 use Rattle.ps_diagram.specs.Views.{SeesTest}
-use Rattle.ps_aiger.specs.Building.{variables_of}
-use Rattle.ps_aiger.specs.Gates.{Made, node_made}
-use Rattle.ps_aiger.proofs.GateLemmas.{extends-trans, passed}
+use Rattle.ps_circuit.specs.Building.{variables_of}
+use Rattle.ps_circuit.specs.Gates.{Made}
+use Rattle.ps_aiger.specs.Wires.{node_made}
+use Rattle.ps_circuit.proofs.GateLemmas.{extends-trans, passed}
 use Rattle.ps_aiger.proofs.FunctionLemmas.{literal-kept, literal-test, knows-kept, knows-more, knows-same, place_small, held_place}
 use Rattle.ps_aiger.proofs.OverLemmas.{inputs-extends, made-nothing, made-leaf, made-low, made-test}
 use Rattle.ps_aiger.proofs.WiredLemmas.{choice-made, choice-above, choice-above_low, made-kept, made-more}

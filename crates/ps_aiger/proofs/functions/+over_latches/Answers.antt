@@ -1,9 +1,10 @@
 use Rattle.std.proofs.Common.{◌≡◌, ◌∙◌, suc, ◌+◌, ◌-◌, ◌*◌, ◌%◌, ◌^◌, ◌<◌, Err, ap, subst, sym, refl, arith, length, nat_eq}
 use Rattle.std.proofs.lemmas.Result.{IfOk-weaker}
 use Rattle.indexmap.specs.IndexMap.{get}
-use Rattle.ps_aiger.specs.Building.{variables_of}
-use Rattle.ps_aiger.specs.Gates.{Made, code_made, mux_of}
-use Rattle.ps_aiger.proofs.GateLemmas.{extends-trans, passed}
+use Rattle.ps_circuit.specs.Building.{variables_of}
+use Rattle.ps_circuit.specs.Gates.{Made, mux_of}
+use Rattle.ps_aiger.specs.Wires.{code_made}
+use Rattle.ps_circuit.proofs.GateLemmas.{extends-trans, passed}
 use Rattle.ps_aiger.proofs.FunctionLemmas.{at-kept, at-suc, knows-kept, ok_both, upper_fits, lower_fits, shl_is}
 use Rattle.ps_aiger.proofs.LetterLemmas.{positive}
 use Rattle.ps_aiger.proofs.WiredLemmas.{code-zero, code-suc, choice-made, choice-above, choice-above_low, code-extends, made-kept}

@@ -1,7 +1,7 @@
-use Rattle.ps_aiger.specs.CauseNames.{cause_name}
-use Rattle.ps_aiger.specs.Causes.{cause_number}
-use Rattle.ps_aiger.specs.Circuits.{CircuitData}
-use Rattle.ps_aiger.specs.Texts.{Reads}
+use Rattle.ps_circuit.specs.CauseNames.{cause_name}
+use Rattle.ps_circuit.specs.Causes.{cause_number}
+use Rattle.ps_circuit.specs.Circuits.{CircuitData}
+use Rattle.ps_circuit.specs.Texts.{Reads}
 use Rattle.ps_program.proofs.OutcomeLemmas.{gives_fault}
 use Rattle.ps_program.proofs.texts.read_circuit.Goals as goal
 

@@ -1,6 +1,6 @@
 use Rattle.std.proofs.Common.{◌∙◌, ℕ, List, map, length, get_or, ap, arith}
 use Rattle.std.proofs.lemmas.List.{take_all}
-use Rattle.ps_aiger.specs.declared.parts.Latch.{Latch}
+use Rattle.ps_circuit.specs.declared.parts.Latch.{Latch}
 use Rattle.ps_simulate.specs.Lanes.{all_or_none, bit_in}
 use Rattle.ps_simulate.proofs.RowLemmas.{no_latch}
 use Rattle.ps_simulate.proofs.LaneLemmas.{reset_on}

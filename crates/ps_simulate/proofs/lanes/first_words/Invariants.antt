@@ -1,5 +1,5 @@
 use Rattle.std.proofs.Common.{◌≡◌, ℕ, ◌<◌, map, take}
-use Rattle.ps_aiger.specs.declared.parts.Latch.{Latch}
+use Rattle.ps_circuit.specs.declared.parts.Latch.{Latch}
 use Rattle.ps_simulate.specs.Lanes.{lane_of}
 use Rattle.ps_simulate.proofs.lanes.first_words.Given as goal
 

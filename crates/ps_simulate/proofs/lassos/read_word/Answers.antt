@@ -1,8 +1,8 @@
 use Rattle.std.proofs.Common.{◌∙◌, ◌+◌, take, refl, ℕ, Bool, List, None, get_or, length, subst, sym, ap}
 use Rattle.std.specs.Prelude.{◌||◌}
 use Rattle.std.proofs.lemmas.List.{length-map}
-use Rattle.ps_aiger.specs.Circuits.{CircuitData}
-use Rattle.ps_aiger.specs.Values.{Moment, Steps}
+use Rattle.ps_circuit.specs.Circuits.{CircuitData}
+use Rattle.ps_circuit.specs.Values.{Moment, Steps}
 use Rattle.ps_simulate.specs.Lassos.{IsLetterOf}
 use Rattle.ps_simulate.specs.LassoRuns.{ReadsWord}
 use Rattle.ps_simulate.specs.Stimuli.{letters_of}

@@ -1,7 +1,7 @@
 use Rattle.std.proofs.Common.{◌≡◌, ◌∙◌, ◌+◌, ◌*◌, ◌^◌, ◌<◌, ℕ, Bool, List, length, get_or, take, drop, ap, sym, subst, arith}
 use Rattle.std.specs.Prelude.{All}
 use Rattle.std.proofs.lemmas.List.Elements.{All-take, All-drop}
-use Rattle.ps_aiger.specs.Circuits.{CircuitData}
+use Rattle.ps_circuit.specs.Circuits.{CircuitData}
 use Rattle.ps_simulate.specs.Stimuli.{letters_of}
 use Rattle.ps_simulate.specs.LassoRuns.{RepeatsBy}
 use Rattle.ps_simulate.specs.Namings.{names_of}

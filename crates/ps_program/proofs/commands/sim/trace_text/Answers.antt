@@ -1,6 +1,6 @@
 use Rattle.std.proofs.Common.{◌≡◌, ◌∙◌, Bool, List, length, take, sym, ap, subst}
 use Rattle.std.proofs.lemmas.List.{take_all}
-use Rattle.ps_aiger.specs.Circuits.{CircuitData}
+use Rattle.ps_circuit.specs.Circuits.{CircuitData}
 use Rattle.ps_simulate.specs.Stimuli.{StimulusData, letters_of}
 use Rattle.ps_program.specs.Simulating.{PrintsTrace}
 use Rattle.ps_program.proofs.TraceLemmas.{HasPrinted-start, HasPrinted-letter, PrintsTrace-end, letter_fits}

@@ -4,7 +4,7 @@ use Rattle.ps_simulate.specs.declared.lane_plan.Operands.{Operands}
 use Rattle.ps_simulate.specs.LanePlans.{rows_from, wire_in}
 use Rattle.ps_simulate.specs.Lanes.{LaneSimulation, AreTables, lane_of}
 use Rattle.ps_simulate.specs.Plans.{IsWithin, IsWorkedOut, read}
-use Rattle.ps_aiger.specs.Values.{Steps}
+use Rattle.ps_circuit.specs.Values.{Steps}
 use Rattle.ps_simulate.proofs.LaneStepLemmas.{room, latches_many, gates_fit, gates_within, outputs_in_table, nexts_in_table, outputs_many, nexts_many, constant_there, Steps-lane, IsTable-lane}
 use Rattle.ps_simulate.proofs.lanes.LaneSimulator.step_lanes.Goals as goal
 use Rattle.ps_simulate.proofs.lanes.LaneSimulator.step_lanes.Goals.{After-fill_words, After-read_words-2}

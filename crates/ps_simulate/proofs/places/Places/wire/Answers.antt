@@ -1,6 +1,6 @@
 use Rattle.std.proofs.Common.{◌≡◌, ◌∙◌, ◌==◌, ◌%◌, ap, refl, subst, sym, position, List, Some, ℕ}
 use Rattle.std.specs.Prelude.{IsSome, Option}
-use Rattle.ps_aiger.specs.Circuits.{CircuitData, IsKnown, definitions, variable}
+use Rattle.ps_circuit.specs.Circuits.{CircuitData, IsKnown, definitions, variable}
 use Rattle.ps_ids.proofs.IdPlaces.{position_here}
 use Rattle.ps_simulate.specs.declared.plan.Wire.{Wire}
 use Rattle.ps_simulate.specs.Plans.{place_of, variables}

@@ -5,7 +5,7 @@ use Rattle.ps_simulate.specs.declared.plan.Wire.{Wire}
 use Rattle.ps_simulate.specs.Plans.{IsWithin, IsWorkedOut, variables, read}
 use Rattle.ps_simulate.specs.Simulations.{Simulation}
 use Rattle.ps_simulate.specs.Tables.{IsTable}
-use Rattle.ps_aiger.specs.Values.{Steps}
+use Rattle.ps_circuit.specs.Values.{Steps}
 use Rattle.ps_simulate.proofs.StepLemmas.{rows_within, outputs_within, nexts_within, Steps-worked_out, IsTable-worked_out}
 use Rattle.ps_simulate.proofs.simulator.Simulator.step.Goals as goal
 use Rattle.ps_simulate.proofs.simulator.Simulator.step.Goals.{After-fill, After-read_all-2}

@@ -1,4 +1,0 @@
-use Rattle.ps_aiger.proofs.header.+sections.Given as goal
-
-abbrev pub decreases-sections : goal.decreases-sections
-decreases-sections l = l.left

@@ -1,0 +1,156 @@
+-- Links stand for the gates that a gate reads.
+use Rattle.std.proofs.Common.{◌≡◌, ◌≢◌, ℕ, ◌+◌, ◌<◌, IfSome, inl, inr, List, [], ◌∷◌, ◌++◌, map, length, get_or, refl, sym, ap, ap₂, subst, ◌∙◌, arith, nat_eq, Some, None, Option, slice_get, suc, zero, ◌⊎◌, AllPairs, Contains, take, length-append, option_map}
+use Rattle.std.proofs.lemmas.Option.{slice_get_within, slice_get-map, slice_get-get_or, get_or_from_slice_get}
+use Rattle.std.proofs.lemmas.List.{length-map, get_or-map, get_or-append-add, map-append, take_more}
+use Rattle.std.proofs.lemmas.List.Quantifiers.{position-Some}
+use Rattle.std.proofs.lemmas.Bool.{eqb-true}
+use Rattle.ps_circuit.specs.declared.links.Links.{Links}
+use Rattle.ps_circuit.specs.declared.parts.Gate.{Gate}
+use Rattle.ps_components.specs.Graphs.{Way, Link, IsWithin}
+use Rattle.ps_components.specs.Orders.{IsOrder, IsFirstOnCycle}
+use Rattle.ps_circuit.specs.Circuits.{CircuitData, variable, definitions, Reads}
+use Rattle.ps_circuit.specs.Drafts.{links_by, place_in}
+use Rattle.ps_ids.specs.Ids.{AreDistinct}
+use Rattle.ps_ids.proofs.IdPlaces.{position_here}
+use Rattle.ps_ids.proofs.Members.{absent_before}
+use Rattle.ps_circuit.specs.GateGraphs.{side_of, target_of, graph_of, AreLinksOf}
+use Rattle.ps_components.proofs.Ways.{Way-map}
+
+no_gate : Gate
+no_gate = record { literal = 0; first = 0; second = 0 }
+
+-- the places of the gates by their variables
+record ArePlaces (gates : List Gate) (place_of : ℕ → Option ℕ) : Type 0 where
+  back : (v k : ℕ) → place_of v ≡ Some k → (g : Gate) × (slice_get gates k ≡ Some g) × (variable g.literal ≡ v)
+  forth : (k : ℕ) (g : Gate) → slice_get gates k ≡ Some g → place_of (variable g.literal) ≡ Some k
+
+abbrev pub gate_variables : List Gate → List ℕ
+gate_variables gates = map (λ g. variable g.literal) gates
+
+-- gates of different variables
+module _ (gates : List Gate) (once : AllPairs (λ g h. variable g.literal ≢ variable h.literal) gates) where
+  many : length (gate_variables gates) ≡ length gates
+  many = length-map gates (λ g. variable g.literal)
+
+  variable_at : (k d : ℕ) (g : Gate) → k < length gates → get_or (gate_variables gates) k d ≡ variable (get_or gates k g).literal
+  variable_at k d g l = get_or-map (λ h. variable h.literal) gates k g d l
+
+  apart : AreDistinct (gate_variables gates)
+  apart i j d less l e =
+      let below : j < length gates = omega (arith, many) in
+      once i j no_gate less below (sym (variable_at i d no_gate (omega arith)) ∙ e ∙ variable_at j d no_gate below)
+
+  pub variable_fresh : (k : ℕ) (g : Gate) → k < length gates → Contains (take k (gate_variables gates)) (variable (get_or gates k g).literal) → ⊥
+  variable_fresh k g l = subst (λ v. Contains (take k (gate_variables gates)) v → ⊥) (variable_at k 0 g l) (absent_before (gate_variables gates) k apart (omega (arith, many)))
+
+  pub variables_more : (k : ℕ) (g : Gate) → k < length gates → take (k + 1) (gate_variables gates) ≡ take k (gate_variables gates) ++ variable (get_or gates k g).literal ∷ []
+  variables_more k g l = take_more (gate_variables gates) k 0 (omega (arith, many)) ∙ ap (λ v. take k (gate_variables gates) ++ v ∷ []) (variable_at k 0 g l)
+
+  are_places : ArePlaces gates (place_in (gate_variables gates))
+  are_places = record {
+    back = λ v k e.
+        let at = position-Some (λ other. nat_eq v other) (gate_variables gates) k 0 e in
+        let within : k < length gates = omega (arith, many, at.0) in
+        (get_or gates k no_gate, slice_get-get_or gates k no_gate within, sym (variable_at k 0 no_gate within) ∙ sym (eqb-true v _ at.1));
+    forth = λ k g at.
+        let within : k < length gates = slice_get_within gates k g at in
+        position_here (gate_variables gates) (variable g.literal) k apart (omega (arith, many))
+        (variable_at k 0 no_gate within ∙ ap (λ h. variable h.literal) (get_or_from_slice_get gates k g no_gate at));
+  }
+
+length-links_by : (place_of : ℕ → Option ℕ) (gates : List Gate) → length (links_by place_of gates) ≡ length gates
+length-links_by place_of [] = refl
+length-links_by place_of (g ∷ gates) = ap suc (length-links_by place_of gates)
+
+-- the links by the places of all gates
+links-by_places : (gates : List Gate) (place_of : ℕ → Option ℕ) (links : List Links) → ArePlaces gates place_of → links ≡ links_by place_of gates → AreLinksOf gates links
+links-by_places gates place_of links a e = record {
+  each = ap length e ∙ length-links_by place_of gates;
+  link_reads = λ i j l. reads i j (subst (λ ls. Link (graph_of ls) i j) e l);
+  reads_link = λ i j r. subst (λ ls. Link (graph_of ls) i j) (sym e) (linked i j r);
+}
+  where
+    there : (i : ℕ) (sides : Links) → slice_get (links_by place_of gates) i ≡ Some sides → (g : Gate) × ((slice_get gates i ≡ Some g) × (place_of (variable g.first) ≡ sides.first) × (place_of (variable g.second) ≡ sides.second))
+    there i sides h = found (slice_get gates i) refl (sym (slice_get-map _ gates i) ∙ h)
+      where
+        found : (o : Option Gate) → slice_get gates i ≡ o → option_map (λ g. record { first = place_of (variable g.first); second = place_of (variable g.second) }) o ≡ Some sides → (g : Gate) × ((slice_get gates i ≡ Some g) × (place_of (variable g.first) ≡ sides.first) × (place_of (variable g.second) ≡ sides.second))
+        found None is e = cc
+        found (Some g) is e = (g, (is, cc, cc))
+
+    read_by : (i j : ℕ) (g h : Gate) → slice_get gates i ≡ Some g → (side : ℕ) → (variable side ≡ variable g.first) ⊎ (variable side ≡ variable g.second) → (slice_get gates j ≡ Some h) × (variable h.literal ≡ variable side) → Reads gates i j
+    read_by i j g h at_i side (inl e) r = record { reader = g; read = h; at_i = at_i; at_j = r.0; side = inl (sym e ∙ sym r.1) }
+    read_by i j g h at_i side (inr e) r = record { reader = g; read = h; at_i = at_i; at_j = r.0; side = inr (sym e ∙ sym r.1) }
+
+    reads : (i j : ℕ) → Link (graph_of (links_by place_of gates)) i j → Reads gates i j
+    reads i j l = found (slice_get (links_by place_of gates) i) refl l.place l.at l.target
+      where
+        found : (o : Option Links) → slice_get (links_by place_of gates) i ≡ o → (place : ℕ) → place < 2 → target_of o place ≡ Some j → Reads gates i j
+        found None is place lt t = cc
+        found (Some sides) is zero lt t = (let g = there i sides is in let h = a.back (variable g.0.first) j (g.1.1 ∙ t) in read_by i j g.0 h.0 g.1.0 g.0.first (inl refl) (h.1, h.2))
+        found (Some sides) is (suc place) lt t = (let g = there i sides is in let h = a.back (variable g.0.second) j (g.1.2 ∙ t) in read_by i j g.0 h.0 g.1.0 g.0.second (inr refl) (h.1, h.2))
+
+    linked : (i j : ℕ) → Reads gates i j → Link (graph_of (links_by place_of gates)) i j
+    linked i j r =
+        let sides : Links = record { first = place_of (variable r.reader.first); second = place_of (variable r.reader.second) } in
+        let at : slice_get (links_by place_of gates) i ≡ Some sides = slice_get-map _ gates i ∙ (rw r.at_i) in
+        let from : i < length (links_by place_of gates) = slice_get_within (links_by place_of gates) i sides at in
+        elim r.side [
+          | inl e ↦ record { from = from; place = 0; at = omega arith; target = ap (λ o. target_of o 0) at ∙ ap place_of e ∙ a.forth j r.read r.at_j }
+          | inr e ↦ record { from = from; place = 1; at = omega arith; target = ap (λ o. target_of o 1) at ∙ ap place_of e ∙ a.forth j r.read r.at_j }
+        ]
+
+abbrev sides : Option ℕ → Option ℕ → Links
+sides first second = record { first = first; second = second }
+
+-- the links of one gate more
+pub links_by-more : (variables : List ℕ) (gates : List Gate) (k : ℕ) (g : Gate) (links more : List Links) (first second : Option ℕ) → k < length gates →
+    links ≡ links_by (place_in variables) (take k gates) → more ≡ links ++ record { first = first; second = second } ∷ [] →
+    first ≡ place_in variables (variable (get_or gates k g).first) → second ≡ place_in variables (variable (get_or gates k g).second) →
+    more ≡ links_by (place_in variables) (take (k + 1) gates)
+links_by-more variables gates k g links more first second l before e at_first at_second =
+    e ∙ ap₂ (λ (ls : List Links) (made : Links). ls ++ made ∷ []) before (ap₂ sides at_first at_second)
+    ∙ sym (ap (links_by (place_in variables)) (take_more gates k g l) ∙ map-append (λ h. sides (place_in variables (variable h.first)) (place_in variables (variable h.second))) (take k gates) (get_or gates k g ∷ []))
+
+-- the links by the places of the gates' variables
+pub links-by_variables : (gates : List Gate) (variables : List ℕ) (links : List Links) → AllPairs (λ g h. variable g.literal ≢ variable h.literal) gates →
+    variables ≡ gate_variables gates → links ≡ links_by (place_in variables) gates → AreLinksOf gates links
+links-by_variables gates variables links once are e =
+    links-by_places gates (place_in (gate_variables gates)) links (are_places gates once) (e ∙ ap (λ vs. links_by (place_in vs) gates) are)
+
+module _ (gates : List Gate) (links : List Links) (a : AreLinksOf gates links) where
+  pub links_within : IsWithin (graph_of links)
+  links_within i j l = omega (arith, a.each, slice_get_within gates j _ (a.link_reads i j l).at_j)
+
+  pub order-of_links : (order : List ℕ) → IsOrder (Link (graph_of links)) (length links) order → IsOrder (Reads gates) (length gates) order
+  order-of_links order o = record {
+    within = λ k i h. omega (arith, o.within k i h, a.each);
+    once = o.once;
+    each = λ i lt. o.each i (omega (arith, a.each));
+    behind = λ k l i j hk hl r. o.behind k l i j hk hl (a.reads_link i j r);
+  }
+
+  pub acyclic-of_links : ((i : ℕ) → Way (Link (graph_of links)) i i → ⊥) → (i : ℕ) → Way (Reads gates) i i → ⊥
+  acyclic-of_links none i w = none i (Way-map a.reads_link w)
+
+  pub cyclic-of_links : (i : ℕ) → IsFirstOnCycle (Link (graph_of links)) i → IsFirstOnCycle (Reads gates) i
+  cyclic-of_links i c = record { cyclic = Way-map a.link_reads c.cyclic; first = λ j w. c.first j (Way-map a.reads_link w) }
+
+-- no two gates of a circuit have one variable
+pub gates_once : (c : CircuitData) → AllPairs (λ l m. variable l ≢ variable m) (definitions c) → AllPairs (λ g h. variable g.literal ≢ variable h.literal) c.gates
+gates_once c once i j d lt within e =
+    let front = c.inputs ++ map (λ l. l.literal) c.latches in
+    let all = length-append front (map (λ g. g.literal) c.gates) in
+    let many : length (map (λ g. g.literal) c.gates) ≡ length c.gates = length-map c.gates (λ g. g.literal) in
+    once (length front + i) (length front + j) 0 (omega arith) (omega (arith, all, many))
+    (ap variable (at_gate i d (omega arith)) ∙ e ∙ sym (ap variable (at_gate j d within)))
+  where
+    at_gate : (i : ℕ) (d : Gate) → i < length c.gates → get_or (definitions c) (length (c.inputs ++ map (λ l. l.literal) c.latches) + i) 0 ≡ (get_or c.gates i d).literal
+    at_gate i d lt = get_or-append-add (c.inputs ++ map (λ l. l.literal) c.latches) (map (λ g. g.literal) c.gates) i 0 ∙ get_or-map (λ g. g.literal) c.gates i d 0 lt
+
+-- where a side of a gate leads is a gate
+pub side_within : (links : List Links) (item place : ℕ) (sides : Links) → IsWithin (graph_of links) → slice_get links item ≡ Some sides → place < 2 → IfSome (side_of sides place) (λ to. to < length links)
+side_within links item place sides within at lt = which (side_of sides place) refl
+  where
+    which : (o : Option ℕ) → side_of sides place ≡ o → IfSome o (λ to. to < length links)
+    which None e = tt
+    which (Some to) e = within item to (record { from = slice_get_within links item sides at; place = place; at = lt; target = ap (λ o. target_of o place) at ∙ e })

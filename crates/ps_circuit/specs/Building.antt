@@ -1,0 +1,65 @@
+-- Gates made one after another.
+--     Drafted      how many variables are no gates, and the two literals of each gate; the gates' variables come next, in order
+--     bit v literal      the bit of a literal, where each variable has one
+--     Meets d v      variable 0 is false, and each gate is the conjunction of its two literals
+--     Extends old new      the gates that were there are there, at their variables
+--     IsSound d      what is true of the gates of a builder
+use Rattle.std.specs.Prelude.{◌≡◌, ◌≢◌, ℕ, ◌+◌, ◌-◌, ◌%◌, ◌^◌, ◌<◌, ◌≤◌, ◌==◌, ◌&&◌, Bool, false, not, if◌then◌else◌, List, length, slice_get, Some}
+use Rattle.ps_circuit.specs.declared.builder.Sides.{Sides}
+use Rattle.ps_circuit.specs.Circuits.{variable}
+
+pub record Drafted : Type 0 where
+  pub given : ℕ
+  pub gates : List Sides
+
+-- how many variables there are, 0 not counted
+abbrev pub variables_of : Drafted → ℕ
+variables_of d = d.given + length d.gates
+
+-- the literal's variable is 0 or one of them
+abbrev pub IsHeld : Drafted → ℕ → Type 0
+IsHeld d literal = variable literal ≤ variables_of d
+
+abbrev pub negated : ℕ → ℕ
+negated literal = if literal % 2 == 1 then literal - 1 else literal + 1
+
+abbrev pub bit : (ℕ → Bool) → ℕ → Bool
+bit v literal = if literal % 2 == 1 then not (v (variable literal)) else v (variable literal)
+
+pub record Meets (d : Drafted) (v : ℕ → Bool) : Type 0 where
+  pub constant : v 0 ≡ false
+  pub each : (k : ℕ) (s : Sides) → slice_get d.gates k ≡ Some s → v (d.given + 1 + k) ≡ (bit v s.first && bit v s.second)
+
+pub record Extends (old new : Drafted) : Type 0 where
+  pub given : new.given ≡ old.given
+  pub more : length old.gates ≤ length new.gates
+  pub same : (k : ℕ) (s : Sides) → slice_get old.gates k ≡ Some s → slice_get new.gates k ≡ Some s
+
+-- two literals of different variables below that one, none constant, the greater first
+pub record AreSides (own : ℕ) (s : Sides) : Type 0 where
+  pub below : variable s.first < own
+  pub falls : s.second < s.first
+  pub different : variable s.second ≢ variable s.first
+  pub not_constant : 0 < variable s.second
+
+-- there is a literal for each variable; and no two gates have the same two literals
+pub record IsSound (d : Drafted) : Type 0 where
+  pub room : variables_of d < 2 ^ 31
+  pub sides : (k : ℕ) (s : Sides) → slice_get d.gates k ≡ Some s → AreSides (d.given + 1 + k) s
+  pub once : (k l : ℕ) (s : Sides) → slice_get d.gates k ≡ Some s → slice_get d.gates l ≡ Some s → k ≡ l
+
+-- no further variable has a literal
+abbrev pub IsFull : Drafted → Type 0
+IsFull d = variables_of d ≡ 2147483647
+
+-- no gate there has these two literals
+abbrev pub IsNew : Drafted → ℕ → ℕ → Type 0
+IsNew d x y = (k : ℕ) (s : Sides) → slice_get d.gates k ≡ Some s → ¬ ((s.first ≡ x) × (s.second ≡ y))
+
+-- the conjunction of the two literals is none of them and not constant, and there is no gate for it
+pub record NeedsGate (d : Drafted) (x y : ℕ) : Type 0 where
+  pub first_varies : 0 < variable x
+  pub second_varies : 0 < variable y
+  pub different : variable x ≢ variable y
+  pub is_new : IsNew d x y
+  pub is_new_too : IsNew d y x

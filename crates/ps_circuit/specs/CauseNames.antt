@@ -1,0 +1,13 @@
+-- The names of the causes by which the text of a circuit is refused.
+use Rattle.std.specs.Prelude.{ℕ, List, codes}
+use Rattle.ps_circuit.specs.declared.fault.AigCause.{AigCause}
+use Rattle.ps_circuit.specs.declared.fault.AigCause.TheVariants.{Syntax, Literal, DefinedTwice, Undefined, Cyclic, UnsetLatch, Sections}
+
+abbrev pub cause_name : AigCause → List ℕ
+cause_name Syntax = codes "Syntax"
+cause_name Literal = codes "Literal"
+cause_name DefinedTwice = codes "DefinedTwice"
+cause_name Undefined = codes "Undefined"
+cause_name Cyclic = codes "Cyclic"
+cause_name UnsetLatch = codes "UnsetLatch"
+cause_name Sections = codes "Sections"

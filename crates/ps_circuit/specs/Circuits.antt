@@ -1,0 +1,68 @@
+-- What a circuit is. A literal is twice its variable, and one more where it is negated; variable 0 is false.
+--     CircuitData      the value of a circuit: its greatest variable, its literals, and a name or none for each input, latch and output
+--     definitions, readings      the literals that define a variable, and those that are read
+--     Reads gates i j, Way      one gate reads another; it depends on it
+--     IsDraft, IsCircuit      all but that no gate depends on itself; the whole
+use Rattle.std.specs.Prelude.{◌≡◌, ◌≢◌, ℕ, ◌+◌, ◌*◌, ◌/◌, ◌%◌, ◌<◌, ◌≤◌, ◌⊎◌, ◌^◌, List, [], ◌∷◌, ◌++◌, length, map, slice_get, Option, None, Some, All, AllPairs, Contains}
+use Rattle.std.specs.List.{flat_map}
+use Rattle.ps_circuit.specs.declared.parts.Latch.{Latch}
+use Rattle.ps_circuit.specs.declared.parts.Gate.{Gate}
+use Rattle.ps_components.specs.Graphs.{Way}
+
+pub record CircuitData : Type 0 where
+  pub most : ℕ
+  pub inputs : List ℕ
+  pub latches : List Latch
+  pub outputs : List ℕ
+  pub gates : List Gate
+  pub input_names : List (Option (List ℕ))
+  pub latch_names : List (Option (List ℕ))
+  pub output_names : List (Option (List ℕ))
+
+abbrev pub variable : ℕ → ℕ
+variable literal = literal / 2
+
+-- the literals of the inputs, latches and gates
+abbrev pub definitions : CircuitData → List ℕ
+definitions c = c.inputs ++ map (λ l. l.literal) c.latches ++ map (λ g. g.literal) c.gates
+
+-- the next literals of the latches, the outputs, and the two literals that each gate reads
+abbrev pub readings : CircuitData → List ℕ
+readings c = map (λ l. l.next) c.latches ++ c.outputs ++ flat_map (λ g. g.first ∷ g.second ∷ []) c.gates
+
+-- not negated, not constant, and at most the greatest
+abbrev pub IsDefinition : ℕ → ℕ → Type 0
+IsDefinition most literal = (literal % 2 ≡ 0) × (2 ≤ literal) × (literal ≤ 2 * most + 1)
+
+-- the literal's variable is 0 or one of those defined
+abbrev pub IsKnown : List ℕ → ℕ → Type 0
+IsKnown defined literal = (variable literal ≡ 0) ⊎ Contains (map variable defined) (variable literal)
+
+-- the gate at place i has a literal of the variable of the gate at place j
+pub record Reads (gates : List Gate) (i j : ℕ) : Type 0 where
+  pub reader : Gate
+  pub read : Gate
+  pub at_i : slice_get gates i ≡ Some reader
+  pub at_j : slice_get gates j ≡ Some read
+  pub side : (variable reader.first ≡ variable read.literal) ⊎ (variable reader.second ≡ variable read.literal)
+
+-- a name has at least one byte, and no newline
+abbrev pub IsName : Option (List ℕ) → Type 0
+IsName None = Unit {0}
+IsName (Some bytes) = (0 < length bytes) × All (λ b. b ≢ 10) bytes
+
+pub record IsDraft (c : CircuitData) : Type 0 where
+  pub limit : c.most < 2 ^ 31
+  pub defined : All (IsDefinition c.most) (definitions c)
+  pub once : AllPairs (λ l m. variable l ≢ variable m) (definitions c)
+  pub known : All (IsKnown (definitions c)) (readings c)
+  pub inputs_named : length c.input_names ≡ length c.inputs
+  pub latches_named : length c.latch_names ≡ length c.latches
+  pub outputs_named : length c.output_names ≡ length c.outputs
+  pub input_names : All IsName c.input_names
+  pub latch_names : All IsName c.latch_names
+  pub output_names : All IsName c.output_names
+
+pub record IsCircuit (c : CircuitData) : Type 0 where
+  pub draft : IsDraft c
+  pub acyclic : (i : ℕ) → ¬ Way (Reads c.gates) i i

@@ -1,0 +1,12 @@
+-- The numbers and the names of the faults for which a machine has no circuit.
+use Rattle.std.specs.Prelude.{ℕ, List, codes}
+use Rattle.ps_circuit.specs.declared.encode_fault.EncodeFault.{EncodeFault}
+use Rattle.ps_circuit.specs.declared.encode_fault.EncodeFault.TheVariants.{CircuitTooLarge, OutOfMemory}
+
+abbrev pub fault_number : EncodeFault → ℕ
+fault_number CircuitTooLarge = 60
+fault_number OutOfMemory = 24
+
+abbrev pub fault_name : EncodeFault → List ℕ
+fault_name CircuitTooLarge = codes "CircuitTooLarge"
+fault_name OutOfMemory = codes "OutOfMemory"

@@ -1,0 +1,23 @@
+-- The gates of a circuit as a graph: each has a place for either literal that it reads.
+use Rattle.std.specs.Prelude.{◌≡◌, ℕ, List, length, slice_get, Option, Some, None, zero, suc}
+use Rattle.ps_components.specs.Graphs.{Digraph, Link}
+use Rattle.ps_circuit.specs.declared.links.Links.{Links}
+use Rattle.ps_circuit.specs.declared.parts.Gate.{Gate}
+use Rattle.ps_circuit.specs.Circuits.{Reads}
+
+abbrev pub side_of : Links → ℕ → Option ℕ
+side_of sides zero = sides.first
+side_of sides (suc place) = sides.second
+
+abbrev pub target_of : Option Links → ℕ → Option ℕ
+target_of None place = None
+target_of (Some sides) place = side_of sides place
+
+abbrev pub graph_of : List Links → Digraph
+graph_of links = record { count = length links; degree = λ _. 2; target = λ i place. target_of (slice_get links i) place }
+
+-- the links are from each gate to those that it reads
+pub record AreLinksOf (gates : List Gate) (links : List Links) : Type 0 where
+  pub each : length links ≡ length gates
+  pub link_reads : (i j : ℕ) → Link (graph_of links) i j → Reads gates i j
+  pub reads_link : (i j : ℕ) → Reads gates i j → Link (graph_of links) i j

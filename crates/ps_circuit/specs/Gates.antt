@@ -1,0 +1,54 @@
+-- The gates of a builder in the order in which they are made, however many they are.
+--     Made      the gates so far, and a literal over them
+--     gate_of d s      the literal of the gate with these sides
+--     and_of d x y, or_of d x y, mux_of d s high low      the literal that is both, one of them, the one that s chooses
+use Rattle.std.specs.Prelude.{ℕ, ◌+◌, ◌*◌, ◌==◌, ◌&&◌, ◌||◌, nat_lt, Bool, if◌then◌else◌, [], ◌∷◌, ◌++◌}
+use Rattle.std.specs.List.{list_any, position_or_len}
+use Rattle.ps_circuit.specs.declared.builder.Sides.{Sides}
+use Rattle.ps_circuit.specs.Building.{Drafted, negated}
+
+pub record Made : Type 0 where
+  pub draft : Drafted
+  pub literal : ℕ
+
+abbrev pub has_sides : Sides → Sides → Bool
+has_sides s gate = s.first == gate.first && s.second == gate.second
+
+-- a gate that is there is used again; a new one takes the next variable
+unfoldable pub gate_of : Drafted → Sides → Made
+gate_of d s = record {
+  draft = record { given = d.given; gates = if list_any (has_sides s) d.gates then d.gates else d.gates ++ s ∷ [] };
+  literal = 2 * (d.given + 1 + position_or_len (has_sides s) d.gates);
+}
+
+unfoldable pub and_of : Drafted → ℕ → ℕ → Made
+and_of d x y =
+    if x == 0 || y == 0 || x == negated y then record { draft = d; literal = 0 }
+    else if x == 1 || x == y then record { draft = d; literal = y }
+    else if y == 1 then record { draft = d; literal = x }
+    else if nat_lt y x then gate_of d (record { first = x; second = y })
+    else gate_of d (record { first = y; second = x })
+
+abbrev pub inverted : Made → Made
+inverted made = record { draft = made.draft; literal = negated made.literal }
+
+unfoldable pub or_of : Drafted → ℕ → ℕ → Made
+or_of d x y = inverted (and_of d (negated x) (negated y))
+
+-- where neither of the two is constant, nor are they one literal
+unfoldable pub chosen_of : Drafted → ℕ → ℕ → ℕ → Made
+chosen_of d s high low =
+    let where_true = and_of d s high in
+    let where_false = and_of where_true.draft (negated s) low in
+    or_of where_false.draft where_true.literal where_false.literal
+
+unfoldable pub mux_of : Drafted → ℕ → ℕ → ℕ → Made
+mux_of d s high low =
+    if high == low then record { draft = d; literal = high }
+    else if high == 1 && low == 0 then record { draft = d; literal = s }
+    else if high == 0 && low == 1 then record { draft = d; literal = negated s }
+    else if high == 1 then or_of d s low
+    else if high == 0 then and_of d (negated s) low
+    else if low == 0 then and_of d s high
+    else if low == 1 then or_of d (negated s) high
+    else chosen_of d s high low

@@ -1,0 +1,15 @@
+pub mod Circuits
+pub mod Values
+pub mod GateGraphs
+pub mod Drafts
+pub mod Building
+pub mod Gates
+pub mod Written
+pub mod Causes
+pub mod CauseNames
+pub mod EncodeFaultNames
+pub mod Signs
+pub mod Texts
+pub mod Cursors
+pub mod Reading
+pub mod Names

@@ -1,0 +1,41 @@
+-- What the reader keeps true of the names that it has read.
+use Rattle.std.specs.Prelude.{◌≡◌, ℕ, Bool, false, ◌==◌, ◌||◌, [], map, replicate, All, vec_len, Option, None, Some, Result, Ok, Err}
+use Rattle.ps_text.specs.Answers.{Stream}
+use Rattle.ps_text.specs.Readers.{Reads}
+use Rattle.ps_circuit.specs.Causes.{AigFault}
+use Rattle.ps_text.specs.declared.faults.Fault.TheVariants.{Text}
+use Rattle.ps_circuit.specs.declared.fault.AigCause.TheVariants.{Syntax}
+use Rattle.ps_circuit.specs.declared.names.Names.{Names}
+use Rattle.ps_circuit.specs.Circuits.{IsName}
+use Rattle.ps_circuit.specs.Cursors.{next_byte, place_of}
+use Rattle.ps_circuit.specs.Drafts.{name_bytes}
+use Rattle.ps_circuit.specs.Signs.{Seen}
+use Rattle.ps_circuit.specs.Texts.{NamesData, comment}
+
+abbrev pub names_data : Names → NamesData
+names_data n = record { inputs = map name_bytes n.inputs.items; latches = map name_bytes n.latches.items; outputs = map name_bytes n.outputs.items }
+
+-- a name or none for each of so many inputs, latches and outputs
+pub record AreNames (n : Names) (inputs latches outputs : ℕ) : Type 0 where
+  pub inputs_each : vec_len n.inputs ≡ inputs
+  pub latches_each : vec_len n.latches ≡ latches
+  pub outputs_each : vec_len n.outputs ≡ outputs
+  pub inputs_named : All IsName (map name_bytes n.inputs.items)
+  pub latches_named : All IsName (map name_bytes n.latches.items)
+  pub outputs_named : All IsName (map name_bytes n.outputs.items)
+
+-- none of them has a name
+pub record AreNone (names : NamesData) (inputs latches outputs : ℕ) : Type 0 where
+  pub inputs_none : names.inputs ≡ replicate inputs None
+  pub latches_none : names.latches ≡ replicate latches None
+  pub outputs_none : names.outputs ≡ replicate outputs None
+
+-- i, l or o
+abbrev pub is_kind : Option ℕ → Bool
+is_kind None = false
+is_kind (Some b) = (b == 105) || (b == 108) || (b == 111)
+
+-- what stands behind the names was passed up to the end, or a sign stands there that begins no comment
+abbrev pub TellsComment : Stream Seen → Result (Unit {0}) AigFault → Stream Seen → Type 0
+TellsComment old (Ok u) new = Reads comment old tt new × (new.pieces ≡ [])
+TellsComment old (Err e) new = (b : ℕ) × (next_byte old ≡ Some b) × (b ≡ 99 → ⊥) × (e ≡ Text Syntax (place_of old))

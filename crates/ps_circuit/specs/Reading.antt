@@ -1,0 +1,122 @@
+-- What the private functions of the reader say of what they have read.
+--     lines_of items noted      what was read of the lines of one kind
+--     TellsField, TellsCount, TellsHeader, TellsDraft      what reading a number behind a gap, a count, the first line and a text answers
+--     AddsInput, AddsLatch, AddsOutput, AddsGate      one line more
+--     Grown      any number of lines more
+use Rattle.std.specs.Prelude.{◌≡◌, ◌≢◌, ℕ, ◌<◌, ◌⊎◌, Bool, List, [], ◌∷◌, ◌++◌, slice_index_or, slice_get, length, map, All, AllPairs, Contains, Option, None, Some, Result, Ok, Err}
+use Rattle.ps_text.specs.Answers.{Stream, Found}
+use Rattle.ps_text.specs.Parts.{PartAnswers}
+use Rattle.ps_text.specs.Readers.{Reads as ReadsPart, Stops}
+use Rattle.ps_components.specs.Orders.{IsFirstOnCycle}
+use Rattle.ps_circuit.specs.Circuits.{variable, IsDefinition, IsDraft, Reads}
+use Rattle.ps_circuit.specs.Drafts.{data_of}
+use Rattle.ps_circuit.specs.Signs.{Seen, aig_causes, gap, stream_of}
+use Rattle.ps_circuit.specs.Cursors.{found_of, saturated, NumberIs, TellsNumber}
+use Rattle.ps_circuit.specs.Texts.{AnyNumber, HeaderData, header, field, Lines, add_input, add_latch, add_output, add_gate, DraftData, circuit_text, IsFirstUndefined, IsDefined}
+use Rattle.ps_circuit.specs.declared.cursor.Number.{Number}
+use Rattle.ps_circuit.specs.Causes.{AigFault}
+use Rattle.ps_text.specs.declared.faults.Fault.TheVariants.{Text}
+use Rattle.ps_circuit.specs.declared.fault.AigCause.{AigCause}
+use Rattle.ps_circuit.specs.declared.fault.AigCause.TheVariants.{Cyclic, Undefined}
+use Rattle.ps_circuit.specs.declared.parts.Latch.{Latch}
+use Rattle.ps_circuit.specs.declared.parts.Gate.{Gate}
+use Rattle.ps_circuit.specs.declared.header.Header.{Header}
+use Rattle.ps_circuit.specs.declared.lines.Noted.{Noted}
+use Rattle.ps_circuit.specs.declared.reader.Draft.{Draft}
+
+-- the literals defined their variables, one behind another
+pub record Defines (most : ℕ) (old : List ℕ) (literals : List ℕ) (new : List ℕ) : Type 0 where
+  pub variables : new ≡ old ++ map variable literals
+  pub each : All (IsDefinition most) literals
+  pub apart : AllPairs (λ v w. v ≢ w) old → AllPairs (λ v w. v ≢ w) new
+
+-- the variable is a new one, put behind the others
+pub record AddsVariable (old : List ℕ) (v : ℕ) (new : List ℕ) : Type 0 where
+  pub behind : new ≡ old ++ v ∷ []
+  pub fresh : (k d : ℕ) → k < length old → slice_index_or old k d ≢ v
+
+-- the literal's variable is 0 or one of these
+abbrev pub IsKnownIn : List ℕ → ℕ → Type 0
+IsKnownIn variables literal = (variable literal ≡ 0) ⊎ Contains variables (variable literal)
+
+-- ## The first line
+
+abbrev pub TellsField : Stream Seen → Result Number AigFault → Stream Seen → Type 0
+TellsField old (Ok n) new = (mid : Stream Seen) × ReadsPart gap old tt mid × NumberIs mid new n
+TellsField old (Err e) new = Stops aig_causes gap old (found_of e) ⊎ ((mid : Stream Seen) × ReadsPart gap old tt mid × TellsNumber mid (Err e) new)
+
+abbrev pub TellsCount : Stream Seen → Result ℕ AigFault → Stream Seen → Type 0
+TellsCount old (Ok n) new = (v : Number) × (n ≡ saturated v.value) × ReadsPart (field AnyNumber) old v new
+TellsCount old (Err e) new = Stops aig_causes (field AnyNumber) old (found_of e)
+
+pub record HeaderIs (h : Header) (d : HeaderData) : Type 0 where
+  pub most : h.most ≡ d.most
+  pub inputs : h.inputs ≡ saturated d.inputs
+  pub latches : h.latches ≡ saturated d.latches
+  pub outputs : h.outputs ≡ saturated d.outputs
+  pub gates : h.gates ≡ saturated d.gates
+
+abbrev pub TellsHeader : Stream Seen → Result Header AigFault → Stream Seen → Type 0
+TellsHeader old (Ok h) new = (d : HeaderData) × HeaderIs h d × ReadsPart header old d new
+TellsHeader old (Err e) new = Stops aig_causes header old (found_of e)
+
+-- ## Number lines
+
+abbrev pub lines_of : {A : Type 0} → List A → Noted → Lines A
+lines_of items noted = record { items = items; defined = noted.variables; readings = noted.readings.items; starts = noted.starts.items }
+
+-- a line more of each kind; a literal that defines its variable is new
+pub record AddsInput (most : ℕ) (c d : Lines ℕ) : Type 0 where
+  pub literal : Number
+  pub is : d ≡ add_input c literal
+  pub new : Defines most c.defined (literal.value ∷ []) d.defined
+
+pub record AddsLatch (most : ℕ) (c d : Lines Latch) : Type 0 where
+  pub literal : Number
+  pub next : Number
+  pub reset : Bool
+  pub is : d ≡ add_latch c literal next reset
+  pub new : Defines most c.defined (literal.value ∷ []) d.defined
+
+pub record AddsOutput (c d : Lines ℕ) : Type 0 where
+  pub literal : Number
+  pub is : d ≡ add_output c literal
+
+pub record AddsGate (most : ℕ) (c d : Lines Gate) : Type 0 where
+  pub literal : Number
+  pub first : Number
+  pub second : Number
+  pub is : d ≡ add_gate c literal first second
+  pub new : Defines most c.defined (literal.value ∷ []) d.defined
+
+pub data Grown {C : Type 0} (Adds : C → C → Type 0) (c : C) : C → Type 0 where
+  none : Grown Adds c c
+  more : {d e : C} → Grown Adds c d → Adds d e → Grown Adds c e
+
+-- ## The text
+
+-- where each literal that is read is defined, the circuit is one but that a gate may depend on itself; and each gate has its line
+pub record IsSoundDraft (d : DraftData) : Type 0 where
+  pub draft : All (IsDefined d.defined) d.readings → IsDraft d.circuit
+  pub starts : length d.starts ≡ length d.circuit.gates
+
+abbrev pub draft_data : Draft → DraftData
+draft_data d = record { circuit = data_of d.parts; defined = d.noted.variables; readings = d.noted.readings.items; starts = d.noted.starts.items }
+
+abbrev pub FoundAnswers : List ℕ → Option (Found AigCause) → Type 0
+FoundAnswers text None = Unit {0}
+FoundAnswers text (Some found) = PartAnswers aig_causes circuit_text (stream_of text) (Err found)
+
+abbrev pub TellsDraft : List ℕ → Result Draft AigFault → Type 0
+TellsDraft text (Ok d) = PartAnswers aig_causes circuit_text (stream_of text) (Ok (draft_data d))
+TellsDraft text (Err e) = FoundAnswers text (found_of e)
+
+-- the refusal of the first literal that is not defined
+abbrev pub TellsDefined : List ℕ → List Number → Result (Unit {0}) AigFault → Type 0
+TellsDefined defined readings (Ok u) = All (IsDefined defined) readings
+TellsDefined defined readings (Err e) = (l : Number) × (e ≡ Text Undefined l.offset) × IsFirstUndefined defined readings l
+
+-- the refusal of the first gate that depends on itself
+abbrev pub TellsCyclic : List Gate → List ℕ → Option (Found AigCause) → Type 0
+TellsCyclic gates starts None = Unit {0}
+TellsCyclic gates starts (Some found) = (i : ℕ) × (found.cause ≡ Cyclic) × IsFirstOnCycle (Reads gates) i × (slice_get starts i ≡ Some found.offset)

@@ -1,0 +1,59 @@
+-- The values of a circuit, and its traces.
+--     bit_of values literal      the bit of a literal, where the list has a bit for each variable
+--     AreValues c inputs latches values      the list has a bit for each variable of the circuit, and meets its equations
+--     HasOneValues c      there are values, and any two lists agree on each literal whose variable is 0 or defined
+--     Steps c latches inputs outputs next      what a step answers, and the latches behind it
+--     IsTrace c moments      latches begin with their resets, and go on by their next literals
+-- A variable that nothing defines may have either bit: no literal of a circuit reads it.
+use Rattle.std.specs.Prelude.{◌≡◌, ℕ, ◌+◌, ◌%◌, ◌==◌, ◌&&◌, Bool, false, not, if◌then◌else◌, List, [], ◌∷◌, map, length, slice_index_or, All}
+use Rattle.ps_circuit.specs.declared.parts.Gate.{Gate}
+use Rattle.ps_circuit.specs.Circuits.{CircuitData, variable, definitions, IsKnown}
+
+abbrev pub value_of : List Bool → ℕ → Bool
+value_of values v = slice_index_or values v false
+
+abbrev pub bit_of : List Bool → ℕ → Bool
+bit_of values literal =
+    if literal % 2 == 1 then not (value_of values (variable literal)) else value_of values (variable literal)
+
+-- the gate is the conjunction of the two literals that it reads
+abbrev pub MeetsGate : List Bool → Gate → Type 0
+MeetsGate values g = bit_of values g.literal ≡ (bit_of values g.first && bit_of values g.second)
+
+pub record AreValues (c : CircuitData) (inputs latches values : List Bool) : Type 0 where
+  pub each : length values ≡ c.most + 1
+  pub constant : value_of values 0 ≡ false
+  pub inputs_are : map (bit_of values) c.inputs ≡ inputs
+  pub latches_are : map (λ l. bit_of values l.literal) c.latches ≡ latches
+  pub gates_are : All (MeetsGate values) c.gates
+
+pub record HasOneValues (c : CircuitData) : Type 0 where
+  pub some : (inputs latches : List Bool) → length inputs ≡ length c.inputs → length latches ≡ length c.latches →
+      (values : List Bool) × AreValues c inputs latches values
+  pub one : (inputs latches values others : List Bool) → AreValues c inputs latches values → AreValues c inputs latches others →
+      (literal : ℕ) → IsKnown (definitions c) literal → bit_of values literal ≡ bit_of others literal
+
+pub record Steps (c : CircuitData) (latches inputs outputs next : List Bool) : Type 0 where
+  pub values : List Bool
+  pub are_values : AreValues c inputs latches values
+  pub outputs_are : outputs ≡ map (bit_of values) c.outputs
+  pub next_are : next ≡ map (λ l. bit_of values l.next) c.latches
+
+-- the latches' first values
+abbrev pub resets : CircuitData → List Bool
+resets c = map (λ l. l.reset) c.latches
+
+-- the bits of one step, the latches' before it
+pub record Moment : Type 0 where
+  pub latches : List Bool
+  pub inputs : List Bool
+  pub outputs : List Bool
+
+-- the moments, one after another, lead from these latches to those
+abbrev pub GoesOn : CircuitData → List Bool → List Moment → List Bool → Type 0
+GoesOn c latches [] last = latches ≡ last
+GoesOn c latches (m ∷ ms) last =
+    (next : List Bool) × (m.latches ≡ latches) × Steps c latches m.inputs m.outputs next × GoesOn c next ms last
+
+abbrev pub IsTrace : CircuitData → List Moment → Type 0
+IsTrace c moments = (last : List Bool) × GoesOn c (resets c) moments last

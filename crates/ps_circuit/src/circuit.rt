@@ -1,0 +1,189 @@
+//! Circuits.
+
+ghost use Rattle.std.specs.Prelude.{◌≡◌, ℕ, ◌<◌, length, map, slice_index, slice_index_or, IfOk, None};
+ghost use Rattle.std.specs.Option.{option_copied};
+ghost use Rattle.ps_components.specs.Orders.{IsOrder, IsFirstOnCycle};
+ghost use Rattle.ps_circuit.specs.Circuits.{CircuitData, IsDraft, IsCircuit, Reads};
+ghost use Rattle.ps_circuit.specs.Drafts.{data_of, name_bytes};
+
+use crate::gate_graph::GateGraph;
+use crate::links::links_of;
+use crate::parts::{Gate, Latch, Parts};
+use ps_components::{Arrangement, arrange};
+use std::alloc::{AllocError, Global};
+use std::marker::Model;
+
+/// Why parts make no circuit.
+#[derive(Clone, Copy, Debug, PartialEq, Eq)]
+pub enum CircuitFault {
+    /// The gate at this place depends on itself, and is the first that does.
+    Cyclic { gate: usize },
+    OutOfMemory,
+}
+
+impl From<AllocError> for CircuitFault {
+    ghost use Rattle.std.specs.Prelude.{◌≡◌};
+    ghost use Rattle.ps_circuit.specs.declared.circuit.CircuitFault.TheVariants.{OutOfMemory};
+
+    ghost from_gives = { λ _ e. e ≡ OutOfMemory };
+
+    fn from(_error: AllocError) -> Self {
+        CircuitFault::OutOfMemory
+    }
+}
+
+/// A circuit of and-gates and latches. Each variable is defined once, each literal's variable is defined or 0, and no gate
+/// depends on itself. It keeps an order of its gates in which each stands behind those that it reads.
+#[derive(Drop)]
+pub struct Circuit {
+    parts: Parts,
+    order: Vec<usize>,
+}
+
+impl Model for Circuit {
+    ghost Value = { CircuitData };
+
+    ghost view = { λ c. data_of c.parts };
+
+    ghost invariant = { λ c. IsCircuit (data_of c.parts) × IsOrder (Reads c.parts.gates.items) (length c.parts.gates.items) c.order.items };
+}
+
+impl Circuit {
+    /// Makes a circuit of its parts, unless a gate depends on itself.
+    pub(crate) fn new(alloc: Global, parts: Parts) -> Result<Self, CircuitFault>
+        requires { IsDraft (data_of parts) }
+        ensures ok { IfOk result (λ c. c ≡ data_of parts) }
+        ensures well_formed { IfOk result (λ c. IsCircuit c) }
+        ensures cyclic { (i : ℕ) → result ≡ Err (CircuitFault.Cyclic i) → IsFirstOnCycle (Reads parts.gates.items) i }
+    {
+        let links = links_of(alloc, &parts.gates)?;
+        let graph = GateGraph { links };
+        let arrangement = arrange(alloc, &graph)?;
+        match arrangement {
+            Arrangement::Order(order) => Ok(Circuit { parts, order }),
+            Arrangement::Cyclic(gate) => Err(CircuitFault::Cyclic { gate }),
+        }
+    }
+
+    /// Makes a circuit of its parts, whose gates each stand behind those that they read.
+    pub fn in_order(alloc: Global, parts: Parts) -> Result<Self, AllocError>
+        requires draft { IsDraft (data_of parts) }
+        requires ordered { (i j : ℕ) → Reads parts.gates.items i j → j < i }
+        ensures ok { IfOk result (λ c. c ≡ data_of parts) }
+        ensures well_formed { IfOk result (λ c. IsCircuit c) }
+    {
+        let order = places_up_to(alloc, parts.gates.len())?;
+        Ok(Circuit { parts, order })
+    }
+
+    /// The greatest variable that the circuit may use.
+    pub fn most(&self) -> u32
+        ensures most { result ≡ self.now.most }
+        ensures well_formed { IsCircuit self.now }
+    {
+        self.parts.most
+    }
+
+    /// The literals of the inputs.
+    pub fn inputs(&self) -> &[u32]
+        ensures inputs { result.now ≡ self.now.inputs }
+        ensures well_formed { IsCircuit self.now }
+    {
+        &self.parts.inputs
+    }
+
+    pub fn latches(&self) -> &[Latch]
+        ensures latches { result.now ≡ self.now.latches }
+        ensures well_formed { IsCircuit self.now }
+    {
+        &self.parts.latches
+    }
+
+    /// The literals of the outputs.
+    pub fn outputs(&self) -> &[u32]
+        ensures outputs { result.now ≡ self.now.outputs }
+        ensures well_formed { IsCircuit self.now }
+    {
+        &self.parts.outputs
+    }
+
+    pub fn gates(&self) -> &[Gate]
+        ensures gates { result.now ≡ self.now.gates }
+        ensures well_formed { IsCircuit self.now }
+    {
+        &self.parts.gates
+    }
+
+    /// The places of the gates, each behind those that it reads.
+    pub fn order(&self) -> &[usize]
+        ensures { IsOrder (Reads self.now.gates) (length self.now.gates) result.now }
+    {
+        &self.order
+    }
+
+    /// The names of the inputs, in their order.
+    pub(crate) fn input_names(&self) -> &[Option<Vec<u8>>]
+        ensures { map name_bytes result.now ≡ self.now.input_names }
+    {
+        &self.parts.input_names
+    }
+
+    /// The names of the latches, in their order.
+    pub(crate) fn latch_names(&self) -> &[Option<Vec<u8>>]
+        ensures { map name_bytes result.now ≡ self.now.latch_names }
+    {
+        &self.parts.latch_names
+    }
+
+    /// The names of the outputs, in their order.
+    pub(crate) fn output_names(&self) -> &[Option<Vec<u8>>]
+        ensures { map name_bytes result.now ≡ self.now.output_names }
+    {
+        &self.parts.output_names
+    }
+
+    /// The name of an input, if it has one.
+    pub fn input_name(&self, input: usize) -> Option<&[u8]>
+        requires { input < length self.now.inputs }
+        ensures { option_copied result ≡ slice_index_or self.now.input_names input None }
+    {
+        match &self.parts.input_names[input] {
+            Some(name) => Some(name.as_slice()),
+            None => None,
+        }
+    }
+
+    /// The name of a latch, if it has one.
+    pub fn latch_name(&self, latch: usize) -> Option<&[u8]>
+        requires { latch < length self.now.latches }
+        ensures { option_copied result ≡ slice_index_or self.now.latch_names latch None }
+    {
+        match &self.parts.latch_names[latch] {
+            Some(name) => Some(name.as_slice()),
+            None => None,
+        }
+    }
+
+    /// The name of an output, if it has one.
+    pub fn output_name(&self, output: usize) -> Option<&[u8]>
+        requires { output < length self.now.outputs }
+        ensures { option_copied result ≡ slice_index_or self.now.output_names output None }
+    {
+        match &self.parts.output_names[output] {
+            Some(name) => Some(name.as_slice()),
+            None => None,
+        }
+    }
+}
+
+/// The places before this one.
+fn places_up_to(alloc: Global, count: usize) -> Result<Vec<usize>, AllocError>
+    ensures count { IfOk result (λ places. length places.items ≡ count) }
+    ensures each { IfOk result (λ places. (k : ℕ) → k < count → slice_index places.items k ≡ k) }
+{
+    let mut places = Vec::new(alloc);
+    for place in 0..count {
+        places.push(place)?;
+    }
+    Ok(places)
+}

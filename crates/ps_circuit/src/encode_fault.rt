@@ -1,0 +1,58 @@
+//! Why a machine has no circuit.
+
+ghost use Rattle.std.specs.Prelude.{◌≡◌};
+ghost use Rattle.ps_circuit.specs.declared.encode_fault.EncodeFault.TheVariants.{OutOfMemory};
+
+use std::alloc::{AllocError, AllocFailed};
+use thiserror::Error;
+
+/// Why no circuit is made.
+#[derive(Debug, Clone, Copy, PartialEq, Eq, Error)]
+pub enum EncodeFault {
+    /// 2147483647 variables are there, and one more is needed: fault 60.
+    #[error("the circuit is too large")]
+    CircuitTooLarge,
+    /// Memory ran out: fault 24.
+    #[error("out of memory")]
+    OutOfMemory,
+}
+
+impl EncodeFault {
+    ghost use Rattle.ps_circuit.specs.EncodeFaultNames.{fault_number, fault_name};
+
+    /// The fault's number in psyn's list of faults.
+    pub fn number(self) -> u8
+        ensures { result ≡ fault_number self }
+    {
+        match self {
+            EncodeFault::CircuitTooLarge => 60,
+            EncodeFault::OutOfMemory => 24,
+        }
+    }
+
+    /// The fault's name.
+    pub fn name(self) -> &'static str
+        ensures { result.now ≡ fault_name self }
+    {
+        match self {
+            EncodeFault::CircuitTooLarge => "CircuitTooLarge",
+            EncodeFault::OutOfMemory => "OutOfMemory",
+        }
+    }
+}
+
+impl From<AllocError> for EncodeFault {
+    ghost from_gives = { λ _ fault. fault ≡ OutOfMemory };
+
+    fn from(_error: AllocError) -> EncodeFault {
+        EncodeFault::OutOfMemory
+    }
+}
+
+impl<T: Drop> From<AllocFailed<T>> for EncodeFault {
+    ghost from_gives = { λ _ fault. fault ≡ OutOfMemory };
+
+    fn from(_error: AllocFailed<T>) -> EncodeFault {
+        EncodeFault::OutOfMemory
+    }
+}

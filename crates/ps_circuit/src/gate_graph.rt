@@ -1,0 +1,35 @@
+//! The gates of a circuit, as a graph.
+
+ghost use Rattle.ps_components.specs.Graphs.{IsWithin};
+ghost use Rattle.ps_circuit.specs.GateGraphs.{graph_of};
+
+use crate::links::Links;
+use ps_components::Graph;
+
+/// The gates, each with two places: for the gates that its two sides read, where they read gates.
+#[derive(Drop)]
+pub struct GateGraph {
+    pub links: Vec<Links>,
+    pub ghost within: { IsWithin (graph_of links.items) },
+}
+
+impl Graph for GateGraph {
+    ghost graph = { λ g. graph_of g.links.items };
+
+    fn count(&self) -> usize {
+        self.links.len()
+    }
+
+    fn degree(&self, _item: usize) -> usize {
+        2
+    }
+
+    fn target(&self, item: usize, place: usize) -> Option<usize> {
+        let sides = self.links[item];
+        if place == 0 {
+            sides.first
+        } else {
+            sides.second
+        }
+    }
+}

@@ -1,0 +1,89 @@
+//! The first line of the text of a circuit.
+
+ghost use Rattle.std.specs.Prelude.{◌≡◌, ◌<◌, ◌^◌, IfOk};
+ghost use Rattle.ps_circuit.specs.Cursors.{Tells};
+ghost use Rattle.ps_circuit.specs.Reading.{TellsField, TellsCount, TellsHeader};
+ghost use Rattle.ps_circuit.specs.Texts as parts;
+ghost use Rattle.ps_circuit.specs.Texts.{WrongMost};
+
+use crate::cursor::{Cursor, Number};
+use crate::fault::{AigCause, AigFault};
+
+/// The greatest number that a text may have as its greatest variable.
+const MOST: u64 = 2_147_483_647;
+
+/// The numbers of the first line. A number of inputs, latches, outputs or gates beyond 64 bits counts as the greatest.
+#[derive(Clone, Copy)]
+pub struct Header {
+    pub most: u32,
+    pub inputs: u64,
+    pub latches: u64,
+    pub outputs: u64,
+    pub gates: u64,
+}
+
+/// Reads the first line.
+pub fn read_header(cursor: &mut Cursor) -> Result<Header, AigFault>
+    ensures exact { TellsHeader cursor.old result cursor.new }
+    ensures small { IfOk result (λ h. h.most < 2 ^ 31) }
+{
+    cursor.first_word()?;
+    let most = most(cursor)?;
+    let inputs = count(cursor)?;
+    let latches = count(cursor)?;
+    let outputs = count(cursor)?;
+    let gates = count(cursor)?;
+    sections(cursor, 4)?;
+    Ok(Header {
+        most: most.value as u32,
+        inputs,
+        latches,
+        outputs,
+        gates,
+    })
+}
+
+/// Reads a number behind a gap.
+pub fn field(cursor: &mut Cursor) -> Result<Number, AigFault>
+    ensures { TellsField cursor.old result cursor.new }
+{
+    cursor.gap()?;
+    cursor.number()
+}
+
+/// Reads the greatest variable.
+fn most(cursor: &mut Cursor) -> Result<Number, AigFault>
+    ensures exact { Tells (λ n. n) (parts.field WrongMost) cursor.old result cursor.new }
+    ensures small { IfOk result (λ n. n.value < 2 ^ 31) }
+{
+    let most = field(cursor)?;
+    if most.value > MOST {
+        return Err(most.refused(AigCause::Literal));
+    }
+    Ok(most)
+}
+
+/// Reads how many lines of one kind there are.
+fn count(cursor: &mut Cursor) -> Result<u64, AigFault>
+    ensures { TellsCount cursor.old result cursor.new }
+{
+    let count = field(cursor)?;
+    Ok(count.value)
+}
+
+/// Reads at most so many counts of sections, which have to be 0, and the end of the line.
+fn sections(cursor: &mut Cursor, left: u32) -> Result<(), AigFault>
+    ensures { Tells (λ u. u) (parts.sections left) cursor.old result cursor.new }
+{
+    if left == 0 {
+        return cursor.line_end();
+    }
+    if !cursor.more()? {
+        return Ok(());
+    }
+    let count = cursor.number()?;
+    if count.value != 0 {
+        return Err(count.refused(AigCause::Sections));
+    }
+    sections(cursor, left - 1)
+}

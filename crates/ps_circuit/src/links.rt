@@ -1,0 +1,54 @@
+//! Which gates read which.
+
+ghost use Rattle.std.specs.Prelude.{◌≡◌, ◌≢◌, IfOk, AllPairs, map};
+ghost use Rattle.ps_circuit.specs.Circuits.{variable};
+ghost use Rattle.ps_circuit.specs.Drafts.{links_by, place_in};
+ghost use Rattle.ps_circuit.specs.GateGraphs.{AreLinksOf};
+
+use crate::parts::Gate;
+use ps_ids::Ids;
+use std::alloc::{AllocError, Global};
+
+/// The places of the gates that a gate reads.
+#[derive(Clone, Copy)]
+pub struct Links {
+    pub first: Option<usize>,
+    pub second: Option<usize>,
+}
+
+/// For each gate, the places of the gates that it reads.
+pub fn links_of(alloc: Global, gates: &[Gate]) -> Result<Vec<Links>, AllocError>
+    requires once { AllPairs (λ g h. variable g.literal ≢ variable h.literal) gates.now }
+    ensures { IfOk result (λ links. AreLinksOf gates.now links.items) }
+{
+    let variables = variables_of(alloc, gates)?;
+    let links = links_to(alloc, gates, &variables)?;
+    Ok(links)
+}
+
+/// The variables of the gates, in order.
+fn variables_of(alloc: Global, gates: &[Gate]) -> Result<Ids, AllocError>
+    requires once { AllPairs (λ g h. variable g.literal ≢ variable h.literal) gates.now }
+    ensures { IfOk result (λ variables. variables ≡ map (λ g. variable g.literal) gates.now) }
+{
+    let first = gates.first().map_or(0, |gate| gate.literal / 2);
+    let mut variables = Ids::starting_at(alloc, u64::from(first));
+    for gate in gates {
+        variables.push(u64::from(gate.literal / 2))?;
+    }
+    Ok(variables)
+}
+
+/// The links of the gates, by the places of their variables.
+fn links_to(alloc: Global, gates: &[Gate], variables: &Ids) -> Result<Vec<Links>, AllocError>
+    ensures { IfOk result (λ links. links.items ≡ links_by (place_in variables.now) gates.now) }
+{
+    let mut links = Vec::new(alloc);
+    for gate in gates {
+        links.push(Links {
+            first: variables.place(u64::from(gate.first / 2)),
+            second: variables.place(u64::from(gate.second / 2)),
+        })?;
+    }
+    Ok(links)
+}

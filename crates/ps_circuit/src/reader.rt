@@ -1,0 +1,122 @@
+//! Circuits read from AIGER texts.
+
+ghost use Rattle.std.specs.Prelude.{◌≡◌, ◌≢◌, ℕ, ◌<◌, ◌≤◌, ◌+◌, ◌*◌, ◌^◌, List, [], ◌∷◌, ◌++◌, length, map, vec_len, IfOk, Result, Err, All, Contains, IsTrue, ◌⊎◌, false, slice_index};
+ghost use Rattle.ps_text.specs.declared.faults.Fault.{Fault};
+ghost use Rattle.ps_text.specs.declared.faults.Fault.TheVariants as faults;
+ghost use Rattle.ps_text.specs.Answers.{Found};
+ghost use Rattle.ps_circuit.specs.Circuits.{CircuitData, IsDraft, IsCircuit};
+ghost use Rattle.ps_circuit.specs.Cursors.{found_of};
+ghost use Rattle.ps_circuit.specs.Drafts.{data_of};
+ghost use Rattle.ps_circuit.specs.Reading.{TellsDraft, TellsDefined, TellsCyclic, IsSoundDraft, draft_data};
+ghost use Rattle.ps_circuit.specs.Texts.{IsAnswer};
+ghost use Rattle.ps_circuit.specs.declared.fault.AigCause.{AigCause};
+
+use crate::circuit::{Circuit, CircuitFault};
+use crate::cursor::Cursor;
+use crate::fault::{AigCause, AigFault};
+use crate::header::read_header;
+use crate::lines::{Noted, gates, inputs, latches, outputs};
+use crate::names::{Names, comment, symbols};
+use crate::parts::Parts;
+use ps_ids::Ids;
+use std::alloc::Global;
+
+/// What was read of a text.
+#[derive(Drop)]
+pub(crate) struct Draft {
+    parts: Parts,
+    noted: Noted,
+}
+
+/// Reads a circuit from an AIGER text.
+///
+/// # Errors
+///
+/// The first cause in the text's order for which it is no circuit's, or want of memory.
+pub fn read(alloc: Global, text: &[u8]) -> Result<Circuit, AigFault>
+    // The text's circuit, or the first cause for which it has none.
+    ensures exact { IsAnswer text.now result }
+    ensures well_formed { IfOk result (λ c. IsCircuit c) }
+{
+    let Draft { parts, noted } = read_draft(alloc, text)?;
+    all_defined(&noted)?;
+    assembled(alloc, parts, &noted.starts)
+}
+
+/// Reads a text from its first to its last byte.
+fn read_draft(alloc: Global, text: &[u8]) -> Result<Draft, AigFault>
+    ensures exact { TellsDraft text.now result }
+    ensures sound { IfOk result (λ d. IsSoundDraft (draft_data d)) }
+{
+    let mut cursor = Cursor::new(text);
+    let header = read_header(&mut cursor)?;
+    let mut noted = Noted {
+        variables: Ids::starting_at(alloc, 1),
+        readings: Vec::new(alloc),
+        starts: Vec::new(alloc),
+    };
+    let inputs = inputs(alloc, &mut cursor, &mut noted, header.most, header.inputs)?;
+    let latches = latches(alloc, &mut cursor, &mut noted, header.most, header.latches)?;
+    let outputs = outputs(alloc, &mut cursor, &mut noted, header.most, header.outputs)?;
+    let gates = gates(alloc, &mut cursor, &mut noted, header.most, header.gates)?;
+    let mut names = Names::none(alloc, inputs.len(), latches.len(), outputs.len())?;
+    symbols(alloc, &mut cursor, &mut names)?;
+    comment(&mut cursor)?;
+    let parts = Parts {
+        most: header.most,
+        inputs,
+        latches,
+        outputs,
+        gates,
+        input_names: names.inputs,
+        latch_names: names.latches,
+        output_names: names.outputs,
+    };
+    Ok(Draft { parts, noted })
+}
+
+/// Refuses the first literal whose variable is neither defined nor 0.
+fn all_defined(noted: &Noted) -> Result<(), AigFault>
+    ensures { TellsDefined noted.now.variables noted.now.readings.items result }
+{
+    for &number in &noted.readings {
+        if !is_defined(&noted.variables, number.value / 2) {
+            return Err(number.refused(AigCause::Undefined));
+        }
+    }
+    Ok(())
+}
+
+/// Whether the variable is 0 or one of these.
+fn is_defined(variables: &Ids, variable: u64) -> bool
+    ensures defined { IsTrue result → (variable ≡ 0) ⊎ Contains variables.now variable }
+    ensures not_defined { result ≡ false → (variable ≡ 0) ⊎ Contains variables.now variable → ⊥ }
+{
+    variable == 0 || variables.has(variable)
+}
+
+/// The refusal of a gate that depends on itself, at its line.
+fn cyclic(starts: &[usize], gate: usize) -> AigFault
+    requires { gate < length starts.now }
+    ensures { result ≡ faults.Text AigCause.Cyclic (slice_index starts.now gate) }
+{
+    AigFault::Text {
+        cause: AigCause::Cyclic,
+        offset: starts[gate],
+    }
+}
+
+/// Makes the circuit, unless a gate depends on itself.
+fn assembled(alloc: Global, parts: Parts, starts: &[usize]) -> Result<Circuit, AigFault>
+    requires draft { IsDraft (data_of parts) }
+    requires starts { length starts.now ≡ length parts.gates.items }
+    ensures ok { IfOk result (λ c. c ≡ data_of parts) }
+    ensures well_formed { IfOk result (λ c. IsCircuit c) }
+    ensures cyclic { (e : Fault AigCause) → result ≡ Err e → TellsCyclic parts.gates.items starts.now (found_of e) }
+{
+    match Circuit::new(alloc, parts) {
+        Ok(circuit) => Ok(circuit),
+        Err(CircuitFault::Cyclic { gate }) => Err(cyclic(starts, gate)),
+        Err(CircuitFault::OutOfMemory) => Err(AigFault::OutOfMemory),
+    }
+}
