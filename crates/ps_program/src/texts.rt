@@ -11,9 +11,8 @@ ghost use Rattle.ps_program.specs.Texts.{CutsInTwo, CutsInThree, ReadsGameText, 
 use crate::answer::Refusal;
 use crate::cut::cut;
 use crate::fault::{FaultLine, Place};
-use ps_circuit::Circuit;
 use ps_certificate::{Certificate, Flaw};
-use ps_circuit::Circuit;
+use ps_circuit::{Circuit, Circuit};
 use ps_game::NamedGame;
 use ps_simulate::Stimulus;
 use std::alloc::Global;
