@@ -12,7 +12,7 @@ use crate::answer::Refusal;
 use crate::cut::cut;
 use crate::fault::{FaultLine, Place};
 use ps_certificate::{Certificate, Flaw};
-use ps_circuit::{Circuit, Circuit};
+use ps_circuit::Circuit;
 use ps_game::NamedGame;
 use ps_simulate::Stimulus;
 use std::alloc::Global;
