@@ -11,4 +11,6 @@ mod lanes;
 #[cfg(test)]
 mod machines;
 #[cfg(test)]
+mod problems;
+#[cfg(test)]
 mod solvers;

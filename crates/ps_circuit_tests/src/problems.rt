@@ -1,0 +1,25 @@
+//! A problem from its text to the winner's circuit, as who uses the library writes it.
+
+use ps_machine::{BuiltIn, Order, Solver};
+use ps_synthesis::{Problem, Report};
+use std::alloc::Global;
+use std::test::Fail;
+
+/// A grant has to come exactly where there is a request.
+const GRANTS: &[u8] =
+    b"HOA: v1 Start: 0 AP: 2 \"r\" \"g\" controllable-AP: 1 Acceptance: 0 t --BODY-- State: 0 [0&1 | !0&!1] 0 --END--";
+
+/// Who wins, and the texts that show it: the problem is read, its game is solved, and the certificate answers it.
+fn answer(alloc: Global, text: &[u8]) -> Result<Report, Fail> {
+    let problem = Problem::read(alloc, text, Order::Mealy)?;
+    let certificate = BuiltIn::new(alloc).solve(problem.game())?;
+    Ok(problem.report(alloc, &certificate, false)?)
+}
+
+#[test]
+fn a_controller_grants_what_is_requested(rt: HostRuntime) -> Result<(), Fail> {
+    let report = answer(rt.alloc(), GRANTS)?;
+    let circuit: &[u8] = b"aag 1 1 0 1 0\n2\n2\ni0 r\no0 g\n";
+    assert!(rt; report.realizable && report.circuit_text.as_slice() == circuit);
+    Ok(())
+}
