@@ -1,7 +1,6 @@
 -- A lasso's outcome, text by text.
 use Rattle.std.proofs.Common.{◌≡◌, ◌≢◌, ◌∙◌, ◌<◌, ℕ, Bool, true, List, All, length, Result, Ok, Err, refl, inl, inr, subst, sym, codes}
 use Rattle.ps_circuit.specs.Circuits.{CircuitData, IsCircuit}
-use Rattle.ps_circuit.specs.Values.{HasOneValues}
 use Rattle.ps_automaton.specs.Automata.{AutomatonData, IsBuiltFrom}
 use Rattle.ps_automaton.specs.Chains.{Chain}
 use Rattle.ps_hoa.specs.Files.{FileData}
@@ -71,11 +70,10 @@ module _ (role : Role) (file : FileData) (chain : Chain) (a : AutomatonData) (c 
   some_of_lap : 0 < length lap → 0 < length s.lap
   some_of_lap some = subst (λ (ls : List (List Bool)). 0 < length ls) same_lap some
 
-  pub tells : (verdict : Verdict) (reply : Reply) → IsCircuit c → HasOneValues c → IsSound role a c stem lap → IsVerdictOf file c stem lap verdict → reply ≡ line_reply (verdict_text verdict) →
+  pub tells : (verdict : Verdict) (reply : Reply) → IsCircuit c → IsSound role a c stem lap → IsVerdictOf file c stem lap verdict → reply ≡ line_reply (verdict_text verdict) →
       TellsVerdict role file c s (Ok reply)
-  tells verdict reply is_circuit one sound is_verdict is = (
+  tells verdict reply is_circuit sound is_verdict is = (
     is_circuit,
-    one,
     some_of_lap sound.some,
     symbols_of_file sound.symbols,
     (

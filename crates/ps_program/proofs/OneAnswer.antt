@@ -219,8 +219,11 @@ abbrev pub OneOutcome : Type 0
 OneOutcome = (file : FileData) (fault : AutomatonFault) → fault ≢ no_memory → IsAdmitted file → ¬ IsRefused file fault
 
 abbrev pub OneVerdict : Type 0
-OneVerdict = (role : Role) (file : FileData) (c : CircuitData) (stem lap : List (List Bool)) → IsCircuit c → HasOneValues c → HasSymbols role file.names file.controllable c
+OneVerdict = (role : Role) (file : FileData) (c : CircuitData) (stem lap : List (List Bool)) → IsCircuit c → HasSymbols role file.names file.controllable c
     → HasOneVerdict file c stem lap
+
+abbrev pub OneValues : Type 0
+OneValues = (c : CircuitData) → IsCircuit c → HasOneValues c
 
 abbrev pub OneFileGame : Type 0
 OneFileGame = (order : Order) (file : FileData) (game other : NamedGameData) → IsGameOfFile order file game → IsGameOfFile order file other → game ≡ other
@@ -262,12 +265,12 @@ no_empty_lap lap none some = omega (arith, some, ap length none)
 
 tells_one : OneVerdict → (role : Role) (file : FileData) (c : CircuitData) (s : StimulusData) → IsOne (TellsVerdict role file c s)
 tells_one verdicts role file c s (Ok r) (Ok t) h k =
-    let same = verdicts role file c s.stem s.lap h.0 h.1 h.3 h.4.0 k.4.0 h.4.1 k.4.1 in
-    ap (ok_of {V = Reply} {E = List ℕ}) (h.4.2 ∙ ap (λ (v : Verdict). line_reply (verdict_text v)) same ∙ sym k.4.2)
-tells_one verdicts role file c s (Ok r) (Err m) h (inl empty) = absurd (no_empty_lap s.lap empty.0 h.2)
-tells_one verdicts role file c s (Ok r) (Err m) h (inr other) = absurd (other.1 h.3)
-tells_one verdicts role file c s (Err l) (Ok t) (inl empty) k = absurd (no_empty_lap s.lap empty.0 k.2)
-tells_one verdicts role file c s (Err l) (Ok t) (inr other) k = absurd (other.1 k.3)
+    let same = verdicts role file c s.stem s.lap h.0 h.2 h.3.0 k.3.0 h.3.1 k.3.1 in
+    ap (ok_of {V = Reply} {E = List ℕ}) (h.3.2 ∙ ap (λ (v : Verdict). line_reply (verdict_text v)) same ∙ sym k.3.2)
+tells_one verdicts role file c s (Ok r) (Err m) h (inl empty) = absurd (no_empty_lap s.lap empty.0 h.1)
+tells_one verdicts role file c s (Ok r) (Err m) h (inr other) = absurd (other.1 h.2)
+tells_one verdicts role file c s (Err l) (Ok t) (inl empty) k = absurd (no_empty_lap s.lap empty.0 k.1)
+tells_one verdicts role file c s (Err l) (Ok t) (inr other) k = absurd (other.1 k.2)
 tells_one verdicts role file c s (Err l) (Err m) (inl empty) (inl empty') = ap (err_of {V = Reply}) (empty.1 ∙ sym empty'.1)
 tells_one verdicts role file c s (Err l) (Err m) (inl empty) (inr other') = absurd (no_empty_lap s.lap empty.0 other'.0)
 tells_one verdicts role file c s (Err l) (Err m) (inr other) (inl empty') = absurd (no_empty_lap s.lap empty'.0 other.0)
@@ -298,7 +301,7 @@ report_refused : (solver : SolverData) (asked : SynthLine) (text : List ℕ) (ou
 report_refused solver asked text outcome (inl (line, (fault, cause, lies, told), e)) = fault_refused solver asked.order text line outcome fault cause told e
 report_refused solver asked text outcome (inr (report, is_report, e)) = inr (is_report.file, is_report.accepted)
 
-module _ (games : OneGame) (certificates : OneCertificate) (flaws : OneFlaw) (circuits : OneCircuit) (stimuli : OneStimulus) (files : OneFile) (refusals : OneRefusal) (outcomes : OneOutcome) (verdicts : OneVerdict) (file_games : OneFileGame) where
+module _ (games : OneGame) (certificates : OneCertificate) (flaws : OneFlaw) (circuits : OneCircuit) (stimuli : OneStimulus) (files : OneFile) (refusals : OneRefusal) (outcomes : OneOutcome) (verdicts : OneVerdict) (values : OneValues) (file_games : OneFileGame) where
   certified_one : (texts : List ℕ) → IsOne (ReadsCertified texts)
   certified_one texts = then_one _ _ (cut_one texts) (λ parts. then_one _ _ (reading_one game.cause_number game.cause_name (Answer parts.0) (games parts.0))
       (λ named. then_one _ _ (reading_one certificate.cause_number certificate.cause_name (certificate_text.Reads named parts.1) (certificates named parts.1))
@@ -318,7 +321,7 @@ module _ (games : OneGame) (certificates : OneCertificate) (flaws : OneFlaw) (ci
 
   sim_one : (texts : List ℕ) → IsOne (AnswersSim texts)
   sim_one texts = then_one _ _ (simulated_one texts) (λ both x y h k.
-      h.2.2 ∙ ap (λ (text : List ℕ). ok_of {V = Reply} {E = List ℕ} (text_reply text)) (traces_agree both.0 h.0 h.1 both.1.stem h.2.0 k.2.0 h.2.1 k.2.1) ∙ sym k.2.2)
+      h.1.2 ∙ ap (λ (text : List ℕ). ok_of {V = Reply} {E = List ℕ} (text_reply text)) (traces_agree both.0 h.0 (values both.0 h.0) both.1.stem h.1.0 k.1.0 h.1.1 k.1.1) ∙ sym k.1.2)
 
   lasso_one : (role : Role) (texts : List ℕ) → IsOne (AnswersLasso role texts)
   lasso_one role texts = then_one _ _ (cut_three_one texts) (λ parts. then_one _ _ (automaton_one files refusals outcomes parts.0)

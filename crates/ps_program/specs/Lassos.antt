@@ -1,7 +1,6 @@
 -- The command that runs a circuit on a stem and a lap, and asks an automaton about what it does.
 use Rattle.std.specs.Prelude.{◌≡◌, ◌<◌, ◌⊎◌, ℕ, true, List, [], ◌++◌, length, codes, Result, Ok, Err, if◌then◌else◌}
 use Rattle.ps_circuit.specs.Circuits.{CircuitData, IsCircuit}
-use Rattle.ps_circuit.specs.Values.{HasOneValues}
 use Rattle.ps_hoa.specs.Files.{FileData}
 use Rattle.ps_simulate.specs.LassoFaultNames.{fault_number, fault_name}
 use Rattle.ps_simulate.specs.Lassos.{IsVerdictOf}
@@ -25,10 +24,9 @@ verdict_text v = (if v.accepted then codes "accepted" else codes "rejected") ++ 
 abbrev pub lasso_line : LassoFault → List ℕ
 lasso_line fault = line_text (fault_number fault) (fault_name fault) []
 
--- the verdict, where the lap has a letter and the symbols are those of the role, or else the first of these that is wrong; the
--- values of the circuit are those of its equations and no others
+-- the verdict, where the lap has a letter and the symbols are those of the role, or else the first of these that is wrong
 abbrev pub TellsVerdict : Role → FileData → CircuitData → StimulusData → Result Reply (List ℕ) → Type 0
-TellsVerdict role file c s (Ok reply) = IsCircuit c × HasOneValues c × (0 < length s.lap) × HasSymbols role file.names file.controllable c
+TellsVerdict role file c s (Ok reply) = IsCircuit c × (0 < length s.lap) × HasSymbols role file.names file.controllable c
     × ((v : Verdict) × IsVerdictOf file c s.stem s.lap v × (reply ≡ line_reply (verdict_text v)))
 TellsVerdict role file c s (Err line) = ((s.lap ≡ []) × (line ≡ lasso_line EmptyLap))
     ⊎ ((0 < length s.lap) × ¬ HasSymbols role file.names file.controllable c × (line ≡ lasso_line Symbols))

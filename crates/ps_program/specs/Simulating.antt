@@ -2,7 +2,7 @@
 use Rattle.std.specs.Prelude.{◌≡◌, ℕ, Bool, List, ◌++◌, map, flat_map, codes, Result, Ok}
 use Rattle.ps_circuit.specs.Circuits.{CircuitData, IsCircuit}
 use Rattle.ps_simulate.specs.StimulusTexts.{digits_of}
-use Rattle.ps_circuit.specs.Values.{Moment, Steps, IsTrace, GoesOn, HasOneValues, resets}
+use Rattle.ps_circuit.specs.Values.{Moment, Steps, IsTrace, GoesOn, resets}
 use Rattle.ps_simulate.specs.Simulations.{Simulation}
 use Rattle.ps_program.specs.Outcomes.{Then}
 use Rattle.ps_program.specs.Replies.{Reply, text_reply}
@@ -19,9 +19,9 @@ pub record PrintsTrace (c : CircuitData) (letters : List (List Bool)) (text : Li
   pub inputs_are : map (λ m. m.inputs) moments ≡ letters
   pub text_is : text ≡ flat_map moment_line moments
 
--- `sim`: the trace of a circuit, whose values are those of its equations and no others
+-- `sim`: the trace of a circuit
 abbrev pub AnswersSim : List ℕ → Result Reply (List ℕ) → Type 0
-AnswersSim texts = Then (ReadsSimulated texts) (λ both outcome. IsCircuit both.0 × HasOneValues both.0
+AnswersSim texts = Then (ReadsSimulated texts) (λ both outcome. IsCircuit both.0
     × ((text : List ℕ) × PrintsTrace both.0 both.1.stem text × (outcome ≡ Ok (text_reply text))))
 
 -- ---- while it runs

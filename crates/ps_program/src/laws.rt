@@ -20,5 +20,6 @@ pub fn one_answer<S: Solver, T: Solver>(built_in: &S, replay: &T)
     ps_automaton::refusal_is_one();
     ps_machine::one_game_of_file();
     ps_simulate::verdict_is_one();
+    ps_simulate::circuit_has_one_values();
     ps_simulate::stimulus_text_has_one_answer();
 }

@@ -17,4 +17,5 @@ pub mod NamingLemmas
 pub mod LetterLemmas
 pub mod LassoLemmas
 pub mod CountLemmas
+pub mod GateOrders
 pub mod OneVerdict

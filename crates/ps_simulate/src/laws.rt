@@ -12,23 +12,22 @@ ghost use Rattle.ps_simulate.specs.declared.role.Role.{Role};
 use ps_circuit::Circuit;
 
 /// A law: for given inputs and latches a circuit has values, and they agree at each literal whose variable is 0 or defined.
-pub fn circuit_has_one_values(circuit: &Circuit)
-    ensures { HasOneValues circuit.now }
-{
-    let _order = circuit.order();
-    let _gates = circuit.gates();
-}
+pub fn circuit_has_one_values()
+    ensures { (c : CircuitData) → IsCircuit c → HasOneValues c }
+{}
 
 /// A law: a circuit that takes letters in 256 lanes at once goes in each lane as a plain run goes on that lane's letters.
 pub fn lanes_are_plain_runs(circuit: &Circuit)
     ensures { AreLanesPlain circuit.now }
 {
     let _gates = circuit.gates();
-    circuit_has_one_values(circuit);
+    circuit_has_one_values();
 }
 
-/// A law: of a circuit whose values are one, with the inputs and the outputs of a role, there is one verdict at most for an
-/// automaton, a stem and a lap.
+/// A law: of a circuit with the inputs and the outputs of a role, there is one verdict at most for an automaton, a stem and a
+/// lap.
 pub fn verdict_is_one()
-    ensures { (role : Role) (file : FileData) (c : CircuitData) (stem lap : List (List Bool)) → IsCircuit c → HasOneValues c → HasSymbols role file.names file.controllable c → HasOneVerdict file c stem lap }
-{}
+    ensures { (role : Role) (file : FileData) (c : CircuitData) (stem lap : List (List Bool)) → IsCircuit c → HasSymbols role file.names file.controllable c → HasOneVerdict file c stem lap }
+{
+    circuit_has_one_values();
+}

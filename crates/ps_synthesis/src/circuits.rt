@@ -16,7 +16,6 @@ use ps_aiger::{Circuit, encode};
 use ps_automaton::Automaton;
 use ps_certificate::Certificate;
 use ps_machine::{AutomatonGame, Order, machine_of_certificate, one_game};
-use ps_simulate::circuit_has_one_values;
 use ps_traces::certified_circuit_answers;
 use std::alloc::Global;
 
@@ -41,7 +40,6 @@ pub fn circuit_of_certificate(
     one_game();
     let machine = machine_of_certificate(alloc, automaton, order, game, certificate)?;
     let circuit = encode(alloc, &machine)?;
-    circuit_has_one_values(&circuit);
     certified_circuit_answers();
     Ok(circuit)
 }

@@ -26,6 +26,7 @@ ghost use Rattle.ps_traces.specs.Inputs.{EachInputGoesOn, HasLetters};
 ghost use Rattle.ps_traces.specs.Meetings.{FiniteController, IsController, IsOneMeeting, IsRejected, MeetsInLasso};
 
 use ps_machine::lassos_won;
+use ps_simulate::circuit_has_one_values;
 
 /// Of a circuit that has values, every input that repeats goes on in a lasso trace: for a stem and a lap, not empty, of letters of
 /// the circuit's width there are such numbers of laps, each at least 1, that a lasso trace reads the stem and the first ones, and
@@ -41,8 +42,10 @@ pub fn every_trace_has_letters()
 
 /// The circuit of an environment and a finite-state controller have one joint trace of each length.
 pub fn meeting_is_one()
-    ensures { (order : Order) (c : CircuitData) (k : FiniteController) (count : ℕ) → IsCircuit c → HasOneValues c → IsInTime order Environment c → IsController order c k → IsOneMeeting c k count }
-{}
+    ensures { (order : Order) (c : CircuitData) (k : FiniteController) (count : ℕ) → IsCircuit c → IsInTime order Environment c → IsController order c k → IsOneMeeting c k count }
+{
+    circuit_has_one_values();
+}
 
 /// It goes on in a lasso trace, at whose end the controller's memory has come back too.
 pub fn every_meeting_goes_on()
@@ -72,8 +75,10 @@ pub fn circuit_has_shape()
 
 /// All of this together: what the circuit of the winner's machine is worth.
 pub fn circuit_answers()
-    ensures { (order : Order) (file : FileData) (m : MachineData) (c : CircuitData) → HasOneValues c → IsMachine m → IsMachineFor order (role_of m.player) file m → Encodes m c → LassosWon file m → IsAnswer order file m.player c }
-{}
+    ensures { (order : Order) (file : FileData) (m : MachineData) (c : CircuitData) → IsMachine m → IsMachineFor order (role_of m.player) file m → Encodes m c → LassosWon file m → IsAnswer order file m.player c }
+{
+    circuit_has_one_values();
+}
 
 /// So a valid certificate of an automaton's game makes a controller whose lasso traces the automaton all accepts, or an environment
 /// whose lasso traces it all rejects, as vertex 0 is the one's or the other's.
@@ -81,7 +86,8 @@ pub fn certified_circuit_answers()
     ensures { (file : FileData) (chain : Chain) (a : AutomatonData) (order : Order) (keys : List Key) (game : ParityGame) (certificate : CertificateData) (m : MachineData) (c : CircuitData) →
         IsBuiltFrom file chain a → IsGameOf (board_of order a) (mover_of order) keys game → Fits game certificate → IsValid game certificate →
         IsMachine m → HasPropositions a.names (board_of order a) m → IsMachineOf (board_of order a) (mover_of order) keys game certificate m →
-        HasOneValues c → Encodes m c → IsAnswer order file (winner certificate) c }
+        Encodes m c → IsAnswer order file (winner certificate) c }
 {
     lassos_won();
+    circuit_has_one_values();
 }

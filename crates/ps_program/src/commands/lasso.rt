@@ -15,7 +15,7 @@ use crate::fault::{FaultLine, Place};
 use crate::texts::{read_circuit, read_stimulus, three_texts};
 use ps_automaton::Automaton;
 use ps_circuit::Circuit;
-use ps_simulate::{LassoFault, Role, Stimulus, Verdict, circuit_has_one_values};
+use ps_simulate::{LassoFault, Role, Stimulus, Verdict};
 use std::alloc::{AllocError, Global};
 
 /// Whether an automaton accepts what a circuit of that role does on a stem and on a lap that comes again and again.
@@ -56,7 +56,6 @@ fn tell(
     requires lap { All (λ letter. length letter ≡ length circuit.now.inputs) stimulus.now.lap }
     ensures { (file : FileData) (chain : Chain) → IsBuiltFrom file chain automaton.now → Gives reply_of (TellsVerdict role file circuit.now stimulus.now) result }
 {
-    circuit_has_one_values(circuit);
     match ps_simulate::lasso(
         alloc,
         circuit,

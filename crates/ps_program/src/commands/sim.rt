@@ -9,7 +9,7 @@ ghost use Rattle.ps_program.specs.Simulating.{AnswersSim, PrintsTrace, PrintsSte
 use crate::answer::{Answer, Refusal};
 use crate::texts::read_simulated;
 use ps_circuit::Circuit;
-use ps_simulate::{Simulator, Stimulus, circuit_has_one_values};
+use ps_simulate::{Simulator, Stimulus};
 use std::alloc::{AllocError, Global};
 
 /// What a circuit does, letter by letter.
@@ -17,7 +17,6 @@ pub fn sim(alloc: Global, texts: &[u8]) -> Result<Answer, Refusal>
     ensures { Gives reply_of (AnswersSim texts.now) result }
 {
     let (circuit, stimulus) = read_simulated(alloc, texts)?;
-    circuit_has_one_values(&circuit);
     let text = trace_text(alloc, &circuit, &stimulus)?;
     Ok(Answer::text(text))
 }

@@ -1,5 +1,6 @@
+use Rattle.ps_simulate.proofs.GateOrders.{gates_in_order}
 use Rattle.ps_simulate.proofs.OneLemmas.{HasOneValues-circuit}
 use Rattle.ps_simulate.proofs.laws.circuit_has_one_values.Goals as goal
 
 pub returns : goal.returns
-returns c = HasOneValues-circuit c.args.circuit.now c.gates-gates.ensures.well_formed c.order-order.result.now c.order-order.ensures
+returns c = λ d is. let order = gates_in_order d is in HasOneValues-circuit d is order.0 order.1

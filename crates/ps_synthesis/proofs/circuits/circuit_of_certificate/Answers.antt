@@ -25,7 +25,7 @@ pub returns-clause-answers : goal.returns-clause-answers
 returns-clause-answers c = λ file chain built.
     c.certified_circuit_answers.ensures file chain c.args.automaton.now c.args.order c.args.game.now.keys.keys c.args.game.now.game.game c.args.certificate.now c.in_ok-machine.machine c.in_ok-circuit.circuit built c.requires.game
     c.requires.certified.fits c.requires.certified.valid (subst IsMachine c.machine.view_is c.machine.invariant) c.in_ok-machine.ensures.propositions c.in_ok-machine.ensures.machine
-    c.circuit_has_one_values.ensures c.in_ok-circuit.ensures.encodes
+    c.in_ok-circuit.ensures.encodes
 
 pub returns-in_err-circuit-clause-refused : goal.returns-in_err-circuit-clause-refused
 returns-in_err-circuit-clause-refused c =

@@ -22,4 +22,4 @@ returns-in_ok-verdict_line-in-Ok c = λ file chain built.
     let same_stem : stem ≡ c.args.stimulus.now.stem = ap letters_of c.deref.ensures.value ∙ ap (λ (s : StimulusData). s.stem) c.stimulus.view_is in
     let same_lap : lap ≡ c.args.stimulus.now.lap = ap letters_of c.deref-2.ensures.value ∙ ap (λ (s : StimulusData). s.lap) c.stimulus.view_is in
     tells c.args.role file chain c.args.automaton.now c.args.circuit.now c.args.stimulus.now stem lap built same_stem same_lap c.in-Ok.verdict (reply_of c.text.result)
-    c.requires.circuit c.circuit_has_one_values.ensures c.in-Ok.ensures.sound (c.in-Ok.ensures.verdict file chain built) (c.text.ensures ∙ ap text_reply c.in_ok-verdict_line-in-Ok.ensures)
+    c.requires.circuit c.in-Ok.ensures.sound (c.in-Ok.ensures.verdict file chain built) (c.text.ensures ∙ ap text_reply c.in_ok-verdict_line-in-Ok.ensures)

@@ -5,5 +5,5 @@ pub returns : goal.returns
 returns c = inr (
   (c.in_ok-circuit.circuit, c.in_ok-circuit.stimulus),
   c.in_ok-circuit.ensures.read,
-  (c.in_ok-circuit.ensures.circuit, c.circuit_has_one_values.ensures, (c.in_ok-text.text.items, c.in_ok-text.ensures, ap Ok c.text.ensures)),
+  (c.in_ok-circuit.ensures.circuit, (c.in_ok-text.text.items, c.in_ok-text.ensures, ap Ok c.text.ensures)),
 )
