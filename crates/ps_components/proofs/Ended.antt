@@ -6,9 +6,10 @@ use Rattle.std.proofs.lemmas.List.{length-map}
 use Rattle.ps_components.specs.declared.search.Mark.{Mark}
 use Rattle.ps_components.specs.declared.search.Mark.TheVariants.{Unseen, Active, Closed}
 use Rattle.ps_components.specs.declared.search.Pending.{Pending}
-use Rattle.ps_components.specs.Graphs.{Digraph}
+use Rattle.ps_components.specs.Graphs.{Digraph, IsReached}
 use Rattle.ps_components.specs.ComponentLists.{ComponentsData, IsIn, AreComponents, AreMet, AreAllMet}
 use Rattle.ps_components.specs.Searching.{IsSound, number_of}
+use Rattle.ps_components.proofs.Reaching.{met_is_reached}
 
 module _ (g : Digraph) (marks : List Mark) (active bounds : List ℕ) (pending : List Pending) (order : List ℕ) (s : IsSound g marks active bounds pending order) where
   abbrev found : ComponentsData
@@ -52,5 +53,5 @@ module _ (g : Digraph) (marks : List Mark) (active bounds : List ℕ) (pending :
   pub all_met : length bounds ≡ 0 → ((v : ℕ) → v < g.count → slice_get marks v ≡ Some Unseen → ⊥) → AreAllMet g found
   all_met none seen v lt = met none v lt (seen v lt)
 
-  pub roots_met : length bounds ≡ 0 → (roots : List ℕ) → ((i v : ℕ) → slice_get roots i ≡ Some v → v < g.count) → ((i v : ℕ) → slice_get roots i ≡ Some v → slice_get marks v ≡ Some Unseen → ⊥) → AreMet roots found
-  roots_met none roots within seen i v h = met none v (within i v h) (seen i v h)
+  pub roots_met : length bounds ≡ 0 → (roots : List ℕ) → ((i v : ℕ) → slice_get roots i ≡ Some v → v < g.count) → ((i v : ℕ) → slice_get roots i ≡ Some v → slice_get marks v ≡ Some Unseen → ⊥) → ((v k : ℕ) → slice_get marks v ≡ Some (Closed k) → IsReached g roots v) → AreMet g roots found
+  roots_met none roots within seen only = met_is_reached g roots found components-sound (λ i v h. met none v (within i v h) (seen i v h)) (λ v k h. only v k (in-closed v k h))

@@ -1,20 +1,20 @@
 -- A vertex leads back to itself where a link leads into its own component.
-use Rattle.std.proofs.Common.{◌≡◌, ◌∙◌, ℕ, ◌<◌, ◌≤◌, inl, inr, refl, sym, subst, arith, Some, slice_get}
+use Rattle.std.proofs.Common.{◌≡◌, ℕ, ◌<◌, ◌≤◌, inl, inr, refl, sym, subst, arith, Some, slice_get}
 use Rattle.std.proofs.lemmas.Option.{slice_get_within}
 use Rattle.std.proofs.lemmas.Bool.{cases_lt, cases_eq}
 use Rattle.ps_components.specs.Graphs.{Digraph, Link, Way, last, next}
 use Rattle.ps_components.specs.ComponentLists.{ComponentsData, IsIn, AreComponents, AreAllMet}
 use Rattle.ps_components.specs.Orders.{IsOrder, IsFirstOnCycle, IsKnot}
 
-module _ (g : Digraph) (c : ComponentsData) (a : AreComponents g c) (met : AreAllMet g c) where
-  -- a way leads to no later component
-  falls : (i j k : ℕ) → Way (Link g) i j → IsIn c i k → (m : ℕ) × IsIn c j m × (m ≤ k)
-  falls i j k (last r) h = a.falls i k j h r
-  falls i j k (next {j = x} r w) h =
-      let m = a.falls i k x h r in
-      let n = falls x j m.0 w m.1 in
-      (n.0, n.1, omega (arith, n.2, m.2))
+-- a way leads to no later component
+pub way_falls : (g : Digraph) (c : ComponentsData) → AreComponents g c → (i j k : ℕ) → Way (Link g) i j → IsIn c i k → (m : ℕ) × IsIn c j m × (m ≤ k)
+way_falls g c a i j k (last r) h = a.falls i k j h r
+way_falls g c a i j k (next {j = x} r w) h =
+    let m = a.falls i k x h r in
+    let n = way_falls g c a x j m.0 w m.1 in
+    (n.0, n.1, omega (arith, n.2, m.2))
 
+module _ (g : Digraph) (c : ComponentsData) (a : AreComponents g c) (met : AreAllMet g c) where
   knot_at : (i j k m : ℕ) → Link g i j → IsIn c i k → IsIn c j m → m ≡ k → IsKnot g c i
   knot_at i j k m l hi hj e = record { to = j; link = l; number = k; here = hi; there = subst (λ x. IsIn c j x) e hj }
 
@@ -28,7 +28,7 @@ module _ (g : Digraph) (c : ComponentsData) (a : AreComponents g c) (met : AreAl
       first i j (next {j = x} r v) e =
           let k = met i r.from in
           let m = a.falls i k.0 x k.1 r in
-          let n = falls x j m.0 v m.1 in
+          let n = way_falls g c a x j m.0 v m.1 in
           let there : IsIn c i n.0 = subst (λ y. IsIn c y n.0) (sym e) n.1 in
           let same : n.0 ≡ k.0 = (let was = k.1 in cc) in
           knot_at i x k.0 m.0 r k.1 m.1 (omega (arith, m.2, n.2, same))

@@ -7,3 +7,4 @@ pub mod Closing
 pub mod Ended
 pub mod Spreads
 pub mod Knots
+mod Reaching

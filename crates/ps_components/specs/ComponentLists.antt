@@ -1,6 +1,6 @@
 -- The components of a graph: two vertices are in one component where each is reached from the other.
-use Rattle.std.specs.Prelude.{◌≡◌, ℕ, ◌<◌, ◌≤◌, List, length, slice_get, Option, Some}
-use Rattle.ps_components.specs.Graphs.{Digraph, Link, SameOrWay}
+use Rattle.std.specs.Prelude.{◌≡◌, ℕ, ◌<◌, ◌≤◌, ◌↔◌, List, length, slice_get, Option, Some}
+use Rattle.ps_components.specs.Graphs.{Digraph, Link, SameOrWay, IsReached}
 
 -- for each vertex the number of its component, or none where it was not met; and the vertices that were met, in order
 pub record ComponentsData : Type 0 where
@@ -26,9 +26,9 @@ pub record AreComponents (g : Digraph) (c : ComponentsData) : Type 0 where
   pub rises : (i j v w k m : ℕ) → i < j → slice_get c.order i ≡ Some v → slice_get c.order j ≡ Some w → IsIn c v k → IsIn c w m → k ≤ m
   pub once : (i j v : ℕ) → slice_get c.order i ≡ Some v → slice_get c.order j ≡ Some v → i ≡ j
 
--- each of these vertices was met
-abbrev pub AreMet : List ℕ → ComponentsData → Type 0
-AreMet roots c = (i v : ℕ) → slice_get roots i ≡ Some v → (k : ℕ) × IsIn c v k
+-- the vertices that were met are these, and those to which they lead
+abbrev pub AreMet : Digraph → List ℕ → ComponentsData → Type 0
+AreMet g roots c = (v : ℕ) → ((k : ℕ) × IsIn c v k) ↔ IsReached g roots v
 
 -- each vertex of the graph was met
 abbrev pub AreAllMet : Digraph → ComponentsData → Type 0

@@ -1,5 +1,5 @@
 -- Directed graphs of numbered vertices, and ways through them.
-use Rattle.std.specs.Prelude.{◌≡◌, ℕ, ◌<◌, ◌⊎◌, Option, Some}
+use Rattle.std.specs.Prelude.{◌≡◌, ℕ, ◌<◌, ◌⊎◌, List, slice_get, Option, Some}
 
 -- vertices 0 .. count - 1; each has degree places, and each place a target or none
 pub record Digraph : Type 0 where
@@ -26,3 +26,7 @@ pub data Way (R : ℕ → ℕ → Type 0) : ℕ → ℕ → Type 0 where
 -- w is v, or a way of links leads from v to w
 abbrev pub SameOrWay : Digraph → ℕ → ℕ → Type 0
 SameOrWay g v w = (v ≡ w) ⊎ Way (Link g) v w
+
+-- one of these vertices is w, or leads to it
+abbrev pub IsReached : Digraph → List ℕ → ℕ → Type 0
+IsReached g from w = (i v : ℕ) × (slice_get from i ≡ Some v) × SameOrWay g v w

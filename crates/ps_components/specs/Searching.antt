@@ -1,6 +1,6 @@
 -- What the search for components keeps true of its lists.
 use Rattle.std.specs.Prelude.{◌≡◌, ℕ, ◌+◌, ◌<◌, ◌≤◌, ◌⊎◌, List, [], ◌∷◌, ◌++◌, length, slice_get, slice_set, Option, Some, None, zero, suc}
-use Rattle.ps_components.specs.Graphs.{Digraph, Link, IsWithin, SameOrWay}
+use Rattle.ps_components.specs.Graphs.{Digraph, Link, IsWithin, SameOrWay, IsReached}
 use Rattle.ps_components.specs.declared.search.Mark.{Mark}
 use Rattle.ps_components.specs.declared.search.Mark.TheVariants.{Unseen, Active, Closed}
 use Rattle.ps_components.specs.declared.search.Pending.{Pending}
@@ -45,6 +45,10 @@ pub record IsSound (g : Digraph) (marks : List Mark) (active bounds : List ℕ) 
   pub ordered : (i v : ℕ) → slice_get order i ≡ Some v → (k : ℕ) × (slice_get marks v ≡ Some (Closed k))
   pub rises : (i j v w k m : ℕ) → i < j → slice_get order i ≡ Some v → slice_get order j ≡ Some w → slice_get marks v ≡ Some (Closed k) → slice_get marks w ≡ Some (Closed m) → k ≤ m
   pub once : (i j v : ℕ) → slice_get order i ≡ Some v → slice_get order j ≡ Some v → i ≡ j
+
+-- only of vertices to which these lead the mark changed
+abbrev pub ChangesReached : Digraph → List ℕ → List Mark → List Mark → Type 0
+ChangesReached g from old new = (v : ℕ) → (slice_get new v ≡ slice_get old v) ⊎ IsReached g from v
 
 -- the rising list up to place, and nothing of it behind
 pub record IsCut (bounds : List ℕ) (place : ℕ) (fewer : List ℕ) : Type 0 where

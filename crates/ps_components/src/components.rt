@@ -75,7 +75,7 @@ pub fn components_from<G: Graph>(
 ) -> Result<Components, AllocError>
     requires { All (λ v. v < (G.graph graph.now).count) roots.now }
     ensures components { IfOk result (AreComponents (G.graph graph.now)) }
-    ensures met { IfOk result (AreMet roots.now) }
+    ensures met { IfOk result (AreMet (G.graph graph.now) roots.now) }
 {
     let mut search = Search::new(alloc, graph)?;
     for &root in roots {

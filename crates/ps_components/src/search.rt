@@ -1,9 +1,9 @@
 //! The search for components along one path, as Gabow does it: items are put at the end of the path, and where a link leads
 //! back into the path, all components from there on become one.
 
-ghost use Rattle.std.specs.Prelude.{◌≡◌, ℕ, ◌<◌, ◌≤◌, ◌++◌, ◌-◌, length, slice_get, slice_set, Some, OnOk, IfOk};
+ghost use Rattle.std.specs.Prelude.{◌≡◌, ℕ, ◌<◌, ◌≤◌, ◌++◌, ◌∷◌, [], ◌-◌, All, length, slice_get, slice_set, Some, OnOk, IfOk};
 ghost use Rattle.ps_components.specs.Graphs.{Way, Link};
-ghost use Rattle.ps_components.specs.Searching.{IsSound, IsSettled, KeepsMarks, turns, waits, IsCut, close_all};
+ghost use Rattle.ps_components.specs.Searching.{IsSound, IsSettled, KeepsMarks, ChangesReached, turns, waits, IsCut, close_all};
 ghost use Rattle.ps_components.specs.declared.search.Pending.{Pending};
 
 use crate::graph::Graph;
@@ -41,6 +41,7 @@ impl Search {
     pub fn new<G: Graph>(alloc: Global, graph: &G) -> Result<Self, AllocError>
         ensures sound { IfOk result (λ s. IsSound (G.graph graph.now) s.marks.items s.active.items s.bounds.items s.pending.items s.order.items) }
         ensures ended { IfOk result (λ s. length s.bounds.items ≡ 0) }
+        ensures unseen { IfOk result (λ s. All (λ m. m ≡ Mark.Unseen) s.marks.items) }
     {
         Ok(Search {
             marks: vec![in alloc; Mark::Unseen; graph.count()]?,
@@ -60,6 +61,7 @@ impl Search {
         ensures ended { OnOk result (length self.new.bounds.items ≡ 0) }
         ensures kept { OnOk result (KeepsMarks self.old.marks.items self.new.marks.items) }
         ensures seen { OnOk result (¬ (slice_get self.new.marks.items item ≡ Some Mark.Unseen)) }
+        ensures reached { OnOk result (ChangesReached (G.graph graph.now) (item ∷ []) self.old.marks.items self.new.marks.items) }
     {
         if let Mark::Unseen = self.marks[item] {
             self.enter(graph, item)?;
@@ -74,6 +76,7 @@ impl Search {
         ensures sound { OnOk result (IsSound (G.graph graph.now) self.new.marks.items self.new.active.items self.new.bounds.items self.new.pending.items self.new.order.items) }
         ensures ended { OnOk result (length self.new.bounds.items ≡ 0) }
         ensures kept { OnOk result (KeepsMarks self.old.marks.items self.new.marks.items) }
+        ensures reached { OnOk result (ChangesReached (G.graph graph.now) self.old.active.items self.old.marks.items self.new.marks.items) }
     {
         while let Some(&bound) = self.bounds.last() {
             self.step(graph, bound)?;
@@ -88,6 +91,7 @@ impl Search {
         ensures sound { OnOk result (IsSound (G.graph graph.now) self.new.marks.items self.new.active.items self.new.bounds.items self.new.pending.items self.new.order.items) }
         ensures fewer { OnOk result (turns (G.graph graph.now) self.new.marks.items self.new.bounds.items self.new.pending.items < turns (G.graph graph.now) self.old.marks.items self.old.bounds.items self.old.pending.items) }
         ensures kept { OnOk result (KeepsMarks self.old.marks.items self.new.marks.items) }
+        ensures reached { OnOk result (ChangesReached (G.graph graph.now) self.old.active.items self.old.marks.items self.new.marks.items) }
     {
         let Some(&pending) = self.pending.last() else {
             return self.close(graph, bound);
@@ -116,6 +120,7 @@ impl Search {
         ensures fewer { OnOk result (turns (G.graph graph.now) self.new.marks.items self.new.bounds.items self.new.pending.items < turns (G.graph graph.now) self.old.marks.items self.old.bounds.items self.old.pending.items) }
         ensures kept { KeepsMarks self.old.marks.items self.new.marks.items }
         ensures entered { OnOk result (self.new.marks.items ≡ slice_set self.old.marks.items item (Mark.Active (length self.old.active.items))) }
+        ensures path { OnOk result (self.new.active.items ≡ self.old.active.items ++ item ∷ []) }
     {
         let place = self.active.len();
         self.active.push(item)?;
@@ -161,6 +166,7 @@ impl Search {
         ensures sound { OnOk result (IsSound (G.graph graph.now) self.new.marks.items self.new.active.items self.new.bounds.items self.new.pending.items self.new.order.items) }
         ensures fewer { OnOk result (turns (G.graph graph.now) self.new.marks.items self.new.bounds.items self.new.pending.items < turns (G.graph graph.now) self.old.marks.items self.old.bounds.items self.old.pending.items) }
         ensures kept { OnOk result (KeepsMarks self.old.marks.items self.new.marks.items) }
+        ensures reached { OnOk result (ChangesReached (G.graph graph.now) self.old.active.items self.old.marks.items self.new.marks.items) }
     {
         let number = self.order.len();
         let segment = &self.active[bound..];

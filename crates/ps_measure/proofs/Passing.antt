@@ -176,7 +176,7 @@ root_column g weight c values w v m components column link heavy to = record {
 -- ---- the end
 
 -- the values of all vertices are the least counts
-pub least_counts : (g : Digraph) (weight : ℕ → ℕ) (c : ComponentsData) (values roots : List ℕ) → ((v : ℕ) → weight v ≤ 1) → AreComponents g c → AreRoots g weight roots → AreMet roots c → IsColumn g weight c values → AreRaised c values roots → ArePassedFrom g weight c values 0 → AreLeast g weight (value_of c values)
+pub least_counts : (g : Digraph) (weight : ℕ → ℕ) (c : ComponentsData) (values roots : List ℕ) → ((v : ℕ) → weight v ≤ 1) → AreComponents g c → AreRoots g weight roots → AreMet g roots c → IsColumn g weight c values → AreRaised c values roots → ArePassedFrom g weight c values 0 → AreLeast g weight (value_of c values)
 least_counts g weight c values roots light components root met column raised passed = record {
   counts = λ w v link. at_link w v link (slice_get c.numbers w) refl;
   least = λ other counts v. at_vertex other counts v (slice_get c.numbers v) refl;
@@ -204,7 +204,7 @@ least_counts g weight c values roots light components root met column raised pas
     from_unmet w v link = elim (cases_eq (weight v) 1) [
       | inl heavy ↦
           let at = root.complete w v link heavy in
-          let number = met at.0 v at.1 in
+          let number = (met v).1 (at.0, v, at.1, inl refl) in
           let one : 1 ≤ slice_index values number.0 = raised at.0 v number.0 at.1 number.1 in
           omega (arith, value_in v number.0 number.1)
       | inr none ↦ omega (arith, light v)

@@ -1,5 +1,5 @@
 -- The steps of the pass over all links, on plain data.
-use Rattle.std.proofs.Common.{◌≡◌, ℕ, ◌+◌, ◌-◌, ◌*◌, ◌<◌, ◌≤◌, ◌∙◌, List, length, get_or, inl, inr, sym, ap, subst, arith, Option, None, Some, Bool, true, false, eqb, unwrap_or}
+use Rattle.std.proofs.Common.{◌≡◌, ℕ, ◌+◌, ◌-◌, ◌*◌, ◌<◌, ◌≤◌, ◌∙◌, List, length, get_or, inl, inr, sym, ap, subst, arith, refl, Option, None, Some, Bool, true, false, eqb, unwrap_or}
 use Rattle.std.specs.Prelude.{slice_get, slice_index, slice_set}
 use Rattle.std.specs.Bool.{OnFalse, OnTrue}
 use Rattle.std.proofs.lemmas.Bool.{cases_eq, OnFalse_from, OnTrue_from, eqb-true, eqb-false}
@@ -178,9 +178,9 @@ root_step low roots c values i number components are within is column raised =
     ]
 
 -- a root has a number
-pub root_met : (roots : List ℕ) (c : ComponentsData) (i : ℕ) (o : Option ℕ) → AreMet roots c → i < length roots → slice_get c.numbers (get_or roots i 0) ≡ Some o → ((n : ℕ) → o ≡ Some n → ⊥) → ⊥
-root_met roots c i o met within is none =
-    let found = met i (get_or roots i 0) (slice_get-get_or roots i 0 within) in
+pub root_met : (g : Digraph) (roots : List ℕ) (c : ComponentsData) (i : ℕ) (o : Option ℕ) → AreMet g roots c → i < length roots → slice_get c.numbers (get_or roots i 0) ≡ Some o → ((n : ℕ) → o ≡ Some n → ⊥) → ⊥
+root_met g roots c i o met within is none =
+    let found = (met (get_or roots i 0)).1 (i, get_or roots i 0, slice_get-get_or roots i 0 within, inl refl) in
     none found.0 (one_option (sym is ∙ found.1))
   where
     one_option : {o p : Option ℕ} → Some o ≡ Some p → o ≡ p
@@ -188,11 +188,11 @@ root_met roots c i o met within is none =
 
 -- ---- the end
 
-pub settled : (low : LowData) (roots : List ℕ) (c c' : ComponentsData) (old new : List ℕ) (n : ℕ) → AreRoots (low_graph low) (low_weight low) roots → AreMet roots c → AreRaised c old roots → c' ≡ c → IsCounting (low_graph low) (low_weight low) c' new → GrowsBelow old new n → ArePassedFrom (low_graph low) (low_weight low) c' new 0
+pub settled : (low : LowData) (roots : List ℕ) (c c' : ComponentsData) (old new : List ℕ) (n : ℕ) → AreRoots (low_graph low) (low_weight low) roots → AreMet (low_graph low) roots c → AreRaised c old roots → c' ≡ c → IsCounting (low_graph low) (low_weight low) c' new → GrowsBelow old new n → ArePassedFrom (low_graph low) (low_weight low) c' new 0
     → (length c'.numbers ≡ low.star.count) × AreLeast (low_graph low) (low_weight low) (value_of c' new)
 settled low roots c c' old new n are met raised same counting grown passed = (
   counting.components.counted,
-  least_counts (low_graph low) (low_weight low) c' new roots (weight_light low) counting.components are (subst (AreMet roots) (sym same) met) counting.column (subst (λ d. AreRaised d new roots) (sym same) (raised_before c old new roots n grown raised)) passed,
+  least_counts (low_graph low) (low_weight low) c' new roots (weight_light low) counting.components are (subst (AreMet (low_graph low) roots) (sym same) met) counting.column (subst (λ d. AreRaised d new roots) (sym same) (raised_before c old new roots n grown raised)) passed,
 )
 
 -- what stands in the order has a number

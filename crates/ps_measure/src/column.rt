@@ -43,7 +43,7 @@ impl Column {
     fn of(alloc: Global, low: &Low, roots: &[usize]) -> Result<Self, AllocError>
         requires { AreRoots (low_graph low.now) (low_weight low.now) roots.now }
         ensures counting { IfOk result (λ c. IsCounting (low_graph low.now) (low_weight low.now) c.components c.values.items) }
-        ensures met { IfOk result (λ c. AreMet roots.now c.components) }
+        ensures met { IfOk result (λ c. AreMet (low_graph low.now) roots.now c.components) }
         ensures raised { IfOk result (λ c. AreRaised c.components c.values.items roots.now) }
     {
         let _vertices = low.count();

@@ -1,4 +1,3 @@
-use Rattle.std.proofs.Common.{◌≡◌, ◌<◌}
 use Rattle.ps_components.proofs.Knots.{first-knot, no_cycle, order-of_components}
 use Rattle.ps_components.proofs.arranging.arrange.Goals as goal
 

@@ -1,6 +1,5 @@
-use Rattle.std.proofs.Common.{◌≡◌, ◌<◌, sym, arith, Some, rules}
+use Rattle.std.proofs.Common.{◌≡◌, sym, arith, rules}
 use Rattle.ps_components.specs.ComponentLists.{IsIn}
-use Rattle.ps_components.specs.Orders.{IsKnot}
 use Rattle.ps_components.proofs.arranging.is_knot.Goals as goal
 
 pub returns-then-eq : goal.returns-then-eq

@@ -1,7 +1,8 @@
 use Rattle.std.proofs.Common.{◌≡◌, ◌∙◌, ◌-◌, ◌++◌, length, take, drop, ap, sym, subst, ◌<◌, slice_get, Some}
 use Rattle.std.proofs.lemmas.List.{take_rest}
-use Rattle.ps_components.specs.Searching.{IsSound, close_all, turns}
+use Rattle.ps_components.specs.Searching.{IsSound, ChangesReached, close_all, turns}
 use Rattle.ps_components.proofs.Places.{last_split}
+use Rattle.ps_components.proofs.Reaching.{reached-closed}
 use Rattle.ps_components.proofs.Closing.{sound-closed, fewer-closed, kept-closed, in_range}
 use Rattle.ps_components.proofs.search.Search.close.Goals as goal
 
@@ -50,3 +51,11 @@ returns-clause-kept g c =
     let segment = take_rest c.deref.result.now c.args.bound ∙ ap (λ d. drop c.args.bound d) c.deref.ensures.value in
     let marks = c.close_items.ensures ∙ ap (λ vs. close_all s.marks.items vs c.len-number.result) segment ∙ ap (λ n. close_all s.marks.items (drop c.args.bound s.active.items) n) (c.len-number.ensures ∙ s.order.ok.0) in
     rw marks (kept-closed gr s.marks.items s.active.items front c.args.bound s.pending.items s.order.items sound c.requires.done)
+
+pub returns-clause-reached : goal.returns-clause-reached
+returns-clause-reached g c =
+    let gr = g.G.Graph.graph c.args.graph.now in
+    let s = c.args.self.now in
+    let segment = take_rest c.deref.result.now c.args.bound ∙ ap (λ d. drop c.args.bound d) c.deref.ensures.value in
+    let marks = c.close_items.ensures ∙ ap (λ vs. close_all s.marks.items vs c.len-number.result) segment in
+    subst (λ m. ChangesReached gr s.active.items s.marks.items m) (sym marks) (reached-closed gr s.marks.items s.active.items c.args.bound c.len-number.result)

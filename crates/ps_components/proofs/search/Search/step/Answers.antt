@@ -1,5 +1,8 @@
-use Rattle.std.proofs.Common.{arith}
-use Rattle.ps_components.specs.Searching.{closed}
+use Rattle.std.proofs.Common.{arith, inr, length, sym, subst, Result, Ok, Err, OnOk}
+use Rattle.ps_components.specs.declared.search.Mark.TheVariants.{Active}
+use Rattle.ps_components.specs.Graphs.{last}
+use Rattle.ps_components.specs.Searching.{ChangesReached, closed}
+use Rattle.ps_components.proofs.Reaching.{reached-entered}
 use Rattle.ps_components.proofs.Stepping.{last_pending, pending_within, at_most_last, read_mark, all_lead}
 use Rattle.ps_components.proofs.search.Search.step.Goals as goal
 
@@ -26,3 +29,15 @@ merge-requires-clause-marked g c = read_mark (g.G.Graph.graph c.args.graph.now) 
 
 pub take-requires-in-Closed-clause-settled : goal.take-requires-in-Closed-clause-settled
 take-requires-in-Closed-clause-settled g c = closed _ (read_mark (g.G.Graph.graph c.args.graph.now) _ _ _ _ _ c.requires.sound c.in-Some.field-0.now (last_pending c.args.self.now.pending.items c.deref.result.now c.in-Some.field-0.now c.deref.ensures.value c.in-Some.ensures.value) c.index.result.now _ c.index.ensures c.in-Closed.is)
+
+pub returns-in-Unseen-clause-reached : goal.returns-in-Unseen-clause-reached
+returns-in-Unseen-clause-reached g c =
+    let gr = g.G.Graph.graph c.args.graph.now in
+    let s = c.args.self.now in
+    let l = c.requires.sound.pending_links _ c.in-Some.field-0.now (last_pending s.pending.items c.deref.result.now c.in-Some.field-0.now c.deref.ensures.value c.in-Some.ensures.value) in
+    let led = reached-entered gr s.marks.items s.active.items c.in-Some.field-0.now.to (Active (length s.active.items)) (c.in-Some.field-0.now.from, l.0, l.1, inr (last l.2)) in
+    on_ok c.enter.result (λ e. subst (λ m. ChangesReached gr s.active.items s.marks.items m) (sym e) led) c.enter.ensures.entered
+  where
+    on_ok : {T E A B : Type 0} (r : Result T E) → (A → B) → OnOk r A → OnOk r B
+    on_ok (Ok x) f a = f a
+    on_ok (Err e) f a = tt
