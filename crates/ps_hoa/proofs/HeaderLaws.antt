@@ -1,8 +1,8 @@
 -- The laws of the header's items and of the header, and how their parts are joined.
---     laws_states, .., laws_other, laws_item, laws_items, laws_header      the laws
+--     laws_states, .., laws_other, laws_form, laws_item, laws_items, laws_header      the laws
 --     joint_states, .., joint_other, joint_header      the parts of an item, from the front
 -- proofs/ItemChoice goes on with which item stands.
-use Rattle.std.proofs.Common.{◌≡◌, ℕ, true, false, List, [], ◌∷◌, codes, Some, refl, sym, ap, inl, inr, ◌∙◌}
+use Rattle.std.proofs.Common.{◌≡◌, ℕ, true, false, List, [], codes, Some, refl, sym, ap, inl, inr, ◌∙◌}
 use Rattle.ps_text.specs.Parts.{Part, NoBad, give, one, then_by, either, times, many, mapped, barred}
 use Rattle.ps_text.proofs.Laws.{Laws, Joint, Nothing, Or, When, Within, Apart, weaker}
 use Rattle.ps_text.proofs.Joined.{joint}
@@ -10,19 +10,24 @@ use Rattle.ps_text.proofs.Simple.{Taken, BadSign, none_is_some, laws_give, laws_
 use Rattle.ps_text.proofs.Covered.{laws_either}
 use Rattle.ps_text.proofs.Repeated.{laws_times, laws_many}
 use Rattle.ps_text.proofs.Barred.{Bar, laws_barred}
+use Rattle.ps_text.proofs.Choices.{Begins, BeginsSome, laws_choice}
 use Rattle.ps_hoa.specs.Tokens.{Sign}
 use Rattle.ps_hoa.specs.Causes.{is_unknown_capital}
 use Rattle.ps_hoa.specs.Operands.{number_limit, nesting_limit, is_and, is_or}
 use Rattle.ps_hoa.specs.Labels.{label}
 use Rattle.ps_hoa.specs.Conditions.{condition}
-use Rattle.ps_hoa.specs.Header.{HeaderData, no_items, state_limit, proposition_limit, set_limit, name_value, item_name, IsAbove, int, string, with_states, states_item, IsSecondStart, IsAlternating, with_start, start_item, proposition_name, with_names, names_item, header_scope, with_alias, alias_item, with_acceptance, acceptance_item, index, with_controllable, controllable_item, unchanged, tool_item, name_item, other_value, read_over_value, read_over, other_item, item, body_value, IsBadBody, body_mark, header}
+use Rattle.ps_hoa.specs.Header.{HeaderData, no_items, state_limit, proposition_limit, set_limit, name_value, item_name, IsAbove, int, string, with_states, states_item, IsSecondStart, IsAlternating, with_start, start_item, proposition_name, with_names, names_item, header_scope, with_alias, alias_item, with_acceptance, acceptance_item, index, with_controllable, controllable_item, unchanged, tool_item, name_item, other_value, read_over_value, read_over, other_item, form_of, item, body_value, IsBadBody, body_mark, header}
+use Rattle.ps_hoa.specs.ItemNames as items
+use Rattle.ps_hoa.specs.ItemNames.{ItemName}
+use Rattle.ps_hoa.specs.Items.{item_names, item_among, item_at}
 use Rattle.ps_hoa.specs.declared.fault.HoaCause.{HoaCause}
 use Rattle.ps_hoa.specs.declared.tokens.Kind.{Kind}
 use Rattle.ps_hoa.specs.declared.tokens.Kind.TheVariants.{Header, Word, Int, Text, And, Or as OrSign, Body}
 use Rattle.ps_hoa.proofs.OperandLaws.{Odd, Of, false_true, plain_odd, nothing_apart, only_first}
-use Rattle.ps_hoa.proofs.LabelLaws.{is_start, AndOrMore, laws_label, no_null}
+use Rattle.ps_hoa.proofs.LabelLaws.{is_start, AndOrMore, laws_label}
 use Rattle.ps_hoa.proofs.ConditionLaws.{is_int, laws_condition}
-use Rattle.ps_hoa.proofs.SignLaws.{is_string, is_alias, is_body, is_value, is_argument, plain_body, plain_value, plain_and, laws_sign, laws_behind_sign, joint_behind_sign, Named, Other, FirstOf, named_text, named_there, plain_named, plain_other, laws_name, first_apart, above_int, laws_int, laws_string, laws_proposition_name, new_alias, laws_new_alias}
+use Rattle.ps_hoa.proofs.ItemNames.{StartsWith, begins}
+use Rattle.ps_hoa.proofs.SignLaws.{is_string, is_alias, is_body, is_value, is_argument, plain_body, plain_value, plain_and, laws_sign, laws_behind_sign, joint_behind_sign, Named, Other, named_there, plain_named, plain_other, laws_name, above_int, laws_int, laws_string, laws_proposition_name, new_alias, laws_new_alias}
 
 -- ## Items
 
@@ -302,128 +307,39 @@ joint_other h = joint_behind_sign laws_other_name (λ _. laws_values h)
 
 -- ## Any item
 
-abbrev pub behind_tool : List (List ℕ)
-behind_tool = codes "name:" ∷ []
+form_laws : (h : HeaderData) (name : ItemName) → Laws Odd (form_of h name) (StartsWith name) ItemMore ⊥
+form_laws h items.states = laws_states h
+form_laws h items.start = laws_start h
+form_laws h items.propositions = laws_names h
+form_laws h items.alias = laws_alias h
+form_laws h items.acceptance = laws_acceptance h
+form_laws h items.controllable = laws_controllable h
+form_laws h items.tool = laws_tool h
+form_laws h items.name = laws_name_item h
+form_laws h items.other = laws_other h
 
-abbrev pub behind_controllable : List (List ℕ)
-behind_controllable = codes "tool:" ∷ behind_tool
+pub laws_form : (h : HeaderData) (name : ItemName) → Laws Odd (form_of h name) (Begins item_at name) ItemMore ⊥
+laws_form h name = weaker (form_laws h name) (begins name) (λ t k. k) (λ k. k)
 
-abbrev pub behind_acceptance : List (List ℕ)
-behind_acceptance = codes "controllable-AP:" ∷ behind_controllable
-
-abbrev pub behind_alias : List (List ℕ)
-behind_alias = codes "Acceptance:" ∷ behind_acceptance
-
-abbrev pub behind_names : List (List ℕ)
-behind_names = codes "Alias:" ∷ behind_alias
-
-abbrev pub behind_start : List (List ℕ)
-behind_start = codes "AP:" ∷ behind_names
-
-abbrev pub behind_states : List (List ℕ)
-behind_states = codes "Start:" ∷ behind_start
-
-abbrev pub item_names : List (List ℕ)
-item_names = codes "States:" ∷ behind_states
-
--- the names of items, and those that are read over
+-- the names of items
 abbrev pub ItemFirst : Sign → Type 0
-ItemFirst = FirstOf item_names
+ItemFirst = BeginsSome item_at
 
-same_more : (M A B : Sign → Type 0) → Within (Or (Or M M) (Or (When ⊥ A) (When ⊥ B))) M
-same_more M A B t (inl (inl h)) = h
-same_more M A B t (inl (inr h)) = h
-same_more M A B t (inr (inl h)) = absurd h.0
-same_more M A B t (inr (inr h)) = absurd h.0
-
-laws_choice : {V : Type 0} {P Q : Part Sign V HoaCause} {F1 F2 M : Sign → Type 0} → Laws Odd P F1 M ⊥ → Laws Odd Q F2 M ⊥ → Apart F1 F2 → Laws Odd (either P Q) (Or F1 F2) M ⊥
-laws_choice {F1 = F1} {F2 = F2} {M = M} l r a = weaker (laws_either l r a (λ h k. h)) (λ t h. h) (same_more M F2 F1) no_null
-
--- the forms of an item behind the first ones
-abbrev pub from_name : HeaderData → Part Sign HeaderData HoaCause
-from_name h = either (name_item h) (other_item h)
-
-abbrev pub from_tool : HeaderData → Part Sign HeaderData HoaCause
-from_tool h = either (tool_item h) (from_name h)
-
-abbrev pub from_controllable : HeaderData → Part Sign HeaderData HoaCause
-from_controllable h = either (controllable_item h) (from_tool h)
-
-abbrev pub from_acceptance : HeaderData → Part Sign HeaderData HoaCause
-from_acceptance h = either (acceptance_item h) (from_controllable h)
-
-abbrev pub from_alias : HeaderData → Part Sign HeaderData HoaCause
-from_alias h = either (alias_item h) (from_acceptance h)
-
-abbrev pub from_names : HeaderData → Part Sign HeaderData HoaCause
-from_names h = either (names_item h) (from_alias h)
-
-abbrev pub from_start : HeaderData → Part Sign HeaderData HoaCause
-from_start h = either (start_item h) (from_names h)
-
-pub name_apart : Apart (Named (codes "name:")) Other
-name_apart = first_apart (codes "name:") [] refl refl
-
-pub tool_apart : Apart (Named (codes "tool:")) (FirstOf behind_tool)
-tool_apart = first_apart (codes "tool:") behind_tool refl refl
-
-pub controllable_apart : Apart (Named (codes "controllable-AP:")) (FirstOf behind_controllable)
-controllable_apart = first_apart (codes "controllable-AP:") behind_controllable refl refl
-
-pub acceptance_apart : Apart (Named (codes "Acceptance:")) (FirstOf behind_acceptance)
-acceptance_apart = first_apart (codes "Acceptance:") behind_acceptance refl refl
-
-pub alias_apart : Apart (Named (codes "Alias:")) (FirstOf behind_alias)
-alias_apart = first_apart (codes "Alias:") behind_alias refl refl
-
-pub names_apart_rest : Apart (Named (codes "AP:")) (FirstOf behind_names)
-names_apart_rest = first_apart (codes "AP:") behind_names refl refl
-
-pub start_apart : Apart (Named (codes "Start:")) (FirstOf behind_start)
-start_apart = first_apart (codes "Start:") behind_start refl refl
-
-pub states_apart : Apart (Named (codes "States:")) (FirstOf behind_states)
-states_apart = first_apart (codes "States:") behind_states refl refl
-
-module _ (h : HeaderData) where
-  pub laws_from_name : Laws Odd (from_name h) (FirstOf behind_tool) ItemMore ⊥
-  laws_from_name = laws_choice (laws_name_item h) (laws_other h) name_apart
-
-  pub laws_from_tool : Laws Odd (from_tool h) (FirstOf behind_controllable) ItemMore ⊥
-  laws_from_tool = laws_choice (laws_tool h) laws_from_name tool_apart
-
-  pub laws_from_controllable : Laws Odd (from_controllable h) (FirstOf behind_acceptance) ItemMore ⊥
-  laws_from_controllable = laws_choice (laws_controllable h) laws_from_tool controllable_apart
-
-  pub laws_from_acceptance : Laws Odd (from_acceptance h) (FirstOf behind_alias) ItemMore ⊥
-  laws_from_acceptance = laws_choice (laws_acceptance h) laws_from_controllable acceptance_apart
-
-  pub laws_from_alias : Laws Odd (from_alias h) (FirstOf behind_names) ItemMore ⊥
-  laws_from_alias = laws_choice (laws_alias h) laws_from_acceptance alias_apart
-
-  pub laws_from_names : Laws Odd (from_names h) (FirstOf behind_start) ItemMore ⊥
-  laws_from_names = laws_choice (laws_names h) laws_from_alias names_apart_rest
-
-  pub laws_from_start : Laws Odd (from_start h) (FirstOf behind_states) ItemMore ⊥
-  laws_from_start = laws_choice (laws_start h) laws_from_names start_apart
-
-  pub laws_item : Laws Odd (item h) ItemFirst ItemMore ⊥
-  laws_item = laws_choice (laws_states h) laws_from_start states_apart
+pub laws_item : (h : HeaderData) → Laws Odd (item h) ItemFirst ItemMore ⊥
+laws_item h = laws_choice (form_of h) item_at (laws_form h) items.other
 
 -- ## The header
 
 -- an item begins with a name
-pub first_header : (names : List (List ℕ)) (t : Sign) → FirstOf names t → t.kind ≡ Header
-first_header [] t h = go t.kind t.text h
+pub first_header : (t : Sign) → ItemFirst t → t.kind ≡ Header
+first_header t h = go t.kind t.text h.0 h.1
   where
-    go : (kind : Kind) (text : List ℕ) → other_value kind text ≡ Some tt → kind ≡ Header
-    go Header text h = refl
-    go kind text h = absurd (none_is_some tt h)
-first_header (name ∷ names) t (inl h) = (named_text name t.kind t.text h).0
-first_header (name ∷ names) t (inr h) = first_header names t h
+    go : (kind : Kind) (text : List ℕ) (name : ItemName) → item_among item_names kind text ≡ Some name → kind ≡ Header
+    go Header text name e = refl
+    go kind text name e = absurd (none_is_some name e)
 
 pub item_apart : Apart ItemMore ItemFirst
-item_apart t h k = false_true (ap is_argument (sym (first_header item_names t k)) ∙ h)
+item_apart t h k = false_true (ap is_argument (sym (first_header t k)) ∙ h)
 
 pub laws_items : (h : HeaderData) → Laws Odd (many item h) ItemFirst (Or ItemMore ItemFirst) (Unit {0})
 laws_items h = laws_many item laws_item item_apart h
@@ -442,7 +358,7 @@ item_body t (inl h) k = go t.kind h k
     go : (kind : Kind) → is_argument kind ≡ true → is_body kind ≡ true → ⊥
     go Body h k = false_true h
     go kind h k = false_true k
-item_body t (inr h) k = false_true (ap is_body (sym (first_header item_names t h)) ∙ k)
+item_body t (inr h) k = false_true (ap is_body (sym (first_header t h)) ∙ k)
 
 abbrev pub HeaderFirst : Sign → Type 0
 HeaderFirst = Or ItemFirst (Of is_body)

@@ -1,16 +1,13 @@
 -- Which sign comes next in a header, and the loops that ask for it.
 --     enters_at, avoids_at      a part is entered at a sign of a kind, and none of its first signs comes at another
 --     enters_index, enters_string, enters_read_over      the parts that a kind decides
---     named_at, not_named_at      the next sign is a name, or is not; is_other_item, if it is none of those of items
---     stands_at, enters_next, avoids_item      an item begins, or none does
-use Rattle.std.proofs.Common.{◌≡◌, ◌⊎◌, ◌||◌, ℕ, Bool, true, false, List, [], ◌∷◌, codes, Option, None, Some, is_some, refl, sym, ap, subst, inl, inr, ⊎_elim, ◌∙◌}
-use Rattle.ps_text.specs.Answers.{Piece, Stream, next_of as next_sign}
+use Rattle.std.proofs.Common.{◌≡◌, ℕ, Bool, true, false, List, Some, refl, sym, ap, subst, inl, ◌∙◌}
+use Rattle.ps_text.specs.Answers.{Stream, next_of as next_sign}
 use Rattle.ps_text.specs.Parts.{Part, NoBad, mapped}
 use Rattle.ps_text.proofs.Covered.{Avoids, Enters, enters_one, enters_mapped}
-use Rattle.ps_text.proofs.Branches.{Stands}
 use Rattle.ps_hoa.specs.Header.{kept}
-use Rattle.ps_hoa.specs.Header.{HeaderData, name_value, other_value, int, int_in, IsAbove, string, string_in, index, unchanged, read_over, read_over_value, item}
-use Rattle.ps_hoa.specs.Items.{is_item, is_value}
+use Rattle.ps_hoa.specs.Header.{HeaderData, int, int_in, IsAbove, string, string_in, index, unchanged, read_over, read_over_value}
+use Rattle.ps_hoa.specs.Items.{is_value}
 use Rattle.ps_hoa.specs.Operands.{number_limit}
 use Rattle.ps_hoa.specs.Scan.{next_of}
 use Rattle.ps_hoa.specs.Tokens.{Sign}
@@ -18,11 +15,9 @@ use Rattle.ps_hoa.specs.declared.fault.HoaCause.{HoaCause}
 use Rattle.ps_hoa.specs.declared.tokens.Kind.{Kind}
 use Rattle.ps_hoa.specs.declared.tokens.Kind.TheVariants.{Int, Text, Word, Finish}
 use Rattle.ps_hoa.proofs.ConditionLaws.{is_int}
-use Rattle.ps_hoa.proofs.HeaderLaws.{item_names, ItemFirst}
-use Rattle.ps_hoa.proofs.ItemChoice.{enters_item}
 use Rattle.ps_hoa.proofs.NextSign.{next_there, next_same}
 use Rattle.ps_hoa.proofs.OperandLaws.{Of, false_true}
-use Rattle.ps_hoa.proofs.SignLaws.{is_string, is_value as is_value_sign, Named, Other, FirstOf}
+use Rattle.ps_hoa.proofs.SignLaws.{is_string, is_value as is_value_sign}
 
 enters_at : {V : Type 0} (part : Part Sign V HoaCause) (s : Stream Sign) (kind : Kind) → (next_of s).sign.kind ≡ kind → (kind ≡ Finish → ⊥) →
     ((text : List ℕ) → Enters part (Some (record { kind = kind; text = text }))) → Enters part (next_sign s)
@@ -65,84 +60,3 @@ same_value k e = absurd (false_true e)
 
 pub avoids_read_over : (s : Stream Sign) → is_value (next_of s).sign.kind ≡ false → Avoids (Of is_value_sign) (next_sign s)
 avoids_read_over s e t x h = false_true (sym e ∙ ap (λ z. is_value z.kind) (next_same s t x) ∙ same_value t.kind h)
-
--- ## Which item begins
-
-some_unit : (o : Option (Unit {0})) → is_some o ≡ true → o ≡ Some tt
-some_unit None e = absurd (false_true e)
-some_unit (Some u) e = refl
-
-named_first : (name : List ℕ) (t : Sign) → is_some (name_value name t.kind t.text) ≡ true → Named name t
-named_first name t e = some_unit (name_value name t.kind t.text) e
-
-one_of : (a b : Bool) → (a || b) ≡ true → (a ≡ true) ⊎ (b ≡ true)
-one_of true b e = inl refl
-one_of false b e = inr e
-
-none_left : (a b : Bool) → (a || b) ≡ false → a ≡ false
-none_left true b e = e
-none_left false b e = refl
-
-none_right : (a b : Bool) → (a || b) ≡ false → b ≡ false
-none_right true b e = absurd (false_true (sym e))
-none_right false b e = e
-
--- names in turn
-abbrev begins : List (List ℕ) → Sign → Bool
-begins [] t = is_some (other_value t.kind t.text)
-begins (name ∷ names) t = is_some (name_value name t.kind t.text) || begins names t
-
-first_of_names : (names : List (List ℕ)) (t : Sign) → begins names t ≡ true → FirstOf names t
-first_of_names [] t e = some_unit (other_value t.kind t.text) e
-first_of_names (name ∷ names) t e = ⊎_elim (λ h. inl (named_first name t h)) (λ h. inr (first_of_names names t h)) (one_of (is_some (name_value name t.kind t.text)) (begins names t) e)
-
-none_of_names : (names : List (List ℕ)) (t : Sign) → begins names t ≡ false → FirstOf names t → ⊥
-none_of_names [] t e h = false_true (sym e ∙ ap is_some h)
-none_of_names (name ∷ names) t e (inl h) = false_true (sym (none_left (is_some (name_value name t.kind t.text)) (begins names t) e) ∙ ap is_some h)
-none_of_names (name ∷ names) t e (inr h) = none_of_names names t (none_right (is_some (name_value name t.kind t.text)) (begins names t) e) h
-
-first_item : (t : Sign) → is_item t.kind t.text ≡ true → ItemFirst t
-first_item t e = first_of_names item_names t e
-
-no_item : (t : Sign) → is_item t.kind t.text ≡ false → ItemFirst t → ⊥
-no_item t e = none_of_names item_names t e
-
--- an item that is none of the names is read over
-pub is_other_item : (t : Sign) → is_item t.kind t.text ≡ true → is_some (name_value (codes "States:") t.kind t.text) ≡ false → is_some (name_value (codes "Start:") t.kind t.text) ≡ false →
-    is_some (name_value (codes "AP:") t.kind t.text) ≡ false → is_some (name_value (codes "Alias:") t.kind t.text) ≡ false → is_some (name_value (codes "Acceptance:") t.kind t.text) ≡ false →
-    is_some (name_value (codes "controllable-AP:") t.kind t.text) ≡ false → is_some (name_value (codes "tool:") t.kind t.text) ≡ false → is_some (name_value (codes "name:") t.kind t.text) ≡ false → Other t
-is_other_item t e a b c d f g h i = some_unit (other_value t.kind t.text) (next i (next h (next g (next f (next d (next c (next b (next a e))))))))
-  where
-    next : {x y : Bool} → x ≡ false → (x || y) ≡ true → y ≡ true
-    next {x} {y} p q = rest x p q
-      where
-        rest : (z : Bool) → z ≡ false → (z || y) ≡ true → y ≡ true
-        rest true p q = absurd (false_true (sym p))
-        rest false p q = q
-
--- an item is never the end of the text
-item_proper : (kind : Kind) (text : List ℕ) → is_item kind text ≡ true → kind ≡ Finish → ⊥
-item_proper kind text e f = false_true (sym (ap (λ k. is_item k text) f) ∙ e)
-
--- ## The next token is a name
-
-module _ (piece : Piece Sign) (s : Stream Sign) (next : piece ≡ next_of s) where
-  pub named_at : (name : List ℕ) (r : Bool) → r ≡ is_some (name_value name piece.sign.kind piece.sign.text) → r ≡ true → Named name (next_of s).sign
-  named_at name r e h = named_first name (next_of s).sign (sym (ap (λ (p : Piece Sign). is_some (name_value name p.sign.kind p.sign.text)) next) ∙ sym e ∙ h)
-
-  pub not_named_at : (name : List ℕ) (r : Bool) → r ≡ is_some (name_value name piece.sign.kind piece.sign.text) → r ≡ false → is_some (name_value name (next_of s).sign.kind (next_of s).sign.text) ≡ false
-  not_named_at name r e h = sym (ap (λ (p : Piece Sign). is_some (name_value name p.sign.kind p.sign.text)) next) ∙ sym e ∙ h
-
--- a form of an item stands at the next sign
-pub stands_at : {V : Type 0} {P Q : Part Sign V HoaCause} (s : Stream Sign) → is_item (next_of s).sign.kind (next_of s).sign.text ≡ true → Stands (Some (next_of s).sign) P Q → Stands (next_sign s) P Q
-stands_at {P = P} {Q = Q} s e k = subst (λ there. Stands there P Q) (sym (next_there s (item_proper (next_of s).sign.kind (next_of s).sign.text e))) k
-
--- an item is entered where one begins
-pub enters_next : (h : HeaderData) (s : Stream Sign) → is_item (next_of s).sign.kind (next_of s).sign.text ≡ true → Enters (item h) (next_sign s)
-enters_next h s e = subst (Enters (item h)) (sym (next_there s (item_proper (next_of s).sign.kind (next_of s).sign.text e))) (enters_item h (next_of s).sign (first_item (next_of s).sign e))
-
-pub avoids_item : (s : Stream Sign) → is_item (next_of s).sign.kind (next_of s).sign.text ≡ false → Avoids ItemFirst (next_sign s)
-avoids_item s e t x h = no_item t (sym (ap (λ (z : Sign). is_item z.kind z.text) (next_same s t x)) ∙ e) h
-
-pub item_at : (piece : Piece Sign) (s : Stream Sign) (r b : Bool) → piece ≡ next_of s → r ≡ is_item piece.sign.kind piece.sign.text → r ≡ b → is_item (next_of s).sign.kind (next_of s).sign.text ≡ b
-item_at piece s r b next e h = sym (ap (λ (p : Piece Sign). is_item p.sign.kind p.sign.text) next) ∙ sym e ∙ h

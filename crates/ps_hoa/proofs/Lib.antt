@@ -20,6 +20,7 @@ pub mod ConditionReading
 pub mod BodyLaws
 pub mod StateLaws
 pub mod SignLaws
+pub mod ItemNames
 pub mod HeaderLaws
 pub mod ItemChoice
 pub mod FileLaws

@@ -1,11 +1,10 @@
 -- The laws of single signs of the header: names, numbers, strings and aliases.
 --     Named name      the signs that are that name; Other, those that are a name that is read over
---     FirstOf names      one of these names, or one that is read over
 --     laws_sign      a sign that is taken, or may be bad, only where its kind passes a test
 --     laws_behind_sign, joint_behind_sign      a sign and then a part
 --     laws_name, laws_int, laws_string, laws_proposition_name, laws_new_alias      the laws
---     first_apart      a name is none of those names, and is not read over
-use Rattle.std.proofs.Common.{◌≡◌, ℕ, ◌⊎◌, ◌||◌, Bool, true, false, cond, List, [], ◌∷◌, Option, None, Some, refl, sym, ap, inl, inr, ◌∙◌}
+--     other_apart      a name that has a meaning is not read over
+use Rattle.std.proofs.Common.{◌≡◌, ℕ, ◌||◌, Bool, true, false, cond, List, [], Option, None, Some, refl, sym, ap, inl, inr, ◌∙◌}
 use Rattle.std.specs.Str.{bytes_eq}
 use Rattle.std.proofs.lemmas.Slice.Eq.{bytes_eq-Decides}
 use Rattle.ps_text.specs.Parts.{Part, NoBad, one, then_by}
@@ -15,7 +14,7 @@ use Rattle.ps_text.proofs.Simple.{Taken, BadSign, none_is_some, laws_one, laws_m
 use Rattle.ps_hoa.specs.Tokens.{Sign}
 use Rattle.ps_hoa.specs.Causes.{begins_capital, is_spelled, is_unknown_capital, own_cause}
 use Rattle.ps_hoa.specs.Operands.{is_and}
-use Rattle.ps_hoa.specs.Header.{HeaderData, name_value, item_name, int_value, int_in, IsAbove, int, string_value, string_in, string, IsBadName, with_name, proposition_name, alias_value, IsBadAlias, other_value, is_name_among}
+use Rattle.ps_hoa.specs.Header.{HeaderData, name_value, item_name, int_value, int_in, IsAbove, int, string_value, string_in, string, IsBadName, with_name, proposition_name, alias_value, IsBadAlias, other_value}
 use Rattle.ps_hoa.specs.declared.fault.HoaCause.{HoaCause}
 use Rattle.ps_hoa.specs.declared.fault.HoaCause.TheVariants.{UnknownHeader}
 use Rattle.ps_hoa.specs.declared.tokens.Kind.{Kind}
@@ -112,10 +111,6 @@ Named name sign = name_value name sign.kind sign.text ≡ Some tt
 abbrev pub Other : Sign → Type 0
 Other sign = other_value sign.kind sign.text ≡ Some tt
 
-abbrev pub FirstOf : List (List ℕ) → Sign → Type 0
-FirstOf [] sign = Other sign
-FirstOf (name ∷ names) sign = Named name sign ⊎ FirstOf names sign
-
 was_true : (b : Bool) (v : Unit {0}) → cond b (Some tt) None ≡ Some v → b ≡ true
 was_true true v e = refl
 was_true false v e = absurd (none_is_some v e)
@@ -163,24 +158,10 @@ laws_name name e = weaker (laws_one (λ s. name_value name s.kind s.text) NoBad 
     first t (inl h) = h.1
     first t (inr h) = absurd h.1
 
--- two names differ
-pub names_apart : (a b : List ℕ) → bytes_eq a b ≡ false → Apart (Named a) (Named b)
-names_apart a b e t h k = false_true (sym e ∙ (bytes_eq-Decides a b).1 (sym (named_text a t.kind t.text h).1 ∙ (named_text b t.kind t.text k).1))
-
-other_apart : (name : List ℕ) → other_value Header name ≡ None → Apart (Named name) Other
+-- a name that is read over is none that has a meaning
+pub other_apart : (name : List ℕ) → other_value Header name ≡ None → Apart (Named name) Other
 other_apart name e t h k = let p = named_text name t.kind t.text h in
     none_is_some tt (sym e ∙ ap (λ z. other_value Header z) (sym p.1) ∙ ap (λ z. other_value z t.text) (sym p.0) ∙ k)
-
--- a name is none of these, and is not read over
-pub first_apart : (name : List ℕ) (names : List (List ℕ)) → other_value Header name ≡ None → is_name_among name names ≡ false → Apart (Named name) (FirstOf names)
-first_apart name [] e f t h k = other_apart name e t h k
-first_apart name (other ∷ names) e f t h k = go (bytes_eq name other) refl f (λ m. first_apart name names e m t h) k
-  where
-    go : (b : Bool) → bytes_eq name other ≡ b → cond b true (is_name_among name names) ≡ false → (is_name_among name names ≡ false → FirstOf names t → ⊥) →
-        Named other t ⊎ FirstOf names t → ⊥
-    go true p f rest k = false_true (sym f)
-    go false p f rest (inl k) = names_apart name other p t h k
-    go false p f rest (inr k) = rest f k
 
 -- ## Numbers, strings and aliases
 

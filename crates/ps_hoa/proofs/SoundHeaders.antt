@@ -7,7 +7,9 @@ use Rattle.std.proofs.Math.Decide.{dec_lt}
 use Rattle.ps_label.specs.Expression.{Expression}
 use Rattle.ps_text.specs.Parts.{one, times, many, barred}
 use Rattle.ps_text.proofs.Simple.{none_is_some, same_some}
-use Rattle.ps_hoa.specs.Header.{HeaderData, no_items, names_of, state_limit, proposition_limit, alias_limit, set_limit, item_name, int_in, IsAbove, int, string, with_states, states_item, IsAlternating, is_name_among, with_start, start_item, string_in, IsBadName, with_name, proposition_name, with_names, names_item, alias_value, IsBadAlias, header_scope, with_alias, alias_item, with_acceptance, acceptance_item, index, with_controllable, controllable_item, unchanged, tool_item, name_item, read_over_value, read_over, item, AnAliasBeyond, IsBadHeader, out_of_range, body_value, IsBadBody, body_mark, header}
+use Rattle.ps_hoa.specs.Header.{HeaderData, no_items, names_of, state_limit, proposition_limit, alias_limit, set_limit, item_name, int_in, IsAbove, int, string, with_states, states_item, IsAlternating, is_name_among, with_start, start_item, string_in, IsBadName, with_name, proposition_name, with_names, names_item, alias_value, IsBadAlias, header_scope, with_alias, alias_item, with_acceptance, acceptance_item, index, with_controllable, controllable_item, unchanged, tool_item, name_item, read_over_value, read_over, form_of, item, AnAliasBeyond, IsBadHeader, out_of_range, body_value, IsBadBody, body_mark, header}
+use Rattle.ps_hoa.specs.ItemNames as items
+use Rattle.ps_hoa.specs.ItemNames.{ItemName}
 use Rattle.ps_hoa.specs.Labels.{label}
 use Rattle.ps_hoa.specs.Conditions.{condition}
 use Rattle.ps_hoa.specs.Operands.{number_limit, nesting_limit}
@@ -24,7 +26,7 @@ use Rattle.ps_hoa.specs.Sound.{AreDifferent, AreAliases, AreNames}
 use Rattle.ps_hoa.specs.Header.{kept}
 use Rattle.ps_hoa.proofs.Places.{different_kept}
 use Rattle.ps_hoa.proofs.OperandLaws.{false_true}
-use Rattle.ps_hoa.proofs.Keeping.{Keeps, keeps_nothing, keeps_less, keeps_give, keeps_one, keeps_then, keeps_either, keeps_mapped, keeps_times, keeps_many}
+use Rattle.ps_hoa.proofs.Keeping.{Keeps, keeps_nothing, keeps_less, keeps_give, keeps_one, keeps_then, keeps_either, keeps_choice, keeps_mapped, keeps_times, keeps_many}
 use Rattle.ps_hoa.proofs.SoundLabels.{NamesBelow, label_from, keeps_label}
 use Rattle.ps_hoa.proofs.HeaderLaws.{start_name, other_name}
 
@@ -182,10 +184,19 @@ same_value h g kind e = absurd (none_is_some g e)
 keeps_read_over : (h : HeaderData) → Kept h → Keeps (read_over h) Kept
 keeps_read_over h k = keeps_one Kept (λ s. read_over_value h s.kind) (IsAbove number_limit) (λ t g e good. subst Kept (same_value h g t.kind e) k)
 
+keeps_form : (h : HeaderData) → Kept h → (name : ItemName) → Keeps (form_of h name) Kept
+keeps_form h k items.states = keeps_states h k
+keeps_form h k items.start = keeps_start h k
+keeps_form h k items.propositions = keeps_names h k
+keeps_form h k items.alias = keeps_alias h k
+keeps_form h k items.acceptance = keeps_acceptance h k
+keeps_form h k items.controllable = keeps_controllable h k
+keeps_form h k items.tool = keeps_tool h k
+keeps_form h k items.name = keeps_name h k
+keeps_form h k items.other = keeps_then (keeps_nothing other_name) (λ _ _. keeps_many read_over keeps_read_over h k)
+
 keeps_item : (h : HeaderData) → Kept h → Keeps (item h) Kept
-keeps_item h k = keeps_either (keeps_states h k) (keeps_either (keeps_start h k) (keeps_either (keeps_names h k) (keeps_either (keeps_alias h k) (keeps_either (keeps_acceptance h k)
-    (keeps_either (keeps_controllable h k) (keeps_either (keeps_tool h k) (keeps_either (keeps_name h k)
-    (keeps_then (keeps_nothing other_name) (λ _ _. keeps_many read_over keeps_read_over h k)))))))))
+keeps_item h k = keeps_choice (form_of h) (keeps_form h k)
 
 -- ## The header
 

@@ -4,7 +4,8 @@
 --            | HEADERNAME (BOOLEAN | INT | STRING | IDENTIFIER)*
 -- Items stand in any order, an alias before its use.
 --     HeaderData      what the items so far say
---     item h      one more item, behind those that say h
+--     form_of h name      what stands at that name, behind items that say h
+--     item h      one more item
 --     header      all items, and `--BODY--`
 use Rattle.std.specs.Prelude.{◌≡◌, ◌≢◌, ℕ, ◌<◌, ◌≤◌, ◌⊎◌, ◌||◌, Bool, true, false, List, [], ◌∷◌, ◌++◌, length, drop, codes, if◌then◌else◌, nat_eq, nat_lt, Option, None, Some, IfSome}
 use Rattle.std.specs.Str.{bytes_eq}
@@ -12,6 +13,7 @@ use Rattle.std.specs.Option.{unwrap_or}
 use Rattle.ps_label.specs.Expression.{Expression, constant, proposition, alias, not_of, all_of, any_of, Operands, last, more}
 use Rattle.ps_text.specs.Digits.{decimal_value}
 use Rattle.ps_text.specs.Parts.{Part, NoBad, give, one, then_by, either, times, many, mapped, barred}
+use Rattle.ps_text.specs.Choices.{choice}
 use Rattle.ps_hoa.specs.Tokens.{Sign}
 use Rattle.ps_hoa.specs.Causes.{begins_capital, is_spelled}
 use Rattle.ps_hoa.specs.Operands.{number_limit, nesting_limit}
@@ -19,6 +21,8 @@ use Rattle.ps_hoa.specs.Labels as labels
 use Rattle.ps_hoa.specs.Labels.{ScopeData}
 use Rattle.ps_hoa.specs.Conditions as conditions
 use Rattle.ps_hoa.specs.Conditions.{Condition, Conditions}
+use Rattle.ps_hoa.specs.ItemNames as items
+use Rattle.ps_hoa.specs.ItemNames.{ItemName}
 use Rattle.ps_hoa.specs.declared.fault.HoaCause.{HoaCause}
 use Rattle.ps_hoa.specs.declared.fault.HoaCause.TheVariants as causes
 use Rattle.ps_hoa.specs.declared.tokens.Kind.{Kind}
@@ -236,9 +240,19 @@ read_over h = one (λ s. read_over_value h s.kind) (IsAbove number_limit)
 abbrev pub other_item : HeaderData → Part Sign HeaderData HoaCause
 other_item h = then_by (one (λ s. other_value s.kind s.text) NoBad) (λ _. many read_over h)
 
+abbrev pub form_of : HeaderData → ItemName → Part Sign HeaderData HoaCause
+form_of h items.states = states_item h
+form_of h items.start = start_item h
+form_of h items.propositions = names_item h
+form_of h items.alias = alias_item h
+form_of h items.acceptance = acceptance_item h
+form_of h items.controllable = controllable_item h
+form_of h items.tool = tool_item h
+form_of h items.name = name_item h
+form_of h items.other = other_item h
+
 abbrev pub item : HeaderData → Part Sign HeaderData HoaCause
-item h = either (states_item h) (either (start_item h) (either (names_item h) (either (alias_item h) (either (acceptance_item h)
-    (either (controllable_item h) (either (tool_item h) (either (name_item h) (other_item h))))))))
+item h = choice (form_of h)
 
 -- ## `--BODY--`, where the whole header is checked
 

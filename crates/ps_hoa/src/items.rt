@@ -1,16 +1,15 @@
 //! The items of a header.
 
-ghost use Rattle.std.specs.Prelude.{◌≡◌, [], None, is_some, true};
+ghost use Rattle.std.specs.Prelude.{◌≡◌, [], None, is_some, option_map, true};
 ghost use Rattle.ps_label.specs.Expression.{expression};
 ghost use Rattle.ps_text.specs.Parts.{one, many};
 ghost use Rattle.ps_hoa.specs.Flaws.{body_in};
 ghost use Rattle.ps_hoa.specs.Header as parts;
 ghost use Rattle.ps_hoa.specs.Header.{header as header_part, no_items};
-ghost use Rattle.ps_hoa.specs.Items.{is_item as is_item_sign, start_name_in};
+ghost use Rattle.ps_hoa.specs.Items.{item_at as item_at_sign, item_name_of, start_name_in};
 ghost use Rattle.ps_hoa.specs.Labels as labels;
 ghost use Rattle.ps_hoa.specs.Operands.{nesting_limit};
 ghost use Rattle.ps_hoa.specs.Reads.{Reads, Takes};
-ghost use Rattle.ps_hoa.specs.Scan.{next_of, stream_of};
 ghost use Rattle.ps_hoa.specs.Spans.{piece_of};
 ghost use Rattle.ps_hoa.specs.Views.{header_data};
 
@@ -37,6 +36,20 @@ const PROPOSITION_LIMIT: u32 = 64;
 
 /// and as many acceptance sets.
 const SET_LIMIT: u32 = 64;
+
+/// The items of a header: those that have a meaning here, and all others.
+#[derive(Clone, Copy)]
+enum Item {
+    States,
+    Start,
+    Propositions,
+    Alias,
+    Acceptance,
+    Controllable,
+    Tool,
+    Name,
+    Other,
+}
 
 /// Reads a header, up to `--BODY--`.
 pub(crate) fn header<'a>(alloc: Global, tokens: &mut Tokens<'a>) -> Result<Header<'a>, HoaFault>
@@ -73,51 +86,58 @@ pub(crate) fn items<'a>(alloc: Global, tokens: &mut Tokens<'a>) -> Result<Header
     ensures { Reads header_data (many parts.item no_items) tokens.old result tokens.new }
 {
     let mut header = Header::new(alloc);
-    'items: while is_item(tokens.peek()) {
-        item(alloc, tokens, &mut header)?;
+    'items: while let Some(item) = item_at(tokens.peek()) {
+        read_item(alloc, tokens, item, &mut header)?;
     }
     Ok(header)
 }
 
-/// Whether an item begins with a token.
-fn is_item(token: Token) -> bool
-    ensures { result ≡ is_item_sign token.entry.kind token.entry.text.now }
+/// Which item begins with a token.
+fn item_at(token: Token) -> Option<Item>
+    ensures { option_map item_name_of result ≡ item_at_sign (piece_of token.entry).sign }
 {
-    is_item_name(token, b"States:")
-        || is_item_name(token, b"Start:")
-        || is_item_name(token, b"AP:")
-        || is_item_name(token, b"Alias:")
-        || is_item_name(token, b"Acceptance:")
-        || is_item_name(token, b"controllable-AP:")
-        || is_item_name(token, b"tool:")
-        || is_item_name(token, b"name:")
-        || is_other(token)
+    if is_item_name(token, b"States:") {
+        Some(Item::States)
+    } else if is_item_name(token, b"Start:") {
+        Some(Item::Start)
+    } else if is_item_name(token, b"AP:") {
+        Some(Item::Propositions)
+    } else if is_item_name(token, b"Alias:") {
+        Some(Item::Alias)
+    } else if is_item_name(token, b"Acceptance:") {
+        Some(Item::Acceptance)
+    } else if is_item_name(token, b"controllable-AP:") {
+        Some(Item::Controllable)
+    } else if is_item_name(token, b"tool:") {
+        Some(Item::Tool)
+    } else if is_item_name(token, b"name:") {
+        Some(Item::Name)
+    } else if is_other(token) {
+        Some(Item::Other)
+    } else {
+        None
+    }
 }
 
-/// Reads one more item.
-fn item<'a>(alloc: Global, tokens: &mut Tokens<'a>, header: &mut Header<'a>) -> Result<(), HoaFault>
-    requires { let next = (next_of (stream_of tokens.old)).sign in is_item_sign next.kind next.text ≡ true }
-    ensures { Reads (λ _. header_data header.new) (parts.item (header_data header.old)) tokens.old result tokens.new }
+/// Reads one more item, of those that begin with its name.
+fn read_item<'a>(
+    alloc: Global,
+    tokens: &mut Tokens<'a>,
+    item: Item,
+    header: &mut Header<'a>,
+) -> Result<(), HoaFault>
+    ensures { Reads (λ _. header_data header.new) (parts.form_of (header_data header.old) (item_name_of item)) tokens.old result tokens.new }
 {
-    let token = tokens.peek();
-    if is_item_name(token, b"States:") {
-        states(tokens, header)
-    } else if is_item_name(token, b"Start:") {
-        start(tokens, header)
-    } else if is_item_name(token, b"AP:") {
-        names(alloc, tokens, header)
-    } else if is_item_name(token, b"Alias:") {
-        alias(alloc, tokens, header)
-    } else if is_item_name(token, b"Acceptance:") {
-        acceptance(alloc, tokens, header)
-    } else if is_item_name(token, b"controllable-AP:") {
-        controllable(alloc, tokens, header)
-    } else if is_item_name(token, b"tool:") {
-        tool(tokens)
-    } else if is_item_name(token, b"name:") {
-        name(tokens)
-    } else {
-        other(tokens)
+    match item {
+        Item::States => states(tokens, header),
+        Item::Start => start(tokens, header),
+        Item::Propositions => names(alloc, tokens, header),
+        Item::Alias => alias(alloc, tokens, header),
+        Item::Acceptance => acceptance(alloc, tokens, header),
+        Item::Controllable => controllable(alloc, tokens, header),
+        Item::Tool => tool(tokens),
+        Item::Name => name(tokens),
+        Item::Other => other(tokens),
     }
 }
 

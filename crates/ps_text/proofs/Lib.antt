@@ -9,6 +9,7 @@ pub mod Covered
 pub mod Repeated
 pub mod Whole
 pub mod Branches
+pub mod Choices
 pub mod Barred
 pub mod OneTokenisation
 pub mod LeadingDigits

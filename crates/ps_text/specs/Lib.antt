@@ -1,6 +1,7 @@
 pub mod Answers
 pub mod Faults
 pub mod Parts
+pub mod Choices
 pub mod Readers
 pub mod Digits
 pub mod Tokens
