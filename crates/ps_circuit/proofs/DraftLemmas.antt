@@ -8,9 +8,9 @@ use Rattle.std.proofs.lemmas.Result.{err_from_is_err_and}
 use Rattle.std.proofs.lemmas.List.Elements.{All-map}
 use Rattle.ps_text.specs.Answers.{Piece, Stream, Found, signs, first_of, next_of}
 use Rattle.ps_text.specs.Parts.{PartAnswers, then_by, times, many, mapped}
-use Rattle.ps_text.specs.Readers.{IsSuffix, Reads as ReadsPart, Stops}
+use Rattle.ps_text.specs.Readers.{Reads as ReadsPart, Stops, Carries}
 use Rattle.ps_text.proofs.Laws.{Joint}
-use Rattle.ps_text.proofs.Exits.{reads_mapped, reads_then, stops_first, stops_behind}
+use Rattle.ps_text.proofs.Exits.{reads_mapped, stops_first, carries_start, carries_reads, carries_stops, carries_then}
 use Rattle.ps_text.proofs.Whole.{answers_ok, answers_fault, answers_trailing}
 use Rattle.ps_circuit.specs.declared.cursor.Number.{Number}
 use Rattle.ps_circuit.specs.declared.reader.Draft.{Draft}
@@ -26,7 +26,7 @@ use Rattle.ps_text.specs.declared.faults.Fault.TheVariants.{Text, OutOfMemory}
 use Rattle.ps_components.specs.Graphs.{Way}
 use Rattle.ps_circuit.specs.Circuits.{CircuitData, readings, IsName, IsDraft, IsCircuit, Reads as ReadsGate}
 use Rattle.ps_circuit.specs.Signs.{Seen, Field, aig_causes, stream_of}
-use Rattle.ps_circuit.specs.Cursors.{next_byte, place_of, found_of}
+use Rattle.ps_circuit.specs.Cursors.{next_byte, place_of, found_of, saturated}
 use Rattle.ps_circuit.specs.Texts.{HeaderData, header, Lines, no_lines, next_lines, input_line, latch_line, output_line, gate_line, NamesData, no_names, symbol_line, comment, DraftData, draft_of as drafted, symbols, body, circuit_text, IsDefined, refused, undefined, cyclic, meaning, IsAnswer}
 use Rattle.ps_circuit.specs.Reading.{Defines, IsKnownIn, AddsInput, AddsLatch, AddsOutput, AddsGate, Grown, none, more, IsSoundDraft, FoundAnswers, TellsDraft, TellsDefined, TellsCyclic}
 use Rattle.ps_circuit.proofs.ReadingLemmas.{defines_none, defines_more, defines_mapped, reads_more, reads_gate, draft_of}
@@ -166,81 +166,69 @@ text_trails text new d b e m n is = subst (λ x. FoundAnswers text (found_of x))
 
 -- ## The parts of the text, one behind another
 
-pub no_lines_at : {A : Type 0} (defined : List ℕ) (readings : List Number) (starts : List ℕ) → defined ≡ [] → readings ≡ [] → starts ≡ [] → ◌≡◌ {A = Lines A} (record { items = []; defined = defined; readings = readings; starts = starts }) no_lines
-no_lines_at {A} defined readings starts e f g = ap₂ (λ (x : List ℕ) (y : List Number). lines x y starts) e f ∙ ap (lines [] []) g
-  where
-    lines : List ℕ → List Number → List ℕ → Lines A
-    lines x y z = record { items = []; defined = x; readings = y; starts = z }
+-- what is left is read from here, and reading it gives what reading the text from its start gives
+pub record Reached (start now : Stream Seen) (left : Field DraftData) : Type 0 where
+  pub carries : Carries aig_causes circuit_text start left now
+  pub short : length now.pieces ≤ 2 ^ 63
 
-suffix_short : (old new : Stream Seen) (n : ℕ) → IsSuffix old new → length old.pieces ≤ n → length new.pieces ≤ n
-suffix_short old new n x l = omega (arith, ap length x.split, length-append x.taken new.pieces, l)
+module _ {A : Type 0} {P : Field A} {Q : A → Field DraftData} (j : Joint P Q) {start now : Stream Seen} (r : Reached start now (then_by P Q)) where
+  reads_on : (a : A) (next : Stream Seen) → ReadsPart P now a next → Reached start next (Q a)
+  reads_on a next m = record {
+    carries = carries_then aig_causes j r.carries m;
+    short = omega (arith, ap length m.0.split, length-append m.0.taken next.pieces, r.short);
+  }
 
-pub reads_short : {V : Type 0} (P : Field V) (old new : Stream Seen) (v : V) → ReadsPart P old v new → length old.pieces ≤ 2 ^ 63 → length new.pieces ≤ 2 ^ 63
-reads_short P old new v m l = suffix_short old new (2 ^ 63) m.0 l
+  fails_there : (o : Option (Found AigCause)) → Stops aig_causes P now o → Stops aig_causes circuit_text start o
+  fails_there o m = carries_stops aig_causes circuit_text (then_by P Q) start now o r.carries (stops_first aig_causes j now o m)
 
--- the header, with the greatest variable as the code has it
-pub header_reads : (start s1 : Stream Seen) (most : ℕ) (d : HeaderData) → most ≡ d.most → ReadsPart header start d s1
-    → ReadsPart header start (record { most = most; inputs = d.inputs; latches = d.latches; outputs = d.outputs; gates = d.gates }) s1
-header_reads start s1 most d e m = value_is header start s1 d (record { most = most; inputs = d.inputs; latches = d.latches; outputs = d.outputs; gates = d.gates })
-    (ap (λ k. record { most = k; inputs = d.inputs; latches = d.latches; outputs = d.outputs; gates = d.gates }) (sym e)) m
+-- the numbers of the first line, with the greatest variable as the code has it
+abbrev pub numbers : ℕ → HeaderData → HeaderData
+numbers most d = record { most = most; inputs = d.inputs; latches = d.latches; outputs = d.outputs; gates = d.gates }
+
+module _ (h : HeaderData) where
+  pub joint_inputs : Joint (times h.inputs (input_line h.most) no_lines) (body_latches h)
+  joint_inputs = joint_lines (laws_input_line h.most) h.inputs no_lines (laws_body_latches h)
+
+  pub joint_latches : (i : Lines ℕ) → Joint (times h.latches (latch_line h.most) (next_lines i)) (body_outputs h i)
+  joint_latches i = joint_lines (laws_latch_line h.most) h.latches (next_lines i) (laws_body_outputs h i)
+
+  pub joint_outputs : (i : Lines ℕ) (l : Lines Latch) → Joint (times h.outputs (output_line h.most) (next_lines l)) (body_gates h i l)
+  joint_outputs i l = joint_lines (laws_output_line h.most) h.outputs (next_lines l) (laws_body_gates h i l)
+
+  pub joint_gates : (i : Lines ℕ) (l : Lines Latch) (u : Lines ℕ) → Joint (times h.gates (gate_line h.most) (next_lines u)) (λ a. symbols h.most i l u a)
+  joint_gates i l u = joint_lines (laws_gate_line h.most) h.gates (next_lines u) (laws_behind_gates h i l u)
 
 pub header_fails : (start : Stream Seen) (o : Option (Found AigCause)) → Stops aig_causes header start o → Stops aig_causes circuit_text start o
 unfolding circuit_text
 header_fails start o m = stops_first aig_causes joint_text start o m
 
-module _ (start : Stream Seen) (h : HeaderData) (s1 : Stream Seen) (m1 : ReadsPart header start h s1) (c0 : Lines ℕ) (e0 : c0 ≡ no_lines) where
-  body_fails : (o : Option (Found AigCause)) → Stops aig_causes (body h) s1 o → Stops aig_causes circuit_text start o
-  unfolding circuit_text
-  body_fails o m = stops_behind aig_causes joint_text m1 o m
+pub past_header : (start next : Stream Seen) (most : ℕ) (d : HeaderData) → most ≡ d.most → length start.pieces ≤ 2 ^ 63 → ReadsPart header start d next
+    → Reached start next (then_by (times d.inputs (input_line most) no_lines) (body_latches (numbers most d)))
+unfolding circuit_text body
+past_header start next most d e short m =
+    reads_on joint_text (record { carries = carries_start aig_causes circuit_text start; short = short }) (numbers most d) next
+    (value_is header start next d (numbers most d) (ap (λ k. numbers k d) (sym e)) m)
 
-  abbrev joint_inputs : Joint (times h.inputs (input_line h.most) no_lines) (body_latches h)
-  joint_inputs = joint_lines (laws_input_line h.most) h.inputs no_lines (laws_body_latches h)
+-- the lines of one kind, as the code counts them, behind what it has noted
+module _ {A : Type 0} (item : Lines A → Field (Lines A)) (n count : ℕ) (e : count ≡ saturated n) (c d : Lines A) (is : d ≡ c)
+    {Q : Lines A → Field DraftData} (j : Joint (times n item c) Q) {start now : Stream Seen} (r : Reached start now (then_by (times n item c) Q)) where
+  pub past_lines : (a : Lines A) (next : Stream Seen) → ((k : ℕ) → count ≡ saturated k → length now.pieces ≤ 2 ^ 63 → ReadsPart (times k item d) now a next) → Reached start next (Q a)
+  past_lines a next m = reads_on j r a next (subst (λ x. ReadsPart (times n item x) now a next) is (m n e r.short))
 
-  pub inputs_fail : (o : Option (Found AigCause)) → Stops aig_causes (times h.inputs (input_line h.most) c0) s1 o → Stops aig_causes circuit_text start o
-  unfolding body
-  inputs_fail o m = body_fails o (stops_first aig_causes joint_inputs s1 o (subst (λ c. Stops aig_causes (times h.inputs (input_line h.most) c) s1 o) e0 m))
+  pub lines_fail : (o : Option (Found AigCause)) → ((k : ℕ) → count ≡ saturated k → length now.pieces ≤ 2 ^ 63 → Stops aig_causes (times k item d) now o) → Stops aig_causes circuit_text start o
+  lines_fail o m = fails_there j r o (subst (λ x. Stops aig_causes (times n item x) now o) is (m n e r.short))
 
-  module _ (i : Lines ℕ) (s2 : Stream Seen) (m2 : ReadsPart (times h.inputs (input_line h.most) c0) s1 i s2) where
-    read_2 : ReadsPart (times h.inputs (input_line h.most) no_lines) s1 i s2
-    read_2 = subst (λ c. ReadsPart (times h.inputs (input_line h.most) c) s1 i s2) e0 m2
+-- the names, and the comment behind them
+module _ (most : ℕ) (i : Lines ℕ) (l : Lines Latch) (u : Lines ℕ) (a : Lines Gate) {start now : Stream Seen} (r : Reached start now (symbols most i l u a)) (n0 : NamesData) (en : n0 ≡ first_names most i l u a) where
+  pub symbols_fail : (o : Option (Found AigCause)) → Stops aig_causes (many symbol_line n0) now o → Stops aig_causes circuit_text start o
+  unfolding symbols
+  symbols_fail o m = fails_there (joint_symbols most i l u a) r o (subst (λ n. Stops aig_causes (many symbol_line n) now o) en m)
 
-    fails_2 : (o : Option (Found AigCause)) → Stops aig_causes (body_latches h i) s2 o → Stops aig_causes circuit_text start o
-    unfolding body
-    fails_2 o m = body_fails o (stops_behind aig_causes joint_inputs read_2 o m)
-
-    abbrev joint_latches : Joint (times h.latches (latch_line h.most) (next_lines i)) (body_outputs h i)
-    joint_latches = joint_lines (laws_latch_line h.most) h.latches (next_lines i) (laws_body_outputs h i)
-
-    pub latches_fail : (o : Option (Found AigCause)) → Stops aig_causes (times h.latches (latch_line h.most) (next_lines i)) s2 o → Stops aig_causes circuit_text start o
-    latches_fail o m = fails_2 o (stops_first aig_causes joint_latches s2 o m)
-
-    module _ (l : Lines Latch) (s3 : Stream Seen) (m3 : ReadsPart (times h.latches (latch_line h.most) (next_lines i)) s2 l s3) where
-      abbrev joint_outputs : Joint (times h.outputs (output_line h.most) (next_lines l)) (body_gates h i l)
-      joint_outputs = joint_lines (laws_output_line h.most) h.outputs (next_lines l) (laws_body_gates h i l)
-
-      pub outputs_fail : (o : Option (Found AigCause)) → Stops aig_causes (times h.outputs (output_line h.most) (next_lines l)) s3 o → Stops aig_causes circuit_text start o
-      outputs_fail o m = fails_2 o (stops_behind aig_causes joint_latches m3 o (stops_first aig_causes joint_outputs s3 o m))
-
-      module _ (u : Lines ℕ) (s4 : Stream Seen) (m4 : ReadsPart (times h.outputs (output_line h.most) (next_lines l)) s3 u s4) where
-        abbrev joint_gates : Joint (times h.gates (gate_line h.most) (next_lines u)) (λ a. symbols h.most i l u a)
-        joint_gates = joint_lines (laws_gate_line h.most) h.gates (next_lines u) (laws_behind_gates h i l u)
-
-        pub gates_fail : (o : Option (Found AigCause)) → Stops aig_causes (times h.gates (gate_line h.most) (next_lines u)) s4 o → Stops aig_causes circuit_text start o
-        gates_fail o m = fails_2 o (stops_behind aig_causes joint_latches m3 o (stops_behind aig_causes joint_outputs m4 o (stops_first aig_causes joint_gates s4 o m)))
-
-        module _ (a : Lines Gate) (s5 : Stream Seen) (m5 : ReadsPart (times h.gates (gate_line h.most) (next_lines u)) s4 a s5) (n0 : NamesData) (en : n0 ≡ first_names h.most i l u a) where
-          fails_5 : (o : Option (Found AigCause)) → Stops aig_causes (symbols h.most i l u a) s5 o → Stops aig_causes circuit_text start o
-          fails_5 o m = fails_2 o (stops_behind aig_causes joint_latches m3 o (stops_behind aig_causes joint_outputs m4 o (stops_behind aig_causes joint_gates m5 o m)))
-
-          pub symbols_fail : (o : Option (Found AigCause)) → Stops aig_causes (many symbol_line n0) s5 o → Stops aig_causes circuit_text start o
-          unfolding symbols
-          symbols_fail o m = fails_5 o (stops_first aig_causes (joint_symbols h.most i l u a) s5 o (subst (λ n. Stops aig_causes (many symbol_line n) s5 o) en m))
-
-          pub all_reads : (names : NamesData) (s6 s7 : Stream Seen) → ReadsPart (many symbol_line n0) s5 names s6 → ReadsPart comment s6 tt s7 → ReadsPart circuit_text start (drafted h.most i l u a names) s7
-          unfolding circuit_text body symbols
-          all_reads names s6 s7 m6 m7 =
-              reads_then joint_text m1 (reads_then joint_inputs read_2 (reads_then joint_latches m3 (reads_then joint_outputs m4 (reads_then joint_gates m5
-              (reads_then (joint_symbols h.most i l u a) (subst (λ n. ReadsPart (many symbol_line n) s5 names s6) en m6) (reads_mapped (λ _. drafted h.most i l u a names) m7))))))
+  pub all_reads : (names : NamesData) (next last : Stream Seen) → ReadsPart (many symbol_line n0) now names next → ReadsPart comment next tt last → ReadsPart circuit_text start (drafted most i l u a names) last
+  unfolding symbols
+  all_reads names next last m k =
+      carries_reads aig_causes (reads_on (joint_symbols most i l u a) r names next (subst (λ n. ReadsPart (many symbol_line n) now names next) en m)).carries
+      (reads_mapped (λ _. drafted most i l u a names) k)
 
 -- ## The answer
 

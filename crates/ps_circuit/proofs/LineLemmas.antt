@@ -1,14 +1,14 @@
 -- The number lines of a text: how they are read, and how they fail.
 --     Lining      the invariant of a loop over the lines of one kind
-use Rattle.std.proofs.Common.{◌≡◌, ℕ, ◌+◌, ◌-◌, ◌*◌, ◌^◌, ◌<◌, ◌≤◌, Bool, true, false, eqb, List, [], ◌∷◌, ◌++◌, length, Option, Ok, Err, Contains, refl, sym, ap₂, subst, inl, inr, arith}
+use Rattle.std.proofs.Common.{◌≡◌, ℕ, zero, suc, ◌+◌, ◌-◌, ◌*◌, ◌^◌, ◌<◌, ◌≤◌, Bool, true, false, eqb, List, [], ◌∷◌, ◌++◌, length, Option, Result, Ok, Err, Contains, refl, sym, ap₂, subst, inl, inr, arith}
 use Rattle.ps_text.specs.Answers.{Stream, Found}
 use Rattle.ps_text.specs.Parts.{IsRead, give, then_by, times, mapped}
-use Rattle.ps_text.specs.Readers.{Reads, Stops, Carries}
+use Rattle.ps_text.specs.Readers.{Reads, Stops, Goes, Carries}
 use Rattle.ps_text.proofs.Laws.{Laws, Joint}
 use Rattle.ps_text.proofs.Joined.{joint}
 use Rattle.ps_text.specs.Answers.{signs}
 use Rattle.ps_text.proofs.Exits.{reads_give, reads_mapped, reads_then, stops_mapped, stops_first, stops_behind}
-use Rattle.ps_text.proofs.Branches.{reads_shrinks, times_ends, times_fails, carries_times}
+use Rattle.ps_text.proofs.Branches.{reads_shrinks, times_reads, times_fails, times_fails_later}
 use Rattle.ps_circuit.specs.declared.cursor.Number.{Number}
 use Rattle.ps_circuit.specs.declared.parts.Latch.{Latch}
 use Rattle.ps_circuit.specs.declared.parts.Gate.{Gate}
@@ -21,7 +21,7 @@ use Rattle.ps_circuit.specs.Circuits.{variable, IsDefinition}
 use Rattle.ps_circuit.specs.Signs.{Seen, Field, aig_causes, number, line_end, more, by_more}
 use Rattle.ps_circuit.specs.Cursors.{found_of, saturated, NumberIs}
 use Rattle.ps_circuit.specs.Texts.{WrongLiteral, WrongDefinition, WrongReset, field, Lines, add_input, add_latch, add_output, add_gate, input_line, reset, latch_line, output_line, gate_line}
-use Rattle.ps_circuit.specs.Reading.{AddsVariable, Grown, none, more as grow, TellsField}
+use Rattle.ps_circuit.specs.Reading.{AddsVariable, Grown, none, more as grow, IsRow, TellsField}
 use Rattle.ps_circuit.proofs.Runs.{Odd}
 use Rattle.ps_circuit.proofs.TextLaws.{AtDigit, Separates, digit_separates, separates_digit, laws_number, laws_field, laws_line_end, laws_ended, joint_by_more, laws_reset_value, is_one, latch_next, latch_end, laws_latch_next, laws_latch_end, gate_first, gate_second, laws_gate_first, laws_gate_second}
 use Rattle.ps_circuit.proofs.NumberLemmas.{number_small, number_wrong, field_reads, field_fails}
@@ -250,9 +250,16 @@ pub record Lining {C : Type 0} (item : C → Field C) (Adds : C → C → Type 0
   pub fewer : i + length now.pieces ≤ length start.pieces
   pub grown : Grown Adds c d
 
-module _ {C : Type 0} (item : C → Field C) (Adds : C → C → Type 0) (l : (c : C) → Laws Odd (item c) AtDigit Separates ⊥) (count : ℕ) (start : Stream Seen) (c : C) where
-  pub lining_start : Lining item Adds count 0 start start c c
-  lining_start = record { carries = λ n e r new m. subst (λ k. Rattle.ps_text.specs.Readers.Goes aig_causes (times k item c) start r new) (same n) m; fewer = omega arith; grown = none }
+pub is_row : {C : Type 0} (item : C → Field C) → ((c : C) → Laws Odd (item c) AtDigit Separates ⊥) → IsRow item
+is_row {C} item l = record { takes = λ c d old new m. reads_shrinks (λ w h. (l c).null w h) m; goes_on = go; fails = times_fails item l separates_digit aig_causes }
+  where
+    go : (n : ℕ) (c d : C) (old mid new : Stream Seen) (r : Result C (Option (Found AigCause))) → 0 < n → Reads (item c) old d mid → Goes aig_causes (times (n - 1) item d) mid r new → Goes aig_causes (times n item c) old r new
+    go n c d old mid new (Ok e) z m k = times_reads item l separates_digit n z m k
+    go n c d old mid new (Err o) z m k = times_fails_later item l separates_digit aig_causes n o z m k
+
+module _ {C : Type 0} (item : C → Field C) (Adds : C → C → Type 0) (row : IsRow item) (count : ℕ) (start : Stream Seen) (c : C) where
+  lining_start : Lining item Adds count 0 start start c c
+  lining_start = record { carries = λ n e r new m. subst (λ k. Goes aig_causes (times k item c) start r new) (same n) m; fewer = omega arith; grown = none }
     where
       same : (n : ℕ) → n - 0 ≡ n
       same n = omega arith
@@ -262,15 +269,19 @@ module _ {C : Type 0} (item : C → Field C) (Adds : C → C → Type 0) (l : (c
 
   pub lining_next : (i : ℕ) (now next : Stream Seen) (d e : C) → i < count → Lining item Adds count i start now c d → Reads (item d) now e next → Adds d e → Lining item Adds count (i + 1) start next c e
   lining_next i now next d e less inv m adds = record {
-    carries = λ n k.
+    carries = λ n k r new g.
         let one : (n - i) - 1 ≡ n - (i + 1) = omega arith in
-        subst (λ x. Carries aig_causes (times n item c) start (times x item e) next) one (carries_times item l separates_digit aig_causes (n - i) {c = d} {d = e} (omega (arith, k)) (inv.carries n k) m);
-    fewer = let s : length next.pieces < length now.pieces = reads_shrinks (λ w h. (l d).null w h) m in omega (arith, s, inv.fewer);
+        inv.carries n k r new (row.goes_on (n - i) d e now next new r (omega (arith, k)) m (subst (λ x. Goes aig_causes (times x item e) next r new) (sym one) g));
+    fewer = omega (arith, row.takes d e now next m, inv.fewer);
     grown = grow inv.grown adds;
   }
 
   pub lining_fails : (i : ℕ) (now : Stream Seen) (d : C) (o : Option (Found AigCause)) → i < count → Lining item Adds count i start now c d → Stops aig_causes (item d) now o → (n : ℕ) → count ≡ saturated n → Stops aig_causes (times n item c) start o
-  lining_fails i now d o less inv m n k = inv.carries n k (Err o) now (times_fails item l separates_digit aig_causes (n - i) d now o (omega (arith, k)) m)
+  lining_fails i now d o less inv m n k = inv.carries n k (Err o) now (row.fails (n - i) d now o (omega (arith, k)) m)
 
   pub lining_ends : (i : ℕ) (now : Stream Seen) (d : C) → count ≤ i → Lining item Adds count i start now c d → (n : ℕ) → count ≡ saturated n → length start.pieces ≤ 2 ^ 63 → Reads (times n item c) start d now
-  lining_ends i now d done inv n k short = inv.carries n k (Ok d) now (times_ends item l separates_digit (n - i) d now (omega (arith, k, inv.fewer)))
+  lining_ends i now d done inv n k short = inv.carries n k (Ok d) now (none_left (n - i) (omega (arith, k, inv.fewer)))
+    where
+      none_left : (m : ℕ) → m ≡ 0 → Reads (times m item d) now d now
+      none_left zero z = reads_give now d
+      none_left (suc m) z = absurd (omega (arith, z))

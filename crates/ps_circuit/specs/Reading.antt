@@ -2,15 +2,15 @@
 --     lines_of items noted      what was read of the lines of one kind
 --     TellsField, TellsCount, TellsHeader, TellsDraft      what reading a number behind a gap, a count, the first line and a text answers
 --     AddsInput, AddsLatch, AddsOutput, AddsGate      one line more
---     Grown      any number of lines more
-use Rattle.std.specs.Prelude.{◌≡◌, ◌≢◌, ℕ, ◌<◌, ◌⊎◌, Bool, List, [], ◌∷◌, ◌++◌, slice_index_or, slice_get, length, map, All, AllPairs, Contains, Option, None, Some, Result, Ok, Err}
+--     IsRow, Grown      lines that are read one behind another; any number of lines more
+use Rattle.std.specs.Prelude.{◌≡◌, ◌≢◌, ℕ, ◌-◌, ◌<◌, ◌⊎◌, Bool, List, [], ◌∷◌, ◌++◌, slice_index_or, slice_get, length, map, All, AllPairs, Contains, Option, None, Some, Result, Ok, Err}
 use Rattle.ps_text.specs.Answers.{Stream, Found}
-use Rattle.ps_text.specs.Parts.{PartAnswers}
-use Rattle.ps_text.specs.Readers.{Reads as ReadsPart, Stops}
+use Rattle.ps_text.specs.Parts.{PartAnswers, times}
+use Rattle.ps_text.specs.Readers.{Reads as ReadsPart, Stops, Goes}
 use Rattle.ps_components.specs.Orders.{IsFirstOnCycle}
 use Rattle.ps_circuit.specs.Circuits.{variable, IsDefinition, IsDraft, Reads}
 use Rattle.ps_circuit.specs.Drafts.{data_of}
-use Rattle.ps_circuit.specs.Signs.{Seen, aig_causes, gap, stream_of}
+use Rattle.ps_circuit.specs.Signs.{Seen, Field, aig_causes, gap, stream_of}
 use Rattle.ps_circuit.specs.Cursors.{found_of, saturated, NumberIs, TellsNumber}
 use Rattle.ps_circuit.specs.Texts.{AnyNumber, HeaderData, header, field, Lines, add_input, add_latch, add_output, add_gate, DraftData, circuit_text, IsFirstUndefined, IsDefined}
 use Rattle.ps_circuit.specs.declared.cursor.Number.{Number}
@@ -88,6 +88,13 @@ pub record AddsGate (most : ℕ) (c d : Lines Gate) : Type 0 where
   pub second : Number
   pub is : d ≡ add_gate c literal first second
   pub new : Defines most c.defined (literal.value ∷ []) d.defined
+
+-- lines that are read one behind another: each takes a sign, and behind a line the others are read
+pub record IsRow {C : Type 0} (line : C → Field C) : Type 0 where
+  pub takes : (c d : C) (old new : Stream Seen) → ReadsPart (line c) old d new → length new.pieces < length old.pieces
+  pub goes_on : (n : ℕ) (c d : C) (old mid new : Stream Seen) (r : Result C (Option (Found AigCause))) → 0 < n → ReadsPart (line c) old d mid →
+      Goes aig_causes (times (n - 1) line d) mid r new → Goes aig_causes (times n line c) old r new
+  pub fails : (n : ℕ) (c : C) (old : Stream Seen) (o : Option (Found AigCause)) → 0 < n → Stops aig_causes (line c) old o → Stops aig_causes (times n line c) old o
 
 pub data Grown {C : Type 0} (Adds : C → C → Type 0) (c : C) : C → Type 0 where
   none : Grown Adds c c

@@ -5,11 +5,12 @@ ghost use Rattle.std.specs.Bool.{OnTrue};
 ghost use Rattle.ps_text.specs.Parts.{times};
 ghost use Rattle.ps_circuit.specs.Circuits.{IsDefinition};
 ghost use Rattle.ps_circuit.specs.Cursors.{Tells, saturated};
-ghost use Rattle.ps_circuit.specs.Reading.{AddsVariable, Defines, lines_of, AddsInput, AddsLatch, AddsOutput, AddsGate, Grown};
+ghost use Rattle.ps_circuit.specs.Reading.{AddsVariable, Defines, lines_of, AddsInput, AddsLatch, AddsOutput, AddsGate, Grown, IsRow};
 ghost use Rattle.ps_circuit.specs.Signs as signs;
 ghost use Rattle.ps_text.specs.declared.faults.Fault.TheVariants.{OutOfMemory};
 ghost use Rattle.ps_circuit.specs.Texts as parts;
-ghost use Rattle.ps_circuit.specs.Texts.{WrongDefinition, WrongLiteral};
+ghost use Rattle.ps_circuit.specs.Texts.{Lines, WrongDefinition, WrongLiteral, no_lines};
+ghost use Rattle.ps_circuit.specs.Signs.{Field};
 
 use crate::cursor::{Cursor, Number};
 use crate::fault::{AigCause, AigFault};
@@ -24,6 +25,62 @@ pub struct Noted {
     pub variables: Ids,
     pub readings: Vec<Number>,
     pub starts: Vec<usize>,
+}
+
+impl Noted {
+    /// What is noted before the first line.
+    pub fn nothing(alloc: Global) -> Self
+        ensures { lines_of [] result ≡ no_lines {A = ℕ} }
+    {
+        Noted {
+            variables: Ids::starting_at(alloc, 1),
+            readings: Vec::new(alloc),
+            starts: Vec::new(alloc),
+        }
+    }
+}
+
+/// A kind of number lines.
+pub trait Line {
+    /// What a line of the kind says.
+    type Item: Drop;
+
+    /// Such a line, behind others of its kind.
+    ghost part: { ℕ → Lines Self.Item → Field (Lines Self.Item) };
+
+    /// What one more line adds.
+    ghost adds: { ℕ → Lines Self.Item → Lines Self.Item → Type 0 };
+
+    /// Reads a line.
+    fn read(
+        cursor: &mut Cursor,
+        noted: &mut Noted,
+        most: u32,
+        items: &mut Vec<Self::Item>,
+    ) -> Result<(), AigFault>
+        requires { most < 2 ^ 31 }
+        ensures exact { Tells (λ _. lines_of items.new.items noted.new) (part most (lines_of items.old.items noted.old)) cursor.old result cursor.new }
+        ensures adds { OnOk result (adds most (lines_of items.old.items noted.old) (lines_of items.new.items noted.new)) };
+}
+
+/// Reads the lines of one kind.
+pub fn lines<L: Line>(
+    alloc: Global,
+    cursor: &mut Cursor,
+    noted: &mut Noted,
+    most: u32,
+    count: u64,
+) -> Result<Vec<L::Item>, AigFault>
+    requires most { most < 2 ^ 31 }
+    requires row { IsRow (L.part most) }
+    ensures exact { (n : ℕ) → count ≡ saturated n → length cursor.old.pieces ≤ 2 ^ 63 → Tells (λ v. lines_of v.items noted.new) (times n (L.part most) (lines_of [] noted.old)) cursor.old result cursor.new }
+    ensures grown { IfOk result (λ v. Grown (L.adds most) (lines_of [] noted.old) (lines_of v.items noted.new)) }
+{
+    let mut items = Vec::new(alloc);
+    for _ in 0..count {
+        L::read(cursor, noted, most, &mut items)?;
+    }
+    Ok(items)
 }
 
 /// Whether a literal is not negated, not constant and at most the greatest.
@@ -78,40 +135,27 @@ fn reading(cursor: &mut Cursor, readings: &mut Vec<Number>, most: u32) -> Result
     Ok(number)
 }
 
-/// Reads the line of an input.
-fn input_line(
-    cursor: &mut Cursor,
-    noted: &mut Noted,
-    most: u32,
-    inputs: &mut Vec<u32>,
-) -> Result<(), AigFault>
-    requires { most < 2 ^ 31 }
-    ensures exact { Tells (λ _. lines_of inputs.new.items noted.new) (parts.input_line most (lines_of inputs.old.items noted.old)) cursor.old result cursor.new }
-    ensures adds { OnOk result (AddsInput most (lines_of inputs.old.items noted.old) (lines_of inputs.new.items noted.new)) }
-{
-    let literal = definition(cursor, &mut noted.variables, most)?;
-    cursor.line_end()?;
-    inputs.push(literal.value as u32)?;
-    Ok(())
-}
+/// The line of an input.
+pub struct InputLine;
 
-/// Reads the lines of the inputs.
-pub fn inputs(
-    alloc: Global,
-    cursor: &mut Cursor,
-    noted: &mut Noted,
-    most: u32,
-    count: u64,
-) -> Result<Vec<u32>, AigFault>
-    requires { most < 2 ^ 31 }
-    ensures exact { (n : ℕ) → count ≡ saturated n → length cursor.old.pieces ≤ 2 ^ 63 → Tells (λ v. lines_of v.items noted.new) (times n (parts.input_line most) (lines_of [] noted.old)) cursor.old result cursor.new }
-    ensures grown { IfOk result (λ v. Grown (AddsInput most) (lines_of [] noted.old) (lines_of v.items noted.new)) }
-{
-    let mut inputs = Vec::new(alloc);
-    for _ in 0..count {
-        input_line(cursor, noted, most, &mut inputs)?;
+impl Line for InputLine {
+    type Item = u32;
+
+    ghost part = { parts.input_line };
+
+    ghost adds = { λ most. AddsInput most };
+
+    fn read(
+        cursor: &mut Cursor,
+        noted: &mut Noted,
+        most: u32,
+        items: &mut Vec<u32>,
+    ) -> Result<(), AigFault> {
+        let literal = definition(cursor, &mut noted.variables, most)?;
+        cursor.line_end()?;
+        items.push(literal.value as u32)?;
+        Ok(())
     }
-    Ok(inputs)
 }
 
 /// Reads a latch's first value, if it stands there, and the end of its line.
@@ -133,126 +177,87 @@ fn reset(cursor: &mut Cursor, literal: u64) -> Result<bool, AigFault>
     Ok(number.value == 1)
 }
 
-/// Reads the line of a latch.
-fn latch_line(
-    cursor: &mut Cursor,
-    noted: &mut Noted,
-    most: u32,
-    latches: &mut Vec<Latch>,
-) -> Result<(), AigFault>
-    requires { most < 2 ^ 31 }
-    ensures exact { Tells (λ _. lines_of latches.new.items noted.new) (parts.latch_line most (lines_of latches.old.items noted.old)) cursor.old result cursor.new }
-    ensures adds { OnOk result (AddsLatch most (lines_of latches.old.items noted.old) (lines_of latches.new.items noted.new)) }
-{
-    let literal = definition(cursor, &mut noted.variables, most)?;
-    let next = reading(cursor, &mut noted.readings, most)?;
-    let reset = reset(cursor, literal.value)?;
-    latches.push(Latch {
-        literal: literal.value as u32,
-        next: next.value as u32,
-        reset,
-    })?;
-    Ok(())
-}
+/// The line of a latch.
+pub struct LatchLine;
 
-/// Reads the lines of the latches.
-pub fn latches(
-    alloc: Global,
-    cursor: &mut Cursor,
-    noted: &mut Noted,
-    most: u32,
-    count: u64,
-) -> Result<Vec<Latch>, AigFault>
-    requires { most < 2 ^ 31 }
-    ensures exact { (n : ℕ) → count ≡ saturated n → length cursor.old.pieces ≤ 2 ^ 63 → Tells (λ v. lines_of v.items noted.new) (times n (parts.latch_line most) (lines_of [] noted.old)) cursor.old result cursor.new }
-    ensures grown { IfOk result (λ v. Grown (AddsLatch most) (lines_of [] noted.old) (lines_of v.items noted.new)) }
-{
-    let mut latches = Vec::new(alloc);
-    for _ in 0..count {
-        latch_line(cursor, noted, most, &mut latches)?;
+impl Line for LatchLine {
+    type Item = Latch;
+
+    ghost part = { parts.latch_line };
+
+    ghost adds = { λ most. AddsLatch most };
+
+    fn read(
+        cursor: &mut Cursor,
+        noted: &mut Noted,
+        most: u32,
+        items: &mut Vec<Latch>,
+    ) -> Result<(), AigFault> {
+        let literal = definition(cursor, &mut noted.variables, most)?;
+        let next = reading(cursor, &mut noted.readings, most)?;
+        let reset = reset(cursor, literal.value)?;
+        items.push(Latch {
+            literal: literal.value as u32,
+            next: next.value as u32,
+            reset,
+        })?;
+        Ok(())
     }
-    Ok(latches)
 }
 
-/// Reads the line of an output.
-fn output_line(
-    cursor: &mut Cursor,
-    noted: &mut Noted,
-    most: u32,
-    outputs: &mut Vec<u32>,
-) -> Result<(), AigFault>
-    requires { most < 2 ^ 31 }
-    ensures exact { Tells (λ _. lines_of outputs.new.items noted.new) (parts.output_line most (lines_of outputs.old.items noted.old)) cursor.old result cursor.new }
-    ensures adds { OnOk result (AddsOutput (lines_of outputs.old.items noted.old) (lines_of outputs.new.items noted.new)) }
-{
-    let literal = cursor.number()?;
-    if literal.value > 2 * u64::from(most) + 1 {
-        return Err(literal.refused(AigCause::Literal));
+/// The line of an output.
+pub struct OutputLine;
+
+impl Line for OutputLine {
+    type Item = u32;
+
+    ghost part = { parts.output_line };
+
+    ghost adds = { λ _. AddsOutput };
+
+    fn read(
+        cursor: &mut Cursor,
+        noted: &mut Noted,
+        most: u32,
+        items: &mut Vec<u32>,
+    ) -> Result<(), AigFault> {
+        let literal = cursor.number()?;
+        if literal.value > 2 * u64::from(most) + 1 {
+            return Err(literal.refused(AigCause::Literal));
+        }
+        cursor.line_end()?;
+        noted.readings.push(literal)?;
+        items.push(literal.value as u32)?;
+        Ok(())
     }
-    cursor.line_end()?;
-    noted.readings.push(literal)?;
-    outputs.push(literal.value as u32)?;
-    Ok(())
 }
 
-/// Reads the lines of the outputs.
-pub fn outputs(
-    alloc: Global,
-    cursor: &mut Cursor,
-    noted: &mut Noted,
-    most: u32,
-    count: u64,
-) -> Result<Vec<u32>, AigFault>
-    requires { most < 2 ^ 31 }
-    ensures exact { (n : ℕ) → count ≡ saturated n → length cursor.old.pieces ≤ 2 ^ 63 → Tells (λ v. lines_of v.items noted.new) (times n (parts.output_line most) (lines_of [] noted.old)) cursor.old result cursor.new }
-    ensures grown { IfOk result (λ v. Grown AddsOutput (lines_of [] noted.old) (lines_of v.items noted.new)) }
-{
-    let mut outputs = Vec::new(alloc);
-    for _ in 0..count {
-        output_line(cursor, noted, most, &mut outputs)?;
+/// The line of a gate.
+pub struct GateLine;
+
+impl Line for GateLine {
+    type Item = Gate;
+
+    ghost part = { parts.gate_line };
+
+    ghost adds = { λ most. AddsGate most };
+
+    fn read(
+        cursor: &mut Cursor,
+        noted: &mut Noted,
+        most: u32,
+        items: &mut Vec<Gate>,
+    ) -> Result<(), AigFault> {
+        let literal = definition(cursor, &mut noted.variables, most)?;
+        let first = reading(cursor, &mut noted.readings, most)?;
+        let second = reading(cursor, &mut noted.readings, most)?;
+        cursor.line_end()?;
+        noted.starts.push(literal.offset)?;
+        items.push(Gate {
+            literal: literal.value as u32,
+            first: first.value as u32,
+            second: second.value as u32,
+        })?;
+        Ok(())
     }
-    Ok(outputs)
-}
-
-/// Reads the line of a gate.
-fn gate_line(
-    cursor: &mut Cursor,
-    noted: &mut Noted,
-    most: u32,
-    gates: &mut Vec<Gate>,
-) -> Result<(), AigFault>
-    requires { most < 2 ^ 31 }
-    ensures exact { Tells (λ _. lines_of gates.new.items noted.new) (parts.gate_line most (lines_of gates.old.items noted.old)) cursor.old result cursor.new }
-    ensures adds { OnOk result (AddsGate most (lines_of gates.old.items noted.old) (lines_of gates.new.items noted.new)) }
-{
-    let literal = definition(cursor, &mut noted.variables, most)?;
-    let first = reading(cursor, &mut noted.readings, most)?;
-    let second = reading(cursor, &mut noted.readings, most)?;
-    cursor.line_end()?;
-    noted.starts.push(literal.offset)?;
-    gates.push(Gate {
-        literal: literal.value as u32,
-        first: first.value as u32,
-        second: second.value as u32,
-    })?;
-    Ok(())
-}
-
-/// Reads the lines of the gates.
-pub fn gates(
-    alloc: Global,
-    cursor: &mut Cursor,
-    noted: &mut Noted,
-    most: u32,
-    count: u64,
-) -> Result<Vec<Gate>, AigFault>
-    requires { most < 2 ^ 31 }
-    ensures exact { (n : ℕ) → count ≡ saturated n → length cursor.old.pieces ≤ 2 ^ 63 → Tells (λ v. lines_of v.items noted.new) (times n (parts.gate_line most) (lines_of [] noted.old)) cursor.old result cursor.new }
-    ensures grown { IfOk result (λ v. Grown (AddsGate most) (lines_of [] noted.old) (lines_of v.items noted.new)) }
-{
-    let mut gates = Vec::new(alloc);
-    for _ in 0..count {
-        gate_line(cursor, noted, most, &mut gates)?;
-    }
-    Ok(gates)
 }

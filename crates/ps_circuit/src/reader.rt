@@ -15,7 +15,7 @@ use crate::circuit::{Circuit, CircuitFault};
 use crate::cursor::Cursor;
 use crate::fault::{AigCause, AigFault};
 use crate::header::read_header;
-use crate::lines::{Noted, gates, inputs, latches, outputs};
+use crate::lines::{GateLine, InputLine, LatchLine, Noted, OutputLine, lines};
 use crate::names::{Names, comment, symbols};
 use crate::parts::Parts;
 use ps_ids::Ids;
@@ -50,15 +50,11 @@ fn read_draft(alloc: Global, text: &[u8]) -> Result<Draft, AigFault>
 {
     let mut cursor = Cursor::new(text);
     let header = read_header(&mut cursor)?;
-    let mut noted = Noted {
-        variables: Ids::starting_at(alloc, 1),
-        readings: Vec::new(alloc),
-        starts: Vec::new(alloc),
-    };
-    let inputs = inputs(alloc, &mut cursor, &mut noted, header.most, header.inputs)?;
-    let latches = latches(alloc, &mut cursor, &mut noted, header.most, header.latches)?;
-    let outputs = outputs(alloc, &mut cursor, &mut noted, header.most, header.outputs)?;
-    let gates = gates(alloc, &mut cursor, &mut noted, header.most, header.gates)?;
+    let mut noted = Noted::nothing(alloc);
+    let inputs = lines::<InputLine>(alloc, &mut cursor, &mut noted, header.most, header.inputs)?;
+    let latches = lines::<LatchLine>(alloc, &mut cursor, &mut noted, header.most, header.latches)?;
+    let outputs = lines::<OutputLine>(alloc, &mut cursor, &mut noted, header.most, header.outputs)?;
+    let gates = lines::<GateLine>(alloc, &mut cursor, &mut noted, header.most, header.gates)?;
     let mut names = Names::none(alloc, inputs.len(), latches.len(), outputs.len())?;
     symbols(alloc, &mut cursor, &mut names)?;
     comment(&mut cursor)?;

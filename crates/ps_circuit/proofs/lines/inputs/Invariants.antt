@@ -1,8 +1,0 @@
-use Rattle.std.proofs.Common.{[]}
-use Rattle.ps_circuit.specs.Reading.{lines_of, AddsInput}
-use Rattle.ps_circuit.specs.Texts as parts
-use Rattle.ps_circuit.proofs.LineLemmas.{Lining}
-use Rattle.ps_circuit.proofs.lines.inputs.Given as goal
-
-abbrev pub invariant-loop : goal.invariant-loop
-invariant-loop l = Lining (parts.input_line l.most) (AddsInput l.most) l.count l.counter l.initial.cursor l.cursor (lines_of [] l.initial.noted) (lines_of l.inputs.items l.noted)
