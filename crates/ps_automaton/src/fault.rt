@@ -3,6 +3,7 @@
 ghost use Rattle.std.specs.Prelude.{◌≡◌};
 ghost use Rattle.ps_automaton.specs.declared.fault.AutomatonFault.TheVariants.{OutOfMemory};
 
+use ps_hoa::HoaFault;
 use std::alloc::{AllocError, AllocFailed};
 use thiserror::Error;
 
@@ -18,8 +19,11 @@ pub enum AutomatonFault {
     /// Two edges of a state, counted from 0, share a letter and differ in target or in sets.
     #[error("state {state} has edges {first} and {second} that share a letter")]
     Nondeterministic {
+        /// The state, by its number in the text.
         state: u32,
+        /// The place of the earlier edge in the state's row, from 0.
         first: usize,
+        /// The place of the later one.
         second: usize,
     },
     /// Memory ran out.
@@ -38,7 +42,7 @@ impl AutomatonFault {
             AutomatonFault::ComplementedSet => 18,
             AutomatonFault::NonParity => 17,
             AutomatonFault::Nondeterministic { .. } => 21,
-            AutomatonFault::OutOfMemory => 24,
+            AutomatonFault::OutOfMemory => HoaFault::OutOfMemory.number(),
         }
     }
 
@@ -50,7 +54,7 @@ impl AutomatonFault {
             AutomatonFault::ComplementedSet => "ComplementedSet",
             AutomatonFault::NonParity => "NonParity",
             AutomatonFault::Nondeterministic { .. } => "Nondeterministic",
-            AutomatonFault::OutOfMemory => "OutOfMemory",
+            AutomatonFault::OutOfMemory => HoaFault::OutOfMemory.name(),
         }
     }
 }

@@ -8,6 +8,7 @@ pub mod Written
 pub mod Causes
 pub mod CauseNames
 pub mod EncodeFaultNames
+pub mod CircuitFaultNames
 pub mod Signs
 pub mod Texts
 pub mod Cursors

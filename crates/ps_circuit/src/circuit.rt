@@ -6,19 +6,53 @@ ghost use Rattle.ps_components.specs.Orders.{IsOrder, IsFirstOnCycle};
 ghost use Rattle.ps_circuit.specs.Circuits.{CircuitData, IsDraft, IsCircuit, Reads};
 ghost use Rattle.ps_circuit.specs.Drafts.{data_of, name_bytes};
 
+use crate::encode_fault::EncodeFault;
+use crate::fault::AigCause;
 use crate::gate_graph::GateGraph;
 use crate::links::links_of;
 use crate::parts::{Gate, Latch, Parts};
 use ps_components::{Arrangement, arrange};
+use ps_text::faults::Cause;
 use std::alloc::{AllocError, Global};
 use std::marker::Model;
+use thiserror::Error;
 
 /// Why parts make no circuit.
-#[derive(Clone, Copy, Debug, PartialEq, Eq)]
+#[derive(Clone, Copy, Debug, PartialEq, Eq, Error)]
 pub enum CircuitFault {
-    /// The gate at this place depends on itself, and is the first that does.
-    Cyclic { gate: usize },
+    /// A gate depends on itself.
+    #[error("the gate at place {gate} depends on itself")]
+    Cyclic {
+        /// The place, from 0, of the first gate that does.
+        gate: usize,
+    },
+    /// Memory ran out.
+    #[error("out of memory")]
     OutOfMemory,
+}
+
+impl CircuitFault {
+    ghost use Rattle.ps_circuit.specs.CircuitFaultNames.{fault_number, fault_name};
+
+    /// The fault's number in psyn's list of faults.
+    pub fn number(self) -> u8
+        ensures { result ≡ fault_number self }
+    {
+        match self {
+            CircuitFault::Cyclic { .. } => AigCause::Cyclic.number(),
+            CircuitFault::OutOfMemory => EncodeFault::OutOfMemory.number(),
+        }
+    }
+
+    /// The fault's name.
+    pub fn name(self) -> &'static str
+        ensures { result.now ≡ fault_name self }
+    {
+        match self {
+            CircuitFault::Cyclic { .. } => AigCause::Cyclic.name(),
+            CircuitFault::OutOfMemory => EncodeFault::OutOfMemory.name(),
+        }
+    }
 }
 
 impl From<AllocError> for CircuitFault {
@@ -32,8 +66,8 @@ impl From<AllocError> for CircuitFault {
     }
 }
 
-/// A circuit of and-gates and latches. Each variable is defined once, each literal's variable is defined or 0, and no gate
-/// depends on itself. It keeps an order of its gates in which each stands behind those that it reads.
+/// A circuit of and-gates and latches. Each variable is defined once, each literal's variable is defined or 0, and no
+/// gate depends on itself. It keeps an order of its gates in which each stands behind those that it reads.
 #[derive(Drop)]
 pub struct Circuit {
     parts: Parts,
@@ -66,6 +100,10 @@ impl Circuit {
     }
 
     /// Makes a circuit of its parts, whose gates each stand behind those that they read.
+    ///
+    /// # Errors
+    ///
+    /// Fails where a growth was refused.
     pub fn in_order(alloc: Global, parts: Parts) -> Result<Self, AllocError>
         requires draft { IsDraft (data_of parts) }
         requires ordered { (i j : ℕ) → Reads parts.gates.items i j → j < i }
@@ -92,6 +130,7 @@ impl Circuit {
         &self.parts.inputs
     }
 
+    /// The latches.
     pub fn latches(&self) -> &[Latch]
         ensures latches { result.now ≡ self.now.latches }
         ensures well_formed { IsCircuit self.now }
@@ -107,6 +146,7 @@ impl Circuit {
         &self.parts.outputs
     }
 
+    /// The gates, in the order of the text or of the parts.
     pub fn gates(&self) -> &[Gate]
         ensures gates { result.now ≡ self.now.gates }
         ensures well_formed { IsCircuit self.now }

@@ -3,16 +3,17 @@
 ghost use Rattle.std.specs.Prelude.{◌≡◌};
 ghost use Rattle.ps_circuit.specs.declared.encode_fault.EncodeFault.TheVariants.{OutOfMemory};
 
+use crate::fault::AigFault;
 use std::alloc::{AllocError, AllocFailed};
 use thiserror::Error;
 
 /// Why no circuit is made.
 #[derive(Debug, Clone, Copy, PartialEq, Eq, Error)]
 pub enum EncodeFault {
-    /// 2147483647 variables are there, and one more is needed: fault 60.
+    /// 2147483647 variables are there, and one more is needed.
     #[error("the circuit is too large")]
     CircuitTooLarge,
-    /// Memory ran out: fault 24.
+    /// Memory ran out.
     #[error("out of memory")]
     OutOfMemory,
 }
@@ -26,7 +27,7 @@ impl EncodeFault {
     {
         match self {
             EncodeFault::CircuitTooLarge => 60,
-            EncodeFault::OutOfMemory => 24,
+            EncodeFault::OutOfMemory => AigFault::OutOfMemory.number(),
         }
     }
 
@@ -36,7 +37,7 @@ impl EncodeFault {
     {
         match self {
             EncodeFault::CircuitTooLarge => "CircuitTooLarge",
-            EncodeFault::OutOfMemory => "OutOfMemory",
+            EncodeFault::OutOfMemory => AigFault::OutOfMemory.name(),
         }
     }
 }

@@ -1,5 +1,6 @@
 pub mod Attractors
 pub mod Drafts
+pub mod FaultNames
 pub mod Games
 pub mod Flat
 pub mod Moves

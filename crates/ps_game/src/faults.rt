@@ -1,4 +1,7 @@
-use std::alloc::AllocError;
+//! Why a draft is no game.
+
+ghost use Rattle.std.specs.Prelude.{◌≡◌};
+
 use thiserror::Error;
 
 /// Why a draft is no game.
@@ -6,13 +9,47 @@ use thiserror::Error;
 pub enum GameFault {
     /// The least vertex without an edge.
     #[error("vertex {vertex} has no successor")]
-    NoSuccessor { vertex: usize },
+    NoSuccessor {
+        /// Its place, from 0.
+        vertex: usize,
+    },
 
     /// The least vertex with a successor that is no vertex, and its first such successor.
     #[error("vertex {vertex} has the unknown successor {successor}")]
-    UnknownSuccessor { vertex: usize, successor: usize },
+    UnknownSuccessor {
+        /// The vertex's place, from 0.
+        vertex: usize,
+        /// The place to which its edge leads, at least the number of vertices.
+        successor: usize,
+    },
 
     /// Memory ran out.
     #[error("out of memory")]
     OutOfMemory,
+}
+
+impl GameFault {
+    ghost use Rattle.ps_game.specs.FaultNames.{fault_number, fault_name};
+
+    /// The fault's number in psyn's list of faults.
+    pub fn number(self) -> u8
+        ensures { result ≡ fault_number self }
+    {
+        match self {
+            GameFault::NoSuccessor { .. } => 31,
+            GameFault::UnknownSuccessor { .. } => 32,
+            GameFault::OutOfMemory => 24,
+        }
+    }
+
+    /// The fault's name.
+    pub fn name(self) -> &'static str
+        ensures { result.now ≡ fault_name self }
+    {
+        match self {
+            GameFault::NoSuccessor { .. } => "NoSuccessor",
+            GameFault::UnknownSuccessor { .. } => "UnknownSuccessor",
+            GameFault::OutOfMemory => "OutOfMemory",
+        }
+    }
 }

@@ -3,6 +3,7 @@ pub mod Boards
 pub mod Building
 pub mod Drawing
 pub mod Extracting
+pub mod FaultNames
 pub mod FileGames
 pub mod KeyNames
 pub mod Keys

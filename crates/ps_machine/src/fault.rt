@@ -4,6 +4,7 @@ ghost use Rattle.std.specs.Prelude.{◌≡◌};
 ghost use Rattle.ps_machine.specs.declared.fault.SolveFault.TheVariants.{OutOfMemory};
 
 use ps_certificate::CertCause;
+use ps_game::GameFault;
 use ps_text::faults::Cause;
 use std::alloc::AllocError;
 use thiserror::Error;
@@ -11,10 +12,10 @@ use thiserror::Error;
 /// Why a solver gives no certificate.
 #[derive(Debug, Drop, Error)]
 pub enum SolveFault {
-    /// A strategy that was found leaves a cycle that its player loses: fault 40. The vertices are those of the game, by place.
+    /// A strategy that was found leaves a cycle that its player loses. The vertices are those of the game, by place.
     #[error("a cycle that its player loses")]
     BadCycle(Vec<usize>),
-    /// The text that was fed is no certificate of the game: fault 53 or 54.
+    /// The text that was fed is no certificate of the game.
     #[error("{} at byte {offset}", .cause.name())]
     Text {
         /// What is wrong.
@@ -22,9 +23,35 @@ pub enum SolveFault {
         /// The byte at which it stands, from 0.
         offset: usize,
     },
-    /// Memory ran out: fault 24.
+    /// Memory ran out.
     #[error("out of memory")]
     OutOfMemory,
+}
+
+impl SolveFault {
+    ghost use Rattle.ps_machine.specs.FaultNames.{fault_number, fault_name};
+
+    /// The fault's number in psyn's list of faults.
+    pub fn number(&self) -> u8
+        ensures { result ≡ fault_number self.now }
+    {
+        match self {
+            SolveFault::BadCycle(_) => 40,
+            SolveFault::Text { cause, .. } => cause.number(),
+            SolveFault::OutOfMemory => GameFault::OutOfMemory.number(),
+        }
+    }
+
+    /// The fault's name.
+    pub fn name(&self) -> &'static str
+        ensures { result.now ≡ fault_name self.now }
+    {
+        match self {
+            SolveFault::BadCycle(_) => "BadCycle",
+            SolveFault::Text { cause, .. } => cause.name(),
+            SolveFault::OutOfMemory => GameFault::OutOfMemory.name(),
+        }
+    }
 }
 
 impl From<AllocError> for SolveFault {

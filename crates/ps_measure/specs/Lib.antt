@@ -1,5 +1,6 @@
 pub mod Chains
 pub mod Columns
+pub mod FaultNames
 pub mod Filling
 pub mod Outcomes
 pub mod Ranks

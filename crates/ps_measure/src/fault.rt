@@ -3,6 +3,7 @@
 ghost use Rattle.std.specs.Prelude.{◌≡◌};
 ghost use Rattle.ps_measure.specs.declared.fault.MeasureFault.TheVariants.{OutOfMemory};
 
+use ps_game::GameFault;
 use std::alloc::{AllocError, AllocFailed};
 use thiserror::Error;
 
@@ -18,6 +19,30 @@ pub enum MeasureFault {
     /// Memory ran out.
     #[error("out of memory")]
     OutOfMemory,
+}
+
+impl MeasureFault {
+    ghost use Rattle.ps_measure.specs.FaultNames.{fault_number, fault_name};
+
+    /// The fault's number in psyn's list of faults.
+    pub fn number(&self) -> u8
+        ensures { result ≡ fault_number self.now }
+    {
+        match self {
+            MeasureFault::BadCycle { .. } => 40,
+            MeasureFault::OutOfMemory => GameFault::OutOfMemory.number(),
+        }
+    }
+
+    /// The fault's name.
+    pub fn name(&self) -> &'static str
+        ensures { result.now ≡ fault_name self.now }
+    {
+        match self {
+            MeasureFault::BadCycle { .. } => "BadCycle",
+            MeasureFault::OutOfMemory => GameFault::OutOfMemory.name(),
+        }
+    }
 }
 
 impl From<AllocError> for MeasureFault {

@@ -12,12 +12,14 @@ ghost use Rattle.ps_simulate.specs.LassoRuns.{IsSeen, ReadsWord, RepeatsBy};
 ghost use Rattle.ps_simulate.specs.Namings.{IsNaming, names_of};
 ghost use Rattle.ps_simulate.specs.declared.lassos.LassoFault.TheVariants.{OutOfMemory};
 
+use crate::fault::{StimulusCause, StimulusFault};
 use crate::naming::Naming;
 use crate::role::Role;
 use crate::simulator::Simulator;
 use indexmap::IndexSet;
 use ps_automaton::Automaton;
 use ps_circuit::Circuit;
+use ps_text::faults::Cause;
 use std::alloc::{AllocError, Global};
 use thiserror::Error;
 
@@ -57,10 +59,10 @@ impl LassoFault {
         ensures { result ≡ fault_number self }
     {
         match self {
-            LassoFault::Width => 70,
+            LassoFault::Width => StimulusCause::Width.number(),
             LassoFault::EmptyLap => 71,
             LassoFault::Symbols => 72,
-            LassoFault::OutOfMemory => 24,
+            LassoFault::OutOfMemory => StimulusFault::OutOfMemory.number(),
         }
     }
 
@@ -69,10 +71,10 @@ impl LassoFault {
         ensures { result.now ≡ fault_name self }
     {
         match self {
-            LassoFault::Width => "Width",
+            LassoFault::Width => StimulusCause::Width.name(),
             LassoFault::EmptyLap => "EmptyLap",
             LassoFault::Symbols => "Symbols",
-            LassoFault::OutOfMemory => "OutOfMemory",
+            LassoFault::OutOfMemory => StimulusFault::OutOfMemory.name(),
         }
     }
 }
@@ -85,9 +87,9 @@ impl From<AllocError> for LassoFault {
     }
 }
 
-/// Runs a circuit through a stem and then through a lap again and again, up to the first two laps that begin with the same
-/// latches, and asks the automaton about the trace so far: whether it accepts the lasso that goes on from the first of them to
-/// the second, again and again. Letters have a bit for each input, in the circuit's order.
+/// Runs a circuit through a stem and then through a lap again and again, up to the first two laps that begin with the
+/// same latches, and asks the automaton about the trace so far: whether it accepts the lasso that goes on from the
+/// first of them to the second, again and again. Letters have a bit for each input, in the circuit's order.
 ///
 /// # Errors
 ///
@@ -157,7 +159,8 @@ fn are_wide(width: usize, letters: &[Vec<bool>]) -> bool
     true
 }
 
-/// The letters of a trace up to the first lap that begins with the latches of an earlier one, and the number of that one.
+/// The letters of a trace up to the first lap that begins with the latches of an earlier one, and the number of that
+/// one.
 #[derive(Drop)]
 struct Repetition {
     letters: Vec<u64>,
@@ -211,7 +214,8 @@ impl<'a> Run<'a> {
         })
     }
 
-    /// Reads the stem, and laps until one begins with latches that an earlier one began with, and answers the number of that one.
+    /// Reads the stem, and laps until one begins with latches that an earlier one began with, and answers the number of
+    /// that one.
     fn first_repetition(
         &mut self,
         alloc: Global,

@@ -25,10 +25,10 @@ pub enum SynthFault {
     /// The text has no automaton.
     #[error("{0}")]
     Automaton(AutomatonFault),
-    /// The solver left a cycle that its player loses: fault 40. The vertices are named by their ids.
+    /// The solver left a cycle that its player loses. The vertices are named by their ids.
     #[error("a cycle that its player loses")]
     BadCycle(Vec<u64>),
-    /// The text that the solver was fed is no certificate of the game: fault 53 or 54.
+    /// The text that the solver was fed is no certificate of the game.
     #[error("{} of the certificate at byte {offset}", .cause.name())]
     Certificate {
         /// What is wrong.
@@ -36,13 +36,13 @@ pub enum SynthFault {
         /// The byte at which it stands, from 0.
         offset: usize,
     },
-    /// The solver's certificate does not fit the game, or is not valid: fault 41.
+    /// The solver's certificate does not fit the game, or is not valid.
     #[error("the certificate is not valid")]
     NotCertified,
-    /// The circuit needs more variables than can be named: fault 60.
+    /// The circuit needs more variables than can be named.
     #[error("the circuit is too large")]
     CircuitTooLarge,
-    /// Memory ran out: fault 24.
+    /// Memory ran out.
     #[error("out of memory")]
     OutOfMemory,
 }
@@ -61,7 +61,7 @@ impl SynthFault {
             SynthFault::Certificate { cause, .. } => cause.number(),
             SynthFault::NotCertified => 41,
             SynthFault::CircuitTooLarge => EncodeFault::CircuitTooLarge.number(),
-            SynthFault::OutOfMemory => 24,
+            SynthFault::OutOfMemory => EncodeFault::OutOfMemory.number(),
         }
     }
 
@@ -76,7 +76,7 @@ impl SynthFault {
             SynthFault::Certificate { cause, .. } => cause.name(),
             SynthFault::NotCertified => "NotCertified",
             SynthFault::CircuitTooLarge => EncodeFault::CircuitTooLarge.name(),
-            SynthFault::OutOfMemory => "OutOfMemory",
+            SynthFault::OutOfMemory => EncodeFault::OutOfMemory.name(),
         }
     }
 }

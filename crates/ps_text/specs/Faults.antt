@@ -1,5 +1,6 @@
--- What a fault says of a text: where it is a cause, the cause and the place; nothing, where memory ran out.
-use Rattle.std.specs.Prelude.{Option, None, Some, Result, Ok, Err}
+-- What a fault says of a text: where it is a cause, the cause and the place; nothing, where memory ran out. And its number and
+-- its name in psyn's list of faults: those of the cause, or of want of memory.
+use Rattle.std.specs.Prelude.{ℕ, List, Option, None, Some, Result, Ok, Err, codes}
 use Rattle.ps_text.specs.declared.faults.Fault.{Fault}
 use Rattle.ps_text.specs.declared.faults.Fault.TheVariants.{Text, OutOfMemory}
 use Rattle.ps_text.specs.Answers.{Found}
@@ -13,3 +14,18 @@ abbrev pub UnlessMemory : {V C : Type 0} → (Result V (Found C) → Type 0) →
 UnlessMemory IsAnswer (Ok value) = IsAnswer (Ok value)
 UnlessMemory IsAnswer (Err (Text cause offset)) = IsAnswer (Err (record { cause = cause; offset = offset }))
 UnlessMemory IsAnswer (Err OutOfMemory) = Unit {0}
+
+-- want of memory, whatever the call
+abbrev pub memory_number : ℕ
+memory_number = 24
+
+abbrev pub memory_name : List ℕ
+memory_name = codes "OutOfMemory"
+
+abbrev pub fault_number : {C : Type 0} → (C → ℕ) → Fault C → ℕ
+fault_number number (Text cause offset) = number cause
+fault_number number OutOfMemory = memory_number
+
+abbrev pub fault_name : {C : Type 0} → (C → List ℕ) → Fault C → List ℕ
+fault_name name (Text cause offset) = name cause
+fault_name name OutOfMemory = memory_name

@@ -41,6 +41,30 @@ pub enum Fault<C> {
     OutOfMemory,
 }
 
+impl<C: Cause> Fault<C> {
+    ghost use Rattle.ps_text.specs.Faults.{fault_number, fault_name};
+
+    /// The fault's number in psyn's list of faults.
+    pub fn number(self) -> u8
+        ensures { result ≡ fault_number C.number self }
+    {
+        match self {
+            Fault::Text { cause, .. } => cause.number(),
+            Fault::OutOfMemory => 24,
+        }
+    }
+
+    /// The fault's name.
+    pub fn name(self) -> &'static str
+        ensures { result.now ≡ fault_name C.name self }
+    {
+        match self {
+            Fault::Text { cause, .. } => cause.name(),
+            Fault::OutOfMemory => "OutOfMemory",
+        }
+    }
+}
+
 impl<C> From<AllocError> for Fault<C> {
     ghost from_gives = { λ _ fault. fault ≡ OutOfMemory };
 
