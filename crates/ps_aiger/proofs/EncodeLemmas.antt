@@ -1,5 +1,5 @@
 -- The circuit of a machine: it is a circuit, it is tidy, and its step is the machine's.
-use Rattle.std.proofs.Common.{◌≡◌, ◌≢◌, ◌∙◌, ℕ, zero, suc, ◌+◌, ◌-◌, ◌*◌, ◌/◌, ◌^◌, ◌<◌, ◌≤◌, ◌⊎◌, ◌&&◌, ◌||◌, Bool, true, false, cond, nat_eq, nat_lt, List, [], ◌∷◌, ◌++◌, map, length, get_or, slice_get, Option, Some, None, refl, sym, ap, subst, arith, inl, inr, All, IsTrue, replicate, length-append, IsSomeAnd, take, Vec, Result, Ok, Err, IfOk}
+use Rattle.std.proofs.Common.{◌≡◌, ◌≢◌, ◌∙◌, ℕ, zero, suc, ◌+◌, ◌-◌, ◌*◌, ◌/◌, ◌^◌, ◌<◌, ◌≤◌, ◌⊎◌, ◌&&◌, ◌||◌, Bool, true, false, cond, nat_eq, nat_lt, List, [], ◌∷◌, ◌++◌, map, length, get_or, slice_get, Option, Some, None, refl, sym, ap, subst, arith, inl, inr, All, IsTrue, replicate, length-append, take, Vec, Result, Ok, Err, IfOk}
 use Rattle.std.specs.Prelude.{slice_index_or}
 use Rattle.std.specs.List.{flat_map}
 use Rattle.std.proofs.lemmas.Bool.{cases_eq, cases_lt, eq-eqb}
@@ -14,13 +14,14 @@ use Rattle.ps_circuit.specs.declared.parts.Gate.{Gate}
 use Rattle.ps_circuit.specs.declared.parts.Latch.{Latch}
 use Rattle.ps_label.specs.Truth.{is_in}
 use Rattle.ps_hoa.specs.Files.{is_among}
-use Rattle.ps_machine.specs.Machines.{MachineData, IsMachine, memories_of, step_of, next_of, plays}
+use Rattle.ps_machine.specs.Behaviours.{IsMachine}
+use Rattle.ps_machine.specs.Machines.{MachineData, behaviour, step_of}
 use Rattle.ps_circuit.specs.Circuits.{CircuitData, IsDraft, IsCircuit, IsDefinition, IsKnown, IsName, Reads, variable, definitions}
 use Rattle.ps_circuit.specs.Building.{Drafted, Extends, AreSides, IsSound, Meets, bit}
 use Rattle.ps_aiger.specs.Built.{AreLiterals, IsBuilt}
-use Rattle.ps_aiger.specs.Encoded.{Encodes, IsTidy, IsTidyGate, SeesNoInput, StepsAs, number_of, memory_of, letter_over, bits_over, symbols_of}
+use Rattle.ps_aiger.specs.Encoded.{Encodes, IsTidy, IsTidyGate, StepsAs, number_of, memory_at, memory_of, letter_over, bits_over, symbols_of}
+use Rattle.ps_aiger.specs.Timing.{SeesNoInput}
 use Rattle.ps_circuit.specs.Values.{Steps, bit_of, value_of, resets}
-use Rattle.std.specs.Option.{unwrap_or}
 use Rattle.std.proofs.lemmas.Bool.{ltb-true}
 use Rattle.std.proofs.lemmas.List.{get_or_default, get_or_append_left, get_or_push, map-append, take_more}
 use Rattle.std.specs.Global.{Global}
@@ -28,9 +29,8 @@ use Rattle.ps_hoa.specs.Memory.{bytes_of}
 use Rattle.ps_circuit.specs.Drafts.{name_bytes}
 use Rattle.ps_hoa.specs.Header.{has_control, is_control, is_empty}
 use Rattle.ps_hoa.specs.Sound.{AreNames}
-use Rattle.ps_machine.specs.Machines.{row_of}
 use Rattle.ps_circuit.specs.Values.{MeetsGate}
-use Rattle.ps_aiger.specs.Functions.{wanted_bit, wanted_place, HasInputs, IsLiteralAt, latches_before, memory_at}
+use Rattle.ps_aiger.specs.Functions.{wanted_bit, wanted_place, HasInputs, IsLiteralAt, latches_before}
 use Rattle.ps_aiger.proofs.LetterLemmas.{AreFrom, few_rise, letter_bit, bit_for-at, bit_for-none, number_is, number_of_letter}
 use Rattle.ps_aiger.proofs.RangeLemmas.{even_literals, even-append, length-even, even-at}
 use Rattle.ps_aiger.proofs.FunctionLemmas.{at-kept}
@@ -49,10 +49,6 @@ pub none_at : (n k : ℕ) (e : Option (List ℕ)) → k < n → get_or (replicat
 none_at zero k e lt = absurd (omega arith)
 none_at (suc n) zero e lt = refl
 none_at (suc n) (suc k) e lt = none_at n k e (omega arith)
-
-row_within : (m : MachineData) → IsMachine m → (o : Option ℕ) → IsSomeAnd o (λ leaf. leaf < length m.rows) → (row_of m (unwrap_or o (length m.rows))).memory < memories_of m
-row_within m machine None h = absurd h
-row_within m machine (Some leaf) h = (machine.rows leaf h).0
 
 no_control : (b : ℕ) (rest : Bool) → cond (is_control b) true rest ≡ false → (is_control b ≡ false) × (rest ≡ false)
 no_control b rest h = elim (bool_cases (is_control b)) [
@@ -84,13 +80,13 @@ among (p ∷ ps) (suc k) e lt = which (nat_eq (get_or ps k e) p) (is_among (get_
     which false b h = h
 
 -- the propositions of a machine are few
-pub inputs_within : (m : MachineData) → IsMachine m → All (λ p. p < length m.names) m.inputs
+pub inputs_within : (m : MachineData) → IsMachine (behaviour m) → All (λ p. p < length m.names) m.inputs
 inputs_within m machine k e lt = (machine.each (get_or m.inputs k e)).1 (inl (among m.inputs k e lt))
 
-pub outputs_within : (m : MachineData) → IsMachine m → All (λ p. p < length m.names) m.outputs
+pub outputs_within : (m : MachineData) → IsMachine (behaviour m) → All (λ p. p < length m.names) m.outputs
 outputs_within m machine k e lt = (machine.each (get_or m.outputs k e)).1 (inr (among m.outputs k e lt))
 
-pub few_inputs : (m : MachineData) → IsMachine m → length m.inputs ≤ 64
+pub few_inputs : (m : MachineData) → IsMachine (behaviour m) → length m.inputs ≤ 64
 few_inputs m machine =
     let few : length m.inputs + 0 ≤ 64 = few_rise 0 64 m.inputs (record { from = λ k lt. omega arith; rise = machine.inputs_rise }) (λ k lt. (let h = inputs_within m machine k 0 lt in let n = machine.few_names in omega arith)) (omega arith) in
     omega arith
@@ -100,7 +96,7 @@ next_bits_within latches bits few many each k e lt =
     let within : k < latches = subst (λ n. k < n) many lt in
     subst (λ (w : Wanted). wanted_place w < 64) (sym (get_or_from_slice_get bits k (Next k) e (each k within))) (let less : k < 64 = omega arith in less)
 
-pub output_bits_within : (m : MachineData) → IsMachine m → (bits : List Wanted) → bits ≡ map Output m.outputs → All (λ bit. wanted_place bit < 64) bits
+pub output_bits_within : (m : MachineData) → IsMachine (behaviour m) → (bits : List Wanted) → bits ≡ map Output m.outputs → All (λ bit. wanted_place bit < 64) bits
 output_bits_within m machine bits e =
     subst (λ xs. All (λ bit. wanted_place bit < 64) xs) (sym e) (All-map (λ bit. wanted_place bit < 64) Output m.outputs (λ k d lt. (let h = outputs_within m machine k d lt in let n = machine.few_names in omega arith)))
 
@@ -133,13 +129,13 @@ literals_more m d e latches wanted i literals new literal w x many at added is b
     wanted_one a b same = cc
 
 pub symbol_more : (m : MachineData) (names : List (Vec ℕ Global)) (ps : List ℕ) (i : ℕ) (old new : List (Option (Vec ℕ Global))) (r name : Vec ℕ Global) → map bytes_of names ≡ m.names → i < length ps → get_or ps i 0 < length m.names →
-    r ≡ get_or names (get_or ps i 0) r → name.items ≡ r.items → new ≡ old ++ Some name ∷ [] → map name_bytes old ≡ symbols_of m (take i ps) → map name_bytes new ≡ symbols_of m (take (i + 1) ps)
+    r ≡ get_or names (get_or ps i 0) r → name.items ≡ r.items → new ≡ old ++ Some name ∷ [] → map name_bytes old ≡ symbols_of m.names (take i ps) → map name_bytes new ≡ symbols_of m.names (take (i + 1) ps)
 symbol_more m names ps i old new r name names_are lt known is same added before =
     let p = get_or ps i 0 in
     let within : p < length names = subst (λ n. p < n) (sym (sym (length-map names bytes_of) ∙ ap length names_are)) known in
     let here : name.items ≡ get_or m.names p [] = same ∙ ap (λ (v : Vec ℕ Global). v.items) is ∙ sym (get_or-map bytes_of names p r [] within) ∙ ap (λ ns. get_or ns p []) names_are in
-    ap (map name_bytes) added ∙ map-append name_bytes old (Some name ∷ []) ∙ ap (λ xs. xs ++ Some name.items ∷ []) before ∙ ap (λ b. symbols_of m (take i ps) ++ Some b ∷ []) here
-    ∙ sym (ap (symbols_of m) (take_more ps i 0 lt) ∙ map-append (λ q. Some (slice_index_or m.names q [])) (take i ps) (p ∷ []))
+    ap (map name_bytes) added ∙ map-append name_bytes old (Some name ∷ []) ∙ ap (λ xs. xs ++ Some name.items ∷ []) before ∙ ap (λ b. symbols_of m.names (take i ps) ++ Some b ∷ []) here
+    ∙ sym (ap (symbols_of m.names) (take_more ps i 0 lt) ∙ map-append (λ q. Some (slice_index_or m.names q [])) (take i ps) (p ∷ []))
 
 pub ok_with : {T E : Type 0} (r : Result T E) (P Q R : T → Type 0) → ((x : T) → P x → Q x → R x) → IfOk r P → IfOk r Q → IfOk r R
 ok_with (Ok x) P Q R f p q = f x p q
@@ -157,7 +153,7 @@ each_side P (g ∷ gates) all =
     subst (λ xs. All P xs) (sym (flat_map-cons (λ (g : Gate). g.first ∷ g.second ∷ []) g gates))
     (All-append P (g.first ∷ g.second ∷ []) (flat_map (λ (g : Gate). g.first ∷ g.second ∷ []) gates) (two_hold P g.first g.second here.0 here.1) (each_side P gates (λ k e lt. all (suc k) e (omega arith))))
 
-module _ (m : MachineData) (machine : IsMachine m) (d : Drafted) (sound : IsSound d) (latches : ℕ) (next outputs : List ℕ) (c : CircuitData) (built : IsBuilt m d next outputs c)
+module _ (m : MachineData) (machine : IsMachine (behaviour m)) (d : Drafted) (sound : IsSound d) (latches : ℕ) (next outputs : List ℕ) (c : CircuitData) (built : IsBuilt m d next outputs c)
     (given : d.given ≡ length m.inputs + latches) (many : length next ≡ latches) where
   latch_is : (k : ℕ) → k < latches → get_or c.latches k no_latch ≡ record { literal = 2 * (length m.inputs + 1 + k); next = get_or next k 0; reset = false }
   latch_is k lt = get_or_from_slice_get c.latches k _ no_latch (built.latches.each k (subst (λ n. k < n) (sym many) lt))
@@ -253,7 +249,7 @@ module _ (m : MachineData) (machine : IsMachine m) (d : Drafted) (sound : IsSoun
         let b = side_below k within in
         subst (λ (g : Gate). IsKnown (definitions c) g.first × IsKnown (definitions c) g.second) (sym (gate_is k e within)) (known_of _ b.0, known_of _ b.1)))
 
-    pub is_draft : All IsName (symbols_of m m.inputs) → All IsName (symbols_of m m.outputs) → length m.outputs ≡ length outputs → IsDraft c
+    pub is_draft : All IsName (symbols_of m.names m.inputs) → All IsName (symbols_of m.names m.outputs) → length m.outputs ≡ length outputs → IsDraft c
     is_draft named_in named_out many_outputs = record {
       limit = subst (λ n. n < 2147483648) (sym built.most) sound.room;
       defined = λ k e lt. (let within = within_most k lt in subst (IsDefinition c.most) (sym (definition_at k e within)) (omega arith, omega arith, omega arith));
@@ -299,12 +295,12 @@ module _ (m : MachineData) (machine : IsMachine m) (d : Drafted) (sound : IsSoun
 
   -- ## Names
 
-  pub named : (ps : List ℕ) → All (λ p. p < length m.names) ps → All IsName (symbols_of m ps)
+  pub named : (ps : List ℕ) → All (λ p. p < length m.names) ps → All IsName (symbols_of m.names ps)
   named ps below = All-map IsName (λ (p : ℕ). Some (slice_index_or m.names p [])) ps (λ k e lt. name_ok m.names machine.are_names (get_or ps k e) (below k e lt))
 
   -- ## The step
 
-  module _ (next_literals : (j : ℕ) → j < latches → IsLiteralAt m (Next j) d latches 0 (get_or next j 0)) (output_literals : AreLiterals m d latches (map Output m.outputs) outputs) (room : memories_of m ≤ 2 ^ latches) where
+  module _ (next_literals : (j : ℕ) → j < latches → IsLiteralAt m (Next j) d latches 0 (get_or next j 0)) (output_literals : AreLiterals m d latches (map Output m.outputs) outputs) (room : length m.nodes ≤ 2 ^ latches) where
     module _ (states inputs played behind : List Bool) (s : Steps c states inputs played behind) where
       v : ℕ → Bool
       v = value_of s.values
@@ -351,54 +347,54 @@ module _ (m : MachineData) (machine : IsMachine m) (d : Drafted) (sound : IsSoun
       code : number_of states ≡ latches_before m latches v
       code = number_of_letter states (λ j. v (length m.inputs + 1 + j)) (λ j lt. state_bit j (subst (λ n. j < n) many_states lt)) ∙ ap (λ n. latches_before m n v) many_states
 
-      memory_is : memory_at m (0 + latches_before m latches v) ≡ memory_of m states
-      memory_is = ap (memory_at m) ((let e : 0 + latches_before m latches v ≡ latches_before m latches v = omega arith in e) ∙ sym code)
+      memory_is : memory_at (behaviour m) (0 + latches_before m latches v) ≡ memory_of (behaviour m) states
+      memory_is = ap (memory_at (behaviour m)) ((let e : 0 + latches_before m latches v ≡ latches_before m latches v = omega arith in e) ∙ sym code)
 
-      literal_bit : (w : Wanted) (literal : ℕ) → IsLiteralAt m w d latches 0 literal → bit v literal ≡ wanted_bit w (step_of m (memory_of m states) (letter_over m.inputs inputs))
+      literal_bit : (w : Wanted) (literal : ℕ) → IsLiteralAt m w d latches 0 literal → bit v literal ≡ wanted_bit w (step_of m (memory_of (behaviour m) states) (letter_over m.inputs inputs))
       literal_bit w literal l = l.is v meets (letter_over m.inputs inputs) has ∙ ap (λ n. wanted_bit w (step_of m n (letter_over m.inputs inputs))) memory_is
 
-      memory_within : memory_of m states < memories_of m
-      memory_within = which (bool_cases (nat_lt (number_of states) (memories_of m)))
+      memory_within : memory_of (behaviour m) states < length m.nodes
+      memory_within = which (bool_cases (nat_lt (number_of states) (length m.nodes)))
         where
-          which : (nat_lt (number_of states) (memories_of m) ≡ true) ⊎ (nat_lt (number_of states) (memories_of m) ≡ false) → memory_of m states < memories_of m
-          which (inl e) = subst (λ n. n < memories_of m) (sym (ap (λ b. cond b (number_of states) 0) e)) (ltb-true (number_of states) (memories_of m) e)
-          which (inr e) = subst (λ n. n < memories_of m) (sym (ap (λ b. cond b (number_of states) 0) e)) machine.some
+          which : (nat_lt (number_of states) (length m.nodes) ≡ true) ⊎ (nat_lt (number_of states) (length m.nodes) ≡ false) → memory_of (behaviour m) states < length m.nodes
+          which (inl e) = subst (λ n. n < length m.nodes) (sym (ap (λ b. cond b (number_of states) 0) e)) (ltb-true (number_of states) (length m.nodes) e)
+          which (inr e) = subst (λ n. n < length m.nodes) (sym (ap (λ b. cond b (number_of states) 0) e)) machine.some
 
       many_outputs : length outputs ≡ length m.outputs
       many_outputs = output_literals.many ∙ length-map m.outputs Output
 
-      played_are : played ≡ bits_over m.outputs (plays m (memory_of m states) (letter_over m.inputs inputs))
+      played_are : played ≡ bits_over m.outputs ((behaviour m).plays (memory_of (behaviour m) states) (letter_over m.inputs inputs))
       unfolding v
       played_are =
           s.outputs_are ∙ ap (map (bit_of s.values)) built.output_literals
-          ∙ same_lists _ _ (length-map outputs (bit_of s.values) ∙ many_outputs ∙ sym (length-map m.outputs (λ p. is_in p (plays m (memory_of m states) (letter_over m.inputs inputs)))))
+          ∙ same_lists _ _ (length-map outputs (bit_of s.values) ∙ many_outputs ∙ sym (length-map m.outputs (λ p. is_in p ((behaviour m).plays (memory_of (behaviour m) states) (letter_over m.inputs inputs)))))
           (λ k e lt. (let within : k < length outputs = subst (λ n. k < n) (length-map outputs (bit_of s.values)) lt in
           let there : k < length m.outputs = subst (λ n. k < n) many_outputs within in
           let p = get_or m.outputs k 0 in
           let at : slice_get (map Output m.outputs) k ≡ Some (Output p) = slice_get-get_or (map Output m.outputs) k (Output 0) (subst (λ n. k < n) (sym (length-map m.outputs Output)) there) ∙ ap (λ w. Some w) (get_or-map Output m.outputs k 0 (Output 0) there) in
-          get_or-map (bit_of s.values) outputs k 0 e within ∙ literal_bit (Output p) (get_or outputs k 0) (output_literals.each k (Output p) at) ∙ sym (get_or-map (λ q. is_in q (plays m (memory_of m states) (letter_over m.inputs inputs))) m.outputs k 0 e there)))
+          get_or-map (bit_of s.values) outputs k 0 e within ∙ literal_bit (Output p) (get_or outputs k 0) (output_literals.each k (Output p) at) ∙ sym (get_or-map (λ q. is_in q ((behaviour m).plays (memory_of (behaviour m) states) (letter_over m.inputs inputs))) m.outputs k 0 e there)))
 
       many_behind : length behind ≡ latches
       many_behind = ap length s.next_are ∙ length-map c.latches (λ l. bit_of s.values l.next) ∙ many_latches
 
-      next_within : next_of m (memory_of m states) (letter_over m.inputs inputs) < memories_of m
-      next_within = row_within m machine _ (machine.leaves (memory_of m states) (letter_over m.inputs inputs) memory_within)
+      next_within : (behaviour m).next (memory_of (behaviour m) states) (letter_over m.inputs inputs) < length m.nodes
+      next_within = machine.next_within (memory_of (behaviour m) states) (letter_over m.inputs inputs) memory_within
 
-      behind_is : number_of behind ≡ next_of m (memory_of m states) (letter_over m.inputs inputs)
+      behind_is : number_of behind ≡ (behaviour m).next (memory_of (behaviour m) states) (letter_over m.inputs inputs)
       unfolding v
       behind_is =
-          number_is behind _ (subst (λ n. next_of m (memory_of m states) (letter_over m.inputs inputs) < 2 ^ n) (sym many_behind) (let a = next_within in omega (arith, room)))
+          number_is behind _ (subst (λ n. (behaviour m).next (memory_of (behaviour m) states) (letter_over m.inputs inputs) < 2 ^ n) (sym many_behind) (let a = next_within in omega (arith, room)))
           (λ j lt. (let within : j < latches = subst (λ n. j < n) many_behind lt in
           ap (λ bits. get_or bits j false) s.next_are ∙ get_or-map (λ (l : Latch). bit_of s.values l.next) c.latches j no_latch false (subst (λ n. j < n) (sym many_latches) within) ∙ ap (λ (l : Latch). bit_of s.values l.next) (latch_is j within)
           ∙ literal_bit (Next j) (get_or next j 0) (next_literals j within)))
 
-      pub steps_as : StepsAs m states inputs played behind
+      pub steps_as : StepsAs (behaviour m) states inputs played behind
       steps_as = record { outputs_are = played_are; next_is = behind_is }
 
     pub sees : IsTrue m.is_first → SeesNoInput c
     sees first states inputs others played other_played behind other_behind s t =
         (steps_as states inputs played behind s).outputs_are
-        ∙ ap (λ y. bits_over m.outputs y) (machine.blind first (memory_of m states) (letter_over m.inputs inputs) (letter_over m.inputs others) (memory_within states inputs played behind s))
+        ∙ ap (λ y. bits_over m.outputs y) (machine.blind first (memory_of (behaviour m) states) (letter_over m.inputs inputs) (letter_over m.inputs others) (memory_within states inputs played behind s))
         ∙ sym (steps_as states others other_played other_behind t).outputs_are
 
     resets_are : All (λ bit. bit ≡ false) (resets c)
@@ -425,14 +421,14 @@ module _ (m : MachineData) (machine : IsMachine m) (d : Drafted) (sound : IsSoun
     pub draft : IsDraft c
     draft = is_draft next_held outputs_held (named m.inputs inputs_below) (named m.outputs outputs_below) (sym (output_literals.many ∙ length-map m.outputs Output))
 
-    pub encodes : IsCircuit c → ((n : ℕ) → memories_of m ≤ 2 ^ n → latches ≤ n) → Encodes m c
+    pub encodes : IsCircuit c → ((n : ℕ) → length m.nodes ≤ 2 ^ n → latches ≤ n) → Encodes (behaviour m) c
     encodes is least = record {
       is_circuit = is;
       input_names = built.input_names;
       output_names = built.output_names;
       latch_names = subst (λ xs. All (λ name. name ≡ None) xs) (sym built.latch_names) (λ k e lt. none_at (length next) k e (subst (λ n. k < n) (length-replicate (length next) None) lt));
       resets_are = resets_are;
-      room = subst (λ n. memories_of m ≤ 2 ^ n) (sym many_latches) room;
+      room = subst (λ n. length m.nodes ≤ 2 ^ n) (sym many_latches) room;
       needed = λ n h. subst (λ k. k ≤ n) (sym many_latches) (least n h);
       steps = λ states inputs played behind s. steps_as states inputs played behind s;
     }

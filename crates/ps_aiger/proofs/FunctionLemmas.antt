@@ -13,11 +13,12 @@ use Rattle.ps_label.specs.Truth.{is_in}
 use Rattle.ps_hoa.specs.Files.{is_among}
 use Rattle.ps_diagram.specs.Table.{leaf_of}
 use Rattle.ps_diagram.specs.Views.{SeesTest}
-use Rattle.ps_machine.specs.Machines.{MachineData, row_of, step_of}
+use Rattle.ps_machine.specs.Machines.{MachineData, behaviour, row_of, step_of}
 use Rattle.ps_aiger.specs.declared.functions.Wanted.{Wanted}
 use Rattle.ps_aiger.specs.declared.functions.Wanted.TheVariants.{Next, Output}
 use Rattle.ps_circuit.specs.Building.{Drafted, Extends, IsHeld, Meets, bit}
-use Rattle.ps_aiger.specs.Functions.{wanted_bit, IsLiteralOf, KnowsLiterals, latches_before, memory_at, IsLiteralAt}
+use Rattle.ps_aiger.specs.Functions.{wanted_bit, IsLiteralOf, KnowsLiterals, latches_before, IsLiteralAt}
+use Rattle.ps_aiger.specs.Encoded.{memory_at}
 use Rattle.ps_circuit.proofs.GateLemmas.{bool_cases, bit-plain, held-extends, meets-extends}
 
 pub not_among : (q : ℕ) (ps : List ℕ) → ((k : ℕ) → k < length ps → get_or ps k 0 ≡ q → ⊥) → is_among q ps ≡ false
@@ -125,14 +126,14 @@ literal-test m w d node p low high place t f literal sees at lt lf held mux = re
 
 -- ## Latches
 
-pub at-zero : (m : MachineData) (w : Wanted) (d : Drafted) (code literal : ℕ) → IsLiteralOf m w d (slice_index m.nodes (memory_at m code)) literal → IsLiteralAt m w d 0 code literal
+pub at-zero : (m : MachineData) (w : Wanted) (d : Drafted) (code literal : ℕ) → IsLiteralOf m w d (slice_index m.nodes (memory_at (behaviour m) code)) literal → IsLiteralAt m w d 0 code literal
 at-zero m w d code literal l = record {
   held = l.held;
-  is = λ v meets x has. l.is v meets x has ∙ ap (λ n. wanted_bit w (step_of m (memory_at m n) x)) (let e : code ≡ code + 0 = omega arith in e);
+  is = λ v meets x has. l.is v meets x has ∙ ap (λ n. wanted_bit w (step_of m (memory_at (behaviour m) n) x)) (let e : code ≡ code + 0 = omega arith in e);
 }
 
 abbrev wanted_at : MachineData → Wanted → ℕ → ℕ → Bool
-wanted_at m w x n = wanted_bit w (step_of m (memory_at m n) x)
+wanted_at m w x n = wanted_bit w (step_of m (memory_at (behaviour m) n) x)
 
 by_bit : (m : MachineData) (w : Wanted) (x latch code upper n : ℕ) (b t f : Bool) → upper ≡ code + 2 ^ latch → t ≡ wanted_at m w x (upper + n) → f ≡ wanted_at m w x (code + n) → cond b t f ≡ wanted_at m w x (code + (n + cond b (2 ^ latch) 0))
 by_bit m w x latch code upper n true t f eu et ef = et ∙ ap (wanted_at m w x) (ap (λ k. k + n) eu ∙ (let e : code + 2 ^ latch + n ≡ code + (n + 2 ^ latch) = omega arith in e))

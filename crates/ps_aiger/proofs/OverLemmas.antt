@@ -9,13 +9,14 @@ use Rattle.ps_label.specs.Truth.{is_in}
 use Rattle.ps_hoa.specs.Files.{is_among}
 use Rattle.ps_diagram.specs.Table.{leaf_of}
 use Rattle.ps_diagram.specs.Views.{SeesTest, HeedsBehind}
-use Rattle.ps_machine.specs.Machines.{MachineData, IsMachine, row_of}
+use Rattle.ps_machine.specs.Behaviours.{IsMachine}
+use Rattle.ps_machine.specs.Machines.{MachineData, behaviour, row_of}
 use Rattle.ps_aiger.specs.declared.functions.Wanted.{Wanted}
 use Rattle.ps_circuit.specs.Building.{Drafted, Extends}
 use Rattle.ps_aiger.specs.Encoded.{letter_over}
-use Rattle.ps_aiger.specs.Functions.{wanted_bit, row_by}
+use Rattle.ps_aiger.specs.Functions.{wanted_bit, row_by, node_made}
 use Rattle.ps_circuit.specs.Gates.{Made, mux_of}
-use Rattle.ps_aiger.specs.Wires.{over_variables, node_made}
+use Rattle.ps_aiger.specs.Wires.{over_variables}
 use Rattle.ps_aiger.proofs.LetterLemmas.{AreFrom, bit_for, letter_bit, bit_for-at, bit_for-none, no_test}
 use Rattle.ps_aiger.proofs.FunctionLemmas.{by_cond, no_row, nothing_wanted}
 use Rattle.ps_circuit.proofs.GateLemmas.{extends-refl, extends-trans}
@@ -146,10 +147,10 @@ made-leaf m w node leaf literal d h e =
     over-constant (wanted_bit w (row_of m leaf)) (range_with_len 1 (length m.inputs)) _ d (λ bits e. ap (bit_at m w) (h (letter_over m.inputs bits)))
     ∙ ap (λ n. record { draft = d; literal = n }) (sym e)
 
-rising : (m : MachineData) → IsMachine m → AreFrom 0 m.inputs
+rising : (m : MachineData) → IsMachine (behaviour m) → AreFrom 0 m.inputs
 rising m machine = record { from = λ k lt. omega arith; rise = machine.inputs_rise }
 
-pub made-low : (m : MachineData) (w : Wanted) (node p low high : ℕ) (d : Drafted) → IsMachine m → SeesTest m.store node p low high → is_among p m.inputs ≡ false → node_made m w node d ≡ node_made m w low d
+pub made-low : (m : MachineData) (w : Wanted) (node p low high : ℕ) (d : Drafted) → IsMachine (behaviour m) → SeesTest m.store node p low high → is_among p m.inputs ≡ false → node_made m w node d ≡ node_made m w low d
 unfolding node_made
 made-low m w node p low high d machine sees none =
     over-same (range_with_len 1 (length m.inputs)) _ _ d (λ bits e.
@@ -168,7 +169,7 @@ settled (p ∷ ps) (x ∷ a) (y ∷ b) q ea eb h = elim (cases_eq p q) [
 ]
 
 -- a node that heeds later propositions alone heeds later places alone
-node_behind : (m : MachineData) (w : Wanted) (node p place : ℕ) → IsMachine m → slice_get m.inputs place ≡ Some p → HeedsBehind m.store node p → (n : ℕ) → n ≡ length m.inputs →
+node_behind : (m : MachineData) (w : Wanted) (node p place : ℕ) → IsMachine (behaviour m) → slice_get m.inputs place ≡ Some p → HeedsBehind m.store node p → (n : ℕ) → n ≡ length m.inputs →
     IsBehind n place (λ bits. wanted_bit w (row_by m node (letter_over m.inputs bits)))
 node_behind m w node p place machine at heeds n is a b ea eb same =
     ap (bit_at m w) (heeds (letter_over m.inputs a) (letter_over m.inputs b) (λ q lt. letter_bit 0 m.inputs a q (rising m machine)
@@ -193,7 +194,7 @@ node_behind m w node p place machine at heeds n is a b ea eb same =
 abbrev pub choice_made : MachineData → Wanted → ℕ → ℕ → ℕ → Drafted → Made
 choice_made m w s high low d = choose s (node_made m w high d) (node_made m w low (node_made m w high d).draft)
 
-pub made-test : (m : MachineData) (w : Wanted) (node p low high place : ℕ) (d : Drafted) → IsMachine m → SeesTest m.store node p low high → slice_get m.inputs place ≡ Some p →
+pub made-test : (m : MachineData) (w : Wanted) (node p low high place : ℕ) (d : Drafted) → IsMachine (behaviour m) → SeesTest m.store node p low high → slice_get m.inputs place ≡ Some p →
     node_made m w node d ≡ choice_made m w (2 * (place + 1)) high low d
 unfolding node_made
 made-test m w node p low high place d machine sees at =

@@ -1,20 +1,16 @@
--- What the circuit of a machine is made of.
+-- What the circuit of a machine is made of. (Of private functions.)
 --     AreLiterals m d latches wanted literals      each literal has its wanted bit, in each memory and at each input letter
 --     IsBuilt m d next outputs c      the circuit of these gates, next literals and outputs
---     IsWired m c      its literals and gates are those of the machine's circuit, in their order
---     IsOutOfLiterals m      where no circuit is made: the gates need too many variables
-use Rattle.std.specs.Prelude.{◌≡◌, ℕ, ◌+◌, ◌*◌, ◌^◌, ◌<◌, ◌≤◌, false, List, length, map, slice_get, slice_index, Some, None, replicate}
+use Rattle.std.specs.Prelude.{◌≡◌, ℕ, ◌+◌, ◌*◌, ◌<◌, false, List, length, map, slice_get, slice_index, Some, None, replicate}
 use Rattle.std.specs.List.{range_with_len}
-use Rattle.ps_machine.specs.Machines.{MachineData, memories_of}
+use Rattle.ps_machine.specs.Machines.{MachineData}
 use Rattle.ps_aiger.specs.declared.functions.Wanted.{Wanted}
-use Rattle.ps_circuit.specs.declared.parts.Gate.{Gate}
 use Rattle.ps_circuit.specs.declared.parts.Latch.{Latch}
-use Rattle.ps_circuit.specs.declared.builder.Sides.{Sides}
 use Rattle.ps_circuit.specs.Circuits.{CircuitData}
 use Rattle.ps_aiger.specs.Encoded.{symbols_of}
 use Rattle.ps_circuit.specs.Building.{Drafted, variables_of}
 use Rattle.ps_aiger.specs.Functions.{IsLiteralAt}
-use Rattle.ps_aiger.specs.Wires.{next_wires, output_wires}
+use Rattle.ps_aiger.specs.Wires.{AreGates}
 
 pub record AreLiterals (m : MachineData) (d : Drafted) (latches : ℕ) (wanted : List Wanted) (literals : List ℕ) : Type 0 where
   pub many : length literals ≡ length wanted
@@ -25,33 +21,12 @@ pub record AreLatches (from : ℕ) (next : List ℕ) (latches : List Latch) : Ty
   pub many : length latches ≡ length next
   pub each : (k : ℕ) → k < length next → slice_get latches k ≡ Some (record { literal = 2 * (from + k); next = slice_index next k; reset = false })
 
--- the gates with these sides, from that variable on
-pub record AreGates (from : ℕ) (sides : List Sides) (gates : List Gate) : Type 0 where
-  pub many : length gates ≡ length sides
-  pub each : (k : ℕ) (s : Sides) → slice_get sides k ≡ Some s → slice_get gates k ≡ Some (record { literal = 2 * (from + k); first = s.first; second = s.second })
-
 pub record IsBuilt (m : MachineData) (d : Drafted) (next outputs : List ℕ) (c : CircuitData) : Type 0 where
   pub most : c.most ≡ variables_of d
   pub inputs : c.inputs ≡ map (λ v. 2 * v) (range_with_len 1 (length m.inputs))
   pub latches : AreLatches (length m.inputs + 1) next c.latches
   pub output_literals : c.outputs ≡ outputs
   pub gates : AreGates (d.given + 1) d.gates c.gates
-  pub input_names : c.input_names ≡ symbols_of m m.inputs
-  pub output_names : c.output_names ≡ symbols_of m m.outputs
+  pub input_names : c.input_names ≡ symbols_of m.names m.inputs
+  pub output_names : c.output_names ≡ symbols_of m.names m.outputs
   pub latch_names : c.latch_names ≡ replicate (length next) None
-
--- the next values of the latches, the outputs and the gates are those that are made for as many latches
-pub record IsWiredBy (m : MachineData) (c : CircuitData) (latches : ℕ) : Type 0 where
-  pub next : map (λ l. l.next) c.latches ≡ (next_wires m latches).literals
-  pub outputs : c.outputs ≡ (output_wires m latches).literals
-  pub gates : AreGates (length m.inputs + latches + 1) (output_wires m latches).draft.gates c.gates
-
-abbrev pub IsWired : MachineData → CircuitData → Type 0
-IsWired m c = IsWiredBy m c (length c.latches)
-
--- With as many latches as are needed, the circuit's gates take more variables than have literals.
-pub record IsOutOfLiterals (m : MachineData) : Type 0 where
-  pub latches : ℕ
-  pub room : memories_of m ≤ 2 ^ latches
-  pub needed : (n : ℕ) → memories_of m ≤ 2 ^ n → latches ≤ n
-  pub above : 2147483647 < variables_of (output_wires m latches).draft

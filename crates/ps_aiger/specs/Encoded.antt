@@ -1,8 +1,8 @@
 -- The circuit of a machine.
 --     number_of bits      the first bit counts 1, the next one 2, and so on
---     memory_of m latches      the memory whose code the latches hold; memory 0 where they hold none's
---     Encodes m c      the circuit begins at memory 0, and its step is the machine's
---     SeesNoInput c      at equal latches the outputs are equal for all inputs
+--     memory_at b code      the memory with that code; memory 0 for a code of none
+--     memory_of b latches      the memory whose code the latches hold
+--     Encodes b c      the circuit begins at memory 0, and its step is the machine's
 --     IsTidy c      how its variables are numbered, and which gates it has
 use Rattle.std.specs.Prelude.{◌≡◌, ◌≢◌, ℕ, ◌+◌, ◌*◌, ◌^◌, ◌<◌, ◌≤◌, Bool, false, cond, List, [], ◌∷◌, length, map, Option, Some, None, All, AllPairs, nat_lt, if◌then◌else◌, slice_index_or}
 use Rattle.std.specs.List.{range_with_len}
@@ -10,14 +10,18 @@ use Rattle.ps_label.specs.Truth.{is_in}
 use Rattle.ps_circuit.specs.declared.parts.Gate.{Gate}
 use Rattle.ps_circuit.specs.Circuits.{CircuitData, IsCircuit, variable, definitions}
 use Rattle.ps_circuit.specs.Values.{Steps, resets}
-use Rattle.ps_machine.specs.Machines.{MachineData, memories_of, next_of, plays}
+use Rattle.ps_machine.specs.Behaviours.{Behaviour}
 
 abbrev pub number_of : List Bool → ℕ
 number_of [] = 0
 number_of (bit ∷ bits) = cond bit 1 0 + 2 * number_of bits
 
-abbrev pub memory_of : MachineData → List Bool → ℕ
-memory_of m latches = if nat_lt (number_of latches) (memories_of m) then number_of latches else 0
+-- a code of no memory stands for memory 0
+abbrev pub memory_at : Behaviour → ℕ → ℕ
+memory_at b code = if nat_lt code b.memories then code else 0
+
+abbrev pub memory_of : Behaviour → List Bool → ℕ
+memory_of b latches = memory_at b (number_of latches)
 
 -- the letter with these bits at these propositions, and with no other bit
 abbrev pub letter_over : List ℕ → List Bool → ℕ
@@ -29,30 +33,25 @@ letter_over (p ∷ ps) (bit ∷ bits) = cond bit (2 ^ p) 0 + letter_over ps bits
 abbrev pub bits_over : List ℕ → ℕ → List Bool
 bits_over ps letter = map (λ p. is_in p letter) ps
 
--- their names as symbols
-abbrev pub symbols_of : MachineData → List ℕ → List (Option (List ℕ))
-symbols_of m ps = map (λ p. Some (slice_index_or m.names p [])) ps
+-- the names of these propositions as symbols
+abbrev pub symbols_of : List (List ℕ) → List ℕ → List (Option (List ℕ))
+symbols_of names ps = map (λ p. Some (slice_index_or names p [])) ps
 
 -- at latches and inputs the outputs and the next latches are those of the machine's step
-pub record StepsAs (m : MachineData) (latches inputs outputs next : List Bool) : Type 0 where
-  pub outputs_are : outputs ≡ bits_over m.outputs (plays m (memory_of m latches) (letter_over m.inputs inputs))
-  pub next_is : number_of next ≡ next_of m (memory_of m latches) (letter_over m.inputs inputs)
+pub record StepsAs (b : Behaviour) (latches inputs outputs next : List Bool) : Type 0 where
+  pub outputs_are : outputs ≡ bits_over b.outputs (b.plays (memory_of b latches) (letter_over b.inputs inputs))
+  pub next_is : number_of next ≡ b.next (memory_of b latches) (letter_over b.inputs inputs)
 
-pub record Encodes (m : MachineData) (c : CircuitData) : Type 0 where
+pub record Encodes (b : Behaviour) (c : CircuitData) : Type 0 where
   pub is_circuit : IsCircuit c
-  pub input_names : c.input_names ≡ symbols_of m m.inputs
-  pub output_names : c.output_names ≡ symbols_of m m.outputs
+  pub input_names : c.input_names ≡ symbols_of b.names b.inputs
+  pub output_names : c.output_names ≡ symbols_of b.names b.outputs
   pub latch_names : All (λ name. name ≡ None) c.latch_names
   pub resets_are : All (λ bit. bit ≡ false) (resets c)
-  pub room : memories_of m ≤ 2 ^ length c.latches
+  pub room : b.memories ≤ 2 ^ length c.latches
   -- no latch more than needed
-  pub needed : (n : ℕ) → memories_of m ≤ 2 ^ n → length c.latches ≤ n
-  pub steps : (latches inputs outputs next : List Bool) → Steps c latches inputs outputs next → StepsAs m latches inputs outputs next
-
-abbrev pub SeesNoInput : CircuitData → Type 0
-SeesNoInput c =
-    (latches inputs others outputs other_outputs next other_next : List Bool) →
-    Steps c latches inputs outputs next → Steps c latches others other_outputs other_next → outputs ≡ other_outputs
+  pub needed : (n : ℕ) → b.memories ≤ 2 ^ n → length c.latches ≤ n
+  pub steps : (latches inputs outputs next : List Bool) → Steps c latches inputs outputs next → StepsAs b latches inputs outputs next
 
 -- two literals of different variables, none constant, the greater first and below the gate's own
 pub record IsTidyGate (g : Gate) : Type 0 where

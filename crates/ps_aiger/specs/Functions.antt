@@ -1,19 +1,26 @@
--- The bits of a machine's step as functions of latches and inputs, and the literals that stand for them.
+-- The bits of a machine's step as functions of latches and inputs, and the literals that stand for them. (Of private functions.)
 --     Wanted, wanted_bit w row      one bit of a row: of the next memory, or of the letter
 --     HasInputs m v x      the letter has the bits of the inputs' variables, and no other
 --     IsLiteralOf m w d node literal      the literal has, at each input letter, the bit of the row that the node leads to
 --     IsLiteralAt m w d latches code literal      the same of the memory whose code is `code` with the bits of the first latches
-use Rattle.std.specs.Prelude.{◌≡◌, ℕ, ◌+◌, Bool, false, length, if◌then◌else◌, nat_lt, slice_get, Option, Some}
+--     node_made m w node d, code_wanted m w latches code d      the literal of the wanted bit as it is made, of a node and of such memories
+--     bits_wired m latches ws d      the literals of these bits, one after another
+use Rattle.std.specs.Prelude.{◌≡◌, ℕ, ◌+◌, Bool, false, List, length, map, slice_get, Option, Some}
+use Rattle.std.specs.List.{range_with_len}
 use Rattle.std.specs.Option.{unwrap_or}
 use Rattle.ps_label.specs.Truth.{is_in}
 use Rattle.ps_hoa.specs.Files.{is_among}
 use Rattle.ps_diagram.specs.Letters.{letter_of}
 use Rattle.ps_diagram.specs.Table.{leaf_of}
 use Rattle.ps_machine.specs.declared.machine.Row.{Row}
-use Rattle.ps_machine.specs.Machines.{MachineData, memories_of, row_of, step_of}
+use Rattle.ps_machine.specs.Behaviours.{Behaviour}
+use Rattle.ps_machine.specs.Machines.{MachineData, behaviour, row_of, step_of}
 use Rattle.ps_aiger.specs.declared.functions.Wanted.{Wanted}
 use Rattle.ps_aiger.specs.declared.functions.Wanted.TheVariants.{Next, Output}
+use Rattle.ps_aiger.specs.Encoded.{letter_over, memory_at}
+use Rattle.ps_aiger.specs.Wires.{StepBit, Wired, code_made, over_variables, wired}
 use Rattle.ps_circuit.specs.Building.{Drafted, IsHeld, Meets, bit}
+use Rattle.ps_circuit.specs.Gates.{Made}
 
 abbrev pub wanted_bit : Wanted → Row → Bool
 wanted_bit (Next j) row = is_in j row.memory
@@ -45,10 +52,26 @@ KnowsLiterals m wanted d known = (node literal : ℕ) → known node ≡ Some li
 abbrev pub latches_before : MachineData → ℕ → (ℕ → Bool) → ℕ
 latches_before m latches v = letter_of latches (λ j. v (length m.inputs + 1 + j))
 
--- a code of no memory stands for memory 0
-abbrev pub memory_at : MachineData → ℕ → ℕ
-memory_at m code = if nat_lt code (memories_of m) then code else 0
-
 pub record IsLiteralAt (m : MachineData) (wanted : Wanted) (d : Drafted) (latches code literal : ℕ) : Type 0 where
   pub held : IsHeld d literal
-  pub is : (v : ℕ → Bool) → Meets d v → (x : ℕ) → HasInputs m v x → bit v literal ≡ wanted_bit wanted (step_of m (memory_at m (code + latches_before m latches v)) x)
+  pub is : (v : ℕ → Bool) → Meets d v → (x : ℕ) → HasInputs m v x → bit v literal ≡ wanted_bit wanted (step_of m (memory_at (behaviour m) (code + latches_before m latches v)) x)
+
+-- ## As they are made
+
+-- the bit that is wanted of the row that the node leads to, at each input letter
+unfoldable pub node_made : MachineData → Wanted → ℕ → Drafted → Made
+node_made m w node d = over_variables (range_with_len 1 (length m.inputs)) (λ bits. wanted_bit w (row_by m node (letter_over m.inputs bits))) d
+
+-- each node's literal that is known is there
+abbrev pub KnowsMade : MachineData → Wanted → Drafted → (ℕ → Option ℕ) → Type 0
+KnowsMade m w d known = (node literal : ℕ) → known node ≡ Some literal → node_made m w node d ≡ record { draft = d; literal = literal }
+
+-- the wanted bit of a step
+abbrev pub bit_wanted : Behaviour → Wanted → StepBit
+bit_wanted b w memory x = wanted_bit w (record { memory = b.next memory x; letter = b.plays memory x })
+
+abbrev pub code_wanted : MachineData → Wanted → ℕ → ℕ → Drafted → Made
+code_wanted m w latches code d = code_made (behaviour m) (bit_wanted (behaviour m) w) latches code d
+
+abbrev pub bits_wired : MachineData → ℕ → List Wanted → Drafted → Wired
+bits_wired m latches ws d = wired (behaviour m) latches (map (bit_wanted (behaviour m)) ws) d

@@ -1,3 +1,4 @@
+pub mod Timing
 pub mod Encoded
 pub mod Functions
 pub mod Wires

@@ -1,16 +1,20 @@
 -- The gates of a machine's circuit in the order in which they are made, however many they are.
 --     over_variables variables f d      the literal of a function of the variables' bits
---     node_made m w node d, code_made m w latches code d      the literal of one bit of the machine's step
---     next_wires, output_wires m latches      the literals of all: the next values of the latches, and then the outputs
-use Rattle.std.specs.Prelude.{◌≡◌, ℕ, zero, suc, ◌+◌, ◌*◌, ◌^◌, Bool, true, false, if◌then◌else◌, List, [], ◌∷◌, length, map, slice_index, Option, Some}
+--     next_bit b j, output_bit b p      a bit of the machine's step, by memory and input letter
+--     code_made b f latches code d      the literal of such a bit, at the memories whose code begins so
+--     next_wires, output_wires b latches      the literals of all: the next values of the latches, and then the outputs
+--     IsWired b c      the circuit's literals and gates are these, in their order
+--     IsOutOfLiterals b      where no circuit is made: the gates need too many variables
+use Rattle.std.specs.Prelude.{◌≡◌, ℕ, zero, suc, ◌+◌, ◌*◌, ◌^◌, ◌<◌, ◌≤◌, Bool, true, false, if◌then◌else◌, List, [], ◌∷◌, length, map, slice_get, Some}
 use Rattle.std.specs.List.{range_with_len}
-use Rattle.ps_machine.specs.Machines.{MachineData}
-use Rattle.ps_circuit.specs.Building.{Drafted}
+use Rattle.ps_label.specs.Truth.{is_in}
+use Rattle.ps_circuit.specs.declared.builder.Sides.{Sides}
+use Rattle.ps_circuit.specs.declared.parts.Gate.{Gate}
+use Rattle.ps_circuit.specs.Building.{Drafted, variables_of}
+use Rattle.ps_circuit.specs.Circuits.{CircuitData}
 use Rattle.ps_circuit.specs.Gates.{Made, mux_of}
-use Rattle.ps_aiger.specs.declared.functions.Wanted.{Wanted}
-use Rattle.ps_aiger.specs.declared.functions.Wanted.TheVariants.{Next, Output}
-use Rattle.ps_aiger.specs.Encoded.{letter_over}
-use Rattle.ps_aiger.specs.Functions.{wanted_bit, row_by, memory_at}
+use Rattle.ps_machine.specs.Behaviours.{Behaviour}
+use Rattle.ps_aiger.specs.Encoded.{letter_over, memory_at}
 
 -- ## Functions
 
@@ -23,21 +27,27 @@ over_variables (v ∷ vs) f d =
     let low = over_variables vs (λ bits. f (false ∷ bits)) high.draft in
     mux_of low.draft (2 * v) high.literal low.literal
 
--- the bit that is wanted of the row that the node leads to, at each input letter
-unfoldable pub node_made : MachineData → Wanted → ℕ → Drafted → Made
-node_made m w node d = over_variables (range_with_len 1 (length m.inputs)) (λ bits. wanted_bit w (row_by m node (letter_over m.inputs bits))) d
+-- ## Bits of a step
 
--- That bit of the step of each memory whose code begins so, where that many latches are free: the last of them goes first.
-unfoldable pub code_made : MachineData → Wanted → ℕ → ℕ → Drafted → Made
-code_made m w zero code d = node_made m w (slice_index m.nodes (memory_at m code)) d
-code_made m w (suc latch) code d =
-    let high = code_made m w latch (code + 2 ^ latch) d in
-    let low = code_made m w latch code high.draft in
-    mux_of low.draft (2 * (length m.inputs + 1 + latch)) high.literal low.literal
+-- by memory and input letter
+abbrev pub StepBit : Type 0
+StepBit = ℕ → ℕ → Bool
 
--- each node's literal that is known is there
-abbrev pub KnowsMade : MachineData → Wanted → Drafted → (ℕ → Option ℕ) → Type 0
-KnowsMade m w d known = (node literal : ℕ) → known node ≡ Some literal → node_made m w node d ≡ record { draft = d; literal = literal }
+-- of the next memory, and of the letter that is played
+abbrev pub next_bit : Behaviour → ℕ → StepBit
+next_bit b j memory x = is_in j (b.next memory x)
+
+abbrev pub output_bit : Behaviour → ℕ → StepBit
+output_bit b p memory x = is_in p (b.plays memory x)
+
+-- That bit at each memory whose code begins so, where that many latches are free: the last of them goes first. At one memory it
+-- is a function of the inputs.
+unfoldable pub code_made : Behaviour → StepBit → ℕ → ℕ → Drafted → Made
+code_made b f zero code d = over_variables (range_with_len 1 (length b.inputs)) (λ bits. f (memory_at b code) (letter_over b.inputs bits)) d
+code_made b f (suc latch) code d =
+    let high = code_made b f latch (code + 2 ^ latch) d in
+    let low = code_made b f latch code high.draft in
+    mux_of low.draft (2 * (length b.inputs + 1 + latch)) high.literal low.literal
 
 -- ## The circuit
 
@@ -46,15 +56,36 @@ pub record Wired : Type 0 where
   pub literals : List ℕ
 
 -- these bits, one after another
-unfoldable pub wired : MachineData → ℕ → List Wanted → Drafted → Wired
-wired m latches [] d = record { draft = d; literals = [] }
-wired m latches (w ∷ ws) d =
-    let first = code_made m w latches 0 d in
-    let rest = wired m latches ws first.draft in
+unfoldable pub wired : Behaviour → ℕ → List StepBit → Drafted → Wired
+wired b latches [] d = record { draft = d; literals = [] }
+wired b latches (f ∷ fs) d =
+    let first = code_made b f latches 0 d in
+    let rest = wired b latches fs first.draft in
     record { draft = rest.draft; literals = first.literal ∷ rest.literals }
 
-abbrev pub next_wires : MachineData → ℕ → Wired
-next_wires m latches = wired m latches (map Next (range_with_len 0 latches)) (record { given = length m.inputs + latches; gates = [] })
+abbrev pub next_wires : Behaviour → ℕ → Wired
+next_wires b latches = wired b latches (map (next_bit b) (range_with_len 0 latches)) (record { given = length b.inputs + latches; gates = [] })
 
-abbrev pub output_wires : MachineData → ℕ → Wired
-output_wires m latches = wired m latches (map Output m.outputs) (next_wires m latches).draft
+abbrev pub output_wires : Behaviour → ℕ → Wired
+output_wires b latches = wired b latches (map (output_bit b) b.outputs) (next_wires b latches).draft
+
+-- the gates with these sides, from that variable on
+pub record AreGates (from : ℕ) (sides : List Sides) (gates : List Gate) : Type 0 where
+  pub many : length gates ≡ length sides
+  pub each : (k : ℕ) (s : Sides) → slice_get sides k ≡ Some s → slice_get gates k ≡ Some (record { literal = 2 * (from + k); first = s.first; second = s.second })
+
+-- the next values of the latches, the outputs and the gates are those that are made for as many latches
+pub record IsWiredBy (b : Behaviour) (c : CircuitData) (latches : ℕ) : Type 0 where
+  pub next : map (λ l. l.next) c.latches ≡ (next_wires b latches).literals
+  pub outputs : c.outputs ≡ (output_wires b latches).literals
+  pub gates : AreGates (length b.inputs + latches + 1) (output_wires b latches).draft.gates c.gates
+
+abbrev pub IsWired : Behaviour → CircuitData → Type 0
+IsWired b c = IsWiredBy b c (length c.latches)
+
+-- With as many latches as are needed, the circuit's gates take more variables than have literals.
+pub record IsOutOfLiterals (b : Behaviour) : Type 0 where
+  pub latches : ℕ
+  pub room : b.memories ≤ 2 ^ latches
+  pub needed : (n : ℕ) → b.memories ≤ 2 ^ n → latches ≤ n
+  pub above : 2147483647 < variables_of (output_wires b latches).draft

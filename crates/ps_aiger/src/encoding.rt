@@ -2,13 +2,15 @@
 
 ghost use Rattle.std.specs.Prelude.{◌≡◌, ◌≢◌, ℕ, ◌+◌, ◌*◌, ◌^◌, ◌<◌, ◌≤◌, All, IfOk, IsTrue, Some, None, [], length, map, replicate, slice_get, slice_index};
 ghost use Rattle.std.specs.List.{range_with_len};
-ghost use Rattle.ps_machine.specs.Machines.{IsMachine, memories_of};
+ghost use Rattle.ps_machine.specs.Behaviours.{IsMachine};
+ghost use Rattle.ps_machine.specs.Machines.{behaviour};
 ghost use Rattle.ps_circuit.specs.Drafts.{data_of, name_bytes};
-ghost use Rattle.ps_aiger.specs.Encoded.{Encodes, IsTidy, SeesNoInput, symbols_of};
+ghost use Rattle.ps_aiger.specs.Encoded.{Encodes, IsTidy, symbols_of};
+ghost use Rattle.ps_aiger.specs.Timing.{SeesNoInput};
 ghost use Rattle.ps_circuit.specs.Building.{Extends, IsSound, variables_of};
-ghost use Rattle.ps_aiger.specs.Built.{AreGates, AreLatches, AreLiterals, IsBuilt, IsOutOfLiterals, IsWired};
-ghost use Rattle.ps_aiger.specs.Wires.{next_wires, output_wires, wired};
-ghost use Rattle.ps_aiger.specs.Functions.{IsLiteralAt, wanted_place};
+ghost use Rattle.ps_aiger.specs.Built.{AreLatches, AreLiterals, IsBuilt};
+ghost use Rattle.ps_aiger.specs.Wires.{AreGates, IsOutOfLiterals, IsWired, next_wires, output_wires};
+ghost use Rattle.ps_aiger.specs.Functions.{IsLiteralAt, bits_wired, wanted_place};
 ghost use Rattle.ps_aiger.specs.declared.functions.Wanted.TheVariants.{Next, Output};
 
 use crate::functions::{Wanted, literal_of};
@@ -23,11 +25,11 @@ use std::alloc::{AllocError, Global};
 ///
 /// Fails where 2147483647 variables are there and one more is needed, or a growth was refused.
 pub fn encode(alloc: Global, machine: &Machine) -> Result<Circuit, EncodeFault>
-    ensures encodes { IfOk result (λ circuit. Encodes machine.now circuit) }
+    ensures encodes { IfOk result (λ circuit. Encodes (behaviour machine.now) circuit) }
     ensures tidy { IfOk result (λ circuit. IsTidy circuit) }
     ensures sees_no_input { IfOk result (λ circuit. IsTrue machine.now.is_first → SeesNoInput circuit) }
-    ensures wired { IfOk result (λ circuit. IsWired machine.now circuit) }
-    ensures too_large { result ≡ Err EncodeFault.CircuitTooLarge → IsOutOfLiterals machine.now }
+    ensures wired { IfOk result (λ circuit. IsWired (behaviour machine.now) circuit) }
+    ensures too_large { result ≡ Err EncodeFault.CircuitTooLarge → IsOutOfLiterals (behaviour machine.now) }
 {
     let latches = latches_for(machine.memories());
     let mut builder = Builder::new(alloc, machine.inputs().len() as u32 + latches);
@@ -51,8 +53,8 @@ fn next_literals(
     ensures extends { Extends builder.old builder.new }
     ensures many { IfOk result (λ next. length next.items ≡ latches) }
     ensures each { IfOk result (λ next. (j : ℕ) → j < latches → IsLiteralAt machine.now (Next j) builder.new latches 0 (slice_index next.items j)) }
-    ensures made { IfOk result (λ next. next_wires machine.now latches ≡ record { draft = builder.new; literals = next.items }) }
-    ensures too_large { result ≡ Err EncodeFault.CircuitTooLarge → 2147483647 < variables_of (next_wires machine.now latches).draft }
+    ensures made { IfOk result (λ next. next_wires (behaviour machine.now) latches ≡ record { draft = builder.new; literals = next.items }) }
+    ensures too_large { result ≡ Err EncodeFault.CircuitTooLarge → 2147483647 < variables_of (next_wires (behaviour machine.now) latches).draft }
 {
     let next_bits = next_bits(alloc, latches)?;
     literals_of(alloc, builder, machine, latches, &next_bits)
@@ -67,12 +69,12 @@ fn output_literals(
 ) -> Result<Vec<u32>, EncodeFault>
     requires few { latches ≤ 64 }
     requires given { builder.old.given ≡ length machine.now.inputs + latches }
-    requires behind { builder.old ≡ (next_wires machine.now latches).draft }
-    requires machine { IsMachine machine.now }
+    requires behind { builder.old ≡ (next_wires (behaviour machine.now) latches).draft }
+    requires machine { IsMachine (behaviour machine.now) }
     ensures extends { Extends builder.old builder.new }
     ensures literals { IfOk result (λ outputs. AreLiterals machine.now builder.new latches (map Output machine.now.outputs) outputs.items) }
-    ensures made { IfOk result (λ outputs. output_wires machine.now latches ≡ record { draft = builder.new; literals = outputs.items }) }
-    ensures too_large { result ≡ Err EncodeFault.CircuitTooLarge → 2147483647 < variables_of (output_wires machine.now latches).draft }
+    ensures made { IfOk result (λ outputs. output_wires (behaviour machine.now) latches ≡ record { draft = builder.new; literals = outputs.items }) }
+    ensures too_large { result ≡ Err EncodeFault.CircuitTooLarge → 2147483647 < variables_of (output_wires (behaviour machine.now) latches).draft }
 {
     let output_bits = output_bits(alloc, machine)?;
     literals_of(alloc, builder, machine, latches, &output_bits)
@@ -89,16 +91,16 @@ fn circuit_of(
 ) -> Result<Circuit, AllocError>
     requires given { builder.now.given ≡ length machine.now.inputs + latches }
     requires small { length machine.now.inputs ≤ 64 }
-    requires enough { memories_of machine.now ≤ 2 ^ latches }
-    requires least { (n : ℕ) → memories_of machine.now ≤ 2 ^ n → latches ≤ n }
+    requires enough { length machine.now.nodes ≤ 2 ^ latches }
+    requires least { (n : ℕ) → length machine.now.nodes ≤ 2 ^ n → latches ≤ n }
     requires many { length next.now ≡ latches }
     requires next { (j : ℕ) → j < latches → IsLiteralAt machine.now (Next j) builder.now latches 0 (slice_index next.now j) }
     requires outputs { AreLiterals machine.now builder.now latches (map Output machine.now.outputs) outputs.items }
-    requires next_wired { next.now ≡ (next_wires machine.now latches).literals }
-    requires output_wired { output_wires machine.now latches ≡ record { draft = builder.now; literals = outputs.items } }
-    ensures encodes { IfOk result (λ circuit. Encodes machine.now circuit) }
+    requires next_wired { next.now ≡ (next_wires (behaviour machine.now) latches).literals }
+    requires output_wired { output_wires (behaviour machine.now) latches ≡ record { draft = builder.now; literals = outputs.items } }
+    ensures encodes { IfOk result (λ circuit. Encodes (behaviour machine.now) circuit) }
     ensures tidy { IfOk result (λ circuit. IsTidy circuit) }
-    ensures wired { IfOk result (λ circuit. IsWired machine.now circuit) }
+    ensures wired { IfOk result (λ circuit. IsWired (behaviour machine.now) circuit) }
     ensures sees_no_input { IfOk result (λ circuit. IsTrue machine.now.is_first → SeesNoInput circuit) }
 {
     let parts = parts_of(alloc, builder, machine, next, outputs)?;
@@ -156,8 +158,8 @@ fn literals_of(
     requires small { length machine.now.inputs ≤ 64 }
     ensures extends { Extends builder.old builder.new }
     ensures literals { IfOk result (λ literals. AreLiterals machine.now builder.new latches wanted.now literals.items) }
-    ensures made { IfOk result (λ literals. wired machine.now latches wanted.now builder.old ≡ record { draft = builder.new; literals = literals.items }) }
-    ensures too_large { result ≡ Err EncodeFault.CircuitTooLarge → 2147483647 < variables_of (wired machine.now latches wanted.now builder.old).draft }
+    ensures made { IfOk result (λ literals. bits_wired machine.now latches wanted.now builder.old ≡ record { draft = builder.new; literals = literals.items }) }
+    ensures too_large { result ≡ Err EncodeFault.CircuitTooLarge → 2147483647 < variables_of (bits_wired machine.now latches wanted.now builder.old).draft }
 {
     let mut literals = Vec::new(alloc);
     for bit in wanted {
@@ -177,7 +179,7 @@ fn parts_of(
 ) -> Result<Parts, AllocError>
     requires given { builder.now.given ≡ length machine.now.inputs + length next.now }
     requires small { length machine.now.inputs ≤ 64 }
-    ensures machine { IsMachine machine.now }
+    ensures machine { IsMachine (behaviour machine.now) }
     ensures sound { IsSound builder.now }
     ensures built { IfOk result (λ parts. IsBuilt machine.now builder.now next.now outputs.items (data_of parts)) }
 {
@@ -246,7 +248,7 @@ fn symbols(
     propositions: &[u32],
 ) -> Result<Vec<Option<Vec<u8>>>, AllocError>
     requires { All (λ p. p < length machine.now.names) propositions.now }
-    ensures { IfOk result (λ names. map name_bytes names.items ≡ symbols_of machine.now propositions.now) }
+    ensures { IfOk result (λ names. map name_bytes names.items ≡ symbols_of machine.now.names propositions.now) }
 {
     let mut names = Vec::new(alloc);
     for proposition in propositions {

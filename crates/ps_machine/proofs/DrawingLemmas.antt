@@ -21,9 +21,11 @@ use Rattle.ps_diagram.specs.Table.{Table, Keeps, leaf_of}
 use Rattle.ps_diagram.proofs.KnownLemmas.{some_nat}
 use Rattle.ps_automaton.specs.Automata.{AutomatonData, IsWhole, node_of, step_of}
 use Rattle.ps_automaton.specs.declared.step.Step.{Step}
-use Rattle.ps_machine.specs.Boards.{Board, IsClass, IsMove, LeadsTo, board_of}
+use Rattle.ps_machine.specs.Boards.{Board, IsClass, IsMove, LeadsTo}
+use Rattle.ps_machine.specs.BuiltBoards.{board_of}
 use Rattle.ps_machine.specs.Drawing.{AreMemories, IsPlan, IsDrawn, KeepsRows, mark_of}
-use Rattle.ps_machine.specs.Extracting.{winner, IsUsed, GoesTo, Shares, StandsFor}
+use Rattle.ps_machine.specs.Extracting.{IsUsed, GoesTo, Shares, StandsFor}
+use Rattle.ps_machine.specs.Solving.{winner}
 use Rattle.ps_machine.specs.Keys.{mover_of}
 use Rattle.ps_machine.specs.Numbering.{StandsAt}
 use Rattle.ps_machine.specs.declared.key.Key.{Key}

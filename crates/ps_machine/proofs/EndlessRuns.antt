@@ -14,7 +14,7 @@ use Rattle.ps_hoa.specs.Files.{is_among}
 use Rattle.ps_automaton.specs.Words.{word}
 use Rattle.ps_automaton.proofs.Orbits.{word_within, word_behind}
 use Rattle.ps_machine.specs.Boards.{Board}
-use Rattle.ps_machine.specs.Machines.{MachineData, IsMachine, IsInput, IsOutput, IsLasso, Makes, memories_of, next_of, plays, row_of}
+use Rattle.ps_machine.specs.Behaviours.{Behaviour, IsMachine, IsInput, IsOutput, IsLasso, Makes}
 use Rattle.ps_machine.specs.Extracting.{HasPropositions, IsOther, is_others}
 use Rattle.ps_machine.proofs.LeastLetters.{sum_within}
 use Rattle.ps_machine.proofs.Walking.{IsEndless}
@@ -55,7 +55,7 @@ next_in_lap lap n some = by (cases_lt (suc (n % lap)) lap)
         let is : suc q * lap + 0 ≡ suc n = omega (arith, parts, full) in
         inr (full, ap (λ m. m % lap) (sym is) ∙ mod-mul-add (suc q) lap 0 some)
 
-module _ (m : MachineData) (stem lap : List ℕ) (l : IsLasso m stem lap) where
+module _ (m : Behaviour) (stem lap : List ℕ) (l : IsLasso m stem lap) where
   whole : List ℕ
   whole = stem ++ lap
 
@@ -164,7 +164,7 @@ either_bool false = inr refl
 not_both : (b : Bool) → b ≡ true → b ≡ false → ⊥
 not_both b t f = search rules
 
-module _ (m : MachineData) (is_machine : IsMachine m) where
+module _ (m : Behaviour) (is_machine : IsMachine m) where
   -- a letter that it reads and one that it plays have no proposition in common
   apart : (x y : ℕ) → IsInput m x → IsOutput m y → (p : ℕ) → is_in p x ≡ true → is_in p y ≡ false
   apart x y input output p is = elim (either_bool (is_among p m.inputs)) [
@@ -172,26 +172,18 @@ module _ (m : MachineData) (is_machine : IsMachine m) where
     | inr none ↦ absurd (not_both (is_in p x) is (input.own p none))
   ]
 
-  -- each row leads to a memory, and plays a letter
-  row_is : (memory x : ℕ) → memory < memories_of m → (next_of m memory x < memories_of m) × IsOutput m (plays m memory x)
-  row_is memory x within = by (leaf_of m.store (slice_index m.nodes memory) x) (is_machine.leaves memory x within)
-    where
-      by : (o : Option ℕ) → IsSomeAnd o (λ leaf. leaf < length m.rows) → ((row_of m (unwrap_or o (length m.rows))).memory < memories_of m) × IsOutput m (row_of m (unwrap_or o (length m.rows))).letter
-      by None none = absurd none
-      by (Some leaf) some = is_machine.rows leaf some
-
   -- what it makes is a letter
-  pub letter_within : (memory letter next : ℕ) → memory < memories_of m → Makes m memory letter next → letter < 2 ^ length m.names
+  pub letter_within : (memory letter next : ℕ) → memory < m.memories → Makes m memory letter next → letter < 2 ^ length m.names
   letter_within memory letter next within makes =
-      let output = (row_is memory makes.input within).1 in
-      let sum = sum_within (length m.names) makes.input (plays m memory makes.input) makes.is_input.within output.within (apart makes.input (plays m memory makes.input) makes.is_input output) in
+      let output = is_machine.plays_own memory makes.input within in
+      let sum = sum_within (length m.names) makes.input (m.plays memory makes.input) makes.is_input.within output.within (apart makes.input (m.plays memory makes.input) makes.is_input output) in
       omega (arith, sum, makes.joined)
 
-  pub memories_of_lasso : (stem lap : List ℕ) (l : IsLasso m stem lap) (t : ℕ) → t ≤ length (stem ++ lap) → l.memories t < memories_of m
+  pub memories_of_lasso : (stem lap : List ℕ) (l : IsLasso m stem lap) (t : ℕ) → t ≤ length (stem ++ lap) → l.memories t < m.memories
   memories_of_lasso stem lap l zero low = omega (arith, is_machine.some, l.begins)
   memories_of_lasso stem lap l (suc t) low =
       let makes = l.makes t (omega (arith, low)) in
-      let next = (row_is (l.memories t) makes.input (memories_of_lasso stem lap l t (omega (arith, low)))).0 in
+      let next = is_machine.next_within (l.memories t) makes.input (memories_of_lasso stem lap l t (omega (arith, low))) in
       let place : l.memories (t + 1) ≡ l.memories (suc t) = ap l.memories (add-one t) in
       omega (arith, next, makes.next_is, place)
 

@@ -7,10 +7,13 @@ use Rattle.ps_game.specs.Games.{ParityGame, vertex_count}
 use Rattle.ps_hoa.specs.Memory.{bytes_of}
 use Rattle.ps_hoa.specs.Sound.{AreNames}
 use Rattle.ps_machine.specs.Assembling.{AreDrawn, HasRoles, IsAssembled, machine_of}
-use Rattle.ps_machine.specs.Boards.{Board, IsGameOf, board_of}
+use Rattle.ps_machine.specs.Boards.{Board, IsGameOf}
+use Rattle.ps_machine.specs.BuiltBoards.{board_of}
 use Rattle.ps_machine.specs.Drawing.{AreMemories, AreUsed, IsPlan}
-use Rattle.ps_machine.specs.Extracting.{HasPropositions, IsMachineOf, winner}
+use Rattle.ps_machine.specs.Extracting.{HasPropositions, IsMachineOf}
+use Rattle.ps_machine.specs.Solving.{winner}
 use Rattle.ps_machine.specs.Keys.{mover_of}
+use Rattle.ps_machine.specs.Machines.{behaviour}
 use Rattle.ps_machine.specs.declared.key.Key.{Key}
 use Rattle.ps_machine.specs.declared.key.Order.{Order}
 use Rattle.ps_machine.specs.declared.machine.Diagrams.{Diagrams}
@@ -58,11 +61,11 @@ module _ (order : Order) (a : AutomatonData) (keys : List Key) (certificate : Ce
     drawn = drawn;
   }
 
-  pub has_propositions : (p : Propositions) (d : Diagrams) → map bytes_of p.names.items ≡ a.names → HasRoles first (board_of order a) p.inputs.items p.outputs.items → HasPropositions a.names (board_of order a) (machine_of player first p d)
+  pub has_propositions : (p : Propositions) (d : Diagrams) → map bytes_of p.names.items ≡ a.names → HasRoles first (board_of order a) p.inputs.items p.outputs.items → HasPropositions a.names (board_of order a) (behaviour (machine_of player first p d))
   has_propositions p d names roles = record { names_are = names; as_many = refl; reads = roles.read.are }
 
   pub is_machine_of : (p : Propositions) (d : Diagrams) → IsAssembled (board_of order a) keys kept certificate (machine_of player first p d) →
-      IsMachineOf (board_of order a) (mover_of order) keys plan.game certificate (machine_of player first p d)
+      IsMachineOf (board_of order a) (mover_of order) keys plan.game certificate (behaviour (machine_of player first p d))
   is_machine_of p d is = record {
     player = own;
     is_first = plan.turn;

@@ -4,7 +4,8 @@ use Rattle.ps_hoa.specs.Files.{FileData}
 use Rattle.ps_automaton.specs.Automata.{AutomatonData, IsBuiltFrom, auto_of}
 use Rattle.ps_automaton.specs.Chains.{Chain}
 use Rattle.ps_game.specs.Games.{NamedGameData}
-use Rattle.ps_machine.specs.Boards.{Board, IsGameOf, board_of, is_first_of}
+use Rattle.ps_machine.specs.Boards.{Board, IsGameOf, is_first_of}
+use Rattle.ps_machine.specs.BuiltBoards.{board_of}
 use Rattle.ps_machine.specs.FileGames.{IsGameOfFile, board_of_file}
 use Rattle.ps_machine.specs.KeyNames.{AreNamed}
 use Rattle.ps_machine.specs.Keys.{mover_of}

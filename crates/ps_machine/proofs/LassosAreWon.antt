@@ -13,10 +13,12 @@ use Rattle.ps_automaton.specs.Words.{word}
 use Rattle.ps_automaton.proofs.Accepting.{even_is_accepted, accepted_is_even}
 use Rattle.ps_game.specs.Games.{ParityGame}
 use Rattle.ps_certificate.specs.Certificates.{CertificateData, Fits, IsValid}
-use Rattle.ps_machine.specs.Boards.{IsGameOf, board_of}
-use Rattle.ps_machine.specs.Extracting.{winner, IsOther, HasPropositions, IsMachineOf}
+use Rattle.ps_machine.specs.Boards.{IsGameOf}
+use Rattle.ps_machine.specs.BuiltBoards.{board_of}
+use Rattle.ps_machine.specs.Extracting.{IsOther, HasPropositions, IsMachineOf}
+use Rattle.ps_machine.specs.Solving.{winner}
 use Rattle.ps_machine.specs.Keys.{mover_of}
-use Rattle.ps_machine.specs.Machines.{MachineData, IsMachine, IsInput, IsLasso, LassosWon}
+use Rattle.ps_machine.specs.Behaviours.{Behaviour, IsMachine, IsInput, IsLasso, LassosWon}
 use Rattle.ps_machine.specs.declared.key.Key.{Key}
 use Rattle.ps_machine.specs.declared.key.Order.{Order}
 use Rattle.ps_machine.specs.declared.key.Order.TheVariants.{Mealy, Moore}
@@ -28,7 +30,7 @@ small_mover : (order : Order) → mover_of order < 2
 small_mover Mealy = omega arith
 small_mover Moore = omega arith
 
-module _ (file : FileData) (chain : Chain) (a : AutomatonData) (order : Order) (keys : List Key) (game : ParityGame) (certificate : CertificateData) (m : MachineData)
+module _ (file : FileData) (chain : Chain) (a : AutomatonData) (order : Order) (keys : List Key) (game : ParityGame) (certificate : CertificateData) (m : Behaviour)
     (built : IsBuiltFrom file chain a) (is_game : IsGameOf (board_of order a) (mover_of order) keys game) (fits : Fits game certificate) (valid : IsValid game certificate) (is_machine : IsMachine m)
     (has : HasPropositions a.names (board_of order a) m) (made : IsMachineOf (board_of order a) (mover_of order) keys game certificate m) where
   setting : Setting (board_of order a) (mover_of order) keys game certificate

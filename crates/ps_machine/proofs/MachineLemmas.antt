@@ -13,10 +13,11 @@ use Rattle.ps_diagram.proofs.KnownLemmas.{some_nat}
 use Rattle.ps_diagram.proofs.Letters.{letter_lt, letter_is, no_bit}
 use Rattle.ps_hoa.specs.Files.{is_among}
 use Rattle.ps_machine.specs.Assembling.{IsAssembled}
+use Rattle.ps_machine.specs.Behaviours.{AreSameOn, IsMachine, IsOutput}
 use Rattle.ps_machine.specs.Boards.{Board}
 use Rattle.ps_machine.specs.Drawing.{IsOwn, IsRow, IsDrawn, LeadsToRow}
 use Rattle.ps_machine.specs.Extracting.{GoesTo, StandsFor, IsPlayed, IsOther, IsStep, is_others}
-use Rattle.ps_machine.specs.Machines.{MachineData, IsMachine, IsOutput, memories_of, plays, row_of, step_of}
+use Rattle.ps_machine.specs.Machines.{MachineData, IsWholeMachine, behaviour, row_of, step_of}
 use Rattle.ps_machine.specs.declared.key.Key.{Key}
 use Rattle.ps_machine.specs.declared.key.Key.TheVariants.{First, Second}
 use Rattle.ps_machine.specs.declared.machine.Row.{Row}
@@ -97,10 +98,10 @@ module _ (board : Board) (keys : List Key) (kept : List ℕ) (certificate : Cert
   step_is : (memory x leaf : ℕ) (row : Row) → leaf_of m.store (slice_index m.nodes memory) x ≡ Some leaf → slice_get m.rows leaf ≡ Some row → step_of m memory x ≡ row
   step_is memory x leaf row e f = ap (λ o. row_of m (unwrap_or o (length m.rows))) e ∙ get_or_from_slice_get m.rows leaf row (record { memory = 0; letter = 0 }) f
 
-  drawn_at : (memory : ℕ) → memory < memories_of m → Drawn memory
+  drawn_at : (memory : ℕ) → memory < length m.nodes → Drawn memory
   drawn_at memory within = a.drawn.each memory (omega (arith, within, a.drawn.many))
 
-  outputs_only : (y : ℕ) → IsOwn m.is_first board y → IsOutput m y
+  outputs_only : (y : ℕ) → IsOwn m.is_first board y → IsOutput (behaviour m) y
   outputs_only y own = record {
     within = subst (λ k. y < 2 ^ k) (sym a.as_many) (own_within m.is_first board y own);
     own = λ p none. elim (cases_lt p board.propositions) [
@@ -109,12 +110,12 @@ module _ (board : Board) (keys : List Key) (kept : List ℕ) (certificate : Cert
     ];
   }
 
-  row_is : (leaf : ℕ) → leaf < length m.rows → ((row_of m leaf).memory < memories_of m) × IsOutput m (row_of m leaf).letter
+  row_is : (leaf : ℕ) → leaf < length m.rows → ((row_of m leaf).memory < length m.nodes) × IsOutput (behaviour m) (row_of m leaf).letter
   row_is leaf within =
       let row : IsRow m.is_first board kept (row_of m leaf) = a.drawn.rows_are leaf (record { memory = 0; letter = 0 }) within in
       (omega (arith, row.memory, a.drawn.many), outputs_only (row_of m leaf).letter row.letter)
 
-  plays_same : m.is_first ≡ true → (memory x y : ℕ) → (d : Drawn memory) → plays m memory x ≡ plays m memory y
+  plays_same : m.is_first ≡ true → (memory x y : ℕ) → (d : Drawn memory) → (step_of m memory x).letter ≡ (step_of m memory y).letter
   plays_same is memory x y d =
       let one = leads memory x d in
       let other = leads memory y d in
@@ -130,8 +131,22 @@ module _ (board : Board) (keys : List Key) (kept : List ℕ) (certificate : Cert
         | inr isnt ↦ inr (a.roles.played.are p less ∙ ap not isnt)
       ]
 
-  pub is_machine : IsMachine m
-  is_machine = record {
+  -- a step goes by a row
+  row_at : (memory x : ℕ) → memory < length m.nodes → ((step_of m memory x).memory < length m.nodes) × IsOutput (behaviour m) (step_of m memory x).letter
+  row_at memory x within =
+      let l = leads memory x (drawn_at memory within) in
+      let there = slice_get_within m.rows l.leaf l.row l.is_row in
+      let is : step_of m memory x ≡ row_of m l.leaf = ap (λ o. row_of m (unwrap_or o (length m.rows))) (leaf_is memory x (drawn_at memory within)) in
+      subst (λ (r : Row). (r.memory < length m.nodes) × IsOutput (behaviour m) r.letter) (sym is) (row_is l.leaf there)
+
+  leaf_heeds : (memory x y : ℕ) → memory < length m.nodes → AreSameOn m.inputs x y → leaf_of m.store (slice_index m.nodes memory) x ≡ leaf_of m.store (slice_index m.nodes memory) y
+  leaf_heeds memory x y within same = (drawn_at memory within).heeds x y (λ p less is. same p (a.roles.read.are p less ∙ is))
+
+  step_heeds : (memory x y : ℕ) → memory < length m.nodes → AreSameOn m.inputs x y → step_of m memory x ≡ step_of m memory y
+  step_heeds memory x y within same = ap (λ o. row_of m (unwrap_or o (length m.rows))) (leaf_heeds memory x y within same)
+
+  does : IsMachine (behaviour m)
+  does = record {
     few_names = a.few_names;
     are_names = a.are_names;
     inputs_rise = a.roles.read.rising;
@@ -146,19 +161,28 @@ module _ (board : Board) (keys : List Key) (kept : List ℕ) (certificate : Cert
     apart = λ p among. (let less = a.roles.read.within p among in a.roles.played.are p less ∙ ap not (sym (a.roles.read.are p less) ∙ among));
     player = a.player;
     some = omega (arith, a.some, a.drawn.many);
+    next_within = λ memory x within. (row_at memory x within).0;
+    plays_own = λ memory x within. (row_at memory x within).1;
+    next_heeds = λ memory x y within same. ap (λ (r : Row). r.memory) (step_heeds memory x y within same);
+    plays_heeds = λ memory x y within same. ap (λ (r : Row). r.letter) (step_heeds memory x y within same);
+    blind = λ is memory x y within. plays_same is memory x y (drawn_at memory within);
+  }
+
+  pub is_machine : IsWholeMachine m
+  is_machine = record {
+    is_machine = does;
     letters = a.letters;
     held = λ memory within. (drawn_at memory within).held;
     leaves = λ memory x within.
         (let d = drawn_at memory within in
         let l = leads memory x d in
         subst (λ o. IsSomeAnd o (λ leaf. leaf < length m.rows)) (sym (leaf_is memory x d)) (slice_get_within m.rows l.leaf l.row l.is_row));
-    reads = λ memory x y within same. (drawn_at memory within).heeds x y (λ p less is. same p (a.roles.read.are p less ∙ is));
+    reads = leaf_heeds;
     rows = row_is;
-    blind = λ is memory x y within. plays_same is memory x y (drawn_at memory within);
   }
 
   -- its steps are those of the certificate
-  pub is_step : (memory x : ℕ) → memory < memories_of m → IsOther m.is_first board x → IsStep board keys kept certificate m memory x
+  pub is_step : (memory x : ℕ) → memory < length m.nodes → IsOther m.is_first board x → IsStep board keys kept certificate (behaviour m) memory x
   is_step memory x within other =
       let d = drawn_at memory within in
       let l = d.leads x other in

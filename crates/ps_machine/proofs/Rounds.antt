@@ -9,7 +9,8 @@ use Rattle.ps_certificate.specs.Certificates.{CertificateData, Fits, IsValid, wi
 use Rattle.ps_machine.specs.Keys.{owner_of_key, priority_of_key}
 use Rattle.ps_machine.specs.Numbering.{StandsAt, IsGameByKeys}
 use Rattle.ps_machine.specs.Boards.{Board, IsSecondLetter, SameStep, IsClass, IsMove, LeadsTo}
-use Rattle.ps_machine.specs.Extracting.{winner, GoesTo, StepsFirst, StepsSecond}
+use Rattle.ps_machine.specs.Extracting.{GoesTo, StepsFirst, StepsSecond}
+use Rattle.ps_machine.specs.Solving.{winner}
 use Rattle.ps_machine.specs.declared.key.Key.{Key}
 use Rattle.ps_machine.specs.declared.key.Key.TheVariants.{First, Second}
 use Rattle.ps_machine.proofs.Standing.{same_some}

@@ -21,9 +21,11 @@ use Rattle.ps_diagram.specs.declared.classes.Class.{Class}
 use Rattle.ps_diagram.proofs.KnownLemmas.{some_nat}
 use Rattle.ps_automaton.specs.Automata.{AutomatonData, node_of, pair_of, step_of}
 use Rattle.ps_automaton.specs.declared.step.Step.{Step}
-use Rattle.ps_machine.specs.Boards.{Board, IsFirstLetter, IsSecondLetter, SameSteps, IsClass, IsMove, board_of}
+use Rattle.ps_machine.specs.Boards.{Board, IsFirstLetter, IsSecondLetter, SameSteps, IsClass, IsMove}
+use Rattle.ps_machine.specs.BuiltBoards.{board_of}
 use Rattle.ps_machine.specs.Drawing.{CanEnter, IsAnswer, IsDrawn, IsReply, IsRow, IsRowAt, KeepsRows, LeadsToRow, NamesAnswer}
-use Rattle.ps_machine.specs.Extracting.{winner, IsUsed, GoesTo, StandsFor}
+use Rattle.ps_machine.specs.Extracting.{IsUsed, GoesTo, StandsFor}
+use Rattle.ps_machine.specs.Solving.{winner}
 use Rattle.ps_machine.specs.Keys.{mover_of}
 use Rattle.ps_machine.specs.Moving.{IsFit, IsRest, step_key}
 use Rattle.ps_machine.specs.Numbering.{StandsAt}

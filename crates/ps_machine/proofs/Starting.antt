@@ -8,7 +8,8 @@ use Rattle.ps_diagram.specs.Table.{Table}
 use Rattle.ps_automaton.specs.Automata.{AutomatonData}
 use Rattle.ps_game.specs.Games.{ParityGame, HasNoQuote}
 use Rattle.ps_game.specs.Names.{name_bytes}
-use Rattle.ps_machine.specs.Boards.{Board, LeadsTo, IsGameOf, board_of}
+use Rattle.ps_machine.specs.Boards.{Board, LeadsTo, IsGameOf}
+use Rattle.ps_machine.specs.BuiltBoards.{board_of}
 use Rattle.ps_machine.specs.KeyNames.{key_name, key_names}
 use Rattle.ps_machine.specs.Keys.{mover_of}
 use Rattle.ps_machine.specs.Moving.{IsFit, IsKnown}

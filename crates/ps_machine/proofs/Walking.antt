@@ -14,8 +14,9 @@ use Rattle.ps_certificate.specs.Certificates.{CertificateData, winner_of, choice
 use Rattle.ps_certificate.proofs.Holding.{BothHold-from_valid}
 use Rattle.ps_machine.specs.Numbering.{StandsAt}
 use Rattle.ps_machine.specs.Boards.{Board}
-use Rattle.ps_machine.specs.Machines.{MachineData, IsInput, Makes, memories_of, next_of, plays}
-use Rattle.ps_machine.specs.Extracting.{winner, IsKept, StandsFor, Shares, GoesTo, IsPlayed, IsOther, IsMachineOf}
+use Rattle.ps_machine.specs.Behaviours.{Behaviour, IsInput, Makes}
+use Rattle.ps_machine.specs.Extracting.{IsKept, StandsFor, Shares, GoesTo, IsPlayed, IsOther, IsMachineOf}
+use Rattle.ps_machine.specs.Solving.{winner}
 use Rattle.ps_machine.specs.declared.key.Key.{Key}
 use Rattle.ps_machine.specs.declared.key.Key.TheVariants.{First}
 use Rattle.ps_machine.proofs.Following.{used_first}
@@ -111,11 +112,11 @@ pub entering : Auto → (ℕ → ℕ) → ℕ → ℕ
 entering a w zero = 0
 entering a w (suc t) = priority_at a w t
 
-pub record IsEndless (m : MachineData) (w memories : ℕ → ℕ) : Type 0 where
+pub record IsEndless (m : Behaviour) (w memories : ℕ → ℕ) : Type 0 where
   pub begins : memories 0 ≡ 0
   pub makes : (t : ℕ) → Makes m (memories t) (w t) (memories (suc t))
 
-module _ (board : Board) (mover : ℕ) (keys : List Key) (game : ParityGame) (certificate : CertificateData) (s : Setting board mover keys game certificate) (m : MachineData) (made : IsMachineOf board mover keys game certificate m)
+module _ (board : Board) (mover : ℕ) (keys : List Key) (game : ParityGame) (certificate : CertificateData) (s : Setting board mover keys game certificate) (m : Behaviour) (made : IsMachineOf board mover keys game certificate m)
     (others : (x : ℕ) → IsInput m x → IsOther m.is_first board x) where
   won_along : (v w : ℕ) → winner_of certificate v ≡ winner certificate → HasEdge game v w → (owner_of game v ≡ winner certificate → choice_of certificate v ≡ Some w) → winner_of certificate w ≡ winner certificate
   won_along v w here edge chosen = s.valid.closed.stays v w (record { edge = edge; chosen = λ o. chosen (o ∙ here) }) ∙ here
@@ -135,24 +136,24 @@ module _ (board : Board) (mover : ℕ) (keys : List Key) (game : ParityGame) (ce
 
   record Next (memory v q x : ℕ) : Type 0 where
     pub vertex : ℕ
-    pub stands : StandsAt keys vertex (First (board.auto.next q (x + plays m memory x)) (board.auto.priority q (x + plays m memory x)))
-    pub at_memory : StandsFor m.is_first keys made.kept (next_of m memory x) vertex (board.auto.next q (x + plays m memory x))
+    pub stands : StandsAt keys vertex (First (board.auto.next q (x + m.plays memory x)) (board.auto.priority q (x + m.plays memory x)))
+    pub at_memory : StandsFor m.is_first keys made.kept (m.next memory x) vertex (board.auto.next q (x + m.plays memory x))
     pub won : winner_of certificate vertex ≡ winner certificate
     pub round : Round game certificate v vertex
 
   next_vertex : (memory v q p x : ℕ) → StandsAt keys v (First q p) → StandsFor m.is_first keys made.kept memory v q → winner_of certificate v ≡ winner certificate → IsInput m x → Next memory v q x
   next_vertex memory v q p x at f here input =
-      let within : memory < memories_of m = omega (arith, made.memories, slice_get_within made.kept memory f.vertex f.is_kept) in
+      let within : memory < m.memories = omega (arith, made.memories, slice_get_within made.kept memory f.vertex f.is_kept) in
       let step = made.steps memory x within (others x input) in
       let state : step.state ≡ q = same_state m.is_first keys made.kept memory v q p step.vertex step.state step.priority f at step.is_kept step.stands in
-      let letter = plays m memory x in
+      let letter = m.plays memory x in
       let played : IsPlayed m.is_first board keys certificate step.vertex q x letter = subst (λ n. IsPlayed m.is_first board keys certificate step.vertex n x letter) state step.played in
       let goes : GoesTo keys board q (x + letter) step.entered = subst (λ n. GoesTo keys board n (x + letter) step.entered) state step.goes in
       let round = round_by m.is_first made.is_first v step.vertex q p x letter step.entered (same_vertex m.is_first keys made.kept memory v q step.vertex f step.is_kept) here at played (others x input) goes in
       record {
         vertex = step.entered;
         stands = goes.stands;
-        at_memory = subst (λ n. StandsFor m.is_first keys made.kept (next_of m memory x) step.entered (board.auto.next n (x + letter))) state step.next;
+        at_memory = subst (λ n. StandsFor m.is_first keys made.kept (m.next memory x) step.entered (board.auto.next n (x + letter))) state step.next;
         won = won_along round.between step.entered (won_along v round.between here round.there round.first) round.on round.second;
         round = round;
       }
@@ -198,13 +199,13 @@ module _ (board : Board) (mover : ℕ) (keys : List Key) (game : ParityGame) (ce
         let makes = e.makes t in
         let q = state_at a w t in
         let n = next_vertex (memories t) now.vertex q (entering a w t) makes.input now.stands now.at_memory now.won makes.is_input in
-        let letter : makes.input + plays m (memories t) makes.input ≡ w t = sym makes.joined in
+        let letter : makes.input + m.plays (memories t) makes.input ≡ w t = sym makes.joined in
         record {
           next = record {
             vertex = n.vertex;
             stands = subst (λ l. StandsAt keys n.vertex (First (a.next q l) (a.priority q l))) letter n.stands;
             at_memory = subst (λ k. StandsFor m.is_first keys made.kept k n.vertex (a.next q (w t))) (sym makes.next_is)
-                (subst (λ l. StandsFor m.is_first keys made.kept (next_of m (memories t) makes.input) n.vertex (a.next q l)) letter n.at_memory);
+                (subst (λ l. StandsFor m.is_first keys made.kept (m.next (memories t) makes.input) n.vertex (a.next q l)) letter n.at_memory);
             won = n.won;
           };
           round = n.round;

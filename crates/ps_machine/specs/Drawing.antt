@@ -14,8 +14,10 @@ use Rattle.ps_game.specs.Ranking.{RemainsFor}
 use Rattle.ps_certificate.specs.Certificates.{CertificateData, Fits, IsValid, choice_of}
 use Rattle.ps_diagram.specs.Table.{Table, IsNode, leaf_of}
 use Rattle.ps_automaton.specs.Automata.{AutomatonData}
-use Rattle.ps_machine.specs.Boards.{Board, IsFirstLetter, IsSecondLetter, IsGameOf, board_of}
-use Rattle.ps_machine.specs.Extracting.{winner, IsUsed, GoesTo, StandsFor, IsPlayed, IsOther, is_others}
+use Rattle.ps_machine.specs.Boards.{Board, IsFirstLetter, IsSecondLetter, IsGameOf}
+use Rattle.ps_machine.specs.BuiltBoards.{board_of}
+use Rattle.ps_machine.specs.Extracting.{IsUsed, GoesTo, StandsFor, IsPlayed, IsOther, is_others}
+use Rattle.ps_machine.specs.Solving.{winner}
 use Rattle.ps_machine.specs.Keys.{mover_of}
 use Rattle.ps_machine.specs.Numbering.{StandsAt}
 use Rattle.ps_machine.specs.declared.key.Key.{Key}

@@ -7,17 +7,15 @@ use Rattle.std.specs.Prelude.{◌≡◌, ℕ, ◌+◌, ◌-◌, ◌<◌, ◌==�
 use Rattle.std.specs.List.{All, AllPairs, Contains}
 use Rattle.ps_game.specs.Games.{ParityGame}
 use Rattle.ps_game.specs.Plays.{IsPath, Follows}
-use Rattle.ps_certificate.specs.Certificates.{CertificateData, winner_of, choice_of}
+use Rattle.ps_certificate.specs.Certificates.{CertificateData, choice_of}
 use Rattle.ps_diagram.specs.Letters.{IsLeast}
 use Rattle.ps_hoa.specs.Files.{is_among}
+use Rattle.ps_machine.specs.Behaviours.{Behaviour}
 use Rattle.ps_machine.specs.Boards.{Board, IsFirstLetter, IsSecondLetter, SameSteps, IsClass}
-use Rattle.ps_machine.specs.Machines.{MachineData, memories_of, next_of, plays}
 use Rattle.ps_machine.specs.Numbering.{StandsAt}
+use Rattle.ps_machine.specs.Solving.{winner}
 use Rattle.ps_machine.specs.declared.key.Key.{Key}
 use Rattle.ps_machine.specs.declared.key.Key.TheVariants.{First, Second}
-
-abbrev pub winner : CertificateData → ℕ
-winner certificate = winner_of certificate 0
 
 pub record IsUsed (game : ParityGame) (certificate : CertificateData) (v : ℕ) : Type 0 where
   pub path : List ℕ
@@ -82,26 +80,26 @@ abbrev pub IsOther : Bool → Board → ℕ → Type 0
 IsOther true board x = IsSecondLetter board x
 IsOther false board x = IsFirstLetter board x
 
-pub record IsStep (board : Board) (keys : List Key) (kept : List ℕ) (certificate : CertificateData) (m : MachineData) (memory x : ℕ) : Type 0 where
+pub record IsStep (board : Board) (keys : List Key) (kept : List ℕ) (certificate : CertificateData) (m : Behaviour) (memory x : ℕ) : Type 0 where
   pub vertex : ℕ
   pub state : ℕ
   pub priority : ℕ
   pub is_kept : slice_get kept memory ≡ Some vertex
   pub stands : StandsAt keys vertex (First state priority)
-  pub played : IsPlayed m.is_first board keys certificate vertex state x (plays m memory x)
+  pub played : IsPlayed m.is_first board keys certificate vertex state x (m.plays memory x)
   pub entered : ℕ
-  pub goes : GoesTo keys board state (x + plays m memory x) entered
-  pub next : StandsFor m.is_first keys kept (next_of m memory x) entered (board.auto.next state (x + plays m memory x))
+  pub goes : GoesTo keys board state (x + m.plays memory x) entered
+  pub next : StandsFor m.is_first keys kept (m.next memory x) entered (board.auto.next state (x + m.plays memory x))
 
-pub record IsMachineOf (board : Board) (mover : ℕ) (keys : List Key) (game : ParityGame) (certificate : CertificateData) (m : MachineData) : Type 0 where
+pub record IsMachineOf (board : Board) (mover : ℕ) (keys : List Key) (game : ParityGame) (certificate : CertificateData) (m : Behaviour) : Type 0 where
   pub player : m.player ≡ winner certificate
   pub is_first : m.is_first ≡ (mover == winner certificate)
   pub kept : List ℕ
   pub rising : AllPairs (λ v w. v < w) kept
   pub each : All (IsKept m.is_first keys game certificate) kept
   pub complete : (v : ℕ) → IsKept m.is_first keys game certificate v → Contains kept v
-  pub memories : memories_of m ≡ length kept
-  pub steps : (memory x : ℕ) → memory < memories_of m → IsOther m.is_first board x → IsStep board keys kept certificate m memory x
+  pub memories : m.memories ≡ length kept
+  pub steps : (memory x : ℕ) → memory < m.memories → IsOther m.is_first board x → IsStep board keys kept certificate m memory x
 
 -- the propositions that the player of the machine reads are those of the other one
 abbrev pub is_others : Bool → Board → ℕ → Bool
@@ -109,7 +107,7 @@ is_others true board p = not (board.is_first p)
 is_others false board p = board.is_first p
 
 -- the machine has these names, and reads what the other player plays
-pub record HasPropositions (names : List (List ℕ)) (board : Board) (m : MachineData) : Type 0 where
+pub record HasPropositions (names : List (List ℕ)) (board : Board) (m : Behaviour) : Type 0 where
   pub names_are : m.names ≡ names
   pub as_many : length names ≡ board.propositions
   pub reads : (p : ℕ) → p < board.propositions → is_among p m.inputs ≡ is_others m.is_first board p

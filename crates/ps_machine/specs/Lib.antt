@@ -1,6 +1,8 @@
 pub mod Assembling
+pub mod Behaviours
 pub mod Boards
 pub mod Building
+pub mod BuiltBoards
 pub mod Drawing
 pub mod Extracting
 pub mod FaultNames

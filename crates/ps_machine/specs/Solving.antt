@@ -1,5 +1,6 @@
 -- What a solver's answer for a game is worth.
 --     IsCertified game c      the certificate fits the game and is valid
+--     winner c      who wins vertex 0
 --     AnswersSurely game r      what a sure solver answers: such a certificate, or that memory ran out
 --     HasLeastCounts game c      no valid certificate with its winners and moves has a smaller count
 --     AnswersLeast game r      what psyn's own solver answers: such a certificate with the least counts, or that memory ran out
@@ -17,6 +18,9 @@ use Rattle.ps_machine.specs.declared.fault.SolveFault.TheVariants.{BadCycle, Tex
 pub record IsCertified (game : NamedGameData) (certificate : CertificateData) : Type 0 where
   pub fits : Fits game.game certificate
   pub valid : IsValid game.game certificate
+
+abbrev pub winner : CertificateData → ℕ
+winner certificate = winner_of certificate 0
 
 abbrev pub AnswersSurely : NamedGameData → Result CertificateData SolveFault → Type 0
 AnswersSurely game (Ok certificate) = IsCertified game certificate

@@ -3,7 +3,7 @@
 ghost use Rattle.std.specs.Prelude.{◌≡◌, ◌≢◌, ℕ, ◌<◌, true, false, Any, IfOk, OnOk, Some, length, slice_get};
 ghost use Rattle.std.specs.List.{All, Contains};
 ghost use Rattle.ps_diagram.specs.Table.{Keeps};
-ghost use Rattle.ps_machine.specs.Boards.{board_of};
+ghost use Rattle.ps_machine.specs.BuiltBoards.{board_of};
 ghost use Rattle.ps_machine.specs.Drawing.{CanEnter, IsDrawn, IsOwn, IsPlan, IsRow, KeepsRows};
 ghost use Rattle.ps_machine.specs.Extracting.{StandsFor};
 ghost use Rattle.ps_machine.specs.Moving.{IsFit};

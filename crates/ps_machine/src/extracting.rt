@@ -10,11 +10,13 @@ ghost use Rattle.ps_hoa.specs.Files.{FileData};
 ghost use Rattle.ps_hoa.specs.Memory.{bytes_of};
 ghost use Rattle.ps_hoa.specs.Sound.{AreNames};
 ghost use Rattle.ps_machine.specs.Assembling.{AreDrawn, HasRoles};
-ghost use Rattle.ps_machine.specs.Boards.{IsGameOf, board_of};
+ghost use Rattle.ps_machine.specs.Behaviours.{LassosWon};
+ghost use Rattle.ps_machine.specs.Boards.{IsGameOf};
+ghost use Rattle.ps_machine.specs.BuiltBoards.{board_of};
 ghost use Rattle.ps_machine.specs.Drawing.{AreMemories, AreUsed, IsPlan, IsRow};
 ghost use Rattle.ps_machine.specs.Extracting.{HasPropositions, IsMachineOf};
 ghost use Rattle.ps_machine.specs.Keys.{mover_of};
-ghost use Rattle.ps_machine.specs.Machines.{LassosWon};
+ghost use Rattle.ps_machine.specs.Machines.{behaviour};
 ghost use Rattle.ps_machine.specs.Moving.{IsFit};
 ghost use Rattle.ps_machine.specs.declared.key.Key.{Key};
 
@@ -51,9 +53,9 @@ pub fn extract(
     requires fits { Fits game.now.game certificate.now }
     requires valid { IsValid game.now.game certificate.now }
     ensures machine { IfOk result (λ m. (keys : List Key) → IsGameOf (board_of order automaton.now) (mover_of order) keys game.now.game →
-        IsMachineOf (board_of order automaton.now) (mover_of order) keys game.now.game certificate.now m) }
-    ensures propositions { IfOk result (λ m. HasPropositions automaton.now.names (board_of order automaton.now) m) }
-    ensures won { IfOk result (λ m. (file : FileData) (chain : Chain) → IsBuiltFrom file chain automaton.now → LassosWon file m) }
+        IsMachineOf (board_of order automaton.now) (mover_of order) keys game.now.game certificate.now (behaviour m)) }
+    ensures propositions { IfOk result (λ m. HasPropositions automaton.now.names (board_of order automaton.now) (behaviour m)) }
+    ensures won { IfOk result (λ m. (file : FileData) (chain : Chain) → IsBuiltFrom file chain automaton.now → LassosWon file (behaviour m)) }
 {
     let keyed = AutomatonGame::build(alloc, automaton, order)?;
     machine_of_certificate(alloc, automaton, order, &keyed, certificate)
@@ -74,9 +76,9 @@ pub fn machine_of_certificate(
     requires game { IsGameOf (board_of order automaton.now) (mover_of order) game.now.keys.keys game.now.game.game }
     requires fits { Fits game.now.game.game certificate.now }
     requires valid { IsValid game.now.game.game certificate.now }
-    ensures machine { IfOk result (IsMachineOf (board_of order automaton.now) (mover_of order) game.now.keys.keys game.now.game.game certificate.now) }
-    ensures propositions { IfOk result (λ m. HasPropositions automaton.now.names (board_of order automaton.now) m) }
-    ensures won { IfOk result (λ m. (file : FileData) (chain : Chain) → IsBuiltFrom file chain automaton.now → LassosWon file m) }
+    ensures machine { IfOk result (λ m. IsMachineOf (board_of order automaton.now) (mover_of order) game.now.keys.keys game.now.game.game certificate.now (behaviour m)) }
+    ensures propositions { IfOk result (λ m. HasPropositions automaton.now.names (board_of order automaton.now) (behaviour m)) }
+    ensures won { IfOk result (λ m. (file : FileData) (chain : Chain) → IsBuiltFrom file chain automaton.now → LassosWon file (behaviour m)) }
 {
     let moves_first = order.mover() == certificate.winner(0);
     let memories = memories_of(
@@ -118,9 +120,9 @@ fn memories_of(
 fn machine_by(alloc: Global, plan: &Plan<'_>) -> Result<Machine, AllocError>
     requires { IsPlan plan.now.order plan.now.automaton.now plan.now.keys.now.keys plan.now.certificate.now plan.now.moves_first plan.now.memories.now.kept.items plan.now.memories.now.marks.keys }
     ensures machine { IfOk result (λ m. (game : ParityGame) → IsGameOf (board_of plan.now.order plan.now.automaton.now) (mover_of plan.now.order) plan.now.keys.now.keys game →
-        IsMachineOf (board_of plan.now.order plan.now.automaton.now) (mover_of plan.now.order) plan.now.keys.now.keys game plan.now.certificate.now m) }
-    ensures propositions { IfOk result (λ m. HasPropositions plan.now.automaton.now.names (board_of plan.now.order plan.now.automaton.now) m) }
-    ensures won { IfOk result (λ m. (file : FileData) (chain : Chain) → IsBuiltFrom file chain plan.now.automaton.now → LassosWon file m) }
+        IsMachineOf (board_of plan.now.order plan.now.automaton.now) (mover_of plan.now.order) plan.now.keys.now.keys game plan.now.certificate.now (behaviour m)) }
+    ensures propositions { IfOk result (λ m. HasPropositions plan.now.automaton.now.names (board_of plan.now.order plan.now.automaton.now) (behaviour m)) }
+    ensures won { IfOk result (λ m. (file : FileData) (chain : Chain) → IsBuiltFrom file chain plan.now.automaton.now → LassosWon file (behaviour m)) }
 {
     let diagrams = draw(alloc, plan)?;
     let propositions = roles(alloc, plan.automaton, plan.order, plan.moves_first)?;

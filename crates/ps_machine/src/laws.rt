@@ -6,18 +6,19 @@ ghost use Rattle.ps_automaton.specs.Automata.{AutomatonData, IsBuiltFrom};
 ghost use Rattle.ps_automaton.specs.Chains.{Chain};
 ghost use Rattle.ps_game.specs.Games.{NamedGameData, ParityGame};
 ghost use Rattle.ps_certificate.specs.Certificates.{CertificateData, Fits, IsValid};
-ghost use Rattle.ps_machine.specs.Boards.{Board, IsGameOf, board_of};
+ghost use Rattle.ps_machine.specs.Behaviours.{Behaviour, IsMachine, LassosWon};
+ghost use Rattle.ps_machine.specs.Boards.{Board, IsGameOf};
+ghost use Rattle.ps_machine.specs.BuiltBoards.{board_of};
 ghost use Rattle.ps_machine.specs.Extracting.{HasPropositions, IsMachineOf};
 ghost use Rattle.ps_machine.specs.FileGames.{IsGameOfFile};
 ghost use Rattle.ps_machine.specs.Keys.{mover_of};
-ghost use Rattle.ps_machine.specs.Machines.{IsMachine, LassosWon, MachineData};
 ghost use Rattle.ps_machine.specs.declared.key.Key.{Key};
 ghost use Rattle.ps_machine.specs.declared.key.Order.{Order};
 
 /// Of the machine of a valid certificate of an automaton's game each word is won by the winner of vertex 0: the
 /// automaton accepts all of them if that is player 0, and else none.
 pub fn lassos_won()
-    ensures { (file : FileData) (chain : Chain) (a : AutomatonData) (order : Order) (keys : List Key) (game : ParityGame) (certificate : CertificateData) (m : MachineData) →
+    ensures { (file : FileData) (chain : Chain) (a : AutomatonData) (order : Order) (keys : List Key) (game : ParityGame) (certificate : CertificateData) (m : Behaviour) →
         IsBuiltFrom file chain a → IsGameOf (board_of order a) (mover_of order) keys game → Fits game certificate → IsValid game certificate →
         IsMachine m → HasPropositions a.names (board_of order a) m → IsMachineOf (board_of order a) (mover_of order) keys game certificate m → LassosWon file m }
 {}

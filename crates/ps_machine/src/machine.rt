@@ -4,7 +4,7 @@ ghost use Rattle.std.specs.Prelude.{◌≡◌, ℕ, ◌<◌, ◌≤◌, IsTrue, 
 ghost use Rattle.ps_hoa.specs.Memory.{bytes_of};
 ghost use Rattle.ps_diagram.specs.Table.{IsNode};
 ghost use Rattle.ps_machine.specs.Assembling.{machine_of};
-ghost use Rattle.ps_machine.specs.Machines.{IsMachine, memories_of, row_of, step_of};
+ghost use Rattle.ps_machine.specs.Machines.{IsWholeMachine, behaviour, row_of, step_of};
 
 use indexmap::IndexSet;
 use ps_diagram::{Node, Store};
@@ -60,13 +60,13 @@ pub struct Machine {
 impl Model for Machine {
     ghost use Rattle.std.specs.Prelude.{map};
     ghost use Rattle.ps_hoa.specs.Memory.{bytes_of};
-    ghost use Rattle.ps_machine.specs.Machines.{MachineData, IsMachine};
+    ghost use Rattle.ps_machine.specs.Machines.{MachineData, IsWholeMachine};
 
     ghost Value = { MachineData };
 
     ghost view = { λ m. record { names = map bytes_of m.names.items; inputs = m.inputs.items; outputs = m.outputs.items; player = m.player; is_first = m.moves_first; store = m.store; nodes = m.nodes.items; rows = m.rows.keys } };
 
-    ghost invariant = { λ m. IsMachine (record { names = map bytes_of m.names.items; inputs = m.inputs.items; outputs = m.outputs.items; player = m.player; is_first = m.moves_first; store = m.store; nodes = m.nodes.items; rows = m.rows.keys }) };
+    ghost invariant = { λ m. IsWholeMachine (record { names = map bytes_of m.names.items; inputs = m.inputs.items; outputs = m.outputs.items; player = m.player; is_first = m.moves_first; store = m.store; nodes = m.nodes.items; rows = m.rows.keys }) };
 }
 
 impl Machine {
@@ -77,7 +77,7 @@ impl Machine {
         propositions: Propositions,
         diagrams: Diagrams,
     ) -> Machine
-        requires { IsMachine (machine_of player moves_first propositions diagrams) }
+        requires { IsWholeMachine (machine_of player moves_first propositions diagrams) }
         ensures { result ≡ machine_of player moves_first propositions diagrams }
     {
         Machine {
@@ -95,7 +95,7 @@ impl Machine {
     /// The names of the propositions, at most 64. They differ, are not empty and have no control byte.
     pub fn names(&self) -> &[Vec<u8>]
         ensures names { map bytes_of result.now ≡ self.now.names }
-        ensures machine { IsMachine self.now }
+        ensures machine { IsWholeMachine self.now }
     {
         self.names.as_slice()
     }
@@ -103,7 +103,7 @@ impl Machine {
     /// The propositions that it reads, rising: those of the other player.
     pub fn inputs(&self) -> &[u32]
         ensures inputs { result.now ≡ self.now.inputs }
-        ensures machine { IsMachine self.now }
+        ensures machine { IsWholeMachine self.now }
     {
         self.inputs.as_slice()
     }
@@ -111,7 +111,7 @@ impl Machine {
     /// The propositions that it plays, rising.
     pub fn outputs(&self) -> &[u32]
         ensures outputs { result.now ≡ self.now.outputs }
-        ensures machine { IsMachine self.now }
+        ensures machine { IsWholeMachine self.now }
     {
         self.outputs.as_slice()
     }
@@ -119,7 +119,7 @@ impl Machine {
     /// Whose machine it is: 0 is the controller, 1 the environment.
     pub fn player(&self) -> u8
         ensures player { result ≡ self.now.player }
-        ensures machine { IsMachine self.now }
+        ensures machine { IsWholeMachine self.now }
     {
         self.player
     }
@@ -127,15 +127,15 @@ impl Machine {
     /// Whether its player moves first in each step. It then plays the same letter whatever it reads.
     pub fn moves_first(&self) -> bool
         ensures first { result ≡ self.now.is_first }
-        ensures machine { IsMachine self.now }
+        ensures machine { IsWholeMachine self.now }
     {
         self.moves_first
     }
 
     /// How many memories there are, at least one. It begins in memory 0.
     pub fn memories(&self) -> usize
-        ensures memories { result ≡ memories_of self.now }
-        ensures machine { IsMachine self.now }
+        ensures memories { result ≡ (behaviour self.now).memories }
+        ensures machine { IsWholeMachine self.now }
     {
         self.nodes.len()
     }
@@ -144,14 +144,14 @@ impl Machine {
     pub fn store(&self) -> &Store
         ensures store { result.now ≡ self.now.store }
         ensures propositions { result.now.propositions ≡ length self.now.names }
-        ensures machine { IsMachine self.now }
+        ensures machine { IsWholeMachine self.now }
     {
         &self.store
     }
 
     /// The diagram of a memory: its leaf at an input letter names the row, by `row`.
     pub fn node(&self, memory: usize) -> Node
-        requires { memory < memories_of self.now }
+        requires { memory < (behaviour self.now).memories }
         ensures node { result ≡ slice_index self.now.nodes memory }
         ensures held { IsNode self.now.store result }
     {
@@ -162,7 +162,7 @@ impl Machine {
     pub fn row(&self, leaf: u64) -> Row
         requires { leaf < length self.now.rows }
         ensures row { result ≡ row_of self.now leaf }
-        ensures within { result.memory < memories_of self.now }
+        ensures within { result.memory < (behaviour self.now).memories }
     {
         self.rows.as_slice()[leaf as usize]
     }
@@ -170,16 +170,16 @@ impl Machine {
     /// The rows, each at the place that its leaves have.
     pub fn rows(&self) -> &[Row]
         ensures rows { result.now ≡ self.now.rows }
-        ensures machine { IsMachine self.now }
+        ensures machine { IsWholeMachine self.now }
     {
         self.rows.as_slice()
     }
 
     /// The row of a memory at an input letter: the next memory, and the letter that is played.
     pub fn step(&self, memory: usize, letter: u64) -> Row
-        requires { memory < memories_of self.now }
+        requires { memory < (behaviour self.now).memories }
         ensures step { result ≡ step_of self.now memory letter }
-        ensures within { result.memory < memories_of self.now }
+        ensures within { result.memory < (behaviour self.now).memories }
     {
         match self.store.eval(self.nodes[memory], letter) {
             Some(leaf) => self.rows.as_slice()[leaf as usize],

@@ -4,7 +4,8 @@ ghost use Rattle.std.specs.Prelude.{◌≡◌, ℕ, ◌<◌, false, Any, IfOk, l
 ghost use Rattle.std.specs.List.{All, AllZip, Contains};
 ghost use Rattle.ps_automaton.specs.Automata.{pair_of};
 ghost use Rattle.ps_diagram.specs.Table.{Keeps};
-ghost use Rattle.ps_machine.specs.Boards.{IsClass, board_of};
+ghost use Rattle.ps_machine.specs.Boards.{IsClass};
+ghost use Rattle.ps_machine.specs.BuiltBoards.{board_of};
 ghost use Rattle.ps_machine.specs.Drawing.{CanEnter, IsAnswer, IsDrawn, IsPlan, IsReply, IsRow, KeepsRows, NamesAnswer};
 ghost use Rattle.ps_machine.specs.Moving.{IsFit, IsRest};
 ghost use Rattle.ps_machine.specs.Numbering.{StandsAt};

@@ -9,12 +9,14 @@ use Rattle.ps_certificate.specs.Certificates.{CertificateData}
 use Rattle.ps_certificate.specs.Regions.{BothHold, NoneWinsOutside}
 use Rattle.ps_game.specs.Games.{NamedGameData}
 use Rattle.ps_hoa.specs.Files.{FileData}
-use Rattle.ps_machine.specs.Boards.{Board, IsGameOf, board_of, is_first_of}
-use Rattle.ps_machine.specs.Extracting.{HasPropositions, IsMachineOf, winner}
+use Rattle.ps_machine.specs.Boards.{Board, IsGameOf, is_first_of}
+use Rattle.ps_machine.specs.BuiltBoards.{board_of}
+use Rattle.ps_machine.specs.Extracting.{HasPropositions, IsMachineOf}
+use Rattle.ps_machine.specs.Solving.{winner}
 use Rattle.ps_machine.specs.FileGames.{IsGameOfFile, board_of_file}
 use Rattle.ps_machine.specs.KeyNames.{AreNamed}
 use Rattle.ps_machine.specs.Keys.{mover_of}
-use Rattle.ps_machine.specs.Machines.{MachineData}
+use Rattle.ps_machine.specs.Behaviours.{Behaviour}
 use Rattle.ps_machine.specs.Solving.{IsCertified}
 use Rattle.ps_machine.specs.declared.key.Key.{Key}
 use Rattle.ps_machine.specs.declared.key.Order.{Order}
@@ -46,7 +48,7 @@ module _ (order : Order) (text : List ℕ) (a : AutomatonData) (keys : List Key)
     are_named = subst (λ (board : Board). AreNamed board keys game) board_same are_named;
   }
 
-  winners : (certificate : CertificateData) (m : MachineData) → IsExtracted order a game.game certificate m → IsWinners order of.file game of_file certificate m
+  winners : (certificate : CertificateData) (m : Behaviour) → IsExtracted order a game.game certificate m → IsWinners order of.file game of_file certificate m
   winners certificate m e = record {
     is_machine = e.is_machine;
     propositions = subst (λ (names : List (List ℕ)). HasPropositions names (board_of_file order of.file (auto_of a)) m) of.built.names (subst (λ (board : Board). HasPropositions a.names board m) board_same e.propositions);

@@ -8,7 +8,8 @@ use Rattle.std.specs.Prelude.{◌≡◌, ℕ, ◌<◌, List, Ok}
 use Rattle.ps_automaton.specs.Automata.{AutomatonData}
 use Rattle.ps_certificate.specs.Certificates.{CertificateData}
 use Rattle.ps_game.specs.Games.{NamedGameData, vertex_count}
-use Rattle.ps_machine.specs.Boards.{IsGameOf, board_of}
+use Rattle.ps_machine.specs.Boards.{IsGameOf}
+use Rattle.ps_machine.specs.BuiltBoards.{board_of}
 use Rattle.ps_machine.specs.FileGames.{IsGameOfFile}
 use Rattle.ps_machine.specs.KeyNames.{AreNamed}
 use Rattle.ps_machine.specs.Keys.{mover_of}

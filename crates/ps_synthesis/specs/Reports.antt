@@ -5,7 +5,7 @@
 --     IsReport May order compact text report      all of it: the printed game is the automaton's; the printed certificate parts its vertices in two
 --                                                 regions, each won by the moves that are printed; and the printed circuit is the winner's answer
 use Rattle.std.specs.Prelude.{◌≡◌, ◌↔◌, ℕ, Bool, IsTrue, List, Result, Ok}
-use Rattle.ps_aiger.specs.Built.{IsWired}
+use Rattle.ps_aiger.specs.Wires.{IsWired}
 use Rattle.ps_circuit.specs.Circuits.{CircuitData}
 use Rattle.ps_aiger.specs.Encoded.{Encodes, IsTidy}
 use Rattle.ps_automaton.specs.Answers.{IsAdmitted}
@@ -14,10 +14,11 @@ use Rattle.ps_certificate.specs.Regions.{BothHold, NoneWinsOutside}
 use Rattle.ps_game.specs.Games.{NamedGameData}
 use Rattle.ps_hoa.specs.Files.{FileData}
 use Rattle.ps_hoa.specs.Texts.{Reads}
-use Rattle.ps_machine.specs.Extracting.{HasPropositions, IsMachineOf, winner}
+use Rattle.ps_machine.specs.Extracting.{HasPropositions, IsMachineOf}
+use Rattle.ps_machine.specs.Solving.{winner}
 use Rattle.ps_machine.specs.FileGames.{IsGameOfFile, board_of_file}
 use Rattle.ps_machine.specs.Keys.{mover_of}
-use Rattle.ps_machine.specs.Machines.{MachineData, IsMachine}
+use Rattle.ps_machine.specs.Behaviours.{Behaviour, IsMachine}
 use Rattle.ps_machine.specs.Solving.{IsCertified}
 use Rattle.ps_machine.specs.declared.fault.SolveFault.{SolveFault}
 use Rattle.ps_machine.specs.declared.key.Order.{Order}
@@ -32,7 +33,7 @@ pub record IsAccepted (text : List ℕ) (file : FileData) : Type 0 where
 abbrev pub MayAnswer : Type 1
 MayAnswer = NamedGameData → Result CertificateData SolveFault → Type 0
 
-pub record IsWinners (order : Order) (file : FileData) (game : NamedGameData) (is_game : IsGameOfFile order file game) (certificate : CertificateData) (m : MachineData) : Type 0 where
+pub record IsWinners (order : Order) (file : FileData) (game : NamedGameData) (is_game : IsGameOfFile order file game) (certificate : CertificateData) (m : Behaviour) : Type 0 where
   pub is_machine : IsMachine m
   pub propositions : HasPropositions file.names (board_of_file order file is_game.auto) m
   pub machine_of : IsMachineOf (board_of_file order file is_game.auto) (mover_of order) is_game.keys game.game certificate m
@@ -57,7 +58,7 @@ pub record IsReport (May : MayAnswer) (order : Order) (compact : Bool) (text : L
   pub circuit : CircuitData
   pub circuit_text : PrintsCircuit report.circuit_text.items circuit
   -- it is that of the winner's machine by this certificate, with just the gates that such a machine has
-  pub machine : MachineData
+  pub machine : Behaviour
   pub winners : IsWinners order file game is_game certificate machine
   pub encodes : Encodes machine circuit
   pub tidy : IsTidy circuit

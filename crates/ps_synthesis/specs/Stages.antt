@@ -8,7 +8,7 @@
 --     IsCircuitFault order a game certificate fault      why there is no circuit
 --     of_text, of_automaton, of_circuit      the faults of the layers below
 use Rattle.std.specs.Prelude.{◌≡◌, ℕ, List, Err, map, slice_index}
-use Rattle.ps_aiger.specs.Built.{IsOutOfLiterals, IsWired}
+use Rattle.ps_aiger.specs.Wires.{IsOutOfLiterals, IsWired}
 use Rattle.ps_circuit.specs.Circuits.{CircuitData}
 use Rattle.ps_aiger.specs.Encoded.{Encodes, IsTidy}
 use Rattle.ps_circuit.specs.declared.encode_fault.EncodeFault.{EncodeFault}
@@ -22,10 +22,11 @@ use Rattle.ps_game.specs.Games.{NamedGameData, ParityGame}
 use Rattle.ps_hoa.specs.Causes.{HoaFault}
 use Rattle.ps_hoa.specs.Files.{FileData}
 use Rattle.ps_hoa.specs.Texts.{Reads}
-use Rattle.ps_machine.specs.Boards.{IsGameOf, board_of}
+use Rattle.ps_machine.specs.Boards.{IsGameOf}
+use Rattle.ps_machine.specs.BuiltBoards.{board_of}
 use Rattle.ps_machine.specs.Extracting.{HasPropositions, IsMachineOf}
 use Rattle.ps_machine.specs.Keys.{mover_of}
-use Rattle.ps_machine.specs.Machines.{MachineData, IsMachine}
+use Rattle.ps_machine.specs.Behaviours.{Behaviour, IsMachine}
 use Rattle.ps_machine.specs.declared.fault.SolveFault.{SolveFault}
 use Rattle.ps_machine.specs.declared.fault.SolveFault.TheVariants as solver
 use Rattle.ps_machine.specs.declared.key.Key.{Key}
@@ -61,18 +62,18 @@ IsRefusedAs game (solver.Text cause offset) fault = fault ≡ Certificate cause 
 IsRefusedAs game given fault = fault ≡ OutOfMemory
 
 -- the machine of the winner by a certificate of the automaton's game
-pub record IsExtracted (order : Order) (a : AutomatonData) (game : ParityGame) (certificate : CertificateData) (m : MachineData) : Type 0 where
+pub record IsExtracted (order : Order) (a : AutomatonData) (game : ParityGame) (certificate : CertificateData) (m : Behaviour) : Type 0 where
   pub is_machine : IsMachine m
   pub propositions : HasPropositions a.names (board_of order a) m
   pub machine_of : (keys : List Key) → IsGameOf (board_of order a) (mover_of order) keys game → IsMachineOf (board_of order a) (mover_of order) keys game certificate m
 
 pub record HasNoCircuit (order : Order) (a : AutomatonData) (game : ParityGame) (certificate : CertificateData) : Type 0 where
-  pub machine : MachineData
+  pub machine : Behaviour
   pub extracted : IsExtracted order a game certificate machine
   pub out_of_literals : IsOutOfLiterals machine
 
 pub record IsCircuitOf (order : Order) (a : AutomatonData) (game : ParityGame) (certificate : CertificateData) (circuit : CircuitData) : Type 0 where
-  pub machine : MachineData
+  pub machine : Behaviour
   pub extracted : IsExtracted order a game certificate machine
   pub encodes : Encodes machine circuit
   pub tidy : IsTidy circuit

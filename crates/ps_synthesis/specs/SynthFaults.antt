@@ -9,7 +9,7 @@
 use Rattle.std.specs.Prelude.{◌≡◌, ◌≢◌, ℕ, ◌<◌, List, length, map, slice_index, Result, Ok, Err, Vec}
 use Rattle.std.specs.Global.{Global}
 use Rattle.std.specs.List.{All}
-use Rattle.ps_aiger.specs.Built.{IsOutOfLiterals}
+use Rattle.ps_aiger.specs.Wires.{IsOutOfLiterals}
 use Rattle.ps_automaton.specs.Answers.{IsRefused}
 use Rattle.ps_automaton.specs.declared.fault.AutomatonFault.{AutomatonFault}
 use Rattle.ps_automaton.specs.declared.fault.AutomatonFault.TheVariants as automaton
@@ -18,7 +18,7 @@ use Rattle.ps_game.specs.Games.{NamedGameData, vertex_count}
 use Rattle.ps_hoa.specs.Files.{FileData}
 use Rattle.ps_hoa.specs.Texts.{Reads}
 use Rattle.ps_machine.specs.FileGames.{IsGameOfFile}
-use Rattle.ps_machine.specs.Machines.{MachineData}
+use Rattle.ps_machine.specs.Behaviours.{Behaviour}
 use Rattle.ps_machine.specs.Solving.{IsCertified}
 use Rattle.ps_machine.specs.declared.fault.SolveFault.TheVariants as solver
 use Rattle.ps_machine.specs.declared.key.Order.{Order}
@@ -57,7 +57,7 @@ pub record IsTooLarge (May : MayAnswer) (order : Order) (file : FileData) (game 
   pub answered : May game (Ok certificate)
   pub certified : IsCertified game certificate
   pub is_game : IsGameOfFile order file game
-  pub machine : MachineData
+  pub machine : Behaviour
   pub winners : IsWinners order file game is_game certificate machine
   pub out_of_literals : IsOutOfLiterals machine
 

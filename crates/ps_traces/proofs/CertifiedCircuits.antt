@@ -4,14 +4,15 @@ use Rattle.std.specs.Prelude.{not}
 use Rattle.ps_hoa.specs.Files.{FileData, is_among}
 use Rattle.ps_automaton.specs.Automata.{AutomatonData, IsBuiltFrom}
 use Rattle.ps_automaton.specs.Chains.{Chain}
-use Rattle.ps_machine.specs.Boards.{board_of}
+use Rattle.ps_machine.specs.BuiltBoards.{board_of}
 use Rattle.ps_machine.specs.Extracting.{HasPropositions, is_others}
 use Rattle.ps_machine.specs.Keys.{mover_of}
-use Rattle.ps_machine.specs.Machines.{MachineData}
+use Rattle.ps_machine.specs.Behaviours.{Behaviour}
 use Rattle.ps_machine.specs.declared.key.Order.{Order}
 use Rattle.ps_machine.specs.declared.key.Order.TheVariants.{Mealy, Moore}
 use Rattle.ps_traces.specs.Answers.{role_of}
-use Rattle.ps_traces.specs.Shapes.{IsMachineFor, is_read_by, moves_first}
+use Rattle.ps_traces.specs.Roles.{IsMachineFor, is_read_by}
+use Rattle.ps_traces.specs.Shapes.{moves_first}
 
 not_not : (b : Bool) → not (not b) ≡ b
 not_not true = refl
@@ -32,7 +33,7 @@ reads_as Moore a zero p lt = refl
 reads_as Moore a (suc zero) p lt = refl
 reads_as order a (suc (suc player)) p lt = absurd (omega (arith, lt))
 
-pub is_for : (order : Order) (file : FileData) (chain : Chain) (a : AutomatonData) (m : MachineData) → IsBuiltFrom file chain a → HasPropositions a.names (board_of order a) m
+pub is_for : (order : Order) (file : FileData) (chain : Chain) (a : AutomatonData) (m : Behaviour) → IsBuiltFrom file chain a → HasPropositions a.names (board_of order a) m
     → m.is_first ≡ (mover_of order == m.player) → m.player < 2 → IsMachineFor order (role_of m.player) file m
 is_for order file chain a m built has turn two = record {
   names = has.names_are ∙ built.names;

@@ -6,15 +6,14 @@ use Rattle.ps_circuit.specs.Circuits.{CircuitData}
 use Rattle.ps_circuit.specs.Values.{Moment, GoesOn, HasOneValues, resets}
 use Rattle.ps_aiger.specs.Encoded.{number_of}
 use Rattle.ps_simulate.specs.Lassos.{laps_of}
-use Rattle.ps_simulate.specs.LassoFaults.{AreWide}
 use Rattle.ps_simulate.proofs.LassoLemmas.{length_trace}
-use Rattle.ps_traces.specs.Inputs.{GoesOnInLasso, EachInputGoesOn, inputs_of}
+use Rattle.ps_traces.specs.Inputs.{GoesOnInLasso, EachInputGoesOn, AreInputs, inputs_of}
 use Rattle.ps_traces.proofs.Returns.{comes_again, number_lt, number_same}
 use Rattle.ps_traces.proofs.Runs.{GoesOn-append, Run, run}
 
-module _ (c : CircuitData) (one : HasOneValues c) (stem lap : List (List Bool)) (wide : AreWide c stem lap) (some : 0 < length lap) where
+module _ (c : CircuitData) (one : HasOneValues c) (stem lap : List (List Bool)) (stem_wide : AreInputs c stem) (lap_wide : AreInputs c lap) (some : 0 < length lap) where
   stem_run : Run c (resets c) stem
-  stem_run = run c one (resets c) stem (length-map c.latches (λ l. l.reset)) wide.stem_is
+  stem_run = run c one (resets c) stem (length-map c.latches (λ l. l.reset)) stem_wide
 
   -- latches, one for each of the circuit's
   record Held : Type 0 where
@@ -22,7 +21,7 @@ module _ (c : CircuitData) (one : HasOneValues c) (stem lap : List (List Bool)) 
     held : length bits ≡ length c.latches
 
   lap_run : (h : Held) → Run c h.bits lap
-  lap_run h = run c one h.bits lap h.held wide.lap_is
+  lap_run h = run c one h.bits lap h.held lap_wide
 
   -- the latches behind the stem and so many laps
   behind : ℕ → Held
@@ -95,4 +94,4 @@ module _ (c : CircuitData) (one : HasOneValues c) (stem lap : List (List Bool)) 
       }
 
 pub each_goes_on : (c : CircuitData) → HasOneValues c → EachInputGoesOn c
-each_goes_on c one stem lap wide some = in_lasso c one stem lap wide some
+each_goes_on c one stem lap stem_wide lap_wide some = in_lasso c one stem lap stem_wide lap_wide some

@@ -7,14 +7,16 @@ use Rattle.std.proofs.lemmas.List.{length-map, get_or-map, get_or_past}
 use Rattle.ps_hoa.specs.Files.{FileData, is_among}
 use Rattle.ps_hoa.specs.Sound.{AreNames}
 use Rattle.ps_circuit.specs.Circuits.{CircuitData}
-use Rattle.ps_aiger.specs.Encoded.{Encodes, SeesNoInput, bits_over, letter_over, memory_of, symbols_of}
-use Rattle.ps_machine.specs.Machines.{MachineData, IsMachine}
+use Rattle.ps_aiger.specs.Timing.{SeesNoInput}
+use Rattle.ps_aiger.specs.Encoded.{Encodes, bits_over, letter_over, memory_of, symbols_of}
+use Rattle.ps_machine.specs.Behaviours.{Behaviour, IsMachine}
 use Rattle.ps_machine.specs.declared.key.Order.{Order}
 use Rattle.ps_simulate.specs.Symbols.{IsSymbol, AreNamesOnce, HasSymbols, reads_controllable, sets_controllable}
 use Rattle.ps_simulate.specs.declared.role.Role.{Role}
 use Rattle.ps_simulate.specs.declared.role.Role.TheVariants.{Controller, Environment}
 use Rattle.ps_simulate.proofs.NamingLemmas.{names_differ, role_apart}
-use Rattle.ps_traces.specs.Shapes.{HasShape, IsMachineFor, is_read_by}
+use Rattle.ps_traces.specs.Roles.{IsMachineFor, is_read_by}
+use Rattle.ps_traces.specs.Shapes.{HasShape}
 use Rattle.ps_traces.proofs.Bits.{is_there, stands_in}
 use Rattle.ps_traces.proofs.Letters.{side}
 use Rattle.ps_traces.proofs.Words.{memory_below}
@@ -91,7 +93,7 @@ side_read Controller true e = absurd (cc)
 side_read Controller false e = refl
 side_read Environment b e = e
 
-module _ (order : Order) (role : Role) (file : FileData) (m : MachineData) (c : CircuitData) (is : IsMachine m) (is_for : IsMachineFor order role file m) (encodes : Encodes m c) where
+module _ (order : Order) (role : Role) (file : FileData) (m : Behaviour) (c : CircuitData) (is : IsMachine m) (is_for : IsMachineFor order role file m) (encodes : Encodes m c) where
   inside : (p : ℕ) → (is_among p m.inputs ≡ true) ⊎ (is_among p m.outputs ≡ true) → p < length file.names
   inside p h = (let e : length m.names ≡ length file.names = ap length is_for.names in let lt : p < length m.names = (is.each p).1 h in omega (arith, e, lt))
 
@@ -122,7 +124,7 @@ module _ (order : Order) (role : Role) (file : FileData) (m : MachineData) (c : 
 
   has_symbols : HasSymbols role file.names file.controllable c
   has_symbols =
-      let symbols_of_file : (ps : List ℕ) → symbols_of m ps ≡ map (λ p. Some (get_or file.names p [])) ps = λ ps. ap (λ (ns : List (List ℕ)). map (λ p. Some (get_or ns p [])) ps) is_for.names in
+      let symbols_of_file : (ps : List ℕ) → symbols_of m.names ps ≡ map (λ p. Some (get_or file.names p [])) ps = λ ps. ap (λ (ns : List (List ℕ)). map (λ p. Some (get_or ns p [])) ps) is_for.names in
       record {
         inputs = subst (λ (ss : List (Option (List ℕ))). AreNamesOnce file.names file.controllable (reads_controllable role) ss) (sym (encodes.input_names ∙ symbols_of_file m.inputs))
             (names_once file.names file.controllable (reads_controllable role) m.inputs file_names is.inputs_rise (λ p among. inside p (inl among)) reads_own reads_all);

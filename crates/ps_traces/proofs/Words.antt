@@ -1,7 +1,6 @@
 -- The words of a circuit's lasso traces are those of the machine that it encodes.
 use Rattle.std.proofs.Common.{◌≡◌, ◌≢◌, ℕ, zero, suc, ◌+◌, ◌<◌, ◌≤◌, ◌⊎◌, inl, inr, Bool, true, false, cond, List, [], ◌∷◌, ◌++◌, length, get_or, Option, None, Some, refl, ap, sym, ◌∙◌, subst, arith, add-one}
-use Rattle.std.specs.Prelude.{All, IsSomeAnd}
-use Rattle.std.specs.Option.{unwrap_or}
+use Rattle.std.specs.Prelude.{All}
 use Rattle.std.proofs.lemmas.Bool.{cases_lt, le-ltb, lt-ltb}
 use Rattle.std.proofs.lemmas.List.{get_or-map}
 use Rattle.std.proofs.lemmas.List.Elements.{All-head, All-tail}
@@ -11,7 +10,7 @@ use Rattle.ps_hoa.specs.Files.{FileData, is_among}
 use Rattle.ps_circuit.specs.Circuits.{CircuitData}
 use Rattle.ps_circuit.specs.Values.{Moment, GoesOn, Steps, resets}
 use Rattle.ps_aiger.specs.Encoded.{Encodes, StepsAs, number_of, memory_of, letter_over}
-use Rattle.ps_machine.specs.Machines.{MachineData, IsMachine, IsOutput, IsLasso, LassosWon, Makes, memories_of, next_of, plays}
+use Rattle.ps_machine.specs.Behaviours.{Behaviour, IsMachine, IsOutput, IsLasso, LassosWon, Makes}
 use Rattle.ps_simulate.specs.Symbols.{IsSymbol}
 use Rattle.ps_simulate.specs.Lassos.{IsLetterOf, AreLetters, latches_along}
 use Rattle.ps_simulate.proofs.LassoLemmas.{along_more, at_end}
@@ -49,10 +48,6 @@ at_each names c P each from to (m ∷ ms) (l ∷ ls) (next, at, step, on) a (suc
 
 -- ## Steps of a machine
 
-below : (o : Option ℕ) (bound d : ℕ) → IsSomeAnd o (λ n. n < bound) → unwrap_or o d < bound
-below None bound d h = absurd h
-below (Some n) bound d h = h
-
 abbrev bit : Bool → ℕ
 bit b = cond b 1 0
 
@@ -63,19 +58,16 @@ none_number (b ∷ bs) h =
     let first : bit b ≡ 0 = ap bit (All-head (λ bit. bit ≡ false) b bs h) in
     omega (arith, rest, first)
 
-module _ (m : MachineData) (is : IsMachine m) where
-  row_within : (memory x : ℕ) → memory < memories_of m → (next_of m memory x < memories_of m) × IsOutput m (plays m memory x)
-  row_within memory x within = is.rows _ (below _ (length m.rows) (length m.rows) (is.leaves memory x within))
-
-  pub memory_below : (latches : List Bool) → memory_of m latches < memories_of m
-  memory_below latches = elim (cases_lt (number_of latches) (memories_of m)) [
-    | inl lt ↦ subst (λ n. n < memories_of m) (sym (ap (λ (b : Bool). cond b (number_of latches) 0) (lt-ltb (number_of latches) (memories_of m) lt))) lt
-    | inr le ↦ subst (λ n. n < memories_of m) (sym (ap (λ (b : Bool). cond b (number_of latches) 0) (le-ltb (number_of latches) (memories_of m) le))) is.some
+module _ (m : Behaviour) (is : IsMachine m) where
+  pub memory_below : (latches : List Bool) → memory_of m latches < m.memories
+  memory_below latches = elim (cases_lt (number_of latches) (m.memories)) [
+    | inl lt ↦ subst (λ n. n < m.memories) (sym (ap (λ (b : Bool). cond b (number_of latches) 0) (lt-ltb (number_of latches) (m.memories) lt))) lt
+    | inr le ↦ subst (λ n. n < m.memories) (sym (ap (λ (b : Bool). cond b (number_of latches) 0) (le-ltb (number_of latches) (m.memories) le))) is.some
   ]
 
-  code_is : (latches : List Bool) (memory : ℕ) → number_of latches ≡ memory → memory < memories_of m → memory_of m latches ≡ memory
+  code_is : (latches : List Bool) (memory : ℕ) → number_of latches ≡ memory → memory < m.memories → memory_of m latches ≡ memory
   code_is latches memory e lt =
-      ap (λ (b : Bool). cond b (number_of latches) 0) (lt-ltb (number_of latches) (memories_of m) (omega (arith, e, lt))) ∙ e
+      ap (λ (b : Bool). cond b (number_of latches) 0) (lt-ltb (number_of latches) (m.memories) (omega (arith, e, lt))) ∙ e
 
   not_both : (p : ℕ) → is_among p m.outputs ≡ true → is_among p m.inputs ≡ false
   not_both p out = go (is_among p m.inputs) refl
@@ -113,7 +105,7 @@ module _ (m : MachineData) (is : IsMachine m) where
       memory = memory_of m s.latches
 
       abbrev output : ℕ
-      output = plays m memory input
+      output = m.plays memory input
 
       in_input : (p : ℕ) → is_in p input ≡ bit_with p m.inputs s.inputs
       in_input p = in_letter_over p m.inputs s.inputs is.inputs_rise
@@ -129,7 +121,7 @@ module _ (m : MachineData) (is : IsMachine m) where
           go false e = input_off p e
 
       is_output : IsOutput m output
-      is_output = (row_within memory input (memory_below s.latches)).1
+      is_output = is.plays_own memory input (memory_below s.latches)
 
       -- a proposition that is read
       read_bit : (p : ℕ) → p < length m.names → is_among p m.inputs ≡ true → is_in p letter ≡ is_in p input
@@ -169,7 +161,7 @@ module _ (m : MachineData) (is : IsMachine m) where
         input = input;
         is_input = record { within = few_bits (length m.names) input input_high; own = input_off };
         joined = joined;
-        next_is = code_is next (next_of m memory input) as_machine.next_is (row_within memory input (memory_below s.latches)).0;
+        next_is = code_is next (m.next memory input) as_machine.next_is (is.next_within memory input (memory_below s.latches));
       }
 
     -- ## Lassos
@@ -218,13 +210,13 @@ module _ (m : MachineData) (is : IsMachine m) where
         returns = returns;
       }
 
-pub machine_words : (m : MachineData) (c : CircuitData) (stem lap : List ℕ) → IsMachine m → Encodes m c → IsLassoWord m.names c stem lap → IsLasso m stem lap
+pub machine_words : (m : Behaviour) (c : CircuitData) (stem lap : List ℕ) → IsMachine m → Encodes m c → IsLassoWord m.names c stem lap → IsLasso m stem lap
 machine_words m c stem lap is encodes word = is_lasso m is c encodes stem lap word
 
-pub all_accepted : (file : FileData) (m : MachineData) (c : CircuitData) → IsMachine m → m.names ≡ file.names → Encodes m c → LassosWon file m → m.player ≡ 0 → AllAccepted file c
+pub all_accepted : (file : FileData) (m : Behaviour) (c : CircuitData) → IsMachine m → m.names ≡ file.names → Encodes m c → LassosWon file m → m.player ≡ 0 → AllAccepted file c
 all_accepted file m c is names encodes won player stem lap word =
     won.accepted player stem lap (machine_words m c stem lap is encodes (subst (λ (ns : List (List ℕ)). IsLassoWord ns c stem lap) (sym names) word))
 
-pub none_accepted : (file : FileData) (m : MachineData) (c : CircuitData) → IsMachine m → m.names ≡ file.names → Encodes m c → LassosWon file m → m.player ≢ 0 → NoneAccepted file c
+pub none_accepted : (file : FileData) (m : Behaviour) (c : CircuitData) → IsMachine m → m.names ≡ file.names → Encodes m c → LassosWon file m → m.player ≢ 0 → NoneAccepted file c
 none_accepted file m c is names encodes won player stem lap word =
     won.rejected player stem lap (machine_words m c stem lap is encodes (subst (λ (ns : List (List ℕ)). IsLassoWord ns c stem lap) (sym names) word))

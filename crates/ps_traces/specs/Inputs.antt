@@ -2,11 +2,10 @@
 --     inputs_of moments      what is read at each moment
 --     GoesOnInLasso c stem lap      some lasso trace reads the stem and some laps, at least one, and then again and again some laps, at least one
 --     EachInputGoesOn c      for each stem and each lap, not empty, of letters of the circuit's width
-use Rattle.std.specs.Prelude.{◌≡◌, ℕ, ◌<◌, Bool, List, ◌++◌, length, map}
+use Rattle.std.specs.Prelude.{◌≡◌, ℕ, ◌<◌, Bool, List, ◌++◌, length, map, All}
 use Rattle.ps_circuit.specs.Circuits.{CircuitData}
 use Rattle.ps_circuit.specs.Values.{Moment}
 use Rattle.ps_simulate.specs.Lassos.{AreLetters, laps_of}
-use Rattle.ps_simulate.specs.LassoFaults.{AreWide}
 use Rattle.ps_traces.specs.Traces.{IsLassoTrace}
 
 abbrev pub inputs_of : List Moment → List (List Bool)
@@ -23,8 +22,12 @@ pub record GoesOnInLasso (c : CircuitData) (stem lap : List (List Bool)) : Type 
   pub stem_reads : inputs_of stem_moments ≡ stem ++ laps_of lap before
   pub lap_reads : inputs_of lap_moments ≡ laps_of lap laps
 
+-- letters of the circuit's width
+abbrev pub AreInputs : CircuitData → List (List Bool) → Type 0
+AreInputs c letters = All (λ letter. length letter ≡ length c.inputs) letters
+
 abbrev pub EachInputGoesOn : CircuitData → Type 0
-EachInputGoesOn c = (stem lap : List (List Bool)) → AreWide c stem lap → 0 < length lap → GoesOnInLasso c stem lap
+EachInputGoesOn c = (stem lap : List (List Bool)) → AreInputs c stem → AreInputs c lap → 0 < length lap → GoesOnInLasso c stem lap
 
 -- whatever is read and answered has one letter for each moment
 pub record HasLetters (names : List (List ℕ)) (c : CircuitData) (moments : List Moment) : Type 0 where

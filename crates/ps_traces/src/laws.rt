@@ -10,9 +10,11 @@ ghost use Rattle.ps_certificate.specs.Certificates.{CertificateData, Fits, IsVal
 ghost use Rattle.ps_circuit.specs.Circuits.{CircuitData, IsCircuit};
 ghost use Rattle.ps_aiger.specs.Encoded.{Encodes};
 ghost use Rattle.ps_circuit.specs.Values.{Moment, HasOneValues};
-ghost use Rattle.ps_machine.specs.Machines.{MachineData, IsMachine, IsLasso, LassosWon};
-ghost use Rattle.ps_machine.specs.Boards.{IsGameOf, board_of};
-ghost use Rattle.ps_machine.specs.Extracting.{HasPropositions, IsMachineOf, winner};
+ghost use Rattle.ps_machine.specs.Behaviours.{Behaviour, IsMachine, IsLasso, LassosWon};
+ghost use Rattle.ps_machine.specs.Boards.{IsGameOf};
+ghost use Rattle.ps_machine.specs.BuiltBoards.{board_of};
+ghost use Rattle.ps_machine.specs.Extracting.{HasPropositions, IsMachineOf};
+ghost use Rattle.ps_machine.specs.Solving.{winner};
 ghost use Rattle.ps_machine.specs.Keys.{mover_of};
 ghost use Rattle.ps_machine.specs.declared.key.Key.{Key};
 ghost use Rattle.ps_machine.specs.declared.key.Order.{Order};
@@ -21,7 +23,8 @@ ghost use Rattle.ps_simulate.specs.declared.role.Role.{Role};
 ghost use Rattle.ps_simulate.specs.declared.role.Role.TheVariants.{Environment};
 ghost use Rattle.ps_traces.specs.Answers.{IsAnswer, role_of};
 ghost use Rattle.ps_traces.specs.Traces.{IsLassoWord, AllAccepted, NoneAccepted};
-ghost use Rattle.ps_traces.specs.Shapes.{HasShape, IsInTime, IsMachineFor};
+ghost use Rattle.ps_traces.specs.Roles.{IsMachineFor};
+ghost use Rattle.ps_traces.specs.Shapes.{HasShape, IsInTime};
 ghost use Rattle.ps_traces.specs.Inputs.{EachInputGoesOn, HasLetters};
 ghost use Rattle.ps_traces.specs.Meetings.{FiniteController, IsController, IsOneMeeting, IsRejected, MeetsInLasso};
 
@@ -59,23 +62,23 @@ pub fn every_meeting_is_rejected()
 
 /// The words of a circuit's lasso traces are those of the machine that it encodes.
 pub fn circuit_has_machine_words()
-    ensures { (m : MachineData) (c : CircuitData) (stem lap : List ℕ) → IsMachine m → Encodes m c → IsLassoWord m.names c stem lap → IsLasso m stem lap }
+    ensures { (m : Behaviour) (c : CircuitData) (stem lap : List ℕ) → IsMachine m → Encodes m c → IsLassoWord m.names c stem lap → IsLasso m stem lap }
 {}
 
 /// So they are accepted, all or none, as the machine's are.
 pub fn circuit_is_won()
-    ensures accepted { (file : FileData) (m : MachineData) (c : CircuitData) → IsMachine m → m.names ≡ file.names → Encodes m c → LassosWon file m → m.player ≡ 0 → AllAccepted file c }
-    ensures rejected { (file : FileData) (m : MachineData) (c : CircuitData) → IsMachine m → m.names ≡ file.names → Encodes m c → LassosWon file m → m.player ≢ 0 → NoneAccepted file c }
+    ensures accepted { (file : FileData) (m : Behaviour) (c : CircuitData) → IsMachine m → m.names ≡ file.names → Encodes m c → LassosWon file m → m.player ≡ 0 → AllAccepted file c }
+    ensures rejected { (file : FileData) (m : Behaviour) (c : CircuitData) → IsMachine m → m.names ≡ file.names → Encodes m c → LassosWon file m → m.player ≢ 0 → NoneAccepted file c }
 {}
 
 /// And the circuit has the shape of the machine's player.
 pub fn circuit_has_shape()
-    ensures { (order : Order) (role : Role) (file : FileData) (m : MachineData) (c : CircuitData) → IsMachine m → IsMachineFor order role file m → Encodes m c → HasShape order role file c }
+    ensures { (order : Order) (role : Role) (file : FileData) (m : Behaviour) (c : CircuitData) → IsMachine m → IsMachineFor order role file m → Encodes m c → HasShape order role file c }
 {}
 
 /// All of this together: what the circuit of the winner's machine is worth.
 pub fn circuit_answers()
-    ensures { (order : Order) (file : FileData) (m : MachineData) (c : CircuitData) → IsMachine m → IsMachineFor order (role_of m.player) file m → Encodes m c → LassosWon file m → IsAnswer order file m.player c }
+    ensures { (order : Order) (file : FileData) (m : Behaviour) (c : CircuitData) → IsMachine m → IsMachineFor order (role_of m.player) file m → Encodes m c → LassosWon file m → IsAnswer order file m.player c }
 {
     circuit_has_one_values();
 }
@@ -83,7 +86,7 @@ pub fn circuit_answers()
 /// So a valid certificate of an automaton's game makes a controller whose lasso traces the automaton all accepts, or an environment
 /// whose lasso traces it all rejects, as vertex 0 is the one's or the other's.
 pub fn certified_circuit_answers()
-    ensures { (file : FileData) (chain : Chain) (a : AutomatonData) (order : Order) (keys : List Key) (game : ParityGame) (certificate : CertificateData) (m : MachineData) (c : CircuitData) →
+    ensures { (file : FileData) (chain : Chain) (a : AutomatonData) (order : Order) (keys : List Key) (game : ParityGame) (certificate : CertificateData) (m : Behaviour) (c : CircuitData) →
         IsBuiltFrom file chain a → IsGameOf (board_of order a) (mover_of order) keys game → Fits game certificate → IsValid game certificate →
         IsMachine m → HasPropositions a.names (board_of order a) m → IsMachineOf (board_of order a) (mover_of order) keys game certificate m →
         Encodes m c → IsAnswer order file (winner certificate) c }

@@ -16,20 +16,20 @@ next_given m d e latches next given same x each j lt = subst (λ xs. IsLiteralAt
 
 pub overflow_cast-inputs : goal.overflow_cast-inputs
 overflow_cast-inputs c =
-    let few = few_inputs c.args.machine.now c.memories.ensures.machine in
+    let few = few_inputs c.args.machine.now c.memories.ensures.machine.is_machine in
     let same : length c.inputs.result.now ≡ length c.args.machine.now.inputs = ap length c.inputs.ensures.inputs in
     omega arith
 
 pub overflow_add-inputs : goal.overflow_add-inputs
 overflow_add-inputs c =
-    let few = few_inputs c.args.machine.now c.memories.ensures.machine in
+    let few = few_inputs c.args.machine.now c.memories.ensures.machine.is_machine in
     let same : length c.inputs.result.now ≡ length c.args.machine.now.inputs = ap length c.inputs.ensures.inputs in
     let less = c.latches_for-latches.ensures.few in
     omega arith
 
 pub new-builder-requires : goal.new-builder-requires
 new-builder-requires c =
-    let few = few_inputs c.args.machine.now c.memories.ensures.machine in
+    let few = few_inputs c.args.machine.now c.memories.ensures.machine.is_machine in
     let same : length c.inputs.result.now ≡ length c.args.machine.now.inputs = ap length c.inputs.ensures.inputs in
     let less = c.latches_for-latches.ensures.few in
     omega arith
@@ -38,7 +38,7 @@ pub next_literals-requires-clause-given : goal.next_literals-requires-clause-giv
 next_literals-requires-clause-given c = c.new-builder.ensures.given ∙ ap (λ xs. length xs + c.latches_for-latches.result) c.inputs.ensures.inputs
 
 pub next_literals-requires-clause-small : goal.next_literals-requires-clause-small
-next_literals-requires-clause-small c = few_inputs c.args.machine.now c.memories.ensures.machine
+next_literals-requires-clause-small c = few_inputs c.args.machine.now c.memories.ensures.machine.is_machine
 
 pub output_literals-requires-clause-given : goal.output_literals-requires-clause-given
 output_literals-requires-clause-given c = c.in_ok-next.ensures.extends.given ∙ c.new-builder.ensures.given ∙ ap (λ xs. length xs + c.latches_for-latches.result) c.inputs.ensures.inputs
@@ -50,7 +50,7 @@ pub circuit_of-requires-clause-given : goal.circuit_of-requires-clause-given
 circuit_of-requires-clause-given c = c.in_ok-outputs.ensures.extends.given ∙ c.in_ok-next.ensures.extends.given ∙ c.new-builder.ensures.given ∙ ap (λ xs. length xs + c.latches_for-latches.result) c.inputs.ensures.inputs
 
 pub circuit_of-requires-clause-small : goal.circuit_of-requires-clause-small
-circuit_of-requires-clause-small c = few_inputs c.args.machine.now c.memories.ensures.machine
+circuit_of-requires-clause-small c = few_inputs c.args.machine.now c.memories.ensures.machine.is_machine
 
 pub circuit_of-requires-clause-enough : goal.circuit_of-requires-clause-enough
 circuit_of-requires-clause-enough c = subst (λ n. n ≤ 2 ^ c.latches_for-latches.result) c.memories.ensures.memories c.latches_for-latches.ensures.enough

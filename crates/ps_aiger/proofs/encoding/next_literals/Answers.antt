@@ -3,9 +3,9 @@ use Rattle.std.specs.Global.{Global}
 use Rattle.std.proofs.lemmas.Result.{IfOk-weaker}
 use Rattle.ps_aiger.specs.declared.functions.Wanted.{Wanted}
 use Rattle.ps_aiger.specs.Built.{AreLiterals}
-use Rattle.ps_aiger.specs.Functions.{wanted_place}
+use Rattle.ps_aiger.specs.Functions.{bits_wired, wanted_place}
 use Rattle.ps_circuit.specs.Building.{variables_of}
-use Rattle.ps_aiger.specs.Wires.{Wired, wired}
+use Rattle.ps_aiger.specs.Wires.{Wired}
 use Rattle.ps_aiger.proofs.EncodeLemmas.{next_bits_within, next_of_bits}
 use Rattle.ps_aiger.proofs.WiredLemmas.{first_wired, bits_are}
 use Rattle.ps_aiger.proofs.encoding.next_literals.Goals as goal
@@ -32,7 +32,7 @@ returns-clause-made c =
     let latches = c.args.latches in
     let first = first_wired m latches c.in_ok-next_bits.next_bits.items c.deref.result.now c.args.builder.now c.deref.ensures.value
     (bits_are latches c.in_ok-next_bits.next_bits.items c.in_ok-next_bits.ensures.many c.in_ok-next_bits.ensures.each) c.requires.given c.requires.empty in
-    let P : Vec ℕ Global → Type 0 = λ literals. wired m latches c.deref.result.now c.args.builder.now ≡ record { draft = c.literals_of.new.builder; literals = literals.items } in
+    let P : Vec ℕ Global → Type 0 = λ literals. bits_wired m latches c.deref.result.now c.args.builder.now ≡ record { draft = c.literals_of.new.builder; literals = literals.items } in
     IfOk-weaker c.literals_of.result P _ (λ literals made. sym first ∙ made) c.literals_of.ensures.made
 
 pub returns-clause-too_large : goal.returns-clause-too_large

@@ -3,18 +3,12 @@ use Rattle.std.specs.Global.{Global}
 use Rattle.std.proofs.lemmas.Result.{IfOk-weaker}
 use Rattle.ps_aiger.specs.declared.functions.Wanted.{Wanted}
 use Rattle.ps_aiger.specs.Built.{AreLiterals}
-use Rattle.ps_aiger.specs.Functions.{wanted_place}
+use Rattle.ps_aiger.specs.Functions.{bits_wired, wanted_place}
 use Rattle.ps_circuit.specs.Building.{variables_of}
-use Rattle.ps_machine.specs.Machines.{MachineData}
-use Rattle.ps_circuit.specs.Building.{Drafted}
-use Rattle.ps_aiger.specs.Wires.{Wired, next_wires, output_wires, wired}
-use Rattle.ps_aiger.specs.declared.functions.Wanted.TheVariants.{Output}
+use Rattle.ps_aiger.specs.Wires.{Wired}
 use Rattle.ps_aiger.proofs.EncodeLemmas.{few_inputs, output_bits_within}
+use Rattle.ps_aiger.proofs.WiredLemmas.{all_wired}
 use Rattle.ps_aiger.proofs.encoding.output_literals.Goals as goal
-
--- the outputs are wired behind the next values
-all_wired : (m : MachineData) (latches : ℕ) (bits : List Wanted) (d : Drafted) → d ≡ (next_wires m latches).draft → bits ≡ map Output m.outputs → output_wires m latches ≡ wired m latches bits d
-all_wired m latches bits d behind is = ap (λ (e : Drafted). wired m latches (map Output m.outputs) e) (sym behind) ∙ ap (λ ws. wired m latches ws d) (sym is)
 
 pub literals_of-requires-clause-within : goal.literals_of-requires-clause-within
 literals_of-requires-clause-within c =
@@ -36,7 +30,7 @@ returns-clause-made c =
     let m = c.args.machine.now in
     let latches = c.args.latches in
     let whole = all_wired m latches c.deref.result.now c.args.builder.now c.requires.behind (c.deref.ensures.value ∙ c.in_ok-output_bits.ensures) in
-    let P : Vec ℕ Global → Type 0 = λ literals. wired m latches c.deref.result.now c.args.builder.now ≡ record { draft = c.literals_of.new.builder; literals = literals.items } in
+    let P : Vec ℕ Global → Type 0 = λ literals. bits_wired m latches c.deref.result.now c.args.builder.now ≡ record { draft = c.literals_of.new.builder; literals = literals.items } in
     IfOk-weaker c.literals_of.result P _ (λ literals made. whole ∙ made) c.literals_of.ensures.made
 
 pub returns-clause-too_large : goal.returns-clause-too_large

@@ -7,7 +7,7 @@ use Rattle.ps_diagram.specs.Table.{Table, leaf_of}
 use Rattle.ps_diagram.specs.Views.{SeesTest}
 use Rattle.ps_circuit.specs.Building.{variables_of}
 use Rattle.ps_circuit.specs.Gates.{Made}
-use Rattle.ps_aiger.specs.Wires.{node_made}
+use Rattle.ps_aiger.specs.Functions.{node_made}
 use Rattle.ps_circuit.proofs.GateLemmas.{extends-trans, passed}
 use Rattle.ps_aiger.proofs.FunctionLemmas.{literal-kept, literal-test, knows-kept, knows-more, knows-same, place_small, held_place}
 use Rattle.ps_aiger.proofs.OverLemmas.{inputs-extends, made-nothing, made-leaf, made-low, made-test}
@@ -74,13 +74,13 @@ pub returns-in_default-clause-made : goal.returns-in_default-clause-made
 returns-in_default-clause-made t c =
     let sees = subst (λ (s : Table). SeesTest s c.args.node c.in-Test.proposition c.in-Test.low c.in-Test.high) c.store.ensures.store c.in-Test.ensures in
     let none = subst (λ (xs : List ℕ). is_among c.in-Test.proposition xs ≡ false) c.inputs.ensures.inputs c.in_default.ensures.none in
-    IfOk-weaker c.over_inputs.result _ _ (λ literal is. made-low c.args.machine.now c.args.wanted c.args.node c.in-Test.proposition c.in-Test.low c.in-Test.high c.args.builder.now c.inputs.ensures.machine sees none ∙ is) c.over_inputs.ensures.made
+    IfOk-weaker c.over_inputs.result _ _ (λ literal is. made-low c.args.machine.now c.args.wanted c.args.node c.in-Test.proposition c.in-Test.low c.in-Test.high c.args.builder.now c.inputs.ensures.machine.is_machine sees none ∙ is) c.over_inputs.ensures.made
 
 pub returns-in_default-clause-too_large : goal.returns-in_default-clause-too_large
 returns-in_default-clause-too_large t c e =
     let sees = subst (λ (s : Table). SeesTest s c.args.node c.in-Test.proposition c.in-Test.low c.in-Test.high) c.store.ensures.store c.in-Test.ensures in
     let none = subst (λ (xs : List ℕ). is_among c.in-Test.proposition xs ≡ false) c.inputs.ensures.inputs c.in_default.ensures.none in
-    subst (λ (n : Made). 2147483647 < variables_of n.draft) (sym (made-low c.args.machine.now c.args.wanted c.args.node c.in-Test.proposition c.in-Test.low c.in-Test.high c.args.builder.now c.inputs.ensures.machine sees none)) (c.over_inputs.ensures.too_large e)
+    subst (λ (n : Made). 2147483647 < variables_of n.draft) (sym (made-low c.args.machine.now c.args.wanted c.args.node c.in-Test.proposition c.in-Test.low c.in-Test.high c.args.builder.now c.inputs.ensures.machine.is_machine sees none)) (c.over_inputs.ensures.too_large e)
 
 pub returns-in-Some-get-clause-made : goal.returns-in-Some-get-clause-made
 returns-in-Some-get-clause-made t c = c.requires.known_made c.args.node c.in-Some-get.literal.now (sym c.in-Some-get.ensures.value)
@@ -90,7 +90,7 @@ returns-in_err-where_true-in-Test-clause-too_large t c e =
     let m = c.args.machine.now in
     let w = c.args.wanted in
     let s = 2 * (c.in-Some.place + 1) in
-    let whole = made-test m w c.args.node c.in-Test.proposition c.in-Test.low c.in-Test.high c.in-Some.place c.args.builder.now c.inputs.ensures.machine
+    let whole = made-test m w c.args.node c.in-Test.proposition c.in-Test.low c.in-Test.high c.in-Some.place c.args.builder.now c.inputs.ensures.machine.is_machine
     (subst (λ (t : Table). SeesTest t c.args.node c.in-Test.proposition c.in-Test.low c.in-Test.high) c.store.ensures.store c.in-Test.ensures)
     (subst (λ (xs : List ℕ). slice_get xs c.in-Some.place ≡ Some c.in-Test.proposition) c.inputs.ensures.inputs c.in-Some.ensures.found) in
     choice-above _ _ (node_made m w c.in-Test.low) s whole (inputs-extends m w c.in-Test.low)
@@ -101,7 +101,7 @@ returns-in_err-where_false-in-Test-clause-too_large t c e =
     let m = c.args.machine.now in
     let w = c.args.wanted in
     let s = 2 * (c.in-Some.place + 1) in
-    let whole = made-test m w c.args.node c.in-Test.proposition c.in-Test.low c.in-Test.high c.in-Some.place c.args.builder.now c.inputs.ensures.machine
+    let whole = made-test m w c.args.node c.in-Test.proposition c.in-Test.low c.in-Test.high c.in-Some.place c.args.builder.now c.inputs.ensures.machine.is_machine
     (subst (λ (t : Table). SeesTest t c.args.node c.in-Test.proposition c.in-Test.low c.in-Test.high) c.store.ensures.store c.in-Test.ensures)
     (subst (λ (xs : List ℕ). slice_get xs c.in-Some.place ≡ Some c.in-Test.proposition) c.inputs.ensures.inputs c.in-Some.ensures.found) in
     choice-above_low _ _ (node_made m w c.in-Test.low) c.over_inputs-in-Test.new.builder s c.in_ok-where_true-in-Test.where_true whole c.in_ok-where_true-in-Test.ensures.made
@@ -112,7 +112,7 @@ returns-in_err-literal-in-Test-clause-too_large t c e =
     let m = c.args.machine.now in
     let w = c.args.wanted in
     let s = 2 * (c.in-Some.place + 1) in
-    let whole = made-test m w c.args.node c.in-Test.proposition c.in-Test.low c.in-Test.high c.in-Some.place c.args.builder.now c.inputs.ensures.machine
+    let whole = made-test m w c.args.node c.in-Test.proposition c.in-Test.low c.in-Test.high c.in-Some.place c.args.builder.now c.inputs.ensures.machine.is_machine
     (subst (λ (t : Table). SeesTest t c.args.node c.in-Test.proposition c.in-Test.low c.in-Test.high) c.store.ensures.store c.in-Test.ensures)
     (subst (λ (xs : List ℕ). slice_get xs c.in-Some.place ≡ Some c.in-Test.proposition) c.inputs.ensures.inputs c.in-Some.ensures.found) in
     subst (λ (n : Made). 2147483647 < variables_of n.draft) (sym (choice-made _ _ (node_made m w c.in-Test.low) c.over_inputs-in-Test.new.builder c.over_inputs-in-Test-2.new.builder s c.in_ok-where_true-in-Test.where_true c.in_ok-where_false-in-Test.where_false whole c.in_ok-where_true-in-Test.ensures.made c.in_ok-where_false-in-Test.ensures.made))
@@ -123,7 +123,7 @@ returns-in_ok-insert-in-Test-clause-made t c =
     let m = c.args.machine.now in
     let w = c.args.wanted in
     let s = 2 * (c.in-Some.place + 1) in
-    let whole = made-test m w c.args.node c.in-Test.proposition c.in-Test.low c.in-Test.high c.in-Some.place c.args.builder.now c.inputs.ensures.machine
+    let whole = made-test m w c.args.node c.in-Test.proposition c.in-Test.low c.in-Test.high c.in-Some.place c.args.builder.now c.inputs.ensures.machine.is_machine
     (subst (λ (t : Table). SeesTest t c.args.node c.in-Test.proposition c.in-Test.low c.in-Test.high) c.store.ensures.store c.in-Test.ensures)
     (subst (λ (xs : List ℕ). slice_get xs c.in-Some.place ≡ Some c.in-Test.proposition) c.inputs.ensures.inputs c.in-Some.ensures.found) in
     choice-made _ _ (node_made m w c.in-Test.low) c.over_inputs-in-Test.new.builder c.over_inputs-in-Test-2.new.builder s c.in_ok-where_true-in-Test.where_true c.in_ok-where_false-in-Test.where_false whole c.in_ok-where_true-in-Test.ensures.made c.in_ok-where_false-in-Test.ensures.made
@@ -134,7 +134,7 @@ returns-in_ok-insert-in-Test-clause-known_made t c =
     let m = c.args.machine.now in
     let w = c.args.wanted in
     let s = 2 * (c.in-Some.place + 1) in
-    let whole = made-test m w c.args.node c.in-Test.proposition c.in-Test.low c.in-Test.high c.in-Some.place c.args.builder.now c.inputs.ensures.machine
+    let whole = made-test m w c.args.node c.in-Test.proposition c.in-Test.low c.in-Test.high c.in-Some.place c.args.builder.now c.inputs.ensures.machine.is_machine
     (subst (λ (t : Table). SeesTest t c.args.node c.in-Test.proposition c.in-Test.low c.in-Test.high) c.store.ensures.store c.in-Test.ensures)
     (subst (λ (xs : List ℕ). slice_get xs c.in-Some.place ≡ Some c.in-Test.proposition) c.inputs.ensures.inputs c.in-Some.ensures.found) in
     made-more m w c.args.builder.now c.mux.new.self (get nat_eq c.over_inputs-in-Test-2.new.known) (get nat_eq c.insert.new.self) c.args.node c.in_ok-literal-in-Test.literal c.in_ok-insert-in-Test.ensures.updates.0

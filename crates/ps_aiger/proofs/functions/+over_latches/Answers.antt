@@ -3,7 +3,7 @@ use Rattle.std.proofs.lemmas.Result.{IfOk-weaker}
 use Rattle.indexmap.specs.IndexMap.{get}
 use Rattle.ps_circuit.specs.Building.{variables_of}
 use Rattle.ps_circuit.specs.Gates.{Made, mux_of}
-use Rattle.ps_aiger.specs.Wires.{code_made}
+use Rattle.ps_aiger.specs.Functions.{code_wanted}
 use Rattle.ps_circuit.proofs.GateLemmas.{extends-trans, passed}
 use Rattle.ps_aiger.proofs.FunctionLemmas.{at-kept, at-suc, knows-kept, ok_both, upper_fits, lower_fits, shl_is}
 use Rattle.ps_aiger.proofs.LetterLemmas.{positive}
@@ -75,7 +75,7 @@ returns-in_err-where_true-clause-too_large t c e =
     let is : c.args.latches ≡ suc latch = omega arith in
     let up : upper ≡ c.args.code + 2 ^ latch = ap (λ n. c.args.code + n) (shl_is latch (omega arith)) in
     let whole = code-suc m w c.args.latches latch c.args.code upper s c.args.builder.now is up refl in
-    choice-above _ _ (code_made m w latch c.args.code) s whole (code-extends m w latch c.args.code)
+    choice-above _ _ (code_wanted m w latch c.args.code) s whole (code-extends m w latch c.args.code)
     (c.over_latches.ensures.too_large (c.in_err-where_true.was ∙ ap (λ f. Err f) (passed c.from_residual.result c.in_err-where_true.field-0.0 _ c.from_residual.ensures.1 e)))
 
 pub returns-in_err-where_false-clause-too_large : goal.returns-in_err-where_false-clause-too_large
@@ -90,7 +90,7 @@ returns-in_err-where_false-clause-too_large t c e =
     let is : c.args.latches ≡ suc latch = omega arith in
     let up : upper ≡ c.args.code + 2 ^ latch = ap (λ n. c.args.code + n) (shl_is latch (omega arith)) in
     let whole = code-suc m w c.args.latches latch c.args.code upper s c.args.builder.now is up refl in
-    choice-above_low _ _ (code_made m w latch c.args.code) c.over_latches.new.builder s c.in_ok-where_true.where_true whole c.in_ok-where_true.ensures.made
+    choice-above_low _ _ (code_wanted m w latch c.args.code) c.over_latches.new.builder s c.in_ok-where_true.where_true whole c.in_ok-where_true.ensures.made
     (c.over_latches-2.ensures.too_large (c.in_err-where_false.was ∙ ap (λ f. Err f) (passed c.from_residual-in_err-where_false.result c.in_err-where_false.field-0.0 _ c.from_residual-in_err-where_false.ensures.1 e)))
 
 pub returns-clause-made : goal.returns-clause-made
@@ -106,7 +106,7 @@ returns-clause-made t c =
     let up : upper ≡ c.args.code + 2 ^ latch = ap (λ n. c.args.code + n) (shl_is latch (omega arith)) in
     let whole = code-suc m w c.args.latches latch c.args.code upper s c.args.builder.now is up refl in
     let variable = ap (λ xs. 2 * (length xs + 1 + latch)) c.inputs.ensures.inputs in
-    IfOk-weaker c.mux.result _ _ (λ literal made. choice-made _ _ (code_made m w latch c.args.code) c.over_latches.new.builder c.over_latches-2.new.builder s c.in_ok-where_true.where_true c.in_ok-where_false.where_false whole c.in_ok-where_true.ensures.made c.in_ok-where_false.ensures.made
+    IfOk-weaker c.mux.result _ _ (λ literal made. choice-made _ _ (code_wanted m w latch c.args.code) c.over_latches.new.builder c.over_latches-2.new.builder s c.in_ok-where_true.where_true c.in_ok-where_false.where_false whole c.in_ok-where_true.ensures.made c.in_ok-where_false.ensures.made
     ∙ ap (λ x. mux_of c.over_latches-2.new.builder x c.in_ok-where_true.where_true c.in_ok-where_false.where_false) (sym variable) ∙ made) c.mux.ensures.made
 
 pub returns-clause-too_large : goal.returns-clause-too_large
@@ -122,7 +122,7 @@ returns-clause-too_large t c e =
     let up : upper ≡ c.args.code + 2 ^ latch = ap (λ n. c.args.code + n) (shl_is latch (omega arith)) in
     let whole = code-suc m w c.args.latches latch c.args.code upper s c.args.builder.now is up refl in
     let variable = ap (λ xs. 2 * (length xs + 1 + latch)) c.inputs.ensures.inputs in
-    subst (λ (n : Made). 2147483647 < variables_of n.draft) (sym (choice-made _ _ (code_made m w latch c.args.code) c.over_latches.new.builder c.over_latches-2.new.builder s c.in_ok-where_true.where_true c.in_ok-where_false.where_false whole c.in_ok-where_true.ensures.made c.in_ok-where_false.ensures.made
+    subst (λ (n : Made). 2147483647 < variables_of n.draft) (sym (choice-made _ _ (code_wanted m w latch c.args.code) c.over_latches.new.builder c.over_latches-2.new.builder s c.in_ok-where_true.where_true c.in_ok-where_false.where_false whole c.in_ok-where_true.ensures.made c.in_ok-where_false.ensures.made
     ∙ ap (λ x. mux_of c.over_latches-2.new.builder x c.in_ok-where_true.where_true c.in_ok-where_false.where_false) (sym variable))) (c.mux.ensures.above e)
 
 pub returns-clause-known_made : goal.returns-clause-known_made

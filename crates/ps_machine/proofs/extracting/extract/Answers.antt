@@ -1,9 +1,10 @@
 use Rattle.std.proofs.Common.{subst}
 use Rattle.std.proofs.lemmas.Result.{IfOk-weaker}
 use Rattle.ps_certificate.specs.Certificates.{Fits, IsValid}
-use Rattle.ps_machine.specs.Boards.{board_of}
+use Rattle.ps_machine.specs.BuiltBoards.{board_of}
 use Rattle.ps_machine.specs.Extracting.{IsMachineOf}
 use Rattle.ps_machine.specs.Keys.{mover_of}
+use Rattle.ps_machine.specs.Machines.{behaviour}
 use Rattle.ps_machine.proofs.OneGame.{one_game_of}
 use Rattle.ps_machine.proofs.extracting.extract.Goals as goal
 
@@ -27,5 +28,5 @@ returns-clause-machine c =
     let certificate = c.args.certificate.now in
     IfOk-weaker c.machine_of_certificate.result _ _
     (λ m of keys is. (let one = one_game_of board mover made.keys.keys keys made.game.game game c.in_ok-keyed.ensures.game is in
-    subst (λ ks. IsMachineOf board mover ks game certificate m) one.0 (subst (λ g. IsMachineOf board mover made.keys.keys g certificate m) one.1 of)))
+    subst (λ ks. IsMachineOf board mover ks game certificate (behaviour m)) one.0 (subst (λ g. IsMachineOf board mover made.keys.keys g certificate (behaviour m)) one.1 of)))
     c.machine_of_certificate.ensures.machine

@@ -1,9 +1,10 @@
 use Rattle.std.proofs.Common.{sym, subst, arith}
 use Rattle.ps_machine.specs.Assembling.{IsAssembled, machine_of}
-use Rattle.ps_machine.specs.Boards.{board_of}
+use Rattle.ps_machine.specs.Behaviours.{LassosWon}
+use Rattle.ps_machine.specs.BuiltBoards.{board_of}
 use Rattle.ps_machine.specs.Extracting.{HasPropositions, IsMachineOf}
 use Rattle.ps_machine.specs.Keys.{mover_of}
-use Rattle.ps_machine.specs.Machines.{LassosWon}
+use Rattle.ps_machine.specs.Machines.{behaviour}
 use Rattle.ps_machine.proofs.Extracted.{assembled, has_propositions, is_machine_of, some_vertices}
 use Rattle.ps_machine.proofs.LassosAreWon.{each_lasso_won}
 use Rattle.ps_machine.proofs.MachineLemmas.{is_machine}
@@ -47,10 +48,10 @@ returns-clause-machine c =
     let m = machine_of player plan.moves_first p d in
     let made : IsAssembled board keys memories.kept.items plan.certificate.now m =
     assembled plan.order a keys plan.certificate.now plan.moves_first memories.kept.items memories.marks.keys c.requires player c.winner-player.ensures p d said.few said.sound said.names said.roles c.in_ok-diagrams.ensures.letters c.in_ok-diagrams.ensures.drawn in
-    let of : IsMachineOf board mover keys c.requires.game plan.certificate.now m = is_machine_of plan.order a keys plan.certificate.now plan.moves_first memories.kept.items memories.marks.keys c.requires player c.winner-player.ensures p d made in
+    let of : IsMachineOf board mover keys c.requires.game plan.certificate.now (behaviour m) = is_machine_of plan.order a keys plan.certificate.now plan.moves_first memories.kept.items memories.marks.keys c.requires player c.winner-player.ensures p d made in
     λ game is.
-    subst (λ g. IsMachineOf board mover keys g plan.certificate.now c.new.result) (one_game_of board mover keys keys c.requires.game game c.requires.is_game is).1
-    (subst (λ n. IsMachineOf board mover keys c.requires.game plan.certificate.now n) (sym c.new.ensures) of)
+    subst (λ g. IsMachineOf board mover keys g plan.certificate.now (behaviour c.new.result)) (one_game_of board mover keys keys c.requires.game game c.requires.is_game is).1
+    (subst (λ n. IsMachineOf board mover keys c.requires.game plan.certificate.now (behaviour n)) (sym c.new.ensures) of)
 
 pub returns-clause-propositions : goal.returns-clause-propositions
 returns-clause-propositions c =
@@ -59,9 +60,9 @@ returns-clause-propositions c =
     let memories = plan.memories.now in
     let said = c.in_ok-propositions.ensures in
     let m = machine_of c.winner-player.result plan.moves_first c.in_ok-propositions.propositions c.in_ok-diagrams.diagrams in
-    let has : HasPropositions a.names (board_of plan.order a) m =
+    let has : HasPropositions a.names (board_of plan.order a) (behaviour m) =
     has_propositions plan.order a plan.keys.now.keys plan.certificate.now plan.moves_first memories.kept.items memories.marks.keys c.requires c.winner-player.result c.winner-player.ensures c.in_ok-propositions.propositions c.in_ok-diagrams.diagrams said.names said.roles in
-    subst (λ n. HasPropositions a.names (board_of plan.order a) n) (sym c.new.ensures) has
+    subst (λ n. HasPropositions a.names (board_of plan.order a) (behaviour n)) (sym c.new.ensures) has
 
 pub returns-clause-won : goal.returns-clause-won
 returns-clause-won c =
@@ -78,7 +79,7 @@ returns-clause-won c =
     let m = machine_of player plan.moves_first p d in
     let made : IsAssembled board keys memories.kept.items certificate m =
     assembled plan.order a keys certificate plan.moves_first memories.kept.items memories.marks.keys c.requires player c.winner-player.ensures p d said.few said.sound said.names said.roles c.in_ok-diagrams.ensures.letters c.in_ok-diagrams.ensures.drawn in
-    let of : IsMachineOf board (mover_of plan.order) keys c.requires.game certificate m = is_machine_of plan.order a keys certificate plan.moves_first memories.kept.items memories.marks.keys c.requires player c.winner-player.ensures p d made in
-    let has : HasPropositions a.names board m = has_propositions plan.order a keys certificate plan.moves_first memories.kept.items memories.marks.keys c.requires player c.winner-player.ensures p d said.names said.roles in
-    λ file chain built. subst (λ n. LassosWon file n) (sym c.new.ensures)
-    (each_lasso_won file chain a plan.order keys c.requires.game certificate m built c.requires.is_game c.requires.fits c.requires.valid (is_machine board keys memories.kept.items certificate m made) has of)
+    let of : IsMachineOf board (mover_of plan.order) keys c.requires.game certificate (behaviour m) = is_machine_of plan.order a keys certificate plan.moves_first memories.kept.items memories.marks.keys c.requires player c.winner-player.ensures p d made in
+    let has : HasPropositions a.names board (behaviour m) = has_propositions plan.order a keys certificate plan.moves_first memories.kept.items memories.marks.keys c.requires player c.winner-player.ensures p d said.names said.roles in
+    λ file chain built. subst (λ n. LassosWon file (behaviour n)) (sym c.new.ensures)
+    (each_lasso_won file chain a plan.order keys c.requires.game certificate (behaviour m) built c.requires.is_game c.requires.fits c.requires.valid (is_machine board keys memories.kept.items certificate m made).is_machine has of)

@@ -1,6 +1,6 @@
 use Rattle.std.proofs.Common.{subst, ap, sym}
 use Rattle.std.proofs.Common.{get_or}
-use Rattle.ps_machine.specs.Boards.{board_of}
+use Rattle.ps_machine.specs.BuiltBoards.{board_of}
 use Rattle.ps_machine.specs.Moving.{IsFit}
 use Rattle.ps_machine.proofs.Assembling.{drawn_more}
 use Rattle.ps_machine.proofs.Remembering.{fit_kept}

@@ -1,5 +1,5 @@
 use Rattle.ps_machine.specs.Assembling.{AreDrawn}
-use Rattle.ps_machine.specs.Boards.{board_of}
+use Rattle.ps_machine.specs.BuiltBoards.{board_of}
 use Rattle.ps_machine.specs.Moving.{IsFit}
 use Rattle.ps_machine.proofs.extracting.nodes_of.Given as goal
 

@@ -1,6 +1,7 @@
 use Rattle.std.proofs.Common.{◌≡◌, ℕ, not, List, Vec, ap, ◌∙◌}
 use Rattle.std.specs.Global.{Global}
-use Rattle.ps_machine.specs.Boards.{board_of, is_first_of}
+use Rattle.ps_machine.specs.Boards.{is_first_of}
+use Rattle.ps_machine.specs.BuiltBoards.{board_of}
 use Rattle.ps_machine.specs.Extracting.{is_others}
 use Rattle.ps_machine.proofs.Assembling.{same_names, plays_own, reads_others}
 use Rattle.ps_machine.proofs.Listing.{listed_with, listed_without}

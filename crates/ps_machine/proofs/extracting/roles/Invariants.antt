@@ -1,6 +1,6 @@
 use Rattle.std.proofs.Common.{not}
 use Rattle.ps_machine.specs.Assembling.{AreListedBelow}
-use Rattle.ps_machine.specs.Boards.{board_of}
+use Rattle.ps_machine.specs.BuiltBoards.{board_of}
 use Rattle.ps_machine.specs.Extracting.{is_others}
 use Rattle.ps_machine.proofs.extracting.roles.Given as goal
 

@@ -1,5 +1,6 @@
 use Rattle.indexmap.specs.IndexMap.{get}
-use Rattle.ps_machine.specs.Boards.{IsGameOf, board_of}
+use Rattle.ps_machine.specs.Boards.{IsGameOf}
+use Rattle.ps_machine.specs.BuiltBoards.{board_of}
 use Rattle.ps_machine.specs.Keys.{mover_of}
 use Rattle.ps_machine.specs.Moving.{pair_eq}
 use Rattle.ps_machine.proofs.Exploring.{both_ok}

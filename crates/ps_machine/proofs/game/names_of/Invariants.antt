@@ -2,7 +2,7 @@ use Rattle.std.proofs.Common.{◌≡◌, map, take}
 use Rattle.std.specs.List.{All}
 use Rattle.ps_game.specs.Games.{HasNoQuote}
 use Rattle.ps_game.specs.Names.{name_bytes}
-use Rattle.ps_machine.specs.Boards.{board_of}
+use Rattle.ps_machine.specs.BuiltBoards.{board_of}
 use Rattle.ps_machine.specs.KeyNames.{key_names}
 use Rattle.ps_machine.proofs.game.names_of.Given as goal
 

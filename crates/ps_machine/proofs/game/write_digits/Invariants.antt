@@ -1,5 +1,5 @@
 use Rattle.std.proofs.Common.{◌≡◌, ◌++◌}
-use Rattle.ps_machine.specs.Boards.{board_of}
+use Rattle.ps_machine.specs.BuiltBoards.{board_of}
 use Rattle.ps_machine.specs.KeyNames.{first_digits}
 use Rattle.ps_machine.specs.Naming.{IsPlain}
 use Rattle.ps_machine.proofs.game.write_digits.Given as goal

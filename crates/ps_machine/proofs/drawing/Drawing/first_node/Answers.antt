@@ -2,7 +2,7 @@ use Rattle.std.proofs.Common.{ℕ, List, sym, subst}
 use Rattle.ps_diagram.specs.Reached.{AreLeaves}
 use Rattle.ps_diagram.specs.Table.{Table, IsNode, Keeps}
 use Rattle.ps_diagram.proofs.KnownLemmas.{keeps_trans}
-use Rattle.ps_machine.specs.Boards.{board_of}
+use Rattle.ps_machine.specs.BuiltBoards.{board_of}
 use Rattle.ps_machine.specs.Drawing.{IsDrawn, IsOwn}
 use Rattle.ps_machine.proofs.DrawingLemmas.{kept_used, used_state}
 use Rattle.ps_machine.proofs.Exploring.{both_ok}

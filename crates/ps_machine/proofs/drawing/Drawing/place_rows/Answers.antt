@@ -2,7 +2,7 @@ use Rattle.std.proofs.Common.{◌≡◌, ◌<◌, ℕ, Some, length, get_or, ap,
 use Rattle.std.specs.List.{slice_get}
 use Rattle.std.proofs.lemmas.List.{get_or_default}
 use Rattle.ps_automaton.specs.declared.step.Step.{Step}
-use Rattle.ps_machine.specs.Boards.{board_of}
+use Rattle.ps_machine.specs.BuiltBoards.{board_of}
 use Rattle.ps_machine.specs.Extracting.{StandsFor}
 use Rattle.ps_machine.specs.Numbering.{StandsAt}
 use Rattle.ps_machine.specs.declared.key.Key.TheVariants.{First}

@@ -1,5 +1,5 @@
 use Rattle.std.proofs.Common.{◌≡◌}
-use Rattle.ps_machine.specs.Boards.{board_of}
+use Rattle.ps_machine.specs.BuiltBoards.{board_of}
 use Rattle.ps_machine.proofs.FirstDrawing.{AreNoted}
 use Rattle.ps_machine.proofs.drawing.Drawing.place_rows.Given as goal
 

@@ -3,7 +3,7 @@ use Rattle.std.specs.List.{All, AllZip}
 use Rattle.std.proofs.lemmas.List.{take_all}
 use Rattle.ps_diagram.specs.Table.{Table}
 use Rattle.ps_diagram.specs.declared.classes.Class.{Class}
-use Rattle.ps_machine.specs.Boards.{board_of}
+use Rattle.ps_machine.specs.BuiltBoards.{board_of}
 use Rattle.ps_machine.specs.Drawing.{IsRow, KeepsRows}
 use Rattle.ps_machine.specs.Moving.{IsFit, IsRest}
 use Rattle.ps_machine.specs.declared.machine.Row.{Row}

@@ -5,7 +5,8 @@ use Rattle.ps_diagram.specs.Table.{Table, Keeps}
 use Rattle.ps_diagram.specs.declared.classes.Class.{Class}
 use Rattle.ps_diagram.proofs.KnownLemmas.{keeps_trans}
 use Rattle.ps_automaton.specs.Automata.{node_of}
-use Rattle.ps_machine.specs.Boards.{IsClass, board_of}
+use Rattle.ps_machine.specs.Boards.{IsClass}
+use Rattle.ps_machine.specs.BuiltBoards.{board_of}
 use Rattle.ps_machine.specs.Drawing.{IsDrawn}
 use Rattle.ps_machine.specs.Moving.{IsFit, IsRest}
 use Rattle.ps_machine.proofs.BoardSteps.{class_rests}

@@ -1,0 +1,9 @@
+-- SeesNoInput c: at equal latches the outputs of a circuit are equal for all inputs.
+use Rattle.std.specs.Prelude.{◌≡◌, Bool, List}
+use Rattle.ps_circuit.specs.Circuits.{CircuitData}
+use Rattle.ps_circuit.specs.Values.{Steps}
+
+abbrev pub SeesNoInput : CircuitData → Type 0
+SeesNoInput c =
+    (latches inputs others outputs other_outputs next other_next : List Bool) →
+    Steps c latches inputs outputs next → Steps c latches others other_outputs other_next → outputs ≡ other_outputs

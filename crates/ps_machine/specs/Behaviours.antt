@@ -1,0 +1,79 @@
+-- What the finite machine of a player does, in the order of moves that it is made for; and the words that it makes.
+--     Behaviour      its propositions, whose it is, whether that player moves first; and, by memory and the other player's letter,
+--                    the memory behind a step and the letter that is played
+--     IsMachine b      it is a finite machine's
+--     IsLasso b stem lap      letters of a run of the machine from memory 0 that goes back, behind the lap, to the memory before it
+--     LassosWon file b      the automaton accepts each of these words if the machine is the controller's (player 0), and else none
+use Rattle.std.specs.Prelude.{◌≡◌, ◌≢◌, ℕ, ◌+◌, ◌^◌, ◌<◌, ◌≤◌, ◌⊎◌, ◌↔◌, Bool, false, IsTrue, List, ◌++◌, length, slice_index}
+use Rattle.std.specs.List.{AllPairs}
+use Rattle.ps_label.specs.Truth.{is_in}
+use Rattle.ps_hoa.specs.Files.{FileData, is_among}
+use Rattle.ps_hoa.specs.Sound.{AreNames}
+use Rattle.ps_automaton.specs.Acceptance.{IsAccepted}
+
+-- `inputs` are the propositions that it reads, the other player's, and `outputs` those that it plays. It begins in memory 0.
+pub record Behaviour : Type 0 where
+  pub names : List (List ℕ)
+  pub inputs : List ℕ
+  pub outputs : List ℕ
+  pub player : ℕ
+  pub is_first : Bool
+  pub memories : ℕ
+  pub next : ℕ → ℕ → ℕ
+  pub plays : ℕ → ℕ → ℕ
+
+-- ## Letters
+
+-- only propositions of the list are true
+pub record IsLetterOver (propositions : ℕ) (list : List ℕ) (x : ℕ) : Type 0 where
+  pub within : x < 2 ^ propositions
+  pub own : (p : ℕ) → is_among p list ≡ false → is_in p x ≡ false
+
+abbrev pub IsInput : Behaviour → ℕ → Type 0
+IsInput b x = IsLetterOver (length b.names) b.inputs x
+
+abbrev pub IsOutput : Behaviour → ℕ → Type 0
+IsOutput b y = IsLetterOver (length b.names) b.outputs y
+
+-- the same propositions of the list are true
+abbrev pub AreSameOn : List ℕ → ℕ → ℕ → Type 0
+AreSameOn list x y = (p : ℕ) → IsTrue (is_among p list) → is_in p x ≡ is_in p y
+
+-- ## Machines
+
+-- Each proposition is read or played, and none both. A step leads to a memory, plays a letter, and heeds what is read alone; a
+-- player who moves first plays the same whatever the letter.
+pub record IsMachine (b : Behaviour) : Type 0 where
+  pub few_names : length b.names ≤ 64
+  pub are_names : AreNames b.names
+  pub inputs_rise : AllPairs (λ p q. p < q) b.inputs
+  pub outputs_rise : AllPairs (λ p q. p < q) b.outputs
+  pub each : (p : ℕ) → (p < length b.names) ↔ (IsTrue (is_among p b.inputs) ⊎ IsTrue (is_among p b.outputs))
+  pub apart : (p : ℕ) → IsTrue (is_among p b.inputs) → is_among p b.outputs ≡ false
+  pub player : b.player < 2
+  pub some : 0 < b.memories
+  pub next_within : (memory x : ℕ) → memory < b.memories → b.next memory x < b.memories
+  pub plays_own : (memory x : ℕ) → memory < b.memories → IsOutput b (b.plays memory x)
+  pub next_heeds : (memory x y : ℕ) → memory < b.memories → AreSameOn b.inputs x y → b.next memory x ≡ b.next memory y
+  pub plays_heeds : (memory x y : ℕ) → memory < b.memories → AreSameOn b.inputs x y → b.plays memory x ≡ b.plays memory y
+  pub blind : IsTrue b.is_first → (memory x y : ℕ) → memory < b.memories → b.plays memory x ≡ b.plays memory y
+
+-- ## Words
+
+-- one step: the letter joins what the machine reads and what it plays
+pub record Makes (b : Behaviour) (memory letter next : ℕ) : Type 0 where
+  pub input : ℕ
+  pub is_input : IsInput b input
+  pub joined : letter ≡ input + b.plays memory input
+  pub next_is : next ≡ b.next memory input
+
+pub record IsLasso (b : Behaviour) (stem lap : List ℕ) : Type 0 where
+  pub some : 0 < length lap
+  pub memories : ℕ → ℕ
+  pub begins : memories 0 ≡ 0
+  pub makes : (t : ℕ) → t < length (stem ++ lap) → Makes b (memories t) (slice_index (stem ++ lap) t) (memories (t + 1))
+  pub returns : memories (length stem) ≡ memories (length (stem ++ lap))
+
+pub record LassosWon (file : FileData) (b : Behaviour) : Type 0 where
+  pub accepted : b.player ≡ 0 → (stem lap : List ℕ) → IsLasso b stem lap → IsAccepted file stem lap
+  pub rejected : b.player ≢ 0 → (stem lap : List ℕ) → IsLasso b stem lap → ¬ IsAccepted file stem lap

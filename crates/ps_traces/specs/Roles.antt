@@ -1,0 +1,19 @@
+-- Which machine is a player's.
+--     IsMachineFor order role file m      it has the file's names, reads the propositions that the role reads, and moves in its turn
+use Rattle.std.specs.Prelude.{◌≡◌, ℕ, ◌<◌, Bool, not, List, length}
+use Rattle.ps_hoa.specs.Files.{FileData, is_among}
+use Rattle.ps_machine.specs.Behaviours.{Behaviour}
+use Rattle.ps_machine.specs.declared.key.Order.{Order}
+use Rattle.ps_simulate.specs.declared.role.Role.{Role}
+use Rattle.ps_simulate.specs.declared.role.Role.TheVariants.{Controller, Environment}
+use Rattle.ps_traces.specs.Shapes.{moves_first}
+
+-- a controller reads what is not controllable, an environment what is
+abbrev pub is_read_by : Role → List ℕ → ℕ → Bool
+is_read_by Controller controllable p = not (is_among p controllable)
+is_read_by Environment controllable p = is_among p controllable
+
+pub record IsMachineFor (order : Order) (role : Role) (file : FileData) (m : Behaviour) : Type 0 where
+  pub names : m.names ≡ file.names
+  pub reads : (p : ℕ) → p < length file.names → is_among p m.inputs ≡ is_read_by role file.controllable p
+  pub turn : m.is_first ≡ moves_first order role
