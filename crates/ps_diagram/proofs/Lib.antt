@@ -14,3 +14,4 @@ pub mod Gathering
 pub mod Dividing
 pub mod Numbering
 pub mod Classing
+pub mod Halving

@@ -12,3 +12,4 @@ pub mod Reached
 pub mod Rests
 pub mod Numbered
 pub mod Classes
+pub mod Rows

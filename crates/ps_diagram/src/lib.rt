@@ -9,6 +9,7 @@
 //! | `none()` | none |
 //! | `of_label(labels, label)` | 1 where the label is true, else none |
 //! | `of_letter(letter)` | 1 at that letter alone |
+//! | `of_leaves(leaves)` | the one at the letter's place in the list, or none behind its end |
 //! | `overlay(first, second)` | that of the first, or else that of the second; `Clash` exactly where two differ |
 //! | `guard(node, value)` | `value` where the node has a leaf, else none |
 //! | `fill(node, value)` | that of the node, or else `value` |
@@ -27,6 +28,7 @@ mod letter;
 mod maps;
 mod overlay;
 mod paths;
+mod rows;
 mod split;
 pub mod store;
 pub mod view;

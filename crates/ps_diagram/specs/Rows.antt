@@ -1,0 +1,24 @@
+-- Rows of nodes, from which the diagram of a list of leaves is made, proposition by proposition. (Of private functions.)
+use Rattle.std.specs.Prelude.{◌≡◌, ℕ, ◌%◌, ◌^◌, ◌<◌, Bool, List, length, Option, None, slice_get, slice_index, slice_index_or}
+use Rattle.ps_diagram.specs.Tree.{leaf_at, IsBlind}
+use Rattle.ps_diagram.specs.Table.{Table, IsNode, leaf_of, tree_of}
+
+-- the node is held, and has that leaf, or none, at each letter
+abbrev pub HasLeaf : Table → ℕ → Option ℕ → Type 0
+HasLeaf t node leaf = IsNode t node × ((f : ℕ → Bool) → leaf_at (tree_of t node) f ≡ leaf)
+
+-- the nodes are those of the first so many leaves
+pub record AreLeafNodes (t : Table) (leaves : List ℕ) (count : ℕ) (nodes : List ℕ) : Type 0 where
+  pub one_each : length nodes ≡ count
+  pub each : (i : ℕ) → i < count → HasLeaf t (slice_index nodes i) (slice_get leaves i)
+
+-- the nodes of a row, and the one without leaves that stands behind its end, heed propositions from the level on alone
+pub record IsRow (t : Table) (level none : ℕ) (nodes : List ℕ) : Type 0 where
+  pub nothing : HasLeaf t none None
+  pub held : (i : ℕ) → IsNode t (slice_index_or nodes i none)
+  pub later : (i : ℕ) → IsBlind level (tree_of t (slice_index_or nodes i none))
+
+-- each letter comes to its leaf from the node at the number of its first propositions
+abbrev pub LeadsOn : Table → List ℕ → ℕ → ℕ → List ℕ → Type 0
+LeadsOn t leaves level none nodes =
+    (letter : ℕ) → leaf_of t (slice_index_or nodes (letter % 2 ^ level) none) letter ≡ slice_get leaves (letter % 2 ^ t.propositions)
