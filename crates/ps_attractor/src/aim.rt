@@ -1,3 +1,5 @@
+//! What an attractor within given tables is for.
+
 /// What a player aims at within the tables of an attractor.
 #[derive(Clone, Copy)]
 pub struct Aim {

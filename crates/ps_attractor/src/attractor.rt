@@ -1,3 +1,5 @@
+//! The attractor within a subgame, by tables of its own.
+
 ghost use Rattle.std.specs.Prelude.{◌≡◌, ◌≢◌, ◌+◌, ◌<◌, ◌≤◌, ℕ, List, [], Bool, false, IfOk, OnOk, IsSome, IsTrue, length, slice_index};
 ghost use Rattle.ps_game.specs.Games.{IsGame, vertex_count, owner_of};
 ghost use Rattle.ps_game.specs.Subgames.{IsWithin, IsSubgame};
@@ -33,8 +35,12 @@ pub struct Attracted {
     pub rank: Vec<usize>,
 }
 
-/// The attractor of a player to a target within a subgame: the least set with the target, each vertex of the player with
-/// an edge into the set, and each vertex of the other player from which all edges within the subgame lead into it.
+/// The attractor of a player to a target within a subgame: the least set with the target, each vertex of the player
+/// with an edge into the set, and each vertex of the other player from which all edges within the subgame lead into it.
+///
+/// # Errors
+///
+/// Fails where a growth was refused.
 pub fn attract<A: Arena>(
     alloc: Global,
     arena: &A,

@@ -1,3 +1,6 @@
+//! Levels, moves and the trail. For each vertex of the other player the tables also keep which successor was found free
+//! last; the view of the tables leaves that out, since no answer depends on it.
+
 ghost use Rattle.std.specs.Prelude.{◌≡◌, ◌<◌, ◌≤◌, [], IfOk, OnOk, OnErr, length, replicate, take, slice_index, slice_set};
 ghost use Rattle.ps_attractor.specs.Steps.{with_placed, with_move};
 
@@ -26,6 +29,10 @@ impl Model for Tables {
 
 impl Tables {
     /// Each vertex at one level, and none placed. There is room for each vertex in the trail.
+    ///
+    /// # Errors
+    ///
+    /// Fails where a growth was refused.
     pub fn new(alloc: Global, count: usize, level: usize) -> Result<Tables, AllocError>
         ensures levels { IfOk result (λ tables. tables.level ≡ replicate count level) }
         ensures moves { IfOk result (λ tables. tables.moves ≡ replicate count 0) }
@@ -93,6 +100,10 @@ impl Tables {
     }
 
     /// Puts a vertex at the end of the trail, and gives it a level. For want of memory nothing changes.
+    ///
+    /// # Errors
+    ///
+    /// Fails where a growth was refused.
     pub fn place(&mut self, vertex: usize, level: usize) -> Result<(), AllocError>
         requires { vertex < length self.old.level }
         ensures ok { OnOk result (self.new ≡ with_placed self.old vertex level) }

@@ -1,3 +1,5 @@
+//! The search: the trail is the worklist, and what is reached is put at its end.
+
 ghost use Rattle.std.specs.Prelude.{◌≡◌, ◌≢◌, ◌+◌, ◌<◌, ◌≤◌, ℕ, Bool, IfSome, IfNone, OnOk, OnErr, IsTrue, false, length, slice_index};
 ghost use Rattle.ps_game.specs.Games.{IsGame, HasEdge, vertex_count, successors_of};
 ghost use Rattle.ps_attractor.specs.Sources.{IsSourcesOf};
@@ -13,8 +15,12 @@ use std::alloc::AllocError;
 
 impl Tables {
     /// Attracts to the vertices that stand in the trail from a place on: the trail is walked to its end, and each free
-    /// vertex from which the player can lead every play there is put behind it. Takes time in proportion to the edges into
-    /// the vertices that stand there, and those of the other player's vertices among their sources.
+    /// vertex from which the player can lead every play there is put behind it. Takes time in proportion to the edges
+    /// into the vertices that stand there, and those of the other player's vertices among their sources.
+    ///
+    /// # Errors
+    ///
+    /// Fails where a growth was refused; what was placed before stays.
     pub fn attract<A: Arena>(
         &mut self,
         arena: &A,

@@ -54,7 +54,7 @@ impl Model for Automaton {
 }
 
 impl Automaton {
-    /// The automaton of a file.
+    /// The automaton of a file. Letters are numbers below 2 to the number of propositions: bit p is proposition p.
     ///
     /// # Errors
     ///

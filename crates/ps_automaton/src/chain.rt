@@ -13,14 +13,18 @@ use std::alloc::{AllocError, Global};
 /// A set, and whether meeting it accepts.
 #[derive(Clone, Copy)]
 pub(crate) struct Link {
+    /// The number of the set.
     pub set: u32,
+    /// Whether meeting it accepts.
     pub accepts: bool,
 }
 
 /// The first link whose set is met decides; where none is, the base does.
 #[derive(Drop)]
 pub(crate) struct Chain {
+    /// The links, from the first on.
     pub links: Vec<Link>,
+    /// What holds where no set of a link is met.
     pub base: bool,
 }
 

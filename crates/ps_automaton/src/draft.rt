@@ -25,7 +25,9 @@ use std::alloc::{AllocError, Global};
 /// The diagrams of the states, and that of the sink behind them.
 #[derive(Drop)]
 pub(crate) struct Draft {
+    /// The store and the steps.
     pub pairs: Pairs,
+    /// A diagram for each state, and the sink's.
     pub nodes: Vec<Node>,
 }
 

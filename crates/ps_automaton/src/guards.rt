@@ -6,8 +6,12 @@ use ps_hoa::{HoaFile, Row};
 /// A row of a file, with the diagrams of the file's aliases and of the row's label.
 #[derive(Clone, Copy)]
 pub(crate) struct Guards<'a> {
+    /// The file.
     pub file: &'a HoaFile,
+    /// The row.
     pub row: &'a Row,
+    /// A diagram for each alias.
     pub aliases: &'a [Node],
+    /// The diagram of the row's label, if it has one.
     pub label: Option<Node>,
 }

@@ -10,7 +10,9 @@ use crate::targets::Target;
 /// A chain, and the table of its numbers.
 #[derive(Drop)]
 pub(crate) struct Levels {
+    /// The chain.
     pub chain: Chain,
+    /// Its numbers.
     pub numbers: Numbers,
 }
 

@@ -10,15 +10,21 @@ use std::alloc::Global;
 /// Diagrams whose leaves are the places of steps. The first step leads to the sink.
 #[derive(Drop)]
 pub(crate) struct Pairs {
+    /// The allocator.
     pub alloc: Global,
+    /// Where the diagrams stand.
     pub store: Store,
+    /// The steps, each at the place that its leaves have.
     pub steps: IndexSet<Step>,
 }
 
 /// What the steps of a state are made from.
 #[derive(Clone, Copy)]
 pub(crate) struct Source<'a> {
+    /// The file.
     pub file: &'a HoaFile,
+    /// The numbers of its edges.
     pub levels: &'a Levels,
+    /// A diagram for each alias.
     pub aliases: &'a [Node],
 }

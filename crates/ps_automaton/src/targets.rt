@@ -11,7 +11,9 @@ use ps_hoa::{Edge, Row};
 /// A state, and the sets of the edge that leads to it and of the edge's state, as a mask.
 #[derive(Clone, Copy, PartialEq, Eq, Hash)]
 pub(crate) struct Target {
+    /// The state.
     pub state: u32,
+    /// The sets: bit k is set k.
     pub sets: u64,
 }
 

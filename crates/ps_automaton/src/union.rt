@@ -16,7 +16,9 @@ use std::alloc::Global;
 /// Edges joined: the leaf at a letter is the place of the target of the edge that is taken there.
 #[derive(Drop)]
 pub(crate) struct Union {
+    /// The diagram.
     pub node: Node,
+    /// The targets, each at the place that its leaves have.
     pub targets: IndexSet<Target>,
 }
 

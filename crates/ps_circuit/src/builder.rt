@@ -15,12 +15,14 @@ const MOST_VARIABLES: u32 = 2147483647;
 /// The two literals that a gate reads, the greater first.
 #[derive(Debug, Clone, Copy, PartialEq, Eq, Hash)]
 pub struct Sides {
+    /// The greater literal.
     pub first: u32,
+    /// The smaller one.
     pub second: u32,
 }
 
-/// Makes and-gates over some given variables. A literal is twice its variable, and one more where it is negated; 0 is false,
-/// 1 is true. A gate that is there is used again, and a new one takes the next variable.
+/// Makes and-gates over some given variables. A literal is twice its variable, and one more where it is negated; 0 is
+/// false, 1 is true. A gate that is there is used again, and a new one takes the next variable.
 ///
 /// Through each call, refused ones too, the gates that are there stay.
 #[derive(Drop)]

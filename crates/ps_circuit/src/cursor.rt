@@ -16,7 +16,9 @@ use std::marker::Model;
 /// A number of the text, and the offset of its first digit. A number beyond 64 bits counts as the greatest of 64 bits.
 #[derive(Clone, Copy)]
 pub struct Number {
+    /// Its value.
     pub value: u64,
+    /// The offset of its first digit, from 0.
     pub offset: usize,
 }
 
@@ -35,6 +37,7 @@ impl Number {
 /// A class of bytes.
 #[derive(Clone, Copy)]
 pub enum Class {
+    /// A digit.
     Digit,
     /// A space or a tab.
     Blank,
@@ -167,6 +170,10 @@ impl<'a> Cursor<'a> {
     }
 
     /// Goes behind that byte, which has to come next.
+    ///
+    /// # Errors
+    ///
+    /// [`AigCause::Syntax`] where another byte comes, or the end.
     pub fn byte(&mut self, byte: u8) -> Result<(), AigFault>
         ensures { Tells (λ u. u) (parts.byte byte) self.old result self.new }
     {
@@ -178,6 +185,10 @@ impl<'a> Cursor<'a> {
     }
 
     /// Goes behind the word with which a text begins.
+    ///
+    /// # Errors
+    ///
+    /// [`AigCause::Syntax`] at the first byte that is not the word's.
     pub fn first_word(&mut self) -> Result<(), AigFault>
         ensures { Tells (λ u. u) (word (codes "aag")) self.old result self.new }
     {
@@ -199,6 +210,10 @@ impl<'a> Cursor<'a> {
     }
 
     /// The number that comes next.
+    ///
+    /// # Errors
+    ///
+    /// [`AigCause::Syntax`] where no digit comes.
     pub fn number(&mut self) -> Result<Number, AigFault>
         ensures { TellsNumber self.old result self.new }
     {
@@ -215,6 +230,10 @@ impl<'a> Cursor<'a> {
     }
 
     /// Goes behind one space or tab or more.
+    ///
+    /// # Errors
+    ///
+    /// [`AigCause::Syntax`] where no space or tab comes.
     pub fn gap(&mut self) -> Result<(), AigFault>
         ensures { Tells (λ u. u) parts.gap self.old result self.new }
     {
@@ -226,6 +245,10 @@ impl<'a> Cursor<'a> {
     }
 
     /// What stands up to the end of the line, which has to be something.
+    ///
+    /// # Errors
+    ///
+    /// [`AigCause::Syntax`] where the line ends here.
     pub fn rest_of_line(&mut self) -> Result<&'a [u8], AigFault>
         ensures { Tells (λ r. r.now) parts.rest_of_line self.old result self.new }
     {
@@ -238,6 +261,10 @@ impl<'a> Cursor<'a> {
     }
 
     /// Goes behind a newline.
+    ///
+    /// # Errors
+    ///
+    /// [`AigCause::Syntax`] where no newline comes.
     pub fn newline(&mut self) -> Result<(), AigFault>
         ensures { Tells (λ u. u) parts.newline self.old result self.new }
     {
@@ -245,6 +272,10 @@ impl<'a> Cursor<'a> {
     }
 
     /// Goes behind the end of a line, with blanks before it or none.
+    ///
+    /// # Errors
+    ///
+    /// [`AigCause::Syntax`] at the first byte that is no blank and no newline.
     pub fn line_end(&mut self) -> Result<(), AigFault>
         ensures { Tells (λ u. u) parts.line_end self.old result self.new }
     {
@@ -253,6 +284,10 @@ impl<'a> Cursor<'a> {
     }
 
     /// Goes behind the end of a line, or to the next field, and says whether one comes.
+    ///
+    /// # Errors
+    ///
+    /// [`AigCause::Syntax`] where neither comes.
     pub fn more(&mut self) -> Result<bool, AigFault>
         ensures { Tells (λ b. b) parts.more self.old result self.new }
     {

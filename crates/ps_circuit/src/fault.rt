@@ -5,22 +5,24 @@ ghost use Rattle.ps_circuit.specs.Causes.{cause_number};
 
 use ps_text::faults::{Cause, Fault};
 
-/// What is wrong with the text of a circuit.
+/// What is wrong with the text of a circuit. In brackets the part of AIGER 1.9 that asks for it.
 #[derive(Clone, Copy, Debug, PartialEq, Eq)]
 pub enum AigCause {
-    /// A byte that can't stand here, or an early end.
+    /// A byte that can't stand here, or an early end (ASCII format, symbol table, comments).
     Syntax,
-    /// A literal that can't stand here: too large, or negated or constant where a variable is defined.
+    /// A literal that can't stand here: too large, or negated or constant where a variable is defined (literals).
     Literal,
-    /// A variable that was defined before.
+    /// A variable that was defined before (literals).
     DefinedTwice,
-    /// A literal whose variable is never defined.
+    /// A literal whose variable is never defined (literals).
     Undefined,
-    /// A gate that depends on itself.
+    /// A gate that depends on itself (and-gates).
     Cyclic,
-    /// A latch without a first value.
+    /// A latch without a first value: its own literal is its reset (reset logic). psyn runs circuits, so it refuses
+    /// that.
     UnsetLatch,
-    /// A section of bad states, constraints, justice or fairness that is not empty.
+    /// A section of bad states, constraints, justice or fairness that is not empty (header: B, C, J, F): psyn's own
+    /// limit.
     Sections,
 }
 

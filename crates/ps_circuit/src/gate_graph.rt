@@ -9,6 +9,7 @@ use ps_components::Graph;
 /// The gates, each with two places: for the gates that its two sides read, where they read gates.
 #[derive(Drop)]
 pub struct GateGraph {
+    /// For each gate the gates that it reads.
     pub links: Vec<Links>,
     pub ghost within: { IsWithin (graph_of links.items) },
 }

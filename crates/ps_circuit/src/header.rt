@@ -15,14 +15,23 @@ const MOST: u64 = 2_147_483_647;
 /// The numbers of the first line. A number of inputs, latches, outputs or gates beyond 64 bits counts as the greatest.
 #[derive(Clone, Copy)]
 pub struct Header {
+    /// The greatest variable: M.
     pub most: u32,
+    /// How many lines of inputs there are: I.
     pub inputs: u64,
+    /// How many lines of latches there are: L.
     pub latches: u64,
+    /// How many lines of outputs there are: O.
     pub outputs: u64,
+    /// How many lines of gates there are: A.
     pub gates: u64,
 }
 
 /// Reads the first line.
+///
+/// # Errors
+///
+/// The first cause in the line, by the text's order.
 pub fn read_header(cursor: &mut Cursor) -> Result<Header, AigFault>
     ensures exact { TellsHeader cursor.old result cursor.new }
     ensures small { IfOk result (λ h. h.most < 2 ^ 31) }
@@ -44,6 +53,10 @@ pub fn read_header(cursor: &mut Cursor) -> Result<Header, AigFault>
 }
 
 /// Reads a number behind a gap.
+///
+/// # Errors
+///
+/// [`AigCause::Syntax`] where no blank or no digit comes.
 pub fn field(cursor: &mut Cursor) -> Result<Number, AigFault>
     ensures { TellsField cursor.old result cursor.new }
 {

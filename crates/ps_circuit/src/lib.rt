@@ -1,4 +1,23 @@
 //! Circuits of and-gates and latches: made gate by gate, read from the ASCII form of AIGER 1.9 and written to it.
+//!
+//! A literal is twice its variable, and one more where it is negated; 0 is false and 1 is true, as in AIGER. There are
+//! at most 2,147,483,647 variables.
+//!
+//! | Call | What it gives |
+//! |---|---|
+//! | `read(text)` | the circuit of a text (AIGER 1.9: header, resets, symbols, comments), or the first `AigFault` |
+//! | `write(circuit)` | a text, which `read` reads as that circuit again |
+//! | `Builder::new(given)`, `and`, `or`, `mux` | literals over given variables; a gate that is there is used again |
+//! | `Circuit::in_order(parts)` | a circuit of parts whose gates each stand behind those that they read |
+//! | `Circuit::inputs`, `latches`, `outputs`, `gates` | its parts |
+//! | `Circuit::order` | an order of its gates by which they can be worked out |
+//! | `Circuit::input_name`, `latch_name`, `output_name` | the name of a symbol, if there is one |
+//! | `EncodeFault::number`, `name`, `AigCause::number`, `name` | a fault or a cause as psyn's list of faults has it |
+//! | `one_answer` | a law: a text has one circuit or one first cause at most |
+//!
+//! Reading takes time in proportion to the text, but for the search of variables that do not stand in order, in a tree.
+//! Sections of bad states, constraints, justice and fairness have to be empty, and a latch's own literal as its reset
+//! is refused.
 #![tactic(auto)]
 
 mod builder;

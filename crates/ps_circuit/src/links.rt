@@ -12,11 +12,17 @@ use std::alloc::{AllocError, Global};
 /// The places of the gates that a gate reads.
 #[derive(Clone, Copy)]
 pub struct Links {
+    /// That of its first literal, if it is a gate's.
     pub first: Option<usize>,
+    /// That of its second literal, if it is a gate's.
     pub second: Option<usize>,
 }
 
 /// For each gate, the places of the gates that it reads.
+///
+/// # Errors
+///
+/// Fails where a growth was refused.
 pub fn links_of(alloc: Global, gates: &[Gate]) -> Result<Vec<Links>, AllocError>
     requires once { AllPairs (λ g h. variable g.literal ≢ variable h.literal) gates.now }
     ensures { IfOk result (λ links. AreLinksOf gates.now links.items) }

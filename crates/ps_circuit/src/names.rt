@@ -19,13 +19,20 @@ use std::alloc::Global;
 /// The names of the inputs, latches and outputs.
 #[derive(Drop)]
 pub struct Names {
+    /// A name or none for each input.
     pub inputs: Vec<Option<Vec<u8>>>,
+    /// A name or none for each latch.
     pub latches: Vec<Option<Vec<u8>>>,
+    /// A name or none for each output.
     pub outputs: Vec<Option<Vec<u8>>>,
 }
 
 impl Names {
     /// No name for any of so many inputs, latches and outputs.
+    ///
+    /// # Errors
+    ///
+    /// Fails where a growth was refused.
     pub fn none(
         alloc: Global,
         inputs: usize,
@@ -58,6 +65,11 @@ fn no_names(alloc: Global, count: usize) -> Result<Vec<Option<Vec<u8>>>, AigFaul
 }
 
 /// Reads the lines of names.
+///
+/// # Errors
+///
+/// [`AigCause::Syntax`] at the first byte that is no symbol's, or at the letter of a symbol that no place without a
+/// name has; else want of memory.
 pub fn symbols(alloc: Global, cursor: &mut Cursor, names: &mut Names) -> Result<(), AigFault>
     requires { AreNames names.old (vec_len names.old.inputs) (vec_len names.old.latches) (vec_len names.old.outputs) }
     ensures exact { Tells (λ _. names_data names.new) (many parts.symbol_line (names_data names.old)) cursor.old result cursor.new }
@@ -129,6 +141,10 @@ fn is_free(names: &Vec<Option<Vec<u8>>>, number: u64) -> bool
 }
 
 /// Passes what stands behind the names: nothing, or a line that begins with `c` and all behind it.
+///
+/// # Errors
+///
+/// [`AigCause::Syntax`] where something else stands there.
 pub fn comment(cursor: &mut Cursor) -> Result<(), AigFault>
     ensures { TellsComment cursor.old result cursor.new }
 {

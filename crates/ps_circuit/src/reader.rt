@@ -28,7 +28,7 @@ pub(crate) struct Draft {
     noted: Noted,
 }
 
-/// Reads a circuit from an AIGER text.
+/// Reads a circuit from an AIGER text (AIGER 1.9, ASCII format).
 ///
 /// # Errors
 ///

@@ -10,7 +10,12 @@ use crate::parts::{Gate, Latch};
 use itoa::Buffer;
 use std::alloc::{AllocError, Global};
 
-/// Writes a circuit as an AIGER text: the header, the lines of its inputs, latches, outputs and gates, and its names.
+/// Writes a circuit as an AIGER text (AIGER 1.9, ASCII format): the header, the lines of its inputs, latches, outputs
+/// and gates, and its names as a symbol table.
+///
+/// # Errors
+///
+/// Fails where a growth was refused.
 pub fn write(alloc: Global, circuit: &Circuit) -> Result<Vec<u8>, AllocError>
     ensures bytes { IfOk result (λ bytes. bytes.items ≡ text_of circuit.now) }
     ensures read_again { IfOk result (λ bytes. Reads bytes.items (Ok circuit.now)) }

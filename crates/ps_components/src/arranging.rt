@@ -8,14 +8,21 @@ use crate::components::{Components, components_of};
 use crate::graph::Graph;
 use std::alloc::{AllocError, Global};
 
-/// An order in which each vertex stands behind those to which it has a link, or the first vertex that leads back to itself.
+/// An order in which each vertex stands behind those to which it has a link, or the first vertex that leads back to
+/// itself.
 #[derive(Drop)]
 pub enum Arrangement {
+    /// The vertices in such an order.
     Order(Vec<usize>),
+    /// The first vertex with a link into its own component.
     Cyclic(usize),
 }
 
 /// Arranges the vertices of a graph by their links.
+///
+/// # Errors
+///
+/// Fails where a growth was refused.
 pub fn arrange<G: Graph>(alloc: Global, graph: &G) -> Result<Arrangement, AllocError>
     ensures { IfOk result (IsArrangement (G.graph graph.now)) }
 {

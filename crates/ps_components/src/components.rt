@@ -8,7 +8,8 @@ use crate::search::{Mark, Search};
 use std::alloc::{AllocError, Global};
 use std::marker::Model;
 
-/// The components of the vertices of a graph that were met. A component's number is the place where it begins in the order.
+/// The components of the vertices of a graph that were met. A component's number is the place where it begins in the
+/// order.
 #[derive(Drop)]
 pub struct Components {
     marks: Vec<Mark>,
@@ -53,6 +54,10 @@ impl Components {
 }
 
 /// The components of all vertices.
+///
+/// # Errors
+///
+/// Fails where a growth was refused.
 pub fn components_of<G: Graph>(alloc: Global, graph: &G) -> Result<Components, AllocError>
     ensures components { IfOk result (AreComponents (G.graph graph.now)) }
     ensures met { IfOk result (AreAllMet (G.graph graph.now)) }
@@ -68,6 +73,10 @@ pub fn components_of<G: Graph>(alloc: Global, graph: &G) -> Result<Components, A
 }
 
 /// The components of the roots, and of all vertices to which they lead.
+///
+/// # Errors
+///
+/// Fails where a growth was refused.
 pub fn components_from<G: Graph>(
     alloc: Global,
     graph: &G,

@@ -3,8 +3,10 @@
 ghost use Rattle.std.specs.Prelude.{◌≡◌, ◌<◌, IfSome};
 ghost use Rattle.ps_components.specs.Graphs.{Digraph, IsWithin};
 
-/// A directed graph of vertices that are numbered from 0. Each vertex has numbered places, and each place a target or none.
+/// A directed graph of vertices that are numbered from 0. Each vertex has numbered places, and each place a target or
+/// none.
 pub trait Graph {
+    /// The graph that the value stands for.
     ghost graph: { Self → Digraph };
 
     /// How many vertices there are.

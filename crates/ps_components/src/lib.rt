@@ -1,9 +1,17 @@
-//! The components of a directed graph of numbered vertices, in an order in which links lead back, and trails through it.
+//! The strong components of a directed graph of numbered vertices, in an order in which links lead back, and trails
+//! through it.
 //!
-//! A user gives the graph as an `impl Graph`. `components_of` numbers the components of all vertices, and `components_from`
-//! those of the vertices to which some lead; each component stands behind those to which it leads. `arrange` gives an order
-//! in which each vertex stands behind those to which it has a link, or the first vertex on a cycle. `way_back` finds a
-//! trail from one vertex to another, and lists it from its end. No function calls itself.
+//! A user gives the graph as an `impl Graph`. Components are found along one path, by Gabow's algorithm, with a list of
+//! pending links in place of a recursion: no function calls itself. Time and memory are in proportion to the vertices
+//! and links that are met.
+//!
+//! | Call | What it gives |
+//! |---|---|
+//! | `components_of(graph)` | the components of all vertices; each stands behind those to which it leads |
+//! | `components_from(graph, roots)` | those of the roots and of all vertices to which they lead |
+//! | `arrange(graph)` | an order in which each stands behind those to which it has a link, or the first on a cycle |
+//! | `way_back(graph, start, end)` | a trail from start to end, listed from its end, or none; breadth first |
+//! | `Components::number`, `order`, `into_order` | a vertex's component, by where it begins in the order; that order |
 #![tactic(auto)]
 
 mod arranging;

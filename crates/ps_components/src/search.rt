@@ -1,5 +1,5 @@
-//! The search for components along one path, as Gabow does it: items are put at the end of the path, and where a link leads
-//! back into the path, all components from there on become one.
+//! The search for components along one path, as Gabow does it: items are put at the end of the path, and where a link
+//! leads back into the path, all components from there on become one.
 
 ghost use Rattle.std.specs.Prelude.{◌≡◌, ℕ, ◌<◌, ◌≤◌, ◌++◌, ◌∷◌, [], ◌-◌, All, length, slice_get, slice_set, Some, OnOk, IfOk};
 ghost use Rattle.ps_components.specs.Graphs.{Way, Link};
@@ -12,6 +12,7 @@ use std::alloc::{AllocError, Global};
 /// What the search knows of an item.
 #[derive(Clone, Copy)]
 pub enum Mark {
+    /// Not met yet.
     Unseen,
     /// On the path, at this place.
     Active(usize),
@@ -29,15 +30,21 @@ pub struct Pending {
 /// A path of components, each of items that lead to one another. Each component's items stand behind its bound.
 #[derive(Drop)]
 pub struct Search {
+    /// What is known of each item.
     pub marks: Vec<Mark>,
     active: Vec<usize>,
     bounds: Vec<usize>,
     pending: Vec<Pending>,
+    /// The items that are done, component by component.
     pub order: Vec<usize>,
 }
 
 impl Search {
     /// A search that has seen nothing.
+    ///
+    /// # Errors
+    ///
+    /// Fails where a growth was refused.
     pub fn new<G: Graph>(alloc: Global, graph: &G) -> Result<Self, AllocError>
         ensures sound { IfOk result (λ s. IsSound (G.graph graph.now) s.marks.items s.active.items s.bounds.items s.pending.items s.order.items) }
         ensures ended { IfOk result (λ s. length s.bounds.items ≡ 0) }
@@ -53,6 +60,10 @@ impl Search {
     }
 
     /// Looks at all that an item leads to, unless it was seen.
+    ///
+    /// # Errors
+    ///
+    /// Fails where a growth was refused.
     pub fn visit<G: Graph>(&mut self, graph: &G, item: usize) -> Result<(), AllocError>
         requires within { item < (G.graph graph.now).count }
         requires sound { IsSound (G.graph graph.now) self.old.marks.items self.old.active.items self.old.bounds.items self.old.pending.items self.old.order.items }

@@ -24,6 +24,10 @@ struct Spread {
 }
 
 /// A trail from the end of a way back to its start, if there is a way from the start to the end.
+///
+/// # Errors
+///
+/// Fails where a growth was refused.
 pub fn way_back<G: Graph>(
     alloc: Global,
     graph: &G,

@@ -11,7 +11,12 @@ use thiserror::Error;
 pub enum OverlayError {
     /// At some letter the first has the one leaf, the second the other.
     #[error("two different leaves, {first} and {second}, at one letter")]
-    Clash { first: u64, second: u64 },
+    Clash {
+        /// The leaf of the first.
+        first: u64,
+        /// The leaf of the second.
+        second: u64,
+    },
     /// A growth was refused.
     #[error("out of memory")]
     OutOfMemory,

@@ -1,4 +1,4 @@
-//! Reduced ordered decision diagrams over at most 64 propositions, with numbers as leaves.
+//! Reduced ordered decision diagrams (Bryant) over at most 64 propositions, with numbers as leaves.
 //!
 //! A `Store` is seen as a `Table`, a `Node` as a number. A letter is a number: proposition p is bit p. `leaf_of table
 //! node letter` is the leaf of a node at a letter, or none; what each call makes is said by it, at every letter:
@@ -16,9 +16,13 @@
 //! | `relabel(node, values)` | `values[k]` where the node has k, else none |
 //!
 //! Each of these calls keeps each node that was held, with the same leaf at each letter, also where it fails (`Keeps`).
-//! `eval`, `same` and `view` read a node and take no memory. `leaves` lists the leaves of a node with the least letter of
-//! each, `path_to` finds that of one leaf. `classes` divides the letters over some propositions into those that lead alike
-//! (`AreClasses`), and keeps each node too. `copy` is a store of the same value.
+//! `eval`, `same` and `view` read a node and take no memory. `leaves` lists the leaves of a node with the least letter
+//! of each, `path_to` finds that of one leaf. `classes` divides the letters over some propositions into those that lead
+//! alike (`AreClasses`), and keeps each node too. `copy` is a store of the same value.
+//!
+//! A store never drops a node, and equal diagrams are one node, which a hash table finds. `guard`, `fill` and `relabel`
+//! look at each node below theirs once, `overlay` at each pair of nodes that it comes to once; `of_letter` makes a node
+//! for each proposition, `of_label` joins the diagrams of its operands one after another.
 #![tactic(auto)]
 
 mod classes;

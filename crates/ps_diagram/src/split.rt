@@ -10,15 +10,20 @@ use crate::view::{Node, View};
 /// The two sides of a node for a proposition: the diagrams for it false and true.
 #[derive(Clone, Copy)]
 pub(crate) struct Sides {
+    /// For the proposition false.
     pub low: Node,
+    /// For the proposition true.
     pub high: Node,
 }
 
 /// Two nodes at the first proposition that either tests.
 #[derive(Clone, Copy)]
 pub(crate) struct Split {
+    /// The proposition.
     pub proposition: u32,
+    /// The sides of the first node.
     pub left: Sides,
+    /// Those of the second.
     pub right: Sides,
 }
 

@@ -1,3 +1,5 @@
+//! What every form of a game answers, so that solvers and checkers are written once for all forms.
+
 ghost use Rattle.std.specs.Prelude.{◌≡◌, ◌<◌, length, slice_index};
 ghost use Rattle.ps_game.specs.Games.{ParityGame, IsGame, vertex_count, owner_of, priority_of, successors_of};
 

@@ -1,3 +1,6 @@
+//! Builds a game of vertices and edges in any order. Repeated successors are dropped at the end, in time in proportion
+//! to vertices and edges, by a stamp at each vertex.
+
 ghost use Rattle.std.specs.Prelude.{◌≡◌, ◌<◌, ◌≤◌, ◌+◌, ◌↔◌, ℕ, [], IfOk, OnOk, OnErr, Err, IfSome, IfNone, Some, None, length, find, nat_le, take, map};
 ghost use Rattle.std.specs.List.{All};
 ghost use Rattle.ps_game.specs.Games.{ParityGame, VertexData, IsGame, vertex_count};
@@ -37,6 +40,10 @@ impl GameBuilder {
     }
 
     /// Adds a vertex of an owner, 0 or 1, and answers its number. For want of memory the draft stays as it was.
+    ///
+    /// # Errors
+    ///
+    /// Fails where a growth was refused.
     pub fn vertex(&mut self, owner: u8, priority: u64) -> Result<usize, AllocError>
         requires { owner < 2 }
         ensures number { IfOk result (λ vertex. vertex ≡ vertex_count self.old) }
@@ -55,6 +62,10 @@ impl GameBuilder {
 
     /// Adds an edge from a vertex that was made to one that may be made later. For want of memory the draft
     /// stays as it was.
+    ///
+    /// # Errors
+    ///
+    /// Fails where a growth was refused.
     pub fn edge(&mut self, vertex: usize, successor: usize) -> Result<(), AllocError>
         requires { vertex < vertex_count self.old }
         ensures ok { OnOk result (self.new ≡ with_edge self.old vertex successor) }
@@ -67,8 +78,11 @@ impl GameBuilder {
 
     /// The game, in which a repeated successor counts once, at its first place.
     ///
-    /// Answers `NoSuccessor` at the least vertex without an edge, and if there is none, `UnknownSuccessor` at
-    /// the least vertex with a successor that was not made, and its first such successor.
+    /// # Errors
+    ///
+    /// [`GameFault::NoSuccessor`] at the least vertex without an edge, and if there is none,
+    /// [`GameFault::UnknownSuccessor`] at the least vertex with a successor that was not made, and its first such
+    /// successor; else want of memory.
     pub fn finish(self) -> Result<Game, GameFault>
         ensures game { IfOk result (λ game. game ≡ without_repeats self) }
         ensures no_successor { (v : ℕ) → (result ≡ Err (GameFault.NoSuccessor v)) ↔ IsFirstBare self v }

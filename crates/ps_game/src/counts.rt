@@ -1,7 +1,11 @@
-/// How much work a solver did: how many nested calls it made on subgames with a vertex at most at one time, and how often
-/// it raised a measure of progress.
+//! How much work a solver did.
+
+/// How much work a solver did: how many nested calls it made on subgames with a vertex at most at one time, and how
+/// often it raised a measure of progress.
 #[derive(Clone, Copy, Debug, Default, PartialEq, Eq, Drop)]
 pub struct Counts {
+    /// The greatest number of nested calls at one time.
     pub depth: u64,
+    /// How often a count was raised.
     pub raises: u128,
 }

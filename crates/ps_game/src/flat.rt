@@ -13,9 +13,9 @@ use crate::widths::Width;
 use std::alloc::{AllocError, Global};
 use std::marker::Model;
 
-/// A parity game, kept as four arrays: the owners, the priorities, the successors of all vertices one behind the other, and where
-/// those of each vertex begin. It is read faster than a `Game`, and takes less memory: at a width of 4 bytes, 13 bytes for each
-/// vertex and 4 for each edge.
+/// A parity game, kept as four arrays: the owners, the priorities, the successors of all vertices one behind the other,
+/// and where those of each vertex begin. It is read faster than a `Game`, and takes less memory: at a width of 4 bytes,
+/// 13 bytes for each vertex and 4 for each edge.
 #[derive(Drop)]
 pub struct FlatGame<W: Width> {
     offsets: Numbers<W>,
@@ -37,6 +37,10 @@ impl<W: Width> Model for FlatGame<W> {
 
 impl<W: Width> FlatGame<W> {
     /// The same game in arrays, in time in proportion to its vertices and edges.
+    ///
+    /// # Errors
+    ///
+    /// Fails where a growth was refused.
     pub fn of(alloc: Global, game: &Game) -> Result<FlatGame<W>, AllocError>
         requires { FitsWithin game.now W.LIMIT }
         ensures { IfOk result (λ flat. flat ≡ game.now) }

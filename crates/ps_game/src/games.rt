@@ -1,3 +1,5 @@
+//! Games as a list of vertices, each with the list of its successors.
+
 ghost use Rattle.std.specs.Prelude.{◌≡◌, ◌<◌, length, slice_index, slice_index_or};
 ghost use Rattle.ps_game.specs.Games.{ParityGame, VertexData, IsGame, vertex_count, owner_of, priority_of, successors_of};
 

@@ -1,4 +1,32 @@
 //! Parity games: what they are, how they are kept and built, and laws on plays and strategies.
+//!
+//! A game is seen as a `ParityGame`, the list of its vertices, which are numbered from 0 by place. Player 0 wins a loop
+//! whose greatest priority is even, player 1 one whose greatest is odd. Sets of vertices and tables of moves are lists
+//! with a place for each vertex, so a call that asks for one *requires* it to be as long as the game.
+//!
+//! | Call | What it gives |
+//! |---|---|
+//! | `GameBuilder::vertex`, `edge`, `finish` | a `Game` of vertices and edges in any order, or the first `GameFault` |
+//! | `NamedGame::new`, `game`, `id`, `name` | the game with an id, and a name or none, for each vertex |
+//! | `Arena::count`, `owner`, `priority`, `degree`, `successor` | what every form of a game answers, without memory |
+//! | `FlatGame::of`, `fits_narrow` | the same game in four arrays, with numbers of 4 or 8 bytes; whether 4 do |
+//! | `Region::empty`, `full`, `insert`, `remove`, `contains`, .. | a set of vertices, one bit each |
+//! | `Strategy::empty`, `set`, `get` | a move, or none, for each vertex |
+//! | `Subgame::whole`, `find`, `known`, `region` | a region in which each vertex has a successor |
+//! | `Numbers::filled`, `with_capacity`, `at`, `set`, `push`, .. | a list of numbers of 4 or 8 bytes |
+//! | `priorities_of` | the priorities of a parity that a game has, rising |
+//! | `Counts` | how much work a solver did |
+//!
+//! Each law is the contract of a call that does nothing:
+//!
+//! | Law | What it says |
+//! |---|---|
+//! | `long_path_has_loop` | a path of more vertices than the game has comes back to one |
+//! | `no_memory_wins_outside` | where one player holds a set, the other wins from none of it by a finite memory |
+//! | `no_history_wins_outside` | nor by a table over histories, of any length |
+//! | `holds_on_paths` | what is held within the subgame of all vertices is held on paths |
+//! | `only_own_moves_matter` | only the moves at the player's own vertices matter to what is held |
+//! | `loop_priority_is_top` | a loop's priority is the greatest of its places |
 #![tactic(auto)]
 
 mod arenas;

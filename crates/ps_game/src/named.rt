@@ -1,3 +1,5 @@
+//! Games whose vertices have ids and names, as texts and certificates speak of them.
+
 ghost use Rattle.std.specs.Prelude.{◌≡◌, ◌≢◌, ◌<◌, length, map, vec_len, slice_index, slice_index_or, None};
 ghost use Rattle.std.specs.List.{All, AllPairs};
 ghost use Rattle.std.specs.Option.{option_copied};

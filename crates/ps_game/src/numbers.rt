@@ -1,3 +1,5 @@
+//! Lists of numbers that are kept at 4 or 8 bytes each.
+
 ghost use Rattle.std.specs.Prelude.{◌≡◌, ◌<◌, ◌≤◌, ◌∷◌, [], ◌++◌, IfOk, OnOk, OnErr, length, map, replicate, take, slice_index, slice_range, slice_set};
 
 use crate::widths::Width;
@@ -20,6 +22,10 @@ impl<W: Width> Model for Numbers<W> {
 
 impl<W: Width> Numbers<W> {
     /// One number so many times.
+    ///
+    /// # Errors
+    ///
+    /// Fails where a growth was refused.
     pub fn filled(alloc: Global, number: usize, count: usize) -> Result<Numbers<W>, AllocError>
         requires { number ≤ W.LIMIT }
         ensures { IfOk result (λ numbers. numbers ≡ replicate count number) }
@@ -29,6 +35,10 @@ impl<W: Width> Numbers<W> {
     }
 
     /// No number, with room for so many.
+    ///
+    /// # Errors
+    ///
+    /// Fails where a growth was refused.
     pub fn with_capacity(alloc: Global, count: usize) -> Result<Numbers<W>, AllocError>
         ensures { IfOk result (λ numbers. numbers ≡ []) }
     {
@@ -70,6 +80,10 @@ impl<W: Width> Numbers<W> {
     }
 
     /// Puts a number at the end. For want of memory nothing changes.
+    ///
+    /// # Errors
+    ///
+    /// Fails where a growth was refused.
     pub fn push(&mut self, number: usize) -> Result<(), AllocError>
         requires { number ≤ W.LIMIT }
         ensures ok { OnOk result (self.new ≡ self.old ++ number ∷ []) }

@@ -1,3 +1,5 @@
+//! Sets of vertices, a bit for each: union, difference and count take eight words of 64 bits at a time.
+
 ghost use Rattle.std.specs.Prelude.{◌≡◌, ◌<◌, ◌↔◌, ◌&&◌, ◌||◌, ℕ, IfOk, IsTrue, true, false, not, length, replicate, count_by, slice_set};
 ghost use Rattle.ps_game.specs.Regions.{has};
 
@@ -29,6 +31,10 @@ impl Model for Region {
 
 impl Region {
     /// No vertex.
+    ///
+    /// # Errors
+    ///
+    /// Fails where a growth was refused.
     pub fn empty(alloc: Global, places: usize) -> Result<Region, AllocError>
         ensures { IfOk result (λ region. region ≡ replicate places false) }
     {
@@ -37,6 +43,10 @@ impl Region {
     }
 
     /// Each vertex below the number of places.
+    ///
+    /// # Errors
+    ///
+    /// Fails where a growth was refused.
     pub fn full(alloc: Global, places: usize) -> Result<Region, AllocError>
         ensures { IfOk result (λ region. region ≡ replicate places true) }
     {
@@ -113,6 +123,10 @@ impl Region {
     }
 
     /// The same set once more.
+    ///
+    /// # Errors
+    ///
+    /// Fails where a growth was refused.
     pub fn copy(&self) -> Result<Region, AllocError>
         ensures { IfOk result (λ region. region ≡ self.now) }
     {

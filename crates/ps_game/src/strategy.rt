@@ -1,3 +1,5 @@
+//! Positional strategies: a move or none for each vertex.
+
 ghost use Rattle.std.specs.Prelude.{◌≡◌, ◌<◌, IfOk, Some, None, length, replicate, slice_set};
 ghost use Rattle.ps_game.specs.Regions.{move_at};
 
@@ -5,8 +7,8 @@ use crate::regions::Region;
 use std::alloc::{AllocError, Global};
 use std::marker::Model;
 
-/// A move, or none, for each vertex: the vertices that have one, and where each of them moves. Any number can be a move, so none
-/// of them stands for no move.
+/// A move, or none, for each vertex: the vertices that have one, and where each of them moves. Any number can be a
+/// move, so none of them stands for no move.
 #[derive(Drop)]
 pub struct Strategy {
     chosen: Region,
@@ -26,6 +28,10 @@ impl Model for Strategy {
 
 impl Strategy {
     /// No move at any vertex.
+    ///
+    /// # Errors
+    ///
+    /// Fails where a growth was refused.
     pub fn empty(alloc: Global, places: usize) -> Result<Strategy, AllocError>
         ensures { IfOk result (λ strategy. strategy ≡ replicate places None) }
     {

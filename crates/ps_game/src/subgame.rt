@@ -1,3 +1,5 @@
+//! Subgames: regions in which every play can go on.
+
 ghost use Rattle.std.specs.Prelude.{◌≡◌, ◌<◌, ◌↔◌, ℕ, IfOk, IfSome, IsSome, IsTrue, true, length, replicate, slice_index, slice_index_or};
 ghost use Rattle.std.specs.List.{Contains};
 ghost use Rattle.ps_game.specs.Games.{IsGame, vertex_count};
@@ -25,6 +27,10 @@ impl Model for Subgame {
 
 impl Subgame {
     /// All of an arena.
+    ///
+    /// # Errors
+    ///
+    /// Fails where a growth was refused.
     pub fn whole<A: Arena>(alloc: Global, arena: &A) -> Result<Subgame, AllocError>
         ensures all { IfOk result (λ subgame. subgame ≡ replicate (vertex_count (A.game arena.now)) true) }
         ensures subgame { IfOk result (λ subgame. IsSubgame (A.game arena.now) (has subgame)) }

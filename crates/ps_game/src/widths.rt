@@ -1,3 +1,5 @@
+//! The numbers that large tables are made of: `u32` or `usize`.
+
 ghost use Rattle.std.specs.Prelude.{◌≡◌, ◌^◌, ◌-◌, ◌≤◌, ℕ};
 
 /// A type of numbers as large tables keep them: the fewer bytes, the less memory is read.

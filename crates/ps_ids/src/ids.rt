@@ -10,8 +10,8 @@ use std::alloc::{AllocError, Global};
 use std::collections::BTreeMap;
 use std::marker::Model;
 
-/// Different ids in order. Where they begin with the first and go on one by one, each is found at its place; the places of
-/// the others stand in a tree, so that no choice of ids makes a search long.
+/// Different ids in order. Where they begin with the first and go on one by one, each is found at its place; the places
+/// of the others stand in a tree, so that no choice of ids makes a search long.
 #[derive(Drop)]
 pub struct Ids {
     list: Vec<u64>,
@@ -85,6 +85,10 @@ impl Ids {
     }
 
     /// Adds an id that is none of them. For want of memory they stay as they were.
+    ///
+    /// # Errors
+    ///
+    /// Fails where a growth was refused.
     pub fn push(&mut self, id: u64) -> Result<(), AllocError>
         requires { Contains self.old id → ⊥ }
         ensures ok { OnOk result (self.new ≡ self.old ++ id ∷ []) }

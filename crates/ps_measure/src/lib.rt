@@ -1,9 +1,18 @@
 //! The least counts of a player's region, or a cycle that the player loses.
 //!
-//! [`ranks`] looks at the edges that remain inside a region when its player moves by a table. It answers, for each priority by
-//! which the player loses, the least counts that keep the rule of counts, and says how often a count was raised; or it answers a
-//! cycle of such edges that the player loses, and that only where there is one. For each priority it searches once against the
-//! edges, from the vertices of that priority; one pass over the components in that order gives each vertex its count.
+//! [`ranks`] looks at the edges that remain inside a region when its player moves by a table. It answers, for each
+//! priority by which the player loses, the least counts that keep the rule of counts, and says how often a count was
+//! raised; or it answers a cycle of such edges that the player loses, and that only where there is one.
+//!
+//! Counts are what a progress measure (Jurdzinski) has for one priority; the least ones are not lifted step by step.
+//! For each priority one search goes against the edges, from the vertices of that priority, and one pass over the
+//! strong components in that order gives each vertex its count. That takes time in proportion to the vertices and edges
+//! for each priority, and memory for a count of each vertex and priority, besides the edges turned round.
+//!
+//! | Call | What it gives |
+//! |---|---|
+//! | `ranks` | `Ranks`: the priorities by which the player loses, and for each vertex a row with a count for each |
+//! | `MeasureFault::number`, `name` | a fault as psyn's list has it |
 #![tactic(auto)]
 
 mod back;

@@ -4,7 +4,7 @@ ghost use Rattle.ps_pgsolver.specs.Causes.{cause_name, cause_number};
 
 use ps_text::faults::{Cause, Fault};
 
-/// Why a game text is refused.
+/// Why a game text is refused (PGSolver's format; the limit of bytes is psyn's own).
 #[derive(Clone, Copy, Debug, PartialEq, Eq)]
 pub enum PgCause {
     /// A token that can't stand here, or an early end.

@@ -13,6 +13,10 @@ use ps_ids::Ids;
 use std::alloc::{AllocError, Global};
 
 /// The game of the nodes, with their ids and names.
+///
+/// # Errors
+///
+/// Fails where a growth was refused.
 pub fn named_game(alloc: Global, nodes: Nodes) -> Result<NamedGame, PgFault>
     requires { KnowsAll (ids_of nodes) nodes }
     ensures value { IfOk result (λ named. named ≡ named_game_of nodes) }

@@ -1,4 +1,15 @@
-//! Game texts in PGSolver's format.
+//! Game texts in PGSolver's format: an optional `parity N;` and `start N;`, and for each vertex its id, its priority,
+//! its owner, its successors, a name if it has one, and a semicolon.
+//!
+//! | Call | What it gives |
+//! |---|---|
+//! | `read(text)` | the game with its ids and names, or the first `PgFault` in the text; at most 16,777,216 bytes |
+//! | `write(game)` | a text, which `read` reads as that game again |
+//! | `PgCause::number`, `name` | a cause as psyn's list of faults has it |
+//!
+//! Two laws say that a text has tokens and no others (`one_list_of_tokens`), and one answer (`one_answer`). Reading
+//! takes time in proportion to the text, but for a search of each id that is not the next one in order, in a tree;
+//! where a successor is no node's id, the text is read a second time, to find the first such.
 #![tactic(auto)]
 
 mod fault;

@@ -12,10 +12,15 @@ use std::marker::Model;
 /// A node as it stands in the text.
 #[derive(Drop)]
 pub struct Node {
+    /// The id, which no other node has.
     pub id: u64,
+    /// The priority.
     pub priority: u64,
+    /// The owner, 0 or 1.
     pub owner: u8,
+    /// The ids of its successors, as they stand, repeated ones too.
     pub successors: SmallVec<u64, 4>,
+    /// The bytes between the quotes, if there is a name.
     pub name: Option<Vec<u8>>,
 }
 
@@ -83,6 +88,10 @@ impl Nodes {
     }
 
     /// Adds a node of a new id.
+    ///
+    /// # Errors
+    ///
+    /// Fails where a growth was refused.
     pub fn push(&mut self, node: Node) -> Result<(), AllocError>
         requires new { ¬ Contains (ids_of self.old) node.id }
         requires node { IsNode node }
@@ -97,6 +106,10 @@ impl Nodes {
 
 impl Nodes {
     /// The ids and the names of the nodes.
+    ///
+    /// # Errors
+    ///
+    /// Fails where a growth was refused.
     pub fn into_labels(self, alloc: Global) -> Result<(Vec<u64>, Vec<Option<Vec<u8>>>), AllocError>
         ensures ids { IfOk result (λ labels. labels.0.items ≡ ids_of self) }
         ensures names { IfOk result (λ labels. map name_bytes labels.1.items ≡ names_of self) }

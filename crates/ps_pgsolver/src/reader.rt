@@ -30,6 +30,10 @@ const TEXT_LIMIT: usize = 16_777_216;
 /// Reads a game text. Vertices are numbered in the order of the nodes.
 ///
 /// A successor may stand before its node, so all ids are known only behind the text.
+///
+/// # Errors
+///
+/// [`PgFault::Text`] with the first cause in the text's order, at the byte of its token; else want of memory.
 pub fn read(alloc: Global, text: &[u8]) -> Result<NamedGame, PgFault>
     ensures answer { Answers text.now result }
     ensures within { IfErr result (StandsWithin (length text.now)) }

@@ -16,14 +16,18 @@ use std::marker::Model;
 /// A class of bytes.
 #[derive(Clone, Copy)]
 pub enum Class {
+    /// A space, or one of the bytes 9 to 13.
     Blank,
+    /// A digit.
     Digit,
+    /// An ASCII letter.
     Letter,
     /// Anything but a quote.
     Inner,
 }
 
 impl Class {
+    /// Whether a byte is of the class.
     pub fn has(self, byte: u8) -> bool
         ensures { result ≡ in_class self byte }
     {
@@ -52,22 +56,28 @@ pub enum Kind<'a> {
     Number(u64),
     /// The digits of a number that no `u64` holds.
     LargeNumber(&'a [u8]),
+    /// A run of letters.
     Word(&'a [u8]),
     /// A name, without its quotes.
     Name(&'a [u8]),
+    /// A comma.
     Comma,
+    /// A semicolon.
     Semicolon,
     /// A name that is not closed.
     OpenName,
     /// Any other token that can't stand.
     Wrong,
+    /// The end of the text.
     End,
 }
 
 /// A token, and where it begins.
 #[derive(Clone, Copy)]
 pub struct Token<'a> {
+    /// What it is.
     pub kind: Kind<'a>,
+    /// The offset of its first byte, from 0.
     pub start: usize,
 }
 

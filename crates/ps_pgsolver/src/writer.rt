@@ -12,6 +12,10 @@ use ps_text::numbers::write_number;
 use std::alloc::{AllocError, Global};
 
 /// Writes a game: a line with the greatest id, and a line for each vertex.
+///
+/// # Errors
+///
+/// Fails where a growth was refused.
 pub fn write(alloc: Global, game: &NamedGame) -> Result<Vec<u8>, AllocError>
     requires { 0 < vertex_count game.now.game }
     ensures bytes { IfOk result (λ bytes. bytes.items ≡ game_text game.now) }

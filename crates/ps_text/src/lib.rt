@@ -1,6 +1,17 @@
 //! What every reader of texts is made of, whatever the format: the answer of a reader (the meaning of a text, or
-//! the first cause that stands in it), grammars by parts, digits and blanks; and the writing of
-//! numbers.
+//! the first cause that stands in it), grammars by parts, digits and blanks; and the writing of numbers.
+//!
+//! | Call | What it gives |
+//! |---|---|
+//! | `numbers::write_number(out, number)` | writes a number in decimal behind what was written |
+//! | `numbers::leading_number(text)` | the number that a text begins with, and how many digits it has |
+//! | `faults::Cause::number`, `name` | what each format says of a cause: its number and name in psyn's list of faults |
+//! | `faults::Fault::number`, `name` | those of a fault: of its cause, or of want of memory |
+//! | `answers::one_answer` | a law: a text of a `Format` has one answer |
+//! | `tokens::one_tokenisation` | a law: a text of a `Lexicon` has one list of tokens at most |
+//!
+//! Grammars stand in the specs: `Parts` has what a part of a text means and what is wrong with it, `Readers` what a
+//! reading function answers for a part.
 #![tactic(auto)]
 
 pub mod answers;

@@ -9,6 +9,10 @@ use itoa::Buffer;
 use std::alloc::AllocError;
 
 /// Writes a number behind what was written.
+///
+/// # Errors
+///
+/// Fails where a growth was refused.
 pub fn write_number(out: &mut Vec<u8>, number: u64) -> Result<(), AllocError>
     ensures { OnOk result (out.new.items ≡ out.old.items ++ decimal number) }
 {
@@ -29,7 +33,8 @@ pub struct LeadingNumber {
     pub digits: usize,
 }
 
-/// The number that the digits write with which a text begins, leading zeros and all; none where a `u64` does not hold it.
+/// The number that the digits write with which a text begins, leading zeros and all; none where a `u64` does not hold
+/// it.
 pub fn leading_number(text: &[u8]) -> Option<LeadingNumber>
     ensures value { IfSome result (λ number. number.value ≡ decimal_value (take_while is_ascii_digit text.now)) }
     ensures digits { IfSome result (λ number. number.digits ≡ prefix_len is_ascii_digit text.now) }

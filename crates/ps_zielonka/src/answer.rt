@@ -1,3 +1,5 @@
+//! The answer, as regions and strategies, of what the board has decided.
+
 ghost use Rattle.std.specs.Prelude.{◌≡◌, IfOk, length};
 ghost use Rattle.ps_game.specs.Games.{vertex_count};
 ghost use Rattle.ps_zielonka.specs.Answers.{IsRegionTo, AreMovesTo};
@@ -7,6 +9,10 @@ use ps_game::{Arena, Region, Strategy};
 use std::alloc::{AllocError, Global};
 
 /// The vertices that player 0 wins.
+///
+/// # Errors
+///
+/// Fails where a growth was refused.
 pub fn region_of(alloc: Global, winner: &[u8]) -> Result<Region, AllocError>
     ensures places { IfOk result (λ region. length region ≡ length winner.now) }
     ensures won { IfOk result (IsRegionTo winner.now (length winner.now)) }
@@ -21,6 +27,10 @@ pub fn region_of(alloc: Global, winner: &[u8]) -> Result<Region, AllocError>
 }
 
 /// The moves of a player at its vertices that it wins.
+///
+/// # Errors
+///
+/// Fails where a growth was refused.
 pub fn strategy_of<A: Arena>(
     alloc: Global,
     arena: &A,

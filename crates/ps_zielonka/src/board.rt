@@ -1,3 +1,5 @@
+//! What is decided of each vertex, and the steps on it: attract, keep, take back.
+
 ghost use Rattle.std.specs.Prelude.{◌≡◌, ◌≢◌, ◌+◌, ◌-◌, ◌<◌, ◌≤◌, ℕ, Bool, false, IfSome, IfNone, OnOk, IsTrue, length, take, slice_index};
 ghost use Rattle.ps_game.specs.Games.{IsGame, vertex_count, HasEdge};
 ghost use Rattle.ps_attractor.specs.Sources.{IsSourcesOf};
@@ -25,7 +27,12 @@ pub struct Board {
 }
 
 impl Board {
-    /// Attracts to the vertices that stand in the trail from a place on, and gives all that then stand there to the player.
+    /// Attracts to the vertices that stand in the trail from a place on, and gives all that then stand there to the
+    /// player.
+    ///
+    /// # Errors
+    ///
+    /// Fails where a growth was refused.
     pub fn attract<A: Arena>(
         &mut self,
         arena: &A,
@@ -64,8 +71,8 @@ impl Board {
         }
     }
 
-    /// Whether the player keeps all that the other one did not win, at each vertex of the greatest priority too. Writes the
-    /// moves there.
+    /// Whether the player keeps all that the other one did not win, at each vertex of the greatest priority too. Writes
+    /// the moves there.
     pub fn is_kept<A: Arena>(&mut self, arena: &A, frame: Frame, level: usize) -> bool
         requires game { IsGame (A.game arena.now) }
         requires fits { FitsGame (A.game arena.now) self.old.tables }
@@ -141,7 +148,12 @@ impl Board {
         None
     }
 
-    /// Leaves in the trail, of what stands there from the turn on, just what the player did not win, and gives that the level.
+    /// Leaves in the trail, of what stands there from the turn on, just what the player did not win, and gives that the
+    /// level.
+    ///
+    /// # Errors
+    ///
+    /// Fails where a growth was refused.
     pub fn reopen(&mut self, frame: Frame, level: usize) -> Result<(), AllocError>
         requires vertices { (j : ℕ) → j < length self.old.tables.trail → slice_index self.old.tables.trail j < length self.old.tables.level }
         requires winners { length self.old.winner.items ≡ length self.old.tables.level }

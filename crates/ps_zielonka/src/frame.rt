@@ -1,3 +1,5 @@
+//! A call that waits.
+
 /// A call that waits for the part of its subgame that is left by the attractor of its present turn.
 #[derive(Clone, Copy)]
 pub struct Frame {

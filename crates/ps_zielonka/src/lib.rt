@@ -1,4 +1,18 @@
 //! Which player wins from which vertices of a parity game, and by which moves.
+//!
+//! That is the recursive algorithm of McNaughton and Zielonka, with a list of frames in place of the recursion. A call
+//! takes the greatest priority of its subgame and attracts to all vertices of that priority, for the player who wins
+//! it; what is left is solved first. Where the player then keeps each vertex of that priority, the player wins all that
+//! the other one did not win in what was left. Else the other player attracts to what it won there, and the call goes
+//! on with the rest.
+//!
+//! | Call | What it gives |
+//! |---|---|
+//! | `regions` | the region of player 0, the moves of both players in their regions, and in `Counts` the depth |
+//!
+//! Calls wait for one another at most as deep as there are different priorities. The number of calls can grow
+//! exponentially with the number of priorities; a turn takes time in proportion to the edges that its attractor looks
+//! at. The memory is in proportion to vertices and edges.
 #![tactic(auto)]
 
 mod answer;

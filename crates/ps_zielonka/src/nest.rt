@@ -1,3 +1,5 @@
+//! The calls that wait, one in the other, and the steps down into a subgame and back up.
+
 ghost use Rattle.std.specs.Prelude.{◌≡◌, ◌≢◌, ◌+◌, ◌-◌, ◌*◌, ◌<◌, ◌≤◌, ℕ, Bool, true, false, [], ◌∷◌, ◌++◌, IfOk, OnOk, IsTrue, length, slice_index};
 ghost use Rattle.ps_game.specs.Games.{IsGame, vertex_count};
 ghost use Rattle.ps_attractor.specs.Sources.{IsSourcesOf};
@@ -32,6 +34,10 @@ pub struct Nest {
 
 impl Nest {
     /// No vertex is decided, and no call waits.
+    ///
+    /// # Errors
+    ///
+    /// Fails where a growth was refused.
     pub fn new<A: Arena>(alloc: Global, arena: &A) -> Result<Nest, AllocError>
         ensures stack { IfOk result (IsStack (A.game arena.now)) }
         ensures deep { IfOk result (IsDeep (A.game arena.now)) }
@@ -56,6 +62,10 @@ impl Nest {
     }
 
     /// Decides each vertex.
+    ///
+    /// # Errors
+    ///
+    /// Fails where a growth was refused.
     pub fn solve<A: Arena>(&mut self, arena: &A, sources: &Sources) -> Result<(), AllocError>
         requires sources { IsSourcesOf (A.game arena.now) sources.now }
         requires stack { IsStack (A.game arena.now) self.old }
@@ -91,7 +101,8 @@ impl Nest {
         }
     }
 
-    /// The player of the greatest priority, which stands at a place of the order, attracts to all vertices of that priority.
+    /// The player of the greatest priority, which stands at a place of the order, attracts to all vertices of that
+    /// priority.
     fn begin_turn<A: Arena>(
         &mut self,
         arena: &A,

@@ -1,3 +1,5 @@
+//! The call that solves a game.
+
 ghost use Rattle.std.specs.Prelude.{◌≡◌, IfOk, OnOk, length};
 ghost use Rattle.ps_game.specs.Games.{vertex_count};
 ghost use Rattle.ps_game.specs.Plays.{Holds};
@@ -14,6 +16,10 @@ use ps_game::{Arena, Counts, Region, Strategy};
 use std::alloc::{AllocError, Global};
 
 /// Which vertices player 0 wins, the moves by which it does, and those by which player 1 wins the others.
+///
+/// # Errors
+///
+/// Fails where a growth was refused. There is no other fault: each game has two regions.
 pub fn regions<A: Arena>(
     alloc: Global,
     arena: &A,
