@@ -18,8 +18,8 @@ use ps_circuit::{Builder, Circuit, EncodeFault, Gate, Latch, Parts, Sides};
 use ps_machine::Machine;
 use std::alloc::{AllocError, Global};
 
-/// The circuit whose step is the machine's. It begins in memory 0; its latches hold the code of a memory, and a code of no
-/// memory stands for memory 0. Inputs and outputs have the names of their propositions.
+/// The circuit whose step is the machine's. It begins in memory 0; its latches hold the code of a memory, and a code of
+/// no memory stands for memory 0. Inputs and outputs have the names of their propositions.
 ///
 /// # Errors
 ///

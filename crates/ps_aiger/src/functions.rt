@@ -24,8 +24,8 @@ pub(crate) enum Wanted {
     Output(u32),
 }
 
-/// The literal that has, in each memory and at each input letter, the wanted bit of the row: input k is variable k + 1, and
-/// the latches come next.
+/// The literal that has, in each memory and at each input letter, the wanted bit of the row: input k is variable k + 1,
+/// and the latches come next.
 pub(crate) fn literal_of(
     alloc: Global,
     builder: &mut Builder,
@@ -46,8 +46,8 @@ pub(crate) fn literal_of(
     over_latches(builder, machine, wanted, &mut known, latches, 0)
 }
 
-/// The same for the memories whose codes begin like that: the code of the first of them is given, and how many latches are
-/// free.
+/// The same for the memories whose codes begin like that: the code of the first of them is given, and how many latches
+/// are free.
 fn over_latches(
     builder: &mut Builder,
     machine: &Machine,

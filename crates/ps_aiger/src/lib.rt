@@ -1,4 +1,13 @@
 //! Circuits of machines, and all of `ps_circuit` by name: circuits, their builder, reader and writer.
+//!
+//! | Call | What it gives |
+//! |---|---|
+//! | `encode(machine)` | the circuit whose step is the machine's, with the names of the propositions as symbols |
+//! | those of `ps_circuit` | `read`, `write`, `Builder`, `Circuit`: its head has a table |
+//!
+//! Memories are numbered in binary in the latches. Each output and each latch is a literal that is made from the
+//! machine's decision diagrams node by node, as a choice by the proposition that the node tests; a gate that is there
+//! is used again.
 #![tactic(auto)]
 
 mod encoding;

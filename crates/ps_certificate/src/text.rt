@@ -138,7 +138,12 @@ fn entries_of(
     }
 }
 
-/// Reads the text of a certificate of a game, which may be a compact one.
+/// Reads the text of a certificate of a game, which may be a compact one. Winners are 0 or 1, moves are read by the ids
+/// of the game and kept by place.
+///
+/// # Errors
+///
+/// [`CertFault::Text`] with the first cause in the text's order, at its byte; else want of memory.
 pub fn read(alloc: Global, text: &[u8], game: &NamedGame) -> Result<Certificate, CertFault>
     // The text's certificate, or the first cause for which it is none.
     ensures exact { IsAnswer game.now text.now result }

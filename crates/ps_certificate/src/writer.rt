@@ -12,8 +12,12 @@ use ps_game::{Arena, NamedGame};
 use ps_text::numbers::write_number;
 use std::alloc::{AllocError, Global};
 
-/// Writes a certificate of a game: the first line, the number of vertices, the odd and the even priorities, and a line for
-/// each vertex, with all its counts.
+/// Writes a certificate of a game: the first line, the number of vertices, the odd and the even priorities, and a line
+/// for each vertex, with all its counts.
+///
+/// # Errors
+///
+/// Fails where a growth was refused.
 pub fn write(
     alloc: Global,
     certificate: &Certificate,
@@ -27,6 +31,10 @@ pub fn write(
 }
 
 /// The same as a compact text, which has only the counts that are not 0, each behind its priority.
+///
+/// # Errors
+///
+/// Fails where a growth was refused.
 pub fn write_compact(
     alloc: Global,
     certificate: &Certificate,

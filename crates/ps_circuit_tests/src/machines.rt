@@ -12,8 +12,8 @@ use ps_synthesis::read_automaton;
 use std::alloc::Global;
 use std::test::Fail;
 
-/// A grant has to come exactly where there is a request. The controller moves first, and so the environment wins: it sees the
-/// grant, and asks where there is none.
+/// A grant has to come exactly where there is a request. The controller moves first, and so the environment wins: it
+/// sees the grant, and asks where there is none.
 const EXACT: &[u8] =
     b"HOA: v1 Start: 0 AP: 2 \"r\" \"g\" controllable-AP: 1 Acceptance: 0 t --BODY-- State: 0 [0&1 | !0&!1] 0 --END--";
 

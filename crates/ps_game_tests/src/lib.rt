@@ -1,5 +1,6 @@
-//! Tests of the libraries of games, a file for each thing that is tested. A crate with tests is proved once more with them, so
-//! they stand here, apart from the libraries. What a command of psyn shows is a row of `examples/rows` and no test.
+//! Tests of the libraries of games, a file for each thing that is tested. A crate with tests is proved once more with
+//! them, so they stand here, apart from the libraries. What a command of psyn shows is a row of `examples/rows` and no
+//! test.
 #![tactic(auto)]
 
 #[cfg(test)]

@@ -17,7 +17,8 @@ use crate::signs::mark;
 use crate::tokens::{Kind, Token, Tokens, is_same};
 use std::alloc::Global;
 
-/// An acceptance condition: some sets of edges are visited infinitely often, and some finitely often.
+/// An acceptance condition (HOA v1, acceptance): some sets of edges are visited infinitely often, and some finitely
+/// often.
 #[derive(Debug, Drop)]
 pub enum Cond {
     /// True of every run.

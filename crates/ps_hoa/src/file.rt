@@ -16,7 +16,7 @@ use ps_label::{Label, Labels};
 use smallvec::SmallVec;
 use std::marker::Model;
 
-/// At which letters an edge is taken.
+/// At which letters an edge is taken (HOA v1, body: labels of edges and of states, implicit labels).
 #[derive(Debug, Drop)]
 pub enum Guard {
     /// Those at which this label is true.
@@ -27,7 +27,7 @@ pub enum Guard {
     Letter(u64),
 }
 
-/// An edge of a state.
+/// An edge of a state (HOA v1, body).
 #[derive(Debug, Drop)]
 pub struct Edge {
     /// When it is taken.
@@ -38,7 +38,7 @@ pub struct Edge {
     pub marks: SmallVec<u32, 4>,
 }
 
-/// What is written of a state.
+/// What is written of a state (HOA v1, body: `State:`).
 #[derive(Debug, Drop)]
 pub struct Row {
     /// The state's number.

@@ -9,7 +9,8 @@ use std::marker::Model;
 /// Numbers from here on are no propositions, and have one place together.
 const LAST_PLACE: u32 = 64;
 
-/// Numbers in the order in which they came: each proposition's once, and of the other numbers the first one. So they are at most 65.
+/// Numbers in the order in which they came: each proposition's once, and of the other numbers the first one. So they
+/// are at most 65.
 #[derive(Debug, Drop)]
 pub(crate) struct Indices {
     numbers: Vec<u32>,

@@ -27,8 +27,8 @@ pub fn sound_parts()
     ensures edge { (file : FileData) (row : RowData) → IsSoundRow file row → (k : ℕ) (edge : EdgeData) → slice_get row.edges k ≡ Some edge → IsSoundEdge file edge }
 {}
 
-/// The labels of a sound file are such as their truth asks for: its aliases speak of earlier ones, and the labels of its rows and
-/// edges of its aliases, and of propositions below 64.
+/// The labels of a sound file are such as their truth asks for: its aliases speak of earlier ones, and the labels of
+/// its rows and edges of its aliases, and of propositions below 64.
 pub fn sound_labels()
     ensures aliases { (file : FileData) → IsSound file → AreOrdered file.aliases }
     ensures row { (file : FileData) → IsSound file → (row : RowData) → IsSoundRow file row → (e : Expression) → row.label ≡ Some e → IsWithin (length file.aliases) e }

@@ -1,4 +1,23 @@
-//! Reads texts of the Hanoi Omega-Automata format, version 1.
+//! Reads texts of the Hanoi Omega-Automata format, version 1, with the header item `controllable-AP:` of extended HOA.
+//!
+//! | Call | What it gives |
+//! |---|---|
+//! | `read(text)` | the automaton as its text says it, or the first `HoaFault` in the text |
+//! | `HoaFile::states`, `start`, `names`, `controllable`, `aliases`, `sets`, `condition` | what its header says |
+//! | `HoaFile::rows`, `row(state)` | what its body says of each state: label, sets and edges, in the text's order |
+//! | `Row`, `Edge`, `Guard`, `Cond` | a state, an edge, the letters at which it is taken, an acceptance condition |
+//! | `Tokens::new`, `peek`, `advance` | the tokens of a text (HOA v1, tokens), blanks and comments left out |
+//! | `HoaCause::number`, `name` | a cause as psyn's list of faults has it |
+//!
+//! | Law | What it says |
+//! |---|---|
+//! | `one_answer`, `tokens::one_list_of_tokens` | a text has one answer, and one list of tokens |
+//! | `expressions::one_expression`, `bounded_nesting` | tokens are one label or condition; the limit of nesting |
+//! | `sound_files`, `sound_parts`, `sound_labels` | numbers are in range, names and rows differ, labels have a truth |
+//!
+//! A text has at most 16,777,216 bytes, 65,535 states, 1,048,576 edges, 64 propositions, 64 sets and 4,096 aliases, and
+//! `!` and `(` nest at most 256 deep: psyn's own limits, beyond which the cause is `Limit`. Reading takes time in
+//! proportion to the text, but for the search of aliases and of states in trees.
 #![tactic(auto)]
 
 mod assembly;

@@ -55,6 +55,10 @@ impl Propositions {
     }
 
     /// Adds one of a new name.
+    ///
+    /// # Errors
+    ///
+    /// Fails where a growth was refused, and gives the name back.
     pub fn push(&mut self, name: Vec<u8>) -> Result<(), AllocFailed<Vec<u8>>>
         requires { is_name_among name.items self.old ≡ false }
         ensures ok { OnOk result (self.new ≡ self.old ++ name.items ∷ []) }

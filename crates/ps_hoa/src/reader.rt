@@ -16,12 +16,12 @@ use crate::refusal::refused;
 use crate::tokens::{Kind, Tokens};
 use std::alloc::Global;
 
-/// Reads an HOA text.
+/// Reads an HOA text (HOA v1, header and body; `controllable-AP:` of extended HOA).
 ///
 /// # Errors
 ///
-/// Each cause by which a text is refused is an `HoaFault::Text`, with the offset at which it stands: the first one in the
-/// text, and of several at one place the one with the smallest number. `OutOfMemory` where a growth was refused.
+/// Each cause by which a text is refused is an `HoaFault::Text`, with the offset at which it stands: the first one in
+/// the text, and of several at one place the one with the smallest number. `OutOfMemory` where a growth was refused.
 pub fn read(alloc: Global, text: &[u8]) -> Result<HoaFile, HoaFault>
     ensures answer { Answers (λ file. file) text.now result }
     ensures sound { IfOk result IsSound }

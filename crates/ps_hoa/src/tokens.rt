@@ -11,7 +11,7 @@ ghost use Rattle.ps_hoa.specs.Spans.{AreBlanks, IsSpan, piece_of};
 
 use std::marker::Model;
 
-/// What a token is.
+/// What a token is (HOA v1, tokens).
 #[derive(Clone, Copy, Debug, PartialEq, Eq)]
 pub enum Kind {
     /// A name with `:` directly behind it.
@@ -134,6 +134,7 @@ fn digits_at(bytes: &[u8]) -> usize
     count
 }
 
+/// Whether a byte can stand behind the first one of a name.
 pub(crate) fn is_name_byte(byte: u8) -> bool
     ensures { result ≡ names byte }
 {
@@ -263,6 +264,7 @@ fn text_step(bytes: &[u8]) -> Step
     }
 }
 
+/// Whether a text begins with a word.
 pub(crate) fn begins_with(bytes: &[u8], word: &[u8]) -> bool
     ensures value { result ≡ begins_with bytes.now word.now }
     ensures within { IsTrue result → length word.now ≤ length bytes.now }
@@ -343,6 +345,7 @@ pub(crate) fn behind_blanks(source: &[u8], from: usize) -> usize
     at
 }
 
+/// Whether two texts are the same.
 pub(crate) fn is_same(name: &[u8], word: &[u8]) -> bool
     ensures { result ≡ bytes_eq name.now word.now }
 {
@@ -454,8 +457,8 @@ impl<'a> Model for Tokens<'a> {
 }
 
 impl<'a> Tokens<'a> {
-    /// The tokens from a place of a text on, which is behind its version: a `HOA:` that is still to come is a second one, also
-    /// where the place is 0.
+    /// The tokens from a place of a text on, which is behind its version: a `HOA:` that is still to come is a second
+    /// one, also where the place is 0.
     pub fn new(source: &'a [u8], from: usize) -> Self
         requires { from ≤ length source.now }
         ensures pieces { (pieces : List (Piece Sign)) → AreTokens from (drop from source.now) pieces → (stream_of result).pieces ≡ marked fresh pieces }

@@ -21,8 +21,8 @@ use ps_measure::{MeasureFault, Ranks, ranks};
 use ps_zielonka::regions;
 use std::alloc::{AllocError, Global};
 
-/// Finds the regions of both players, with their moves, and then the least counts that show it. It is sure, and ignores what it
-/// is fed.
+/// Finds the regions of both players, with their moves, and then the least counts that show it. It is sure, and ignores
+/// what it is fed.
 #[derive(Drop)]
 pub struct BuiltIn {
     alloc: Global,
@@ -86,8 +86,8 @@ fn certificate_of<A: Arena>(alloc: Global, arena: &A) -> Result<Certificate, Sol
     certificate_from(alloc, arena, &won, &first, &second)
 }
 
-/// The certificate of a game of which player 0 holds a region by the first table, and player 1 all other vertices by the
-/// second.
+/// The certificate of a game of which player 0 holds a region by the first table, and player 1 all other vertices by
+/// the second.
 fn certificate_from<A: Arena>(
     alloc: Global,
     arena: &A,

@@ -20,9 +20,9 @@ use ps_certificate::Certificate;
 use ps_diagram::{Class, Node, Store};
 use std::alloc::{AllocError, Global};
 
-/// What a machine is made from. The certificate has the moves of its player, the keys say what the vertices stand for that
-/// the moves lead to, the automaton where its steps lead from there, and the memories at which vertices the machine has to
-/// remember something of its own. None of it changes while the diagrams are made.
+/// What a machine is made from. The certificate has the moves of its player, the keys say what the vertices stand for
+/// that the moves lead to, the automaton where its steps lead from there, and the memories at which vertices the
+/// machine has to remember something of its own. None of it changes while the diagrams are made.
 #[derive(Drop)]
 pub(crate) struct Plan<'a> {
     /// Who moves first.
@@ -39,7 +39,8 @@ pub(crate) struct Plan<'a> {
     pub memories: &'a Memories,
 }
 
-/// The machine's diagrams and rows as far as they are made: `node` adds the diagram of one memory, and the rows that it names.
+/// The machine's diagrams and rows as far as they are made: `node` adds the diagram of one memory, and the rows that it
+/// names.
 #[derive(Drop)]
 pub(crate) struct Drawing {
     /// The propositions of the player who moves first.
@@ -65,7 +66,8 @@ impl Plan<'_> {
         self.memories.marks.get_index_of(&mark).unwrap()
     }
 
-    /// The letter that a player who moves first plays at the vertex of a memory: that of the class to which its move leads.
+    /// The letter that a player who moves first plays at the vertex of a memory: that of the class to which its move
+    /// leads.
     fn letter_at(&self, vertex: usize) -> u64
         requires plan { IsPlan self.now.order self.now.automaton.now self.now.keys.now.keys self.now.certificate.now self.now.moves_first self.now.memories.now.kept.items self.now.memories.now.marks.keys }
         requires kept { Contains self.now.memories.now.kept.items vertex }
@@ -82,6 +84,10 @@ impl Plan<'_> {
 
 impl Drawing {
     /// The diagram of the memory that is kept at a vertex.
+    ///
+    /// # Errors
+    ///
+    /// Fails where a growth was refused.
     pub fn node(
         &mut self,
         alloc: Global,
@@ -108,7 +114,8 @@ impl Drawing {
         }
     }
 
-    /// The diagram of the memory of a player who moves first: the rest of the class to which its move leads, with its rows.
+    /// The diagram of the memory of a player who moves first: the rest of the class to which its move leads, with its
+    /// rows.
     fn first_node(&mut self, plan: &Plan<'_>, vertex: usize, state: u32) -> Result<Node, AllocError>
         requires plan { IsPlan plan.now.order plan.now.automaton.now plan.now.keys.now.keys plan.now.certificate.now plan.now.moves_first plan.now.memories.now.kept.items plan.now.memories.now.marks.keys }
         requires kept { Contains plan.now.memories.now.kept.items vertex }

@@ -34,10 +34,10 @@ use ps_diagram::Node;
 use ps_game::{Game, NamedGame};
 use std::alloc::{AllocError, Global};
 
-/// The machine of the winner of vertex 0 in the game of an automaton: it plays by a valid certificate's moves, from what is
-/// reached by them. A winner who moves first remembers the vertex; one who moves second its state. Each word of the machine
-/// is accepted by the automaton where the winner is player 0, and none is where it is player 1. The game is made again for
-/// its keys: `machine_of_certificate` takes them.
+/// The machine of the winner of vertex 0 in the game of an automaton: it plays by a valid certificate's moves, from
+/// what is reached by them. A winner who moves first remembers the vertex; one who moves second its state. Each word of
+/// the machine is accepted by the automaton where the winner is player 0, and none is where it is player 1. The game is
+/// made again for its keys: `machine_of_certificate` takes them.
 ///
 /// # Errors
 ///

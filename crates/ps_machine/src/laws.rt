@@ -29,7 +29,8 @@ pub fn one_game()
         IsGameOf board mover keys game → IsGameOf board mover others other → (keys ≡ others) × (game ≡ other) }
 {}
 
-/// A file has one game at most in each order of moves, names and ids too: its automata may differ only where no play comes.
+/// A file has one game at most in each order of moves, names and ids too: its automata may differ only where no play
+/// comes.
 pub fn one_game_of_file()
     ensures { (order : Order) (file : FileData) (game other : NamedGameData) → IsGameOfFile order file game → IsGameOfFile order file other → game ≡ other }
 {}

@@ -1,6 +1,27 @@
-//! Solvers: what is handed in to find who wins a game, by which moves and counts.
+//! The game of an automaton, what solves it, and the machine of a certificate of it.
 //!
-//! `Solver` says what any solver owes, and what it means that one is sure. `Replay` gives the certificate whose text it was fed.
+//! The game's vertices are numbered breadth first from its start: a state with the priority by which it is entered,
+//! where the first player moves, and a state with a class of the first player's letters, where the second one does.
+//! Classes are letters that lead alike, and come from the automaton's decision diagrams, so that a vertex stands for
+//! all letters of its class.
+//!
+//! | Call | What it gives |
+//! |---|---|
+//! | `game_of(automaton, order)` | the game with ids and names; `Order` says who moves first |
+//! | `AutomatonGame::build(automaton, order)` | the same game with the key of each vertex |
+//! | `game_by_keys(source, order, first)` | the game of the keys to which a first one leads, by any `Successors` |
+//! | `Solver::feed`, `solve` | what any solver owes, and what it means that one is sure |
+//! | `BuiltIn::new` | the solver of psyn's own: regions, moves and least counts; it is sure |
+//! | `Replay::new` | the solver that answers the certificate whose text it was fed; it is not sure |
+//! | `machine_of_certificate`, `extract` | the machine of vertex 0's winner, by a valid certificate |
+//! | `Machine::step(memory, letter)` | the next memory, and the letter that is played |
+//! | `Machine::store`, `node`, `row`, `rows` | the diagram of a memory's rows, and the row that each leaf names |
+//! | `SolveFault::number`, `name` | a fault as psyn's list has it |
+//!
+//! | Law | What it says |
+//! |---|---|
+//! | `lassos_won` | each word of the machine of a valid certificate is won by the winner of vertex 0 |
+//! | `one_game`, `one_game_of_file` | an automaton, and a file, have one game in each order of moves |
 #![tactic(auto)]
 
 mod built_in;

@@ -40,7 +40,12 @@ impl Plan<'_> {
 }
 
 impl Drawing {
-    /// The diagram of the memory of a player who moves second: the places of the classes of the first player's letters, with its rows.
+    /// The diagram of the memory of a player who moves second: the places of the classes of the first player's letters,
+    /// with its rows.
+    ///
+    /// # Errors
+    ///
+    /// Fails where a growth was refused.
     pub fn second_node(
         &mut self,
         alloc: Global,

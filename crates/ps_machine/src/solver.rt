@@ -12,7 +12,8 @@ use ps_certificate::Certificate;
 use ps_game::NamedGame;
 use std::alloc::AllocError;
 
-/// What finds a certificate of a game. A solver may be fed a text first, such as a certificate that another program made.
+/// What finds a certificate of a game. A solver may be fed a text first, such as a certificate that another program
+/// made.
 pub trait Solver: Drop {
     /// What it gives fits the game and is valid, and it fails for want of memory alone.
     ghost is_sure: { Self → Bool };
@@ -23,8 +24,8 @@ pub trait Solver: Drop {
     /// What it may answer for a game, where it was fed that.
     ghost may_answer: { Self → Option (List ℕ) → NamedGameData → Result CertificateData SolveFault → Type 0 };
 
-    /// Takes a text in the place of the one before. One that can't be kept leaves the earlier one; a solver that keeps none takes
-    /// each.
+    /// Takes a text in the place of the one before. One that can't be kept leaves the earlier one; a solver that keeps
+    /// none takes each.
     fn feed(&mut self, text: &[u8]) -> Result<(), AllocError>
         ensures steady { is_sure self.new ≡ is_sure self.old }
         ensures same { (text : Option (List ℕ)) (game : NamedGameData) (answer : Result CertificateData SolveFault) → may_answer self.new text game answer → may_answer self.old text game answer }

@@ -137,6 +137,10 @@ impl Answer {
     }
 
     /// One line.
+    ///
+    /// # Errors
+    ///
+    /// Fails where a growth was refused.
     pub fn line(alloc: Global, line: &str) -> Result<Answer, AllocError>
         ensures { IfOk result (λ answer. reply_of answer ≡ line_reply line.now) }
     {
@@ -145,6 +149,10 @@ impl Answer {
     }
 
     /// The line of a fault.
+    ///
+    /// # Errors
+    ///
+    /// Fails where a growth was refused.
     pub fn fault(alloc: Global, fault: &FaultLine) -> Result<Answer, AllocError>
         ensures { IfOk result (λ answer. reply_of answer ≡ fault_reply (fault_text fault.now)) }
     {
@@ -156,6 +164,10 @@ impl Answer {
     }
 
     /// The command line is refused.
+    ///
+    /// # Errors
+    ///
+    /// Fails where a growth was refused.
     pub fn usage(alloc: Global) -> Result<Answer, AllocError>
         ensures { IfOk result (λ answer. reply_of answer ≡ reply.usage) }
     {
@@ -167,6 +179,10 @@ impl Answer {
     }
 
     /// What psyn can do.
+    ///
+    /// # Errors
+    ///
+    /// Fails where a growth was refused.
     pub fn help(alloc: Global) -> Result<Answer, AllocError>
         ensures { IfOk result (λ answer. reply_of answer ≡ reply.help) }
     {
@@ -213,6 +229,10 @@ impl<C: Cause> From<Fault<C>> for Refusal {
 }
 
 /// A command's answer, or the line of its fault.
+///
+/// # Errors
+///
+/// Fails where a growth was refused.
 pub fn settle(alloc: Global, outcome: Result<Answer, Refusal>) -> Result<Answer, AllocError>
     ensures { IfOk result (Settles outcome) }
 {

@@ -7,6 +7,11 @@ use ps_automaton::Automaton;
 use std::alloc::Global;
 
 /// The automaton of an HOA text.
+///
+/// # Errors
+///
+/// Fails with the first cause for which the text is refused, else where its file has no automaton; and where a growth
+/// was refused.
 pub fn read_automaton(alloc: Global, text: &[u8]) -> Result<Automaton, Refusal>
     ensures { GivesAutomaton text.now result }
 {

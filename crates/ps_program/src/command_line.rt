@@ -59,6 +59,10 @@ pub struct SynthLine {
 }
 
 /// Reads the first line.
+///
+/// # Errors
+///
+/// Fails where a growth was refused.
 pub fn read_line(alloc: Global, line: &[u8]) -> Result<Line, AllocError>
     ensures { IfOk result (IsLine line.now) }
 {

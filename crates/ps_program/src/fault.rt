@@ -1,6 +1,7 @@
 //! The faults that the program answers, each in one line.
 
-/// What the program answers in place of an answer: a fault's number and name, as docs/FAULTS.md lists them, and where it stands.
+/// What the program answers in place of an answer: a fault's number and name, as docs/FAULTS.md lists them, and where
+/// it stands.
 #[derive(Drop)]
 pub struct FaultLine {
     /// The number.
@@ -20,26 +21,36 @@ pub enum Place {
     Byte(usize),
     /// At two edges of a state.
     Edges {
+        /// The state, by its number in the text.
         state: usize,
+        /// The place of the earlier edge in the state's row, from 0.
         first: usize,
+        /// The place of the later one.
         second: usize,
     },
     /// On a cycle of vertices.
     Cycle(Vec<u64>),
     /// At a vertex, with its move.
     Move {
+        /// The vertex.
         vertex: u64,
+        /// Its move, if it has one.
         choice: Option<u64>,
     },
     /// At an edge of a game.
     Edge {
+        /// Where it begins.
         vertex: u64,
+        /// Where it leads.
         successor: u64,
     },
     /// At an edge of a game, with the count for a priority.
     Count {
+        /// Where the edge begins.
         vertex: u64,
+        /// Where it leads.
         successor: u64,
+        /// The priority.
         priority: u64,
     },
 }

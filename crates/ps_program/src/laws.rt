@@ -5,8 +5,8 @@ ghost use Rattle.ps_program.specs.Solvers.{solver_of, solvers_of};
 
 use ps_machine::Solver;
 
-/// An input has one answer at most, whatever the solvers, unless its line is `solve`, `cert` or `synth` and its text is accepted:
-/// whoever meets the definitions writes the same bytes and ends with the same status, or wants memory.
+/// An input has one answer at most, whatever the solvers, unless its line is `solve`, `cert` or `synth` and its text is
+/// accepted: whoever meets the definitions writes the same bytes and ends with the same status, or wants memory.
 pub fn one_answer<S: Solver, T: Solver>(built_in: &S, replay: &T)
     ensures { HasOneAnswer (solvers_of
         (solver_of (S.is_sure built_in.now) (S.fed built_in.now) (S.may_answer built_in.now))

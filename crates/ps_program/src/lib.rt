@@ -1,12 +1,18 @@
 //! The program without its solvers: what it reads, what it writes, and what it answers where no solver is asked.
 //!
-//! `read_input` and `send` move bytes over a [`Source`] and a [`Sink`], which [`Watched`] makes of a reader and a writer of std.
-//! `first_line` and `read_line` give the [`Line`] that is asked for. [`Answer`] is what is written with its exit status, and
-//! [`Refusal`] why there is none; `settle` makes an answer of either. The commands `closed`, `check`, `sim`, `lasso` and `game`
-//! are here; those that ask a solver read their texts and print their reports with what is here.
+//! | Call | What it gives |
+//! |---|---|
+//! | `read_input(source)` | the whole input, at most `INPUT_LIMIT` bytes, or the `InputFault` for which there is none |
+//! | `send(sink, text)` | writes a text and flushes, or a `WriteFault`: nothing is written behind that |
+//! | `Watched::new` | a [`Source`] or a [`Sink`] of a reader or a writer of std |
+//! | `first_line`, `read_line` | the first line of an input and the rest; the [`Line`] that is asked for |
+//! | `two_texts`, `read_game`, `read_game_of` | the texts of a command, a game, the game of an automaton |
+//! | `closed`, `check`, `sim`, `lasso`, `game` | the [`Answer`] of a command that asks no solver, or its [`Refusal`] |
+//! | `print(report, full)` | the answer of a report |
+//! | `settle(outcome)` | an answer of either: what is written, with its exit status |
+//! | `lines_are_read`, `one_answer` | laws: how command lines are read; one answer, but for a solver's choice |
 //!
-//! What an input's answer is stands in the specs, for all commands: `Program` gives one case to each. By `one_answer` it is
-//! determined, but for the choice that a solver has.
+//! What an input's answer is stands in the specs, for all commands: `Program` gives one case to each.
 #![tactic(auto)]
 
 mod answer;

@@ -12,6 +12,10 @@ use std::alloc::{AllocError, Global};
 const DIVIDER: &[u8] = b"%%\n";
 
 /// What is printed of a report.
+///
+/// # Errors
+///
+/// Fails where a growth was refused.
 pub fn print(alloc: Global, report: &Report, full: bool) -> Result<Answer, AllocError>
     ensures { IfOk result (λ answer. reply_of answer ≡ report_reply full report.now) }
 {

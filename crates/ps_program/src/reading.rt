@@ -35,6 +35,10 @@ impl From<AllocError> for InputFault {
 }
 
 /// Reads to the end, and stops at the first read that fails and at the byte past the limit.
+///
+/// # Errors
+///
+/// [`InputFault::Unreadable`] at the first read that fails and at the byte past the limit; else want of memory.
 pub fn read_input<R: Source>(alloc: Global, reader: &mut R) -> Result<Vec<u8>, InputFault>
     requires { R.has_failed reader.old ≡ false }
     ensures read { ReadsInput (R.remaining reader.old) (R.has_failed reader.new) result }

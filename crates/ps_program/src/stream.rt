@@ -1,5 +1,5 @@
-//! What the program reads from and writes to, and what each of the two tells of its faults. Nothing is read or written after
-//! a fault, nor written after a write that took no bytes.
+//! What the program reads from and writes to, and what each of the two tells of its faults. Nothing is read or written
+//! after a fault, nor written after a write that took no bytes.
 
 ghost use Rattle.std.specs.Prelude.{◌≡◌, ℕ, Bool, List, Option, true, false, is_err, IsOk, OnOk};
 ghost use Rattle.std.specs.Io.{ReadsAtMost, WritesAtMost};

@@ -29,6 +29,10 @@ fn missing_text() -> FaultLine
 }
 
 /// Two texts.
+///
+/// # Errors
+///
+/// Fails where a text is missing.
 pub fn two_texts(texts: &[u8]) -> Result<(&[u8], &[u8]), Refusal>
     ensures { Gives (λ parts. (parts.0.now, parts.1.now)) (CutsInTwo texts.now) result }
 {
@@ -39,6 +43,10 @@ pub fn two_texts(texts: &[u8]) -> Result<(&[u8], &[u8]), Refusal>
 }
 
 /// Three texts. A missing one is told before any text is read.
+///
+/// # Errors
+///
+/// Fails where a text is missing.
 pub fn three_texts(texts: &[u8]) -> Result<(&[u8], &[u8], &[u8]), Refusal>
     ensures { Gives (λ parts. (parts.0.now, parts.1.now, parts.2.now)) (CutsInThree texts.now) result }
 {
@@ -51,6 +59,10 @@ pub fn three_texts(texts: &[u8]) -> Result<(&[u8], &[u8], &[u8]), Refusal>
 }
 
 /// A game.
+///
+/// # Errors
+///
+/// Fails with the first cause in the text, and where a growth was refused.
 pub fn read_game(alloc: Global, text: &[u8]) -> Result<NamedGame, Refusal>
     ensures { Gives (λ game. game) (ReadsGameText text.now) result }
 {
@@ -72,6 +84,11 @@ fn read_certificate(alloc: Global, game: &NamedGame, text: &[u8]) -> Result<Cert
 }
 
 /// A game, and a certificate of it.
+///
+/// # Errors
+///
+/// Fails where a text is missing, else with the first cause in the game, else in the certificate; and where a growth
+/// was refused.
 pub fn read_certified(alloc: Global, texts: &[u8]) -> Result<(NamedGame, Certificate), Refusal>
     ensures read { Gives (λ both. (both.0, both.1)) (ReadsCertified texts.now) result }
     ensures fits { IfOk result (λ both. Fits both.0.game both.1) }
@@ -83,6 +100,10 @@ pub fn read_certified(alloc: Global, texts: &[u8]) -> Result<(NamedGame, Certifi
 }
 
 /// A circuit.
+///
+/// # Errors
+///
+/// Fails with the first cause in the text, and where a growth was refused.
 pub fn read_circuit(alloc: Global, text: &[u8]) -> Result<Circuit, Refusal>
     ensures { Gives (λ circuit. circuit) (ReadsCircuitText text.now) result }
 {
@@ -93,6 +114,10 @@ pub fn read_circuit(alloc: Global, text: &[u8]) -> Result<Circuit, Refusal>
 }
 
 /// A stimulus for so many inputs, with a line `-` or without.
+///
+/// # Errors
+///
+/// Fails with the first cause in the text, and where a growth was refused.
 pub fn read_stimulus(
     alloc: Global,
     text: &[u8],
@@ -108,6 +133,11 @@ pub fn read_stimulus(
 }
 
 /// A circuit, and a stimulus for it.
+///
+/// # Errors
+///
+/// Fails where a text is missing, else with the first cause in the circuit, else in the stimulus; and where a growth
+/// was refused.
 pub fn read_simulated(alloc: Global, texts: &[u8]) -> Result<(Circuit, Stimulus), Refusal>
     ensures read { Gives (λ both. (both.0, both.1)) (ReadsSimulated texts.now) result }
     ensures fits { IfOk result (λ both. All (λ letter. length letter ≡ length both.0.inputs) both.1.stem) }

@@ -10,7 +10,8 @@ use crate::stream::{Sink, Source};
 use std::io;
 use std::io::{Read, Stdin, Stdout, Write};
 
-/// A reader of std, with what a call of it may do: since that may be anything, only who makes the call knows what it did.
+/// A reader of std, with what a call of it may do: since that may be anything, only who makes the call knows what it
+/// did.
 pub trait Reader: Read {
     // A call may answer that, and leave that of the reader and of its buffer; nothing is answered where it fails.
     ghost read_gives: { Self → List ℕ → Option ℕ → Self → List ℕ → Type 0 };

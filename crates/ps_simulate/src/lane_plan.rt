@@ -8,22 +8,26 @@ use crate::plan::{Plan, Row, Wire};
 use ps_circuit::Circuit;
 use std::alloc::{AllocError, Global};
 
-/// The two literals that a gate reads. A literal is twice a place in the table of values, and one more where it is negated.
+/// The two literals that a gate reads. A literal is twice a place in the table of values, and one more where it is
+/// negated.
 #[derive(Clone, Copy)]
 pub struct Operands {
+    /// The first literal.
     pub first: u32,
+    /// The second one.
     pub second: u32,
 }
 
-/// What a step works out in all lanes. The gates' values stand behind one another in the order in which they are worked out, so
-/// that a gate needs eight bytes and a step writes its table from the front to the back: a table of lanes is too large to stay
-/// near the processor, and what a step reads and writes there decides its time.
+/// What a step works out in all lanes. The gates' values stand behind one another in the order in which they are worked
+/// out, so that a gate needs eight bytes and a step writes its table from the front to the back: a table of lanes is
+/// too large to stay near the processor, and what a step reads and writes there decides its time.
 #[derive(Drop)]
 pub struct LanePlan {
     /// The places of the table of values.
     pub size: usize,
     /// The places in front of the gates: the constant 0, the inputs and the latches.
     pub front: usize,
+    /// The operands of each gate, in the order in which they are worked out.
     pub gates: Vec<Operands>,
     /// Literals, as in `Operands`.
     pub outputs: Vec<u32>,
@@ -38,6 +42,10 @@ impl LanePlan {
     ghost use Rattle.ps_simulate.specs.declared.plan.Plan.{Plan};
 
     /// The plan of a circuit.
+    ///
+    /// # Errors
+    ///
+    /// Fails where a growth was refused.
     pub fn new(alloc: Global, circuit: &Circuit) -> Result<Self, AllocError>
         ensures plan { IfOk result (λ p. (plan : Plan) × (places : List ℕ) × IsLanePlan circuit.now plan places p) }
         ensures well_formed { IsCircuit circuit.now }
@@ -56,8 +64,8 @@ impl LanePlan {
     }
 }
 
-/// The place to which each place of a table is moved: those in front stay, and the gates' stand behind them in the order of
-/// their rows.
+/// The place to which each place of a table is moved: those in front stay, and the gates' stand behind them in the
+/// order of their rows.
 fn moved_places(
     alloc: Global,
     rows: &[Row],

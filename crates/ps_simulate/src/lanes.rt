@@ -36,6 +36,10 @@ impl<'a> LaneSimulator<'a> {
     ghost use Rattle.ps_simulate.specs.LaneRuns.{StepsInLanes};
 
     /// Starts a circuit 256 times, the latches at their resets.
+    ///
+    /// # Errors
+    ///
+    /// Fails where a growth was refused.
     pub fn new(alloc: Global, circuit: &'a Circuit) -> Result<Self, AllocError>
         ensures circuit { IfOk result (λ s. s.circuit ≡ circuit.now) }
         ensures latches { IfOk result (λ s. (lane : ℕ) → lane < 256 → lane_of s.latches lane ≡ resets circuit.now) }

@@ -11,12 +11,14 @@ ghost use Rattle.ps_simulate.specs.declared.role.Role.{Role};
 
 use ps_circuit::Circuit;
 
-/// A law: for given inputs and latches a circuit has values, and they agree at each literal whose variable is 0 or defined.
+/// A law: for given inputs and latches a circuit has values, and they agree at each literal whose variable is 0 or
+/// defined.
 pub fn circuit_has_one_values()
     ensures { (c : CircuitData) → IsCircuit c → HasOneValues c }
 {}
 
-/// A law: a circuit that takes letters in 256 lanes at once goes in each lane as a plain run goes on that lane's letters.
+/// A law: a circuit that takes letters in 256 lanes at once goes in each lane as a plain run goes on that lane's
+/// letters.
 pub fn lanes_are_plain_runs(circuit: &Circuit)
     ensures { AreLanesPlain circuit.now }
 {
@@ -24,8 +26,8 @@ pub fn lanes_are_plain_runs(circuit: &Circuit)
     circuit_has_one_values();
 }
 
-/// A law: of a circuit with the inputs and the outputs of a role, there is one verdict at most for an automaton, a stem and a
-/// lap.
+/// A law: of a circuit with the inputs and the outputs of a role, there is one verdict at most for an automaton, a stem
+/// and a lap.
 pub fn verdict_is_one()
     ensures { (role : Role) (file : FileData) (c : CircuitData) (stem lap : List (List Bool)) → IsCircuit c → HasSymbols role file.names file.controllable c → HasOneVerdict file c stem lap }
 {

@@ -17,13 +17,20 @@ use std::alloc::{AllocError, Global};
 /// For each proposition the input or the output that has its name.
 #[derive(Drop)]
 pub(crate) struct Naming<'a> {
+    /// The names of the propositions.
     pub names: &'a [Vec<u8>],
+    /// For each proposition the place of the input that has its name, if one has.
     pub inputs: Vec<Option<usize>>,
+    /// For each proposition the place of the output that has its name, if one has.
     pub outputs: Vec<Option<usize>>,
 }
 
 impl<'a> Naming<'a> {
     /// The naming of a circuit of that role, if its symbols are the role's.
+    ///
+    /// # Errors
+    ///
+    /// Fails where a growth was refused.
     pub fn new(
         alloc: Global,
         circuit: &Circuit,
@@ -121,8 +128,8 @@ fn proposition_of(
     None
 }
 
-/// For each proposition the place of the symbol that names it, if the symbols are the names of the propositions that are
-/// controllable (or of those that are not), each once.
+/// For each proposition the place of the symbol that names it, if the symbols are the names of the propositions that
+/// are controllable (or of those that are not), each once.
 fn places_of(
     alloc: Global,
     names: &[Vec<u8>],

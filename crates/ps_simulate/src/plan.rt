@@ -10,25 +10,35 @@ use std::alloc::{AllocError, Global};
 /// A literal of a circuit, by the place of its variable in the table of values.
 #[derive(Clone, Copy)]
 pub struct Wire {
+    /// The place.
     pub place: usize,
+    /// Whether the literal is negated.
     pub is_negated: bool,
 }
 
 /// A gate: the place of its value, and the two literals that it reads.
 #[derive(Clone, Copy)]
 pub struct Row {
+    /// The place of its value.
     pub target: usize,
+    /// The first literal that it reads.
     pub first: Wire,
+    /// The second one.
     pub second: Wire,
 }
 
-/// What a step of a circuit works out: the gates, each behind those that it reads, and then the outputs and the next values of
-/// the latches. Places are those of a table of `size` values: the constant 0, the inputs, the latches and the gates.
+/// What a step of a circuit works out: the gates, each behind those that it reads, and then the outputs and the next
+/// values of the latches. Places are those of a table of `size` values: the constant 0, the inputs, the latches and the
+/// gates.
 #[derive(Drop)]
 pub struct Plan {
+    /// How many places there are.
     pub size: usize,
+    /// The gates, each behind those that it reads.
     pub rows: Vec<Row>,
+    /// The literals of the outputs.
     pub outputs: Vec<Wire>,
+    /// The literals of the latches' next values.
     pub nexts: Vec<Wire>,
 }
 
@@ -36,6 +46,10 @@ impl Plan {
     ghost use Rattle.ps_simulate.specs.Plans.{IsPlan};
 
     /// The plan of a circuit.
+    ///
+    /// # Errors
+    ///
+    /// Fails where a growth was refused.
     pub fn new(alloc: Global, circuit: &Circuit) -> Result<Self, AllocError>
         ensures { IfOk result (IsPlan circuit.now) }
     {

@@ -35,6 +35,10 @@ impl<'a> Simulator<'a> {
     ghost use Rattle.ps_simulate.specs.Plans.{variables};
 
     /// Starts a circuit, its latches at their resets.
+    ///
+    /// # Errors
+    ///
+    /// Fails where a growth was refused.
     pub fn new(alloc: Global, circuit: &'a Circuit) -> Result<Self, AllocError>
         ensures circuit { IfOk result (λ s. s.circuit ≡ circuit.now) }
         ensures latches { IfOk result (λ s. s.latches ≡ resets circuit.now) }

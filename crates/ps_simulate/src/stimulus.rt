@@ -25,8 +25,12 @@ impl Model for Stimulus {
     ghost view = { λ s. record { stem = letters_of s.stem.items; lap = letters_of s.lap.items } };
 }
 
-/// Reads a stimulus: a line of digits for each letter. With `split` a line `-` stands between stem and lap, and without it all
-/// letters are the stem.
+/// Reads a stimulus: a line of digits for each letter. With `split` a line `-` stands between stem and lap, and without
+/// it all letters are the stem.
+///
+/// # Errors
+///
+/// [`StimulusFault::Text`] with the first cause in the text's order, at its byte; else want of memory.
 pub fn parse_stimulus(
     alloc: Global,
     text: &[u8],

@@ -1,17 +1,26 @@
 //! From the text of a deterministic parity automaton to the circuit of the player who wins its game.
 //!
-//! What is promised: unless memory runs out or the circuit would need more variables than can be named, every text that is
-//! accepted gets a report, where the solver is sure. Whatever solver is handed in, a report is right. The game that it prints is
-//! the automaton's. The certificate that it prints gives each vertex of that game to one of the players, who wins every loop of
-//! every play from there by the moves that are printed; no strategy, whatever its memory, wins outside its player's region. The
-//! circuit that it prints is a controller, and the automaton accepts each of its ultimately periodic traces, where player 0 wins
-//! the start; else it is an environment's, and the automaton accepts none of them, nor what any controller of finitely many
-//! states does against it.
+//! What is promised: unless memory runs out or the circuit would need more variables than can be named, every text that
+//! is accepted gets a report, where the solver is sure. Whatever solver is handed in, a report is right. The game that
+//! it prints is the automaton's. The certificate that it prints gives each vertex of that game to one of the players,
+//! who wins every loop of every play from there by the moves that are printed; no strategy, whatever its memory, wins
+//! outside its player's region. The circuit that it prints is a controller, and the automaton accepts each of its
+//! ultimately periodic traces, where player 0 wins the start; else it is an environment's, and the automaton accepts
+//! none of them, nor what any controller of finitely many states does against it.
 //!
-//! [`Problem`] is made of a text, asked for its game, and answered by a certificate of the game. Who has a solver needs no more:
-//! the program asks its own between the two. The stages are here too: `read_automaton` gives the automaton of a text,
-//! `circuit_of_certificate` the circuit of the player who wins the start by a certificate, `report_of` the texts, and
-//! `certificate_text` that of a certificate alone; [`SynthFault`] says why there is no report.
+//! [`Problem`] is made of a text, asked for its game, and answered by a certificate of the game. Who has a solver needs
+//! no more: the program asks its own between the two.
+//!
+//! | Call | What it gives |
+//! |---|---|
+//! | `Problem::read(text, order)` | the problem of an HOA text, or the `SynthFault` for which there is none |
+//! | `Problem::game` | its game, which a solver is to solve |
+//! | `Problem::report(certificate, compact)` | the report by a certificate, which is checked first |
+//! | `Problem::report_of_certified(certificate, compact)` | the same, where it was checked before |
+//! | `read_automaton(text)` | the automaton of a text |
+//! | `circuit_of_certificate` | the circuit of the player who wins the start, by a valid certificate |
+//! | `report_of`, `certificate_text` | the three texts of a report, and that of a certificate alone |
+//! | `SynthFault::number`, `name` | a fault as psyn's list has it |
 #![tactic(auto)]
 
 mod automata;

@@ -32,8 +32,8 @@ use ps_machine::{AutomatonGame, Order};
 use std::alloc::Global;
 use std::marker::Model;
 
-/// A synthesis problem: the automaton of a text, who moves first, and the game that they define. It is solved by a certificate of
-/// the game: that says who wins, and how.
+/// A synthesis problem: the automaton of a text, who moves first, and the game that they define. It is solved by a
+/// certificate of the game: that says who wins, and how.
 #[derive(Drop)]
 pub struct Problem {
     order: Order,
@@ -56,7 +56,8 @@ impl Problem {
     ///
     /// # Errors
     ///
-    /// The first cause for which the text is refused, or else why its file has no automaton. Fails also where a growth was refused.
+    /// The first cause for which the text is refused, or else why its file has no automaton. Fails also where a growth
+    /// was refused.
     pub fn read(alloc: Global, text: &[u8], order: Order) -> Result<Problem, SynthFault>
         ensures problem { IfOk result (IsProblemOf order text.now) }
         ensures refused { IfErr result (IsTextFault text.now) }
@@ -79,12 +80,13 @@ impl Problem {
         &self.game.game
     }
 
-    /// The report by a certificate of the game, with all counts or as a compact text: who wins, and the winner's circuit.
+    /// The report by a certificate of the game, with all counts or as a compact text: who wins, and the winner's
+    /// circuit.
     ///
     /// # Errors
     ///
-    /// `NotCertified` where the certificate does not fit the game or is not valid, and else that the circuit is too large. Fails
-    /// also where a growth was refused.
+    /// `NotCertified` where the certificate does not fit the game or is not valid, and else that the circuit is too
+    /// large. Fails also where a growth was refused.
     pub fn report(
         &self,
         alloc: Global,

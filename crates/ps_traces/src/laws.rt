@@ -31,9 +31,9 @@ ghost use Rattle.ps_traces.specs.Meetings.{FiniteController, IsController, IsOne
 use ps_machine::lassos_won;
 use ps_simulate::circuit_has_one_values;
 
-/// Of a circuit that has values, every input that repeats goes on in a lasso trace: for a stem and a lap, not empty, of letters of
-/// the circuit's width there are such numbers of laps, each at least 1, that a lasso trace reads the stem and the first ones, and
-/// then the others again and again.
+/// Of a circuit that has values, every input that repeats goes on in a lasso trace: for a stem and a lap, not empty, of
+/// letters of the circuit's width there are such numbers of laps, each at least 1, that a lasso trace reads the stem
+/// and the first ones, and then the others again and again.
 pub fn every_input_goes_on()
     ensures { (c : CircuitData) → HasOneValues c → EachInputGoesOn c }
 {}
@@ -83,8 +83,8 @@ pub fn circuit_answers()
     circuit_has_one_values();
 }
 
-/// So a valid certificate of an automaton's game makes a controller whose lasso traces the automaton all accepts, or an environment
-/// whose lasso traces it all rejects, as vertex 0 is the one's or the other's.
+/// So a valid certificate of an automaton's game makes a controller whose lasso traces the automaton all accepts, or an
+/// environment whose lasso traces it all rejects, as vertex 0 is the one's or the other's.
 pub fn certified_circuit_answers()
     ensures { (file : FileData) (chain : Chain) (a : AutomatonData) (order : Order) (keys : List Key) (game : ParityGame) (certificate : CertificateData) (m : Behaviour) (c : CircuitData) →
         IsBuiltFrom file chain a → IsGameOf (board_of order a) (mover_of order) keys game → Fits game certificate → IsValid game certificate →

@@ -20,8 +20,8 @@ use std::alloc::{AllocError, Global};
 ///
 /// # Errors
 ///
-/// The solver's fault, or `NotCertified` where its certificate does not fit or is not valid. A sure solver fails for want of
-/// memory alone.
+/// The solver's fault, or `NotCertified` where its certificate does not fit or is not valid. A sure solver fails for
+/// want of memory alone.
 pub fn certified(
     alloc: Global,
     game: &NamedGame,

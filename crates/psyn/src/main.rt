@@ -1,4 +1,13 @@
 //! psyn: reads a command and its texts from standard input, and writes the answer.
+//!
+//! | Call | What it gives |
+//! |---|---|
+//! | `synthesis::synthesise` | the report of an HOA text by a solver that is handed in: the whole promise |
+//! | `certifying::certified` | what a solver gives for a game, checked |
+//! | `run::run` | reads the whole input, writes the answer to it, and gives the exit status |
+//! | `program::answer_to` | the answer to an input |
+//! | `memory::run_in_memory` | the same program over bytes |
+//! | `commands::solve`, `cert`, `synth` | the commands that ask a solver; the others are those of `ps_program` |
 #![tactic(auto)]
 
 ghost use Rattle.std.specs.Prelude.{◌≡◌, ℕ, true, List, [], Option, Some, Result};

@@ -12,6 +12,10 @@ use std::alloc::{AllocError, Global};
 use std::io;
 
 /// What the program answers to an input, or the want of memory for it.
+///
+/// # Errors
+///
+/// Fails where a growth was refused.
 pub fn run_in_memory(
     alloc: Global,
     input: &[u8],

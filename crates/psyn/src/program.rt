@@ -15,8 +15,12 @@ use ps_program::{
 };
 use std::alloc::{AllocError, Global};
 
-/// The answer to an input: to its first line, and to the texts behind it. The second solver is for certificates that the
-/// input holds.
+/// The answer to an input: to its first line, and to the texts behind it. The second solver is for certificates that
+/// the input holds.
+///
+/// # Errors
+///
+/// Fails where a growth was refused. Every other fault is an answer.
 pub fn answer_to(
     alloc: Global,
     input: &[u8],

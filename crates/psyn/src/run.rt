@@ -16,10 +16,9 @@ use std::alloc::Global;
 
 /// Reads the whole input, writes the answer to it, and gives the exit status.
 ///
-/// It stops reading at the first read that fails and at the byte past `INPUT_LIMIT`. Nothing is
-/// written after a write or a flush that failed, or after a write that took no bytes; the status is
-/// then 1, and what went out is a beginning of the answer. The first solver solves games; the second is for certificates
-/// that the input holds.
+/// It stops reading at the first read that fails and at the byte past `INPUT_LIMIT`. Nothing is written after a write
+/// or a flush that failed, or after a write that took no bytes; the status is then 1, and what went out is a beginning
+/// of the answer. The first solver solves games; the second is for certificates that the input holds.
 pub fn run<R: Source, W: Sink>(
     alloc: Global,
     reader: &mut R,

@@ -13,13 +13,13 @@ use ps_machine::{Order, Solver};
 use ps_synthesis::{Problem, Report, SynthFault};
 use std::alloc::Global;
 
-/// The report of an HOA text: the game of its automaton in that order of moves, a certificate of it by the solver that is handed
-/// in, with all counts or as a compact text, and the circuit of the player who wins the start.
+/// The report of an HOA text: the game of its automaton in that order of moves, a certificate of it by the solver that
+/// is handed in, with all counts or as a compact text, and the circuit of the player who wins the start.
 ///
 /// # Errors
 ///
-/// In this order: the first cause for which the text is refused; why its automaton is; the solver's fault, or that its certificate
-/// does not fit or is not valid; that the circuit is too large. Fails also where a growth was refused.
+/// In this order: the first cause for which the text is refused; why its automaton is; the solver's fault, or that its
+/// certificate does not fit or is not valid; that the circuit is too large. Fails also where a growth was refused.
 pub fn synthesise(
     alloc: Global,
     text: &[u8],

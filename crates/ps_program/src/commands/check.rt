@@ -14,6 +14,11 @@ use ps_game::NamedGame;
 use std::alloc::Global;
 
 /// Whether each path that follows the certificate's moves stays in its region.
+///
+/// # Errors
+///
+/// Fails where a text is missing, else with the first cause in the game, else in the certificate, else with its first
+/// flaw; and where a growth was refused.
 pub fn closed(alloc: Global, texts: &[u8]) -> Result<Answer, Refusal>
     ensures { Gives reply_of (AnswersClosed texts.now) result }
 {
@@ -23,6 +28,10 @@ pub fn closed(alloc: Global, texts: &[u8]) -> Result<Answer, Refusal>
 }
 
 /// Whether the certificate is valid.
+///
+/// # Errors
+///
+/// As for `closed`; flaws of counts come last.
 pub fn check(alloc: Global, texts: &[u8]) -> Result<Answer, Refusal>
     ensures { Gives reply_of (AnswersCheck texts.now) result }
 {

@@ -17,6 +17,10 @@ use ps_machine::{Order, game_of};
 use std::alloc::Global;
 
 /// The text of the game of an automaton, in that order of moves.
+///
+/// # Errors
+///
+/// As for `read_game_of`.
 pub fn game(alloc: Global, order: Order, text: &[u8]) -> Result<Answer, Refusal>
     ensures { Gives reply_of (AnswersGameText order text.now) result }
 {
@@ -25,6 +29,11 @@ pub fn game(alloc: Global, order: Order, text: &[u8]) -> Result<Answer, Refusal>
 }
 
 /// The game of the automaton of an HOA text.
+///
+/// # Errors
+///
+/// Fails with the first cause for which the text is refused, else where its file has no automaton; and where a growth
+/// was refused.
 pub fn read_game_of(alloc: Global, order: Order, text: &[u8]) -> Result<NamedGame, Refusal>
     ensures game { Gives (λ game. game) (ReadsGameOf order text.now) result }
     ensures some { IfOk result (λ game. 0 < vertex_count game.game) }

@@ -13,6 +13,11 @@ use ps_simulate::{Simulator, Stimulus};
 use std::alloc::{AllocError, Global};
 
 /// What a circuit does, letter by letter.
+///
+/// # Errors
+///
+/// Fails where a text is missing, else with the first cause in the circuit, else in the stimulus; and where a growth
+/// was refused.
 pub fn sim(alloc: Global, texts: &[u8]) -> Result<Answer, Refusal>
     ensures { Gives reply_of (AnswersSim texts.now) result }
 {

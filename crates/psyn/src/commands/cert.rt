@@ -11,6 +11,10 @@ use ps_program::{Answer, Refusal, read_game_of};
 use std::alloc::Global;
 
 /// The text of a certificate of the game of an automaton, in that order of moves.
+///
+/// # Errors
+///
+/// Fails with the first cause for which the text is refused, else where its file has no automaton, else as `certify`.
 pub fn cert(
     alloc: Global,
     order: Order,

@@ -13,6 +13,10 @@ use ps_synthesis::certificate_text;
 use std::alloc::Global;
 
 /// A certificate of the game of a text: who wins each vertex, by which moves.
+///
+/// # Errors
+///
+/// Fails with the first cause in the text, else as `certify`.
 pub fn solve(
     alloc: Global,
     text: &[u8],
@@ -26,6 +30,11 @@ pub fn solve(
 }
 
 /// The text of a certificate of a game.
+///
+/// # Errors
+///
+/// Fails with the solver's fault, else where its certificate does not fit or is not valid; and where a growth was
+/// refused.
 pub fn certify(
     alloc: Global,
     game: &NamedGame,

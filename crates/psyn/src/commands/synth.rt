@@ -15,6 +15,10 @@ use ps_program::{Answer, Refusal, SynthLine, print, two_texts};
 use std::alloc::{AllocError, Global};
 
 /// The circuit of the automaton of a text. The second solver is fed the certificate that stands behind the text.
+///
+/// # Errors
+///
+/// Fails where a text is missing, else with the fault for which there is no report; and where a growth was refused.
 pub fn synth(
     alloc: Global,
     asked: SynthLine,
