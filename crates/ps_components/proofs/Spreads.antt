@@ -5,7 +5,7 @@ use Rattle.std.proofs.lemmas.Bool.{cases_lt, cases_eq}
 use Rattle.ps_components.specs.declared.trail.Step.{Step}
 use Rattle.ps_components.specs.Graphs.{Digraph, Link, SameOrWay, Way, last, next}
 use Rattle.ps_components.specs.Trails.{IsTrail}
-use Rattle.ps_components.specs.Spreading.{IsSpread, KeepsSteps, KeepsSeen, unseen}
+use Rattle.ps_components.specs.Spreading.{IsSpread, AreApart, KeepsSteps, KeepsSeen, unseen}
 use Rattle.ps_components.proofs.Places.{slice_get-append_left, slice_get-push, slice_get-push_cases, slice_get-set_same, slice_get-set_other}
 
 pub unseen-set : (seen : List Bool) (v : ℕ) → slice_get seen v ≡ Some false → suc (unseen (set seen v true)) ≡ unseen seen
@@ -34,6 +34,10 @@ module _ (g : Digraph) (seen : List Bool) (steps : List Step) (place to : ℕ) (
   pub keeps-steps : KeepsSteps steps steps'
   keeps-steps i t h = slice_get-append_left steps _ i t h
 
+  -- no step has the vertex yet
+  fresh : (i : ℕ) (t : Step) → slice_get steps i ≡ Some t → t.item ≡ to → ⊥
+  fresh i t h e = let was = subst (λ x. slice_get seen x ≡ Some true) e (s.seen_steps i t h) in cc
+
   pub reach-spread : (r : Step) → slice_get steps place ≡ Some r → Link g r.item to → IsSpread g seen' steps' place
   reach-spread r at l = record {
     within = s.within;
@@ -42,6 +46,16 @@ module _ (g : Digraph) (seen : List Bool) (steps : List Step) (place to : ℕ) (
       | inl k ↦ (let b = s.back i t pos k in (b.0, b.1, keeps-steps t.from b.0 b.2, b.3))
       | inr k ↦ (let from_is : place ≡ t.from = ap (λ x. x.from) k.1 in let item_is : to ≡ t.item = ap (λ x. x.item) k.1 in
           (r, omega (arith, slice_get_within steps place r at, k.0, from_is), subst (λ x. slice_get steps' x ≡ Some r) from_is (keeps-steps place r at), subst (λ x. Link g r.item x) item_is l))
+    ];
+    apart = λ i j t u hi hj e. elim (slice_get-push_cases steps _ i t hi) [
+      | inl ki ↦ elim (slice_get-push_cases steps _ j u hj) [
+        | inl kj ↦ s.apart i j t u ki kj e
+        | inr kj ↦ absurd (fresh i t ki (e ∙ sym (ap (λ x. x.item) kj.1)))
+      ]
+      | inr ki ↦ elim (slice_get-push_cases steps _ j u hj) [
+        | inl kj ↦ absurd (fresh j u kj (sym e ∙ sym (ap (λ x. x.item) ki.1)))
+        | inr kj ↦ ki.0 ∙ sym kj.0
+      ]
     ];
     reached = λ v h. elim (cases_eq v to) [
       | inl e ↦ (length steps, record { item = to; from = place }, slice_get-push steps _, sym e)
@@ -63,6 +77,7 @@ next-spread g seen steps place r s at all = record {
   within = s.within;
   counted = s.counted;
   back = s.back;
+  apart = s.apart;
   reached = s.reached;
   seen_steps = s.seen_steps;
   looked = λ i w t lt h m. elim (cases_lt i place) [
@@ -84,10 +99,10 @@ way-seen g seen steps place v w s all h (inr way) = along v w way h
     along v w (next {j = x} l y) h = along x w y (step v x l h)
 
 pub trail-one : (g : Digraph) (end : ℕ) → IsTrail g (end ∷ []) end end
-trail-one g end = record { first = refl; last = refl; links = λ i v w h k. absurd (omega (arith, slice_get_within (end ∷ []) (i + 1) w k)) }
+trail-one g end = record { first = refl; last = refl; links = λ i v w h k. absurd (omega (arith, slice_get_within (end ∷ []) (i + 1) w k)); once = λ i j v h k. omega (arith, slice_get_within (end ∷ []) i v h, slice_get_within (end ∷ []) j v k) }
 
-pub trail-more : (g : Digraph) (items : List ℕ) (end at to : ℕ) → IsTrail g items end at → Link g to at → IsTrail g (items ++ to ∷ []) end to
-trail-more g items end at to t l = record {
+pub trail-more : (g : Digraph) (items : List ℕ) (end at to : ℕ) → IsTrail g items end at → Link g to at → ((i : ℕ) → slice_get items i ≡ Some to → ⊥) → IsTrail g (items ++ to ∷ []) end to
+trail-more g items end at to t l new = record {
   first = slice_get-append_left items _ 0 end t.first;
   last = (let e : length items ≡ length (items ++ to ∷ []) - 1 = omega (arith, length-append items (to ∷ [])) in subst (λ x. slice_get (items ++ to ∷ []) x ≡ Some to) e (slice_get-push items to));
   links = λ i v w h k. elim (slice_get-push_cases items to i v h) [
@@ -101,8 +116,24 @@ trail-more g items end at to t l = record {
     ]
     | inr a ↦ absurd (omega (arith, a.0, slice_get_within (items ++ to ∷ []) (i + 1) w k, length-append items (to ∷ [])))
   ];
+  once = λ i j v h k. elim (slice_get-push_cases items to i v h) [
+    | inl a ↦ elim (slice_get-push_cases items to j v k) [
+      | inl b ↦ t.once i j v a b
+      | inr b ↦ absurd (new i (subst (λ x. slice_get items i ≡ Some x) (sym b.1) a))
+    ]
+    | inr a ↦ elim (slice_get-push_cases items to j v k) [
+      | inl b ↦ absurd (new j (subst (λ x. slice_get items j ≡ Some x) (sym a.1) b))
+      | inr b ↦ a.0 ∙ sym b.0
+    ]
+  ];
 }
 
 -- the item of a step is a vertex
 pub step-within : (g : Digraph) (seen : List Bool) (steps : List Step) (place i : ℕ) (r : Step) → IsSpread g seen steps place → slice_get steps i ≡ Some r → r.item < g.count
 step-within g seen steps place i r s h = omega (arith, s.counted, slice_get_within seen r.item true (s.seen_steps i r h))
+
+-- the vertices of a trail are those of steps from a place on; that of a step before it is none of them
+pub trail-new : (steps : List Step) (items : List ℕ) (at place : ℕ) (r : Step) → AreApart steps → ((k v : ℕ) → slice_get items k ≡ Some v → (i : ℕ) × (s : Step) × (at ≤ i) × (slice_get steps i ≡ Some s) × (s.item ≡ v)) → place < at → slice_get steps place ≡ Some r → (k : ℕ) → slice_get items k ≡ Some r.item → ⊥
+trail-new steps items at place r apart placed lt here k h =
+    let p = placed k r.item h in
+    omega (arith, lt, p.2, apart p.0 place p.1 r p.3 here p.4)

@@ -2,8 +2,9 @@
 use Rattle.std.specs.Prelude.{◌≡◌, ℕ, ◌+◌, ◌-◌, List, length, slice_get, Some}
 use Rattle.ps_components.specs.Graphs.{Digraph, Link}
 
--- a list from this vertex to that one, whose vertices are each linked to by the next one
+-- a list of different vertices, from this one to that one, of which each is linked to by the next one
 pub record IsTrail (g : Digraph) (items : List ℕ) (end start : ℕ) : Type 0 where
   pub first : slice_get items 0 ≡ Some end
   pub last : slice_get items (length items - 1) ≡ Some start
   pub links : (i v w : ℕ) → slice_get items i ≡ Some v → slice_get items (i + 1) ≡ Some w → Link g w v
+  pub once : (i j v : ℕ) → slice_get items i ≡ Some v → slice_get items j ≡ Some v → i ≡ j

@@ -3,7 +3,7 @@
 ghost use Rattle.std.specs.Prelude.{◌≡◌, ℕ, ◌+◌, ◌<◌, ◌≤◌, length, slice_get, true, Some, OnOk, IfOk, IfSome, IfNone};
 ghost use Rattle.ps_components.specs.Graphs.{SameOrWay, Link};
 ghost use Rattle.ps_components.specs.Trails.{IsTrail};
-ghost use Rattle.ps_components.specs.Spreading.{IsSpread, ComeBack, KeepsSteps, KeepsSeen, unseen};
+ghost use Rattle.ps_components.specs.Spreading.{IsSpread, ComeBack, AreApart, KeepsSteps, KeepsSeen, unseen};
 ghost use Rattle.ps_components.specs.declared.trail.Step.{Step};
 
 use crate::graph::Graph;
@@ -23,7 +23,7 @@ struct Spread {
     steps: Vec<Step>,
 }
 
-/// A trail from the end of a way back to its start, if there is a way from the start to the end.
+/// A trail from the end of a way back to its start, each vertex once, if there is a way from the start to the end.
 ///
 /// # Errors
 ///
@@ -116,6 +116,7 @@ fn trail_from<G: Graph>(
 ) -> Result<Vec<usize>, AllocError>
     requires place { place < length steps.now }
     requires back { ComeBack (G.graph graph.now) steps.now }
+    requires apart { AreApart steps.now }
     ensures { (e s : Step) → slice_get steps.now place ≡ Some e → slice_get steps.now 0 ≡ Some s → IfOk result (λ trail. IsTrail (G.graph graph.now) trail.items e.item s.item) }
 {
     let mut items = Vec::new(alloc);
