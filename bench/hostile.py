@@ -4,13 +4,13 @@
   bench/hostile.py PSYN [--only KIND,..] [--commands COMMAND,..] [--seconds N] [--mebibytes N] [--stack KIBIBYTES]
 
 hostile_texts.py says what the kinds are; most texts have 16 MiB. Each is run through each command that takes it, with a stack of
-1,024 KiB, with at most 2,048 MiB of memory (more is refused), and for at most 60 seconds of processor time, if nothing else is
+1,024 KiB, with at most 1,024 MiB of memory (more is refused), and for at most 60 seconds of processor time, if nothing else is
 given. A line for each run has its kind and its number within the kind, the command, the seconds of processor time and by the
 clock, the most memory held (MB), the bytes of the answer, the status and the answer's first line. Behind it stands, where it is so:
 
   LARGER    want of memory is the answer that is due: the answer, or counts that it has by definition, are larger
   SLOW      more than 10 seconds of processor time
-  LARGE     more than 2 GiB: want of memory, which is not due
+  LARGE     more than 1 GiB: want of memory, which is not due
   ENDED     it ended by a signal, or with a status that psyn does not have: always wrong, but for a run that was ended for its time
 
 The last line counts them. The status is 1 where a run is ENDED, or where one that is LARGER ends in another answer."""
@@ -124,7 +124,7 @@ def main():
     parser.add_argument("--only", default="")
     parser.add_argument("--commands", default="")
     parser.add_argument("--seconds", type=int, default=60)
-    parser.add_argument("--mebibytes", type=int, default=2048)
+    parser.add_argument("--mebibytes", type=int, default=1024)
     parser.add_argument("--stack", type=int, default=1024)
     given = parser.parse_args()
     wanted = given.only.split(",") if given.only else [kind.__name__ for kind in KINDS]

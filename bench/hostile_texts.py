@@ -93,6 +93,14 @@ def equal_edges():
     return on_automata(filled(head(propositions(2), [1], "1 Inf(0)") + "State: 0\n", row, "--END--\n"))
 
 
+def marks():
+    """One state with an edge for each of 131,072 letters, all to one state, whose marks meet in a table with a fixed seed."""
+    masks = map(int, colliding(1 << 17, 17, 1 << 60, 0))
+    row = ("[" + "&".join(f"{'!' * (1 - (k >> b) % 2)}{b}" for b in range(17)) + f"] 0 {{{' '.join(str(s) for s in range(64) if mask >> s & 1)}}}\n"
+           for k, mask in enumerate(masks))
+    return on_automata(filled(head(propositions(17), [16], "64 t") + "State: 0\n", row, "--END--\n"))
+
+
 def inputs():
     """64 inputs, of which each of 65,535 states reads one."""
     rows = (f"State: {q} [{q % 64}] {(q + 1) % 65535} {{0}} [!{q % 64}] {(q * 5 + 2) % 65535}\n" for q in range(65535))
@@ -148,12 +156,12 @@ def vertices():
     return on_games(filled("", (f"{v} {v % 7} {v % 2} {v},{max(v - 1, 0)},{v // 2};\n" for v in range(SIZE)), ""))
 
 
-def colliding(count, bits, most):
-    """Numbers that the tables of the toolchain put into one place."""
+def colliding(count, bits, most, *first):
+    """Numbers that the tables of the toolchain put into one place, alone or behind a first number."""
     with tempfile.TemporaryDirectory() as room:
         program = os.path.join(room, "colliding")
         subprocess.run(["cc", "-O2", "-o", program, os.path.join(os.path.dirname(os.path.abspath(__file__)), "colliding.c")], check=True)
-        found = subprocess.run([program, str(count), str(bits), str(most)], capture_output=True, check=True)
+        found = subprocess.run([program, *map(str, (count, bits, most, *first))], capture_output=True, check=True)
     return found.stdout.decode().split()
 
 
@@ -307,6 +315,6 @@ def first_lines():
 
 
 KINDS = (
-    label, wide_label, twined_label, condition, states, edges, equal_edges, inputs, cascades, nesting, comments, names, vertices, ids, priorities,
+    label, wide_label, twined_label, condition, states, edges, equal_edges, marks, inputs, cascades, nesting, comments, names, vertices, ids, priorities,
     fan, ladder, names_of_games, certificates, gates, latches, wires, variables, stimuli, letters_and_gates, counting, inputs_at_the_limit, first_lines,
 )
