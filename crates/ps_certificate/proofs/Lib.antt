@@ -21,3 +21,4 @@ pub mod TextLaws
 pub mod Told
 pub mod Windows
 pub mod Writing
+mod OneWinner

@@ -1,8 +1,8 @@
 //! Laws on certificates. Each is the contract of a function that does nothing.
 
-ghost use Rattle.std.specs.Prelude.{◌≡◌};
-ghost use Rattle.ps_game.specs.Games.{ParityGame, IsGame};
-ghost use Rattle.ps_certificate.specs.Certificates.{CertificateData, Fits, IsClosed, IsValid, IsFirstFlaw};
+ghost use Rattle.std.specs.Prelude.{◌≡◌, ◌<◌, ℕ};
+ghost use Rattle.ps_game.specs.Games.{ParityGame, IsGame, owner_of, vertex_count};
+ghost use Rattle.ps_certificate.specs.Certificates.{CertificateData, Fits, IsClosed, IsValid, IsFirstFlaw, winner_of};
 ghost use Rattle.ps_certificate.specs.declared.flaw.Flaw.{Flaw};
 ghost use Rattle.ps_certificate.specs.Regions.{BothKeep, BothHold, NoneWinsOutside};
 
@@ -19,6 +19,13 @@ pub fn valid_regions_are_held()
 /// No strategy wins outside the region that a valid certificate gives its player.
 pub fn no_strategy_wins_outside()
     ensures { (game : ParityGame) (certificate : CertificateData) → IsGame game → Fits game certificate → IsValid game certificate → NoneWinsOutside game certificate }
+{}
+
+/// Valid certificates of a game, whose vertices belong to the two players, give each vertex the same winner.
+pub fn winners_are_one()
+    ensures { (game : ParityGame) (one other : CertificateData) → ((v : ℕ) → v < vertex_count game → owner_of game v < 2) →
+        Fits game one → IsValid game one → Fits game other → IsValid game other →
+        (v : ℕ) → v < vertex_count game → winner_of one v ≡ winner_of other v }
 {}
 
 /// A certificate has one first flaw at most.

@@ -47,6 +47,7 @@ pub use fitted::fits;
 pub use flaw::Flaw;
 pub use laws::{
     closed_regions_are_kept, first_flaw_is_one, no_strategy_wins_outside, valid_regions_are_held,
+    winners_are_one,
 };
 pub use text::{certificate_text_has_one_answer, read};
 pub use writer::{write, write_compact};
