@@ -16,3 +16,5 @@ pub mod Drafting
 pub mod Building
 pub mod ChainSets
 pub mod OneRefusal
+mod Deciding
+mod Existing

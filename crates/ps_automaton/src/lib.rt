@@ -37,5 +37,5 @@ mod union;
 
 pub use automaton::Automaton;
 pub use fault::AutomatonFault;
-pub use laws::{greatest_level_decides, refusal_is_one};
+pub use laws::{automaton_is_there, greatest_level_decides, refusal_is_one};
 pub use step::Step;
