@@ -1,10 +1,6 @@
 pub mod Counts
 pub mod Edges
-pub mod Exact
-pub mod ExactLines
-pub mod ExactPairs
-pub mod ExactText
-pub mod Finding
+pub mod EntrySteps
 pub mod FirstFlaws
 pub mod Fitting
 pub mod Holding
@@ -17,8 +13,9 @@ pub mod Numerals
 pub mod OneFlaw
 pub mod OneReading
 pub mod PairLoops
+pub mod PairSteps
+pub mod Steps
 pub mod TextLaws
-pub mod Told
 pub mod Windows
 pub mod Writing
 mod OneWinner

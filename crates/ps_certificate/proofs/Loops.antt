@@ -1,85 +1,251 @@
 -- What a loop of the reader has read, and what it still reads.
-use Rattle.std.proofs.Common.{◌≡◌, ℕ, suc, ◌+◌, ◌-◌, ◌<◌, ◌≤◌, Bool, List, [], ◌∷◌, ◌++◌, length, get_or, drop, true, false, Result, Ok, Err, refl, sym, ap, ◌∙◌, append_assoc, arith}
+--     fails      the exit of a `?`, where the part's first fault was found
+--     word_next, word_fails, word_ends      a word, byte by byte
+--     priorities_next, priorities_fail, priorities_end      the numbers of a line of priorities
+--     Listing      what is left is read, behind a front of a list
+use Rattle.std.proofs.Common.{◌≡◌, ℕ, suc, ◌+◌, ◌-◌, ◌<◌, ◌≤◌, Bool, true, false, not, eqb, List, [], ◌∷◌, ◌++◌, length, get_or, drop, Option, Some, None, Result, Ok, Err, IsErrAnd, refl, sym, ap, subst, ◌∙◌, append_assoc, arith}
+use Rattle.std.specs.Prelude.{slice_get}
+use Rattle.std.specs.Option.{option_eq}
+use Rattle.std.proofs.lemmas.Bool.{eq-eqb, eqb-true}
 use Rattle.std.proofs.lemmas.List.{append-nil, drop_more, drop_all}
+use Rattle.ps_text.specs.Answers.{Stream, Found}
+use Rattle.ps_text.specs.Parts.{then_by, many, mapped}
+use Rattle.ps_text.specs.Readers.{Reads, Stops, Goes, Carries}
+use Rattle.ps_text.specs.Faults.{found_of}
+use Rattle.ps_text.proofs.Laws.{Joint}
+use Rattle.ps_text.proofs.Simple.{laws_mapped}
+use Rattle.ps_text.proofs.Covered.{enters_then}
+use Rattle.ps_text.proofs.Exits.{exits, reads_give, reads_mapped, reads_then, stops_mapped, stops_first, stops_behind, carries_then, carries_stops}
+use Rattle.ps_text.proofs.Branches.{many_ends, many_fails, reads_shrinks}
+use Rattle.ps_certificate.specs.declared.fault.CertCause.{CertCause}
 use Rattle.ps_certificate.specs.Faults.{CertFault}
-use Rattle.ps_text.specs.declared.faults.Fault.TheVariants.{Text, OutOfMemory}
+use Rattle.ps_certificate.specs.Certificates.{EntryData}
 use Rattle.ps_certificate.specs.Places.{Place}
-use Rattle.ps_certificate.specs.declared.fault.CertCause.TheVariants.{OtherGame}
-use Rattle.ps_certificate.specs.Reading.{Fault, ◌>>=◌, Fails, KnownData, comes, byte_at, number_at, exactly_at, priorities_at, counts_at, entries_at, entry_at}
+use Rattle.ps_certificate.specs.Reading.{at_place, Tells, comes}
+use Rattle.ps_certificate.specs.Texts.{Seen, Field, pieces_at, causes, byte, word, number, Never, NotNext, priority, priorities, counts, entry, entries}
+use Rattle.ps_certificate.proofs.NumberPart.{laws_number}
+use Rattle.ps_certificate.proofs.TextLaws.{tight_joint, loose_joint, digit_no_space, laws_byte, laws_word, laws_priority, joint_priorities, laws_counts, loose_then, laws_entry, laws_entries}
+use Rattle.ps_certificate.proofs.Steps.{avoids, enters_byte}
 
--- what was read before, and what is still read
-abbrev pub with_front : {A : Type 0} → List A → Result (List A × Place) Fault → Result (List A × Place) Fault
-with_front front read = read >>= λ x. Ok (front ++ x.0, x.1)
+pub fails : {V X : Type 0} (view : X → V) (P : Field V) (old new : Place) (e : CertFault) (r : Result X CertFault)
+    → Stops causes P (at_place old) (found_of e) → IsErrAnd r (λ y. y ≡ e) → Tells view P old r new
+fails view P old new e r s i = exits found_of causes view P (at_place old) (at_place new) e r s i
 
--- a fault of the first step is a fault of the whole
-pub fails_first : {A B : Type 0} (e : CertFault) (first : Result A Fault) (next : A → Result B Fault) → Fails e first → Fails e (first >>= next)
-fails_first OutOfMemory first next h = tt
-fails_first (Text cause offset) first next h = rw h refl
+pub pieces_long : (at : ℕ) (bytes : List ℕ) → length (pieces_at at bytes) ≡ length bytes
+pieces_long at [] = refl
+pieces_long at (b ∷ bytes) = ap suc (pieces_long (at + 1) bytes)
 
-pub fails_same : {A : Type 0} (e : CertFault) (read total : Result A Fault) → read ≡ total → Fails e read → Fails e total
-fails_same OutOfMemory read total same h = tt
-fails_same (Text cause offset) read total same h = sym same ∙ h
+-- a part that is never empty leaves fewer bytes
+pub fewer : {V : Type 0} (P : Field V) (old new : Place) (v : V) → ((w : V) → P.IsText [] w → ⊥)
+    → Reads P (at_place old) v (at_place new) → length new.rest < length old.rest
+fewer P old new v null m = let less = reads_shrinks null m in
+    omega (arith, less, pieces_long new.at new.rest, pieces_long old.at old.rest)
 
--- one more element was read
-pub goes_on : {A : Type 0} (front : List A) (step : Result (A × Place) Fault) (more : Place → Result (List A × Place) Fault) (a : A) (next : Place) (total : Result (List A × Place) Fault)
-    → step ≡ Ok (a, next) → with_front front (step >>= λ x. with_front (x.0 ∷ []) (more x.1)) ≡ total → with_front (front ++ a ∷ []) (more next) ≡ total
-goes_on {A} front step more a next total h so_far =
-    let one : with_front front (step >>= λ x. with_front (x.0 ∷ []) (more x.1)) ≡ with_front (front ++ a ∷ []) (more next) = rw h (regroup front a (more next)) in
-    sym one ∙ so_far
-  where
-    regroup : (front : List A) (a : A) (read : Result (List A × Place) Fault) → with_front front (with_front (a ∷ []) read) ≡ with_front (front ++ a ∷ []) read
-    regroup front a (Ok x) = ap (λ (xs : List A). Ok (xs, x.1)) (simp append_assoc)
-    regroup front a (Err f) = refl
+-- ## Words
 
-pub stops : {A : Type 0} (e : CertFault) (front : List A) (step : Result (A × Place) Fault) (more : Place → Result (List A × Place) Fault) (total : Result (List A × Place) Fault)
-    → Fails e step → with_front front (step >>= λ x. with_front (x.0 ∷ []) (more x.1)) ≡ total → Fails e total
-stops OutOfMemory front step more total h so_far = tt
-stops {A} (Text cause offset) front step more total h so_far =
-    let one : with_front front (step >>= λ x. with_front (x.0 ∷ []) (more x.1)) ≡ Err (cause, offset) = rw h refl in
-    sym so_far ∙ one
+module _ (text : List ℕ) (i : ℕ) (start now : Stream Seen)
+    (k : Carries causes (word text) start (word (drop i text)) now) where
+  abbrev joint_word : Joint (byte (get_or text i 0)) (λ _. word (drop (i + 1) text))
+  joint_word = tight_joint (laws_byte (get_or text i 0)) (λ _. laws_word (drop (i + 1) text))
 
-pub is_done : {A : Type 0} (front : List A) (place : Place) (total : Result (List A × Place) Fault) → with_front front (Ok ([], place)) ≡ total → total ≡ Ok (front, place)
-is_done {A} front place total so_far = sym so_far ∙ ap (λ (xs : List A). Ok (xs, place)) (append-nil front)
+  left : i < length text → Carries causes (word text) start (word (get_or text i 0 ∷ drop (i + 1) text)) now
+  left lt = subst (λ z. Carries causes (word text) start (word z) now) (drop_more text i 0 lt) k
 
--- ---- a line of priorities
+  pub word_next : i < length text → (next : Stream Seen) → Reads (byte (get_or text i 0)) now tt next
+      → Carries causes (word text) start (word (drop (i + 1) text)) next
+  word_next lt next m = carries_then causes joint_word (left lt) m
 
-pub priority_missing : (ps : List ℕ) (i : ℕ) (place : Place) → i < length ps → comes 10 place.rest ≡ true → priorities_at (drop i ps) place ≡ Err (OtherGame, place.at)
-unfolding priorities_at
-priority_missing ps i place lt e = rw (drop_more ps i 0 lt, e) refl
+  pub word_fails : i < length text → (o : Option (Found CertCause)) → Stops causes (byte (get_or text i 0)) now o
+      → Stops causes (word text) start o
+  word_fails lt o m = carries_stops causes (word text) (word (get_or text i 0 ∷ drop (i + 1) text)) start now o
+      (left lt) (stops_first causes joint_word now o m)
 
-pub priority_next : (ps : List ℕ) (i : ℕ) (place : Place) → i < length ps → comes 10 place.rest ≡ false
-    → priorities_at (drop i ps) place ≡ (byte_at 32 place >>= λ next. exactly_at (get_or ps i 0) next >>= λ found. priorities_at (drop (i + 1) ps) found)
-unfolding priorities_at
-priority_next ps i place lt e = rw (drop_more ps i 0 lt, e) refl
+  pub word_ends : length text ≤ i → Reads (word text) start tt now
+  word_ends le = subst (λ z. Carries causes (word text) start (word z) now) (drop_all i text le) k (Ok tt) now
+      (reads_give now tt)
 
--- ---- counts
+-- ## A line of priorities
 
--- a count behind a space
-abbrev pub count_at : Place → Result (ℕ × Place) Fault
-count_at place = byte_at 32 place >>= number_at
+module _ (ps : List ℕ) where
+  pub joint_listed : Joint (byte 32) (λ _. mapped (λ _. drop 1 ps) (number (NotNext ps)))
+  joint_listed = tight_joint (laws_byte 32)
+      (λ _. laws_mapped (λ _. drop 1 ps) (number (NotNext ps)) (laws_number (NotNext ps)))
 
-pub count_next : (n i : ℕ) (place : Place) → i < n
-    → counts_at (n - i) place ≡ (count_at place >>= λ x. with_front (x.0 ∷ []) (counts_at (n - (i + 1)) x.1))
-unfolding counts_at
-count_next n i place lt = let k : n - i ≡ suc (n - (i + 1)) = omega arith in rw k (in_two (byte_at 32 place))
-  where
-    in_two : (first : Result Place Fault)
-        → (first >>= λ next. number_at next >>= λ count. with_front (count.0 ∷ []) (counts_at (n - (i + 1)) count.1))
-        ≡ ((first >>= number_at) >>= λ x. with_front (x.0 ∷ []) (counts_at (n - (i + 1)) x.1))
-    in_two (Ok place) = refl
-    in_two (Err f) = refl
+  pub listed_reads : (old mid new : Stream Seen) → Reads (byte 32) old tt mid → (n : ℕ)
+      → Reads (number (NotNext ps)) mid n new → (left : List ℕ) → left ≡ drop 1 ps → Reads (priority ps) old left new
+  listed_reads old mid new m n k left e = subst (λ xs. Reads (priority ps) old xs new) (sym e)
+      (reads_then joint_listed m (reads_mapped (λ _. drop 1 ps) k))
 
-pub no_count : (n i : ℕ) (place : Place) → n ≤ i → counts_at (n - i) place ≡ Ok ([], place)
-unfolding counts_at
-no_count n i place le = let k : n - i ≡ 0 = omega arith in rw k refl
+  -- what the test of the next number says
+  pub is_not_next : (n : ℕ) (o : Option ℕ) → o ≡ slice_get ps 0 → true ≡ not (option_eq eqb o (Some n)) → NotNext ps n
+  is_not_next n o e h is = go o (e ∙ is) h
+    where
+      go : (o : Option ℕ) → o ≡ Some n → true ≡ not (option_eq eqb o (Some n)) → ⊥
+      go None e h = cc
+      go (Some m) e h = let same : m ≡ n = cc in let t : eqb m n ≡ true = eq-eqb m n same in
+          let f : true ≡ not (eqb m n) = h in let g : true ≡ false = f ∙ ap not t in cc
 
--- ---- the lines of the vertices
+  pub is_next : (n : ℕ) (o : Option ℕ) → o ≡ slice_get ps 0 → false ≡ not (option_eq eqb o (Some n))
+      → slice_get ps 0 ≡ Some n
+  is_next n o e h = sym e ∙ go o h
+    where
+      go : (o : Option ℕ) → false ≡ not (option_eq eqb o (Some n)) → o ≡ Some n
+      go None h = absurd cc
+      go (Some m) h = tested (eqb m n) refl h
+        where
+          tested : (b : Bool) → eqb m n ≡ b → false ≡ not b → Some m ≡ Some n
+          tested true t f = ap Some (eqb-true m n t)
+          tested false t f = absurd cc
 
-pub entry_next : (compact : Bool) (known : KnownData) (ids : List ℕ) (i : ℕ) (place : Place) → i < length ids
-    → entries_at compact known (drop i ids) place ≡ (entry_at compact known (get_or ids i 0) place >>= λ entry. with_front (entry.0 ∷ []) (entries_at compact known (drop (i + 1) ids) entry.1))
-unfolding entries_at
-entry_next compact known ids i place lt = rw (drop_more ids i 0 lt) refl
+module _ (ps left : List ℕ) (start : Stream Seen) (now : Place)
+    (k : Carries causes (many priority ps) start (many priority left) (at_place now)) where
+  pub priorities_fail : comes 32 now.rest ≡ true → (o : Option (Found CertCause))
+      → Stops causes (priority left) (at_place now) o → Stops causes (priorities ps) start o
+  priorities_fail h o m =
+      stops_first causes (joint_priorities ps) start o
+      (carries_stops causes (many priority ps) (many priority left) start (at_place now) o k
+      (many_fails priority laws_priority digit_no_space causes left (at_place now) o
+      (enters_then (byte 32) (λ _. mapped (λ _. drop 1 left) (number (NotNext left))) (joint_listed left) _
+      (enters_byte 32 now h)) m))
 
-pub no_entry_left : (compact : Bool) (known : KnownData) (ids : List ℕ) (i : ℕ) (place : Place) → length ids ≤ i → entries_at compact known (drop i ids) place ≡ Ok ([], place)
-unfolding entries_at
-no_entry_left compact known ids i place le = rw (drop_all i ids le) refl
+  pub priorities_end : comes 32 now.rest ≡ false → Reads (many priority ps) start left (at_place now)
+  priorities_end h = k (Ok left) (at_place now)
+      (many_ends priority laws_priority digit_no_space left (at_place now) (avoids 32 now h))
+
+-- ## Lists that are read element by element
+
+abbrev pub behind : {A : Type 0} → List A → Result (List A) (Option (Found CertCause))
+    → Result (List A) (Option (Found CertCause))
+behind front (Ok others) = Ok (front ++ others)
+behind front (Err o) = Err o
+
+-- reading the rest gives what is left of the whole, whose front was read
+pub record Listing {A : Type 0} (whole : Field (List A)) (start : Stream Seen) (rest : Field (List A))
+    (now : Stream Seen) (front : List A) : Type 0 where
+  pub carries : (r : Result (List A) (Option (Found CertCause))) (new : Stream Seen) → Goes causes rest now r new
+      → Goes causes whole start (behind front r) new
+
+module _ {A : Type 0} (whole : Field (List A)) (start : Stream Seen) where
+  pub listing_start : (front : List A) → front ≡ [] → Listing whole start whole start front
+  listing_start front e = subst (Listing whole start whole start) (sym e) (record { carries = same })
+    where
+      same : (r : Result (List A) (Option (Found CertCause))) (new : Stream Seen) → Goes causes whole start r new
+          → Goes causes whole start (behind [] r) new
+      same (Ok others) new m = m
+      same (Err o) new m = m
+
+  module _ (rest : Field (List A)) (now : Stream Seen) (front : List A) (l : Listing whole start rest now front) where
+    pub listing_fails : (o : Option (Found CertCause)) → Stops causes rest now o → Stops causes whole start o
+    listing_fails o m = l.carries (Err o) now m
+
+    pub listing_next : (other : Field (List A)) (next : Stream Seen) (a : A)
+        → ((others : List A) (new : Stream Seen) → Reads other next others new → Reads rest now (a ∷ others) new)
+        → ((o : Option (Found CertCause)) → Stops causes other next o → Stops causes rest now o) → (longer : List A)
+        → longer ≡ front ++ a ∷ [] → Listing whole start other next longer
+    listing_next other next a reads stops longer e = subst (Listing whole start other next) (sym e)
+        (record { carries = more })
+      where
+        more : (r : Result (List A) (Option (Found CertCause))) (new : Stream Seen) → Goes causes other next r new
+            → Goes causes whole start (behind (front ++ a ∷ []) r) new
+        more (Ok others) new m = subst (λ xs. Reads whole start xs new) (sym (append_assoc front (a ∷ []) others))
+            (l.carries (Ok (a ∷ others)) new (reads others new m))
+        more (Err o) new m = l.carries (Err o) new (stops o m)
+
+    pub listing_ends : (new : Stream Seen) → Reads rest now [] new → Reads whole start front new
+    listing_ends new m = subst (λ xs. Reads whole start xs new) (append-nil front) (l.carries (Ok []) new m)
+
+-- ## Counts
+
+abbrev counts_behind : ℕ → ℕ → Field (List ℕ)
+counts_behind n count = mapped (λ others. count ∷ others) (counts n)
+
+pub joint_counts : (n : ℕ) → Joint (byte 32) (λ _. then_by (number Never) (counts_behind n))
+joint_counts n = tight_joint (laws_byte 32)
+    (λ _. loose_then (laws_number Never) (λ count. laws_mapped (λ others. count ∷ others) (counts n) (laws_counts n)))
+
+pub joint_count : (n : ℕ) → Joint (number Never) (counts_behind n)
+joint_count n = loose_joint (laws_number Never)
+    (λ count. laws_mapped (λ others. count ∷ others) (counts n) (laws_counts n))
+
+module _ (n i : ℕ) (start now : Stream Seen) (front : List ℕ)
+    (l : Listing (counts n) start (counts (n - i)) now front) where
+  some_left : i < n → Listing (counts n) start (counts (suc (n - (i + 1)))) now front
+  some_left lt = let e : n - i ≡ suc (n - (i + 1)) = omega arith in
+      subst (λ k. Listing (counts n) start (counts k) now front) e l
+
+  pub space_fails : i < n → (o : Option (Found CertCause)) → Stops causes (byte 32) now o
+      → Stops causes (counts n) start o
+  space_fails lt o m = listing_fails (counts n) start (counts (suc (n - (i + 1)))) now front (some_left lt) o
+      (stops_first causes (joint_counts (n - (i + 1))) now o m)
+
+  pub count_fails : i < n → (mid : Stream Seen) → Reads (byte 32) now tt mid → (o : Option (Found CertCause))
+      → Stops causes (number Never) mid o → Stops causes (counts n) start o
+  count_fails lt mid m o k =
+      listing_fails (counts n) start (counts (suc (n - (i + 1)))) now front (some_left lt) o
+      (stops_behind causes (joint_counts (n - (i + 1))) m o
+      (stops_first causes (joint_count (n - (i + 1))) mid o k))
+
+  pub count_next : i < n → (mid next : Stream Seen) (count : ℕ) → Reads (byte 32) now tt mid
+      → Reads (number Never) mid count next → (longer : List ℕ) → longer ≡ front ++ count ∷ []
+      → Listing (counts n) start (counts (n - (i + 1))) next longer
+  count_next lt mid next count m k longer e =
+      listing_next (counts n) start (counts (suc (n - (i + 1)))) now front (some_left lt)
+      (counts (n - (i + 1))) next count
+      (λ others new x. reads_then (joint_counts (n - (i + 1))) m
+      (reads_then (joint_count (n - (i + 1))) k (reads_mapped (λ others. count ∷ others) x)))
+      (λ o x. stops_behind causes (joint_counts (n - (i + 1))) m o
+      (stops_behind causes (joint_count (n - (i + 1))) k o
+      (stops_mapped causes (λ others. count ∷ others) (counts (n - (i + 1))) next o x))) longer e
+
+  none_left : n ≤ i → Listing (counts n) start (counts 0) now front
+  none_left le = let e : n - i ≡ 0 = omega arith in subst (λ k. Listing (counts n) start (counts k) now front) e l
+
+  pub counts_end : n ≤ i → (new : Stream Seen) → Reads (byte 10) now tt new → Reads (counts n) start front new
+  counts_end le new m = listing_ends (counts n) start (counts 0) now front (none_left le) new (reads_mapped (λ _. []) m)
+
+  pub counts_end_fails : n ≤ i → (o : Option (Found CertCause)) → Stops causes (byte 10) now o
+      → Stops causes (counts n) start o
+  counts_end_fails le o m = listing_fails (counts n) start (counts 0) now front (none_left le) o
+      (stops_mapped causes (λ _. []) (byte 10) now o m)
+
+-- ## The lines of the vertices
+
+module _ (compact : Bool) (odd even all ids : List ℕ) (i : ℕ) (start now : Stream Seen) (front : List EntryData)
+    (l : Listing (entries compact odd even all ids) start (entries compact odd even all (drop i ids)) now front) where
+  abbrev rest_of : Field (List EntryData)
+  rest_of = entries compact odd even all (drop (i + 1) ids)
+
+  joint_entries : Joint (entry compact odd even all (get_or ids i 0))
+      (λ first. mapped (λ others. first ∷ others) rest_of)
+  joint_entries = tight_joint (laws_entry compact odd even all (get_or ids i 0))
+      (λ first. laws_mapped (λ others. first ∷ others) rest_of (laws_entries compact odd even all (drop (i + 1) ids)))
+
+  entry_left : i < length ids → Listing (entries compact odd even all ids) start
+      (entries compact odd even all (get_or ids i 0 ∷ drop (i + 1) ids)) now front
+  entry_left lt = subst (λ z. Listing (entries compact odd even all ids) start
+      (entries compact odd even all z) now front) (drop_more ids i 0 lt) l
+
+  pub entry_fails : i < length ids → (id : ℕ) → id ≡ get_or ids i 0 → (o : Option (Found CertCause))
+      → Stops causes (entry compact odd even all id) now o → Stops causes (entries compact odd even all ids) start o
+  entry_fails lt id is o m =
+      listing_fails (entries compact odd even all ids) start
+      (entries compact odd even all (get_or ids i 0 ∷ drop (i + 1) ids)) now front (entry_left lt) o
+      (stops_first causes joint_entries now o (subst (λ k. Stops causes (entry compact odd even all k) now o) is m))
+
+  pub entry_next : i < length ids → (id : ℕ) → id ≡ get_or ids i 0 → (next : Stream Seen) (e : EntryData)
+      → Reads (entry compact odd even all id) now e next → (longer : List EntryData) → longer ≡ front ++ e ∷ []
+      → Listing (entries compact odd even all ids) start rest_of next longer
+  entry_next lt id same next e m longer is =
+      let this : Reads (entry compact odd even all (get_or ids i 0)) now e next = subst
+      (λ k. Reads (entry compact odd even all k) now e next) same m in
+      listing_next (entries compact odd even all ids) start
+      (entries compact odd even all (get_or ids i 0 ∷ drop (i + 1) ids)) now front (entry_left lt) rest_of next e
+      (λ others new x. reads_then joint_entries this (reads_mapped (λ others. e ∷ others) x))
+      (λ o x. stops_behind causes joint_entries this o
+      (stops_mapped causes (λ others. e ∷ others) rest_of next o x)) longer is
+
+  pub entries_end : length ids ≤ i → Reads (entries compact odd even all ids) start front now
+  entries_end le =
+      listing_ends (entries compact odd even all ids) start (entries compact odd even all []) now front
+      (subst (λ z. Listing (entries compact odd even all ids) start (entries compact odd even all z) now front)
+      (drop_all i ids le) l) now (reads_give now [])

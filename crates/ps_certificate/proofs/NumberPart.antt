@@ -1,12 +1,12 @@
 -- A number as a part of the text: how it is read, and how reading it fails.
-use Rattle.std.proofs.Common.{◌≡◌, ℕ, zero, suc, ◌+◌, ◌^◌, ◌<◌, ◌≤◌, ◌⊎◌, Bool, true, false, cond, List, [], ◌∷◌, ◌++◌, length, take, drop, Option, Some, None, Ok, Err, refl, sym, ap, ap₂, subst, inl, inr, ◌∙◌, append_assoc, arith, length-append, length-drop}
-use Rattle.std.specs.Prelude.{nat_lt}
-use Rattle.std.proofs.lemmas.Bool.{ltb-true, ltb-false}
+use Rattle.std.proofs.Common.{◌≡◌, ℕ, zero, suc, ◌+◌, ◌^◌, ◌<◌, ◌≤◌, ◌⊎◌, List, [], ◌∷◌, ◌++◌, length, take, drop, Err, refl, sym, ap, subst, inl, inr, ◌∙◌, append_assoc, arith, length-append, length-drop}
 use Rattle.std.proofs.Math.Seq.{take-append_seam, drop-append_seam}
-use Rattle.ps_text.specs.Answers.{Begins, Stream, Found, signs, first_of}
+use Rattle.ps_text.specs.Answers.{Begins, signs, first_of}
 use Rattle.ps_text.specs.Parts.{IsRead, IsFaultAt, is_cause, is_refusal, StopsAt, CleanUpTo}
-use Rattle.ps_text.specs.Readers.{IsSuffix, StopsWith}
+use Rattle.ps_text.specs.Readers.{IsSuffix, StopsWith, Reads, Stops}
+use Rattle.ps_text.specs.Faults.{found_of}
 use Rattle.ps_text.specs.Digits.{IsDigit, IsPlainNumber, decimal_value}
+use Rattle.ps_text.specs.declared.faults.Fault.TheVariants.{Text}
 use Rattle.std.specs.List.{All}
 use Rattle.std.proofs.lemmas.List.Elements.{All-head, All-drop}
 use Rattle.ps_text.proofs.Splits.{same_head}
@@ -16,27 +16,23 @@ use Rattle.ps_text.proofs.Whole.{Own}
 use Rattle.ps_text.proofs.OneAnswer.{signs_split}
 use Rattle.ps_certificate.specs.declared.fault.CertCause.{CertCause}
 use Rattle.ps_certificate.specs.declared.fault.CertCause.TheVariants.{Syntax, OtherGame}
-use Rattle.ps_certificate.specs.Faults.{cause_number}
+use Rattle.ps_certificate.specs.Faults.{CertFault, cause_number}
 use Rattle.ps_certificate.specs.Places.{Place}
-use Rattle.ps_certificate.specs.Reading.{Fault, numeral, numeral_value, numbered, behind, number_at, value_from}
+use Rattle.ps_certificate.specs.Reading.{at_place, numeral, HasNoNumber, IsNumberRead, TellsNumber}
 use Rattle.ps_certificate.specs.Texts.{Seen, pieces_at, stream_at, bytes_of, causes, EndsField, Verdict, IsBadNumber, judged, OfOtherGame, number}
-use Rattle.ps_certificate.proofs.Numerals.{value_is, value_grows, numeral_split, numeral_plain, numeral_longest, plain_front, numeral_ended, numeral_zero}
+use Rattle.ps_certificate.proofs.Numerals.{value_grows, numeral_split, numeral_plain, numeral_longest, plain_front, numeral_ended, numeral_zero}
 
 -- ## Places and streams
 
-abbrev pub at_place : Place → Stream Seen
-at_place place = stream_at place.at place.rest
-
-abbrev pub found : Fault → Option (Found CertCause)
-found f = Some (record { cause = f.0; offset = f.1 })
-
-pub pieces_split : (n at : ℕ) (bytes : List ℕ) → n ≤ length bytes → pieces_at at bytes ≡ take n (pieces_at at bytes) ++ pieces_at (at + n) (drop n bytes)
+pub pieces_split : (n at : ℕ) (bytes : List ℕ) → n ≤ length bytes
+    → pieces_at at bytes ≡ take n (pieces_at at bytes) ++ pieces_at (at + n) (drop n bytes)
 pieces_split zero at bytes l = let e : at ≡ at + 0 = omega arith in ap (λ a. pieces_at a bytes) e
 pieces_split (suc n) at [] l = absurd (omega arith)
 pieces_split (suc n) at (b ∷ bytes) l =
     let e : (at + 1) + n ≡ at + suc n = omega arith in
     let rest : pieces_at (at + 1) bytes ≡ take n (pieces_at (at + 1) bytes) ++ pieces_at (at + suc n) (drop n bytes) =
-    pieces_split n (at + 1) bytes (omega arith) ∙ ap (λ a. take n (pieces_at (at + 1) bytes) ++ pieces_at a (drop n bytes)) e in
+    pieces_split n (at + 1) bytes (omega arith) ∙ ap
+    (λ a. take n (pieces_at (at + 1) bytes) ++ pieces_at a (drop n bytes)) e in
     ap (λ ps. record { sign = record { byte = b; behind = bytes }; start = at } ∷ ps) rest
 
 pub bytes_taken : (n at : ℕ) (bytes : List ℕ) → bytes_of (signs (take n (pieces_at at bytes))) ≡ take n bytes
@@ -49,9 +45,11 @@ bytes_append [] b = refl
 bytes_append (s ∷ a) b = ap (λ xs. s.byte ∷ xs) (bytes_append a b)
 
 -- the first sign sees the whole text
-pub first_sees : (at : ℕ) (bytes : List ℕ) (t : Seen) (rest : List Seen) → signs (pieces_at at bytes) ≡ t ∷ rest → bytes ≡ t.byte ∷ t.behind
+pub first_sees : (at : ℕ) (bytes : List ℕ) (t : Seen) (rest : List Seen) → signs (pieces_at at bytes) ≡ t ∷ rest
+    → bytes ≡ t.byte ∷ t.behind
 first_sees at [] t rest e = absurd (let l : 0 ≡ suc (length rest) = ap length e in omega (arith, l))
-first_sees at (b ∷ bytes) t rest e = ap (λ (s : Seen). s.byte ∷ s.behind) (same_head _ t (signs (pieces_at (at + 1) bytes)) rest e)
+first_sees at (b ∷ bytes) t rest e = ap (λ (s : Seen). s.byte ∷ s.behind)
+    (same_head _ t (signs (pieces_at (at + 1) bytes)) rest e)
 
 -- ## What is wrong with the number that bytes begin with
 
@@ -73,10 +71,12 @@ IsWrongRun Wrong bytes f =
 run_long : (bytes digits more : List ℕ) → bytes ≡ digits ++ more → IsPlainNumber digits → 0 < run_length bytes
 run_long bytes digits more e h =
     let long = numeral_longest digits more h in
-    let l : run_length bytes ≡ length digits + length long.0 = ap run_length e ∙ ap length long.1 ∙ length-append digits long.0 in
+    let l : run_length bytes ≡ length digits + length long.0 = ap run_length e ∙ ap length long.1 ∙ length-append
+    digits long.0 in
     omega (arith, l, h.0.0)
 
-pub run_is_wrong : (Wrong : Verdict) → Settled Wrong → (bytes : List ℕ) (t : Seen) (f : CertCause) → bytes ≡ t.byte ∷ t.behind → IsBadNumber Wrong t f → (0 < run_length bytes) × IsWrongRun Wrong bytes f
+pub run_is_wrong : (Wrong : Verdict) → Settled Wrong → (bytes : List ℕ) (t : Seen) (f : CertCause)
+    → bytes ≡ t.byte ∷ t.behind → IsBadNumber Wrong t f → (0 < run_length bytes) × IsWrongRun Wrong bytes f
 run_is_wrong Wrong settled bytes t f e b = (run_long bytes b.digits b.more whole b.number, go b.bad)
   where
     whole : bytes ≡ b.digits ++ b.more
@@ -86,18 +86,23 @@ run_is_wrong Wrong settled bytes t f e b = (run_long bytes b.digits b.more whole
     run_is (inl ended) = ap numeral whole ∙ numeral_ended b.digits b.more b.number ended
     run_is (inr null) = ap numeral whole ∙ numeral_zero b.digits b.more b.number null
 
-    go : ((f ≡ Syntax) × (2 ^ 64 ≤ decimal_value b.digits)) ⊎ Wrong b.more (decimal_value b.digits) f → IsWrongRun Wrong bytes f
+    go : ((f ≡ Syntax) × (2 ^ 64 ≤ decimal_value b.digits)) ⊎ Wrong b.more (decimal_value b.digits) f
+        → IsWrongRun Wrong bytes f
     go (inl x) =
         let long = numeral_longest b.digits b.more b.number in
-        let same : decimal_value (numeral bytes) ≡ decimal_value (b.digits ++ long.0) = ap (λ r. decimal_value (numeral r)) whole ∙ ap decimal_value long.1 in
+        let same : decimal_value (numeral bytes) ≡ decimal_value (b.digits ++ long.0) = ap
+        (λ r. decimal_value (numeral r)) whole ∙ ap decimal_value long.1 in
         inl (x.0, omega (arith, x.1, same, value_grows b.digits long.0))
     go (inr x) =
         let run : numeral bytes ≡ b.digits = run_is (settled b.more (decimal_value b.digits) f x) in
         let rest : b.more ≡ drop (run_length bytes) bytes =
-        sym (ap (λ r. drop (length r) bytes) run ∙ ap (λ r. drop (length b.digits) r) whole ∙ drop-append_seam b.digits b.more) in
-        inr (subst (λ more. Wrong more (decimal_value (numeral bytes)) f) rest (subst (λ r. Wrong b.more (decimal_value r) f) (sym run) x))
+        sym (ap (λ r. drop (length r) bytes) run ∙ ap (λ r. drop (length b.digits) r) whole ∙ drop-append_seam
+        b.digits b.more) in
+        inr (subst (λ more. Wrong more (decimal_value (numeral bytes)) f) rest
+        (subst (λ r. Wrong b.more (decimal_value r) f) (sym run) x))
 
-pub wrong_run_is : (Wrong : Verdict) (bytes : List ℕ) (t : Seen) (f : CertCause) → bytes ≡ t.byte ∷ t.behind → 0 < run_length bytes → IsWrongRun Wrong bytes f → IsBadNumber Wrong t f
+pub wrong_run_is : (Wrong : Verdict) (bytes : List ℕ) (t : Seen) (f : CertCause) → bytes ≡ t.byte ∷ t.behind
+    → 0 < run_length bytes → IsWrongRun Wrong bytes f → IsBadNumber Wrong t f
 wrong_run_is Wrong bytes t f e l w = record {
   digits = numeral bytes;
   more = drop (run_length bytes) bytes;
@@ -106,63 +111,24 @@ wrong_run_is Wrong bytes t f e l w = record {
   bad = w;
 }
 
--- ## What reading a number tells
-
-pub record IsNumberRead (place : Place) (read : ℕ × Place) : Type 0 where
-  pub long : 0 < run_length place.rest
-  pub value : read.0 ≡ decimal_value (numeral place.rest)
-  pub small : decimal_value (numeral place.rest) < 2 ^ 64
-  pub next : read.1 ≡ behind (numeral place.rest) place
-
-value_read : (run : List ℕ) (n : ℕ) → numeral_value run ≡ Some n → (0 < length run) × (n ≡ decimal_value run) × (decimal_value run < 2 ^ 64)
-value_read [] n e = absurd cc
-value_read (d ∷ digits) n e = go (nat_lt (value_from 0 (d ∷ digits)) (2 ^ 64)) refl e
-  where
-    go : (b : Bool) → nat_lt (value_from 0 (d ∷ digits)) (2 ^ 64) ≡ b → cond b (Some (value_from 0 (d ∷ digits))) None ≡ Some n → (0 < length (d ∷ digits)) × (n ≡ decimal_value (d ∷ digits)) × (decimal_value (d ∷ digits) < 2 ^ 64)
-    go true t h =
-        let same : value_from 0 (d ∷ digits) ≡ n = cc in
-        (omega arith, sym same ∙ value_is (d ∷ digits), omega (arith, ltb-true (value_from 0 (d ∷ digits)) (2 ^ 64) t, value_is (d ∷ digits)))
-    go false t h = absurd cc
-
-value_not_read : (run : List ℕ) → numeral_value run ≡ None → (run ≡ []) ⊎ ((0 < length run) × (2 ^ 64 ≤ decimal_value run))
-value_not_read [] e = inl refl
-value_not_read (d ∷ digits) e = go (nat_lt (value_from 0 (d ∷ digits)) (2 ^ 64)) refl e
-  where
-    go : (b : Bool) → nat_lt (value_from 0 (d ∷ digits)) (2 ^ 64) ≡ b → cond b (Some (value_from 0 (d ∷ digits))) None ≡ None → ((d ∷ digits) ≡ []) ⊎ ((0 < length (d ∷ digits)) × (2 ^ 64 ≤ decimal_value (d ∷ digits)))
-    go true t h = absurd cc
-    go false t h = inr (omega arith, omega (arith, ltb-false (value_from 0 (d ∷ digits)) (2 ^ 64) t, value_is (d ∷ digits)))
-
-pub number_read : (place : Place) (read : ℕ × Place) → number_at place ≡ Ok read → IsNumberRead place read
-unfolding number_at
-number_read place read e = go (numeral_value (numeral place.rest)) refl e
-  where
-    go : (o : Option ℕ) → numeral_value (numeral place.rest) ≡ o → numbered place (behind (numeral place.rest) place) o ≡ Ok read → IsNumberRead place read
-    go None t h = absurd cc
-    go (Some n) t h =
-        let v = value_read (numeral place.rest) n t in
-        let same : (n, behind (numeral place.rest) place) ≡ read = cc in
-        record { long = v.0; value = sym (ap (λ (x : ℕ × Place). x.0) same) ∙ v.1; small = v.2; next = sym (ap (λ (x : ℕ × Place). x.1) same) }
-
-pub number_not_read : (place : Place) (f : Fault) → number_at place ≡ Err f →
-    (f ≡ (Syntax, place.at)) × ((numeral place.rest ≡ []) ⊎ ((0 < run_length place.rest) × (2 ^ 64 ≤ decimal_value (numeral place.rest))))
-unfolding number_at
-number_not_read place f e = go (numeral_value (numeral place.rest)) refl e
-  where
-    go : (o : Option ℕ) → numeral_value (numeral place.rest) ≡ o → numbered place (behind (numeral place.rest) place) o ≡ Err f →
-        (f ≡ (Syntax, place.at)) × ((numeral place.rest ≡ []) ⊎ ((0 < run_length place.rest) × (2 ^ 64 ≤ decimal_value (numeral place.rest))))
-    go (Some n) t h = absurd cc
-    go None t h = (cc, value_not_read (numeral place.rest) t)
-
 -- ## Reading a number
 
 run_within : (bytes : List ℕ) → run_length bytes ≤ length bytes
-run_within bytes = omega (arith, ap length (numeral_split bytes), length-append (numeral bytes) (drop (run_length bytes) bytes))
+run_within bytes = omega (
+  arith,
+  ap length (numeral_split bytes),
+  length-append (numeral bytes)
+      (drop (run_length bytes) bytes),
+)
 
-taken_is_run : (at : ℕ) (bytes : List ℕ) → bytes_of (signs (take (run_length bytes) (pieces_at at bytes))) ≡ numeral bytes
+taken_is_run : (at : ℕ) (bytes : List ℕ) → bytes_of (signs (take (run_length bytes) (pieces_at at bytes))) ≡ numeral
+    bytes
 taken_is_run at bytes =
-    bytes_taken (run_length bytes) at bytes ∙ ap (take (run_length bytes)) (numeral_split bytes) ∙ take-append_seam (numeral bytes) (drop (run_length bytes) bytes)
+    bytes_taken (run_length bytes) at bytes ∙ ap (take (run_length bytes)) (numeral_split bytes) ∙ take-append_seam
+    (numeral bytes) (drop (run_length bytes) bytes)
 
-pub suffix_behind : (n at : ℕ) (bytes : List ℕ) → n ≤ length bytes → IsSuffix (stream_at at bytes) (stream_at (at + n) (drop n bytes))
+pub suffix_behind : (n at : ℕ) (bytes : List ℕ) → n ≤ length bytes
+    → IsSuffix (stream_at at bytes) (stream_at (at + n) (drop n bytes))
 suffix_behind n at bytes l = record {
   taken = take n (pieces_at at bytes);
   split = pieces_split n at bytes l;
@@ -172,12 +138,15 @@ suffix_behind n at bytes l = record {
 one_byte : (b : ℕ) (more : List ℕ) → IsPlainNumber (b ∷ more) → IsPlainNumber (b ∷ [])
 one_byte b more h = plain_front (b ∷ []) more (omega arith) h
 
-read_run : (Wrong : Verdict) → Settled Wrong → (at : ℕ) (bytes : List ℕ) → 0 < run_length bytes → decimal_value (numeral bytes) < 2 ^ 64
+read_run : (Wrong : Verdict) → Settled Wrong → (at : ℕ) (bytes : List ℕ) → 0 < run_length bytes
+    → decimal_value (numeral bytes) < 2 ^ 64
     → ((f : CertCause) → Wrong (drop (run_length bytes) bytes) (decimal_value (numeral bytes)) f → ⊥)
-    → IsRead (judged Wrong) (signs (pieces_at at bytes)) (decimal_value (numeral bytes)) (signs (pieces_at (at + run_length bytes) (drop (run_length bytes) bytes)))
+    → IsRead (judged Wrong) (signs (pieces_at at bytes)) (decimal_value (numeral bytes))
+    (signs (pieces_at (at + run_length bytes) (drop (run_length bytes) bytes)))
 read_run Wrong settled at bytes long small right = record {
   text = text;
-  split = signs_split (pieces_at at bytes) (take (run_length bytes) (pieces_at at bytes)) (pieces_at (at + run_length bytes) rest) (pieces_split (run_length bytes) at bytes (run_within bytes));
+  split = signs_split (pieces_at at bytes) (take (run_length bytes) (pieces_at at bytes))
+      (pieces_at (at + run_length bytes) rest) (pieces_split (run_length bytes) at bytes (run_within bytes));
   is_text = (subst IsPlainNumber (sym same) (numeral_plain bytes long), ap decimal_value (sym same));
   stops = stops rest refl;
   clean = clean;
@@ -192,53 +161,74 @@ read_run Wrong settled at bytes long small right = record {
     same : bytes_of text ≡ numeral bytes
     same = taken_is_run at bytes
 
-    stops : (r : List ℕ) → drop (run_length bytes) bytes ≡ r → StopsAt (judged Wrong) text (first_of (signs (pieces_at (at + run_length bytes) r)))
+    stops : (r : List ℕ) → drop (run_length bytes) bytes ≡ r
+        → StopsAt (judged Wrong) text (first_of (signs (pieces_at (at + run_length bytes) r)))
     stops [] e = tt
     stops (c ∷ r) e = λ b.
         let sign : Seen = record { byte = c; behind = r } in
         let whole : bytes_of ((text ++ sign ∷ []) ++ b.more) ≡ (numeral bytes ++ c ∷ []) ++ bytes_of b.more =
-        bytes_append (text ++ sign ∷ []) b.more ∙ ap (λ x. x ++ bytes_of b.more) (bytes_append text (sign ∷ []) ∙ ap (λ x. x ++ c ∷ []) same) in
+        bytes_append (text ++ sign ∷ []) b.more ∙ ap (λ x. x ++ bytes_of b.more)
+        (bytes_append text (sign ∷ []) ∙ ap (λ x. x ++ c ∷ []) same) in
         let plain : IsPlainNumber (numeral bytes ++ c ∷ []) =
-        plain_front (numeral bytes ++ c ∷ []) (bytes_of b.more) (omega (arith, length-append (numeral bytes) (c ∷ []))) (subst IsPlainNumber whole b.is_text.0) in
-        let split : bytes ≡ (numeral bytes ++ c ∷ []) ++ r = numeral_split bytes ∙ ap (λ x. numeral bytes ++ x) e ∙ sym (append_assoc (numeral bytes) (c ∷ []) r) in
+        plain_front (numeral bytes ++ c ∷ []) (bytes_of b.more)
+        (omega (arith, length-append (numeral bytes) (c ∷ []))) (subst IsPlainNumber whole b.is_text.0) in
+        let split : bytes ≡ (numeral bytes ++ c ∷ []) ++ r = numeral_split bytes ∙ ap
+        (λ x. numeral bytes ++ x) e ∙ sym (append_assoc (numeral bytes) (c ∷ []) r) in
         let long = numeral_longest (numeral bytes ++ c ∷ []) r plain in
-        let l : run_length bytes ≡ length (numeral bytes ++ c ∷ []) + length long.0 = ap run_length split ∙ ap length long.1 ∙ length-append (numeral bytes ++ c ∷ []) long.0 in
+        let l : run_length bytes ≡ length (numeral bytes ++ c ∷ []) + length long.0 = ap run_length split ∙ ap length
+        long.1 ∙ length-append (numeral bytes ++ c ∷ []) long.0 in
         omega (arith, l, length-append (numeral bytes) (c ∷ []))
 
     clean : CleanUpTo (judged Wrong) (signs (pieces_at at bytes)) (length text + 1)
     clean front more t f e l c =
-        let w = run_is_wrong Wrong settled bytes t f (first_sees at bytes t more (e ∙ ap (λ x. x ++ t ∷ more) c.0)) c.1 in
+        let w = run_is_wrong Wrong settled bytes t f (first_sees at bytes t more (e ∙ ap (λ x. x ++ t ∷ more) c.0))
+        c.1 in
         go w.1
       where
         go : IsWrongRun Wrong bytes f → ⊥
         go (inl x) = omega (arith, x.1, small)
         go (inr x) = right f x
 
-pub judged_reads : (Wrong : Verdict) → Settled Wrong → (place : Place) (read : ℕ × Place) → number_at place ≡ Ok read → ((f : CertCause) → Wrong read.1.rest read.0 f → ⊥)
-    → IsSuffix (at_place place) (at_place read.1) × IsRead (judged Wrong) (signs (at_place place).pieces) read.0 (signs (at_place read.1).pieces)
-judged_reads Wrong settled place read e right = subst Told (sym whole) (suffix_behind (run_length place.rest) place.at place.rest (run_within place.rest), read_run Wrong settled place.at place.rest r.long r.small good)
-  where
-    r : IsNumberRead place read
-    r = number_read place read e
+module _ (Wrong : Verdict) (settled : Settled Wrong) (old new : Place) (n : ℕ) (r : IsNumberRead old new n) where
+  abbrev run_behind : List ℕ
+  run_behind = drop (run_length old.rest) old.rest
 
-    Told : ℕ × Place → Type 0
-    Told x = IsSuffix (at_place place) (at_place x.1) × IsRead (judged Wrong) (signs (at_place place).pieces) x.0 (signs (at_place x.1).pieces)
+  small : decimal_value (numeral old.rest) < 2 ^ 64
+  small = omega (arith, r.small, r.value)
 
-    whole : read ≡ (decimal_value (numeral place.rest), behind (numeral place.rest) place)
-    whole = ap₂ (λ (n : ℕ) (q : Place). (n, q)) r.value r.next
+  -- the verdict on what was read, and on the run
+  said : (f : CertCause) → Wrong new.rest n f → Wrong run_behind (decimal_value (numeral old.rest)) f
+  said f w = subst (λ v. Wrong run_behind v f) r.value (subst (λ bytes. Wrong bytes n f) r.rest w)
 
-    good : (f : CertCause) → Wrong (drop (run_length place.rest) place.rest) (decimal_value (numeral place.rest)) f → ⊥
-    good f wrong = right f (subst (λ (q : Place). Wrong q.rest read.0 f) (sym r.next) (subst (λ n. Wrong (drop (run_length place.rest) place.rest) n f) (sym r.value) wrong))
+  said_back : (f : CertCause) → Wrong run_behind (decimal_value (numeral old.rest)) f → Wrong new.rest n f
+  said_back f w = subst (λ v. Wrong new.rest v f) (sym r.value)
+      (subst (λ bytes. Wrong bytes (decimal_value (numeral old.rest)) f) (sym r.rest) w)
 
-pub number_reads : (Wrong : ℕ → Type 0) (place : Place) (read : ℕ × Place) → number_at place ≡ Ok read → (EndsField read.1.rest → Wrong read.0 → ⊥)
-    → IsSuffix (at_place place) (at_place read.1) × IsRead (number Wrong) (signs (at_place place).pieces) read.0 (signs (at_place read.1).pieces)
-number_reads Wrong place read e right = judged_reads (OfOtherGame Wrong) (settled_other Wrong) place read e (λ f w. right w.1 w.2)
+  pub judged_reads : ((f : CertCause) → Wrong new.rest n f → ⊥) → Reads (judged Wrong) (at_place old) n (at_place new)
+  judged_reads right =
+      let m : Reads (judged Wrong) (at_place old) (decimal_value (numeral old.rest))
+      (stream_at (old.at + run_length old.rest) run_behind) = (
+        suffix_behind (run_length old.rest) old.at old.rest (run_within old.rest),
+        read_run Wrong settled old.at
+            old.rest r.long small (λ f w. right f (said_back f w)),
+      ) in
+      subst (λ v. Reads (judged Wrong) (at_place old) v (at_place new)) (sym r.value)
+      (subst (λ at. Reads (judged Wrong) (at_place old) (decimal_value (numeral old.rest)) (stream_at at new.rest))
+      (sym r.at)
+      (subst (λ bytes. Reads (judged Wrong) (at_place old) (decimal_value (numeral old.rest))
+      (stream_at (old.at + run_length old.rest) bytes)) (sym r.rest) m))
 
 pub judged_begins : (Wrong : Verdict) → Begins (judged Wrong).IsText []
-judged_begins Wrong = record { more = record { byte = 48; behind = [] } ∷ []; value = 0; is_text = (numeral_plain (48 ∷ []) (omega arith), refl) }
+judged_begins Wrong = record {
+  more = record { byte = 48; behind = [] } ∷ [];
+  value = 0;
+  is_text =
+      (numeral_plain (48 ∷ []) (omega arith), refl);
+}
 
 -- the cause or the refusal at the first sign
-fault_here : (Wrong : Verdict) (at : ℕ) (bytes : List ℕ) (f : CertCause) → IsFaultAt causes (judged Wrong) [] (first_of (signs (pieces_at at bytes))) f
+fault_here : (Wrong : Verdict) (at : ℕ) (bytes : List ℕ) (f : CertCause)
+    → IsFaultAt causes (judged Wrong) [] (first_of (signs (pieces_at at bytes))) f
     → StopsWith causes (judged Wrong) (stream_at at bytes) (record { cause = f; offset = at })
 fault_here Wrong at [] f h = record {
   front = [];
@@ -256,29 +246,42 @@ fault_here Wrong at (b ∷ bytes) f h = record {
 }
 
 -- no number begins there
-nothing_there : (Wrong : Verdict) (at : ℕ) (bytes : List ℕ) → numeral bytes ≡ [] → IsFaultAt causes (judged Wrong) [] (first_of (signs (pieces_at at bytes))) Syntax
-nothing_there Wrong at [] e = is_refusal (record { before = judged_begins Wrong; no_text = λ v h. absurd (omega (arith, h.0.0.0)); stops = tt; no_cause = tt }) refl
+nothing_there : (Wrong : Verdict) (at : ℕ) (bytes : List ℕ) → numeral bytes ≡ []
+    → IsFaultAt causes (judged Wrong) [] (first_of (signs (pieces_at at bytes))) Syntax
+nothing_there Wrong at [] e = is_refusal (record {
+  before = judged_begins Wrong;
+  no_text = λ v h. absurd
+      (omega (arith, h.0.0.0));
+  stops = tt;
+  no_cause = tt;
+}) refl
 nothing_there Wrong at (b ∷ bytes) e = is_refusal (record {
   before = judged_begins Wrong;
   no_text = λ v h. absurd (omega (arith, h.0.0.0));
-  stops = λ x. let l = run_long (b ∷ bytes) (b ∷ []) bytes refl (one_byte b (bytes_of x.more) x.is_text.0) in omega (arith, l, ap length e);
-  no_cause = λ f c. let l = run_long (b ∷ bytes) c.1.digits c.1.more c.1.split c.1.number in omega (arith, l, ap length e);
+  stops = λ x. let l = run_long (b ∷ bytes) (b ∷ []) bytes refl (one_byte b (bytes_of x.more) x.is_text.0) in
+      omega (arith, l, ap length e);
+  no_cause = λ f c. let l = run_long (b ∷ bytes) c.1.digits c.1.more c.1.split c.1.number in
+      omega (arith, l, ap length e);
 }) refl
 
 syntax_least : (g : CertCause) → cause_number Syntax ≤ cause_number g
 syntax_least Syntax = omega arith
 syntax_least OtherGame = omega arith
 
-too_large : (Wrong : Verdict) (at : ℕ) (bytes : List ℕ) → 0 < run_length bytes → 2 ^ 64 ≤ decimal_value (numeral bytes) → IsFaultAt causes (judged Wrong) [] (first_of (signs (pieces_at at bytes))) Syntax
+too_large : (Wrong : Verdict) (at : ℕ) (bytes : List ℕ) → 0 < run_length bytes
+    → 2 ^ 64 ≤ decimal_value (numeral bytes) → IsFaultAt causes (judged Wrong) []
+    (first_of (signs (pieces_at at bytes))) Syntax
 too_large Wrong at [] l h = absurd (omega arith)
 too_large Wrong at (b ∷ bytes) l h =
     let sign : Seen = record { byte = b; behind = bytes } in
     is_cause sign refl (refl, wrong_run_is Wrong (b ∷ bytes) sign Syntax refl l (inl (refl, h))) (λ g c. syntax_least g)
 
 -- a number of which the verdict speaks
-wrong_number : (Wrong : Verdict) → Settled Wrong → (at : ℕ) (bytes : List ℕ) (f : CertCause) → 0 < run_length bytes → decimal_value (numeral bytes) < 2 ^ 64
+wrong_number : (Wrong : Verdict) → Settled Wrong → (at : ℕ) (bytes : List ℕ) (f : CertCause) → 0 < run_length bytes
+    → decimal_value (numeral bytes) < 2 ^ 64
     → Wrong (drop (run_length bytes) bytes) (decimal_value (numeral bytes)) f
-    → ((g : CertCause) → Wrong (drop (run_length bytes) bytes) (decimal_value (numeral bytes)) g → cause_number f ≤ cause_number g)
+    → ((g : CertCause) → Wrong (drop (run_length bytes) bytes) (decimal_value (numeral bytes)) g
+    → cause_number f ≤ cause_number g)
     → IsFaultAt causes (judged Wrong) [] (first_of (signs (pieces_at at bytes))) f
 wrong_number Wrong settled at [] f l small wrong first = absurd (omega arith)
 wrong_number Wrong settled at (b ∷ bytes) f l small wrong first =
@@ -290,34 +293,34 @@ wrong_number Wrong settled at (b ∷ bytes) f l small wrong first =
     least g (inl x) = absurd (omega (arith, x.1, small))
     least g (inr x) = first g x
 
-pub judged_fails : (Wrong : Verdict) (place : Place) (f : Fault) → number_at place ≡ Err f → StopsWith causes (judged Wrong) (at_place place) (record { cause = f.0; offset = f.1 })
-judged_fails Wrong place f e = rw h.0 (fault_here Wrong place.at place.rest Syntax (go h.1))
+pub judged_fails : (Wrong : Verdict) (old new : Place) (e : CertFault) → TellsNumber old (Err e) new
+    → Stops causes (judged Wrong) (at_place old) (found_of e)
+judged_fails Wrong old new e h = subst (λ x. Stops causes (judged Wrong) (at_place old) (found_of x)) (sym h.0)
+    (fault_here Wrong old.at old.rest Syntax (go h.1))
   where
-    h : (f ≡ (Syntax, place.at)) × ((numeral place.rest ≡ []) ⊎ ((0 < run_length place.rest) × (2 ^ 64 ≤ decimal_value (numeral place.rest))))
-    h = number_not_read place f e
+    go : HasNoNumber old.rest → IsFaultAt causes (judged Wrong) [] (first_of (signs (pieces_at old.at old.rest))) Syntax
+    go (inl none) = nothing_there Wrong old.at old.rest none
+    go (inr large) = too_large Wrong old.at old.rest large.0 large.1
 
-    go : (numeral place.rest ≡ []) ⊎ ((0 < run_length place.rest) × (2 ^ 64 ≤ decimal_value (numeral place.rest))) → IsFaultAt causes (judged Wrong) [] (first_of (signs (pieces_at place.at place.rest))) Syntax
-    go (inl none) = nothing_there Wrong place.at place.rest none
-    go (inr large) = too_large Wrong place.at place.rest large.0 large.1
+pub judged_wrong : (Wrong : Verdict) → Settled Wrong → (old new : Place) (n : ℕ) (f : CertCause) (e : CertFault)
+    → IsNumberRead old new n → Wrong new.rest n f
+    → ((g : CertCause) → Wrong new.rest n g → cause_number f ≤ cause_number g) → e ≡ Text f old.at
+    → Stops causes (judged Wrong) (at_place old) (found_of e)
+judged_wrong Wrong settled old new n f e r wrong first is =
+    subst (λ x. Stops causes (judged Wrong) (at_place old) (found_of x)) (sym is)
+    (fault_here Wrong old.at old.rest f
+    (wrong_number Wrong settled old.at old.rest f r.long (small Wrong settled old new n r)
+    (said Wrong settled old new n r f wrong) (λ g w. first g (said_back Wrong settled old new n r g w))))
 
-pub number_fails : (Wrong : ℕ → Type 0) (place : Place) (f : Fault) → number_at place ≡ Err f → StopsWith causes (number Wrong) (at_place place) (record { cause = f.0; offset = f.1 })
-number_fails Wrong place f e = judged_fails (OfOtherGame Wrong) place f e
+-- a number that is not the game's, where it is ended
+module _ (Wrong : ℕ → Type 0) (old new : Place) (n : ℕ) (r : IsNumberRead old new n) where
+  pub number_reads : (EndsField new.rest → Wrong n → ⊥) → Reads (number Wrong) (at_place old) n (at_place new)
+  number_reads right = judged_reads (OfOtherGame Wrong) (settled_other Wrong) old new n r (λ f w. right w.1 w.2)
 
-pub judged_wrong : (Wrong : Verdict) → Settled Wrong → (place : Place) (read : ℕ × Place) (f : CertCause) → number_at place ≡ Ok read → Wrong read.1.rest read.0 f
-    → ((g : CertCause) → Wrong read.1.rest read.0 g → cause_number f ≤ cause_number g)
-    → StopsWith causes (judged Wrong) (at_place place) (record { cause = f; offset = place.at })
-judged_wrong Wrong settled place read f e wrong first =
-    fault_here Wrong place.at place.rest f (wrong_number Wrong settled place.at place.rest f r.long r.small
-    (subst (λ (q : Place). Wrong q.rest (decimal_value (numeral place.rest)) f) r.next (subst (λ n. Wrong read.1.rest n f) r.value wrong))
-    (λ g w. first g (subst (λ (q : Place). Wrong q.rest read.0 g) (sym r.next) (subst (λ n. Wrong (drop (run_length place.rest) place.rest) n g) (sym r.value) w))))
-  where
-    r : IsNumberRead place read
-    r = number_read place read e
-
-pub number_wrong : (Wrong : ℕ → Type 0) (place : Place) (read : ℕ × Place) → number_at place ≡ Ok read → EndsField read.1.rest → Wrong read.0
-    → StopsWith causes (number Wrong) (at_place place) (record { cause = OtherGame; offset = place.at })
-number_wrong Wrong place read e ends wrong =
-    judged_wrong (OfOtherGame Wrong) (settled_other Wrong) place read OtherGame e (refl, ends, wrong) (λ g w. rw w.0 (omega arith))
+  pub number_wrong : (e : CertFault) → EndsField new.rest → Wrong n → e ≡ Text OtherGame old.at
+      → Stops causes (number Wrong) (at_place old) (found_of e)
+  number_wrong e ended wrong is = judged_wrong (OfOtherGame Wrong) (settled_other Wrong) old new n OtherGame e r
+      (refl, ended, wrong) (λ g w. rw w.0 (omega arith)) is
 
 -- ## The laws
 
@@ -329,7 +332,8 @@ AtDigit s = IsDigit s.byte
 
 first_digit : (b : ℕ) (bytes digits more : List ℕ) → b ∷ bytes ≡ digits ++ more → IsPlainNumber digits → IsDigit b
 first_digit b bytes [] more e h = absurd (omega (arith, h.0.0))
-first_digit b bytes (d ∷ digits) more e h = subst IsDigit (sym (same_head b d bytes (digits ++ more) e)) (All-head IsDigit d digits h.0.1)
+first_digit b bytes (d ∷ digits) more e h = subst IsDigit (sym (same_head b d bytes (digits ++ more) e))
+    (All-head IsDigit d digits h.0.1)
 
 pub laws_judged : (Wrong : Verdict) → Laws Odd (judged Wrong) AtDigit AtDigit ⊥
 laws_judged Wrong = record {
@@ -338,7 +342,8 @@ laws_judged Wrong = record {
   first_text = λ t text v h. All-head IsDigit t.byte (bytes_of text) h.0.0.1;
   first_cause = λ t f c. first_digit t.byte t.behind c.1.digits c.1.more c.1.split c.1.number;
   more_text = λ text more t v w h k. later text more t k.0;
-  more_cause = λ text t v f h c. absurd (let z : 0 < length (bytes_of []) = subst (λ x. 0 < length (bytes_of x)) c.0 h.0.0.0 in omega (arith, z));
+  more_cause = λ text t v f h c. absurd (let z : 0 < length (bytes_of []) = subst
+      (λ x. 0 < length (bytes_of x)) c.0 h.0.0.0 in omega (arith, z));
   null = λ v h. omega (arith, h.0.0.0);
   behind = λ front t f c. subst (Begins (judged Wrong).IsText) (sym c.0) (judged_begins Wrong);
   plain_text = λ front rest t v h o. none_is_some o.0 o.1;
@@ -347,8 +352,11 @@ laws_judged Wrong = record {
   where
     later : (text more : List Seen) (t : Seen) → IsPlainNumber (bytes_of (text ++ t ∷ more)) → IsDigit t.byte
     later text more t h =
-        let all : All IsDigit (bytes_of text ++ t.byte ∷ bytes_of more) = subst (All IsDigit) (bytes_append text (t ∷ more)) h.0.1 in
-        All-head IsDigit t.byte (bytes_of more) (subst (All IsDigit) (drop-append_seam (bytes_of text) (t.byte ∷ bytes_of more)) (All-drop IsDigit (length (bytes_of text)) (bytes_of text ++ t.byte ∷ bytes_of more) all))
+        let all : All IsDigit (bytes_of text ++ t.byte ∷ bytes_of more) = subst (All IsDigit)
+        (bytes_append text (t ∷ more)) h.0.1 in
+        All-head IsDigit t.byte (bytes_of more) (subst (All IsDigit)
+        (drop-append_seam (bytes_of text) (t.byte ∷ bytes_of more))
+        (All-drop IsDigit (length (bytes_of text)) (bytes_of text ++ t.byte ∷ bytes_of more) all))
 
 pub laws_number : (Wrong : ℕ → Type 0) → Laws Odd (number Wrong) AtDigit AtDigit ⊥
 laws_number Wrong = laws_judged (OfOtherGame Wrong)

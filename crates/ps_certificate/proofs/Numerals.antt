@@ -1,38 +1,28 @@
 -- The digits that a text begins with: the longest run without a leading zero, and the number that it writes.
-use Rattle.std.proofs.Common.{◌≡◌, ℕ, suc, ◌+◌, ◌-◌, ◌*◌, ◌<◌, ◌≤◌, Bool, true, false, cond, eqb, List, [], ◌∷◌, ◌++◌, length, drop, refl, sym, ap, ap₂, subst, inl, inr, ◌∙◌, append_assoc, append-nil, arith, length-append}
+use Rattle.std.proofs.Common.{◌≡◌, ℕ, suc, ◌+◌, ◌-◌, ◌<◌, ◌≤◌, Bool, true, false, cond, eqb, List, [], ◌∷◌, ◌++◌, length, drop, refl, sym, ap, ap₂, subst, inl, inr, ◌∙◌, append_assoc, append-nil, arith, length-append}
 use Rattle.std.specs.Prelude.{map, take_while}
 use Rattle.std.specs.Char.{is_ascii_digit}
 use Rattle.std.specs.List.{All}
-use Rattle.std.specs.Int.Digits.{number_from_digits_after}
+use Rattle.std.specs.Int.Digits.{number_from_digits, number_from_digits_after}
+use Rattle.std.proofs.lemmas.Int.Digits.{number_after_append, number_after_ge}
 use Rattle.std.proofs.lemmas.Bool.{cases_Bool, cases_eq, eq-eqb, ne_eqb, eqb-true, eqb-false, le-leb}
 use Rattle.std.proofs.lemmas.List.Elements.{All-nil, All-cons, All-head, All-tail, All-take, All-drop}
-use Rattle.std.proofs.lemmas.List.{append_cancel_left}
+use Rattle.std.proofs.lemmas.List.{append_cancel_left, map-append}
 use Rattle.std.proofs.Math.Seq.{take-append_seam, drop-append_seam}
 use Rattle.std.proofs.lemmas.List.Sums.{take_while-cons}
 use Rattle.ps_text.specs.Digits.{IsDigit, BeginsWithZero, IsPlainNumber, decimal_value}
-use Rattle.ps_certificate.specs.Reading.{comes, numeral, value_from}
+use Rattle.ps_certificate.specs.Reading.{comes, numeral}
 use Rattle.ps_certificate.specs.Texts.{EndsField}
 
 -- ## Values
 
-after_is : (n : ℕ) (digits : List ℕ) → value_from n digits ≡ number_from_digits_after 10 n (map (λ b. b - 48) digits)
-after_is n [] = refl
-after_is n (d ∷ digits) = after_is (n * 10 + (d - 48)) digits
-
-pub value_is : (digits : List ℕ) → value_from 0 digits ≡ decimal_value digits
-value_is digits = after_is 0 digits
-
-value_append : (n : ℕ) (a b : List ℕ) → value_from n (a ++ b) ≡ value_from (value_from n a) b
-value_append n [] b = refl
-value_append n (d ∷ a) b = value_append (n * 10 + (d - 48)) a b
-
-value_ge : (n : ℕ) (digits : List ℕ) → n ≤ value_from n digits
-value_ge n [] = omega arith
-value_ge n (d ∷ digits) = omega (arith, value_ge (n * 10 + (d - 48)) digits)
-
 -- more digits write no smaller number
 pub value_grows : (a b : List ℕ) → decimal_value a ≤ decimal_value (a ++ b)
-value_grows a b = omega (arith, value_is a, value_is (a ++ b), value_append 0 a b, value_ge (value_from 0 a) b)
+value_grows a b =
+    let e : decimal_value (a ++ b) ≡ number_from_digits_after 10 (decimal_value a) (map (λ b. b - 48) b) =
+    ap (number_from_digits 10) (map-append (λ b. b - 48) a b) ∙ number_after_append 10 0 (map (λ b. b - 48) a)
+    (map (λ b. b - 48) b) in
+    subst (λ n. decimal_value a ≤ n) (sym e) (number_after_ge 10 (decimal_value a) (map (λ b. b - 48) b) (omega arith))
 
 -- ## The longest run
 
@@ -53,7 +43,8 @@ taken_digits (b ∷ bytes) = rw take_while-cons
       | inr other ↦ rw other (All-nil IsDigit)
     ])
 
-taken_split : (bytes : List ℕ) → bytes ≡ take_while is_ascii_digit bytes ++ drop (length (take_while is_ascii_digit bytes)) bytes
+taken_split : (bytes : List ℕ) → bytes ≡ take_while is_ascii_digit bytes ++ drop
+    (length (take_while is_ascii_digit bytes)) bytes
 taken_split [] = refl
 taken_split (b ∷ bytes) = rw take_while-cons
     (elim (cases_Bool (is_ascii_digit b)) [
@@ -61,9 +52,11 @@ taken_split (b ∷ bytes) = rw take_while-cons
       | inr other ↦ rw other refl
     ])
 
-taken_over : (digits more : List ℕ) → All IsDigit digits → take_while is_ascii_digit (digits ++ more) ≡ digits ++ take_while is_ascii_digit more
+taken_over : (digits more : List ℕ) → All IsDigit digits
+    → take_while is_ascii_digit (digits ++ more) ≡ digits ++ take_while is_ascii_digit more
 taken_over [] more h = refl
-taken_over (d ∷ digits) more h = rw (take_while-cons, digit_test d (All-head IsDigit d digits h)) (ap (λ xs. d ∷ xs) (taken_over digits more (All-tail IsDigit d digits h)))
+taken_over (d ∷ digits) more h = rw (take_while-cons, digit_test d (All-head IsDigit d digits h))
+    (ap (λ xs. d ∷ xs) (taken_over digits more (All-tail IsDigit d digits h)))
 
 -- what begins with a zero: the run is that zero
 comes_is : (b : ℕ) (bytes : List ℕ) → comes b bytes ≡ true → (more : List ℕ) × (bytes ≡ b ∷ more)
@@ -89,19 +82,26 @@ no_zero (b ∷ bytes) e = rw take_while-cons
 pub numeral_plain : (bytes : List ℕ) → 0 < length (numeral bytes) → IsPlainNumber (numeral bytes)
 numeral_plain bytes long = go (comes 48 bytes) refl long
   where
-    go : (b : Bool) → comes 48 bytes ≡ b → 0 < length (cond b (48 ∷ []) (take_while is_ascii_digit bytes)) → IsPlainNumber (cond b (48 ∷ []) (take_while is_ascii_digit bytes))
-    go true e l = ((omega arith, All-cons IsDigit 48 [] (omega arith, omega arith) (All-nil IsDigit)), λ lt. absurd (omega arith))
+    go : (b : Bool) → comes 48 bytes ≡ b → 0 < length (cond b (48 ∷ []) (take_while is_ascii_digit bytes))
+        → IsPlainNumber (cond b (48 ∷ []) (take_while is_ascii_digit bytes))
+    go true e l = (
+      (omega arith, All-cons IsDigit 48 [] (omega arith, omega arith) (All-nil IsDigit)),
+      λ lt. absurd
+          (omega arith),
+    )
     go false e l = ((l, taken_digits bytes), λ lt z. no_zero bytes e z)
 
 -- each number without leading zeros that the bytes begin with is a front of the run
-pub numeral_longest : (digits more : List ℕ) → IsPlainNumber digits → (m : List ℕ) × (numeral (digits ++ more) ≡ digits ++ m)
+pub numeral_longest : (digits more : List ℕ) → IsPlainNumber digits
+    → (m : List ℕ) × (numeral (digits ++ more) ≡ digits ++ m)
 numeral_longest [] more h = absurd (omega (arith, h.0.0))
 numeral_longest (d ∷ digits) more h = elim (cases_eq d 48) [
   | inl zero_first ↦ ([], only_zero digits (eq-eqb d 48 zero_first) zero_first h.1)
   | inr other ↦ (take_while is_ascii_digit more, rw (ne_eqb d 48 other) (taken_over (d ∷ digits) more h.0.1))
 ]
   where
-    only_zero : (rest : List ℕ) → eqb d 48 ≡ true → d ≡ 48 → (1 < length (d ∷ rest) → ¬ BeginsWithZero (d ∷ rest)) → numeral ((d ∷ rest) ++ more) ≡ (d ∷ rest) ++ []
+    only_zero : (rest : List ℕ) → eqb d 48 ≡ true → d ≡ 48 → (1 < length (d ∷ rest) → ¬ BeginsWithZero (d ∷ rest))
+        → numeral ((d ∷ rest) ++ more) ≡ (d ∷ rest) ++ []
     only_zero [] e z none = rw e (ap (λ x. x ∷ []) (sym z))
     only_zero (c ∷ rest) e z none = absurd (none (omega arith) z)
 
@@ -129,10 +129,16 @@ numeral_ended digits more h ends = go long.0 long.1
     go [] e = e ∙ append-nil digits
     go (x ∷ m) e =
         let rest = drop (length (numeral (digits ++ more))) (digits ++ more) in
-        let whole : digits ++ more ≡ (digits ++ x ∷ m) ++ rest = numeral_split (digits ++ more) ∙ ap (λ r. r ++ rest) e in
-        let tail : more ≡ (x ∷ m) ++ rest = append_cancel_left digits more ((x ∷ m) ++ rest) (whole ∙ append_assoc digits (x ∷ m) rest) in
-        let plain : IsPlainNumber (digits ++ x ∷ m) = subst IsPlainNumber e (numeral_plain (digits ++ more) (let l : length (numeral (digits ++ more)) ≡ length digits + suc (length m) = ap length e ∙ length-append digits (x ∷ m) in omega (arith, l))) in
-        let digit : IsDigit x = All-head IsDigit x m (subst (All IsDigit) (drop-append_seam digits (x ∷ m)) (All-drop IsDigit (length digits) (digits ++ x ∷ m) plain.0.1)) in
+        let whole : digits ++ more ≡ (digits ++ x ∷ m) ++ rest = numeral_split (digits ++ more) ∙ ap
+        (λ r. r ++ rest) e in
+        let tail : more ≡ (x ∷ m) ++ rest = append_cancel_left digits more ((x ∷ m) ++ rest)
+        (whole ∙ append_assoc digits (x ∷ m) rest) in
+        let plain : IsPlainNumber (digits ++ x ∷ m) = subst IsPlainNumber e
+        (numeral_plain (digits ++ more) (let l : length (numeral (digits ++ more)) ≡ length digits + suc
+        (length m) = ap length e ∙ length-append digits (x ∷ m) in omega (arith, l))) in
+        let digit : IsDigit x = All-head IsDigit x m
+        (subst (All IsDigit) (drop-append_seam digits (x ∷ m))
+        (All-drop IsDigit (length digits) (digits ++ x ∷ m) plain.0.1)) in
         absurd (no_end x (m ++ rest) (subst EndsField tail ends) digit)
 
 -- a number without leading zeros that writes 0 is the byte `0`, and then it is the whole run
@@ -143,11 +149,12 @@ zero_is (d ∷ digits) h e = go digits refl
     lead : d ≡ 48
     lead =
         let low = All-head IsDigit d digits h.0.1 in
-        omega (arith, low.0, value_is (d ∷ digits), e, value_ge (0 * 10 + (d - 48)) digits)
+        omega (arith, low.0, e, value_grows (d ∷ []) digits)
 
     go : (rest : List ℕ) → digits ≡ rest → d ∷ digits ≡ 48 ∷ []
     go [] s = ap₂ (λ (x : ℕ) (xs : List ℕ). x ∷ xs) lead s
     go (c ∷ rest) s = absurd (h.1 (let l : length digits ≡ length (c ∷ rest) = ap length s in omega (arith, l)) lead)
 
-pub numeral_zero : (digits more : List ℕ) → IsPlainNumber digits → decimal_value digits ≡ 0 → numeral (digits ++ more) ≡ digits
+pub numeral_zero : (digits more : List ℕ) → IsPlainNumber digits → decimal_value digits ≡ 0
+    → numeral (digits ++ more) ≡ digits
 numeral_zero digits more h e = let z = zero_is digits h e in ap (λ r. numeral (r ++ more)) z ∙ sym z

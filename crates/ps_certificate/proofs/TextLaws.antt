@@ -14,6 +14,7 @@ use Rattle.ps_certificate.specs.declared.fault.CertCause.{CertCause}
 use Rattle.ps_certificate.specs.Certificates.{EntryData, CertificateData}
 use Rattle.ps_certificate.specs.Pairs.{Pairs, no_pairs, with_pair}
 use Rattle.ps_certificate.specs.Words.{vertices_word, odd_word, even_word}
+use Rattle.ps_certificate.specs.Reading.{all_entries}
 use Rattle.ps_certificate.specs.Texts.{Seen, Field, take_byte, take_two, byte, two, word, judged, number, Never, NotNext, priority, IsMissing, priorities, winner, vertex_of, choice, counts, WrongPriority, IsZero, pair, counts_in, lost_by, entry, entries, version, certificate}
 use Rattle.ps_certificate.proofs.NumberPart.{Odd, AtDigit, laws_judged, laws_number}
 
@@ -252,23 +253,20 @@ module _ (compact : Bool) (odd even ids : List ℕ) where
 
   -- ## The text
 
-  abbrev pub all_entries : Field CertificateData
-  all_entries = mapped (λ es. record { odd = odd; even = even; entries = es }) (entries compact odd even ids ids)
-
-  pub laws_all_entries : Laws Odd all_entries Any Nothing (Unit {0})
+  pub laws_all_entries : Laws Odd (all_entries compact odd even ids) Any Nothing (Unit {0})
   laws_all_entries = laws_mapped (λ es. record { odd = odd; even = even; entries = es }) (entries compact odd even ids ids) (laws_entries ids)
 
-  pub laws_even : Laws Odd (then_by (priorities even) (λ _. all_entries)) Separates Nothing ⊥
+  pub laws_even : Laws Odd (then_by (priorities even) (λ _. all_entries compact odd even ids)) Separates Nothing ⊥
   laws_even = tight_then (laws_priorities even) (λ _. laws_all_entries)
 
-  pub laws_even_word : Laws Odd (then_by (word even_word) (λ _. then_by (priorities even) (λ _. all_entries))) (At 101) Nothing ⊥
+  pub laws_even_word : Laws Odd (then_by (word even_word) (λ _. then_by (priorities even) (λ _. all_entries compact odd even ids))) (At 101) Nothing ⊥
   laws_even_word = tight_then (laws_word_from 101 (codes "ven")) (λ _. laws_even)
 
-  pub laws_odd : Laws Odd (then_by (priorities odd) (λ _. then_by (word even_word) (λ _. then_by (priorities even) (λ _. all_entries)))) Separates Nothing ⊥
+  pub laws_odd : Laws Odd (then_by (priorities odd) (λ _. then_by (word even_word) (λ _. then_by (priorities even) (λ _. all_entries compact odd even ids)))) Separates Nothing ⊥
   laws_odd = tight_then (laws_priorities odd) (λ _. laws_even_word)
 
   abbrev pub behind_count : Field CertificateData
-  behind_count = then_by (word odd_word) (λ _. then_by (priorities odd) (λ _. then_by (word even_word) (λ _. then_by (priorities even) (λ _. all_entries))))
+  behind_count = then_by (word odd_word) (λ _. then_by (priorities odd) (λ _. then_by (word even_word) (λ _. then_by (priorities even) (λ _. all_entries compact odd even ids))))
 
   pub laws_behind_count : Laws Odd behind_count Separates Nothing ⊥
   laws_behind_count = weaker (tight_then (laws_word_from 10 (codes "odd")) (λ _. laws_odd)) (λ t h. inr h) (λ t h. h) (λ n. n)

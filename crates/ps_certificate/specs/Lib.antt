@@ -1,6 +1,5 @@
 pub mod Certificates
 pub mod Faults
-pub mod Known
 pub mod Pairs
 pub mod Places
 pub mod Prefixes

@@ -1,9 +1,13 @@
 //! A place in the text of a certificate, and the fields that are read from there on.
 
-ghost use Rattle.std.specs.Prelude.{◌≡◌, ◌==◌, ◌≤◌, [], true, false, length, IfNone, IfSome, None, Some};
+ghost use Rattle.std.specs.Prelude.{◌≡◌, ◌≢◌, ◌==◌, ◌≤◌, ◌<◌, [], true, false, length, drop, IfNone, IfSome};
+ghost use Rattle.std.specs.List.{Contains};
+ghost use Rattle.ps_text.specs.Digits.{decimal_value};
+ghost use Rattle.ps_text.specs.Parts.{one};
 ghost use Rattle.ps_text.specs.declared.faults.Fault.TheVariants as faults;
-ghost use Rattle.ps_certificate.specs.Known.{find_in};
-ghost use Rattle.ps_certificate.specs.Reading.{Gives, Moves, byte_at, word_at, number_at, field_at, exactly_at, priorities_at, two_at, winner_at, choice_at, counts_at, comes, numeral, numeral_value};
+ghost use Rattle.ps_certificate.specs.Reading.{Tells, TellsNumber, HasNoNumber, comes, ends, numeral, step_of};
+ghost use Rattle.ps_certificate.specs.Texts as parts;
+ghost use Rattle.ps_certificate.specs.Texts.{take_byte, IsMissing};
 
 use crate::fault::{CertCause, CertFault};
 use ps_ids::Ids;
@@ -58,6 +62,13 @@ impl<'a> Cursor<'a> {
         }
     }
 
+    /// Whether a space, a newline or a colon comes next.
+    pub(crate) fn ends(&self) -> bool
+        ensures { result ≡ ends self.now.rest }
+    {
+        self.comes(b' ') || self.comes(b'\n') || self.comes(b':')
+    }
+
     /// Whether the text is at its end.
     pub(crate) fn is_at_end(&self) -> bool
         ensures { result ≡ (length self.now.rest == 0) }
@@ -65,23 +76,33 @@ impl<'a> Cursor<'a> {
         self.rest.is_empty()
     }
 
-    /// Goes behind that byte, which has to come next.
-    pub(crate) fn byte(&mut self, byte: u8) -> Result<(), CertFault>
-        ensures { Moves result self.new (byte_at byte self.old) }
+    /// Goes behind the next byte.
+    fn step(&mut self)
+        ensures { self.new ≡ step_of self.old }
     {
         match self.rest {
-            [next, rest @ ..] if *next == byte => {
+            [_, rest @ ..] => {
                 self.rest = rest;
                 self.at += 1;
-                Ok(())
             }
-            _ => Err(self.fault(CertCause::Syntax)),
+            [] => {}
         }
+    }
+
+    /// Goes behind that byte, which has to come next.
+    pub(crate) fn byte(&mut self, byte: u8) -> Result<(), CertFault>
+        ensures { Tells (λ u. u) (parts.byte byte) self.old result self.new }
+    {
+        if !self.comes(byte) {
+            return Err(self.fault(CertCause::Syntax));
+        }
+        self.step();
+        Ok(())
     }
 
     /// Goes behind these bytes, which have to come next.
     pub(crate) fn word(&mut self, word: &[u8]) -> Result<(), CertFault>
-        ensures { Moves result self.new (word_at word.now self.old) }
+        ensures { Tells (λ u. u) (parts.word word.now) self.old result self.new }
     {
         for byte in word {
             self.byte(*byte)?;
@@ -90,9 +111,8 @@ impl<'a> Cursor<'a> {
     }
 
     /// The number that comes next: 0, or digits that don't begin with it.
-    #[tactic(auto, unfolding(crate::specs::Reading::number_at))]
     pub(crate) fn number(&mut self) -> Result<u64, CertFault>
-        ensures { Gives (λ n. n) result self.new (number_at self.old) }
+        ensures { TellsNumber self.old result self.new }
     {
         let Some(number) = self.number_ahead() else {
             return Err(self.fault(CertCause::Syntax));
@@ -104,10 +124,11 @@ impl<'a> Cursor<'a> {
 
     /// The number that comes next, and how many digits it has.
     fn number_ahead(&self) -> Option<LeadingNumber>
-        ensures value { IfSome result (λ number. numeral_value (numeral self.now.rest) ≡ Some number.value) }
+        ensures value { IfSome result (λ number. number.value ≡ decimal_value (numeral self.now.rest)) }
         ensures digits { IfSome result (λ number. number.digits ≡ length (numeral self.now.rest)) }
+        ensures some { IfSome result (λ number. 0 < number.digits) }
         ensures within { IfSome result (λ number. number.digits ≤ length self.now.rest) }
-        ensures none { IfNone result (numeral_value (numeral self.now.rest) ≡ None) }
+        ensures none { IfNone result (HasNoNumber self.now.rest) }
     {
         if self.comes(b'0') {
             return Some(LeadingNumber {
@@ -121,114 +142,123 @@ impl<'a> Cursor<'a> {
         }
     }
 
-    /// The number that comes next, ended by a space, a newline or a colon.
-    #[tactic(auto, unfolding(crate::specs::Reading::field_at))]
-    pub(crate) fn field(&mut self) -> Result<u64, CertFault>
-        ensures { Gives (λ n. n) result self.new (field_at self.old) }
-    {
-        let number = self.number()?;
-        if self.comes(b' ') || self.comes(b'\n') || self.comes(b':') {
-            Ok(number)
-        } else {
-            Err(self.fault(CertCause::Syntax))
-        }
-    }
-
-    /// Goes behind a field, which has to be that number.
-    #[tactic(auto, unfolding(crate::specs::Reading::exactly_at))]
-    pub(crate) fn exactly(&mut self, number: u64) -> Result<(), CertFault>
-        ensures { Moves result self.new (exactly_at number self.old) }
+    /// The number that comes next, which has to be that one if it is ended.
+    pub(crate) fn exactly(&mut self, number: u64) -> Result<u64, CertFault>
+        ensures { Tells (λ n. n) (parts.number (λ n. n ≢ number)) self.old result self.new }
     {
         let other_game = self.fault(CertCause::OtherGame);
-        if self.field()? == number {
-            Ok(())
-        } else {
-            Err(other_game)
+        let found = self.number()?;
+        if found != number && self.ends() {
+            return Err(other_game);
         }
+        Ok(found)
     }
 
     /// Goes behind the rest of a line that has to list these numbers, each behind a space.
     pub(crate) fn priorities(&mut self, priorities: &[u64]) -> Result<(), CertFault>
-        ensures { Moves result self.new (priorities_at priorities.now self.old) }
+        ensures { Tells (λ u. u) (parts.priorities priorities.now) self.old result self.new }
     {
-        for priority in priorities {
-            if self.comes(b'\n') {
-                return Err(self.fault(CertCause::OtherGame));
-            }
-            self.byte(b' ')?;
-            self.exactly(*priority)?;
+        let mut left = priorities;
+        'more: while self.comes(b' ') {
+            left = self.listed(left)?;
         }
-        self.line_end()
+        self.line_end(left)
     }
 
-    /// Goes to the next line, where no priority is wanted any more.
-    #[tactic(auto, unfolding(crate::specs::Reading::priorities_at))]
-    fn line_end(&mut self) -> Result<(), CertFault>
-        ensures { Moves result self.new (priorities_at [] self.old) }
+    /// Goes behind a space and a number, which has to be the first of these: those that are left.
+    fn listed<'p>(&mut self, priorities: &'p [u64]) -> Result<&'p [u64], CertFault>
+        ensures { Tells (λ left. left.now) (parts.priority priorities.now) self.old result self.new }
     {
-        if !self.comes(b' ') {
-            return self.byte(b'\n');
-        }
         self.byte(b' ')?;
         let other_game = self.fault(CertCause::OtherGame);
-        self.field()?;
-        Err(other_game)
+        let number = self.number()?;
+        if priorities.first().copied() != Some(number) && self.ends() {
+            return Err(other_game);
+        }
+        Ok(without_first(priorities))
+    }
+
+    /// Goes to the next line, where none of these is wanted any more.
+    fn line_end(&mut self, left: &[u64]) -> Result<(), CertFault>
+        ensures { Tells (λ u. u) (one (take_byte 10) (IsMissing left.now)) self.old result self.new }
+    {
+        if !self.comes(b'\n') {
+            return Err(self.fault(CertCause::Syntax));
+        }
+        if !left.is_empty() {
+            return Err(self.fault(CertCause::OtherGame));
+        }
+        self.step();
+        Ok(())
     }
 
     /// The version that comes next, 1 or 2: whether the text is a compact one.
-    #[tactic(auto, unfolding(crate::specs::Reading::two_at))]
     pub(crate) fn version(&mut self) -> Result<bool, CertFault>
-        ensures { Gives (λ v. v) result self.new (two_at 49 50 false true self.old) }
+        ensures { Tells (λ v. v) parts.version self.old result self.new }
     {
         if self.comes(b'1') {
-            self.byte(b'1')?;
-            Ok(false)
-        } else {
-            self.byte(b'2')?;
-            Ok(true)
+            self.step();
+            return Ok(false);
         }
+        if self.comes(b'2') {
+            self.step();
+            return Ok(true);
+        }
+        Err(self.fault(CertCause::Syntax))
     }
 
     /// The winner that comes next, 0 or 1.
-    #[tactic(auto, unfolding(crate::specs::Reading::two_at))]
     pub(crate) fn winner(&mut self) -> Result<u8, CertFault>
-        ensures { Gives (λ w. w) result self.new (winner_at self.old) }
+        ensures { Tells (λ w. w) parts.winner self.old result self.new }
     {
         if self.comes(b'0') {
-            self.byte(b'0')?;
-            Ok(0)
-        } else {
-            self.byte(b'1')?;
-            Ok(1)
+            self.step();
+            return Ok(0);
         }
+        if self.comes(b'1') {
+            self.step();
+            return Ok(1);
+        }
+        Err(self.fault(CertCause::Syntax))
     }
 
     /// The move that comes next: none, or the vertex with the id that is given.
-    #[tactic(auto, unfolding(crate::specs::Reading::choice_at))]
     pub(crate) fn choice(&mut self, ids: &Ids) -> Result<Option<usize>, CertFault>
-        ensures { Gives (λ c. c) result self.new (choice_at (find_in ids.now) self.old) }
+        ensures { Tells (λ c. c) (parts.choice ids.now) self.old result self.new }
     {
         if self.comes(b'-') {
-            self.byte(b'-')?;
+            self.step();
             return Ok(None);
         }
         let other_game = self.fault(CertCause::OtherGame);
-        let id = self.field()?;
-        match ids.place(id) {
-            Some(vertex) => Ok(Some(vertex)),
-            None => Err(other_game),
+        let id = self.number()?;
+        let vertex = ids.place(id);
+        if vertex.is_none() && self.ends() {
+            return Err(other_game);
         }
+        Ok(vertex)
     }
 
-    /// So many counts, each behind a space.
+    /// So many counts, each behind a space, and the end of the line.
     pub(crate) fn counts(&mut self, alloc: Global, count: usize) -> Result<Vec<u64>, CertFault>
-        ensures { Gives (λ v. v.items) result self.new (counts_at count self.old) }
+        ensures { Tells (λ v. v.items) (parts.counts count) self.old result self.new }
     {
         let mut counts = Vec::with_capacity(alloc, count)?;
         for _ in 0..count {
             self.byte(b' ')?;
             counts.push(self.number()?)?;
         }
+        self.byte(b'\n')?;
         Ok(counts)
+    }
+}
+
+/// A list without its first element.
+fn without_first(list: &[u64]) -> &[u64]
+    ensures { result.now ≡ drop 1 list.now }
+{
+    match list {
+        [_, others @ ..] => others,
+        [] => list,
     }
 }

@@ -1,8 +1,11 @@
 //! The counts of a line of a compact text, each behind its priority.
 
-ghost use Rattle.std.specs.Prelude.{◌≡◌, ◌<◌, IfOk, length, slice_index};
+ghost use Rattle.std.specs.Prelude.{◌≡◌, ◌<◌, IfOk, length, slice_index, true};
 ghost use Rattle.std.specs.List.Sorted.{IsStrictlyIncreasing};
-ghost use Rattle.ps_certificate.specs.Reading.{Gives, counts_in_at, priority_at, positive_at, pair_at, compact_at, rises};
+ghost use Rattle.ps_certificate.specs.Pairs.{Pairs, with_pair};
+ghost use Rattle.ps_certificate.specs.Reading.{Tells, TellsPriority, rises};
+ghost use Rattle.ps_certificate.specs.Texts as parts;
+ghost use Rattle.ps_certificate.specs.Texts.{IsZero};
 
 use crate::cursor::Cursor;
 use crate::fault::{CertCause, CertFault};
@@ -10,7 +13,8 @@ use crate::rising::place_of;
 use std::alloc::Global;
 
 impl<'a> Cursor<'a> {
-    /// The counts for these priorities that come next: all of them, or in a compact text those that are not 0.
+    /// The counts for these priorities that come next, all of them, or in a compact text those that are not 0; and the end
+    /// of the line.
     pub(crate) fn counts_for(
         &mut self,
         alloc: Global,
@@ -18,7 +22,7 @@ impl<'a> Cursor<'a> {
         compact: bool,
     ) -> Result<Vec<u64>, CertFault>
         requires { IsStrictlyIncreasing priorities.now }
-        ensures { Gives (λ v. v.items) result self.new (counts_in_at compact priorities.now self.old) }
+        ensures { Tells (λ v. v.items) (parts.counts_in compact priorities.now) self.old result self.new }
     {
         if compact {
             self.pairs(alloc, priorities)
@@ -27,10 +31,10 @@ impl<'a> Cursor<'a> {
         }
     }
 
-    /// Pairs of a priority and its count, each behind a space. A count left out is 0.
+    /// Pairs of a priority and its count, each behind a space, and the end of the line. A count left out is 0.
     fn pairs(&mut self, alloc: Global, priorities: &[u64]) -> Result<Vec<u64>, CertFault>
         requires { IsStrictlyIncreasing priorities.now }
-        ensures { Gives (λ v. v.items) result self.new (compact_at priorities.now self.old) }
+        ensures { Tells (λ v. v.items) (parts.counts_in true priorities.now) self.old result self.new }
     {
         let mut counts = vec![in alloc; 0; priorities.len()]?;
         let mut last = None;
@@ -39,14 +43,14 @@ impl<'a> Cursor<'a> {
             counts[place] = count;
             last = Some(priorities[place]);
         }
+        self.byte(b'\n')?;
         Ok(counts)
     }
 
     /// The place of a priority above the last one, and its count.
-    #[tactic(auto, unfolding(crate::specs::Reading::pair_at))]
     fn pair(&mut self, priorities: &[u64], last: Option<u64>) -> Result<(usize, u64), CertFault>
         requires { IsStrictlyIncreasing priorities.now }
-        ensures read { Gives (λ pair. (slice_index priorities.now pair.0, pair.1)) result self.new (pair_at priorities.now last self.old) }
+        ensures read { (pairs : Pairs) → pairs.last ≡ last → Tells (λ pair. with_pair pairs (slice_index priorities.now pair.0) pair.1) (parts.pair priorities.now pairs) self.old result self.new }
         ensures within { IfOk result (λ pair. pair.0 < length priorities.now) }
     {
         self.byte(b' ')?;
@@ -57,15 +61,17 @@ impl<'a> Cursor<'a> {
     }
 
     /// The place of the priority that comes next, which has to be above the last one.
-    #[tactic(auto, unfolding(crate::specs::Reading::priority_at))]
     fn priority(&mut self, priorities: &[u64], last: Option<u64>) -> Result<usize, CertFault>
         requires { IsStrictlyIncreasing priorities.now }
-        ensures read { Gives (λ place. slice_index priorities.now place) result self.new (priority_at priorities.now last self.old) }
+        ensures read { (pairs : Pairs) → pairs.last ≡ last → TellsPriority priorities.now pairs self.old result self.new }
         ensures within { IfOk result (λ place. place < length priorities.now) }
     {
         let refused = self.fault(CertCause::Syntax);
         let other_game = self.fault(CertCause::OtherGame);
-        let priority = self.field()?;
+        let priority = self.number()?;
+        if !self.ends() {
+            return Err(self.fault(CertCause::Syntax));
+        }
         if !is_above(priority, last) {
             return Err(refused);
         }
@@ -76,9 +82,8 @@ impl<'a> Cursor<'a> {
     }
 
     /// The count that comes next, which is not 0.
-    #[tactic(auto, unfolding(crate::specs::Reading::positive_at))]
     fn positive(&mut self) -> Result<u64, CertFault>
-        ensures { Gives (λ n. n) result self.new (positive_at self.old) }
+        ensures { Tells (λ n. n) (parts.judged IsZero) self.old result self.new }
     {
         if self.comes(b'0') {
             return Err(self.fault(CertCause::Syntax));

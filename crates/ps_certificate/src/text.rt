@@ -1,13 +1,13 @@
 //! Reading the text of a certificate.
 
-ghost use Rattle.std.specs.Prelude.{◌≡◌, ℕ, List, Result, IfOk};
+ghost use Rattle.std.specs.Prelude.{◌≡◌, ℕ, List, Result, IfOk, length};
 ghost use Rattle.std.specs.List.Sorted.{IsStrictlyIncreasing};
 ghost use Rattle.ps_text.specs.Answers.{Found};
 ghost use Rattle.ps_game.specs.Games.{NamedGameData};
 ghost use Rattle.ps_game.specs.Ranking.{ListsPriorities};
 ghost use Rattle.ps_certificate.specs.Certificates.{CertificateData, Fits};
-ghost use Rattle.ps_certificate.specs.Reading.{Gives, Tells, head_at, lost_by_at, entry_at, entries_at, entries_of as entries_of_text};
-ghost use Rattle.ps_certificate.specs.Known.{known_data};
+ghost use Rattle.ps_certificate.specs.Reading.{Tells, TellsHead, TellsEntries};
+ghost use Rattle.ps_certificate.specs.Texts as parts;
 ghost use Rattle.ps_certificate.specs.Texts.{Reads, IsAnswer};
 ghost use Rattle.ps_certificate.specs.declared.fault.CertCause.{CertCause};
 
@@ -32,7 +32,7 @@ struct Known {
 impl Known {
     /// The priorities by which a player loses, rising.
     fn lost_by(&self, player: u8) -> &[u64]
-        ensures { result.now ≡ lost_by_at (known_data self.now) player }
+        ensures { result.now ≡ parts.lost_by self.now.odd.items self.now.even.items player }
     {
         if player == 0 {
             self.odd.as_slice()
@@ -54,9 +54,8 @@ fn ids_of(alloc: Global, game: &NamedGame) -> Result<Ids, AllocError>
 }
 
 /// Goes behind the lines that stand before those of the vertices, and says whether the text is a compact one.
-#[tactic(auto, unfolding(crate::specs::Reading::head_at))]
 fn head(cursor: &mut Cursor, known: &Known, count: usize) -> Result<bool, CertFault>
-    ensures { Gives (λ compact. compact) result cursor.new (head_at (known_data known.now) count cursor.old) }
+    ensures { (ids : List ℕ) → count ≡ length ids → TellsHead known.now.odd.items known.now.even.items ids cursor.old result cursor.new }
 {
     cursor.word(b"psyncert ")?;
     let compact = cursor.version()?;
@@ -70,7 +69,6 @@ fn head(cursor: &mut Cursor, known: &Known, count: usize) -> Result<bool, CertFa
 }
 
 /// The entry of the vertex with an id, from its line.
-#[tactic(auto, unfolding(crate::specs::Reading::entry_at))]
 fn entry(
     alloc: Global,
     cursor: &mut Cursor,
@@ -80,7 +78,7 @@ fn entry(
 ) -> Result<Entry, CertFault>
     requires odd { IsStrictlyIncreasing known.now.odd.items }
     requires even { IsStrictlyIncreasing known.now.even.items }
-    ensures { Gives (λ e. e) result cursor.new (entry_at compact (known_data known.now) id cursor.old) }
+    ensures { Tells (λ e. e) (parts.entry compact known.now.odd.items known.now.even.items known.now.ids id) cursor.old result cursor.new }
 {
     cursor.exactly(id)?;
     cursor.byte(b' ')?;
@@ -89,7 +87,6 @@ fn entry(
     let choice = cursor.choice(&known.ids)?;
     let priorities = known.lost_by(winner);
     let counts = cursor.counts_for(alloc, priorities, compact)?;
-    cursor.byte(b'\n')?;
     Ok(Entry {
         winner,
         choice,
@@ -107,7 +104,7 @@ fn entries(
 ) -> Result<Vec<Entry>, CertFault>
     requires odd { IsStrictlyIncreasing known.now.odd.items }
     requires even { IsStrictlyIncreasing known.now.even.items }
-    ensures { Gives (λ v. v.items) result cursor.new (entries_at compact (known_data known.now) game.now.ids cursor.old) }
+    ensures { Tells (λ v. v.items) (parts.entries compact known.now.odd.items known.now.even.items known.now.ids game.now.ids) cursor.old result cursor.new }
 {
     let mut entries = Vec::new(alloc);
     for vertex in 0..game.game().count() {
@@ -117,7 +114,6 @@ fn entries(
 }
 
 /// The entries of a text from its first to its last byte.
-#[tactic(auto, unfolding(crate::specs::Reading::entries_of))]
 fn entries_of(
     alloc: Global,
     text: &[u8],
@@ -126,7 +122,8 @@ fn entries_of(
 ) -> Result<Vec<Entry>, CertFault>
     requires odd { IsStrictlyIncreasing known.now.odd.items }
     requires even { IsStrictlyIncreasing known.now.even.items }
-    ensures { Tells (λ v. v.items) result (entries_of_text (known_data known.now) game.now.ids text.now) }
+    requires ids { known.now.ids ≡ game.now.ids }
+    ensures { TellsEntries known.now.odd.items known.now.even.items game.now.ids text.now result }
 {
     let mut cursor = Cursor::new(text);
     let compact = head(&mut cursor, known, game.game().count())?;

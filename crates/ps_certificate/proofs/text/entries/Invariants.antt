@@ -1,8 +1,11 @@
-use Rattle.std.proofs.Common.{◌≡◌, drop}
-use Rattle.ps_certificate.specs.Known.{known_data}
-use Rattle.ps_certificate.specs.Reading.{entries_at}
-use Rattle.ps_certificate.proofs.Loops.{with_front}
+use Rattle.std.proofs.Common.{drop}
+use Rattle.ps_certificate.specs.Reading.{at_place}
+use Rattle.ps_certificate.specs.Texts.{entries}
+use Rattle.ps_certificate.proofs.Loops.{Listing}
 use Rattle.ps_certificate.proofs.text.entries.Given as goal
 
 abbrev pub invariant-loop-vertex : goal.invariant-loop-vertex
-invariant-loop-vertex l = with_front l.entries.items (entries_at l.compact (known_data l.known) (drop l.vertex l.game.ids) l.cursor) ≡ entries_at l.compact (known_data l.known) l.game.ids l.initial.cursor
+invariant-loop-vertex l = Listing (entries l.compact l.known.odd.items l.known.even.items l.known.ids l.game.ids)
+    (at_place l.initial.cursor)
+    (entries l.compact l.known.odd.items l.known.even.items l.known.ids (drop l.vertex l.game.ids))
+    (at_place l.cursor) l.entries.items

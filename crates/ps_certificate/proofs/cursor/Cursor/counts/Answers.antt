@@ -1,28 +1,41 @@
-use Rattle.std.proofs.Common.{◌∙◌, ◌+◌, ◌-◌, sym, ap}
-use Rattle.std.proofs.lemmas.Result.{err_from_is_err_and}
-use Rattle.ps_certificate.specs.Reading.{byte_at, number_at, counts_at}
-use Rattle.ps_certificate.proofs.Loops.{fails_first, with_front, goes_on, stops, is_done, count_at, count_next, no_count}
+use Rattle.ps_certificate.specs.Reading.{at_place}
+use Rattle.ps_certificate.specs.Texts.{OfOtherGame, Never, counts}
+use Rattle.ps_certificate.proofs.NumberPart.{judged_fails, number_reads}
+use Rattle.ps_certificate.proofs.Loops.{fails, space_fails, count_fails, count_next, counts_end, counts_end_fails}
 use Rattle.ps_certificate.proofs.cursor.Cursor.counts.Goals as goal
 
 pub returns-in_err-byte : goal.returns-in_err-byte
 returns-in_err-byte c =
-    let p = err_from_is_err_and c.from_residual-in_err-byte.result c.from_residual-in_err-byte.ensures.1 in
-    let next = count_next c.args.count c.loop.counter c.loop.self c.loop-test.true in
-    let now = ap (with_front c.loop.counts.items) (sym next) ∙ c.loop.invariant in
-    rw (p.1, p.2) (stops c.in_err-byte.field-0.0 c.loop.counts.items (count_at c.loop.self) _ _ (fails_first c.in_err-byte.field-0.0 (byte_at 32 c.loop.self) number_at c.in_err-byte.ensures) now)
+    fails _ (counts c.args.count) c.args.self.now _ _ _
+    (space_fails c.args.count c.loop.counter (at_place c.args.self.now)
+    (at_place c.loop.self) c.loop.counts.items c.loop.invariant c.loop-test.true _ c.in_err-byte.ensures)
+    c.from_residual-in_err-byte.ensures.1
 
 pub returns-in_err-number : goal.returns-in_err-number
 returns-in_err-number c =
-    let p = err_from_is_err_and c.from_residual-in_err-number.result c.from_residual-in_err-number.ensures.1 in
-    let next = count_next c.args.count c.loop.counter c.loop.self c.loop-test.true in
-    let now = ap (with_front c.loop.counts.items) (sym next) ∙ c.loop.invariant in
-    rw (p.1, p.2) (stops c.in_err-number.field-0.0 c.loop.counts.items (count_at c.loop.self) _ _ (rw c.in_ok-byte.ensures c.in_err-number.ensures) now)
+    fails _ (counts c.args.count) c.args.self.now _ _ _
+    (count_fails c.args.count c.loop.counter (at_place c.args.self.now)
+    (at_place c.loop.self) c.loop.counts.items c.loop.invariant c.loop-test.true
+    (at_place c.byte.new.self) c.in_ok-byte.ensures _
+    (judged_fails (OfOtherGame Never) c.byte.new.self c.number.new.self _ c.in_err-number.ensures))
+    c.from_residual-in_err-number.ensures.1
 
 pub loop-preserved : goal.loop-preserved
 loop-preserved c =
-    let next = count_next c.args.count c.loop.counter c.loop.self c.loop-test.true in
-    let now = ap (with_front c.loop.counts.items) (sym next) ∙ c.loop.invariant in
-    rw c.in_ok-push.ensures.items (goes_on c.loop.counts.items (count_at c.loop.self) (counts_at (c.args.count - (c.loop.counter + 1))) _ c.number.new.self _ (rw c.in_ok-byte.ensures c.in_ok-number.ensures) now)
+    count_next c.args.count c.loop.counter (at_place c.args.self.now)
+    (at_place c.loop.self) c.loop.counts.items c.loop.invariant c.loop-test.true (at_place c.byte.new.self)
+    (at_place c.number.new.self) _ c.in_ok-byte.ensures
+    (number_reads Never c.byte.new.self c.number.new.self _ c.in_ok-number.ensures
+    (λ _ never. never)) _ c.in_ok-push.ensures.items
+
+pub returns-in_err-byte-2 : goal.returns-in_err-byte-2
+returns-in_err-byte-2 c =
+    fails _ (counts c.args.count) c.args.self.now _ _ _
+    (counts_end_fails c.args.count c.loop.counter (at_place c.args.self.now)
+    (at_place c.loop.self) c.loop.counts.items c.loop.invariant c.loop-test.false _ c.in_err-byte-2.ensures)
+    c.from_residual-in_err-byte-2.ensures.1
 
 pub returns : goal.returns
-returns c = is_done c.loop.counts.items c.loop.self _ (ap (with_front c.loop.counts.items) (sym (no_count c.args.count c.loop.counter c.loop.self c.loop-test.false)) ∙ c.loop.invariant)
+returns c = counts_end c.args.count c.loop.counter (at_place c.args.self.now)
+    (at_place c.loop.self) c.loop.counts.items c.loop.invariant c.loop-test.false
+    (at_place c.byte-2.new.self) c.in_ok-byte-2.ensures

@@ -1,25 +1,29 @@
-use Rattle.std.proofs.Common.{◌∙◌, sym}
-use Rattle.std.proofs.lemmas.Result.{err_from_is_err_and}
-use Rattle.ps_certificate.proofs.Loops.{fails_first, fails_same, priority_missing, priority_next}
+use Rattle.std.proofs.Common.{sym}
+use Rattle.ps_text.specs.Faults.{found_of}
+use Rattle.ps_text.proofs.Exits.{then_meets}
+use Rattle.ps_text.proofs.Branches.{carries_many}
+use Rattle.ps_certificate.specs.Reading.{at_place}
+use Rattle.ps_certificate.specs.Texts.{causes, priority, priorities}
+use Rattle.ps_certificate.proofs.TextLaws.{laws_priority, digit_no_space, joint_priorities}
+use Rattle.ps_certificate.proofs.Loops.{fails, fewer, priorities_fail, priorities_end}
 use Rattle.ps_certificate.proofs.cursor.Cursor.priorities.Goals as goal
 
-pub returns-then-comes : goal.returns-then-comes
-returns-then-comes c =
-    rw c.fault.ensures (sym c.loop-priority.invariant ∙ priority_missing c.args.priorities.now c.loop-priority.priority-index c.loop-priority.self c.loop-priority-test.true (sym c.if-comes.ensures))
+pub returns-in_err-left : goal.returns-in_err-left
+returns-in_err-left c =
+    fails (λ u. u) (priorities c.args.priorities.now) c.args.self.now _ _ _
+    (priorities_fail c.args.priorities.now c.more.left.now (at_place c.args.self.now) c.more.self c.more.invariant
+    (sym c.more-test.ensures) _ c.in_err-left.ensures) c.from_residual.ensures.1
 
-pub returns-in_err-byte : goal.returns-in_err-byte
-returns-in_err-byte c =
-    let p = err_from_is_err_and c.from_residual.result c.from_residual.ensures.1 in
-    let next = priority_next c.args.priorities.now c.loop-priority.priority-index c.loop-priority.self c.loop-priority-test.true (sym c.if-comes.ensures) in
-    rw (p.1, p.2) (fails_same c.in_err-byte.field-0.0 _ _ (sym next ∙ c.loop-priority.invariant) (fails_first c.in_err-byte.field-0.0 _ _ c.in_err-byte.ensures))
+pub more-smaller : goal.more-smaller
+more-smaller c = fewer (priority c.more.left.now) c.more.self c.listed.new.self _
+    (laws_priority c.more.left.now).null c.in_ok-left.ensures
 
-pub returns-in_err-exactly : goal.returns-in_err-exactly
-returns-in_err-exactly c =
-    let p = err_from_is_err_and c.from_residual-in_err-exactly.result c.from_residual-in_err-exactly.ensures.1 in
-    let next = priority_next c.args.priorities.now c.loop-priority.priority-index c.loop-priority.self c.loop-priority-test.true (sym c.if-comes.ensures) in
-    rw (p.1, p.2) (fails_same c.in_err-exactly.field-0.0 _ _ (sym next ∙ c.loop-priority.invariant) (rw c.in_ok-byte.ensures (fails_first c.in_err-exactly.field-0.0 _ _ c.in_err-exactly.ensures)))
+pub more-preserved : goal.more-preserved
+more-preserved c = carries_many priority laws_priority digit_no_space causes c.more.invariant c.in_ok-left.ensures
 
-pub loop-priority-preserved : goal.loop-priority-preserved
-loop-priority-preserved c =
-    let next = priority_next c.args.priorities.now c.loop-priority.priority-index c.loop-priority.self c.loop-priority-test.true (sym c.if-comes.ensures) in
-    sym (rw (c.in_ok-byte.ensures, c.in_ok-exactly.ensures) at next) ∙ c.loop-priority.invariant
+pub returns : goal.returns
+returns c =
+    then_meets found_of causes (λ u. u) (at_place c.line_end.new.self) c.line_end.result
+    (joint_priorities c.args.priorities.now)
+    (priorities_end c.args.priorities.now c.more.left.now (at_place c.args.self.now) c.more.self c.more.invariant
+    (sym c.more-test.ensures)) c.line_end.ensures

@@ -1,10 +1,34 @@
-use Rattle.ps_certificate.proofs.PairLoops.{priority_read, priority_absent}
+use Rattle.std.proofs.Common.{sym}
+use Rattle.ps_certificate.proofs.PairSteps.{priority_exits, priority_fails, priority_open, priority_low, priority_unknown, priority_reads}
 use Rattle.ps_certificate.proofs.cursor.Cursor.priority.Goals as goal
 
+pub returns-in_err-priority-clause-read : goal.returns-in_err-priority-clause-read
+returns-in_err-priority-clause-read c = λ pairs same.
+    priority_exits c.args.priorities.now pairs c.args.self.now _ _ _
+    (priority_fails c.args.priorities.now c.args.last pairs same c.args.self.now c.number.new.self _
+    c.in_err-priority.ensures) c.from_residual.ensures.1
+
+pub returns-then-not-ends-clause-read : goal.returns-then-not-ends-clause-read
+returns-then-not-ends-clause-read c = λ pairs same.
+    priority_open c.args.priorities.now c.args.last pairs same c.args.self.now c.number.new.self
+    c.in_ok-priority.priority c.in_ok-priority.ensures c.number.new.self _
+    (sym c.if-not-ends.ensures) c.fault.ensures
+
+pub returns-then-not-is_above-clause-read : goal.returns-then-not-is_above-clause-read
+returns-then-not-is_above-clause-read c = λ pairs same.
+    priority_low c.args.priorities.now c.args.last pairs same c.args.self.now c.number.new.self
+    c.in_ok-priority.priority c.in_ok-priority.ensures c.number.new.self _ (sym c.if-not-ends.ensures)
+    (sym c.if-not-is_above.ensures) c.fault-refused.ensures
+
 pub returns-in-Some-clause-read : goal.returns-in-Some-clause-read
-returns-in-Some-clause-read c =
-    priority_read c.args.priorities.now c.args.last c.args.self.now c.field.new.self c.in_ok-priority.priority c.in_ok-priority.ensures c.in-Some.place c.if-not-is_above.ensures c.in-Some.ensures.some
+returns-in-Some-clause-read c = λ pairs same.
+    priority_reads c.args.priorities.now c.args.last pairs same c.args.self.now c.number.new.self
+    c.in_ok-priority.priority c.in_ok-priority.ensures c.in-Some.place
+    (sym c.if-not-is_above.ensures) c.in-Some.ensures.some
 
 pub returns-in-None-clause-read : goal.returns-in-None-clause-read
-returns-in-None-clause-read c =
-    rw c.fault-other_game.ensures (priority_absent c.args.priorities.now c.args.last c.args.self.now c.field.new.self c.in_ok-priority.priority c.in_ok-priority.ensures c.if-not-is_above.ensures c.in-None.ensures.none)
+returns-in-None-clause-read c = λ pairs same.
+    priority_unknown c.args.priorities.now c.args.last pairs same c.args.self.now c.number.new.self
+    c.in_ok-priority.priority c.in_ok-priority.ensures c.number.new.self _ (sym c.if-not-ends.ensures)
+    (sym c.if-not-is_above.ensures)
+    c.in-None.ensures.none c.fault-other_game.ensures

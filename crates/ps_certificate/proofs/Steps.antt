@@ -1,0 +1,217 @@
+-- How the reader's functions read their parts of the text, and fail at them, byte by byte.
+--     stops_at      a fault of the code, and its place
+--     refused_here      the next sign can't stand there
+--     byte_reads, byte_fails, two_first, two_second, two_fails      one byte
+--     end_reads, end_missing, end_fails      the end of a line of priorities, where some of these are left
+--     ends_true, ends_false      what the test of a field's end says
+use Rattle.std.proofs.Common.{◌≡◌, ℕ, ◌+◌, ◌<◌, ◌≤◌, Bool, true, false, cond, eqb, ◌||◌, List, [], ◌∷◌, length, Option, Some, None, refl, sym, ap, subst, inl, inr, ◌∙◌, arith}
+use Rattle.std.proofs.lemmas.Bool.{eq-eqb, ne_eqb, eqb-true, eqb-false}
+use Rattle.ps_text.specs.Answers.{signs, first_of, next_of}
+use Rattle.ps_text.specs.Parts.{NoBad, one, is_cause, is_refusal}
+use Rattle.ps_text.specs.Readers.{StopsWith, Reads, Stops}
+use Rattle.ps_text.specs.Faults.{found_of}
+use Rattle.ps_text.specs.declared.faults.Fault.TheVariants.{Text}
+use Rattle.ps_text.proofs.Laws.{Laws, Or, Nothing}
+use Rattle.ps_text.proofs.Simple.{none_is_some, same_some, Taken, BadSign, laws_one, read_one}
+use Rattle.ps_text.proofs.Covered.{Enters, Avoids, enters_one}
+use Rattle.ps_certificate.specs.declared.fault.CertCause.{CertCause}
+use Rattle.ps_certificate.specs.declared.fault.CertCause.TheVariants.{Syntax, OtherGame}
+use Rattle.ps_certificate.specs.Faults.{CertFault, cause_number}
+use Rattle.ps_certificate.specs.Places.{Place}
+use Rattle.ps_certificate.specs.Reading.{at_place, comes, ends, step_on, step_of}
+use Rattle.ps_certificate.specs.Texts.{Seen, Field, pieces_at, stream_at, causes, EndsField, take_byte, take_two, byte, two, IsMissing}
+use Rattle.ps_certificate.proofs.NumberPart.{Odd}
+use Rattle.ps_certificate.proofs.TextLaws.{At, byte_taken, laws_byte, laws_newline, first_taken}
+
+abbrev sees : ℕ → List ℕ → Seen
+sees b bytes = record { byte = b; behind = bytes }
+
+-- ## Faults
+
+pub stops_at : {V : Type 0} (P : Field V) (old : Place) (f : CertCause) (e : CertFault)
+    → StopsWith causes P (at_place old) (record { cause = f; offset = old.at }) → e ≡ Text f old.at
+    → Stops causes P (at_place old) (found_of e)
+stops_at P old f e s is = subst (λ x. Stops causes P (at_place old) (found_of x)) (sym is) s
+
+pub refused_here : {V : Type 0} {P : Field V} {First More : Seen → Type 0} → Laws Odd P First More ⊥ → (place : Place)
+    → ((b : ℕ) (bytes : List ℕ) → place.rest ≡ b ∷ bytes → First (sees b bytes) → ⊥)
+    → StopsWith causes P (at_place place) (record { cause = Syntax; offset = place.at })
+refused_here {V} {P = P} {First = First} l place none = go place.rest refl
+  where
+    go : (bytes : List ℕ) → place.rest ≡ bytes → StopsWith causes P (stream_at place.at bytes)
+        (record { cause = Syntax; offset = place.at })
+    go [] e = record {
+      front = [];
+      rest = [];
+      split = refl;
+      fault = record {
+        front = [];
+        split = refl;
+        clean = λ front more t g e l c. absurd (omega (arith, l));
+        fault = is_refusal (record { before = l.some; no_text = l.null; stops = tt; no_cause = tt }) refl;
+      };
+      offset = omega arith;
+    }
+    go (b ∷ bytes) e = record {
+      front = [];
+      rest = pieces_at place.at (b ∷ bytes);
+      split = refl;
+      fault = record {
+        front = [];
+        split = refl;
+        clean = λ front more t g e l c. absurd (omega (arith, l));
+        fault = is_refusal (record {
+          before = l.some;
+          no_text = l.null;
+          stops = λ x. none b bytes e (l.first_text (sees b bytes) x.more x.value x.is_text);
+          no_cause = λ f c. none b bytes e (l.first_cause (sees b bytes) f c);
+        }) refl;
+      };
+      offset = refl;
+    }
+
+-- ## The next byte
+
+comes_is : (b c : ℕ) (bytes rest : List ℕ) → rest ≡ c ∷ bytes → comes b rest ≡ true → c ≡ b
+comes_is b c bytes rest e h = eqb-true c b (subst (λ r. comes b r ≡ true) e h)
+
+comes_not : (b c : ℕ) (bytes rest : List ℕ) → rest ≡ c ∷ bytes → comes b rest ≡ false → c ≡ b → ⊥
+comes_not b c bytes rest e h = eqb-false c b (subst (λ r. comes b r ≡ false) e h)
+
+module _ {V : Type 0} (take : Seen → Option V) (Bad : Seen → CertCause → Type 0) (old new : Place) (b : ℕ) (v : V) where
+  -- the byte that comes is taken
+  pub taken : comes b old.rest ≡ true → new ≡ step_of old → ((bytes : List ℕ) → take (sees b bytes) ≡ Some v)
+      → ((bytes : List ℕ) (f : CertCause) → Bad (sees b bytes) f → ⊥)
+      → Reads (one take Bad) (at_place old) v (at_place new)
+  taken h next takes good = subst (λ q. Reads (one take Bad) (at_place old) v (at_place q)) (sym next) (go old.rest h)
+    where
+      go : (rest : List ℕ) → comes b rest ≡ true → Reads (one take Bad) (stream_at old.at rest) v
+          (at_place (step_on old.at rest))
+      go [] h = absurd cc
+      go (c ∷ bytes) h =
+          let same : b ≡ c = sym (eqb-true c b h) in (
+            record { taken = record { sign = sees c bytes; start = old.at } ∷ []; split = refl; end = omega arith },
+            read_one take Bad (sees c bytes) (signs (pieces_at (old.at + 1) bytes)) v
+                (subst (λ x. take (sees x bytes) ≡ Some v) same (takes bytes)) (subst (λ x. (f : CertCause)
+                → Bad (sees x bytes) f → ⊥) same (good bytes)),
+          )
+
+pub byte_reads : (b : ℕ) (old new : Place) → comes b old.rest ≡ true → new ≡ step_of old
+    → Reads (byte b) (at_place old) tt (at_place new)
+byte_reads b old new h next = taken (take_byte b) NoBad old new b tt h next
+    (λ bytes. byte_taken b (sees b bytes) refl) (λ bytes f x. x)
+
+pub byte_fails : (b : ℕ) (old : Place) (e : CertFault) → comes b old.rest ≡ false → e ≡ Text Syntax old.at
+    → Stops causes (byte b) (at_place old) (found_of e)
+byte_fails b old e h is = stops_at (byte b) old Syntax e
+    (refused_here (laws_byte b) old (λ c bytes s k. comes_not b c bytes old.rest s h k)) is
+
+-- ## One of two bytes
+
+module _ {V : Type 0} (a b : ℕ) (v w : V) (old new : Place) where
+  pub two_first : comes a old.rest ≡ true → new ≡ step_of old → Reads (two a b v w) (at_place old) v (at_place new)
+  two_first h next = taken (take_two a b v w) NoBad old new a v h next
+      (λ bytes. first_taken a b v w (sees a bytes) refl) (λ bytes f x. x)
+
+  pub two_second : (a ≡ b → ⊥) → comes b old.rest ≡ true → new ≡ step_of old
+      → Reads (two a b v w) (at_place old) w (at_place new)
+  two_second other h next = taken (take_two a b v w) NoBad old new b w h next second (λ bytes f x. x)
+    where
+      second : (bytes : List ℕ) → take_two a b v w (sees b bytes) ≡ Some w
+      second bytes = ap (λ x. cond x (Some v) (cond (eqb b b) (Some w) None)) (ne_eqb b a (λ e. other (sym e))) ∙ ap
+          (λ x. cond x (Some w) None) (eq-eqb b b refl)
+
+  pub two_fails : (e : CertFault) → comes a old.rest ≡ false → comes b old.rest ≡ false → e ≡ Text Syntax old.at
+      → Stops causes (two a b v w) (at_place old) (found_of e)
+  two_fails e h k is = stops_at (two a b v w) old Syntax e (refused_here laws old none) is
+    where
+      laws : Laws Odd (two a b v w) (Or (Taken (take_two a b v w)) (BadSign {F = CertCause} NoBad)) Nothing ⊥
+      laws = laws_one (take_two a b v w) NoBad Odd (sees a []) v (first_taken a b v w (sees a []) refl)
+          (λ t a o. none_is_some o.0 o.1) (λ t a o. none_is_some o.0 o.1)
+
+      none : (c : ℕ) (bytes : List ℕ) → old.rest ≡ c ∷ bytes
+          → Or (Taken (take_two a b v w)) (BadSign {F = CertCause} NoBad) (sees c bytes) → ⊥
+      none c bytes s (inr x) = x.1
+      none c bytes s (inl x) =
+          let not_taken : take_two a b v w (sees c bytes) ≡ None =
+          ap (λ z. cond z (Some v) (cond (eqb c b) (Some w) None))
+          (ne_eqb c a (comes_not a c bytes old.rest s h)) ∙ ap (λ z. cond z (Some w) None)
+          (ne_eqb c b (comes_not b c bytes old.rest s k)) in
+          none_is_some x.0 (sym not_taken ∙ x.1)
+
+-- ## The end of a line of priorities
+
+module _ (left : List ℕ) (old new : Place) where
+  pub end_reads : comes 10 old.rest ≡ true → new ≡ step_of old → length left ≡ 0
+      → Reads (one (take_byte 10) (IsMissing left)) (at_place old) tt (at_place new)
+  end_reads h next none = taken (take_byte 10) (IsMissing left) old new 10 tt h next
+      (λ bytes. byte_taken 10 (sees 10 bytes) refl) (λ bytes f x. omega (arith, x.1, none))
+
+  pub end_fails : (e : CertFault) → comes 10 old.rest ≡ false → e ≡ Text Syntax old.at
+      → Stops causes (one (take_byte 10) (IsMissing left)) (at_place old) (found_of e)
+  end_fails e h is = stops_at (one (take_byte 10) (IsMissing left)) old Syntax e
+      (refused_here (laws_newline left) old (λ c bytes s k. comes_not 10 c bytes old.rest s h k)) is
+
+  pub end_missing : (e : CertFault) → comes 10 old.rest ≡ true → 0 < length left → e ≡ Text OtherGame old.at
+      → Stops causes (one (take_byte 10) (IsMissing left)) (at_place old) (found_of e)
+  end_missing e h some is = stops_at (one (take_byte 10) (IsMissing left)) old OtherGame e (go old.rest h) is
+    where
+      least : (s : Seen) (g : CertCause) → IsMissing left s g → cause_number OtherGame ≤ cause_number g
+      least s g k = rw k.2 (omega arith)
+
+      go : (rest : List ℕ) → comes 10 rest ≡ true → StopsWith causes (one (take_byte 10) (IsMissing left))
+          (stream_at old.at rest) (record { cause = OtherGame; offset = old.at })
+      go [] h = absurd cc
+      go (c ∷ bytes) h = record {
+        front = [];
+        rest = pieces_at old.at (c ∷ bytes);
+        split = refl;
+        fault = record {
+          front = [];
+          split = refl;
+          clean = λ front more t g e l c. absurd (omega (arith, l));
+          fault = is_cause (sees c bytes) refl (refl, (eqb-true c 10 h, some, refl))
+              (λ g k. least (sees c bytes) g k.1);
+        };
+        offset = refl;
+      }
+
+-- ## Where a part begins, and where none does
+
+pub avoids : (b : ℕ) (place : Place) → comes b place.rest ≡ false → Avoids (At b) (next_of (at_place place))
+avoids b place e = go place.rest e
+  where
+    go : (bytes : List ℕ) → comes b bytes ≡ false → Avoids (At b) (first_of (signs (pieces_at place.at bytes)))
+    go [] e t s h = none_is_some t s
+    go (c ∷ bytes) e t s h = eqb-false c b e (ap (λ (x : Seen). x.byte) (same_some (sees c bytes) t s) ∙ h)
+
+pub enters_byte : (b : ℕ) (place : Place) → comes b place.rest ≡ true → Enters (byte b) (next_of (at_place place))
+enters_byte b place e = go place.rest e
+  where
+    go : (bytes : List ℕ) → comes b bytes ≡ true → Enters (byte b) (first_of (signs (pieces_at place.at bytes)))
+    go [] e = absurd cc
+    go (c ∷ bytes) e = enters_one (take_byte b) NoBad (sees c bytes)
+        (inl (tt, byte_taken b (sees c bytes) (eqb-true c b e)))
+
+pub ends_true : (bytes : List ℕ) → ends bytes ≡ true → EndsField bytes
+ends_true [] e = absurd cc
+ends_true (b ∷ bytes) e = go (eqb b 32) (eqb b 10) (eqb b 58) refl refl refl e
+  where
+    go : (x y z : Bool) → eqb b 32 ≡ x → eqb b 10 ≡ y → eqb b 58 ≡ z → ((x || y) || z) ≡ true → EndsField (b ∷ bytes)
+    go true y z p q r h = inl (eqb-true b 32 p)
+    go false true z p q r h = inr (inl (eqb-true b 10 q))
+    go false false true p q r h = inr (inr (eqb-true b 58 r))
+    go false false false p q r h = absurd cc
+
+pub ends_false : (bytes : List ℕ) → ends bytes ≡ false → EndsField bytes → ⊥
+ends_false [] e h = h
+ends_false (b ∷ bytes) e h = go (eqb b 32) (eqb b 10) (eqb b 58) refl refl refl e h
+  where
+    go : (x y z : Bool) → eqb b 32 ≡ x → eqb b 10 ≡ y → eqb b 58 ≡ z → ((x || y) || z) ≡ false → EndsField (b ∷ bytes)
+        → ⊥
+    go true y z p q r h k = absurd cc
+    go false true z p q r h k = absurd cc
+    go false false true p q r h k = absurd cc
+    go false false false p q r h (inl k) = eqb-false b 32 p k
+    go false false false p q r h (inr (inl k)) = eqb-false b 10 q k
+    go false false false p q r h (inr (inr k)) = eqb-false b 58 r k

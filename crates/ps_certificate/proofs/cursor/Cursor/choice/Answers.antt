@@ -1,0 +1,41 @@
+use Rattle.std.proofs.Common.{◌∙◌, sym}
+use Rattle.std.specs.List.{Contains}
+use Rattle.ps_ids.proofs.Members.{Contains-any, Contains-none}
+use Rattle.ps_certificate.specs.Texts.{OfOtherGame, choice}
+use Rattle.ps_certificate.proofs.Loops.{fails}
+use Rattle.ps_certificate.proofs.NumberPart.{judged_fails, number_reads, number_wrong}
+use Rattle.ps_certificate.proofs.Steps.{ends_true, ends_false}
+use Rattle.ps_certificate.proofs.EntrySteps.{choice_dash, choice_fails, choice_reads, place_is_vertex}
+use Rattle.ps_certificate.proofs.cursor.Cursor.choice.Goals as goal
+use Rattle.ps_certificate.proofs.cursor.Cursor.choice.Goals.{else-is_none-via-then-is_none+else-ends, else-is_none-via-else-is_none}
+
+pub returns-then-comes : goal.returns-then-comes
+returns-then-comes c = choice_dash c.args.ids.now c.args.self.now
+    (sym c.if-comes.ensures) c.step.new.self c.step.ensures
+
+pub returns-in_err-id : goal.returns-in_err-id
+returns-in_err-id c =
+    fails (λ v. v) (choice c.args.ids.now) c.args.self.now _ _ _
+    (choice_fails c.args.ids.now c.args.self.now (sym c.if-comes.ensures) _
+    (judged_fails (OfOtherGame (λ id. ¬ Contains c.args.ids.now id)) c.args.self.now c.number.new.self _
+    c.in_err-id.ensures)) c.from_residual.ensures.1
+
+pub returns-then-ends : goal.returns-then-ends
+returns-then-ends c =
+    choice_fails c.args.ids.now c.args.self.now (sym c.if-comes.ensures) _
+    (number_wrong (λ id. ¬ Contains c.args.ids.now id) c.args.self.now c.number.new.self c.in_ok-id.id
+    c.in_ok-id.ensures c.fault-other_game.result (ends_true c.number.new.self.rest (sym c.if-ends.ensures))
+    (Contains-none c.in_ok-id.id c.args.ids.now (sym c.place-vertex.ensures.member ∙ c.if-is_none.ensures))
+    c.fault-other_game.ensures)
+
+pub returns : goal.returns
+returns c =
+    choice_reads c.args.ids.now c.args.self.now (sym c.if-comes.ensures) c.in_ok-id.id c.number.new.self _
+    (number_reads (λ id. ¬ Contains c.args.ids.now id) c.args.self.now c.number.new.self c.in_ok-id.id
+    c.in_ok-id.ensures
+    (elim c.else-is_none.branch [
+      | else-is_none-via-then-is_none+else-ends w ↦ λ ended _. ends_false c.number.new.self.rest
+          (sym w.if-ends.ensures) ended
+      | else-is_none-via-else-is_none w ↦ λ _ none. none
+          (Contains-any c.in_ok-id.id c.args.ids.now (sym c.place-vertex.ensures.member ∙ w.if-is_none.ensures))
+    ])) (c.place-vertex.ensures.place ∙ place_is_vertex c.args.ids.now c.in_ok-id.id)

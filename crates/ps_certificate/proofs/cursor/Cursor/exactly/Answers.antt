@@ -1,0 +1,28 @@
+use Rattle.std.proofs.Common.{◌≢◌, sym}
+use Rattle.ps_certificate.specs.Texts.{OfOtherGame, number}
+use Rattle.ps_certificate.proofs.Loops.{fails}
+use Rattle.ps_certificate.proofs.NumberPart.{judged_fails, number_reads, number_wrong}
+use Rattle.ps_certificate.proofs.Steps.{ends_true, ends_false}
+use Rattle.ps_certificate.proofs.cursor.Cursor.exactly.Goals as goal
+use Rattle.ps_certificate.proofs.cursor.Cursor.exactly.Goals.{else-found-number-via-then-found-number+else-ends, else-found-number-via-else-found-number}
+
+pub returns-in_err-found : goal.returns-in_err-found
+returns-in_err-found c =
+    fails (λ n. n) (number (λ n. n ≢ c.args.number)) c.args.self.now _ _ _
+    (judged_fails (OfOtherGame (λ n. n ≢ c.args.number)) c.args.self.now c.number.new.self _
+    c.in_err-found.ensures) c.from_residual.ensures.1
+
+pub returns-then-ends : goal.returns-then-ends
+returns-then-ends c =
+    number_wrong (λ n. n ≢ c.args.number) c.args.self.now c.number.new.self c.in_ok-found.found c.in_ok-found.ensures
+    c.fault-other_game.result (ends_true c.number.new.self.rest (sym c.if-ends.ensures)) c.if-found-number.true
+    c.fault-other_game.ensures
+
+pub returns : goal.returns
+returns c =
+    number_reads (λ n. n ≢ c.args.number) c.args.self.now c.number.new.self c.in_ok-found.found c.in_ok-found.ensures
+    (elim c.else-found-number.branch [
+      | else-found-number-via-then-found-number+else-ends w ↦ λ ended _. ends_false c.number.new.self.rest
+          (sym w.if-ends.ensures) ended
+      | else-found-number-via-else-found-number w ↦ λ _ other. other w.if-found-number.false
+    ])

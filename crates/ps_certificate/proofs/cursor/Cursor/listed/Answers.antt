@@ -1,0 +1,46 @@
+use Rattle.std.proofs.Common.{◌∙◌, drop, sym}
+use Rattle.ps_text.proofs.Exits.{stops_first, stops_behind, stops_mapped}
+use Rattle.ps_certificate.specs.Reading.{at_place}
+use Rattle.ps_certificate.specs.Texts.{causes, OfOtherGame, NotNext, number, priority}
+use Rattle.ps_certificate.proofs.Loops.{fails, joint_listed, listed_reads, is_not_next, is_next}
+use Rattle.ps_certificate.proofs.NumberPart.{judged_fails, number_reads, number_wrong}
+use Rattle.ps_certificate.proofs.Steps.{ends_true, ends_false}
+use Rattle.ps_certificate.proofs.cursor.Cursor.listed.Goals as goal
+use Rattle.ps_certificate.proofs.cursor.Cursor.listed.Goals.{else-ne-via-then-ne+else-ends, else-ne-via-else-ne}
+
+pub returns-in_err-byte : goal.returns-in_err-byte
+returns-in_err-byte c = fails _ (priority c.args.priorities.now) c.args.self.now _ _ _
+    (stops_first causes (joint_listed c.args.priorities.now)
+    (at_place c.args.self.now) _ c.in_err-byte.ensures) c.from_residual.ensures.1
+
+pub returns-in_err-number : goal.returns-in_err-number
+returns-in_err-number c =
+    fails _ (priority c.args.priorities.now) c.args.self.now _ _ _
+    (stops_behind causes (joint_listed c.args.priorities.now) c.in_ok-byte.ensures _
+    (stops_mapped causes (λ _. drop 1 c.args.priorities.now) (number (NotNext c.args.priorities.now))
+    (at_place c.byte.new.self) _
+    (judged_fails (OfOtherGame (NotNext c.args.priorities.now)) c.byte.new.self c.number.new.self _
+    c.in_err-number.ensures))) c.from_residual-in_err-number.ensures.1
+
+pub returns-then-ends : goal.returns-then-ends
+returns-then-ends c =
+    stops_behind causes (joint_listed c.args.priorities.now) c.in_ok-byte.ensures _
+    (stops_mapped causes (λ _. drop 1 c.args.priorities.now) (number (NotNext c.args.priorities.now))
+    (at_place c.byte.new.self) _
+    (number_wrong (NotNext c.args.priorities.now) c.byte.new.self c.number.new.self c.in_ok-number.number
+    c.in_ok-number.ensures c.fault-other_game.result (ends_true c.number.new.self.rest (sym c.if-ends.ensures))
+    (is_not_next c.args.priorities.now c.in_ok-number.number c.copied.result
+    (c.copied.ensures ∙ c.first.ensures.value) c.if-ne.ensures) c.fault-other_game.ensures))
+
+pub returns : goal.returns
+returns c =
+    listed_reads c.args.priorities.now (at_place c.args.self.now) (at_place c.byte.new.self)
+    (at_place c.number.new.self) c.in_ok-byte.ensures c.in_ok-number.number
+    (number_reads (NotNext c.args.priorities.now) c.byte.new.self c.number.new.self c.in_ok-number.number
+    c.in_ok-number.ensures
+    (elim c.else-ne.branch [
+      | else-ne-via-then-ne+else-ends w ↦ λ ended _. ends_false c.number.new.self.rest (sym w.if-ends.ensures) ended
+      | else-ne-via-else-ne w ↦ λ _ other. other
+          (is_next c.args.priorities.now c.in_ok-number.number c.copied.result
+          (c.copied.ensures ∙ c.first.ensures.value) w.if-ne.ensures)
+    ])) _ c.without_first.ensures
