@@ -299,7 +299,7 @@ fault_refused solver order text line outcome stage.OutOfMemory h told e = absurd
 
 report_refused : (solver : SolverData) (asked : SynthLine) (text : List ℕ) (outcome : Result Reply (List ℕ)) → AnswersReport solver asked text outcome → RefusedOr text outcome
 report_refused solver asked text outcome (inl (line, (fault, cause, lies, told), e)) = fault_refused solver asked.order text line outcome fault cause told e
-report_refused solver asked text outcome (inr (report, is_report, e)) = inr (is_report.file, is_report.accepted)
+report_refused solver asked text outcome (inr (report, is_report, e)) = inr (is_report.promise.file, is_report.promise.accepted)
 
 module _ (games : OneGame) (certificates : OneCertificate) (flaws : OneFlaw) (circuits : OneCircuit) (stimuli : OneStimulus) (files : OneFile) (refusals : OneRefusal) (outcomes : OneOutcome) (verdicts : OneVerdict) (values : OneValues) (file_games : OneFileGame) where
   certified_one : (texts : List ℕ) → IsOne (ReadsCertified texts)

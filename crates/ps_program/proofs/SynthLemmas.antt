@@ -1,17 +1,15 @@
 -- What synthesis answers: where its fault lies, and by what its solver may answer.
 use Rattle.std.proofs.Common.{◌≡◌, ◌∙◌, ℕ, Bool, true, false, List, Result, Ok, Err, inl, inr, subst, sym}
 use Rattle.std.specs.Prelude.{Option}
-use Rattle.ps_certificate.specs.Certificates.{CertificateData}
-use Rattle.ps_game.specs.Games.{NamedGameData}
 use Rattle.ps_hoa.specs.Files.{FileData}
-use Rattle.ps_machine.specs.declared.fault.SolveFault.{SolveFault}
-use Rattle.ps_machine.specs.declared.fault.SolveFault.TheVariants as solver_fault
 use Rattle.ps_machine.specs.declared.key.Order.{Order}
-use Rattle.ps_synthesis.specs.Reports.{IsAccepted, IsReport, MayAnswer}
-use Rattle.ps_synthesis.specs.SynthFaults.{IsSureAnswer, IsSynthFault}
+use Rattle.ps_synthesis.specs.Reports.{IsReport}
+use Rattle.ps_synthesis.specs.Promises.{IsAccepted, MayAnswer}
+use Rattle.ps_synthesis.specs.SynthFaults.{IsOutcome, IsSynthFault}
 use Rattle.ps_synthesis.specs.declared.fault.SynthFault.{SynthFault}
-use Rattle.ps_synthesis.specs.declared.fault.SynthFault.TheVariants.{Text, Automaton, BadCycle, Certificate, NotCertified, CircuitTooLarge, OutOfMemory}
+use Rattle.ps_synthesis.specs.declared.fault.SynthFault.TheVariants.{BadCycle, Certificate, NotCertified}
 use Rattle.ps_synthesis.specs.declared.report.Report.{Report}
+use Rattle.ps_synthesis.proofs.Outcomes.{AnswersMore, fault_more, report_more, sure_in}
 use Rattle.ps_program.specs.declared.answer.Answer.{Answer}
 use Rattle.ps_program.specs.declared.answer.Refusal.{Refusal}
 use Rattle.ps_program.specs.declared.answer.Refusal.TheVariants as refusal
@@ -24,97 +22,21 @@ use Rattle.ps_program.specs.StageFaults.{IsOfSolver, IsTold}
 use Rattle.ps_program.specs.Synthesis.{AnswersReport, Synthesises}
 use Rattle.ps_program.proofs.SolverLemmas.{unsure}
 
--- whatever the first solver may answer, the other may
-abbrev pub AnswersMore : MayAnswer → MayAnswer → Type 0
-AnswersMore May Other = (game : NamedGameData) (answer : Result CertificateData SolveFault) → May game answer → Other game answer
-
-module _ (May Other : MayAnswer) (more : AnswersMore May Other) (order : Order) (text : List ℕ) where
-  pub report_more : (compact : Bool) (report : Report) → IsReport May order compact text report → IsReport Other order compact text report
-  report_more compact report r = record {
-    file = r.file;
-    accepted = r.accepted;
-    game = r.game;
-    is_game = r.is_game;
-    game_text = r.game_text;
-    certificate = r.certificate;
-    answered = more r.game (Ok r.certificate) r.answered;
-    certified = r.certified;
-    certificate_text = r.certificate_text;
-    both_hold = r.both_hold;
-    none_wins_outside = r.none_wins_outside;
-    realizable = r.realizable;
-    circuit = r.circuit;
-    circuit_text = r.circuit_text;
-    machine = r.machine;
-    winners = r.winners;
-    encodes = r.encodes;
-    tidy = r.tidy;
-    wired = r.wired;
-    answers = r.answers;
-  }
-
-  pub fault_more : (fault : SynthFault) → IsSynthFault May order text fault → IsSynthFault Other order text fault
-  fault_more (Text cause offset) h = h
-  fault_more (Automaton fault) h = h
-  fault_more (BadCycle ids) h = record {
-    file = h.file;
-    accepted = h.accepted;
-    game = h.game;
-    is_game = h.is_game;
-    holds = record {
-      cycle = h.holds.cycle;
-      answered = more h.game (Err (solver_fault.BadCycle h.holds.cycle)) h.holds.answered;
-      some = h.holds.some;
-      vertices = h.holds.vertices;
-      ids_are = h.holds.ids_are;
-    };
-  }
-  fault_more (Certificate cause offset) h = record {
-    file = h.file;
-    accepted = h.accepted;
-    game = h.game;
-    is_game = h.is_game;
-    holds = more h.game (Err (solver_fault.Text cause offset)) h.holds;
-  }
-  fault_more NotCertified h = record {
-    file = h.file;
-    accepted = h.accepted;
-    game = h.game;
-    is_game = h.is_game;
-    holds = record { certificate = h.holds.certificate; answered = more h.game (Ok h.holds.certificate) h.holds.answered; wrong = h.holds.wrong };
-  }
-  fault_more CircuitTooLarge h = record {
-    file = h.file;
-    accepted = h.accepted;
-    game = h.game;
-    is_game = h.is_game;
-    holds = record {
-      certificate = h.holds.certificate;
-      answered = more h.game (Ok h.holds.certificate) h.holds.answered;
-      certified = h.holds.certified;
-      is_game = h.holds.is_game;
-      machine = h.holds.machine;
-      winners = h.holds.winners;
-      out_of_literals = h.holds.out_of_literals;
-    };
-  }
-  fault_more OutOfMemory h = h
-
 -- a fault that lies with a solver is no sure solver's
-pub unsure_of : (May : MayAnswer) (order : Order) (text : List ℕ) (sure : Bool) (fault : SynthFault) → IsSynthFault May order text fault
-    → (sure ≡ true → (file : FileData) → IsAccepted text file → IsSureAnswer (Err fault)) → IsOfSolver fault → sure ≡ false
-unsure_of May order text sure (BadCycle ids) cause surely lies = unsure sure (λ t. surely t cause.file cause.accepted)
-unsure_of May order text sure (Certificate c offset) cause surely lies = unsure sure (λ t. surely t cause.file cause.accepted)
-unsure_of May order text sure NotCertified cause surely lies = unsure sure (λ t. surely t cause.file cause.accepted)
-unsure_of May order text sure _ cause surely lies = absurd lies
+pub unsure_of : (May : MayAnswer) (order : Order) (compact : Bool) (text : List ℕ) (sure : Bool) (fault : SynthFault) → IsSynthFault May order text fault
+    → (sure ≡ true → (file : FileData) → IsAccepted text file → IsOutcome May order compact text (Err fault)) → IsOfSolver fault → sure ≡ false
+unsure_of May order compact text sure (BadCycle ids) cause surely lies = unsure sure (λ t. sure_in May order compact text (Err (BadCycle ids)) (surely t cause.file cause.accepted))
+unsure_of May order compact text sure (Certificate c offset) cause surely lies = unsure sure (λ t. sure_in May order compact text (Err (Certificate c offset)) (surely t cause.file cause.accepted))
+unsure_of May order compact text sure NotCertified cause surely lies = unsure sure (λ t. sure_in May order compact text (Err NotCertified) (surely t cause.file cause.accepted))
+unsure_of May order compact text sure _ cause surely lies = absurd lies
 
 -- what is answered where there is no report
 pub gives_told : (solver : SolverData) (order : Order) (compact : Bool) (text : List ℕ) (fault : SynthFault) (refused : Refusal)
     → IsSynthFault (answers_now solver) order text fault
-    → (solver.is_sure ≡ true → (file : FileData) → IsAccepted text file → IsSureAnswer (Err fault))
+    → (solver.is_sure ≡ true → (file : FileData) → IsAccepted text file → IsOutcome (answers_now solver) order compact text (Err fault))
     → IsTold fault refused → Gives (λ (report : Report). report) (Synthesises solver order compact text) (Err refused)
 gives_told solver order compact text fault (refusal.Fault line) cause surely told =
-    (fault, cause, unsure_of (answers_now solver) order text solver.is_sure fault cause surely, told)
+    (fault, cause, unsure_of (answers_now solver) order compact text solver.is_sure fault cause surely, told)
 gives_told solver order compact text fault refusal.OutOfMemory cause surely told = tt
 
 -- ---- a solver that was fed

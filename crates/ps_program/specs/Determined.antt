@@ -2,7 +2,7 @@
 use Rattle.std.specs.Prelude.{◌≡◌, ◌⊎◌, ℕ, Bool, true, false, List, Ok}
 use Rattle.ps_game.specs.Games.{NamedGameData}
 use Rattle.ps_hoa.specs.Files.{FileData}
-use Rattle.ps_synthesis.specs.Reports.{IsAccepted}
+use Rattle.ps_synthesis.specs.Promises.{IsAccepted}
 use Rattle.ps_program.specs.CommandLine.{IsLine}
 use Rattle.ps_program.specs.Cut.{behind_line, first_line}
 use Rattle.ps_program.specs.Program.{AnswersWhole}

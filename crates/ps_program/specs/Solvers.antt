@@ -1,6 +1,6 @@
 -- The solvers that are handed in, as the program's answer goes by them.
 use Rattle.std.specs.Prelude.{ℕ, Bool, List, Option, None, Some}
-use Rattle.ps_synthesis.specs.Reports.{MayAnswer}
+use Rattle.ps_synthesis.specs.Promises.{MayAnswer}
 
 -- what is known of a solver
 pub record SolverData : Type 1 where

@@ -1,2 +1,3 @@
 pub mod CircuitFaults
+pub mod Outcomes
 pub mod Reporting

@@ -22,12 +22,14 @@ use Rattle.ps_machine.specs.declared.key.Key.{Key}
 use Rattle.ps_machine.specs.declared.key.Order.{Order}
 use Rattle.ps_synthesis.specs.Printing.{PrintsCertificate, PrintsCircuit, PrintsGame}
 use Rattle.ps_synthesis.specs.Problems.{Gives, IsProblem, IsProblemOf, IsReportFault, ProblemData}
-use Rattle.ps_synthesis.specs.Reports.{IsReport, IsWinners, MayAnswer}
+use Rattle.ps_synthesis.specs.Reports.{IsReport, IsWinners, IsWinnersCircuit}
+use Rattle.ps_synthesis.specs.Promises.{KeepsPromise, MayAnswer}
 use Rattle.ps_synthesis.specs.Stages.{IsAutomatonOf, IsCircuitFault, IsCircuitOf, IsExtracted}
-use Rattle.ps_synthesis.specs.SynthFaults.{IsSynthFault}
+use Rattle.ps_synthesis.specs.SynthFaults.{IsOutcome, IsSynthFault}
 use Rattle.ps_synthesis.specs.declared.fault.SynthFault.{SynthFault}
 use Rattle.ps_synthesis.specs.declared.fault.SynthFault.TheVariants.{Text, Automaton, BadCycle, Certificate, NotCertified, CircuitTooLarge, OutOfMemory}
 use Rattle.ps_synthesis.specs.declared.report.Report.{Report}
+use Rattle.ps_synthesis.proofs.Outcomes.{IsSureFault, outcome}
 use Rattle.ps_traces.specs.Answers.{IsAnswer}
 
 module _ (order : Order) (text : List ℕ) (a : AutomatonData) (keys : List Key) (game : NamedGameData) (of : IsAutomatonOf text a)
@@ -55,12 +57,12 @@ module _ (order : Order) (text : List ℕ) (a : AutomatonData) (keys : List Key)
     machine_of = subst (λ (board : Board). IsMachineOf board (mover_of order) keys game.game certificate m) board_same (e.machine_of keys is_game);
   }
 
-  report_is : (May : MayAnswer) (compact : Bool) (certificate : CertificateData) (circuit : CircuitData) (report : Report) → May game (Ok certificate) → IsCertified game certificate
-      → BothHold game.game certificate → NoneWinsOutside game.game certificate → IsCircuitOf order a game.game certificate circuit
+  promise_is : (May : MayAnswer) (compact : Bool) (certificate : CertificateData) (circuit : CircuitData) (report : Report) → May game (Ok certificate) → IsCertified game certificate
+      → BothHold game.game certificate → NoneWinsOutside game.game certificate
       → ((file : FileData) (chain : Chain) → IsBuiltFrom file chain a → IsAnswer order file (winner certificate) circuit)
       → (IsTrue report.realizable ↔ (winner certificate ≡ 0)) → PrintsCircuit report.circuit_text.items circuit → PrintsGame report.game_text.items game → PrintsCertificate compact report.certificate_text.items game certificate
-      → IsReport May order compact text report
-  report_is May compact certificate circuit report may certified hold outside made answers realizable prints_circuit prints_game prints_certificate = record {
+      → KeepsPromise May order compact text report
+  promise_is May compact certificate circuit report may certified hold outside answers realizable prints_circuit prints_game prints_certificate = record {
     file = of.file;
     accepted = of.accepted;
     game = game;
@@ -75,23 +77,31 @@ module _ (order : Order) (text : List ℕ) (a : AutomatonData) (keys : List Key)
     realizable = realizable;
     circuit = circuit;
     circuit_text = prints_circuit;
+    answers = answers of.file of.chain of.built;
+  }
+
+  circuit_is : (certificate : CertificateData) (circuit : CircuitData) → IsCircuitOf order a game.game certificate circuit → IsWinnersCircuit order of.file game of_file certificate circuit
+  circuit_is certificate circuit made = record {
     machine = made.machine;
     winners = winners certificate made.machine made.extracted;
     encodes = made.encodes;
     tidy = made.tidy;
     wired = made.wired;
-    answers = answers of.file of.chain of.built;
   }
 
   -- the same of a report that is made with that circuit
-  pub reports : (May : MayAnswer) (compact : Bool) (certificate : CertificateData) (result : Result Report SynthFault) → May game (Ok certificate) → IsCertified game certificate → BothHold game.game certificate
+  reports : (May : MayAnswer) (compact : Bool) (certificate : CertificateData) (result : Result Report SynthFault) → May game (Ok certificate) → IsCertified game certificate → BothHold game.game certificate
       → NoneWinsOutside game.game certificate → IfOk result (λ report. IsTrue report.realizable ↔ (winner certificate ≡ 0))
       → IfOk result (λ report. (circuit : CircuitData) × PrintsCircuit report.circuit_text.items circuit × IsCircuitOf order a game.game certificate circuit
       × ((file : FileData) (chain : Chain) → IsBuiltFrom file chain a → IsAnswer order file (winner certificate) circuit))
       → IfOk result (λ report. PrintsGame report.game_text.items game) → IfOk result (λ report. PrintsCertificate compact report.certificate_text.items game certificate)
       → IfOk result (IsReport May order compact text)
+  unfolding promise_is
   reports May compact certificate (Ok report) may certified hold outside realizable made prints_game prints_certificate =
-      report_is May compact certificate made.0 report may certified hold outside made.2 made.3 realizable made.1 prints_game prints_certificate
+      record {
+        promise = promise_is May compact certificate made.0 report may certified hold outside made.3 realizable made.1 prints_game prints_certificate;
+        circuit = circuit_is certificate made.0 made.2;
+      }
   reports May compact certificate (Err fault) may certified hold outside realizable made prints_game prints_certificate = tt
 
   circuit_cause : (May : MayAnswer) (certificate : CertificateData) (fault : SynthFault) → May game (Ok certificate) → IsCertified game certificate → IsCircuitFault order a game.game certificate fault → IsSynthFault May order text fault
@@ -117,7 +127,7 @@ module _ (order : Order) (text : List ℕ) (a : AutomatonData) (keys : List Key)
   circuit_cause May certificate (Certificate cause offset) may certified h = absurd h
   circuit_cause May certificate NotCertified may certified h = absurd h
 
-  pub circuit_causes : (May : MayAnswer) (certificate : CertificateData) (result : Result Report SynthFault) → May game (Ok certificate) → IsCertified game certificate
+  circuit_causes : (May : MayAnswer) (certificate : CertificateData) (result : Result Report SynthFault) → May game (Ok certificate) → IsCertified game certificate
       → IfErr result (IsCircuitFault order a game.game certificate) → IfErr result (IsSynthFault May order text)
   circuit_causes May certificate (Ok report) may certified h = tt
   circuit_causes May certificate (Err fault) may certified h = circuit_cause May certificate fault may certified h
@@ -133,18 +143,29 @@ pub record IsMade (p : ProblemData) (certificate : CertificateData) (compact : B
   pub certificate_text : IfOk result (λ report. PrintsCertificate compact report.certificate_text.items p.game certificate)
   pub refused : IfErr result (IsCircuitFault p.order p.automaton p.game.game certificate)
 
+sure_circuit : (p : ProblemData) (certificate : CertificateData) (fault : SynthFault) → IsCircuitFault p.order p.automaton p.game.game certificate fault → IsSureFault fault
+sure_circuit p certificate CircuitTooLarge h = tt
+sure_circuit p certificate OutOfMemory h = tt
+sure_circuit p certificate (Text cause offset) h = absurd h
+sure_circuit p certificate (Automaton fault) h = absurd h
+sure_circuit p certificate (BadCycle ids) h = absurd h
+sure_circuit p certificate (Certificate cause offset) h = absurd h
+sure_circuit p certificate NotCertified h = absurd h
+
+sure_circuits : (p : ProblemData) (certificate : CertificateData) (result : Result Report SynthFault) → IfErr result (IsCircuitFault p.order p.automaton p.game.game certificate) → IfErr result IsSureFault
+sure_circuits p certificate (Ok report) h = tt
+sure_circuits p certificate (Err fault) h = sure_circuit p certificate fault h
+
 module _ (p : ProblemData) (is : IsProblem p) (certificate : CertificateData) (compact : Bool) (result : Result Report SynthFault) (made : IsMade p certificate compact result) (certified : IsCertified p.game certificate)
     (order : Order) (text : List ℕ) (of : IsProblemOf order text p) where
-  pub problem_reports : BothHold p.game.game certificate → NoneWinsOutside p.game.game certificate → IfOk result (IsReport (Gives p.game certificate) order compact text)
-  problem_reports hold outside =
-      subst (λ (o : Order). IfOk result (IsReport (Gives p.game certificate) o compact text)) of.order_is
+  pub problem_outcome : BothHold p.game.game certificate → NoneWinsOutside p.game.game certificate → IsOutcome (Gives p.game certificate) order compact text result
+  problem_outcome hold outside =
+      subst (λ (o : Order). IsOutcome (Gives p.game certificate) o compact text result) of.order_is
+      (outcome (Gives p.game certificate) p.order compact text result
       (reports p.order text p.automaton p.keys p.game of.automaton_of is.is_game is.are_named (Gives p.game certificate) compact certificate result (refl, refl) certified hold outside
       made.realizable made.circuit made.game made.certificate_text)
-
-  pub problem_refuses : IfErr result (IsSynthFault (Gives p.game certificate) order text)
-  problem_refuses =
-      subst (λ (o : Order). IfErr result (IsSynthFault (Gives p.game certificate) o text)) of.order_is
       (circuit_causes p.order text p.automaton p.keys p.game of.automaton_of is.is_game is.are_named (Gives p.game certificate) certificate result (refl, refl) certified made.refused)
+      (sure_circuits p certificate result made.refused))
 
 -- ## A certificate that was checked
 

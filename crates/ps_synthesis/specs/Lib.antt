@@ -1,4 +1,5 @@
 pub mod Printing
+pub mod Promises
 pub mod Problems
 pub mod Reports
 pub mod Stages

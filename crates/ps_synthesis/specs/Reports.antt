@@ -1,66 +1,34 @@
--- What a report says of the text that it is made of.
---     IsAccepted text file      the text is that of a file that has an automaton
---     MayAnswer      what a solver may answer for a game
+-- What is known of a report: what it promises, and how its circuit comes about.
 --     IsWinners order file game is_game certificate m      the machine of the winner by that certificate
---     IsReport May order compact text report      all of it: the printed game is the automaton's; the printed certificate parts its vertices in two
---                                                 regions, each won by the moves that are printed; and the printed circuit is the winner's answer
-use Rattle.std.specs.Prelude.{◌≡◌, ◌↔◌, ℕ, Bool, IsTrue, List, Result, Ok}
-use Rattle.ps_aiger.specs.Wires.{IsWired}
-use Rattle.ps_circuit.specs.Circuits.{CircuitData}
+--     IsWinnersCircuit order file game is_game certificate circuit      the circuit is that of such a machine, with just the gates that it has
+--     IsReport May order compact text report      both
+use Rattle.std.specs.Prelude.{ℕ, Bool, List}
 use Rattle.ps_aiger.specs.Encoded.{Encodes, IsTidy}
-use Rattle.ps_automaton.specs.Answers.{IsAdmitted}
+use Rattle.ps_aiger.specs.Wires.{IsWired}
 use Rattle.ps_certificate.specs.Certificates.{CertificateData}
-use Rattle.ps_certificate.specs.Regions.{BothHold, NoneWinsOutside}
+use Rattle.ps_circuit.specs.Circuits.{CircuitData}
 use Rattle.ps_game.specs.Games.{NamedGameData}
 use Rattle.ps_hoa.specs.Files.{FileData}
-use Rattle.ps_hoa.specs.Texts.{Reads}
+use Rattle.ps_machine.specs.Behaviours.{Behaviour, IsMachine}
 use Rattle.ps_machine.specs.Extracting.{HasPropositions, IsMachineOf}
-use Rattle.ps_machine.specs.Solving.{winner}
 use Rattle.ps_machine.specs.FileGames.{IsGameOfFile, board_of_file}
 use Rattle.ps_machine.specs.Keys.{mover_of}
-use Rattle.ps_machine.specs.Behaviours.{Behaviour, IsMachine}
-use Rattle.ps_machine.specs.Solving.{IsCertified}
-use Rattle.ps_machine.specs.declared.fault.SolveFault.{SolveFault}
 use Rattle.ps_machine.specs.declared.key.Order.{Order}
-use Rattle.ps_traces.specs.Answers.{IsAnswer}
-use Rattle.ps_synthesis.specs.Printing.{PrintsGame, PrintsCertificate, PrintsCircuit}
+use Rattle.ps_synthesis.specs.Promises.{KeepsPromise, MayAnswer}
 use Rattle.ps_synthesis.specs.declared.report.Report.{Report}
-
-pub record IsAccepted (text : List ℕ) (file : FileData) : Type 0 where
-  pub reads : Reads text (Ok file)
-  pub admitted : IsAdmitted file
-
-abbrev pub MayAnswer : Type 1
-MayAnswer = NamedGameData → Result CertificateData SolveFault → Type 0
 
 pub record IsWinners (order : Order) (file : FileData) (game : NamedGameData) (is_game : IsGameOfFile order file game) (certificate : CertificateData) (m : Behaviour) : Type 0 where
   pub is_machine : IsMachine m
   pub propositions : HasPropositions file.names (board_of_file order file is_game.auto) m
   pub machine_of : IsMachineOf (board_of_file order file is_game.auto) (mover_of order) is_game.keys game.game certificate m
 
-pub record IsReport (May : MayAnswer) (order : Order) (compact : Bool) (text : List ℕ) (report : Report) : Type 0 where
-  pub file : FileData
-  pub accepted : IsAccepted text file
-  -- the game that is printed
-  pub game : NamedGameData
-  pub is_game : IsGameOfFile order file game
-  pub game_text : PrintsGame report.game_text.items game
-  -- the certificate that is printed, which the solver gave
-  pub certificate : CertificateData
-  pub answered : May game (Ok certificate)
-  pub certified : IsCertified game certificate
-  pub certificate_text : PrintsCertificate compact report.certificate_text.items game certificate
-  -- each player wins every loop of every play from its region by the moves that are printed, and nothing outside it
-  pub both_hold : BothHold game.game certificate
-  pub none_wins_outside : NoneWinsOutside game.game certificate
-  -- the circuit that is printed, a controller's where player 0 wins vertex 0, and else an environment's
-  pub realizable : IsTrue report.realizable ↔ (winner certificate ≡ 0)
-  pub circuit : CircuitData
-  pub circuit_text : PrintsCircuit report.circuit_text.items circuit
-  -- it is that of the winner's machine by this certificate, with just the gates that such a machine has
+pub record IsWinnersCircuit (order : Order) (file : FileData) (game : NamedGameData) (is_game : IsGameOfFile order file game) (certificate : CertificateData) (circuit : CircuitData) : Type 0 where
   pub machine : Behaviour
   pub winners : IsWinners order file game is_game certificate machine
   pub encodes : Encodes machine circuit
   pub tidy : IsTidy circuit
   pub wired : IsWired machine circuit
-  pub answers : IsAnswer order file (winner certificate) circuit
+
+pub record IsReport (May : MayAnswer) (order : Order) (compact : Bool) (text : List ℕ) (report : Report) : Type 0 where
+  pub promise : KeepsPromise May order compact text report
+  pub circuit : IsWinnersCircuit order promise.file promise.game promise.is_game promise.certificate promise.circuit

@@ -32,7 +32,7 @@ use Rattle.ps_machine.specs.declared.fault.SolveFault.TheVariants as solver
 use Rattle.ps_machine.specs.declared.key.Key.{Key}
 use Rattle.ps_machine.specs.declared.key.Order.{Order}
 use Rattle.ps_text.specs.declared.faults.Fault.TheVariants as hoa
-use Rattle.ps_synthesis.specs.Reports.{IsAccepted, MayAnswer}
+use Rattle.ps_synthesis.specs.Promises.{IsAccepted, MayAnswer}
 use Rattle.ps_synthesis.specs.SynthFaults.{HasNoAutomaton, IsLost, IsNotCertified}
 use Rattle.ps_synthesis.specs.declared.fault.SynthFault.{SynthFault}
 use Rattle.ps_synthesis.specs.declared.fault.SynthFault.TheVariants.{Text, Automaton, BadCycle, Certificate, NotCertified, CircuitTooLarge, OutOfMemory}

@@ -5,8 +5,8 @@
 --     IsNotCertified May game      the solver gave a certificate that does not fit, or is not valid
 --     IsTooLarge May order file game      the machine of a valid certificate has no circuit of so many variables as can be named
 --     IsSynthFault May order text fault      the cause of that fault
---     IsSureAnswer answer      what a sure solver lets be answered to a text that is accepted
-use Rattle.std.specs.Prelude.{◌≡◌, ◌≢◌, ℕ, ◌<◌, List, length, map, slice_index, Result, Ok, Err, Vec}
+--     IsOutcome May order compact text answer      what is answered to a text that is accepted, where the solver is sure
+use Rattle.std.specs.Prelude.{◌≡◌, ◌≢◌, ℕ, ◌<◌, Bool, List, length, map, slice_index, Result, Ok, Err, Vec}
 use Rattle.std.specs.Global.{Global}
 use Rattle.std.specs.List.{All}
 use Rattle.ps_aiger.specs.Wires.{IsOutOfLiterals}
@@ -22,7 +22,8 @@ use Rattle.ps_machine.specs.Behaviours.{Behaviour}
 use Rattle.ps_machine.specs.Solving.{IsCertified}
 use Rattle.ps_machine.specs.declared.fault.SolveFault.TheVariants as solver
 use Rattle.ps_machine.specs.declared.key.Order.{Order}
-use Rattle.ps_synthesis.specs.Reports.{IsAccepted, IsWinners, MayAnswer}
+use Rattle.ps_synthesis.specs.Reports.{IsReport, IsWinners}
+use Rattle.ps_synthesis.specs.Promises.{IsAccepted, MayAnswer}
 use Rattle.ps_synthesis.specs.declared.fault.SynthFault.{SynthFault}
 use Rattle.ps_synthesis.specs.declared.fault.SynthFault.TheVariants.{Text, Automaton, BadCycle, Certificate, NotCertified, CircuitTooLarge, OutOfMemory}
 use Rattle.ps_synthesis.specs.declared.report.Report.{Report}
@@ -70,8 +71,8 @@ IsSynthFault May order text NotCertified = OfGame order text (λ file game. IsNo
 IsSynthFault May order text CircuitTooLarge = OfGame order text (IsTooLarge May order)
 IsSynthFault May order text OutOfMemory = Unit {0}
 
-abbrev pub IsSureAnswer : Result Report SynthFault → Type 0
-IsSureAnswer (Ok report) = Unit {0}
-IsSureAnswer (Err CircuitTooLarge) = Unit {0}
-IsSureAnswer (Err OutOfMemory) = Unit {0}
-IsSureAnswer (Err fault) = ⊥
+-- a report; or the circuit is too large, or memory ran out
+pub data IsOutcome (May : MayAnswer) (order : Order) (compact : Bool) (text : List ℕ) (answer : Result Report SynthFault) : Type 0 where
+  Reported : (report : Report) → answer ≡ Ok report → IsReport May order compact text report → IsOutcome May order compact text answer
+  TooLarge : answer ≡ Err CircuitTooLarge → OfGame order text (IsTooLarge May order) → IsOutcome May order compact text answer
+  LacksMemory : answer ≡ Err OutOfMemory → IsOutcome May order compact text answer

@@ -2,7 +2,7 @@
 
 ghost use Rattle.std.specs.Prelude.{◌≡◌, IfOk, IfErr};
 ghost use Rattle.ps_hoa.specs.Files.{FileData};
-ghost use Rattle.ps_synthesis.specs.Reports.{IsAccepted};
+ghost use Rattle.ps_synthesis.specs.Promises.{IsAccepted};
 ghost use Rattle.ps_synthesis.specs.Stages.{IsAutomatonOf, IsTextFault};
 ghost use Rattle.ps_synthesis.specs.declared.fault.SynthFault.TheVariants.{OutOfMemory};
 

@@ -15,9 +15,10 @@ ghost use Rattle.ps_machine.specs.Solving.{IsCertified};
 ghost use Rattle.ps_machine.specs.declared.key.Order.{Order};
 ghost use Rattle.ps_synthesis.specs.Printing.{PrintsCertificate, PrintsCircuit, PrintsGame};
 ghost use Rattle.ps_synthesis.specs.Problems.{Gives, IsProblem, IsProblemOf, IsReportFault};
-ghost use Rattle.ps_synthesis.specs.Reports.{IsAccepted, IsReport};
+ghost use Rattle.ps_synthesis.specs.Reports.{IsReport};
+ghost use Rattle.ps_synthesis.specs.Promises.{IsAccepted};
 ghost use Rattle.ps_synthesis.specs.Stages.{IsCircuitFault, IsCircuitOf, IsTextFault};
-ghost use Rattle.ps_synthesis.specs.SynthFaults.{IsSynthFault};
+ghost use Rattle.ps_synthesis.specs.SynthFaults.{IsOutcome};
 ghost use Rattle.ps_synthesis.specs.declared.fault.SynthFault.TheVariants.{NotCertified, OutOfMemory};
 ghost use Rattle.ps_traces.specs.Answers.{IsAnswer};
 
@@ -96,6 +97,7 @@ impl Problem {
         ensures report { (order : Order) (text : List ℕ) → IsProblemOf order text self.now → IfOk result (IsReport (Gives self.now.game certificate.now) order compact text) }
         ensures refused { IfErr result (IsReportFault self.now certificate.now) }
         ensures not_certified { ¬ IsCertified self.now.game certificate.now → IsErrAnd result (λ fault. fault ≡ NotCertified) }
+        ensures outcome { IsCertified self.now.game certificate.now → (order : Order) (text : List ℕ) → IsProblemOf order text self.now → IsOutcome (Gives self.now.game certificate.now) order compact text result }
     {
         if !is_certified(self.game(), certificate) {
             return Err(SynthFault::NotCertified);
@@ -115,8 +117,7 @@ impl Problem {
         compact: bool,
     ) -> Result<Report, SynthFault>
         requires { IsCertified self.now.game certificate.now }
-        ensures report { (order : Order) (text : List ℕ) → IsProblemOf order text self.now → IfOk result (IsReport (Gives self.now.game certificate.now) order compact text) }
-        ensures refused { (order : Order) (text : List ℕ) → IsProblemOf order text self.now → IfErr result (IsSynthFault (Gives self.now.game certificate.now) order text) }
+        ensures outcome { (order : Order) (text : List ℕ) → IsProblemOf order text self.now → IsOutcome (Gives self.now.game certificate.now) order compact text result }
         ensures cause { IfErr result (IsCircuitFault self.now.order self.now.automaton self.now.game.game certificate.now) }
     {
         valid_regions_are_held();

@@ -5,7 +5,7 @@ use Rattle.ps_game.specs.Games.{NamedGameData}
 use Rattle.ps_machine.specs.Solving.{AnswersSurely, IsCertified, NamesVertices}
 use Rattle.ps_machine.specs.declared.fault.SolveFault.{SolveFault}
 use Rattle.ps_machine.specs.declared.fault.SolveFault.TheVariants as solver
-use Rattle.ps_synthesis.specs.Reports.{MayAnswer}
+use Rattle.ps_synthesis.specs.Promises.{MayAnswer}
 use Rattle.ps_synthesis.specs.Stages.{IsRefusedAs, IsSolverFault}
 use Rattle.ps_synthesis.specs.declared.fault.SynthFault.{SynthFault}
 use Rattle.ps_synthesis.specs.declared.fault.SynthFault.TheVariants.{Text, Automaton, BadCycle, Certificate, NotCertified, CircuitTooLarge, OutOfMemory}

@@ -5,8 +5,9 @@ ghost use Rattle.ps_certificate.specs.Certificates.{CertificateData};
 ghost use Rattle.ps_game.specs.Games.{NamedGameData};
 ghost use Rattle.ps_hoa.specs.Files.{FileData};
 ghost use Rattle.ps_machine.specs.declared.fault.SolveFault.{SolveFault};
-ghost use Rattle.ps_synthesis.specs.Reports.{IsAccepted, IsReport};
-ghost use Rattle.ps_synthesis.specs.SynthFaults.{IsSureAnswer, IsSynthFault};
+ghost use Rattle.ps_synthesis.specs.Promises.{IsAccepted};
+ghost use Rattle.ps_synthesis.specs.Reports.{IsReport};
+ghost use Rattle.ps_synthesis.specs.SynthFaults.{IsOutcome, IsSynthFault};
 
 use crate::certifying::certified;
 use ps_machine::{Order, Solver};
@@ -30,8 +31,8 @@ pub fn synthesise(
     // The report is right, whatever solver is handed in; and each fault has its cause.
     ensures report { IfOk result (IsReport (may_answer solver.old (fed solver.old)) order compact text.now) }
     ensures refused { IfErr result (IsSynthFault (may_answer solver.old (fed solver.old)) order text.now) }
-    // With a sure solver, only memory or a circuit that is too large stands in the way of a text that is accepted.
-    ensures sure { is_sure solver.old ≡ true → (file : FileData) → IsAccepted text.now file → IsSureAnswer result }
+    // With a sure solver, a text that is accepted gets a report; or memory ran out, or the circuit is too large.
+    ensures sure { is_sure solver.old ≡ true → (file : FileData) → IsAccepted text.now file → IsOutcome (may_answer solver.old (fed solver.old)) order compact text.now result }
     // The solver stays as it was.
     ensures steady { is_sure solver.new ≡ is_sure solver.old }
     ensures kept { fed solver.new ≡ fed solver.old }
