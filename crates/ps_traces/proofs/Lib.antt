@@ -10,3 +10,4 @@ pub mod Rejected
 pub mod ShapeOf
 pub mod Answering
 pub mod CertifiedCircuits
+pub mod Verdicts

@@ -1,8 +1,9 @@
 //! Laws on traces that come back to their latches.
 
-ghost use Rattle.std.specs.Prelude.{◌≡◌, ◌≢◌, ℕ, List};
+ghost use Rattle.std.specs.Prelude.{◌≡◌, ◌≢◌, ℕ, ◌<◌, Bool, List, length};
 ghost use Rattle.ps_hoa.specs.Files.{FileData};
-ghost use Rattle.ps_hoa.specs.Sound.{AreNames};
+ghost use Rattle.ps_hoa.specs.Sound.{AreNames, IsSound};
+ghost use Rattle.ps_automaton.specs.Answers.{IsAdmitted};
 ghost use Rattle.ps_automaton.specs.Automata.{AutomatonData, IsBuiltFrom};
 ghost use Rattle.ps_automaton.specs.Chains.{Chain};
 ghost use Rattle.ps_game.specs.Games.{ParityGame};
@@ -18,7 +19,10 @@ ghost use Rattle.ps_machine.specs.Solving.{winner};
 ghost use Rattle.ps_machine.specs.Keys.{mover_of};
 ghost use Rattle.ps_machine.specs.declared.key.Key.{Key};
 ghost use Rattle.ps_machine.specs.declared.key.Order.{Order};
+ghost use Rattle.ps_simulate.specs.LassoFaults.{AreWide};
+ghost use Rattle.ps_simulate.specs.Lassos.{IsVerdictOf};
 ghost use Rattle.ps_simulate.specs.Symbols.{HasSymbols};
+ghost use Rattle.ps_simulate.specs.declared.lassos.Verdict.{Verdict};
 ghost use Rattle.ps_simulate.specs.declared.role.Role.{Role};
 ghost use Rattle.ps_simulate.specs.declared.role.Role.TheVariants.{Environment};
 ghost use Rattle.ps_traces.specs.Answers.{IsAnswer, role_of};
@@ -28,6 +32,7 @@ ghost use Rattle.ps_traces.specs.Shapes.{HasShape, IsInTime};
 ghost use Rattle.ps_traces.specs.Inputs.{EachInputGoesOn, HasLetters};
 ghost use Rattle.ps_traces.specs.Meetings.{FiniteController, IsController, IsOneMeeting, IsRejected, MeetsInLasso};
 
+use ps_automaton::automaton_is_there;
 use ps_machine::lassos_won;
 use ps_simulate::circuit_has_one_values;
 
@@ -42,6 +47,16 @@ pub fn every_input_goes_on()
 pub fn every_trace_has_letters()
     ensures { (role : Role) (file : FileData) (c : CircuitData) (moments : List Moment) → AreNames file.names → HasSymbols role file.names file.controllable c → HasLetters file.names c moments }
 {}
+
+/// A file that was read and is admitted, and a circuit with the inputs and outputs of a role, have a verdict on each stem and each
+/// lap, not empty, of letters of the circuit's width.
+pub fn verdict_is_there()
+    ensures { (role : Role) (file : FileData) (c : CircuitData) (stem lap : List (List Bool)) → IsSound file → IsAdmitted file → IsCircuit c →
+        HasSymbols role file.names file.controllable c → AreWide c stem lap → 0 < length lap → (verdict : Verdict) × IsVerdictOf file c stem lap verdict }
+{
+    automaton_is_there();
+    circuit_has_one_values();
+}
 
 /// The circuit of an environment and a finite-state controller have one joint trace of each length.
 pub fn meeting_is_one()

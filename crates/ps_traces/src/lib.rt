@@ -19,5 +19,5 @@ mod laws;
 pub use laws::{
     certified_circuit_answers, circuit_answers, circuit_has_machine_words, circuit_has_shape,
     circuit_is_won, every_input_goes_on, every_meeting_goes_on, every_meeting_is_rejected,
-    every_trace_has_letters, meeting_is_one,
+    every_trace_has_letters, meeting_is_one, verdict_is_there,
 };
