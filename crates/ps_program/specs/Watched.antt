@@ -1,5 +1,5 @@
 -- What a watched reader or writer holds, and what a call answered.
-use Rattle.std.specs.Prelude.{Bool, Option, None, Some, Result, Ok, Err}
+use Rattle.std.specs.Prelude.{◌≤◌, ℕ, List, length, Bool, Option, IfSome, None, Some, Result, Ok, Err}
 use Rattle.ps_program.specs.declared.watched.Watched.{Watched}
 
 -- the reader or writer that is watched
@@ -18,3 +18,7 @@ watched_stalled watched = watched.has_stalled
 abbrev pub answered : {T E : Type 0} → Result T E → Option T
 answered (Ok value) = Some value
 answered (Err error) = None
+
+-- the count that a call answered is at most that of the bytes that it was lent
+abbrev pub CountsWithin : List ℕ → Option ℕ → Type 0
+CountsWithin bytes count = IfSome count (λ n. n ≤ length bytes)

@@ -4,7 +4,7 @@ ghost use Rattle.std.specs.Prelude.{◌≡◌, ⊤, ℕ, List, Option, OnOk, is_
 ghost use Rattle.std.specs.Io.{ReadsAtMost, WritesAtMost};
 ghost use Rattle.std.specs.Io.KnownBytes.{ReadConsumes, WriteAppends, Keeps};
 ghost use Rattle.ps_program.specs.Streams.{stalls};
-ghost use Rattle.ps_program.specs.Watched.{watched_inner, watched_failed, watched_stalled, answered};
+ghost use Rattle.ps_program.specs.Watched.{watched_inner, watched_failed, watched_stalled, answered, CountsWithin};
 
 use crate::stream::{Sink, Source};
 use std::io;
@@ -44,7 +44,7 @@ pub trait Writer: Write {
 }
 
 impl Reader for Stdin {
-    ghost read_gives = { λ _ _ _ _ _. ⊤ };
+    ghost read_gives = { λ _ _ count _ after. CountsWithin after count };
 
     fn read_once(&mut self, buf: &mut [u8]) -> io::Result<usize> {
         self.read(buf)
@@ -52,7 +52,7 @@ impl Reader for Stdin {
 }
 
 impl Writer for Stdout {
-    ghost write_gives = { λ _ _ _ _. ⊤ };
+    ghost write_gives = { λ _ buf count _. CountsWithin buf count };
 
     ghost flush_gives = { λ _ _ _. ⊤ };
 
