@@ -1,3 +1,4 @@
+pub mod Agreeing
 pub mod AutomatonLemmas
 pub mod CheckLemmas
 pub mod CircuitLemmas

@@ -32,6 +32,7 @@ use Rattle.ps_machine.specs.declared.key.Order.{Order}
 use Rattle.ps_synthesis.specs.SynthFaults.{IsSynthFault}
 use Rattle.ps_synthesis.specs.declared.fault.SynthFault.{SynthFault}
 use Rattle.ps_synthesis.specs.declared.fault.SynthFault.TheVariants as stage
+use Rattle.ps_synthesis.specs.declared.report.Report.{Report}
 use Rattle.ps_simulate.specs.Faults as stimulus
 use Rattle.ps_simulate.specs.Lassos.{HasOneVerdict}
 use Rattle.ps_simulate.specs.Stimuli.{StimulusData}
@@ -49,7 +50,7 @@ use Rattle.ps_program.specs.Automata.{Builds, ReadsAutomaton}
 use Rattle.ps_program.specs.Checks.{Tests}
 use Rattle.ps_program.specs.CommandLine.{table, words_of, Says, IsLine}
 use Rattle.ps_program.specs.Cut.{AreTexts, Cuts, HasFewerMarks, HasNoMark, first_line, behind_line}
-use Rattle.ps_program.specs.Determined.{AsksFor, HasAutomaton, HasOneAnswer, IsOpen}
+use Rattle.ps_program.specs.Determined.{Agree, AgreeAsReports, AgreeInWinners, SameCertificate, AsksFor, HasAutomaton, HasOneAnswer, IsFault, IsOpen}
 use Rattle.ps_program.specs.Faults.{text_line}
 use Rattle.ps_program.specs.Games.{AnswersCert, AnswersGameText, MakesGame, ReadsGameOf}
 use Rattle.ps_program.specs.Lassos.{AnswersLasso, TellsVerdict, verdict_text}
@@ -63,6 +64,7 @@ use Rattle.ps_program.specs.StageFaults.{automaton_line, stage_line}
 use Rattle.ps_program.specs.Synthesis.{AnswersBy, AnswersReport}
 use Rattle.ps_program.specs.Texts.{CutsInTwo, CutsInThree, ReadsCertified, ReadsGameText, ReadsSimulated, flaw_text}
 use Rattle.ps_program.specs.declared.command_line.SynthLine.{SynthLine}
+use Rattle.ps_program.proofs.Agreeing.{OneCertificate, OneFile, OneFileGame, OneWinner, answered_once, reports-winner, reports-game, reports-certificate, certificates_agree}
 use Rattle.ps_program.proofs.AutomatonLemmas.{no_line, text_refused}
 use Rattle.ps_program.proofs.KindLemmas.{one_fault}
 use Rattle.ps_program.proofs.OneTrace.{traces_agree}
@@ -106,15 +108,15 @@ then_one {V} {W} step next one more x y (inr (v, s, n)) (inr (w, t, m)) =
 
 -- the same, where what comes next may be open
 then_one_or : {V W : Type 0} (step : Result V (List ℕ) → Type 0) (next : V → Result W (List ℕ) → Type 0) (Open : V → Type 0) → IsOne step
-    → ((v : V) (x y : Result W (List ℕ)) → next v x → next v y → (x ≡ y) ⊎ Open v)
-    → (x y : Result W (List ℕ)) → Then step next x → Then step next y → (x ≡ y) ⊎ ((v : V) × step (Ok v) × Open v)
-then_one_or {V} {W} step next Open one more x y (inl (l, s, e)) (inl (m, t, f)) =
+    → (x y : Result W (List ℕ)) → ((v : V) → next v x → next v y → (x ≡ y) ⊎ Open v)
+    → Then step next x → Then step next y → (x ≡ y) ⊎ ((v : V) × step (Ok v) × Open v)
+then_one_or {V} {W} step next Open one x y more (inl (l, s, e)) (inl (m, t, f)) =
     let same : l ≡ m = ap (err_or l) (one (Err l) (Err m) s t) in inl (e ∙ ap (err_of {V = W}) same ∙ sym f)
-then_one_or step next Open one more x y (inl (l, s, e)) (inr (v, t, n)) = absurd (ok_is_not_err v l (one (Ok v) (Err l) t s))
-then_one_or step next Open one more x y (inr (v, s, n)) (inl (l, t, e)) = absurd (ok_is_not_err v l (one (Ok v) (Err l) s t))
-then_one_or {V} {W} step next Open one more x y (inr (v, s, n)) (inr (w, t, m)) =
+then_one_or step next Open one x y more (inl (l, s, e)) (inr (v, t, n)) = absurd (ok_is_not_err v l (one (Ok v) (Err l) t s))
+then_one_or step next Open one x y more (inr (v, s, n)) (inl (l, t, e)) = absurd (ok_is_not_err v l (one (Ok v) (Err l) s t))
+then_one_or {V} {W} step next Open one x y more (inr (v, s, n)) (inr (w, t, m)) =
     let same : v ≡ w = ap (ok_or v) (one (Ok v) (Ok w) s t) in
-    by (more v x y n (subst (λ (u : V). next u y) (sym same) m))
+    by (more v n (subst (λ (u : V). next u y) (sym same) m))
   where
     by : (x ≡ y) ⊎ Open v → (x ≡ y) ⊎ ((u : V) × step (Ok u) × Open u)
     by (inl equal) = inl equal
@@ -196,10 +198,6 @@ cut_three_one texts (Err l) (Err m) h k = ap (err_of {V = List ℕ × List ℕ �
 abbrev pub OneGame : Type 0
 OneGame = (text : List ℕ) (a b : Result NamedGameData (Found PgCause)) → Answer text a → Answer text b → a ≡ b
 
-abbrev pub OneCertificate : Type 0
-OneCertificate = (named : NamedGameData) (text : List ℕ) (a b : Result CertificateData (Found CertCause)) → certificate_text.Reads named text a
-    → certificate_text.Reads named text b → a ≡ b
-
 abbrev pub OneFlaw : Type 0
 OneFlaw = (arena : ParityGame) (given : CertificateData) (flaw other : Flaw) → IsGame arena → IsFirstFlaw arena given flaw → IsFirstFlaw arena given other → flaw ≡ other
 
@@ -208,9 +206,6 @@ OneCircuit = (text : List ℕ) (a b : Result CircuitData (Found AigCause)) → c
 
 abbrev pub OneStimulus : Type 0
 OneStimulus = (text : List ℕ) (width : ℕ) (split : Bool) → stimulus_text.HasOneAnswer text width split
-
-abbrev pub OneFile : Type 0
-OneFile = (text : List ℕ) (a b : Result FileData (Found HoaCause)) → hoa_text.Reads text a → hoa_text.Reads text b → a ≡ b
 
 abbrev pub OneRefusal : Type 0
 OneRefusal = (file : FileData) (fault other : AutomatonFault) → fault ≢ no_memory → other ≢ no_memory → IsRefused file fault → IsRefused file other → fault ≡ other
@@ -224,9 +219,6 @@ OneVerdict = (role : Role) (file : FileData) (c : CircuitData) (stem lap : List 
 
 abbrev pub OneValues : Type 0
 OneValues = (c : CircuitData) → IsCircuit c → HasOneValues c
-
-abbrev pub OneFileGame : Type 0
-OneFileGame = (order : Order) (file : FileData) (game other : NamedGameData) → IsGameOfFile order file game → IsGameOfFile order file other → game ≡ other
 
 -- ---- automata
 
@@ -301,7 +293,7 @@ report_refused : (solver : SolverData) (asked : SynthLine) (text : List ℕ) (ou
 report_refused solver asked text outcome (inl (line, (fault, cause, lies, told), e)) = fault_refused solver asked.order text line outcome fault cause told e
 report_refused solver asked text outcome (inr (report, is_report, e)) = inr (is_report.promise.file, is_report.promise.accepted)
 
-module _ (games : OneGame) (certificates : OneCertificate) (flaws : OneFlaw) (circuits : OneCircuit) (stimuli : OneStimulus) (files : OneFile) (refusals : OneRefusal) (outcomes : OneOutcome) (verdicts : OneVerdict) (values : OneValues) (file_games : OneFileGame) where
+module _ (games : OneGame) (certificates : OneCertificate) (flaws : OneFlaw) (circuits : OneCircuit) (stimuli : OneStimulus) (files : OneFile) (refusals : OneRefusal) (outcomes : OneOutcome) (verdicts : OneVerdict) (values : OneValues) (file_games : OneFileGame) (winners : OneWinner) where
   certified_one : (texts : List ℕ) → IsOne (ReadsCertified texts)
   certified_one texts = then_one _ _ (cut_one texts) (λ parts. then_one _ _ (reading_one game.cause_number game.cause_name (Answer parts.0) (games parts.0))
       (λ named. then_one _ _ (reading_one certificate.cause_number certificate.cause_name (certificate_text.Reads named parts.1) (certificates named parts.1))
@@ -337,48 +329,80 @@ module _ (games : OneGame) (certificates : OneCertificate) (flaws : OneFlaw) (ci
 
   -- ---- what a solver has a choice in
 
+  -- two outcomes of an open line
+  abbrev Alike : (Reply → Reply → Type 0) → Result Reply (List ℕ) → Result Reply (List ℕ) → Type 0
+  Alike agree x y = IsFault (printed x) ⊎ IsFault (printed y) ⊎ agree (printed x) (printed y)
+
+  fault_is : (x : Result Reply (List ℕ)) (l : List ℕ) → x ≡ Err l → IsFault (printed x)
+  fault_is x l e = (l, ap printed e)
+
+  games_alike : (solver : SolverData) (compact : Bool) (named : NamedGameData) (x y : Result Reply (List ℕ)) → AnswersGame solver compact named x → AnswersGame solver compact named y → Alike (AgreeInWinners compact) x y
+  games_alike solver compact named x y (inl (l, s, e)) k = inl (fault_is x l e)
+  games_alike solver compact named x y (inr (c, s, e)) (inl (m, t, f)) = inr (inl (fault_is y m f))
+  games_alike solver compact named x y (inr (c, s, e)) (inr (d, t, f)) = inr (inr (certificates_agree files file_games winners compact named c d (printed x) (printed y) s.0 t.0 (ap printed e) (ap printed f)))
+
   solve_one_or : (solver : SolverData) (compact : Bool) (text : List ℕ) (x y : Result Reply (List ℕ)) → AnswersSolve solver compact text x → AnswersSolve solver compact text y
-      → (x ≡ y) ⊎ IsOpen (line.Solve compact) text
-  solve_one_or solver compact text x y h k = by (then_one_or (ReadsGameText text) (AnswersGame solver compact) (λ _. ⊤) (reading_one game.cause_number game.cause_name (Answer text) (games text)) (λ v x y n m. inr tt) x y h k)
+      → (x ≡ y) ⊎ (IsOpen (line.Solve compact) text × Alike (AgreeInWinners compact) x y)
+  solve_one_or solver compact text x y h k = by (then_one_or (ReadsGameText text) (AnswersGame solver compact) (λ _. Alike (AgreeInWinners compact) x y) (reading_one game.cause_number game.cause_name (Answer text) (games text)) x y (λ v n m. inr (games_alike solver compact v x y n m)) h k)
     where
-      by : (x ≡ y) ⊎ ((v : NamedGameData) × ReadsGameText text (Ok v) × ⊤) → (x ≡ y) ⊎ IsOpen (line.Solve compact) text
+      by : (x ≡ y) ⊎ ((v : NamedGameData) × ReadsGameText text (Ok v) × Alike (AgreeInWinners compact) x y) → (x ≡ y) ⊎ (IsOpen (line.Solve compact) text × Alike (AgreeInWinners compact) x y)
       by (inl same) = inl same
-      by (inr (v, reads, any)) = inr (v, reads)
+      by (inr (v, reads, alike)) = inr ((v, reads), alike)
 
   cert_one_or : (solver : SolverData) (order : Order) (compact : Bool) (text : List ℕ) (x y : Result Reply (List ℕ)) → AnswersCert solver order compact text x → AnswersCert solver order compact text y
-      → (x ≡ y) ⊎ IsOpen (line.Cert order compact) text
-  cert_one_or solver order compact text x y h k = by (then_one_or (ReadsGameOf order text) (AnswersGame solver compact) (λ _. ⊤) (game_of_one order text) (λ v x y n m. inr tt) x y h k)
+      → (x ≡ y) ⊎ (IsOpen (line.Cert order compact) text × Alike (AgreeInWinners compact) x y)
+  cert_one_or solver order compact text x y h k = by (then_one_or (ReadsGameOf order text) (AnswersGame solver compact) (λ _. Alike (AgreeInWinners compact) x y) (game_of_one order text) x y (λ v n m. inr (games_alike solver compact v x y n m)) h k)
     where
-      by : (x ≡ y) ⊎ ((v : NamedGameData) × ReadsGameOf order text (Ok v) × ⊤) → (x ≡ y) ⊎ IsOpen (line.Cert order compact) text
+      by : (x ≡ y) ⊎ ((v : NamedGameData) × ReadsGameOf order text (Ok v) × Alike (AgreeInWinners compact) x y) → (x ≡ y) ⊎ (IsOpen (line.Cert order compact) text × Alike (AgreeInWinners compact) x y)
       by (inl same) = inl same
-      by (inr (v, reads, any)) = inr (game_accepted order text v reads)
+      by (inr (v, reads, alike)) = inr (game_accepted order text v reads, alike)
 
-  report_one_or : (solver : SolverData) (asked : SynthLine) (text : List ℕ) (x y : Result Reply (List ℕ)) → AnswersReport solver asked text x → AnswersReport solver asked text y
-      → (x ≡ y) ⊎ HasAutomaton text
-  report_one_or solver asked text x y h k = by (report_refused solver asked text x h) (report_refused solver asked text y k)
+  -- by a solver, of which it is known when the certificate is decided
+  abbrev Decides : SolverData → Solvers → Bool → Type 0
+  Decides solver solvers cert = (one other : Report)
+      → (((game : NamedGameData) (c d : CertificateData) → answers_now solver game (Ok c) → answers_now solver game (Ok d) → c ≡ d) → one.certificate_text.items ≡ other.certificate_text.items)
+      → SameCertificate cert solvers one other
+
+  reports_alike : (solvers : Solvers) (cert : Bool) (solver : SolverData) (by_certificate : Decides solver solvers cert) (asked : SynthLine) (text : List ℕ) (x y : Result Reply (List ℕ)) → AnswersReport solver asked text x → AnswersReport solver asked text y → Alike (AgreeAsReports solvers cert asked.full) x y
+  reports_alike solvers cert solver by_certificate asked text x y (inl (l, s, e)) k = inl (fault_is x l e)
+  reports_alike solvers cert solver by_certificate asked text x y (inr (r, s, e)) (inl (m, t, f)) = inr (inl (fault_is y m f))
+  reports_alike solvers cert solver by_certificate asked text x y (inr (r, s, e)) (inr (r', t, f)) =
+      inr (inr (record {
+        one = r;
+        other = r';
+        is_one = ap printed e;
+        is_other = ap printed f;
+        winner = reports-winner files file_games winners (answers_now solver) asked.order asked.compact text r r' s t;
+        game = reports-game files file_games winners (answers_now solver) asked.order asked.compact text r r' s t;
+        certificate = by_certificate r r' (reports-certificate files file_games winners (answers_now solver) asked.order asked.compact text r r' s t);
+      }))
+
+  report_one_or : (solvers : Solvers) (cert : Bool) (solver : SolverData) → Decides solver solvers cert → (asked : SynthLine) (text : List ℕ) (x y : Result Reply (List ℕ)) → AnswersReport solver asked text x → AnswersReport solver asked text y
+      → (x ≡ y) ⊎ (HasAutomaton text × Alike (AgreeAsReports solvers cert asked.full) x y)
+  report_one_or solvers cert solver decides asked text x y h k = by (report_refused solver asked text x h) (report_refused solver asked text y k)
     where
-      by : RefusedOr text x → RefusedOr text y → (x ≡ y) ⊎ HasAutomaton text
-      by (inr choice) other = inr choice
-      by (inl refused) (inr choice) = inr choice
+      by : RefusedOr text x → RefusedOr text y → (x ≡ y) ⊎ (HasAutomaton text × Alike (AgreeAsReports solvers cert asked.full) x y)
+      by (inr choice) other = inr (choice, reports_alike solvers cert solver decides asked text x y h k)
+      by (inl refused) (inr choice) = inr (choice, reports_alike solvers cert solver decides asked text x y h k)
       by (inl (l, reads, e)) (inl (m, reads', e')) =
           let same : l ≡ m = ap (err_or l) (automaton_one files refusals outcomes text (Err l) (Err m) reads reads') in inl (e ∙ ap (err_of {V = Reply}) same ∙ sym e')
 
   synth_one_or : (solvers : Solvers) (asked : SynthLine) (texts : List ℕ) (cert : Bool) (x y : Result Reply (List ℕ)) → AnswersBy cert solvers asked texts x → AnswersBy cert solvers asked texts y
-      → (x ≡ y) ⊎ ((text : List ℕ) × AsksFor cert texts text × HasAutomaton text)
-  synth_one_or solvers asked texts false x y h k = by (report_one_or solvers.built_in asked texts x y h k)
+      → (x ≡ y) ⊎ (((text : List ℕ) × AsksFor cert texts text × HasAutomaton text) × Alike (AgreeAsReports solvers cert asked.full) x y)
+  synth_one_or solvers asked texts false x y h k = by (report_one_or solvers false solvers.built_in (λ one other same. tt) asked texts x y h k)
     where
-      by : (x ≡ y) ⊎ HasAutomaton texts → (x ≡ y) ⊎ ((text : List ℕ) × (texts ≡ text) × HasAutomaton text)
+      by : (x ≡ y) ⊎ (HasAutomaton texts × Alike (AgreeAsReports solvers false asked.full) x y) → (x ≡ y) ⊎ (((text : List ℕ) × (texts ≡ text) × HasAutomaton text) × Alike (AgreeAsReports solvers false asked.full) x y)
       by (inl same) = inl same
-      by (inr choice) = inr (texts, refl, choice)
+      by (inr (choice, alike)) = inr ((texts, refl, choice), alike)
   synth_one_or solvers asked texts true x y h k =
-      by (then_one_or (CutsInTwo texts) (λ (parts : List ℕ × List ℕ). AnswersReport (feed parts.1 solvers.replay) asked parts.0) (λ (parts : List ℕ × List ℕ). HasAutomaton parts.0) (cut_one texts) (λ parts x y n m. report_one_or (feed parts.1 solvers.replay) asked parts.0 x y n m) x y h k)
+      by (then_one_or (CutsInTwo texts) (λ (parts : List ℕ × List ℕ). AnswersReport (feed parts.1 solvers.replay) asked parts.0) (λ (parts : List ℕ × List ℕ). HasAutomaton parts.0 × Alike (AgreeAsReports solvers true asked.full) x y) (cut_one texts) x y (λ parts n m. report_one_or solvers true (feed parts.1 solvers.replay) (λ one other same replaying. same (answered_once certificates (feed parts.1 solvers.replay) replaying)) asked parts.0 x y n m) h k)
     where
-      by : (x ≡ y) ⊎ ((parts : List ℕ × List ℕ) × CutsInTwo texts (Ok parts) × HasAutomaton parts.0) → (x ≡ y) ⊎ ((text : List ℕ) × AsksFor true texts text × HasAutomaton text)
+      by : (x ≡ y) ⊎ ((parts : List ℕ × List ℕ) × CutsInTwo texts (Ok parts) × (HasAutomaton parts.0 × Alike (AgreeAsReports solvers true asked.full) x y)) → (x ≡ y) ⊎ (((text : List ℕ) × AsksFor true texts text × HasAutomaton text) × Alike (AgreeAsReports solvers true asked.full) x y)
       by (inl same) = inl same
-      by (inr (parts, cuts, choice)) = inr (parts.0, (parts.1, cuts), choice)
+      by (inr (parts, cuts, (choice, alike))) = inr ((parts.0, (parts.1, cuts), choice), alike)
 
-  -- each line that is not open
-  line_one : (solvers : Solvers) (l : Line) (texts : List ℕ) (x y : Result Reply (List ℕ)) → AnswersLine solvers l texts x → AnswersLine solvers l texts y → (x ≡ y) ⊎ IsOpen l texts
+  -- each line: one outcome, or it is open and they are alike
+  line_one : (solvers : Solvers) (l : Line) (texts : List ℕ) (x y : Result Reply (List ℕ)) → AnswersLine solvers l texts x → AnswersLine solvers l texts y → (x ≡ y) ⊎ (IsOpen l texts × Alike (Agree solvers l) x y)
   line_one solvers line.Refused texts x y h k = inl (ended_one _ x y h k)
   line_one solvers line.Help texts x y h k = inl (ended_one _ x y h k)
   line_one solvers line.Closed texts x y h k = inl (then_one _ _ (certified_one texts) (λ both. tests_one IsClosed (codes "closed") both.0 both.1) x y h k)
@@ -414,16 +438,19 @@ module _ (games : OneGame) (certificates : OneCertificate) (flaws : OneFlaw) (ci
   is_line_one first a b (inr (not, h)) (inr (not', k)) = h ∙ sym k
 
   answers_one : (solvers : Solvers) (input : List ℕ) (a b : Reply) → Answers solvers input a → Answers solvers input b
-      → (a ≡ b) ⊎ ((l : Line) × IsLine (first_line input) l × IsOpen l (behind_line input))
+      → (a ≡ b) ⊎ ((l : Line) × IsLine (first_line input) l × IsOpen l (behind_line input) × (IsFault a ⊎ IsFault b ⊎ Agree solvers l a b))
   answers_one solvers input a b (l, is_line, (outcome, answers, e)) (l', is_line', (outcome', answers', e')) =
       by (line_one solvers l (behind_line input) outcome outcome' answers (subst (λ (k : Line). AnswersLine solvers k (behind_line input) outcome') (sym same) answers'))
     where
       same : l ≡ l'
       same = is_line_one (first_line input) l l' is_line is_line'
 
-      by : (outcome ≡ outcome') ⊎ IsOpen l (behind_line input) → (a ≡ b) ⊎ ((k : Line) × IsLine (first_line input) k × IsOpen k (behind_line input))
+      printed_so : IsFault (printed outcome) ⊎ IsFault (printed outcome') ⊎ Agree solvers l (printed outcome) (printed outcome') → IsFault a ⊎ IsFault b ⊎ Agree solvers l a b
+      printed_so alike = subst (λ (r : Reply). IsFault r ⊎ IsFault b ⊎ Agree solvers l r b) (sym e) (subst (λ (r : Reply). IsFault (printed outcome) ⊎ IsFault r ⊎ Agree solvers l (printed outcome) r) (sym e') alike)
+
+      by : (outcome ≡ outcome') ⊎ (IsOpen l (behind_line input) × Alike (Agree solvers l) outcome outcome') → (a ≡ b) ⊎ ((k : Line) × IsLine (first_line input) k × IsOpen k (behind_line input) × (IsFault a ⊎ IsFault b ⊎ Agree solvers k a b))
       by (inl one) = inl (e ∙ ap printed one ∙ sym e')
-      by (inr choice) = inr (l, is_line, choice)
+      by (inr (choice, alike)) = inr (l, is_line, choice, printed_so alike)
 
   pub whole_one : (solvers : Solvers) → HasOneAnswer solvers
   whole_one solvers input a b (inl (long, e)) (inl (long', e')) = inl (e ∙ sym e')

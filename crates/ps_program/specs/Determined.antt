@@ -1,16 +1,28 @@
--- The program's answer is determined, but for the choice that a solver has.
-use Rattle.std.specs.Prelude.{◌≡◌, ◌⊎◌, ℕ, Bool, true, false, List, Ok}
-use Rattle.ps_game.specs.Games.{NamedGameData}
+-- The program's answer is determined, but for the choice that a solver has; and of that, how much is decided.
+--     IsOpen line texts      more than one answer to the line may be right
+--     IsReplaying solver      the solver may answer only what reading the text that it was fed answers
+--     AgreeAsReports solvers cert full a b      two reports: the same winner, and the same printed game and fed certificate
+--     AgreeInWinners compact a b      two certificates of one game: each vertex has the same winner
+--     HasOneAnswer solvers      any two answers are one, or are such, or one is the line of a fault
+use Rattle.std.specs.Prelude.{◌≡◌, ◌<◌, ◌⊎◌, ℕ, Bool, true, false, List, Option, Result, Ok}
+use Rattle.ps_certificate.specs.Certificates.{CertificateData, winner_of}
+use Rattle.ps_certificate.specs.Written.{text_in}
+use Rattle.ps_game.specs.Games.{NamedGameData, IsGame, vertex_count}
 use Rattle.ps_hoa.specs.Files.{FileData}
+use Rattle.ps_machine.specs.Solving.{Replays}
+use Rattle.ps_machine.specs.declared.fault.SolveFault.{SolveFault}
 use Rattle.ps_synthesis.specs.Promises.{IsAccepted}
+use Rattle.ps_synthesis.specs.declared.report.Report.{Report}
 use Rattle.ps_program.specs.CommandLine.{IsLine}
 use Rattle.ps_program.specs.Cut.{behind_line, first_line}
 use Rattle.ps_program.specs.Program.{AnswersWhole}
-use Rattle.ps_program.specs.Replies.{Reply}
-use Rattle.ps_program.specs.Solvers.{Solvers}
+use Rattle.ps_program.specs.Replies.{Reply, fault_reply, text_reply}
+use Rattle.ps_program.specs.Solvers.{SolverData, Solvers}
+use Rattle.ps_program.specs.Synthesis.{report_reply}
 use Rattle.ps_program.specs.Texts.{CutsInTwo, ReadsGameText}
 use Rattle.ps_program.specs.declared.command_line.Line.{Line}
 use Rattle.ps_program.specs.declared.command_line.Line.TheVariants.{Solve, Cert, Synth}
+use Rattle.ps_program.specs.declared.command_line.SynthLine.{SynthLine}
 
 abbrev pub HasAutomaton : List ℕ → Type 0
 HasAutomaton text = (file : FileData) × IsAccepted text file
@@ -27,7 +39,44 @@ IsOpen (Cert order compact) text = HasAutomaton text
 IsOpen (Synth asked) texts = (text : List ℕ) × AsksFor asked.cert texts text × HasAutomaton text
 IsOpen line texts = ⊥
 
--- any two answers to one input are one, unless its line is open
+abbrev pub IsReplaying : SolverData → Type 0
+IsReplaying solver = (fed : Option (List ℕ)) (game : NamedGameData) (answer : Result CertificateData SolveFault) → solver.may_answer fed game answer → Replays game fed answer
+
+-- the certificate that was fed is the one that is printed
+abbrev pub SameCertificate : (cert : Bool) → Solvers → Report → Report → Type 0
+SameCertificate false solvers one other = Unit {0}
+SameCertificate true solvers one other = IsReplaying solvers.replay → one.certificate_text.items ≡ other.certificate_text.items
+
+-- two reports, as they are printed: who wins, and the game, are the same; so the status and the first line are
+pub record AgreeAsReports (solvers : Solvers) (cert full : Bool) (a b : Reply) : Type 0 where
+  pub one : Report
+  pub other : Report
+  pub is_one : a ≡ report_reply full one
+  pub is_other : b ≡ report_reply full other
+  pub winner : one.realizable ≡ other.realizable
+  pub game : one.game_text.items ≡ other.game_text.items
+  pub certificate : SameCertificate cert solvers one other
+
+-- two certificates of a game, as they are printed: each vertex has the same winner
+pub record AgreeInWinners (compact : Bool) (a b : Reply) : Type 0 where
+  pub game : NamedGameData
+  pub one : CertificateData
+  pub other : CertificateData
+  pub is_one : a ≡ text_reply (text_in compact game one)
+  pub is_other : b ≡ text_reply (text_in compact game other)
+  pub winners : IsGame game.game → (v : ℕ) → v < vertex_count game.game → winner_of one v ≡ winner_of other v
+
+-- what two answers to a line have in common, if neither is the line of a fault
+abbrev pub Agree : Solvers → Line → Reply → Reply → Type 0
+Agree solvers (Solve compact) a b = AgreeInWinners compact a b
+Agree solvers (Cert order compact) a b = AgreeInWinners compact a b
+Agree solvers (Synth asked) a b = AgreeAsReports solvers asked.cert asked.full a b
+Agree solvers line a b = a ≡ b
+
+abbrev pub IsFault : Reply → Type 0
+IsFault reply = (line : List ℕ) × (reply ≡ fault_reply line)
+
+-- any two answers to one input are one, unless its line is open; and then they agree, unless one is the line of a fault
 abbrev pub HasOneAnswer : Solvers → Type 0
 HasOneAnswer solvers = (input : List ℕ) (a b : Reply) → AnswersWhole solvers input a → AnswersWhole solvers input b
-    → (a ≡ b) ⊎ ((line : Line) × IsLine (first_line input) line × IsOpen line (behind_line input))
+    → (a ≡ b) ⊎ ((line : Line) × IsLine (first_line input) line × IsOpen line (behind_line input) × (IsFault a ⊎ IsFault b ⊎ Agree solvers line a b))

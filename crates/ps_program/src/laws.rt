@@ -6,7 +6,9 @@ ghost use Rattle.ps_program.specs.Solvers.{solver_of, solvers_of};
 use ps_machine::Solver;
 
 /// An input has one answer at most, whatever the solvers, unless its line is `solve`, `cert` or `synth` and its text is
-/// accepted: whoever meets the definitions writes the same bytes and ends with the same status, or wants memory.
+/// accepted: whoever meets the definitions writes the same bytes and ends with the same status, or wants memory. There
+/// two answers that are no lines of faults have the same winners: `synth` the same status, first line and game, `solve`
+/// and `cert` the same regions.
 pub fn one_answer<S: Solver, T: Solver>(built_in: &S, replay: &T)
     ensures { HasOneAnswer (solvers_of
         (solver_of (S.is_sure built_in.now) (S.fed built_in.now) (S.may_answer built_in.now))
@@ -15,6 +17,7 @@ pub fn one_answer<S: Solver, T: Solver>(built_in: &S, replay: &T)
     ps_pgsolver::one_answer();
     ps_certificate::certificate_text_has_one_answer();
     ps_certificate::first_flaw_is_one();
+    ps_certificate::winners_are_one();
     ps_circuit::one_answer();
     ps_hoa::one_answer();
     ps_automaton::refusal_is_one();
