@@ -2,7 +2,7 @@
 
 use ps_attractor::{Attracted, Sources, attract, places_by_number};
 use ps_game::{Arena, Counts, FlatGame, Game, GameBuilder, Region, Strategy, Subgame, fits_narrow};
-use ps_measure::{MeasureFault, Ranks, ranks};
+use ps_measure::{CountTable, MeasureFault, Ranks, ranks};
 use ps_pgsolver::read;
 use ps_zielonka::regions;
 use std::alloc::{AllocError, Global};
@@ -203,9 +203,11 @@ enum Wanted<'a> {
 
 impl Wanted<'_> {
     /// Whether that was found.
-    fn is(self, found: &Result<Ranks, MeasureFault>) -> bool {
+    fn is(self, alloc: Global, found: &Result<Ranks, MeasureFault>) -> bool {
         match (self, found) {
-            (Wanted::Counts(priority, counts), Ok(ranks)) => are_counts(ranks, priority, counts),
+            (Wanted::Counts(priority, counts), Ok(ranks)) => {
+                are_counts(alloc, ranks, priority, counts)
+            }
             (Wanted::Cycle(wanted), Err(MeasureFault::BadCycle { cycle })) => {
                 cycle.as_slice() == wanted
             }
@@ -215,12 +217,23 @@ impl Wanted<'_> {
 }
 
 /// Whether these are the priority that is counted, and the counts.
-fn are_counts(ranks: &Ranks, priority: u64, counts: [u64; 3]) -> bool {
+fn are_counts(alloc: Global, ranks: &Ranks, priority: u64, counts: [u64; 3]) -> bool {
     ranks.priorities.as_slice() == [priority].as_slice()
         && ranks.counts.len() == 3
-        && ranks.counts[0].as_slice() == [counts[0]].as_slice()
-        && ranks.counts[1].as_slice() == [counts[1]].as_slice()
-        && ranks.counts[2].as_slice() == [counts[2]].as_slice()
+        && is_count(alloc, ranks, 0, counts[0])
+        && is_count(alloc, ranks, 1, counts[1])
+        && is_count(alloc, ranks, 2, counts[2])
+}
+
+/// Whether that is all that is counted at a vertex.
+fn is_count(alloc: Global, ranks: &Ranks, vertex: usize, count: u64) -> bool {
+    if vertex >= ranks.counts.len() {
+        return false;
+    }
+    match ranks.counts.row(alloc, vertex) {
+        Ok(row) => row.as_slice() == [count].as_slice(),
+        Err(_) => false,
+    }
 }
 
 /// Whether a player's region has the wanted counts, where the player moves from one vertex.
@@ -238,7 +251,10 @@ fn is_ranked(
     player < 2
         && region.places() == game.count()
         && strategy.places() == game.count()
-        && wanted.is(&ranks(alloc, game, player, region, &strategy, counts))
+        && wanted.is(
+            alloc,
+            &ranks(alloc, game, player, region, &strategy, counts),
+        )
 }
 
 /// The same of one vertex of the loops, or of all.
@@ -321,8 +337,18 @@ fn add_won<A: Arena>(
     let (won, first, second) = regions(alloc, arena, &mut counts)?;
     add_table(found, &won, &first)?;
     add_table(found, &won, &second)?;
-    for row in &ranks(alloc, arena, 0, &won, &first, &mut counts)?.counts {
-        for &count in row {
+    let found_counts = ranks(alloc, arena, 0, &won, &first, &mut counts)?.counts;
+    add_counts(alloc, &found_counts, found)
+}
+
+/// Adds the counts of all vertices.
+fn add_counts(
+    alloc: Global,
+    counts: &CountTable,
+    found: &mut Vec<Option<u64>>,
+) -> Result<(), MeasureFault> {
+    for vertex in 0..counts.len() {
+        for &count in &counts.row(alloc, vertex)? {
             found.push(Some(count))?;
         }
     }

@@ -1,7 +1,5 @@
 -- Entries of a certificate, one after another.
-use Rattle.std.proofs.Common.{◌≡◌, ◌≢◌, ◌⊎◌, inl, inr, ℕ, ◌+◌, ◌<◌, ◌≤◌, List, [], ◌∷◌, ◌++◌, length, get_or, Option, IsSomeAnd, Bool, true, false, Vec, ap, sym, subst, ◌∙◌, rules, arith}
-use Rattle.std.specs.Global.{Global}
-use Rattle.std.specs.List.{slice_get}
+use Rattle.std.proofs.Common.{◌≡◌, ◌⊎◌, inl, inr, ℕ, ◌+◌, ◌<◌, List, [], ◌∷◌, ◌++◌, length, get_or, Option, Bool, true, false, ap, sym, subst, ◌∙◌, rules, arith}
 use Rattle.std.proofs.lemmas.List.{length_push, get_or_push, get_or_append_left}
 use Rattle.ps_game.specs.Games.{ParityGame}
 use Rattle.ps_game.specs.Regions.{has}
@@ -9,7 +7,7 @@ use Rattle.ps_certificate.specs.Certificates.{EntryData, no_entry}
 use Rattle.ps_machine.specs.Building.{HasRow, IsEntryFor, IsEntryAmong, AreEntries}
 use Rattle.ps_machine.proofs.Exploring.{less_or_last}
 
-module _ (game : ParityGame) (region : List Bool) (first second : ℕ → Option ℕ) (first_rows second_rows : List (Vec ℕ Global)) where
+module _ (game : ParityGame) (region : List Bool) (first second : ℕ → Option ℕ) (first_rows second_rows : List (List ℕ)) where
   -- what holds of each entry holds with one more
   each_entry : (P : ℕ → EntryData → Type 0) (n : ℕ) (entries : List EntryData) (e : EntryData) → length entries ≡ n → ((v : ℕ) → v < n → P v (get_or entries v no_entry)) → P n e →
       (v : ℕ) → v < n + 1 → P v (get_or (entries ++ e ∷ []) v no_entry)
@@ -41,19 +39,6 @@ module _ (game : ParityGame) (region : List Bool) (first second : ℕ → Option
       both_ways : (b : Bool) → b ≡ true → b ≡ false → ⊥
       both_ways b t f = search rules
 
--- the row that was taken out is the vertex's first one
-pub among : (game : ParityGame) (player : ℕ) (table : ℕ → Option ℕ) (now before : List (Vec ℕ Global)) (v : ℕ) (row : List ℕ) (e : EntryData) → slice_get now v ≡ slice_get before v → HasRow now v row → IsEntryFor game player table v row e →
-    IsEntryAmong game player table before v e
-among game player table now before v row e same has_row is = record {
-  row = row;
-  has_row = subst (λ o. IsSomeAnd o (λ r. r.items ≡ row)) same has_row;
-  is_entry = is;
-}
-
--- the rows behind stay
-pub later_rows : (new now before : List (Vec ℕ Global)) (v : ℕ) → ((u : ℕ) → u ≢ v → slice_get new u ≡ slice_get now u) → ((u : ℕ) → v ≤ u → slice_get now u ≡ slice_get before u) →
-    (u : ℕ) → v + 1 ≤ u → slice_get new u ≡ slice_get before u
-later_rows new now before v others later u behind = others u (λ same. omega (arith, same, behind)) ∙ later u (omega (arith, behind))
-
-pub still_later : (now before : List (Vec ℕ Global)) (v : ℕ) → ((u : ℕ) → v ≤ u → slice_get now u ≡ slice_get before u) → (u : ℕ) → v + 1 ≤ u → slice_get now u ≡ slice_get before u
-still_later now before v later u behind = later u (omega (arith, behind))
+-- an entry with the row of its vertex
+pub among : (game : ParityGame) (player : ℕ) (table : ℕ → Option ℕ) (rows : List (List ℕ)) (v : ℕ) (row : List ℕ) (e : EntryData) → HasRow rows v row → IsEntryFor game player table v row e → IsEntryAmong game player table rows v e
+among game player table rows v row e has_row is = record { row = row; has_row = has_row; is_entry = is }

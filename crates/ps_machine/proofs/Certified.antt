@@ -1,7 +1,5 @@
 -- Two regions that are held and part the game, with the least counts of both, make a valid certificate with the least counts.
-use Rattle.std.proofs.Common.{◌≡◌, ◌≢◌, ◌⊎◌, inl, inr, ℕ, zero, suc, ◌+◌, ◌<◌, ◌≤◌, List, [], ◌∷◌, length, get_or, Option, Some, None, IfSome, IsSomeAnd, Bool, true, false, IsTrue, Vec, refl, ap, sym, subst, ◌∙◌, rules, arith, ◌==◌, ◌&&◌, not, replicate}
-use Rattle.std.specs.Global.{Global}
-use Rattle.std.specs.List.{slice_get}
+use Rattle.std.proofs.Common.{◌≡◌, ◌≢◌, ◌⊎◌, inl, inr, ℕ, zero, suc, ◌+◌, ◌<◌, ◌≤◌, List, [], ◌∷◌, length, get_or, Option, Some, None, IfSome, IsSomeAnd, Bool, true, false, IsTrue, refl, ap, sym, subst, ◌∙◌, rules, arith, ◌==◌, ◌&&◌, not, replicate}
 use Rattle.std.proofs.lemmas.List.{get_or-replicate}
 use Rattle.std.proofs.lemmas.Bool.Decides.{nat_tests}
 use Rattle.ps_game.specs.Games.{ParityGame, IsGame, HasEdge, owner_of, priority_of, vertex_count}
@@ -15,7 +13,7 @@ use Rattle.ps_machine.specs.Solving.{DiffersInCounts, HasLeastCounts}
 use Rattle.ps_zielonka.specs.Answers.{others}
 
 -- what a certificate says of a vertex that a player wins: it is in the player's set, and has the table's move and its row
-record IsSide (game : ParityGame) (player : ℕ) (set : ℕ → Bool) (table : ℕ → Option ℕ) (priorities : List ℕ) (rows : List (Vec ℕ Global)) (c : CertificateData) (v : ℕ) : Type 0 where
+record IsSide (game : ParityGame) (player : ℕ) (set : ℕ → Bool) (table : ℕ → Option ℕ) (priorities : List ℕ) (rows : List (List ℕ)) (c : CertificateData) (v : ℕ) : Type 0 where
   inside : IsTrue (set v)
   winner : winner_of c v ≡ player
   own : owner_of game v ≡ player → choice_of c v ≡ table v
@@ -23,24 +21,19 @@ record IsSide (game : ParityGame) (player : ℕ) (set : ℕ → Bool) (table : �
   long : length (counts_of c v) ≡ length priorities
   count : (k : ℕ) → get_or (counts_of c v) k 0 ≡ count_of rows v k
 
-row_count : (o : Option (Vec ℕ Global)) (row : List ℕ) → IsSomeAnd o (λ r. r.items ≡ row) → (r : Vec ℕ Global) × (o ≡ Some r) × (r.items ≡ row)
-row_count None row is = absurd is
-row_count (Some r) row is = (r, refl, is)
-
 -- an entry among the rows of counts makes a side
-side : (game : ParityGame) (player : ℕ) (set : ℕ → Bool) (table : ℕ → Option ℕ) (priorities : List ℕ) (rows : List (Vec ℕ Global)) (c : CertificateData) (v : ℕ) → v < vertex_count game → IsTrue (set v) →
+side : (game : ParityGame) (player : ℕ) (set : ℕ → Bool) (table : ℕ → Option ℕ) (priorities : List ℕ) (rows : List (List ℕ)) (c : CertificateData) (v : ℕ) → v < vertex_count game → IsTrue (set v) →
     AreRanks game player set table priorities rows → IsEntryAmong game player table rows v (get_or c.entries v no_entry) → IsSide game player set table priorities rows c v
 unfolding winner_of choice_of counts_of
 side game player set table priorities rows c v within inside ranks among =
-    let row = row_count (slice_get rows v) among.row among.has_row in
     let e = among.is_entry in
     record {
       inside = inside;
       winner = e.winner;
       own = e.own;
       other = e.other;
-      long = ap (λ l. length l) (e.counts ∙ sym row.2) ∙ sym (ap width_in row.1) ∙ ranks.shape.wide v within;
-      count = λ k. ap (λ l. get_or l k 0) (e.counts ∙ sym row.2) ∙ sym (ap (λ o. count_in o k) row.1);
+      long = ap (λ l. length l) e.counts ∙ sym (ap width_in among.has_row) ∙ ranks.shape.wide v within;
+      count = λ k. ap (λ l. get_or l k 0) e.counts ∙ sym (ap (λ o. count_in o k) among.has_row);
     }
 
 -- a play of two vertices
@@ -75,7 +68,7 @@ some_within : (game : ParityGame) (v : ℕ) → IsGame game → (o : Option ℕ)
 some_within game v is_game None is = tt
 some_within game v is_game (Some w) is = is_game.within v w is
 
-module _ (game : ParityGame) (is_game : IsGame game) (player : ℕ) (set : ℕ → Bool) (table : ℕ → Option ℕ) (priorities : List ℕ) (rows : List (Vec ℕ Global)) (c : CertificateData)
+module _ (game : ParityGame) (is_game : IsGame game) (player : ℕ) (set : ℕ → Bool) (table : ℕ → Option ℕ) (priorities : List ℕ) (rows : List (List ℕ)) (c : CertificateData)
     (holds : Holds game player set table) (ranks : AreRanks game player set table priorities rows) where
   -- the edges of the certificate are those of the table
   remains_for : (v w : ℕ) → IsSide game player set table priorities rows c v → Remains game c v w → RemainsFor game player table v w
@@ -139,7 +132,7 @@ module _ (game : ParityGame) (is_game : IsGame game) (player : ℕ) (set : ℕ �
       s.count k ∙ (ranks.columns k (subst (λ n. k < n) s.long inside)).above v (subst (λ p. p < priority_of game v) at below)
 
 -- the two regions, and all that is known of them
-pub record AreBoth (game : ParityGame) (region : List Bool) (lost : ℕ → Bool) (first second : ℕ → Option ℕ) (odd even : List ℕ) (odd_rows even_rows : List (Vec ℕ Global)) (entries : List EntryData) : Type 0 where
+pub record AreBoth (game : ParityGame) (region : List Bool) (lost : ℕ → Bool) (first second : ℕ → Option ℕ) (odd even : List ℕ) (odd_rows even_rows : List (List ℕ)) (entries : List EntryData) : Type 0 where
   pub is_game : IsGame game
   pub holds_first : Holds game 0 (has region) first
   pub holds_second : Holds game 1 lost second
@@ -148,7 +141,7 @@ pub record AreBoth (game : ParityGame) (region : List Bool) (lost : ℕ → Bool
   pub even_ranks : AreRanks game 1 lost second even even_rows
   pub are_entries : AreEntries game region first second odd_rows even_rows (vertex_count game) entries
 
-module _ (game : ParityGame) (region : List Bool) (lost : ℕ → Bool) (first second : ℕ → Option ℕ) (odd even : List ℕ) (odd_rows even_rows : List (Vec ℕ Global)) (entries : List EntryData)
+module _ (game : ParityGame) (region : List Bool) (lost : ℕ → Bool) (first second : ℕ → Option ℕ) (odd even : List ℕ) (odd_rows even_rows : List (List ℕ)) (entries : List EntryData)
     (b : AreBoth game region lost first second odd even odd_rows even_rows entries) where
   made : CertificateData
   made = record { odd = odd; even = even; entries = entries }
@@ -289,7 +282,7 @@ lost_rest game region full lost whole is v within = (λ e. now ∙ ap not e, λ 
     back false e = refl
 
 -- the same where the second region has all vertices that the first one has not
-pub certified_both : (game : ParityGame) (region full lost : List Bool) (first second : ℕ → Option ℕ) (odd even : List ℕ) (odd_rows even_rows : List (Vec ℕ Global)) (entries : List EntryData) →
+pub certified_both : (game : ParityGame) (region full lost : List Bool) (first second : ℕ → Option ℕ) (odd even : List ℕ) (odd_rows even_rows : List (List ℕ)) (entries : List EntryData) →
     IsGame game → full ≡ replicate (vertex_count game) true → ((v : ℕ) → has lost v ≡ (has full v && not (has region v))) → Holds game 0 (has region) first → Holds game 1 (others region) second →
     AreRanks game 0 (has region) first odd odd_rows → AreRanks game 1 (has lost) second even even_rows → AreEntries game region first second odd_rows even_rows (vertex_count game) entries →
     Fits game (record { odd = odd; even = even; entries = entries }) × IsValid game (record { odd = odd; even = even; entries = entries })

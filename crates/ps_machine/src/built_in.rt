@@ -1,14 +1,13 @@
 //! The solver that psyn has of its own.
 
-ghost use Rattle.std.specs.Prelude.{◌≡◌, ◌≢◌, ◌<◌, ℕ, true, None, Vec, IfOk, IfErr, OnOk, length, slice_get, Some};
-ghost use Rattle.std.specs.Global.{Global};
+ghost use Rattle.std.specs.Prelude.{◌≡◌, ◌<◌, true, false, None, IfOk, IfErr, length};
 ghost use Rattle.ps_certificate.specs.Certificates.{Fits, IsValid};
 ghost use Rattle.ps_game.specs.Flat.{FitsWithin};
 ghost use Rattle.ps_game.specs.Games.{vertex_count, owner_of};
 ghost use Rattle.ps_game.specs.Plays.{Holds};
 ghost use Rattle.ps_game.specs.Regions.{has, move_at};
 ghost use Rattle.ps_measure.specs.Ranks.{AreRanks};
-ghost use Rattle.ps_machine.specs.Building.{AreEntries, HasRow, IsEntryFor};
+ghost use Rattle.ps_machine.specs.Building.{AreEntries, IsEntryAmong, IsEntryFor};
 ghost use Rattle.ps_zielonka.specs.Answers.{others};
 ghost use Rattle.ps_machine.specs.Solving.{HasLeastCounts};
 ghost use Rattle.ps_machine.specs.declared.fault.SolveFault.TheVariants as faults;
@@ -17,7 +16,7 @@ use crate::fault::SolveFault;
 use crate::solver::Solver;
 use ps_certificate::{Certificate, Entry};
 use ps_game::{Arena, Counts, FlatGame, Game, NamedGame, Region, Strategy, Width, fits_narrow};
-use ps_measure::{MeasureFault, Ranks, ranks};
+use ps_measure::{CountTable, MeasureFault, Ranks, ranks};
 use ps_zielonka::regions;
 use std::alloc::{AllocError, Global};
 
@@ -109,7 +108,7 @@ fn certificate_from<A: Arena>(
     lost.difference_with(won);
     let odd = counts_of(alloc, arena, 0, won, first)?;
     let even = counts_of(alloc, arena, 1, &lost, second)?;
-    let entries = entries_of(alloc, arena, won, first, second, odd.counts, even.counts)?;
+    let entries = entries_of(alloc, arena, won, first, second, &odd.counts, &even.counts)?;
     Ok(Certificate {
         odd: odd.priorities,
         even: even.priorities,
@@ -129,7 +128,7 @@ fn counts_of<A: Arena>(
     requires region { length region.now ≡ vertex_count (A.game arena.now) }
     requires strategy { length strategy.now ≡ vertex_count (A.game arena.now) }
     requires holds { Holds (A.game arena.now) player (has region.now) (move_at strategy.now) }
-    ensures ranks { IfOk result (λ r. AreRanks (A.game arena.now) player (has region.now) (move_at strategy.now) r.priorities.items r.counts.items) }
+    ensures ranks { IfOk result (λ r. AreRanks (A.game arena.now) player (has region.now) (move_at strategy.now) r.priorities.items r.counts) }
     ensures memory { IfErr result (λ fault. fault ≡ faults.OutOfMemory) }
 {
     let mut counts = Counts::default();
@@ -140,56 +139,77 @@ fn counts_of<A: Arena>(
     }
 }
 
-/// The entry of each vertex: its winner, the winner's move, and the winner's row of counts, which is moved.
+/// The entry of each vertex: its winner, the winner's move, and the winner's row of counts.
 fn entries_of<A: Arena>(
     alloc: Global,
     arena: &A,
     won: &Region,
     first: &Strategy,
     second: &Strategy,
-    mut first_rows: Vec<Vec<u64>>,
-    mut second_rows: Vec<Vec<u64>>,
+    first_rows: &CountTable,
+    second_rows: &CountTable,
 ) -> Result<Vec<Entry>, AllocError>
     requires region { length won.now ≡ vertex_count (A.game arena.now) }
     requires first { length first.now ≡ vertex_count (A.game arena.now) }
     requires second { length second.now ≡ vertex_count (A.game arena.now) }
-    requires first_rows { length first_rows.items ≡ vertex_count (A.game arena.now) }
-    requires second_rows { length second_rows.items ≡ vertex_count (A.game arena.now) }
+    requires first_rows { length first_rows.now ≡ vertex_count (A.game arena.now) }
+    requires second_rows { length second_rows.now ≡ vertex_count (A.game arena.now) }
     ensures { IfOk result
-        (λ entries. AreEntries (A.game arena.now) won.now (move_at first.now) (move_at second.now) first_rows.items second_rows.items (vertex_count (A.game arena.now)) entries.items) }
+        (λ entries. AreEntries (A.game arena.now) won.now (move_at first.now) (move_at second.now) first_rows.now second_rows.now (vertex_count (A.game arena.now)) entries.items) }
 {
-    let mut entries = Vec::new(alloc);
+    let mut entries = Vec::with_capacity(alloc, arena.count())?;
     for vertex in 0..arena.count() {
-        let entry = if won.contains(vertex) {
-            entry(
-                arena,
-                vertex,
-                0,
-                first,
-                row_at(alloc, &mut first_rows, vertex),
-            )
-        } else {
-            entry(
-                arena,
-                vertex,
-                1,
-                second,
-                row_at(alloc, &mut second_rows, vertex),
-            )
-        };
+        let first = (first, first_rows);
+        let second = (second, second_rows);
+        let entry = entry_of(alloc, arena, vertex, won, first, second)?;
         entries.push(entry)?;
     }
     Ok(entries)
 }
 
-/// Takes a row out, and leaves an empty one.
-fn row_at(alloc: Global, rows: &mut Vec<Vec<u64>>, vertex: usize) -> Vec<u64>
-    requires { vertex < length rows.old.items }
-    ensures row { HasRow rows.old.items vertex result.items }
-    ensures places { length rows.new.items ≡ length rows.old.items }
-    ensures others { (v : ℕ) → v ≢ vertex → slice_get rows.new.items v ≡ slice_get rows.old.items v }
+/// The entry of a vertex: player 0 wins those of a region by the first table and rows, player 1 all others by the second.
+fn entry_of<A: Arena>(
+    alloc: Global,
+    arena: &A,
+    vertex: usize,
+    won: &Region,
+    first: (&Strategy, &CountTable),
+    second: (&Strategy, &CountTable),
+) -> Result<Entry, AllocError>
+    requires vertex { vertex < vertex_count (A.game arena.now) }
+    requires region { length won.now ≡ vertex_count (A.game arena.now) }
+    requires first { length first.0.now ≡ vertex_count (A.game arena.now) }
+    requires first_rows { length first.1.now ≡ vertex_count (A.game arena.now) }
+    requires second { length second.0.now ≡ vertex_count (A.game arena.now) }
+    requires second_rows { length second.1.now ≡ vertex_count (A.game arena.now) }
+    ensures won { has won.now vertex ≡ true → IfOk result (IsEntryAmong (A.game arena.now) 0 (move_at first.entry.0.now) first.entry.1.now vertex) }
+    ensures lost { has won.now vertex ≡ false → IfOk result (IsEntryAmong (A.game arena.now) 1 (move_at second.entry.0.now) second.entry.1.now vertex) }
 {
-    std::mem::replace(&mut rows[vertex], Vec::new(alloc))
+    if won.contains(vertex) {
+        let (strategy, rows) = first;
+        entry_among(alloc, arena, vertex, 0, strategy, rows)
+    } else {
+        let (strategy, rows) = second;
+        entry_among(alloc, arena, vertex, 1, strategy, rows)
+    }
+}
+
+/// The entry of a vertex that a player wins, with its row of these counts.
+fn entry_among<A: Arena>(
+    alloc: Global,
+    arena: &A,
+    vertex: usize,
+    player: u8,
+    strategy: &Strategy,
+    rows: &CountTable,
+) -> Result<Entry, AllocError>
+    requires vertex { vertex < vertex_count (A.game arena.now) }
+    requires strategy { length strategy.now ≡ vertex_count (A.game arena.now) }
+    requires rows { length rows.now ≡ vertex_count (A.game arena.now) }
+    ensures { IfOk result (IsEntryAmong (A.game arena.now) player (move_at strategy.now) rows.now vertex) }
+{
+    let counts = rows.row(alloc, vertex)?;
+    Ok(entry(arena, vertex, player, strategy, counts))
 }
 
 /// The entry of a vertex that a player wins, with its counts.

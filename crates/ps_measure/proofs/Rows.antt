@@ -1,104 +1,49 @@
--- Rows of counts: one count written, one column filled, and all of them.
-use Rattle.std.proofs.Common.{◌≡◌, ◌≢◌, ℕ, zero, suc, ◌+◌, ◌*◌, ◌<◌, ◌≤◌, ◌∙◌, ◌++◌, ◌∷◌, [], List, length, get_or, set, inl, inr, refl, sym, ap, subst, arith, Option, Some, Bool, true, false, nat_lt, replicate, Vec}
-use Rattle.std.specs.Prelude.{slice_get, slice_index, slice_set}
+-- Columns of counts: one filled, all of them, and the rows that they make.
+use Rattle.std.proofs.Common.{◌≡◌, ◌≢◌, ℕ, zero, suc, ◌+◌, ◌*◌, ◌<◌, ◌≤◌, ◌∙◌, ◌++◌, ◌∷◌, [], List, length, map, get_or, inl, inr, refl, sym, ap, subst, arith, Option, Some, Bool, true, false, nat_lt, Vec}
+use Rattle.std.specs.Prelude.{slice_get, slice_index}
 use Rattle.std.specs.Global.{Global}
+use Rattle.std.specs.List.{range_with_len}
 use Rattle.std.proofs.Math.Nat.{mul-le-mul_left}
 use Rattle.std.proofs.lemmas.Bool.{cases_eq, cases_lt, cases_order, lt-ltb, le-ltb}
-use Rattle.std.proofs.lemmas.List.{get_or-set_same, get_or-set_other, get_or-replicate, get_or_past, length-set, length_push, length-replicate}
+use Rattle.std.proofs.lemmas.List.{get_or_append_left, get_or_past, get_or_push, length-map, length_push}
+use Rattle.std.proofs.lemmas.List.FromFn.{get_or-map-range_with_len, length-map-range_with_len}
 use Rattle.std.proofs.lemmas.Option.{slice_get_within, slice_get-get_or, slice_get_past}
-use Rattle.ps_components.proofs.Places.{slice_get-set_same, slice_get-set_other, slice_get-append_left, slice_get-push}
+use Rattle.ps_components.proofs.Places.{slice_get-append_left, slice_get-push}
 use Rattle.ps_components.specs.Graphs.{Digraph, Link}
 use Rattle.ps_game.specs.Games.{ParityGame, vertex_count}
 use Rattle.ps_measure.specs.Sums.{sum_below, counted, count_below}
-use Rattle.ps_measure.specs.Ranks.{count_of, count_in, width_of, width_in, total_of, raised_of, most_raises, count_with, AreRows, AreLeastFor}
-use Rattle.ps_measure.specs.Filling.{AreRanked, IsEmptyAt, Fills, IsFilled}
+use Rattle.ps_measure.specs.Ranks.{count_of, count_in, width_of, width_in, total_of, raised_of, most_raises, count_with, AreLeastFor}
+use Rattle.ps_measure.specs.Tables.{row_in, rows_in, count_at, count_within}
+use Rattle.ps_measure.specs.Filling.{AreEmpty, AreRanked, AreWritten, IsFilled}
 use Rattle.ps_measure.specs.Remaining.{LowData, low_graph, low_weight}
 use Rattle.ps_measure.specs.Columns.{AreRoots}
 use Rattle.ps_measure.proofs.Steps.{weight_light}
 use Rattle.ps_measure.proofs.Summing.{sum_below-le, sum_below-same, sum_below-bound, sum_below-next, count_below-bound}
 
 abbrev pub Row : Type 0
-Row = Vec ℕ Global
+Row = List ℕ
 
--- the row of a vertex, with one count changed
-pub record IsRowSet (old new : List Row) (v place count : ℕ) : Type 0 where
-  pub row : Row
-  pub was : Row
-  pub at : slice_get old v ≡ Some was
-  pub rows : new ≡ slice_set old v row
-  pub items : row.items ≡ slice_set was.items place count
-
-module _ (old new : List Row) (v place count : ℕ) (put : IsRowSet old new v place count) (within : v < length old) (in_row : place < width_of old v) where
-  here_is : slice_get new v ≡ Some put.row
-  here_is = ap (λ l. slice_get l v) put.rows ∙ slice_get-set_same old v put.row within
-
-  other_is : (u : ℕ) → u ≢ v → slice_get new u ≡ slice_get old u
-  other_is u apart = ap (λ l. slice_get l u) put.rows ∙ slice_get-set_other old v u put.row apart
-
-  fits : place < length put.was.items
-  fits = (let e : width_of old v ≡ length put.was.items = ap width_in put.at in omega (arith, in_row))
-
-  pub put_each : length new ≡ length old
-  put_each = ap length put.rows ∙ length-set old v put.row
-
-  pub put_widths : (u : ℕ) → width_of new u ≡ width_of old u
-  put_widths u = elim (cases_eq u v) [
-    | inl same ↦
-        let e : width_of new v ≡ width_of old v = ap width_in here_is ∙ ap length put.items ∙ length-set put.was.items place count ∙ sym (ap width_in put.at) in
-        subst (λ x. width_of new x ≡ width_of old x) (sym same) e
-    | inr apart ↦ ap width_in (other_is u apart)
-  ]
-
-  pub put_here : count_of new v place ≡ count
-  put_here = ap (λ o. count_in o place) here_is ∙ ap (λ l. slice_index l place) put.items ∙ get_or-set_same put.was.items place count 0 fits
-
-  pub put_others : (u k : ℕ) → ((u ≡ v) → (k ≡ place) → ⊥) → count_of new u k ≡ count_of old u k
-  put_others u k differ = elim (cases_eq u v) [
-    | inl same ↦
-        let apart : k ≢ place = (λ e. differ same e) in
-        let e : count_of new v k ≡ count_of old v k = ap (λ o. count_in o k) here_is ∙ ap (λ l. slice_index l k) put.items ∙ get_or-set_other put.was.items place k count 0 apart ∙ sym (ap (λ o. count_in o k) put.at) in
-        subst (λ x. count_of new x k ≡ count_of old x k) (sym same) e
-    | inr apart ↦ ap (λ o. count_in o k) (other_is u apart)
-  ]
+abbrev pub Column : Type 0
+Column = Vec ℕ Global
 
 -- ---- a column
 
-pub fills_none : (counts : ℕ → ℕ) (rows : List Row) (place : ℕ) → IsEmptyAt rows place → Fills counts rows rows place 0 0
-fills_none counts rows place empty = record {
-  each = refl;
-  widths = λ v. refl;
+pub written_none : (counts : ℕ → ℕ) → AreWritten counts [] 0 0
+written_none counts = record {
   here = λ v below. absurd (omega (arith, below));
-  later = λ v from. empty v;
-  others = λ v k apart. refl;
+  behind = λ v _. refl;
   raised_is = refl;
 }
 
--- a count that is not 0
-pub fills_more : (counts : ℕ → ℕ) (first old new : List Row) (place n raised : ℕ) → Fills counts first old place n raised → 0 < counts n → n < length old → place < width_of old n → IsRowSet old new n place (counts n) → Fills counts first new place (n + 1) (raised + 1)
-fills_more counts first old new place n raised so_far some within in_row put = record {
-  each = put_each old new n place (counts n) put within in_row ∙ so_far.each;
-  widths = λ v. put_widths old new n place (counts n) put within in_row v ∙ so_far.widths v;
+-- one count more
+pub written_more : (counts : ℕ → ℕ) (column : List ℕ) (n raised : ℕ) → length column ≡ n → AreWritten counts column n raised → AreWritten counts (column ++ counts n ∷ []) (n + 1) (raised + counted (nat_lt 0 (counts n)))
+written_more counts column n raised long so_far = record {
   here = λ v below. elim (cases_eq v n) [
-    | inl same ↦ subst (λ x. count_of new x place ≡ counts x) (sym same) (put_here old new n place (counts n) put within in_row)
-    | inr apart ↦ put_others old new n place (counts n) put within in_row v place (λ e _. apart e) ∙ so_far.here v (omega (arith, below, apart))
+    | inl same ↦ ap (slice_index (column ++ counts n ∷ [])) same ∙ get_or_push column (counts n) 0 n long ∙ ap counts (sym same)
+    | inr apart ↦ get_or_append_left column (counts n ∷ []) 0 v (omega (arith, below, apart, long)) ∙ so_far.here v (omega (arith, below, apart))
   ];
-  later = λ v from. (let apart : v ≢ n = omega (arith, from) in put_others old new n place (counts n) put within in_row v place (λ e _. apart e) ∙ so_far.later v (omega (arith, from)));
-  others = λ v k apart. put_others old new n place (counts n) put within in_row v k (λ _ e. apart e) ∙ so_far.others v k apart;
-  raised_is = (let one : counted (nat_lt 0 (counts n)) ≡ 1 = ap counted (lt-ltb 0 (counts n) some) in omega (arith, so_far.raised_is, one, sum_below-next (λ v. counted (nat_lt 0 (counts v))) n));
-}
-
--- a count that is 0
-pub fills_skip : (counts : ℕ → ℕ) (first old : List Row) (place n raised : ℕ) → Fills counts first old place n raised → counts n ≡ 0 → Fills counts first old place (n + 1) raised
-fills_skip counts first old place n raised so_far none = record {
-  each = so_far.each;
-  widths = so_far.widths;
-  here = λ v below. elim (cases_eq v n) [
-    | inl same ↦ subst (λ x. count_of old x place ≡ counts x) (sym same) (so_far.later n (omega arith) ∙ sym none)
-    | inr apart ↦ so_far.here v (omega (arith, below, apart))
-  ];
-  later = λ v from. so_far.later v (omega (arith, from));
-  others = so_far.others;
-  raised_is = (let zero_here : counted (nat_lt 0 (counts n)) ≡ 0 = ap counted (le-ltb 0 (counts n) (omega (arith, none))) in omega (arith, so_far.raised_is, zero_here, sum_below-next (λ v. counted (nat_lt 0 (counts v))) n));
+  behind = λ v from. get_or_past (column ++ counts n ∷ []) v 0 (omega (arith, from, long, length_push column (counts n)));
+  raised_is = omega (arith, so_far.raised_is, sum_below-next (λ v. counted (nat_lt 0 (counts v))) n);
 }
 
 -- ---- how many counts are not 0
@@ -170,86 +115,111 @@ least_same game player set table p counts other same least = record {
   bounded = λ v. (let h : counts v ≤ count_with game set p = least.bounded v in omega (arith, same v));
 }
 
--- one column more: the counts of the vertices are written, and nothing stands past the vertices
-pub ranked_more : (game : ParityGame) (player : ℕ) (set : ℕ → Bool) (table : ℕ → Option ℕ) (priorities : List ℕ) (old new : List Row) (place raises raised : ℕ) (counts : ℕ → ℕ) → AreLeastFor game player set table (slice_index priorities place) counts → ((v : ℕ) → vertex_count game ≤ v → counts v ≡ 0) → Fills counts old new place (vertex_count game) raised
-    → AreRanked game player set table priorities old place raises → AreRanked game player set table priorities new (place + 1) (raises + raised)
-ranked_more game player set table priorities old new place raises raised counts least past fills so_far = record {
-  shape = record { each = fills.each ∙ so_far.shape.each; wide = λ v below. fills.widths v ∙ so_far.shape.wide v below };
-  columns = λ k below. elim (cases_eq k place) [
-    | inl same ↦ subst (λ j. AreLeastFor game player set table (slice_index priorities j) (λ v. count_of new v j)) (sym same) (least_same game player set table (slice_index priorities place) counts (λ v. count_of new v place) here least)
-    | inr apart ↦ least_same game player set table (slice_index priorities k) (λ v. count_of old v k) (λ v. count_of new v k) (λ v. fills.others v k apart) (so_far.columns k (omega (arith, below, apart)))
+-- one column more
+pub ranked_more : (game : ParityGame) (player : ℕ) (set : ℕ → Bool) (table : ℕ → Option ℕ) (priorities : List ℕ) (columns : List Column) (column : Column) (place raises raised : ℕ) (counts : ℕ → ℕ) → AreLeastFor game player set table (slice_index priorities place) counts → ((v : ℕ) → vertex_count game ≤ v → counts v ≡ 0)
+    → AreWritten counts column.items (vertex_count game) raised → AreRanked game player set table priorities columns place raises → AreRanked game player set table priorities (columns ++ column ∷ []) (place + 1) (raises + raised)
+ranked_more game player set table priorities columns column place raises raised counts least past written so_far = record {
+  each = omega (arith, length_push columns column, so_far.each);
+  least = λ k below. elim (cases_eq k place) [
+    | inl same ↦ subst (λ j. AreLeastFor game player set table (slice_index priorities j) (count_at new j)) (sym same) (least_same game player set table (slice_index priorities place) counts (count_at new place) here least)
+    | inr apart ↦ least_same game player set table (slice_index priorities k) (count_at columns k) (count_at new k) (old_at k (omega (arith, below, apart))) (so_far.least k (omega (arith, below, apart)))
   ];
-  empty = λ k from v. fills.others v k (λ e. omega (arith, e, from)) ∙ so_far.empty k (omega (arith, from)) v;
+  behind = λ k v from. elim (cases_order k place) [
+    | inl same ↦ ap (λ j. count_at new j v) same ∙ ap (λ o. count_within o v) new_at ∙ written.behind v from
+    | inr (inl less) ↦ old_at k less v ∙ so_far.behind k v from
+    | inr (inr above) ↦ ap (λ o. count_within o v) (slice_get_past new k (omega (arith, above, length_push columns column, so_far.each)))
+  ];
   raises_is =
-      let before : raised_of new (vertex_count game) place ≡ raised_of old (vertex_count game) place = sum_below-same (λ k. count_below (λ v. nat_lt 0 (count_of new v k)) (vertex_count game)) (λ k. count_below (λ v. nat_lt 0 (count_of old v k)) (vertex_count game)) place (λ k below. sum_below-same (λ v. counted (nat_lt 0 (count_of new v k))) (λ v. counted (nat_lt 0 (count_of old v k))) (vertex_count game) (λ v _. ap (λ n. counted (nat_lt 0 n)) (fills.others v k (λ e. omega (arith, e, below))))) in
-      let last : count_below (λ v. nat_lt 0 (count_of new v place)) (vertex_count game) ≡ count_below (λ v. nat_lt 0 (counts v)) (vertex_count game) = sum_below-same (λ v. counted (nat_lt 0 (count_of new v place))) (λ v. counted (nat_lt 0 (counts v))) (vertex_count game) (λ v below. ap (λ n. counted (nat_lt 0 n)) (fills.here v below)) in
-      omega (arith, so_far.raises_is, fills.raised_is, before, last, sum_below-next (λ k. count_below (λ v. nat_lt 0 (count_of new v k)) (vertex_count game)) place);
+      let before : sum_below (λ k. count_below (λ v. nat_lt 0 (count_at new k v)) (vertex_count game)) place ≡ sum_below (λ k. count_below (λ v. nat_lt 0 (count_at columns k v)) (vertex_count game)) place =
+      sum_below-same (λ k. count_below (λ v. nat_lt 0 (count_at new k v)) (vertex_count game)) (λ k. count_below (λ v. nat_lt 0 (count_at columns k v)) (vertex_count game)) place
+      (λ k below. sum_below-same (λ v. counted (nat_lt 0 (count_at new k v))) (λ v. counted (nat_lt 0 (count_at columns k v))) (vertex_count game) (λ v _. ap (λ n. counted (nat_lt 0 n)) (old_at k below v))) in
+      let last : count_below (λ v. nat_lt 0 (count_at new place v)) (vertex_count game) ≡ count_below (λ v. nat_lt 0 (counts v)) (vertex_count game) =
+      sum_below-same (λ v. counted (nat_lt 0 (count_at new place v))) (λ v. counted (nat_lt 0 (counts v))) (vertex_count game) (λ v below. ap (λ n. counted (nat_lt 0 n)) (ap (λ o. count_within o v) new_at ∙ written.here v below)) in
+      omega (arith, so_far.raises_is, written.raised_is, before, last, sum_below-next (λ k. count_below (λ v. nat_lt 0 (count_at new k v)) (vertex_count game)) place);
 }
   where
-    here : (v : ℕ) → count_of new v place ≡ counts v
+    new : List Column
+    new = columns ++ column ∷ []
+
+    old_at : (k : ℕ) → k < place → (v : ℕ) → count_at new k v ≡ count_at columns k v
+    old_at k less v =
+        let within : k < length columns = omega (arith, less, so_far.each) in
+        ap (λ o. count_within o v) (slice_get-append_left columns (column ∷ []) k (get_or columns k column) (slice_get-get_or columns k column within) ∙ sym (slice_get-get_or columns k column within))
+
+    new_at : slice_get new place ≡ Some column
+    new_at = ap (slice_get new) (sym so_far.each) ∙ slice_get-push columns column
+
+    here : (v : ℕ) → count_at new place v ≡ counts v
     here v = elim (cases_lt v (vertex_count game)) [
-      | inl below ↦ fills.here v below
-      | inr above ↦ fills.later v above ∙ sym (past v above)
+      | inl below ↦ ap (λ o. count_within o v) new_at ∙ written.here v below
+      | inr above ↦ ap (λ o. count_within o v) new_at ∙ written.behind v above ∙ sym (past v above)
     ]
+
+-- in an empty set all counts are 0
+pub ranked_empty : (game : ParityGame) (player : ℕ) (set : ℕ → Bool) (table : ℕ → Option ℕ) (priorities : List ℕ) (columns : List Column) → ((v : ℕ) → set v ≡ false) → AreEmpty columns (length priorities) → AreRanked game player set table priorities columns (length priorities) 0
+ranked_empty game player set table priorities columns nobody empty = record {
+  each = empty.each;
+  least = λ k below. record {
+    keep = λ v w remains. absurd (inside v remains.from);
+    least = λ other keep v. (let h : count_at columns k v ≡ 0 = empty.none k v in omega (arith, h));
+    outside = λ v _. empty.none k v;
+    above = λ v _. empty.none k v;
+    bounded = λ v. (let h : count_at columns k v ≡ 0 = empty.none k v in omega (arith, h));
+  };
+  behind = λ k v _. empty.none k v;
+  raises_is = sym (nothing (length priorities));
+}
+  where
+    inside : (v : ℕ) → set v ≡ true → ⊥
+    inside v is = clash (sym (nobody v) ∙ is)
+      where
+        clash : false ≡ true → ⊥
+        clash e = cc
+
+    zeros : (k n : ℕ) → count_below (λ v. nat_lt 0 (count_at columns k v)) n ≡ 0
+    zeros k zero = refl
+    zeros k (suc n) =
+        let before : count_below (λ v. nat_lt 0 (count_at columns k v)) n ≡ 0 = zeros k n in
+        let last : counted (nat_lt 0 (count_at columns k n)) ≡ 0 = ap counted (le-ltb 0 (count_at columns k n) (omega (arith, empty.none k n))) in
+        omega arith
+
+    nothing : (n : ℕ) → sum_below (λ k. count_below (λ v. nat_lt 0 (count_at columns k v)) (vertex_count game)) n ≡ 0
+    nothing zero = refl
+    nothing (suc n) = omega (arith, nothing n, zeros n (vertex_count game))
+
+pub empty_none : AreEmpty [] 0
+empty_none = record { each = refl; none = λ k v. refl }
+
+pub empty_more : (columns : List Column) (column : Column) (n : ℕ) → column.items ≡ [] → AreEmpty columns n → AreEmpty (columns ++ column ∷ []) (n + 1)
+empty_more columns column n nothing empty = record {
+  each = omega (arith, length_push columns column, empty.each);
+  none = λ k v. elim (cases_order k (length columns)) [
+    | inl same ↦ ap (λ j. count_at (columns ++ column ∷ []) j v) same ∙ ap (λ o. count_within o v) (slice_get-push columns column) ∙ ap (λ (l : List ℕ). slice_index l v) nothing
+    | inr (inl less) ↦
+        ap (λ o. count_within o v) (slice_get-append_left columns (column ∷ []) k (get_or columns k column) (slice_get-get_or columns k column less) ∙ sym (slice_get-get_or columns k column less)) ∙ empty.none k v
+    | inr (inr above) ↦ ap (λ o. count_within o v) (slice_get_past (columns ++ column ∷ []) k (omega (arith, above, length_push columns column)))
+  ];
+}
 
 -- the raises fit
-pub ranked_fits : (game : ParityGame) (player : ℕ) (set : ℕ → Bool) (table : ℕ → Option ℕ) (priorities : List ℕ) (rows : List Row) (place raises : ℕ) → vertex_count game ≤ 18446744073709551615 → AreRanked game player set table priorities rows place raises → raises ≤ place * 18446744073709551615
-ranked_fits game player set table priorities rows place raises small ranked =
-    let bound : raised_of rows (vertex_count game) place ≤ place * 18446744073709551615 = sum_below-bound (λ k. count_below (λ v. nat_lt 0 (count_of rows v k)) (vertex_count game)) place 18446744073709551615 (λ k _. (let h : count_below (λ v. nat_lt 0 (count_of rows v k)) (vertex_count game) ≤ vertex_count game = count_below-bound (λ v. nat_lt 0 (count_of rows v k)) (vertex_count game) in omega arith)) in
+pub ranked_fits : (game : ParityGame) (player : ℕ) (set : ℕ → Bool) (table : ℕ → Option ℕ) (priorities : List ℕ) (columns : List Column) (place raises : ℕ) → vertex_count game ≤ 18446744073709551615 → AreRanked game player set table priorities columns place raises → raises ≤ place * 18446744073709551615
+ranked_fits game player set table priorities columns place raises small ranked =
+    let bound : sum_below (λ k. count_below (λ v. nat_lt 0 (count_at columns k v)) (vertex_count game)) place ≤ place * 18446744073709551615 = sum_below-bound (λ k. count_below (λ v. nat_lt 0 (count_at columns k v)) (vertex_count game)) place 18446744073709551615 (λ k _. (let h : count_below (λ v. nat_lt 0 (count_at columns k v)) (vertex_count game) ≤ vertex_count game = count_below-bound (λ v. nat_lt 0 (count_at columns k v)) (vertex_count game) in omega arith)) in
     omega (arith, bound, ranked.raises_is)
-
--- ---- rows of zeros
-
-pub rows_push : (rows : List Row) (row : Row) (n width : ℕ) → row.items ≡ replicate width 0 → AreRows rows n width → ((k : ℕ) → IsEmptyAt rows k) → AreRows (rows ++ row ∷ []) (n + 1) width × ((k : ℕ) → IsEmptyAt (rows ++ row ∷ []) k)
-rows_push rows row n width zeros shape empty = (
-  record {
-    each = omega (arith, length_push rows row, shape.each);
-    wide = λ v below. elim (cases_lt v n) [
-      | inl less ↦ ap width_in (at_old v (omega (arith, less, shape.each))) ∙ shape.wide v less
-      | inr more ↦ ap width_in (at_new v (omega (arith, below, more, shape.each))) ∙ ap length zeros ∙ length-replicate {A = ℕ} width 0
-    ];
-  },
-  λ k v. elim (cases_order v (length rows)) [
-    | inl same ↦ ap (λ o. count_in o k) (at_new v same) ∙ ap (λ l. slice_index l k) zeros ∙ zero_at k
-    | inr (inl less) ↦ ap (λ o. count_in o k) (at_old v less) ∙ empty k v
-    | inr (inr more) ↦ ap (λ o. count_in o k) (slice_get_past (rows ++ row ∷ []) v (omega (arith, more, length_push rows row)))
-  ],
-)
-  where
-    at_old : (v : ℕ) → v < length rows → slice_get (rows ++ row ∷ []) v ≡ slice_get rows v
-    at_old v less = slice_get-append_left rows (row ∷ []) v (get_or rows v row) (slice_get-get_or rows v row less) ∙ sym (slice_get-get_or rows v row less)
-
-    at_new : (v : ℕ) → v ≡ length rows → slice_get (rows ++ row ∷ []) v ≡ Some row
-    at_new v same = ap (slice_get (rows ++ row ∷ [])) same ∙ slice_get-push rows row
-
-    zero_at : (k : ℕ) → slice_index (replicate width 0) k ≡ 0
-    zero_at k = elim (cases_lt k width) [
-      | inl less ↦ get_or-replicate width k 0 0 less
-      | inr more ↦ get_or_past (replicate width 0) k 0 (omega (arith, more, length-replicate {A = ℕ} width 0))
-    ]
-
-pub rows_none : (width : ℕ) (rows : List Row) → rows ≡ [] → AreRows rows 0 width × ((k : ℕ) → IsEmptyAt rows k)
-rows_none width rows none = (
-  record { each = ap length none; wide = λ v below. absurd (omega (arith, below)) },
-  λ k v. ap (λ (l : List Row). count_of l v k) none,
-)
 
 -- ---- no root
 
-pub filled_none : (low : LowData) (roots : List ℕ) (rows : List Row) (place : ℕ) → length roots ≡ 0 → AreRoots (low_graph low) (low_weight low) roots → IsEmptyAt rows place → IsFilled (low_graph low) (low_weight low) rows rows place 0
-filled_none low roots rows place none are empty = record {
+pub filled_none : (low : LowData) (roots : List ℕ) → length roots ≡ 0 → AreRoots (low_graph low) (low_weight low) roots → IsFilled (low_graph low) (low_weight low) [] 0
+filled_none low roots none are = record {
   counts = λ _. 0;
   least = record {
     counts = λ w v link. light w v link;
     least = λ other counts v. omega arith;
     bounded = λ v. omega arith;
   };
-  fills = record {
-    each = refl;
-    widths = λ v. refl;
-    here = λ v below. empty v;
-    later = λ v from. empty v;
-    others = λ v k apart. refl;
+  written = record {
+    here = λ v below. refl;
+    behind = λ v from. refl;
     raised_is = sym (nothing low.star.count);
   };
 }
@@ -264,5 +234,32 @@ filled_none low roots rows place none are empty = record {
     nothing zero = refl
     nothing (suc n) = omega (arith, nothing n)
 
-pub filled_bound : {g : Digraph} {weight : ℕ → ℕ} {old new : List Row} {place raised : ℕ} → IsFilled g weight old new place raised → raised ≤ g.count
-filled_bound {g} filled = omega (arith, filled.fills.raised_is, count_below-bound (λ v. nat_lt 0 (filled.counts v)) g.count)
+pub filled_bound : {g : Digraph} {weight : ℕ → ℕ} {column : List ℕ} {raised : ℕ} → IsFilled g weight column raised → raised ≤ g.count
+filled_bound {g} filled = omega (arith, filled.written.raised_is, count_below-bound (λ v. nat_lt 0 (filled.counts v)) g.count)
+
+-- ---- the rows that columns make
+
+in_row : (columns : List Column) (v k : ℕ) → slice_index (row_in columns v) k ≡ count_at columns k v
+in_row [] v k = refl
+in_row (column ∷ columns) v zero = refl
+in_row (column ∷ columns) v (suc k) = in_row columns v k
+
+module _ (columns : List Column) (n : ℕ) where
+  pub rows_each : length (rows_in n columns) ≡ n
+  unfolding rows_in
+  rows_each = length-map-range_with_len (row_in columns) 0 n
+
+  pub row_at : (v : ℕ) → v < n → slice_get (rows_in n columns) v ≡ Some (row_in columns v)
+  unfolding rows_in
+  row_at v below =
+      slice_get-get_or (map (row_in columns) (range_with_len 0 n)) v [] (omega (arith, below, length-map-range_with_len (row_in columns) 0 n))
+      ∙ ap Some (get_or-map-range_with_len (row_in columns) 0 n v v [] below (omega arith))
+
+  pub rows_wide : (v : ℕ) → v < n → width_of (rows_in n columns) v ≡ length columns
+  rows_wide v below = ap width_in (row_at v below) ∙ length-map columns (λ (column : Column). slice_index column.items v)
+
+  pub rows_count : (v k : ℕ) → v < n → count_of (rows_in n columns) v k ≡ count_at columns k v
+  rows_count v k below = ap (λ o. count_in o k) (row_at v below) ∙ in_row columns v k
+
+  pub rows_past : (v k : ℕ) → n ≤ v → count_of (rows_in n columns) v k ≡ 0
+  rows_past v k above = ap (λ o. count_in o k) (slice_get_past (rows_in n columns) v (omega (arith, above, rows_each)))

@@ -1,5 +1,6 @@
 -- Sums over the numbers below a bound, compared term by term.
 use Rattle.std.proofs.Common.{◌≡◌, ℕ, zero, suc, ◌+◌, ◌*◌, ◌<◌, ◌≤◌, inl, inr, refl, ap, add-one, arith, Bool, true, false}
+use Rattle.std.specs.Int.{from_bool}
 use Rattle.std.proofs.lemmas.Bool.{cases_eq}
 use Rattle.ps_measure.specs.Sums.{sum_below, counted, count_below}
 
@@ -50,3 +51,7 @@ count_below-bound test n = (let h : count_below test n ≤ n * 1 = sum_below-bou
 -- one number more
 pub sum_below-next : (f : ℕ → ℕ) (n : ℕ) → sum_below f (n + 1) ≡ sum_below f n + f n
 sum_below-next f n = ap (sum_below f) (add-one n)
+
+pub from_bool-bound : (b : Bool) → from_bool b ≤ 1
+from_bool-bound true = omega arith
+from_bool-bound false = omega arith

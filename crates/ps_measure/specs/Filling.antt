@@ -1,35 +1,29 @@
--- Columns of counts written into rows, and cycles in a graph of low vertices.
-use Rattle.std.specs.Prelude.{◌≡◌, ◌≢◌, ℕ, ◌<◌, ◌≤◌, Bool, List, length, Option, Vec, nat_lt, slice_index}
+-- Columns of counts, and cycles in a graph of low vertices.
+use Rattle.std.specs.Prelude.{◌≡◌, ℕ, ◌<◌, ◌≤◌, Bool, List, length, Option, Vec, nat_lt, slice_index}
 use Rattle.std.specs.Global.{Global}
 use Rattle.ps_components.specs.Graphs.{Digraph}
 use Rattle.ps_components.specs.Trails.{IsTrail}
 use Rattle.ps_game.specs.Games.{ParityGame, vertex_count, priority_of}
 use Rattle.ps_measure.specs.declared.fault.MeasureFault.{MeasureFault}
 use Rattle.ps_measure.specs.declared.fault.MeasureFault.TheVariants.{BadCycle, OutOfMemory}
-use Rattle.ps_measure.specs.Sums.{count_below}
+use Rattle.ps_measure.specs.Sums.{sum_below, count_below}
 use Rattle.ps_measure.specs.Remaining.{LowData, low_graph, low_weight}
 use Rattle.ps_measure.specs.Columns.{AreLeast}
 use Rattle.ps_measure.specs.Outcomes.{IsClosing}
-use Rattle.ps_measure.specs.Ranks.{AreLeastFor, AreRows, width_of, count_of, raised_of}
+use Rattle.ps_measure.specs.Ranks.{AreLeastFor}
+use Rattle.ps_measure.specs.Tables.{count_at}
 
--- no count at a place
-abbrev pub IsEmptyAt : List (Vec ℕ Global) → ℕ → Type 0
-IsEmptyAt rows k = (v : ℕ) → count_of rows v k ≡ 0
-
--- the rows are as they were, but for the counts of the vertices below n at one place, and so many of these are not 0
-pub record Fills (counts : ℕ → ℕ) (old new : List (Vec ℕ Global)) (place n raised : ℕ) : Type 0 where
-  pub each : length new ≡ length old
-  pub widths : (v : ℕ) → width_of new v ≡ width_of old v
-  pub here : (v : ℕ) → v < n → count_of new v place ≡ counts v
-  pub later : (v : ℕ) → n ≤ v → count_of new v place ≡ 0
-  pub others : (v k : ℕ) → k ≢ place → count_of new v k ≡ count_of old v k
+-- the counts of the vertices below n in order and nothing behind, and so many of them are not 0
+pub record AreWritten (counts : ℕ → ℕ) (column : List ℕ) (n raised : ℕ) : Type 0 where
+  pub here : (v : ℕ) → v < n → slice_index column v ≡ counts v
+  pub behind : (v : ℕ) → n ≤ v → slice_index column v ≡ 0
   pub raised_is : raised ≡ count_below (λ v. nat_lt 0 (counts v)) n
 
--- the least counts were written at the place
-pub record IsFilled (g : Digraph) (weight : ℕ → ℕ) (old new : List (Vec ℕ Global)) (place raised : ℕ) : Type 0 where
+-- the least counts were written
+pub record IsFilled (g : Digraph) (weight : ℕ → ℕ) (column : List ℕ) (raised : ℕ) : Type 0 where
   pub counts : ℕ → ℕ
   pub least : AreLeast g weight counts
-  pub fills : Fills counts old new place g.count raised
+  pub written : AreWritten counts column g.count raised
 
 -- a way from the source of a link back to it
 pub record IsLowCycle (low : LowData) (cycle : List ℕ) : Type 0 where
@@ -47,9 +41,14 @@ pub record AreLevels (game : ParityGame) (levels : List ℕ) : Type 0 where
   pub each : length levels ≡ vertex_count game
   pub is : (v : ℕ) → v < vertex_count game → slice_index levels v ≡ priority_of game v
 
--- the first columns hold least counts, the later ones none, and so many counts are not 0
-pub record AreRanked (game : ParityGame) (player : ℕ) (set : ℕ → Bool) (table : ℕ → Option ℕ) (priorities : List ℕ) (rows : List (Vec ℕ Global)) (place raises : ℕ) : Type 0 where
-  pub shape : AreRows rows (vertex_count game) (length priorities)
-  pub columns : (k : ℕ) → k < place → AreLeastFor game player set table (slice_index priorities k) (λ v. count_of rows v k)
-  pub empty : (k : ℕ) → place ≤ k → IsEmptyAt rows k
-  pub raises_is : raises ≡ raised_of rows (vertex_count game) place
+-- so many columns of least counts, and so many counts are not 0
+pub record AreRanked (game : ParityGame) (player : ℕ) (set : ℕ → Bool) (table : ℕ → Option ℕ) (priorities : List ℕ) (columns : List (Vec ℕ Global)) (place raises : ℕ) : Type 0 where
+  pub each : length columns ≡ place
+  pub least : (k : ℕ) → k < place → AreLeastFor game player set table (slice_index priorities k) (count_at columns k)
+  pub behind : (k v : ℕ) → vertex_count game ≤ v → count_at columns k v ≡ 0
+  pub raises_is : raises ≡ sum_below (λ k. count_below (λ v. nat_lt 0 (count_at columns k v)) (vertex_count game)) place
+
+-- so many columns without a count but 0
+pub record AreEmpty (columns : List (Vec ℕ Global)) (count : ℕ) : Type 0 where
+  pub each : length columns ≡ count
+  pub none : (k v : ℕ) → count_at columns k v ≡ 0

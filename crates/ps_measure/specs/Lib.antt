@@ -6,3 +6,4 @@ pub mod Outcomes
 pub mod Ranks
 pub mod Remaining
 pub mod Sums
+pub mod Tables

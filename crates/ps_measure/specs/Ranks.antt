@@ -1,6 +1,5 @@
 -- The least counts of a player's region, by the priorities by which the player loses; and a cycle that the player loses.
-use Rattle.std.specs.Prelude.{◌≡◌, ℕ, ◌+◌, ◌-◌, ◌*◌, ◌%◌, ◌<◌, ◌≤◌, ◌&&◌, ◌==◌, List, length, map, Option, None, Some, Bool, IsTrue, Vec, nat_lt, slice_get, slice_index}
-use Rattle.std.specs.Global.{Global}
+use Rattle.std.specs.Prelude.{◌≡◌, ℕ, ◌+◌, ◌-◌, ◌*◌, ◌%◌, ◌<◌, ◌≤◌, ◌&&◌, ◌==◌, List, length, map, Option, None, Some, Bool, IsTrue, nat_lt, slice_get, slice_index}
 use Rattle.ps_game.specs.Games.{ParityGame, vertex_count, priority_of}
 use Rattle.ps_game.specs.Plays.{greatest, other_player}
 use Rattle.ps_game.specs.Ranking.{RemainsWithin, ListsPriorities, KeepRuleWithin}
@@ -22,38 +21,38 @@ pub record AreLeastFor (game : ParityGame) (player : ℕ) (set : ℕ → Bool) (
   pub bounded : (v : ℕ) → count v ≤ count_with game set p
 
 -- the count of a vertex at a place of its row
-abbrev pub count_in : Option (Vec ℕ Global) → ℕ → ℕ
+abbrev pub count_in : Option (List ℕ) → ℕ → ℕ
 count_in None k = 0
-count_in (Some row) k = slice_index row.items k
+count_in (Some row) k = slice_index row k
 
-abbrev pub count_of : List (Vec ℕ Global) → ℕ → ℕ → ℕ
+abbrev pub count_of : List (List ℕ) → ℕ → ℕ → ℕ
 count_of rows v k = count_in (slice_get rows v) k
 
 -- how many counts the row of a vertex has
-abbrev pub width_in : Option (Vec ℕ Global) → ℕ
+abbrev pub width_in : Option (List ℕ) → ℕ
 width_in None = 0
-width_in (Some row) = length row.items
+width_in (Some row) = length row
 
-abbrev pub width_of : List (Vec ℕ Global) → ℕ → ℕ
+abbrev pub width_of : List (List ℕ) → ℕ → ℕ
 width_of rows v = width_in (slice_get rows v)
 
 -- so many rows of one length
-pub record AreRows (rows : List (Vec ℕ Global)) (count width : ℕ) : Type 0 where
+pub record AreRows (rows : List (List ℕ)) (count width : ℕ) : Type 0 where
   pub each : length rows ≡ count
   pub wide : (v : ℕ) → v < count → width_of rows v ≡ width
 
 -- the opposing priorities of the game, rising, and for each vertex a row with one count for each of them
-pub record AreRanks (game : ParityGame) (player : ℕ) (set : ℕ → Bool) (table : ℕ → Option ℕ) (priorities : List ℕ) (rows : List (Vec ℕ Global)) : Type 0 where
+pub record AreRanks (game : ParityGame) (player : ℕ) (set : ℕ → Bool) (table : ℕ → Option ℕ) (priorities : List ℕ) (rows : List (List ℕ)) : Type 0 where
   pub listed : ListsPriorities game (other_player player) priorities
   pub shape : AreRows rows (vertex_count game) (length priorities)
   pub columns : (k : ℕ) → k < length priorities → AreLeastFor game player set table (slice_index priorities k) (λ v. count_of rows v k)
 
 -- the sum of all counts
-abbrev pub total_of : List (Vec ℕ Global) → ℕ → ℕ → ℕ
+abbrev pub total_of : List (List ℕ) → ℕ → ℕ → ℕ
 total_of rows count width = sum_below (λ k. sum_below (λ v. count_of rows v k) count) width
 
 -- how many counts are not 0
-abbrev pub raised_of : List (Vec ℕ Global) → ℕ → ℕ → ℕ
+abbrev pub raised_of : List (List ℕ) → ℕ → ℕ → ℕ
 raised_of rows count width = sum_below (λ k. count_below (λ v. nat_lt 0 (count_of rows v k)) count) width
 
 -- for each of the priorities, the vertices of the set times those of them that have the priority
