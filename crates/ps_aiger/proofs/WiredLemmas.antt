@@ -17,7 +17,7 @@ use Rattle.ps_circuit.specs.Circuits.{CircuitData}
 use Rattle.ps_aiger.specs.Encoded.{memory_at}
 use Rattle.ps_aiger.specs.Functions.{KnowsMade, bit_wanted, bits_wired, code_wanted, node_made}
 use Rattle.ps_circuit.specs.Gates.{Made, mux_of}
-use Rattle.ps_aiger.specs.Wires.{AreGates, IsOutOfLiterals, IsWired, IsWiredBy, Wired, code_made, next_bit, next_wires, output_bit, output_wires, wired}
+use Rattle.ps_aiger.specs.Wires.{AreGates, IsOutOfLiterals, IsWired, IsWiredBy, Wired, code_made, next_bit, next_wires, output_wires, wired}
 use Rattle.ps_aiger.proofs.EncodeLemmas.{no_latch}
 use Rattle.ps_circuit.proofs.GateLemmas.{bool_cases, drafted_are, extends-refl, extends-trans}
 use Rattle.ps_circuit.proofs.MadeLemmas.{above-extends, mux-extends}

@@ -1,8 +1,6 @@
 -- A lasso of a machine is read on and on; and its letters are those of the automaton.
 use Rattle.std.proofs.Common.{◌≡◌, ℕ, zero, suc, ◌+◌, ◌-◌, ◌*◌, ◌/◌, ◌%◌, ◌^◌, ◌<◌, ◌≤◌, ◌⊎◌, inl, inr, Bool, true, false, cond, not, ltb, List, ◌++◌, length, get_or, refl, ap, sym, subst, ◌∙◌, arith, rules, add-one}
-use Rattle.std.specs.Prelude.{slice_index, Option, None, Some, IsSomeAnd}
-use Rattle.std.specs.Option.{unwrap_or}
-use Rattle.ps_diagram.specs.Table.{leaf_of}
+use Rattle.std.specs.Prelude.{slice_index}
 use Rattle.ps_diagram.proofs.Letters.{no_bit}
 use Rattle.std.proofs.Math.Nat.{div-add-mod, mod-lt}
 use Rattle.std.proofs.Math.ListN.{get_or-append}

@@ -3,6 +3,7 @@ mod BoardLetters
 mod BoardSteps
 mod BuildingEntries
 mod Certified
+mod ClassTables
 mod DrawingLemmas
 mod Exploring
 mod Extracted
