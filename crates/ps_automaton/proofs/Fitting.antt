@@ -18,7 +18,7 @@ use Rattle.ps_hoa.specs.Views.{edge_data}
 use Rattle.ps_hoa.specs.declared.file.Edge.{Edge}
 use Rattle.ps_hoa.proofs.SoundLaws.{all_at, all_get, sound_edge}
 use Rattle.ps_automaton.specs.Answers.{AreAlike}
-use Rattle.ps_automaton.specs.Drafts.{IsFit}
+use Rattle.ps_automaton.specs.Drafts.{IsByLetters, IsFit}
 use Rattle.ps_automaton.specs.Targets.{IsTargetOf}
 use Rattle.ps_automaton.specs.declared.targets.Target.{Target}
 
@@ -43,7 +43,7 @@ aliases_over k count (e ∷ es) a = (label_over k count e a.0, aliases_over (k +
 
 -- ## Guards
 
-by_letter : (k : ℕ) (es : List EdgeData) → AreAtLetters k es → (j : ℕ) (e : EdgeData) → slice_get es j ≡ Some e → e.guard ≡ at_letter (k + j)
+pub by_letter : (k : ℕ) (es : List EdgeData) → AreAtLetters k es → (j : ℕ) (e : EdgeData) → slice_get es j ≡ Some e → e.guard ≡ at_letter (k + j)
 by_letter k [] a j e at = absurd (none_is_some e at)
 by_letter k (d ∷ es) a zero e at = let n : k ≡ k + 0 = omega arith in ap (λ (x : EdgeData). x.guard) (sym (same_some d e at)) ∙ a.0 ∙ ap at_letter n
 by_letter k (d ∷ es) a (suc j) e at = let n : k + 1 + j ≡ k + suc j = omega arith in by_letter (k + 1) es a.1 j e at ∙ ap at_letter n
@@ -73,6 +73,18 @@ labelled_letter count None es (inr a) j e at k is =
     let within : j < length es = slice_get_within es j e at in
     let count_is = a.1 in
     omega (arith, same, within, count_is)
+
+-- a row with one edge that is taken at a letter alone has one for each letter
+pub by_letters_of : (file : FileData) (row : RowData) → IsSoundRow file row → (e : EdgeData) (k : ℕ) → slice_get row.edges 0 ≡ Some e → e.guard ≡ at_letter k → IsByLetters file row
+unfolding is_letter
+by_letters_of file row s e k at is = by_label row.label s.labelled
+  where
+    by_label : (label : Option Expression) → AreLabelled (length file.names) label row.edges → IsByLetters file row
+    by_label (Some l) a = absurd (no_letter k e.guard is (ap is_letter (all_get IsOfState row.edges (all_at IsOfState row.edges a) 0 e at)))
+    by_label None (inl a) =
+        let s = all_get IsStated row.edges (all_at IsStated row.edges a) 0 e at in
+        absurd (no_letter k e.guard is (ap is_letter s.1))
+    by_label None (inr a) = a
 
 module _ (file : FileData) (sound : IsSound file) (row : RowData) (row_sound : IsSoundRow file row) where
   pub fits : (j : ℕ) (e : EdgeData) → slice_get row.edges j ≡ Some e → IsFit file e.guard

@@ -18,3 +18,4 @@ pub mod ChainSets
 pub mod OneRefusal
 mod Deciding
 mod Existing
+pub mod LetterRows

@@ -14,7 +14,7 @@ use Rattle.ps_hoa.specs.Files.{RowData, FileData}
 use Rattle.ps_hoa.specs.Sound.{IsSound, IsSoundRow}
 use Rattle.ps_automaton.specs.Answers.{AreClashing}
 use Rattle.ps_automaton.specs.Chains.{Chain, Link, first_number, level, level_by}
-use Rattle.ps_automaton.specs.Drafts.{ArePlaces, AreSteps, IsStepsOf, IsTargetAt, IsUnion, Moves, Names, Stops, TakenEdge, step_of_target}
+use Rattle.ps_automaton.specs.Drafts.{AreJoined, ArePlaces, AreSteps, IsStepsOf, IsTargetAt, IsUnion, Moves, Names, Stops, TakenEdge, step_of_target}
 use Rattle.ps_automaton.specs.Numbering.{AreSetsBelow}
 use Rattle.ps_automaton.specs.declared.step.Step.{Step}
 use Rattle.ps_automaton.specs.declared.targets.Target.{Target}
@@ -35,12 +35,12 @@ leaf_within file row count targets t node union letter small = by_leaf (leaf_of 
     by_leaf : (o : Option ℕ) → leaf_of t node letter ≡ o → IfSome o (λ k. k < length targets)
     by_leaf None e = tt
     by_leaf (Some k) e =
-        let there : IsTargetAt row (union.from letter k small e).edge targets k = at_leaf (IsTargetAt row (union.from letter k small e).edge targets) (leaf_of t node letter) k e (union.there letter small (union.from letter k small e)) in
+        let there : IsTargetAt row (union.joined.from letter k small e).edge targets k = at_leaf (IsTargetAt row (union.joined.from letter k small e).edge targets) (leaf_of t node letter) k e (union.joined.there letter small (union.joined.from letter k small e)) in
         slice_get_within targets k there.0 there.1
 
 -- the leaf of a taken edge, and none where no edge is taken, in a joined row of all edges
 module _ (file : FileData) (sound : IsSound file) (row : RowData) (row_sound : IsSoundRow file row) (chain : Chain) (few : AreSetsBelow 64 chain.links)
-    (targets : List Target) (t : Table) (node : ℕ) (union : IsUnion file row (length row.edges) targets t node)
+    (targets : List Target) (place_at : ℕ → Option ℕ) (joined : AreJoined file row (length row.edges) targets place_at)
     (steps : List Step) (all_steps : AreSteps file.states steps) (places : List ℕ) (are_places : ArePlaces chain targets steps places) where
   -- the leaf that is made of one
   abbrev pub made_of : Option ℕ → ℕ
@@ -77,7 +77,7 @@ module _ (file : FileData) (sound : IsSound file) (row : RowData) (row_sound : I
       let made : ℕ → ℕ → Step = λ n m. record { state = n; priority = m } in
       named ∙ ap (λ n. Some (made n (level chain (λ set. is_in set h.0.sets)))) h.2.state ∙ ap (λ m. Some (made e.edge.target m)) levels
 
-  module _ (q : ℕ) (of_state : row_of file q ≡ Some row) (after : Table) (made : ℕ) (held : IsNode after made) (leaf : (letter : ℕ) → leaf_of after made letter ≡ Some (made_of (leaf_of t node letter))) where
+  module _ (q : ℕ) (of_state : row_of file q ≡ Some row) (after : Table) (made : ℕ) (held : IsNode after made) (leaf : (letter : ℕ) → leaf_of after made letter ≡ Some (made_of (place_at letter))) where
     edge_of : (letter : ℕ) (sets : ℕ → Bool) (next : ℕ) (g : Goes file q letter sets next) → (e : TakenEdge file row (length row.edges) letter) × ((set : ℕ) → sets set ≡ is_marked row e.edge set) × (e.edge.target ≡ next)
     edge_of letter sets next g =
         let same : g.row ≡ row = same_some g.row row (sym g.of_state ∙ of_state) in
@@ -85,38 +85,38 @@ module _ (file : FileData) (sound : IsSound file) (row : RowData) (row_sound : I
         let e : TakenEdge file row (length row.edges) letter = record { place = g.place; within = slice_get_within row.edges g.place g.edge at; edge = g.edge; at_place = at; taken = subst (λ r. IsTaken file r g.edge letter) same g.taken } in
         (e, λ set. g.marked set ∙ ap (λ (r : RowData). is_marked r g.edge set) same, g.target)
 
-    names_at : (letter : ℕ) (step : Step) → slice_get steps (made_of (leaf_of t node letter)) ≡ Some step → Names steps (leaf_of after made letter) step
+    names_at : (letter : ℕ) (step : Step) → slice_get steps (made_of (place_at letter)) ≡ Some step → Names steps (leaf_of after made letter) step
     names_at letter step e = subst (λ o. Names steps o step) (sym (leaf letter)) e
 
     by_edge_of : (letter : ℕ) (sets : ℕ → Bool) (next : ℕ) → Goes file q letter sets next → Names steps (leaf_of after made letter) (record { state = next; priority = level chain sets })
     by_edge_of letter sets next g =
         let e = edge_of letter sets next g in
-        let step = edge_step letter e.0 (leaf_of t node letter) (union.there letter g.is_letter e.0) sets e.1 in
+        let step = edge_step letter e.0 (place_at letter) (joined.there letter g.is_letter e.0) sets e.1 in
         subst (λ n. Names steps (leaf_of after made letter) (record { state = n; priority = level chain sets })) e.2 (names_at letter (record { state = e.0.edge.target; priority = level chain sets }) step)
 
     moves_or_stops : (letter : ℕ) → letter < 2 ^ length file.names → Moves file chain q letter steps (leaf_of after made letter) ⊎ Stops file q letter steps (leaf_of after made letter)
-    moves_or_stops letter small = by_leaf (leaf_of t node letter) refl
+    moves_or_stops letter small = by_leaf (place_at letter) refl
       where
-        by_leaf : (o : Option ℕ) → leaf_of t node letter ≡ o → Moves file chain q letter steps (leaf_of after made letter) ⊎ Stops file q letter steps (leaf_of after made letter)
+        by_leaf : (o : Option ℕ) → place_at letter ≡ o → Moves file chain q letter steps (leaf_of after made letter) ⊎ Stops file q letter steps (leaf_of after made letter)
         by_leaf None e = inr (record {
           none = λ sets next g.
               let taken = edge_of letter sets next g in
-              subst (λ o. IsSomeAnd o (IsTargetAt row taken.0.edge targets)) e (union.there letter small taken.0);
+              subst (λ o. IsSomeAnd o (IsTargetAt row taken.0.edge targets)) e (joined.there letter small taken.0);
           named = names_at letter (record { state = file.states; priority = 1 }) (ap (λ o. slice_get steps (made_of o)) e ∙ all_steps.sink);
         })
         by_leaf (Some k) e =
-            let taken = union.from letter k small e in
+            let taken = joined.from letter k small e in
             let goes : Goes file q letter (is_marked row taken.edge) taken.edge.target = record { is_letter = small; row = row; of_state = of_state; place = taken.place; edge = taken.edge; at_place = taken.at_place; taken = taken.taken; marked = λ set. refl; target = refl } in
             inl (record { next = taken.edge.target; sets = is_marked row taken.edge; goes = goes; named = by_edge_of letter (is_marked row taken.edge) taken.edge.target goes })
 
     pub steps_of_row : IsStepsOf file chain q steps after made
     steps_of_row = record {
       held = held;
-      leaves = λ letter. subst (λ o. IsSomeAnd o (λ l. l < length steps)) (sym (leaf letter)) (made_within (leaf_of t node letter));
+      leaves = λ letter. subst (λ o. IsSomeAnd o (λ l. l < length steps)) (sym (leaf letter)) (made_within (place_at letter));
       steps_of = moves_or_stops;
       by_edge = by_edge_of;
       clear = λ first second k.
           let same : k.row ≡ row = same_some k.row row (sym k.of_state ∙ of_state) in
           let clashing = subst (λ r. AreClashing file r first second) same k.clashing in
-          union_clear file sound row row_sound (length row.edges) targets t node union first second (slice_get_within row.edges second clashing.other clashing.at_second) clashing;
+          union_clear file sound row row_sound (length row.edges) targets place_at joined first second (slice_get_within row.edges second clashing.other clashing.at_second) clashing;
     }

@@ -12,7 +12,7 @@ use Rattle.ps_hoa.specs.Files.{EdgeData, RowData, FileData}
 use Rattle.ps_hoa.specs.Sound.{IsSound, IsSoundRow}
 use Rattle.ps_hoa.proofs.SoundLaws.{sound_edge}
 use Rattle.ps_automaton.specs.Answers.{AreAlike, AreClashing}
-use Rattle.ps_automaton.specs.Drafts.{IsFirstOfRow, IsTargetAt, IsUnion, IsWhere, ShowsEdge, TakenEdge}
+use Rattle.ps_automaton.specs.Drafts.{AreJoined, IsFirstOfRow, IsTargetAt, IsUnion, IsWhere, ShowsEdge, TakenEdge}
 use Rattle.ps_automaton.specs.Targets.{IsTargetOf}
 use Rattle.ps_automaton.specs.declared.targets.Target.{Target}
 use Rattle.ps_automaton.proofs.Distinct.{one_place}
@@ -50,12 +50,12 @@ wider file row count letter e = record { place = e.place; within = (let h = e.wi
 
 module _ (file : FileData) (sound : IsSound file) (row : RowData) (row_sound : IsSoundRow file row) where
   -- edges that were joined do not clash
-  pub union_clear : (count : ℕ) (targets : List Target) (t : Table) (node : ℕ) → IsUnion file row count targets t node → (a b : ℕ) → b < count → AreClashing file row a b → ⊥
-  union_clear count targets t node u a b within k =
+  pub union_clear : (count : ℕ) (targets : List Target) (place_at : ℕ → Option ℕ) → AreJoined file row count targets place_at → (a b : ℕ) → b < count → AreClashing file row a b → ⊥
+  union_clear count targets place_at u a b within k =
       let before : a < count = (let e = k.earlier in omega (arith, e, within)) in
       let one : TakenEdge file row count k.letter = record { place = a; within = before; edge = k.one; at_place = k.at_first; taken = k.one_taken } in
       let other : TakenEdge file row count k.letter = record { place = b; within = within; edge = k.other; at_place = k.at_second; taken = k.other_taken } in
-      k.differ (by_leaf (leaf_of t node k.letter) (u.there k.letter k.is_letter one) (u.there k.letter k.is_letter other))
+      k.differ (by_leaf (place_at k.letter) (u.there k.letter k.is_letter one) (u.there k.letter k.is_letter other))
     where
       by_leaf : (o : Option ℕ) → IsSomeAnd o (IsTargetAt row k.one targets) → IsSomeAnd o (IsTargetAt row k.other targets) → AreAlike row k.one k.other
       by_leaf None h g = absurd h
@@ -75,13 +75,15 @@ module _ (file : FileData) (sound : IsSound file) (row : RowData) (row_sound : I
         ((letter : ℕ) → AgreeingLeaves (leaf_of t node letter) (leaf_of t marked letter)) → IsUnion file row (count + 1) new after made
     union_grown after made held leaf agree = record {
       held = held;
-      there = λ letter small e. subst (λ o. IsSomeAnd o (IsTargetAt row e.edge new)) (sym (leaf letter)) (by_place letter small e (cases_lt e.place count));
-      from = λ letter x small is_leaf. by_side letter x small (joined_from (leaf_of t node letter) (leaf_of t marked letter) x (sym (leaf letter) ∙ is_leaf));
-      within = λ i x e. by_target i x (back i x e);
+      joined = record {
+        there = λ letter small e. subst (λ o. IsSomeAnd o (IsTargetAt row e.edge new)) (sym (leaf letter)) (by_place letter small e (cases_lt e.place count));
+        from = λ letter x small is_leaf. by_side letter x small (joined_from (leaf_of t node letter) (leaf_of t marked letter) x (sym (leaf letter) ∙ is_leaf));
+        within = λ i x e. by_target i x (back i x e);
+      };
     }
       where
         by_target : (i : ℕ) (x : Target) → (slice_get old i ≡ Some x) ⊎ (x ≡ target) → x.state < file.states
-        by_target i x (inl e) = union.within i x e
+        by_target i x (inl e) = union.joined.within i x e
         by_target i x (inr e) =
             let state : x.state ≡ edge.target = ap (λ (z : Target). z.state) e ∙ is.state in
             let low = (sound_edge file row row_sound count edge at).target in
@@ -91,7 +93,7 @@ module _ (file : FileData) (sound : IsSound file) (row : RowData) (row_sound : I
             IsSomeAnd (joined (leaf_of t node letter) (leaf_of t marked letter)) (IsTargetAt row e.edge new)
         by_place letter small e (inl low) =
             let first : TakenEdge file row count letter = record { place = e.place; within = low; edge = e.edge; at_place = e.at_place; taken = e.taken } in
-            let was = subst (λ o. IsSomeAnd o (IsTargetAt row e.edge old)) (sym (node_leaf letter)) (union.there letter small first) in
+            let was = subst (λ o. IsSomeAnd o (IsTargetAt row e.edge old)) (sym (node_leaf letter)) (union.joined.there letter small first) in
             joined_first (IsTargetAt row e.edge old) (IsTargetAt row e.edge new) (leaf_of t node letter) (leaf_of t marked letter) was (λ x h. (h.0, grows x h.0 h.1, h.2))
         by_place letter small e (inr high) =
             let here : e.place ≡ count = (let h = e.within in omega (arith, h, high)) in
@@ -103,7 +105,7 @@ module _ (file : FileData) (sound : IsSound file) (row : RowData) (row_sound : I
             subst (λ o. IsSomeAnd (joined (leaf_of t node letter) o) (IsTargetAt row e.edge new)) (sym shown) (joined_second (IsTargetAt row e.edge new) (leaf_of t node letter) place agrees target_at)
 
         by_side : (letter x : ℕ) → letter < 2 ^ length file.names → (leaf_of t node letter ≡ Some x) ⊎ (leaf_of t marked letter ≡ Some x) → TakenEdge file row (count + 1) letter
-        by_side letter x small (inl e) = wider file row count letter (union.from letter x small (sym (node_leaf letter) ∙ e))
+        by_side letter x small (inl e) = wider file row count letter (union.joined.from letter x small (sym (node_leaf letter) ∙ e))
         by_side letter x small (inr e) = record { place = count; within = omega arith; edge = edge; at_place = at; taken = shown_is_taken (leaf_of t marked letter) place x (shows letter small) e }
 
     -- a clash of the diagrams is one of edges
@@ -111,8 +113,8 @@ module _ (file : FileData) (sound : IsSound file) (row : RowData) (row_sound : I
         leaf_of t node letter ≡ Some x → leaf_of t marked letter ≡ Some y → x ≢ y → (first : ℕ) × AreClashing file row first count
     union_clash eq decides distinct letter x y small first second differ =
         let was : leaf_of before node letter ≡ Some x = sym (node_leaf letter) ∙ first in
-        let e = union.from letter x small was in
-        let there : IsTargetAt row e.edge old x = at_leaf (IsTargetAt row e.edge old) (leaf_of before node letter) x was (union.there letter small e) in
+        let e = union.joined.from letter x small was in
+        let there : IsTargetAt row e.edge old x = at_leaf (IsTargetAt row e.edge old) (leaf_of before node letter) x was (union.joined.there letter small e) in
         let taken = shown_is_taken (leaf_of t marked letter) place y (shows letter small) second in
         let mark : place ≡ y = same_some place y (sym (taken_is_shown (leaf_of t marked letter) place (shows letter small) taken) ∙ second) in (
           e.place,
@@ -143,5 +145,5 @@ module _ (file : FileData) (sound : IsSound file) (row : RowData) (row_sound : I
   }
     where
       by_size : (a b : ℕ) → AreClashing file row a b → (b < count) ⊎ (count ≤ b) → count ≤ b
-      by_size a b other (inl low) = absurd (union_clear count targets t node u a b low other)
+      by_size a b other (inl low) = absurd (union_clear count targets (leaf_of t node) u.joined a b low other)
       by_size a b other (inr high) = high

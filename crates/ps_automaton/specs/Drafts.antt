@@ -10,7 +10,7 @@ use Rattle.ps_diagram.specs.Labels.{AreNodesOf, one_where}
 use Rattle.ps_diagram.specs.Table.{Table, IsNode, Keeps, leaf_of}
 use Rattle.ps_hoa.specs.Files.{GuardData, EdgeData, RowData, FileData, stated, of_state, at_letter}
 use Rattle.ps_hoa.specs.Edges.{Goes, IsTaken}
-use Rattle.ps_hoa.specs.Sound.{IsLabelOf, IsSound, IsSoundRow}
+use Rattle.ps_hoa.specs.Sound.{AreAtLetters, IsLabelOf, IsSound, IsSoundRow}
 use Rattle.ps_hoa.specs.Views.{row_data}
 use Rattle.ps_automaton.specs.Answers.{AreClashing, Clash, IsFirstClash}
 use Rattle.ps_automaton.specs.Chains.{Chain, level}
@@ -70,12 +70,25 @@ pub record TakenEdge (file : FileData) (row : RowData) (count letter : ℕ) : Ty
   pub at_place : slice_get row.edges place ≡ Some edge
   pub taken : IsTaken file row edge letter
 
--- of the first so many edges
+-- the first so many edges, letter by letter: the place of the target of the edge that is taken there, or none
+pub record AreJoined (file : FileData) (row : RowData) (count : ℕ) (targets : List Target) (place_at : ℕ → Option ℕ) : Type 0 where
+  pub there : (letter : ℕ) → letter < 2 ^ length file.names → (e : TakenEdge file row count letter) → IsSomeAnd (place_at letter) (IsTargetAt row e.edge targets)
+  pub from : (letter place : ℕ) → letter < 2 ^ length file.names → place_at letter ≡ Some place → TakenEdge file row count letter
+  pub within : (place : ℕ) (target : Target) → slice_get targets place ≡ Some target → target.state < file.states
+
+-- the same by a node
 pub record IsUnion (file : FileData) (row : RowData) (count : ℕ) (targets : List Target) (t : Table) (node : ℕ) : Type 0 where
   pub held : IsNode t node
-  pub there : (letter : ℕ) → letter < 2 ^ length file.names → (e : TakenEdge file row count letter) → IsSomeAnd (leaf_of t node letter) (IsTargetAt row e.edge targets)
-  pub from : (letter leaf : ℕ) → letter < 2 ^ length file.names → leaf_of t node letter ≡ Some leaf → TakenEdge file row count letter
-  pub within : (place : ℕ) (target : Target) → slice_get targets place ≡ Some target → target.state < file.states
+  pub joined : AreJoined file row count targets (leaf_of t node)
+
+-- each edge of a row is taken at one letter, that of its place
+abbrev pub IsByLetters : FileData → RowData → Type 0
+IsByLetters file row = AreAtLetters 0 row.edges × (length row.edges ≡ 2 ^ length file.names)
+
+-- the targets of a row's edges, in their order
+pub record AreTargets (row : RowData) (targets : List Target) : Type 0 where
+  pub one_each : length targets ≡ length row.edges
+  pub each : (k : ℕ) (edge : EdgeData) → slice_get row.edges k ≡ Some edge → IsTargetAt row edge targets k
 
 -- the fault that a row has
 pub record IsFirstOfRow (file : FileData) (row : RowData) (first second : ℕ) : Type 0 where

@@ -1,12 +1,13 @@
 //! The steps of all states, as diagrams.
 
-ghost use Rattle.std.specs.Prelude.{◌≡◌, ℕ, ◌+◌, ◌^◌, ◌<◌, ◌≤◌, List, IfErr, IfOk, IfSome, OnOk, Some, length, option_map, slice_get, slice_index, unwrap_or};
+ghost use Rattle.std.specs.Prelude.{◌≡◌, ℕ, ◌+◌, ◌^◌, ◌<◌, ◌≤◌, List, IfErr, IfOk, IfSome, IsTrue, OnOk, Some, length, option_map, slice_get, slice_index, unwrap_or};
 ghost use Rattle.ps_diagram.specs.Labels.{AreNodesOf};
 ghost use Rattle.ps_diagram.specs.Table.{IsNode, Keeps, leaf_of};
-ghost use Rattle.ps_hoa.specs.Sound.{IsSoundRow};
+ghost use Rattle.ps_hoa.specs.Files.{FileData};
+ghost use Rattle.ps_hoa.specs.Sound.{IsSound, IsSoundRow};
 ghost use Rattle.ps_hoa.specs.Views.{row_data};
 ghost use Rattle.ps_hoa.specs.Edges.{row_of};
-ghost use Rattle.ps_automaton.specs.Drafts.{AreLevels, ArePlaces, AreSteps, Extends, Grows, IsDraft, IsDraftFault, IsLabelNode, IsReady, IsRowFault, IsStateFault, IsStepsOf};
+ghost use Rattle.ps_automaton.specs.Drafts.{AreLevels, ArePlaces, AreSteps, AreTargets, Extends, Grows, IsByLetters, IsDraft, IsDraftFault, IsLabelNode, IsReady, IsRowFault, IsStateFault, IsStepsOf};
 ghost use Rattle.ps_automaton.specs.Views.{chain_data};
 ghost use Rattle.ps_automaton.specs.declared.targets.Target.{Target};
 
@@ -15,11 +16,11 @@ use crate::guards::Guards;
 use crate::levels::Levels;
 use crate::pairs::{Pairs, Source};
 use crate::step::Step;
-use crate::targets::Target;
+use crate::targets::{Target, target_of};
 use crate::union::{Union, joined};
 use indexmap::IndexSet;
 use ps_diagram::{Node, Store};
-use ps_hoa::{HoaFile, Row};
+use ps_hoa::{Guard, HoaFile, Row};
 use std::alloc::{AllocError, Global};
 
 /// The diagrams of the states, and that of the sink behind them.
@@ -142,6 +143,66 @@ fn label_node(store: &mut Store, source: &Source, row: &Row) -> Result<Option<No
 
 /// The diagram of the steps of a row's state.
 fn row_node(pairs: &mut Pairs, levels: &Levels, guards: &Guards) -> Result<Node, AutomatonFault>
+    requires levels { AreLevels levels.now }
+    requires ready { IsReady pairs.old.store guards.now }
+    requires steps { AreSteps guards.now.file.now.states pairs.old.steps.keys }
+    ensures grows { OnOk result (Grows guards.now.file.now.states pairs.old pairs.new) }
+    ensures node { IfOk result (λ node. (q : ℕ) → row_of guards.now.file.now q ≡ Some (row_data guards.now.row.now)
+        → IsStepsOf guards.now.file.now (chain_data levels.now.chain) q pairs.new.steps.keys pairs.new.store node) }
+    ensures refused { IfErr result (IsRowFault guards.now.file.now (row_data guards.now.row.now)) }
+{
+    if is_by_letters(guards.row) {
+        Ok(node_by_letters(pairs, levels, guards)?)
+    } else {
+        node_by_labels(pairs, levels, guards)
+    }
+}
+
+/// Whether each edge of a row is taken at a letter of its own.
+fn is_by_letters(row: &Row) -> bool
+    ensures { IsTrue result → (file : FileData) → IsSoundRow file (row_data row.now) → IsByLetters file (row_data row.now) }
+{
+    match row.edges.first() {
+        Some(edge) => matches!(&edge.guard, Guard::Letter(_)),
+        None => false,
+    }
+}
+
+/// The diagram of the steps of a row whose edges are taken at a letter each.
+fn node_by_letters(pairs: &mut Pairs, levels: &Levels, guards: &Guards) -> Result<Node, AllocError>
+    requires levels { AreLevels levels.now }
+    requires ready { IsReady pairs.old.store guards.now }
+    requires steps { AreSteps guards.now.file.now.states pairs.old.steps.keys }
+    requires by_letters { IsByLetters guards.now.file.now (row_data guards.now.row.now) }
+    ensures grows { OnOk result (Grows guards.now.file.now.states pairs.old pairs.new) }
+    ensures node { IfOk result (λ node. (q : ℕ) → row_of guards.now.file.now q ≡ Some (row_data guards.now.row.now)
+        → IsStepsOf guards.now.file.now (chain_data levels.now.chain) q pairs.new.steps.keys pairs.new.store node) }
+{
+    let targets = targets_of(pairs.alloc, guards)?;
+    let places = places_of(pairs.alloc, &mut pairs.steps, levels, &targets)?;
+    let node = pairs.store.of_leaves(&places)?;
+    Ok(node)
+}
+
+/// The targets of a row's edges, in their order.
+fn targets_of(alloc: Global, guards: &Guards) -> Result<Vec<Target>, AllocError>
+    requires file { IsSound guards.now.file.now }
+    requires row { IsSoundRow guards.now.file.now (row_data guards.now.row.now) }
+    ensures { IfOk result (λ targets. AreTargets (row_data guards.now.row.now) targets.items) }
+{
+    let mut targets = Vec::new(alloc);
+    for edge in &guards.row.edges {
+        targets.push(target_of(guards.row, edge))?;
+    }
+    Ok(targets)
+}
+
+/// The diagram of the steps of a row whose edges are taken where labels are true.
+fn node_by_labels(
+    pairs: &mut Pairs,
+    levels: &Levels,
+    guards: &Guards,
+) -> Result<Node, AutomatonFault>
     requires levels { AreLevels levels.now }
     requires ready { IsReady pairs.old.store guards.now }
     requires steps { AreSteps guards.now.file.now.states pairs.old.steps.keys }

@@ -2,12 +2,13 @@ use Rattle.std.proofs.Common.{◌≡◌, ℕ, ◌^◌, ◌<◌, ◌≤◌, ◌�
 use Rattle.std.proofs.lemmas.List.{length-map}
 use Rattle.std.specs.List.{slice_get}
 use Rattle.ps_hoa.specs.Views.{edge_data, row_data}
+use Rattle.ps_diagram.specs.Table.{leaf_of}
 use Rattle.ps_automaton.specs.Drafts.{IsUnion}
 use Rattle.ps_automaton.specs.Views.{chain_data}
 use Rattle.ps_automaton.specs.declared.targets.Target.{Target}
 use Rattle.ps_automaton.proofs.Meeting.{keeps_both}
 use Rattle.ps_automaton.proofs.RowSteps.{leaf_within, steps_of_row}
-use Rattle.ps_automaton.proofs.draft.row_node.Goals as goal
+use Rattle.ps_automaton.proofs.draft.node_by_labels.Goals as goal
 
 pub node_of_union-requires-clause-within : goal.node_of_union-requires-clause-within
 node_of_union-requires-clause-within c = λ letter small.
@@ -21,7 +22,7 @@ returns-clause-grows c =
     let made = c.in_ok-node_of_union.ensures in
     let union = c.in_ok-union.ensures.union in
     let low : (k : ℕ) (target : Target) → slice_get c.in_ok-union.union.targets.keys k ≡ Some target → target.state ≤ file.states = λ k target e.
-    let h = union.within k target e in omega (arith, h) in
+    let h = union.joined.within k target e in omega (arith, h) in
     record {
       keeps = keeps_both c.args.pairs.now.store c.joined.new.store c.node_of_union.new.pairs.store c.in_ok-union.ensures.keeps made.keeps;
       extends = made.extends;
@@ -39,7 +40,7 @@ returns-clause-node c = λ q of_state.
     let all_edges : length c.args.guards.now.row.now.edges.items ≡ length row.edges = sym (length-map c.args.guards.now.row.now.edges.items edge_data) in
     let union = subst (λ n. IsUnion file row n targets c.joined.new.store c.in_ok-union.union.node) all_edges c.in_ok-union.ensures.union in
     let low : (k : ℕ) (target : Target) → slice_get targets k ≡ Some target → target.state ≤ file.states = λ k target e.
-    let h = union.within k target e in omega (arith, h) in
+    let h = union.joined.within k target e in omega (arith, h) in
     let steps = made.within file.states low c.requires.steps in
-    steps_of_row file c.requires.ready.sound row c.requires.ready.row chain c.requires.levels.few targets c.joined.new.store c.in_ok-union.union.node union new steps made.leaf.0 made.leaf.1
+    steps_of_row file c.requires.ready.sound row c.requires.ready.row chain c.requires.levels.few targets (leaf_of c.joined.new.store c.in_ok-union.union.node) union.joined new steps made.leaf.0 made.leaf.1
     q of_state c.node_of_union.new.pairs.store c.in_ok-node_of_union.field-0 made.held made.leaf.2

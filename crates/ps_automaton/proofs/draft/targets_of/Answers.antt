@@ -1,0 +1,38 @@
+use Rattle.std.proofs.Common.{◌≡◌, List, length, get_or, ap, ◌∙◌, arith}
+use Rattle.std.proofs.lemmas.List.{length-map}
+use Rattle.std.proofs.lemmas.Option.{slice_get_within}
+use Rattle.ps_hoa.specs.Views.{edge_data, row_data}
+use Rattle.ps_hoa.specs.declared.file.Edge.{Edge}
+use Rattle.ps_automaton.proofs.Fitting.{edge_at, edge_marks_few}
+use Rattle.ps_automaton.proofs.LetterRows.{targets_more}
+use Rattle.ps_automaton.proofs.draft.targets_of.Goals as goal
+
+pub target_of-requires-clause-edge : goal.target_of-requires-clause-edge
+target_of-requires-clause-edge c =
+    let x = c.edge-item in
+    let l = c.loop-edge in
+    edge_marks_few c.args.guards.now.file.now c.requires.file (row_data c.args.guards.now.row.now) c.requires.row l.edge-index (edge_data x.result)
+    (edge_at c.args.guards.now.row.now.edges.items l.edge-index x.result (let n = c.deref-edge-items.ensures.len in omega (arith, n)) (x.is ∙ ap (λ (es : List Edge). get_or es l.edge-index x.result) c.deref-edge-items.ensures.value))
+
+pub loop-edge-preserved : goal.loop-edge-preserved
+loop-edge-preserved c =
+    let x = c.edge-item in
+    let l = c.loop-edge in
+    let row = row_data c.args.guards.now.row.now in
+    let at = edge_at c.args.guards.now.row.now.edges.items l.edge-index x.result (let n = c.deref-edge-items.ensures.len in omega (arith, n)) (x.is ∙ ap (λ (es : List Edge). get_or es l.edge-index x.result) c.deref-edge-items.ensures.value) in
+    record {
+      so_far = (let n = c.in_ok-push.ensures.len in let m = l.invariant.so_far in omega (arith, n, m));
+      each = targets_more row l.targets.items c.push.new.self.items l.edge-index (edge_data x.result) c.target_of.result l.invariant.so_far c.in_ok-push.ensures.items at c.target_of.ensures l.invariant.each;
+    }
+
+pub returns : goal.returns
+returns c =
+    let l = c.loop-edge in
+    let row = row_data c.args.guards.now.row.now in
+    let edges = c.args.guards.now.row.now.edges.items in
+    let all : l.edge-index ≡ length row.edges = (let n = length-map edges edge_data in let m = c.deref-edge-items.ensures.len in omega (arith, n, m)) in
+    let size = l.invariant.so_far in
+    record {
+      one_each = size ∙ all;
+      each = λ k edge at. l.invariant.each k edge (let within = slice_get_within row.edges k edge at in omega (arith, within, all)) at;
+    }
