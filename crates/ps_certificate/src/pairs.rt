@@ -13,8 +13,8 @@ use crate::rising::place_of;
 use std::alloc::Global;
 
 impl<'a> Cursor<'a> {
-    /// The counts for these priorities that come next, all of them, or in a compact text those that are not 0; and the end
-    /// of the line.
+    /// The counts for these priorities that come next, all of them, or in a compact text those that are not 0; and the
+    /// end of the line.
     pub(crate) fn counts_for(
         &mut self,
         alloc: Global,

@@ -19,11 +19,15 @@ use crate::parts::{Gate, Latch};
 use ps_ids::Ids;
 use std::alloc::Global;
 
-/// The variables that were defined, the literals that were read, and the offset of each gate's line, in the text's order.
+/// The variables that were defined, the literals that were read, and the offset of each gate's line, in the text's
+/// order.
 #[derive(Drop)]
 pub struct Noted {
+    /// The variables that were defined, from 1.
     pub variables: Ids,
+    /// The literals that were read.
     pub readings: Vec<Number>,
+    /// The byte, from 0, at which each gate's line begins.
     pub starts: Vec<usize>,
 }
 
@@ -64,6 +68,10 @@ pub trait Line {
 }
 
 /// Reads the lines of one kind.
+///
+/// # Errors
+///
+/// The first cause that stands in the lines. Fails also where a growth was refused.
 pub fn lines<L: Line>(
     alloc: Global,
     cursor: &mut Cursor,

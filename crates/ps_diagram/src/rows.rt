@@ -1,4 +1,5 @@
-//! The diagram of a list of leaves: a row of nodes for the last proposition, half as many for the one before it, and so on.
+//! The diagram of a list of leaves: a row of nodes for the last proposition, half as many for the one before it, and so
+//! on.
 
 ghost use Rattle.std.specs.Prelude.{◌≡◌, ℕ, ◌+◌, ◌%◌, ◌^◌, ◌<◌, ◌≤◌, List, IfOk, length, slice_get, slice_index_or};
 ghost use Rattle.ps_diagram.specs.Rows.{AreLeafNodes, IsRow, LeadsOn};

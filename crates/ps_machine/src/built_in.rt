@@ -167,7 +167,8 @@ fn entries_of<A: Arena>(
     Ok(entries)
 }
 
-/// The entry of a vertex: player 0 wins those of a region by the first table and rows, player 1 all others by the second.
+/// The entry of a vertex: player 0 wins those of a region by the first table and rows, player 1 all others by the
+/// second.
 fn entry_of<A: Arena>(
     alloc: Global,
     arena: &A,

@@ -6,8 +6,8 @@ ghost use Rattle.ps_measure.specs.Tables.{row_in};
 use std::alloc::{AllocError, Global};
 use std::marker::Model;
 
-/// A row of counts for each vertex, kept by columns: the counts of all vertices for one priority lie side by side. A column that
-/// ends early has no count but 0 behind its end, so that one without any takes no memory.
+/// A row of counts for each vertex, kept by columns: the counts of all vertices for one priority lie side by side. A
+/// column that ends early has no count but 0 behind its end, so that one without any takes no memory.
 #[derive(Debug, Drop)]
 pub struct CountTable {
     pub(crate) count: usize,
@@ -32,6 +32,10 @@ impl CountTable {
     }
 
     /// The counts of a vertex, one for each priority.
+    ///
+    /// # Errors
+    ///
+    /// Fails where a growth was refused.
     pub fn row(&self, alloc: Global, vertex: usize) -> Result<Vec<u64>, AllocError>
         requires { vertex < length self.now }
         ensures { IfOk result (λ row. slice_get self.now vertex ≡ Some row.items) }

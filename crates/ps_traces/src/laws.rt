@@ -48,8 +48,8 @@ pub fn every_trace_has_letters()
     ensures { (role : Role) (file : FileData) (c : CircuitData) (moments : List Moment) → AreNames file.names → HasSymbols role file.names file.controllable c → HasLetters file.names c moments }
 {}
 
-/// A file that was read and is admitted, and a circuit with the inputs and outputs of a role, have a verdict on each stem and each
-/// lap, not empty, of letters of the circuit's width.
+/// A file that was read and is admitted, and a circuit with the inputs and outputs of a role, have a verdict on each
+/// stem and each lap, not empty, of letters of the circuit's width.
 pub fn verdict_is_there()
     ensures { (role : Role) (file : FileData) (c : CircuitData) (stem lap : List (List Bool)) → IsSound file → IsAdmitted file → IsCircuit c →
         HasSymbols role file.names file.controllable c → AreWide c stem lap → 0 < length lap → (verdict : Verdict) × IsVerdictOf file c stem lap verdict }
