@@ -2,7 +2,6 @@
 use Rattle.std.proofs.Common.{◌≡◌, ℕ, zero, suc, ◌+◌, ◌^◌, ◌<◌, ◌≤◌, ◌⊎◌, inl, inr, Bool, true, false, cond, List, [], ◌∷◌, length, map, get_or, Option, Some, None, refl, sym, ap, subst, ◌∙◌, arith, nat_eq, eqb, ◌&&◌}
 use Rattle.std.specs.List.{All, slice_get}
 use Rattle.std.specs.Prelude.{◌||◌}
-use Rattle.std.specs.Bool.{Decides}
 use Rattle.std.specs.Int.{bit_at}
 use Rattle.std.specs.Option.{option_map}
 use Rattle.std.proofs.lemmas.Bool.{eqb-true, eq-eqb, cases_lt}
@@ -159,10 +158,3 @@ target_from_test s t e =
 
 pub target_test : (s : Target) → (eqb s.state s.state && eqb s.sets s.sets) ≡ true
 target_test s = ap (λ (b : Bool). b && eqb s.sets s.sets) (eq-eqb s.state s.state refl) ∙ eq-eqb s.sets s.sets refl
-
--- the test of `==`
-abbrev pub target_eq : Target → Target → Bool
-target_eq s t = eqb s.state t.state && eqb s.sets t.sets
-
-pub target_decides : (s t : Target) → Decides (target_eq s t) (s ≡ t)
-target_decides s t = (λ e. target_from_test s t e, λ e. subst (λ (u : Target). target_eq s u ≡ true) e (target_test s))

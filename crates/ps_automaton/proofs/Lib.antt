@@ -8,6 +8,7 @@ pub mod Fitting
 pub mod Meeting
 pub mod Ready
 pub mod Distinct
+pub mod PlaceTables
 pub mod Unions
 pub mod Steps
 pub mod RowSteps

@@ -1,8 +1,7 @@
 -- The edges of a row joined, one by one.
-use Rattle.std.proofs.Common.{◌≡◌, ◌≢◌, ℕ, ◌+◌, ◌^◌, ◌<◌, ◌≤◌, ◌⊎◌, inl, inr, Bool, List, length, Option, Some, None, sym, ap, subst, ◌∙◌, arith}
-use Rattle.std.specs.List.{slice_get, IsDistinct}
+use Rattle.std.proofs.Common.{◌≡◌, ◌≢◌, ℕ, ◌+◌, ◌^◌, ◌<◌, ◌≤◌, ◌⊎◌, inl, inr, List, length, Option, Some, None, sym, ap, subst, ◌∙◌, arith}
+use Rattle.std.specs.List.{slice_get}
 use Rattle.std.specs.Option.{option_map, IsSomeAnd}
-use Rattle.std.specs.Bool.{Decides}
 use Rattle.std.proofs.lemmas.Bool.{cases_lt}
 use Rattle.ps_text.proofs.Simple.{same_some}
 use Rattle.ps_diagram.specs.Leaves.{AreAlike as AgreeingLeaves, joined}
@@ -13,9 +12,9 @@ use Rattle.ps_hoa.specs.Sound.{IsSound, IsSoundRow}
 use Rattle.ps_hoa.proofs.SoundLaws.{sound_edge}
 use Rattle.ps_automaton.specs.Answers.{AreAlike, AreClashing}
 use Rattle.ps_automaton.specs.Drafts.{AreJoined, IsFirstOfRow, IsTargetAt, IsUnion, IsWhere, ShowsEdge, TakenEdge}
+use Rattle.ps_automaton.specs.Places.{AreDistinct}
 use Rattle.ps_automaton.specs.Targets.{IsTargetOf}
 use Rattle.ps_automaton.specs.declared.targets.Target.{Target}
-use Rattle.ps_automaton.proofs.Distinct.{one_place}
 use Rattle.ps_automaton.proofs.Fitting.{alike_of_target, target_of_alike}
 use Rattle.ps_automaton.proofs.Meeting.{kept_leaf, shown_is_taken, taken_is_shown}
 
@@ -109,9 +108,9 @@ module _ (file : FileData) (sound : IsSound file) (row : RowData) (row_sound : I
         by_side letter x small (inr e) = record { place = count; within = omega arith; edge = edge; at_place = at; taken = shown_is_taken (leaf_of t marked letter) place x (shows letter small) e }
 
     -- a clash of the diagrams is one of edges
-    pub union_clash : (eq : Target → Target → Bool) → ((a b : Target) → Decides (eq a b) (a ≡ b)) → IsDistinct eq new → (letter x y : ℕ) → letter < 2 ^ length file.names →
+    pub union_clash : AreDistinct new → (letter x y : ℕ) → letter < 2 ^ length file.names →
         leaf_of t node letter ≡ Some x → leaf_of t marked letter ≡ Some y → x ≢ y → (first : ℕ) × AreClashing file row first count
-    union_clash eq decides distinct letter x y small first second differ =
+    union_clash distinct letter x y small first second differ =
         let was : leaf_of before node letter ≡ Some x = sym (node_leaf letter) ∙ first in
         let e = union.joined.from letter x small was in
         let there : IsTargetAt row e.edge old x = at_leaf (IsTargetAt row e.edge old) (leaf_of before node letter) x was (union.joined.there letter small e) in
@@ -131,7 +130,7 @@ module _ (file : FileData) (sound : IsSound file) (row : RowData) (row_sound : I
             differ = λ alike.
                 let same : there.0 ≡ target = target_of_alike row e.edge edge there.0 target there.2 is alike in
                 let at_x : slice_get new x ≡ Some target = grows x there.0 there.1 ∙ ap (λ (z : Target). Some z) same in
-                differ (one_place eq decides new distinct x place target at_x stored ∙ mark);
+                differ (distinct x place target at_x stored ∙ mark);
           },
         )
 

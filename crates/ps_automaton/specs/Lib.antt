@@ -11,3 +11,4 @@ pub mod Targets
 pub mod Answers
 pub mod FaultNames
 pub mod Drafts
+pub mod Places

@@ -219,21 +219,16 @@ fn node_by_labels(
 fn node_of_union(pairs: &mut Pairs, levels: &Levels, union: &Union) -> Result<Node, AllocError>
     requires levels { AreLevels levels.now }
     requires held { IsNode pairs.old.store union.now.node }
-    requires within { (letter : ℕ) → letter < 2 ^ pairs.old.store.propositions → IfSome (leaf_of pairs.old.store union.now.node letter) (λ k. k < length union.now.targets.keys) }
+    requires within { (letter : ℕ) → letter < 2 ^ pairs.old.store.propositions → IfSome (leaf_of pairs.old.store union.now.node letter) (λ k. k < length union.now.targets) }
     ensures keeps { OnOk result (Keeps pairs.old.store pairs.new.store) }
     ensures extends { OnOk result (Extends pairs.old.steps.keys pairs.new.steps.keys) }
-    ensures within { OnOk result ((states : ℕ) → ((k : ℕ) (target : Target) → slice_get union.now.targets.keys k ≡ Some target → target.state ≤ states)
+    ensures within { OnOk result ((states : ℕ) → ((k : ℕ) (target : Target) → slice_get union.now.targets k ≡ Some target → target.state ≤ states)
         → AreSteps states pairs.old.steps.keys → AreSteps states pairs.new.steps.keys) }
     ensures held { IfOk result (λ node. IsNode pairs.new.store node) }
-    ensures leaf { IfOk result (λ node. (places : List ℕ) × ArePlaces (chain_data levels.now.chain) union.now.targets.keys pairs.new.steps.keys places
+    ensures leaf { IfOk result (λ node. (places : List ℕ) × ArePlaces (chain_data levels.now.chain) union.now.targets pairs.new.steps.keys places
         × ((letter : ℕ) → leaf_of pairs.new.store node letter ≡ Some (unwrap_or (option_map (λ k. slice_index places k) (leaf_of pairs.old.store union.now.node letter)) 0))) }
 {
-    let places = places_of(
-        pairs.alloc,
-        &mut pairs.steps,
-        levels,
-        union.targets.as_slice(),
-    )?;
+    let places = places_of(pairs.alloc, &mut pairs.steps, levels, union.targets.list())?;
     let named = pairs.store.relabel(union.node, &places)?;
     let filled = pairs.store.fill(named, 0)?;
     Ok(filled)

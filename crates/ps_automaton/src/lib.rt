@@ -30,6 +30,7 @@ mod laws;
 mod levels;
 mod numbers;
 mod pairs;
+mod places;
 mod step;
 mod taken;
 mod targets;

@@ -9,7 +9,7 @@ ghost use Rattle.ps_automaton.specs.Targets.{IsTargetOf};
 use ps_hoa::{Edge, Row};
 
 /// A state, and the sets of the edge that leads to it and of the edge's state, as a mask.
-#[derive(Clone, Copy, PartialEq, Eq, Hash)]
+#[derive(Clone, Copy, PartialEq, Eq)]
 pub(crate) struct Target {
     /// The state.
     pub state: u32,

@@ -7,9 +7,9 @@ ghost use Rattle.ps_automaton.specs.Drafts.{IsReady, IsRowFault, IsUnion};
 
 use crate::fault::AutomatonFault;
 use crate::guards::Guards;
+use crate::places::Places;
 use crate::taken::{first_clash, taken};
-use crate::targets::{Target, target_of};
-use indexmap::IndexSet;
+use crate::targets::target_of;
 use ps_diagram::{Node, OverlayError, Store};
 use std::alloc::Global;
 
@@ -19,7 +19,7 @@ pub(crate) struct Union {
     /// The diagram.
     pub node: Node,
     /// The targets, each at the place that its leaves have.
-    pub targets: IndexSet<Target>,
+    pub targets: Places,
 }
 
 /// The edges of a row, joined.
@@ -30,12 +30,12 @@ pub(crate) fn joined(
 ) -> Result<Union, AutomatonFault>
     requires ready { IsReady store.old guards.now }
     ensures keeps { OnOk result (Keeps store.old store.new) }
-    ensures union { IfOk result (λ union. IsUnion guards.now.file.now (row_data guards.now.row.now) (length guards.now.row.now.edges.items) union.targets.keys store.new union.node) }
+    ensures union { IfOk result (λ union. IsUnion guards.now.file.now (row_data guards.now.row.now) (length guards.now.row.now.edges.items) union.targets store.new union.node) }
     ensures refused { IfErr result (IsRowFault guards.now.file.now (row_data guards.now.row.now)) }
 {
     let mut union = Union {
         node: store.none()?,
-        targets: IndexSet::new(alloc),
+        targets: Places::new(alloc),
     };
     add_all(store, guards, &mut union)?;
     Ok(union)
@@ -44,9 +44,9 @@ pub(crate) fn joined(
 /// Joins all edges of the row, one after the other.
 fn add_all(store: &mut Store, guards: &Guards, union: &mut Union) -> Result<(), AutomatonFault>
     requires ready { IsReady store.old guards.now }
-    requires union { IsUnion guards.now.file.now (row_data guards.now.row.now) 0 union.old.targets.keys store.old union.old.node }
+    requires union { IsUnion guards.now.file.now (row_data guards.now.row.now) 0 union.old.targets store.old union.old.node }
     ensures keeps { OnOk result (Keeps store.old store.new) }
-    ensures union { OnOk result (IsUnion guards.now.file.now (row_data guards.now.row.now) (length guards.now.row.now.edges.items) union.new.targets.keys store.new union.new.node) }
+    ensures union { OnOk result (IsUnion guards.now.file.now (row_data guards.now.row.now) (length guards.now.row.now.edges.items) union.new.targets store.new union.new.node) }
     ensures refused { IfErr result (IsRowFault guards.now.file.now (row_data guards.now.row.now)) }
 {
     for place in 0..guards.row.edges.len() {
@@ -64,13 +64,13 @@ fn add(
 ) -> Result<(), AutomatonFault>
     requires ready { IsReady store.old guards.now }
     requires within { place < length guards.now.row.now.edges.items }
-    requires union { IsUnion guards.now.file.now (row_data guards.now.row.now) place union.old.targets.keys store.old union.old.node }
+    requires union { IsUnion guards.now.file.now (row_data guards.now.row.now) place union.old.targets store.old union.old.node }
     ensures keeps { OnOk result (Keeps store.old store.new) }
-    ensures union { OnOk result (IsUnion guards.now.file.now (row_data guards.now.row.now) (place + 1) union.new.targets.keys store.new union.new.node) }
+    ensures union { OnOk result (IsUnion guards.now.file.now (row_data guards.now.row.now) (place + 1) union.new.targets store.new union.new.node) }
     ensures refused { IfErr result (IsRowFault guards.now.file.now (row_data guards.now.row.now)) }
 {
     let edge = &guards.row.edges[place];
-    let (target, _) = union.targets.insert_full(target_of(guards.row, edge))?;
+    let target = union.targets.place_of(target_of(guards.row, edge))?;
     let letters = taken(store, guards, edge)?;
     let marked = store.guard(letters, target as u64)?;
     match store.overlay(union.node, marked) {

@@ -14,14 +14,14 @@ pub node_of_union-requires-clause-within : goal.node_of_union-requires-clause-wi
 node_of_union-requires-clause-within c = λ letter small.
     let file = c.args.guards.now.file.now in
     let letters = c.in_ok-union.ensures.keeps.propositions ∙ c.requires.ready.letters in
-    leaf_within file (row_data c.args.guards.now.row.now) _ c.in_ok-union.union.targets.keys c.joined.new.store c.in_ok-union.union.node c.in_ok-union.ensures.union letter (subst (λ n. letter < 2 ^ n) letters small)
+    leaf_within file (row_data c.args.guards.now.row.now) _ c.in_ok-union.union.targets c.joined.new.store c.in_ok-union.union.node c.in_ok-union.ensures.union letter (subst (λ n. letter < 2 ^ n) letters small)
 
 pub returns-clause-grows : goal.returns-clause-grows
 returns-clause-grows c =
     let file = c.args.guards.now.file.now in
     let made = c.in_ok-node_of_union.ensures in
     let union = c.in_ok-union.ensures.union in
-    let low : (k : ℕ) (target : Target) → slice_get c.in_ok-union.union.targets.keys k ≡ Some target → target.state ≤ file.states = λ k target e.
+    let low : (k : ℕ) (target : Target) → slice_get c.in_ok-union.union.targets k ≡ Some target → target.state ≤ file.states = λ k target e.
     let h = union.joined.within k target e in omega (arith, h) in
     record {
       keeps = keeps_both c.args.pairs.now.store c.joined.new.store c.node_of_union.new.pairs.store c.in_ok-union.ensures.keeps made.keeps;
@@ -35,7 +35,7 @@ returns-clause-node c = λ q of_state.
     let row = row_data c.args.guards.now.row.now in
     let chain = chain_data c.args.levels.now.chain in
     let made = c.in_ok-node_of_union.ensures in
-    let targets = c.in_ok-union.union.targets.keys in
+    let targets = c.in_ok-union.union.targets in
     let new = c.node_of_union.new.pairs.steps.keys in
     let all_edges : length c.args.guards.now.row.now.edges.items ≡ length row.edges = sym (length-map c.args.guards.now.row.now.edges.items edge_data) in
     let union = subst (λ n. IsUnion file row n targets c.joined.new.store c.in_ok-union.union.node) all_edges c.in_ok-union.ensures.union in

@@ -1,11 +1,9 @@
-use Rattle.std.proofs.Common.{◌≡◌, ℕ, ◌^◌, ◌<◌, Some, subst, sym, refl, ◌∙◌}
-use Rattle.std.specs.List.{slice_get}
+use Rattle.std.proofs.Common.{◌^◌, ◌<◌, subst, refl, ◌∙◌}
 use Rattle.ps_diagram.specs.Clashes.{TellsClash}
 use Rattle.ps_hoa.specs.Views.{edge_data, row_data}
-use Rattle.ps_automaton.specs.declared.targets.Target.{Target}
-use Rattle.ps_automaton.proofs.Distinct.{inserted_is, inserted_keeps, stored_is}
-use Rattle.ps_automaton.proofs.Fitting.{fits, edge_at, edge_marks_few, target_eq, target_decides}
+use Rattle.ps_automaton.proofs.Fitting.{fits, edge_at, edge_marks_few}
 use Rattle.ps_automaton.proofs.Meeting.{keeps_both}
+use Rattle.ps_automaton.proofs.PlaceTables.{placed_is, placed_keeps}
 use Rattle.ps_automaton.proofs.Ready.{kept_ready}
 use Rattle.ps_automaton.proofs.Unions.{marked_shows, union_grown, union_clash, first_of_row}
 use Rattle.ps_automaton.proofs.union.add.Goals as goal
@@ -35,18 +33,17 @@ first_clash-requires-clause-clash c =
     let edge = edge_data c.index-edge.result.now in
     let at = edge_at c.args.guards.now.row.now.edges.items c.args.place c.index-edge.result.now c.requires.within c.index-edge.ensures in
     let keeps = keeps_both c.args.store.now c.taken.new.store c.guard.new.self c.in_ok-letters.ensures.keeps c.guard.ensures.keeps in
-    let old = c.args.union.now.targets.keys in
-    let new = c.insert_full.new.self.keys in
-    let stored = stored_is target_eq target_decides new c.in_ok-target.target c.target_of.result c.in_ok-target.ensures.stored in
-    let grows : (i : ℕ) (x : Target) → slice_get old i ≡ Some x → slice_get new i ≡ Some x = λ i x e.
-    subst (λ ks. slice_get ks i ≡ Some x) (sym c.in_ok-target.ensures.keys) (inserted_keeps target_eq old c.target_of.result i x e) in
-    let back = λ (i : ℕ) (x : Target) (e : slice_get new i ≡ Some x). inserted_is target_eq old c.target_of.result i x (subst (λ ks. slice_get ks i ≡ Some x) c.in_ok-target.ensures.keys e) in
+    let old = c.args.union.now.targets in
+    let new = c.place_of.new.self in
+    let placed = c.in_ok-target.ensures.placed in
+    let grows = placed_keeps old new c.target_of.result c.in_ok-target.target placed in
+    let back = placed_is old new c.target_of.result c.in_ok-target.target placed in
     let shows = marked_shows file row edge c.taken.new.store c.guard.new.self c.in_ok-letters.letters c.in_ok-marked.marked c.in_ok-target.target c.in_ok-letters.ensures.shows c.in_ok-marked.ensures.leaf in
     let told = subst (TellsClash c.guard.new.self c.args.union.now.node c.in_ok-marked.marked) c.in-Err-Clash.field-0-is c.in-Err-Clash.ensures.clash in
     let small = subst (λ n. told.0 < 2 ^ n) (keeps.propositions ∙ c.requires.ready.letters) told.1 in
-    union_clash file c.requires.ready.sound row c.requires.ready.row c.args.place edge at c.target_of.result c.target_of.ensures old new c.in_ok-target.target grows stored back
+    union_clash file c.requires.ready.sound row c.requires.ready.row c.args.place edge at c.target_of.result c.target_of.ensures old new c.in_ok-target.target grows placed.stored back
     c.args.store.now c.guard.new.self keeps c.args.union.now.node c.in_ok-marked.marked c.requires.union shows
-    target_eq target_decides c.insert_full.ensures.unique told.0 c.in-Err-Clash.field-0-0 c.in-Err-Clash.field-0-1 small told.2 told.3 told.4
+    c.in_ok-target.ensures.distinct told.0 c.in-Err-Clash.field-0-0 c.in-Err-Clash.field-0-1 small told.2 told.3 told.4
 
 pub returns-in-Ok-clause-keeps : goal.returns-in-Ok-clause-keeps
 returns-in-Ok-clause-keeps c = keeps_both c.args.store.now c.guard.new.self c.overlay.new.self (keeps_both c.args.store.now c.taken.new.store c.guard.new.self c.in_ok-letters.ensures.keeps c.guard.ensures.keeps) c.overlay.ensures.keeps
@@ -58,20 +55,19 @@ returns-in-Ok-clause-union c =
     let edge = edge_data c.index-edge.result.now in
     let at = edge_at c.args.guards.now.row.now.edges.items c.args.place c.index-edge.result.now c.requires.within c.index-edge.ensures in
     let keeps = keeps_both c.args.store.now c.taken.new.store c.guard.new.self c.in_ok-letters.ensures.keeps c.guard.ensures.keeps in
-    let old = c.args.union.now.targets.keys in
-    let new = c.insert_full.new.self.keys in
-    let stored = stored_is target_eq target_decides new c.in_ok-target.target c.target_of.result c.in_ok-target.ensures.stored in
-    let grows : (i : ℕ) (x : Target) → slice_get old i ≡ Some x → slice_get new i ≡ Some x = λ i x e.
-    subst (λ ks. slice_get ks i ≡ Some x) (sym c.in_ok-target.ensures.keys) (inserted_keeps target_eq old c.target_of.result i x e) in
-    let back = λ (i : ℕ) (x : Target) (e : slice_get new i ≡ Some x). inserted_is target_eq old c.target_of.result i x (subst (λ ks. slice_get ks i ≡ Some x) c.in_ok-target.ensures.keys e) in
+    let old = c.args.union.now.targets in
+    let new = c.place_of.new.self in
+    let placed = c.in_ok-target.ensures.placed in
+    let grows = placed_keeps old new c.target_of.result c.in_ok-target.target placed in
+    let back = placed_is old new c.target_of.result c.in_ok-target.target placed in
     let shows = marked_shows file row edge c.taken.new.store c.guard.new.self c.in_ok-letters.letters c.in_ok-marked.marked c.in_ok-target.target c.in_ok-letters.ensures.shows c.in_ok-marked.ensures.leaf in
-    union_grown file c.requires.ready.sound row c.requires.ready.row c.args.place edge at c.target_of.result c.target_of.ensures old new c.in_ok-target.target grows stored back
+    union_grown file c.requires.ready.sound row c.requires.ready.row c.args.place edge at c.target_of.result c.target_of.ensures old new c.in_ok-target.target grows placed.stored back
     c.args.store.now c.guard.new.self keeps c.args.union.now.node c.in_ok-marked.marked c.requires.union shows
     c.overlay.new.self c.in-Ok.node c.in-Ok.ensures.held c.in-Ok.ensures.leaf c.in-Ok.ensures.alike
 
 pub returns-in_ok-first_clash-in-Err-Clash-clause-refused : goal.returns-in_ok-first_clash-in-Err-Clash-clause-refused
 returns-in_ok-first_clash-in-Err-Clash-clause-refused c = (
   refl,
-  first_of_row c.args.guards.now.file.now c.requires.ready.sound (row_data c.args.guards.now.row.now) c.requires.ready.row c.args.place c.args.union.now.targets.keys c.args.store.now c.args.union.now.node c.requires.union
+  first_of_row c.args.guards.now.file.now c.requires.ready.sound (row_data c.args.guards.now.row.now) c.requires.ready.row c.args.place c.args.union.now.targets c.args.store.now c.args.union.now.node c.requires.union
       c.in_ok-first_clash-in-Err-Clash.field-0 c.in_ok-first_clash-in-Err-Clash.ensures.clashing c.in_ok-first_clash-in-Err-Clash.ensures.least,
 )

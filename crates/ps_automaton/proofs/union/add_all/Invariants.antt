@@ -7,5 +7,5 @@ abbrev pub invariant-loop-place : goal.invariant-loop-place
 invariant-loop-place l = record {
   keeps : Keeps l.fn.store l.store;
   ready : IsReady l.store l.guards;
-  union : IsUnion l.guards.file.now (row_data l.guards.row.now) l.place l.union.targets.keys l.store l.union.node;
+  union : IsUnion l.guards.file.now (row_data l.guards.row.now) l.place l.union.targets l.store l.union.node;
 }
