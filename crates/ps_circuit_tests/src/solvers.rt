@@ -2,14 +2,17 @@
 
 use ps_game::NamedGame;
 use ps_machine::{Replay, SolveFault, Solver};
-use std::alloc::Global;
+use std::alloc::{AllocError, Global};
 use std::test::Fail;
 
 /// Two vertices of player 1.
 const GAME: &[u8] = b"7 0 1 9; 9 1 1 9;";
 
 /// How many vertices the certificate has, or at which byte the text is refused.
-fn answer(solver: &mut Replay, game: &NamedGame) -> Result<usize, Option<usize>> {
+type Answer = Result<usize, Option<usize>>;
+
+/// What a solver that was fed a text answers.
+fn answer(solver: &mut Replay, game: &NamedGame) -> Answer {
     match solver.solve(game) {
         Ok(certificate) => Ok(certificate.entries.len()),
         Err(SolveFault::Text { offset, .. }) => Err(Some(offset)),
@@ -17,17 +20,36 @@ fn answer(solver: &mut Replay, game: &NamedGame) -> Result<usize, Option<usize>>
     }
 }
 
+/// The same. Where a growth was refused, which `rt try --test --fail-alloc N` does, the same solver is asked once more.
+fn answer_again(solver: &mut Replay, game: &NamedGame) -> Answer {
+    match answer(solver, game) {
+        Err(None) => answer(solver, game),
+        answer => answer,
+    }
+}
+
+/// Feeds a text, once more where a growth was refused.
+fn feed(solver: &mut Replay, text: &[u8]) -> Result<(), AllocError> {
+    match solver.feed(text) {
+        Ok(()) => Ok(()),
+        Err(_) => solver.feed(text),
+    }
+}
+
 /// What is answered before any text, after one that ends early, and after a whole one.
-type Answers = [Result<usize, Option<usize>>; 3];
+type Answers = [Answer; 3];
 
 /// The answers for a game.
 fn answers_for(alloc: Global, game: &NamedGame) -> Result<Answers, Fail> {
     let mut solver = Replay::new(alloc);
-    let none = answer(&mut solver, game);
-    solver.feed(b"psyncert 1\n")?;
-    let early = answer(&mut solver, game);
-    solver.feed(b"psyncert 1\nvertices 2\nodd 1\neven 0\n7 1 9 0\n9 1 - 12\n")?;
-    Ok([none, early, answer(&mut solver, game)])
+    let none = answer_again(&mut solver, game);
+    feed(&mut solver, b"psyncert 1\n")?;
+    let early = answer_again(&mut solver, game);
+    feed(
+        &mut solver,
+        b"psyncert 1\nvertices 2\nodd 1\neven 0\n7 1 9 0\n9 1 - 12\n",
+    )?;
+    Ok([none, early, answer_again(&mut solver, game)])
 }
 
 /// The answers for the game of a text.
