@@ -1,5 +1,6 @@
 -- A table of places, where a target is new.
-use Rattle.std.proofs.Common.{◌≡◌, ℕ, zero, suc, ◌⊎◌, inl, inr, true, false, cond, List, [], ◌∷◌, ◌++◌, length, Option, None, Some, Ordering, refl, sym, ap, subst, ◌∙◌}
+use Rattle.std.proofs.Common.{◌≡◌, ℕ, zero, suc, ◌⊎◌, inl, inr, true, false, cond, List, [], ◌∷◌, ◌++◌, length, Option}
+use Rattle.std.proofs.Common.{None, Some, Ordering, refl, sym, ap, subst, ◌∙◌}
 use Rattle.std.specs.List.{slice_get}
 use Rattle.std.specs.Ordering.{is_eq, nat_cmp, ordering_then}
 use Rattle.std.specs.Cmp.{nat_cmp_total}
@@ -17,13 +18,15 @@ pub at_end : {X : Type 0} (xs : List X) (y : X) → slice_get (xs ++ y ∷ []) (
 at_end [] y = refl
 at_end (x ∷ xs) y = at_end xs y
 
-at_last_place : {X : Type 0} (xs : List X) (y : X) (i : ℕ) (x : X) → slice_get (xs ++ y ∷ []) i ≡ Some x → (slice_get xs i ≡ Some x) ⊎ ((x ≡ y) × (i ≡ length xs))
+at_last_place : {X : Type 0} (xs : List X) (y : X) (i : ℕ) (x : X) → slice_get (xs ++ y ∷ []) i ≡ Some x →
+    (slice_get xs i ≡ Some x) ⊎ ((x ≡ y) × (i ≡ length xs))
 at_last_place [] y zero x e = inr (sym (same_some y x e), refl)
 at_last_place [] y (suc i) x e = absurd (none_is_some x e)
 at_last_place (z ∷ xs) y zero x e = inl e
 at_last_place (z ∷ xs) y (suc i) x e = go (at_last_place xs y i x e)
   where
-    go : (slice_get xs i ≡ Some x) ⊎ ((x ≡ y) × (i ≡ length xs)) → (slice_get xs i ≡ Some x) ⊎ ((x ≡ y) × (suc i ≡ suc (length xs)))
+    go : (slice_get xs i ≡ Some x) ⊎ ((x ≡ y) × (i ≡ length xs)) →
+        (slice_get xs i ≡ Some x) ⊎ ((x ≡ y) × (suc i ≡ suc (length xs)))
     go (inl h) = inl h
     go (inr h) = inr (h.0, ap suc h.1)
 
@@ -32,7 +35,8 @@ at_last_place (z ∷ xs) y (suc i) x e = go (at_last_place xs y i x e)
 tied : (x y : ℕ) → nat_cmp x y ≡ Equal → x ≡ y
 tied x y e = ranked x y Equal (sym e)
 
-both_tied : (a b c d : ℕ) (o p : Ordering) → nat_cmp a c ≡ o → nat_cmp b d ≡ p → is_eq (ordering_then o p) ≡ true → (a ≡ c) × (b ≡ d)
+both_tied : (a b c d : ℕ) (o p : Ordering) → nat_cmp a c ≡ o → nat_cmp b d ≡ p → is_eq (ordering_then o p) ≡ true →
+    (a ≡ c) × (b ≡ d)
 both_tied a b c d Less p e f h = let no : false ≡ true = h in cc
 both_tied a b c d Equal Less e f h = let no : false ≡ true = h in cc
 both_tied a b c d Equal Equal e f h = (tied a c e, tied b d f)
@@ -70,36 +74,46 @@ module _ (old new : List Target) (t : Target) (place : ℕ) (is : IsPlaced old n
 
 -- ## Tables
 
-pub distinct_by_table : (targets : List Target) (table : ℕ → ℕ → Option ℕ) → IsTableOf targets table → AreDistinct targets
+pub distinct_by_table : (targets : List Target) (table : ℕ → ℕ → Option ℕ) → IsTableOf targets table →
+    AreDistinct targets
 distinct_by_table targets table is i j t a b = same_some i j (sym (is.whole t i a) ∙ is.whole t j b)
 
-pub table_same : (old new : List Target) (table : ℕ → ℕ → Option ℕ) → new ≡ old → IsTableOf old table → IsTableOf new table
+pub table_same : (old new : List Target) (table : ℕ → ℕ → Option ℕ) → new ≡ old → IsTableOf old table →
+    IsTableOf new table
 table_same old new table e is = subst (λ (ts : List Target). IsTableOf ts table) (sym e) is
 
-module _ (targets : List Target) (old new : ℕ → ℕ → Option ℕ) (t : Target) (place : ℕ) (is : IsTableOf targets old) (size : place ≡ length targets) (none : old t.state t.sets ≡ None)
-    (puts : (state sets : ℕ) → new state sets ≡ cond (is_eq (pair_cmp (t.state, t.sets) (state, sets))) (Some place) (old state sets)) where
+module _ (targets : List Target) (old new : ℕ → ℕ → Option ℕ) (t : Target) (place : ℕ) (is : IsTableOf targets old)
+    (size : place ≡ length targets) (none : old t.state t.sets ≡ None)
+    (puts : (state sets : ℕ) →
+        new state sets ≡ cond (is_eq (pair_cmp (t.state, t.sets) (state, sets))) (Some place) (old state sets)) where
   here : new t.state t.sets ≡ Some place
   here = puts t.state t.sets ∙ ap (λ b. cond b (Some place) (old t.state t.sets)) (target_tied t)
 
-  there : (s : Target) → is_eq (pair_cmp (t.state, t.sets) (s.state, s.sets)) ≡ false → new s.state s.sets ≡ old s.state s.sets
+  there : (s : Target) → is_eq (pair_cmp (t.state, t.sets) (s.state, s.sets)) ≡ false →
+      new s.state s.sets ≡ old s.state s.sets
   there s e = puts s.state s.sets ∙ ap (λ b. cond b (Some place) (old s.state s.sets)) e
 
   pub table_push : IsTableOf (targets ++ t ∷ []) new
   table_push = record {
     sound = λ s p h. sound_by s p h (cases_Bool (is_eq (pair_cmp (t.state, t.sets) (s.state, s.sets))));
-    whole = λ s p h. whole_by s p (at_last_place targets t p s h) (cases_Bool (is_eq (pair_cmp (t.state, t.sets) (s.state, s.sets))));
+    whole = λ s p h. whole_by s p (at_last_place targets t p s h)
+        (cases_Bool (is_eq (pair_cmp (t.state, t.sets) (s.state, s.sets))));
   }
     where
-      sound_by : (s : Target) (p : ℕ) → new s.state s.sets ≡ Some p → (is_eq (pair_cmp (t.state, t.sets) (s.state, s.sets)) ≡ true) ⊎ (is_eq (pair_cmp (t.state, t.sets) (s.state, s.sets)) ≡ false) →
+      sound_by : (s : Target) (p : ℕ) → new s.state s.sets ≡ Some p →
+          (is_eq (pair_cmp (t.state, t.sets) (s.state, s.sets)) ≡ true)
+          ⊎ (is_eq (pair_cmp (t.state, t.sets) (s.state, s.sets)) ≡ false) →
           slice_get (targets ++ t ∷ []) p ≡ Some s
       sound_by s p h (inl one) =
           let same : t ≡ s = same_target t s one in
-          let at : p ≡ length targets = sym (same_some place p (sym here ∙ ap (λ (x : Target). new x.state x.sets) same ∙ h)) ∙ size in
+          let at : p ≡ length targets =
+              sym (same_some place p (sym here ∙ ap (λ (x : Target). new x.state x.sets) same ∙ h)) ∙ size in
           ap (slice_get (targets ++ t ∷ [])) at ∙ at_end targets t ∙ ap (λ (x : Target). Some x) same
       sound_by s p h (inr other) = at_left targets (t ∷ []) p s (is.sound s p (sym (there s other) ∙ h))
 
       whole_by : (s : Target) (p : ℕ) → (slice_get targets p ≡ Some s) ⊎ ((s ≡ t) × (p ≡ length targets)) →
-          (is_eq (pair_cmp (t.state, t.sets) (s.state, s.sets)) ≡ true) ⊎ (is_eq (pair_cmp (t.state, t.sets) (s.state, s.sets)) ≡ false) → new s.state s.sets ≡ Some p
+          (is_eq (pair_cmp (t.state, t.sets) (s.state, s.sets)) ≡ true)
+          ⊎ (is_eq (pair_cmp (t.state, t.sets) (s.state, s.sets)) ≡ false) → new s.state s.sets ≡ Some p
       whole_by s p (inl at) (inl one) =
           let same : t ≡ s = same_target t s one in
           absurd (none_is_some p (sym none ∙ ap (λ (x : Target). old x.state x.sets) same ∙ is.whole s p at))

@@ -10,34 +10,41 @@ pub returns-in-Some-clause-placed : goal.returns-in-Some-clause-placed
 returns-in-Some-clause-placed c = record {
   list = inl refl;
   stored = subst (λ (ts : List Target). slice_get ts c.in-Some.place ≡ Some c.args.target) c.self.view_is
-      (c.self.invariant.sound c.args.target c.in-Some.place (sym c.get.ensures.value ∙ sym c.copied.ensures ∙ c.in-Some.is));
+      (c.self.invariant.sound c.args.target c.in-Some.place
+          (sym c.get.ensures.value ∙ sym c.copied.ensures ∙ c.in-Some.is));
 }
 
 pub returns-in-Some-clause-distinct : goal.returns-in-Some-clause-distinct
-returns-in-Some-clause-distinct c = subst AreDistinct c.self.view_is (distinct_by_table c.self.inside.list.items _ c.self.invariant)
+returns-in-Some-clause-distinct c =
+    subst AreDistinct c.self.view_is (distinct_by_table c.self.inside.list.items _ c.self.invariant)
 
 pub invariant_of-self-2 : goal.invariant_of-self-2
 invariant_of-self-2 c =
     let t = c.args.target in
     let old = c.self.inside.list.items in
     let pushed : c.push.new.self.items ≡ old ++ t ∷ [] =
-    c.push.ensures.items ∙ ap (λ r. cond (is_ok r) (c.reserve.new.self.items ++ t ∷ []) c.reserve.new.self.items) c.unwrap.ensures
+    c.push.ensures.items
+        ∙ ap (λ r. cond (is_ok r) (c.reserve.new.self.items ++ t ∷ []) c.reserve.new.self.items) c.unwrap.ensures
     ∙ ap (λ (ts : List Target). ts ++ t ∷ []) c.reserve.ensures.items in
     let puts = c.in_ok-insert.ensures.updates.0 in
     table_same (old ++ t ∷ []) c.push.new.self.items _ pushed
-    (table_push old _ _ t c.len-place.result c.self.invariant (omega (arith, c.len-place.ensures, c.self.inside.list.ok.0)) (sym c.get.ensures.value ∙ sym c.copied.ensures ∙ c.in_default.is) (λ state sets. puts (state, sets)))
+    (table_push old _ _ t c.len-place.result c.self.invariant
+        (omega (arith, c.len-place.ensures, c.self.inside.list.ok.0))
+        (sym c.get.ensures.value ∙ sym c.copied.ensures ∙ c.in_default.is) (λ state sets. puts (state, sets)))
 
 pub returns-clause-placed : goal.returns-clause-placed
 returns-clause-placed c =
     let t = c.args.target in
     let old = c.self.inside.list.items in
     let pushed : c.push.new.self.items ≡ old ++ t ∷ [] =
-    c.push.ensures.items ∙ ap (λ r. cond (is_ok r) (c.reserve.new.self.items ++ t ∷ []) c.reserve.new.self.items) c.unwrap.ensures
+    c.push.ensures.items
+        ∙ ap (λ r. cond (is_ok r) (c.reserve.new.self.items ++ t ∷ []) c.reserve.new.self.items) c.unwrap.ensures
     ∙ ap (λ (ts : List Target). ts ++ t ∷ []) c.reserve.ensures.items in
     let size : c.len-place.result ≡ length old = omega (arith, c.len-place.ensures, c.self.inside.list.ok.0) in
     record {
       list = inr (pushed ∙ ap (λ (ts : List Target). ts ++ t ∷ []) c.self.view_is);
-      stored = ap (λ (ts : List Target). slice_get ts c.len-place.result) pushed ∙ ap (slice_get (old ++ t ∷ [])) size ∙ at_end old t;
+      stored = ap (λ (ts : List Target). slice_get ts c.len-place.result) pushed ∙ ap (slice_get (old ++ t ∷ [])) size
+          ∙ at_end old t;
     }
 
 pub returns-clause-distinct : goal.returns-clause-distinct
