@@ -2,15 +2,11 @@
 use Rattle.std.proofs.Common.{◌≡◌, ◌≢◌, ℕ, zero, suc, ◌+◌, ◌-◌, ◌*◌, ◌^◌, ◌<◌, ◌≤◌, inl, inr, Bool, true, false, List, [], ◌∷◌, ◌++◌, Option, None, Some, Vec, All, length, take, drop, get_or, map, refl, ap, sym, ◌∙◌, subst, arith, append_assoc, add-one}
 use Rattle.ps_hoa.specs.Files.{FileData}
 use Rattle.ps_automaton.specs.Acceptance.{IsAccepted}
-use Rattle.std.specs.Prelude.{◌==◌, ◌↔◌, IsTrue, ◌||◌, ◌&&◌, not, if◌then◌else◌, slice_get}
-use Rattle.std.specs.List.{list_any}
-use Rattle.std.proofs.Math.Bool.{beq}
-use Rattle.std.specs.Cmp.Lexicographic.{pointwise}
+use Rattle.std.specs.Prelude.{◌==◌, ◌↔◌, IsTrue, ◌||◌}
 use Rattle.std.specs.Global.{Global}
 use Rattle.std.proofs.lemmas.Bool.{cases_lt}
 use Rattle.std.proofs.lemmas.List.{map-append, length-map, get_or-map, append-nil, take_more, map_push}
 use Rattle.std.proofs.Common.{length-append}
-use Rattle.std.proofs.lemmas.Option.{slice_get_within, slice_get-get_or}
 use Rattle.std.proofs.Math.ListN.{get_or-append}
 use Rattle.std.proofs.Math.Seq.{get_or-append_seam}
 use Rattle.std.proofs.Math.Nat.{mul-le-mul_right, mul-sub, mul_comm}
@@ -222,78 +218,6 @@ pub length_of_letters : (names : List (List ℕ)) (c : CircuitData) (stem lap : 
     → length letters ≡ length stem + h.j * length lap
 length_of_letters names c stem lap i letters h =
     length_letters names c h.trace letters h.are_letters ∙ length_trace stem lap h.trace h.j h.repeats.reads
-
--- ## Sets of latches
-
-beq_is : (a b : Bool) → (beq a b ≡ true → a ≡ b) × (a ≡ b → beq a b ≡ true)
-beq_is true true = (λ e. refl, λ e. refl)
-beq_is false false = (λ e. refl, λ e. refl)
-beq_is true false = (λ e. absurd (cc), λ e. absurd (cc))
-beq_is false true = (λ e. absurd (cc), λ e. absurd (cc))
-
-same_bits : (xs ys : List Bool) → pointwise beq xs ys ≡ true → xs ≡ ys
-same_bits [] [] e = refl
-same_bits [] (y ∷ ys) e = absurd (cc)
-same_bits (x ∷ xs) [] e = absurd (cc)
-same_bits (x ∷ xs) (y ∷ ys) e = go (beq x y) refl e (same_bits xs ys)
-  where
-    go : (b : Bool) → beq x y ≡ b → (b && pointwise beq xs ys) ≡ true → (pointwise beq xs ys ≡ true → xs ≡ ys) → x ∷ xs ≡ y ∷ ys
-    go true d h rest = ap (λ (z : Bool). z ∷ xs) ((beq_is x y).0 d) ∙ ap (λ (zs : List Bool). y ∷ zs) (rest h)
-    go false d h rest = absurd (cc)
-
-own_bits : (xs : List Bool) → pointwise beq xs xs ≡ true
-own_bits [] = refl
-own_bits (x ∷ xs) = ap (λ (b : Bool). b && pointwise beq xs xs) ((beq_is x x).1 refl) ∙ own_bits xs
-
-not_seen : (latches : List Bool) (keys : List (Vec Bool Global)) → list_any (λ (y : Vec Bool Global). pointwise beq latches y.items) keys ≡ false
-    → (k : ℕ) → k < length (letters_of keys) → get_or (letters_of keys) k [] ≢ latches
-not_seen latches [] none k lt e = absurd (omega arith)
-not_seen latches (y ∷ ys) none k lt e = go (pointwise beq latches y.items) refl none k lt e (not_seen latches ys)
-  where
-    go : (b : Bool) → pointwise beq latches y.items ≡ b → (b || list_any (λ (z : Vec Bool Global). pointwise beq latches z.items) ys) ≡ false
-        → (k : ℕ) → k < length (letters_of (y ∷ ys)) → get_or (letters_of (y ∷ ys)) k [] ≡ latches
-        → (list_any (λ (z : Vec Bool Global). pointwise beq latches z.items) ys ≡ false → (k : ℕ) → k < length (letters_of ys) → get_or (letters_of ys) k [] ≢ latches) → ⊥
-    go true d h k lt e rest = absurd (cc)
-    go false d h zero lt e rest = let t : pointwise beq latches y.items ≡ true = ap (pointwise beq latches) e ∙ own_bits latches in cc
-    go false d h (suc k) lt e rest = rest h k (omega arith) e
-
-pub is_new : (latches : List Bool) (key : Vec Bool Global) (old new : List (Vec Bool Global)) → key.items ≡ latches
-    → true ≡ not (list_any (λ (y : Vec Bool Global). pointwise beq key.items y.items) old)
-    → new ≡ (if list_any (λ (y : Vec Bool Global). pointwise beq key.items y.items) old then old else old ++ key ∷ [])
-    → IsSeen (letters_of old) (letters_of new) latches None
-is_new latches key old new same added keys =
-    go (list_any (λ (y : Vec Bool Global). pointwise beq key.items y.items) old) refl added keys
-  where
-    go : (b : Bool) → list_any (λ (y : Vec Bool Global). pointwise beq key.items y.items) old ≡ b → true ≡ not b → new ≡ (if b then old else old ++ key ∷ [])
-        → IsSeen (letters_of old) (letters_of new) latches None
-    go true d added keys = absurd (cc)
-    go false d added keys = (
-      subst (λ (l : List Bool). (k : ℕ) → k < length (letters_of old) → get_or (letters_of old) k [] ≢ l) same (not_seen key.items old d),
-      ap letters_of keys ∙ map_push (λ (l : Vec Bool Global). l.items) old key ∙ ap (λ (l : List Bool). letters_of old ++ l ∷ []) same,
-    )
-
-pub is_old : (latches : List Bool) (key there : Vec Bool Global) (old new : List (Vec Bool Global)) (place : ℕ) → key.items ≡ latches
-    → false ≡ not (list_any (λ (y : Vec Bool Global). pointwise beq key.items y.items) old)
-    → new ≡ (if list_any (λ (y : Vec Bool Global). pointwise beq key.items y.items) old then old else old ++ key ∷ [])
-    → slice_get new place ≡ Some there → pointwise beq key.items there.items ≡ true
-    → IsSeen (letters_of old) (letters_of new) latches (Some place)
-is_old latches key there old new place same added keys at alike =
-    go (list_any (λ (y : Vec Bool Global). pointwise beq key.items y.items) old) refl added keys
-  where
-    go : (b : Bool) → list_any (λ (y : Vec Bool Global). pointwise beq key.items y.items) old ≡ b → false ≡ not b → new ≡ (if b then old else old ++ key ∷ [])
-        → IsSeen (letters_of old) (letters_of new) latches (Some place)
-    go false d added keys = absurd (cc)
-    go true d added keys =
-        let found : slice_get old place ≡ Some there = ap (λ (ks : List (Vec Bool Global)). slice_get ks place) (sym keys) ∙ at in
-        let lt : place < length old = slice_get_within old place there found in
-        let size = length-map old (λ (l : Vec Bool Global). l.items) in
-        let some : Some (get_or old place there) ≡ Some there = sym (slice_get-get_or old place there lt) ∙ found in
-        let is : get_or old place there ≡ there = cc in (
-          omega arith,
-          get_or-map (λ (l : Vec Bool Global). l.items) old place there [] lt ∙ ap (λ (l : Vec Bool Global). l.items) is
-              ∙ sym (same_bits key.items there.items alike) ∙ same,
-          ap letters_of keys,
-        )
 
 -- ## Places of the verdict
 

@@ -16,6 +16,7 @@ pub mod OneStimulus
 pub mod NamingLemmas
 pub mod LetterLemmas
 pub mod LassoLemmas
+pub mod SeenLemmas
 pub mod CountLemmas
 pub mod GateOrders
 pub mod OneVerdict

@@ -1,5 +1,10 @@
 -- A run of a circuit through letters. (Of private functions.)
-use Rattle.std.specs.Prelude.{◌≡◌, ◌≢◌, ℕ, ◌<◌, ◌++◌, Bool, List, [], ◌∷◌, Option, None, Some, length, map, slice_index_or}
+use Rattle.std.specs.Prelude.{◌≡◌, ◌≢◌, ℕ, ◌<◌, ◌++◌, Bool, List, [], ◌∷◌, Option, None, Some, length, map, slice_get, slice_index_or, Vec}
+use Rattle.std.specs.BTreeMap.{BTreeMap, btree_map_len, get}
+use Rattle.std.specs.Cmp.Lexicographic.{slice_cmp}
+use Rattle.std.specs.Global.{Global}
+use Rattle.std.specs.Ordering.{bool_cmp}
+use Rattle.std.specs.declared.cmp.Ordering.{Ordering}
 use Rattle.ps_circuit.specs.Circuits.{CircuitData}
 use Rattle.ps_circuit.specs.Values.{Moment, GoesOn, resets}
 use Rattle.ps_simulate.specs.Lassos.{AreLetters, Repeats, laps_of, latches_before}
@@ -34,3 +39,13 @@ pub record HasRead (names : List (List ℕ)) (c : CircuitData) (stem lap : List 
 abbrev pub IsSeen : List (List Bool) → List (List Bool) → List Bool → Option ℕ → Type 0
 IsSeen old new latches (Some i) = (i < length old) × (slice_index_or old i [] ≡ latches) × (new ≡ old)
 IsSeen old new latches None = ((k : ℕ) → k < length old → slice_index_or old k [] ≢ latches) × (new ≡ old ++ latches ∷ [])
+
+-- the order of lists of bits
+abbrev pub bits_cmp : Vec Bool Global → Vec Bool Global → Ordering
+bits_cmp one other = slice_cmp bool_cmp one.items other.items
+
+-- a map has the place of each of the latches seen, and of nothing else
+pub record HavePlaces (seen : List (List Bool)) (places : BTreeMap (Vec Bool Global) ℕ) : Type 0 where
+  pub each : btree_map_len places ≡ length seen
+  pub sound : (key : Vec Bool Global) (place : ℕ) → get bits_cmp places key ≡ Some place → slice_get seen place ≡ Some key.items
+  pub whole : (key : Vec Bool Global) (place : ℕ) → slice_get seen place ≡ Some key.items → get bits_cmp places key ≡ Some place

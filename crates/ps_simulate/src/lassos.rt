@@ -1,6 +1,6 @@
 //! Lassos: a stem that is read once and a lap that is read again and again, until the latches repeat themselves.
 
-ghost use Rattle.std.specs.Prelude.{◌≡◌, ◌+◌, ◌*◌, ◌^◌, ◌<◌, ◌≤◌, List, [], ℕ, false, length, All, IfOk, IfErr, IsTrue, IsOk, OnOk, vec_len};
+ghost use Rattle.std.specs.Prelude.{◌≡◌, ◌+◌, ◌*◌, ◌^◌, ◌<◌, ◌≤◌, Bool, List, [], ℕ, false, length, All, IfOk, IfErr, IsTrue, IsOk, OnOk, vec_len};
 ghost use Rattle.ps_circuit.specs.Values.{resets};
 ghost use Rattle.ps_hoa.specs.Files.{FileData};
 ghost use Rattle.ps_automaton.specs.Automata.{IsBuiltFrom};
@@ -8,7 +8,7 @@ ghost use Rattle.ps_automaton.specs.Chains.{Chain};
 ghost use Rattle.ps_simulate.specs.Stimuli.{letters_of};
 ghost use Rattle.ps_simulate.specs.Lassos.{IsVerdictOf};
 ghost use Rattle.ps_simulate.specs.LassoFaults.{IsSound, Stands};
-ghost use Rattle.ps_simulate.specs.LassoRuns.{IsSeen, ReadsWord, RepeatsBy};
+ghost use Rattle.ps_simulate.specs.LassoRuns.{HavePlaces, IsSeen, ReadsWord, RepeatsBy};
 ghost use Rattle.ps_simulate.specs.Namings.{IsNaming, names_of};
 ghost use Rattle.ps_simulate.specs.declared.lassos.LassoFault.TheVariants.{OutOfMemory};
 
@@ -16,11 +16,11 @@ use crate::fault::{StimulusCause, StimulusFault};
 use crate::naming::Naming;
 use crate::role::Role;
 use crate::simulator::Simulator;
-use indexmap::IndexSet;
 use ps_automaton::Automaton;
 use ps_circuit::Circuit;
 use ps_text::faults::Cause;
 use std::alloc::{AllocError, Global};
+use std::collections::BTreeMap;
 use thiserror::Error;
 
 /// Whether an automaton accepts, and how long the stem and the lap are that it was asked about.
@@ -239,7 +239,7 @@ impl<'a> Run<'a> {
             &mut self.letters,
             stem,
         )?;
-        let mut seen = IndexSet::new(alloc);
+        let mut seen = BTreeMap::new(alloc);
         'laps: loop {
             if let Some(first) = see(alloc, &mut seen, self.simulator.latches())? {
                 return Ok(first);
@@ -255,16 +255,23 @@ impl<'a> Run<'a> {
     }
 }
 
-/// Puts latches behind those that were seen, unless they were seen before; then it answers their place.
+/// Puts latches behind those that were seen, unless they were seen before; then it answers their place. The places stand
+/// in a tree, so that no choice of latches makes a search long.
 fn see(
     alloc: Global,
-    seen: &mut IndexSet<Vec<bool>>,
+    seen: &mut BTreeMap<Vec<bool>, usize>,
     latches: &[bool],
 ) -> Result<Option<usize>, AllocError>
-    ensures { IfOk result (IsSeen (letters_of seen.old.keys) (letters_of seen.new.keys) latches.now) }
+    ensures { IfOk result (λ place. (old : List (List Bool)) → HavePlaces old seen.old
+        → (new : List (List Bool)) × IsSeen old new latches.now place × HavePlaces new seen.new) }
 {
-    let (place, is_new) = seen.insert_full(Vec::from_slice(alloc, latches)?)?;
-    Ok(if is_new { None } else { Some(place) })
+    let key = Vec::from_slice(alloc, latches)?;
+    if let Some(place) = seen.get(&key).copied() {
+        return Ok(Some(place));
+    }
+    let place = seen.len();
+    seen.insert(key, place)?;
+    Ok(None)
 }
 
 /// Runs a circuit through letters, and puts the automaton's letters behind others.

@@ -1,14 +1,37 @@
-use Rattle.std.proofs.Common.{◌∙◌, sym}
-use Rattle.ps_simulate.proofs.LassoLemmas.{is_new, is_old}
+use Rattle.std.proofs.Common.{◌≡◌, ◌≢◌, ◌∙◌, ℕ, ◌+◌, ◌<◌, ◌++◌, ◌∷◌, [], Bool, List, None, Option, get_or, length, sym}
+use Rattle.std.proofs.Common.{subst, ap}
+use Rattle.std.specs.Prelude.{if◌then◌else◌, is_some}
+use Rattle.std.specs.BTreeMap.{btree_map_len, get}
+use Rattle.ps_simulate.specs.LassoRuns.{bits_cmp}
+use Rattle.ps_simulate.proofs.SeenLemmas.{not_seen, places_push, seen_before}
 use Rattle.ps_simulate.proofs.lassos.see.Goals as goal
 
-pub returns-then-is_new : goal.returns-then-is_new
-returns-then-is_new c =
-    is_new c.args.latches.now c.in_ok-from_slice.field-0 c.args.seen.now.keys c.insert_full.new.self.keys c.in_ok-from_slice.ensures.items
-    (sym c.if-is_new.true ∙ c.in_ok-place.ensures.added) c.in_ok-place.ensures.keys
+pub returns-in-Some : goal.returns-in-Some
+returns-in-Some c = λ old have.
+    let key = c.in_ok-key.key in
+    let there = sym c.get.ensures.value ∙ sym c.copied.ensures ∙ c.in-Some.is in (
+      old,
+      seen_before old c.args.seen.now have key c.args.latches.now c.in_ok-key.ensures.items c.in-Some.place there,
+      have,
+    )
 
-pub returns-else-is_new : goal.returns-else-is_new
-returns-else-is_new c =
-    let there = c.in_ok-place.ensures.stored in
-    is_old c.args.latches.now c.in_ok-from_slice.field-0 there.0 c.args.seen.now.keys c.insert_full.new.self.keys c.in_ok-place.place c.in_ok-from_slice.ensures.items
-    (sym c.if-is_new.false ∙ c.in_ok-place.ensures.added) c.in_ok-place.ensures.keys there.1 there.2
+pub returns : goal.returns
+returns c = λ old have.
+    let key = c.in_ok-key.key in
+    let latches = c.args.latches.now in
+    let before = c.args.seen.now in
+    let none : get bits_cmp before key ≡ None = sym c.get.ensures.value ∙ sym c.copied.ensures ∙ c.in_default.is in
+    let place = c.len-place.result in
+    let size = c.len-place.ensures.len ∙ have.each in
+    let more = c.in_ok-insert.ensures.len
+        ∙ ap (λ (o : Option ℕ). btree_map_len before + (if is_some o then 0 else 1))
+            (c.in_ok-insert.ensures.old ∙ none) in
+    let puts = c.in_ok-insert.ensures.updates.0 in (
+      old ++ key.items ∷ [],
+      (
+        subst (λ (l : List Bool). (k : ℕ) → k < length old → get_or old k [] ≢ l) c.in_ok-key.ensures.items
+            (not_seen old before c.insert.new.self have key place size none more puts),
+        ap (λ (l : List Bool). old ++ l ∷ []) c.in_ok-key.ensures.items,
+      ),
+      places_push old before c.insert.new.self have key place size none more puts,
+    )
