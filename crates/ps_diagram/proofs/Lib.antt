@@ -15,3 +15,4 @@ pub mod Dividing
 pub mod Numbering
 pub mod Classing
 pub mod Halving
+pub mod Unions

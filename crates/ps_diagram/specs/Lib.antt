@@ -13,3 +13,4 @@ pub mod Rests
 pub mod Numbered
 pub mod Classes
 pub mod Rows
+pub mod Unions

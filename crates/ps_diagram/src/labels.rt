@@ -1,11 +1,12 @@
 //! The diagrams of labels.
 
-ghost use Rattle.std.specs.Prelude.{◌≡◌, ℕ, ◌<◌, Bool, List, IfOk, length};
+ghost use Rattle.std.specs.Prelude.{◌≡◌, ℕ, ◌<◌, All, Bool, List, IfOk, length};
 ghost use Rattle.ps_label.specs.Expression.{Expression, expression};
 ghost use Rattle.ps_label.specs.Truth.{expressions, is_in, label_truth, truth};
 ghost use Rattle.ps_diagram.specs.Table.{IsNode, Keeps, leaf_of};
 ghost use Rattle.ps_diagram.specs.Labels.{AreNodesOf, AreOverFrom, HaveTruths, IsOneOrNone, IsOver, one_where};
 ghost use Rattle.ps_diagram.specs.Leaves.{joined};
+ghost use Rattle.ps_diagram.specs.Unions.{IsTruth, first_leaf, leaves_of};
 
 use crate::fault::OverlayError;
 use crate::store::Store;
@@ -85,23 +86,44 @@ impl Store {
             }
             Label::Both(operands) => {
                 // some operand is false
-                let mut any = self.none()?;
+                let mut nodes = Vec::new(self.allocator());
                 for operand in operands {
                     let node = self.truth_by(aliases, operand)?;
-                    let not = self.negated(node)?;
-                    any = self.either(any, not)?;
+                    nodes.push(self.negated(node)?)?;
                 }
+                let any = self.union_of(&nodes)?;
                 self.negated(any)
             }
             Label::Either(operands) => {
-                let mut any = self.none()?;
+                let mut nodes = Vec::new(self.allocator());
                 for operand in operands {
-                    let node = self.truth_by(aliases, operand)?;
-                    any = self.either(any, node)?;
+                    nodes.push(self.truth_by(aliases, operand)?)?;
                 }
-                Ok(any)
+                self.union_of(&nodes)
             }
         }
+    }
+
+    /// The diagram that has the leaf 1 wherever one of the nodes has it. The halves are joined first, so that a node
+    /// takes part in as many joins as the logarithm of their number.
+    fn union_of(&mut self, nodes: &[Node]) -> Result<Node, AllocError>
+        requires truths { All (IsTruth self.old) nodes.now }
+        ensures keeps { Keeps self.old self.new }
+        ensures held { IfOk result (λ node. IsNode self.new node) }
+        ensures leaf { IfOk result
+            (λ node. (letter : ℕ) → leaf_of self.new node letter ≡ first_leaf (leaves_of self.old nodes.now letter)) }
+    {
+        let count = nodes.len();
+        if count == 0 {
+            return self.none();
+        }
+        if count == 1 {
+            return Ok(nodes[0]);
+        }
+        let (first, second) = nodes.split_at(count / 2);
+        let one = self.union_of(first)?;
+        let other = self.union_of(second)?;
+        self.either(one, other)
     }
 
     /// The diagram of a constant.

@@ -1,0 +1,19 @@
+-- Diagrams of truths, joined. (Of private functions.)
+use Rattle.std.specs.Prelude.{ℕ, List, [], ◌∷◌, Option, None, map}
+use Rattle.ps_diagram.specs.Labels.{IsOneOrNone}
+use Rattle.ps_diagram.specs.Leaves.{joined}
+use Rattle.ps_diagram.specs.Table.{Table, IsNode, leaf_of}
+
+-- the first leaf that there is
+abbrev pub first_leaf : List (Option ℕ) → Option ℕ
+first_leaf [] = None
+first_leaf (leaf ∷ leaves) = joined leaf (first_leaf leaves)
+
+-- the leaves of nodes at a letter
+abbrev pub leaves_of : Table → List ℕ → ℕ → List (Option ℕ)
+leaves_of t nodes letter = map (λ node. leaf_of t node letter) nodes
+
+-- the diagram of a truth
+pub record IsTruth (t : Table) (node : ℕ) : Type 0 where
+  pub held : IsNode t node
+  pub leaf : (letter : ℕ) → IsOneOrNone (leaf_of t node letter)
