@@ -1,4 +1,5 @@
 pub mod TokenLemmas
+pub mod NextSigns
 pub mod GameLemmas
 pub mod NodeLemmas
 pub mod GameTokens

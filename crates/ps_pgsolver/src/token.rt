@@ -2,7 +2,7 @@
 
 ghost use Rattle.std.specs.Prelude.{◌≡◌, ◌+◌, ◌≤◌, ◌<◌, ◌^◌, [], length, take, take_while, drop, Some};
 ghost use Rattle.std.specs.List.{prefix_len, AllPass};
-ghost use Rattle.ps_pgsolver.specs.Bytes.{is_blank, is_digit, is_letter, ends_in};
+ghost use Rattle.ps_pgsolver.specs.Bytes.{is_blank, is_digit, is_letter, begins_in, ends_in};
 ghost use Rattle.ps_pgsolver.specs.Classes.{in_class};
 ghost use Rattle.ps_text.specs.Answers.{Stream};
 ghost use Rattle.ps_text.specs.Digits.{decimal_value};
@@ -24,6 +24,10 @@ pub enum Class {
     Letter,
     /// Anything but a quote.
     Inner,
+    /// A quote.
+    Quote,
+    /// A comma.
+    Comma,
 }
 
 impl Class {
@@ -36,6 +40,8 @@ impl Class {
             Class::Digit => byte.is_ascii_digit(),
             Class::Letter => byte.is_ascii_alphabetic(),
             Class::Inner => byte != b'"',
+            Class::Quote => byte == b'"',
+            Class::Comma => byte == b',',
         }
     }
 }
@@ -81,20 +87,19 @@ pub struct Token<'a> {
     pub start: usize,
 }
 
-/// The tokens of a text that are still to come. The first of them was read already.
+/// The tokens of a text that are still to come, from an offset on.
 #[derive(Drop)]
 pub struct Tokens<'a> {
     text: &'a [u8],
-    first: Token<'a>,
-    behind: usize,
+    at: usize,
 }
 
 impl<'a> Model for Tokens<'a> {
     ghost Value = { Stream Sign };
 
-    ghost view = { λ t. stream_from t.text.now t.first.start };
+    ghost view = { λ t. stream_from t.text.now t.at };
 
-    ghost invariant = { λ t. IsAhead t.text.now t.first t.behind };
+    ghost invariant = { λ t. t.at ≤ length t.text.now };
 }
 
 impl<'a> Tokens<'a> {
@@ -109,34 +114,30 @@ impl<'a> Tokens<'a> {
     pub fn new(text: &'a [u8]) -> Self
         ensures { result ≡ stream_of text.now }
     {
-        let (first, behind) = token_from(text, 0);
-        Tokens {
-            text,
-            first,
-            behind,
-        }
+        Tokens { text, at: 0 }
     }
 
     /// The next token.
+    #[inline(always)]
     pub fn peek(&self) -> Token<'a>
         ensures token { IsHead result self.now }
         ensures plain { IsPlain result.kind }
         ensures within { result.start ≤ self.now.end }
     {
-        self.first
+        let (token, _) = token_from(self.text, self.at);
+        token
     }
 
     /// Reads the next token.
+    #[inline(always)]
     pub fn next(&mut self) -> Token<'a>
         ensures token { IsHead result self.old }
         ensures plain { IsPlain result.kind }
         ensures within { result.start ≤ self.old.end }
         ensures rest { self.new ≡ tail self.old }
     {
-        let token = self.first;
-        let (first, behind) = token_from(self.text, self.behind);
-        self.first = first;
-        self.behind = behind;
+        let (token, behind) = token_from(self.text, self.at);
+        self.at = behind;
         token
     }
 
@@ -144,21 +145,16 @@ impl<'a> Tokens<'a> {
     pub fn is_at_number(&self) -> bool
         ensures { result ≡ is_number (next_of self.now) }
     {
-        match self.peek().kind {
-            Kind::Number(_) => true,
-            Kind::LargeNumber(_) => true,
-            _ => false,
-        }
+        let (before, rest) = self.text.split_at(next_start(self.text, self.at));
+        begins_with(rest, Class::Digit) && !ends_in_class(before, Class::Letter)
     }
 
     /// Whether a comma comes next.
     pub fn is_at_comma(&self) -> bool
         ensures { result ≡ is_comma (next_of self.now) }
     {
-        match self.peek().kind {
-            Kind::Comma => true,
-            _ => false,
-        }
+        let (_, rest) = self.text.split_at(next_start(self.text, self.at));
+        begins_with(rest, Class::Comma)
     }
 
     /// The name that comes next, if one does.
@@ -166,6 +162,10 @@ impl<'a> Tokens<'a> {
         ensures name { option_copied result ≡ name_of (next_of self.now) }
         ensures plain { IfSome result (λ inner. AllPass is_inner inner.now) }
     {
+        let (_, rest) = self.text.split_at(next_start(self.text, self.at));
+        if !begins_with(rest, Class::Quote) {
+            return None;
+        }
         match self.peek().kind {
             Kind::Name(inner) => Some(inner),
             _ => None,
@@ -184,6 +184,7 @@ impl<'a> Tokens<'a> {
 }
 
 /// The first token from an offset on, and where it ends.
+#[inline(always)]
 fn token_from<'a>(text: &'a [u8], at: usize) -> (Token<'a>, usize)
     requires { at ≤ length text.now }
     ensures ahead { IsAhead text.now result.0 result.1 }
@@ -196,6 +197,7 @@ fn token_from<'a>(text: &'a [u8], at: usize) -> (Token<'a>, usize)
 }
 
 /// Where the next token begins, or the text ends.
+#[inline(always)]
 fn next_start(text: &[u8], at: usize) -> usize
     requires { at ≤ length text.now }
     ensures start { result ≡ at + prefix_len is_blank (drop at text.now) }
@@ -205,6 +207,7 @@ fn next_start(text: &[u8], at: usize) -> usize
 }
 
 /// The token that a text begins with, and how many bytes it has.
+#[inline(always)]
 fn token_at<'a>(before: &[u8], rest: &'a [u8]) -> (Kind<'a>, usize)
     ensures end { rest.now ≡ [] → sign_of result.0 ≡ None }
     ensures sign { 0 < length rest.now → sign_of result.0 ≡ Some (first_sign before.now rest.now) }
@@ -227,6 +230,7 @@ fn token_at<'a>(before: &[u8], rest: &'a [u8]) -> (Kind<'a>, usize)
 }
 
 /// A run of digits, and how many bytes it has.
+#[inline(always)]
 fn number_at<'a>(before: &[u8], rest: &'a [u8]) -> (Kind<'a>, usize)
     ensures sign { sign_of result.0 ≡ Some (number_sign before.now rest.now) }
     ensures size { result.1 ≡ prefix_len is_digit rest.now }
@@ -258,6 +262,7 @@ fn digits_at<'a>(rest: &'a [u8]) -> (Kind<'a>, usize)
 }
 
 /// A run of letters, and how many bytes it has.
+#[inline(always)]
 fn word_at<'a>(before: &[u8], rest: &'a [u8]) -> (Kind<'a>, usize)
     ensures sign { sign_of result.0 ≡ Some (word_sign before.now rest.now) }
     ensures size { result.1 ≡ prefix_len is_letter rest.now }
@@ -274,6 +279,7 @@ fn word_at<'a>(before: &[u8], rest: &'a [u8]) -> (Kind<'a>, usize)
 }
 
 /// A name by what stands behind its first quote, and how many bytes it has with its quotes.
+#[inline(always)]
 fn name_at<'a>(behind: &'a [u8]) -> (Kind<'a>, usize)
     requires { length behind.now + 1 < 2 ^ 64 }
     ensures sign { sign_of result.0 ≡ Some (name_sign behind.now) }
@@ -298,6 +304,16 @@ fn mark<'a>(byte: u8) -> Kind<'a>
         b',' => Kind::Comma,
         b';' => Kind::Semicolon,
         _ => Kind::Wrong,
+    }
+}
+
+/// Whether the first byte of the text is of the class.
+fn begins_with(text: &[u8], class: Class) -> bool
+    ensures { result ≡ begins_in (in_class class) text.now }
+{
+    match text.first() {
+        Some(byte) => class.has(*byte),
+        None => false,
     }
 }
 

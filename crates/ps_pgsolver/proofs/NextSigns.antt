@@ -1,0 +1,135 @@
+-- The sign that comes next, by the first byte that is no blank.
+use Rattle.std.proofs.Common.{◌≡◌, ℕ, ◌+◌, ◌<◌, ◌≤◌, Bool, true, false, eqb, List, [], ◌∷◌, length, take, drop, Option, Some, None, refl, sym, ap, ◌∙◌, ⊎_elim, arith}
+use Rattle.std.proofs.lemmas.List.{drop-drop}
+use Rattle.std.proofs.lemmas.Bool.{cases_Bool, eqb-true}
+use Rattle.std.specs.Prelude.{not, ◌&&◌}
+use Rattle.std.specs.List.{prefix_len}
+use Rattle.ps_text.specs.Answers.{next_of, first_of, signs}
+use Rattle.ps_pgsolver.specs.Bytes.{is_blank, is_digit, is_letter, begins_in, ends_in}
+use Rattle.ps_pgsolver.specs.Heads.{is_number, is_comma, name_of}
+use Rattle.ps_pgsolver.specs.Lexer.{lex, first_sign, number_sign, word_sign, name_sign, mark_sign, is_closed, stream_from}
+use Rattle.ps_pgsolver.specs.Signs.{Sign}
+use Rattle.ps_pgsolver.proofs.TokenLemmas.{stream_from-blanks, prefix_len-behind, lex-first, lex-end}
+
+-- the sign that begins a text, if there is one
+abbrev pub head_sign : List ℕ → List ℕ → Option Sign
+head_sign before [] = None
+head_sign before (b ∷ bs) = Some (first_sign before (b ∷ bs))
+
+first_of_lex : (before rest : List ℕ) → prefix_len is_blank rest ≡ 0 → first_of (signs (lex 0 before rest)) ≡ head_sign before rest
+first_of_lex before [] none = ap (λ ps. first_of (signs ps)) (lex-end before)
+first_of_lex before (b ∷ bs) none = ap (λ ps. first_of (signs ps)) (lex-first before (b ∷ bs) none (omega arith))
+
+pub next_sign : (text before rest : List ℕ) (at start : ℕ) → start ≡ at + prefix_len is_blank (drop at text) →
+    before ≡ take start text → rest ≡ drop start text → next_of (stream_from text at) ≡ head_sign before rest
+next_sign text before rest at start begins front back =
+    let none : prefix_len is_blank (drop start text) ≡ 0 =
+    rw (begins, ← drop-drop (prefix_len is_blank (drop at text)) at text) (prefix_len-behind is_blank (drop at text)) in
+    ap next_of (stream_from-blanks text at ∙ ap (stream_from text) (sym begins))
+    ∙ first_of_lex (take start text) (drop start text) none
+    ∙ ap (λ b. head_sign b (drop start text)) (sym front) ∙ ap (head_sign before) (sym back)
+
+-- ## What the first byte says of the sign
+
+sign_digit : (before : List ℕ) (b : ℕ) (bs : List ℕ) → is_digit b ≡ true → first_sign before (b ∷ bs) ≡ number_sign before (b ∷ bs)
+unfolding first_sign
+sign_digit before b bs d = rw d refl
+
+sign_letter : (before : List ℕ) (b : ℕ) (bs : List ℕ) → is_digit b ≡ false → is_letter b ≡ true → first_sign before (b ∷ bs) ≡ word_sign before (b ∷ bs)
+unfolding first_sign
+sign_letter before b bs d l = rw (d, l) refl
+
+sign_quote : (before : List ℕ) (b : ℕ) (bs : List ℕ) → is_digit b ≡ false → is_letter b ≡ false → eqb b 34 ≡ true → first_sign before (b ∷ bs) ≡ name_sign bs
+unfolding first_sign
+sign_quote before b bs d l q = rw (d, l, q) refl
+
+sign_mark : (before : List ℕ) (b : ℕ) (bs : List ℕ) → is_digit b ≡ false → is_letter b ≡ false → eqb b 34 ≡ false → first_sign before (b ∷ bs) ≡ mark_sign b
+unfolding first_sign
+sign_mark before b bs d l q = rw (d, l, q) refl
+
+-- a property of the first sign, by the byte's class
+by_class : (P : Sign → Type 0) (before : List ℕ) (b : ℕ) (bs : List ℕ) →
+    (is_digit b ≡ true → P (number_sign before (b ∷ bs))) → (is_digit b ≡ false → is_letter b ≡ true → P (word_sign before (b ∷ bs))) →
+    (is_digit b ≡ false → eqb b 34 ≡ true → P (name_sign bs)) → (is_digit b ≡ false → eqb b 34 ≡ false → P (mark_sign b)) → P (first_sign before (b ∷ bs))
+by_class P before b bs number word name mark = ⊎_elim
+    (λ (d : is_digit b ≡ true). rw (sign_digit before b bs d) (number d))
+    (λ (d : is_digit b ≡ false). ⊎_elim
+    (λ (l : is_letter b ≡ true). rw (sign_letter before b bs d l) (word d l))
+    (λ (l : is_letter b ≡ false). ⊎_elim
+    (λ (q : eqb b 34 ≡ true). rw (sign_quote before b bs d l q) (name d q))
+    (λ (q : eqb b 34 ≡ false). rw (sign_mark before b bs d l q) (mark d q))
+    (cases_Bool (eqb b 34)))
+    (cases_Bool (is_letter b)))
+    (cases_Bool (is_digit b))
+
+number_number : (before text : List ℕ) → is_number (Some (number_sign before text)) ≡ not (ends_in is_letter before)
+number_number before text = ⊎_elim (λ (e : ends_in is_letter before ≡ true). rw e refl) (λ (e : ends_in is_letter before ≡ false). rw e refl) (cases_Bool (ends_in is_letter before))
+
+word_number : (before text : List ℕ) → is_number (Some (word_sign before text)) ≡ false
+word_number before text = ⊎_elim (λ (e : ends_in is_digit before ≡ true). rw e refl) (λ (e : ends_in is_digit before ≡ false). rw e refl) (cases_Bool (ends_in is_digit before))
+
+name_number : (bs : List ℕ) → is_number (Some (name_sign bs)) ≡ false
+name_number bs = ⊎_elim (λ (e : is_closed bs ≡ true). rw e refl) (λ (e : is_closed bs ≡ false). rw e refl) (cases_Bool (is_closed bs))
+
+mark_number : (b : ℕ) → is_number (Some (mark_sign b)) ≡ false
+mark_number b = ⊎_elim (λ (e : eqb b 44 ≡ true). rw e refl)
+    (λ (e : eqb b 44 ≡ false). ⊎_elim (λ (f : eqb b 59 ≡ true). rw (e, f) refl) (λ (f : eqb b 59 ≡ false). rw (e, f) refl) (cases_Bool (eqb b 59)))
+    (cases_Bool (eqb b 44))
+
+-- a number comes next where a digit does, and no letter stands directly before it
+pub at_number : (before rest : List ℕ) → is_number (head_sign before rest) ≡ begins_in is_digit rest && not (ends_in is_letter before)
+at_number before [] = refl
+at_number before (b ∷ bs) = by_class (λ sign. is_number (Some sign) ≡ is_digit b && not (ends_in is_letter before)) before b bs
+    (λ d. number_number before (b ∷ bs) ∙ sym (ap (λ t. t && not (ends_in is_letter before)) d))
+    (λ d l. word_number before (b ∷ bs) ∙ sym (ap (λ t. t && not (ends_in is_letter before)) d))
+    (λ d q. name_number bs ∙ sym (ap (λ t. t && not (ends_in is_letter before)) d))
+    (λ d q. mark_number b ∙ sym (ap (λ t. t && not (ends_in is_letter before)) d))
+
+number_comma : (before text : List ℕ) → is_comma (Some (number_sign before text)) ≡ false
+number_comma before text = ⊎_elim (λ (e : ends_in is_letter before ≡ true). rw e refl) (λ (e : ends_in is_letter before ≡ false). rw e refl) (cases_Bool (ends_in is_letter before))
+
+word_comma : (before text : List ℕ) → is_comma (Some (word_sign before text)) ≡ false
+word_comma before text = ⊎_elim (λ (e : ends_in is_digit before ≡ true). rw e refl) (λ (e : ends_in is_digit before ≡ false). rw e refl) (cases_Bool (ends_in is_digit before))
+
+name_comma : (bs : List ℕ) → is_comma (Some (name_sign bs)) ≡ false
+name_comma bs = ⊎_elim (λ (e : is_closed bs ≡ true). rw e refl) (λ (e : is_closed bs ≡ false). rw e refl) (cases_Bool (is_closed bs))
+
+mark_comma : (b : ℕ) → is_comma (Some (mark_sign b)) ≡ eqb b 44
+mark_comma b = ⊎_elim (λ (e : eqb b 44 ≡ true). rw e refl)
+    (λ (e : eqb b 44 ≡ false). ⊎_elim (λ (f : eqb b 59 ≡ true). rw (e, f) refl) (λ (f : eqb b 59 ≡ false). rw (e, f) refl) (cases_Bool (eqb b 59)))
+    (cases_Bool (eqb b 44))
+
+no_comma_where : (b : ℕ) (p : ℕ → Bool) → p 44 ≡ false → p b ≡ true → eqb b 44 ≡ false
+no_comma_where b p fails passes = ⊎_elim
+    (λ (e : eqb b 44 ≡ true). let x : true ≡ false = sym passes ∙ ap p (eqb-true b 44 e) ∙ fails in cc)
+    (λ (e : eqb b 44 ≡ false). e)
+    (cases_Bool (eqb b 44))
+
+-- a comma comes next where its byte does
+pub at_comma : (before rest : List ℕ) → is_comma (head_sign before rest) ≡ begins_in (λ b. eqb b 44) rest
+at_comma before [] = refl
+at_comma before (b ∷ bs) = by_class (λ sign. is_comma (Some sign) ≡ eqb b 44) before b bs
+    (λ d. number_comma before (b ∷ bs) ∙ sym (no_comma_where b is_digit refl d))
+    (λ d l. word_comma before (b ∷ bs) ∙ sym (no_comma_where b is_letter refl l))
+    (λ d q. name_comma bs ∙ sym (no_comma_where b (λ x. eqb x 34) refl q))
+    (λ d q. mark_comma b)
+
+number_name : (before text : List ℕ) → name_of (Some (number_sign before text)) ≡ None
+number_name before text = ⊎_elim (λ (e : ends_in is_letter before ≡ true). rw e refl) (λ (e : ends_in is_letter before ≡ false). rw e refl) (cases_Bool (ends_in is_letter before))
+
+word_name : (before text : List ℕ) → name_of (Some (word_sign before text)) ≡ None
+word_name before text = ⊎_elim (λ (e : ends_in is_digit before ≡ true). rw e refl) (λ (e : ends_in is_digit before ≡ false). rw e refl) (cases_Bool (ends_in is_digit before))
+
+mark_name : (b : ℕ) → name_of (Some (mark_sign b)) ≡ None
+mark_name b = ⊎_elim (λ (e : eqb b 44 ≡ true). rw e refl)
+    (λ (e : eqb b 44 ≡ false). ⊎_elim (λ (f : eqb b 59 ≡ true). rw (e, f) refl) (λ (f : eqb b 59 ≡ false). rw (e, f) refl) (cases_Bool (eqb b 59)))
+    (cases_Bool (eqb b 44))
+
+-- no name comes next where no quote does
+pub at_no_name : (before rest : List ℕ) → begins_in (λ b. eqb b 34) rest ≡ false → name_of (head_sign before rest) ≡ None
+at_no_name before [] none = refl
+at_no_name before (b ∷ bs) none = by_class (λ sign. name_of (Some sign) ≡ None) before b bs
+    (λ d. number_name before (b ∷ bs))
+    (λ d l. word_name before (b ∷ bs))
+    (λ d q. let x : true ≡ false = sym q ∙ none in cc)
+    (λ d q. mark_name b)
