@@ -2,6 +2,7 @@ pub mod TokenLemmas
 pub mod NextSigns
 pub mod GameLemmas
 pub mod NodeLemmas
+pub mod KeptLemmas
 pub mod GameTokens
 pub mod SingleSigns
 pub mod ValueLemmas

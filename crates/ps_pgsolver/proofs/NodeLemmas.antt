@@ -1,16 +1,15 @@
 -- Nodes with a table of their ids.
-use Rattle.std.proofs.Common.{◌≡◌, ◌≢◌, ℕ, cond, List, [], ◌∷◌, ◌++◌, Option, Result, Ok, true, length, arith, length-append, sym, ap, ap₂, subst, ◌∙◌}
+use Rattle.std.proofs.Common.{◌≡◌, ◌≢◌, ℕ, List, [], ◌∷◌, ◌++◌, Option, true, length, arith, length-append, sym, subst}
 use Rattle.std.proofs.lemmas.List.{get_or_append_left}
 use Rattle.std.proofs.lemmas.List.Sums.{AllPass-from_list_all, list_all-from_AllPass}
 use Rattle.std.proofs.Math.Seq.{get_or-append_seam}
 use Rattle.ps_ids.proofs.Members.{Contains-any, any-from_Contains}
-use Rattle.std.specs.Result.{is_ok}
 use Rattle.std.specs.List.{All, AllPairs, Contains}
 use Rattle.std.proofs.lemmas.List.{map-append}
 use Rattle.std.proofs.lemmas.List.Elements.{All-push, All-map, Contains-get_or}
 use Rattle.std.proofs.lemmas.List.Quantifiers.{all_pairs_push}
 use Rattle.ps_game.specs.Games.{HasNoQuote}
-use Rattle.ps_pgsolver.specs.Nodes.{NodeData, IsNode, AreNodes, HasTable, KnowsEach, KnowsAll, knows_each, knows_all, is_member, ids_of, names_of}
+use Rattle.ps_pgsolver.specs.Nodes.{NodeData, IsNode, AreNodes, KnowsEach, KnowsAll, knows_each, knows_all, is_member, ids_of, names_of}
 
 pub ids_of-push : (nodes : List NodeData) (node : NodeData) → ids_of (nodes ++ node ∷ []) ≡ ids_of nodes ++ node.id ∷ []
 ids_of-push nodes node = map-append (λ n. n.id) nodes (node ∷ [])
@@ -23,19 +22,8 @@ AreNodes-push nodes node are new is = record {
   each = All-push IsNode nodes node are.each is;
 }
 
-pub HasTable-push : (nodes nodes' : List NodeData) (node : NodeData) (table table' : List ℕ) (id : ℕ) → HasTable nodes table →
-    nodes' ≡ nodes ++ node ∷ [] → table' ≡ table ++ id ∷ [] → id ≡ node.id → ¬ Contains (ids_of nodes) node.id → IsNode node → HasTable nodes' table'
-HasTable-push nodes nodes' node table table' id has n t i new is = record {
-  ids = t ∙ ap₂ (λ x y. x ++ y ∷ []) has.ids i ∙ sym (ids_of-push nodes node) ∙ ap ids_of (sym n);
-  well_formed = subst AreNodes (sym n) (AreNodes-push nodes node has.well_formed new is);
-}
-
 pub names_plain : (nodes : List NodeData) (names : List (Option (List ℕ))) → names ≡ names_of nodes → AreNodes nodes → All HasNoQuote names
 names_plain nodes names e are = subst (λ ns. All HasNoQuote ns) (sym e) (All-map HasNoQuote (λ n. n.name) nodes (λ k d l. (are.each k d l).name))
-
--- a push for which there is room
-pub pushed : {E : Type 0} (r : Result (Unit {0}) E) (u : Unit {0}) (new old : List NodeData) (node : NodeData) → new ≡ cond (is_ok r) (old ++ node ∷ []) old → r ≡ Ok u → new ≡ old ++ node ∷ []
-pushed r u new old node e o = e ∙ ap (λ x. cond (is_ok x) (old ++ node ∷ []) old) o
 
 -- ## All of a list with one more at its end
 
@@ -47,7 +35,7 @@ all_last P xs x h = subst P (get_or-append_seam xs x [] x) (h (length xs) x (ome
 
 -- ## The tests of what is known
 
-each_known : (ids list : List ℕ) → knows_each ids list ≡ true → KnowsEach ids list
+pub each_known : (ids list : List ℕ) → knows_each ids list ≡ true → KnowsEach ids list
 each_known ids list e k d l = Contains-any _ ids (AllPass-from_list_all (λ id. is_member ids id) list e k d l)
 
 each_tested : (ids list : List ℕ) → KnowsEach ids list → knows_each ids list ≡ true

@@ -9,5 +9,6 @@ pub mod GameTokens
 pub mod GameTexts
 pub mod Answered
 pub mod GamesOf
+pub mod Kept
 pub mod Reading
 pub mod Written

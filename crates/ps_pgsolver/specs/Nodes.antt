@@ -1,5 +1,5 @@
 -- A node of a game text, as it stands there.
-use Rattle.std.specs.Prelude.{ℕ, Bool, ◌==◌, ◌≡◌, ◌<◌, ◌≢◌, List, map, length, Option}
+use Rattle.std.specs.Prelude.{ℕ, Bool, ◌==◌, ◌<◌, ◌≢◌, List, map, length, Option}
 use Rattle.std.specs.List.{All, AllPairs, Contains, list_any, list_all}
 use Rattle.ps_game.specs.Games.{HasNoQuote}
 
@@ -33,11 +33,6 @@ IsDistinct xs = AllPairs (λ x y. x ≢ y) xs
 pub record AreNodes (nodes : List NodeData) : Type 0 where
   pub distinct : IsDistinct (ids_of nodes)
   pub each : All IsNode nodes
-
--- the same, with a table of their ids
-pub record HasTable (nodes : List NodeData) (table : List ℕ) : Type 0 where
-  pub ids : table ≡ ids_of nodes
-  pub well_formed : AreNodes nodes
 
 -- a node of an id that is none of these
 pub record IsNewNode (ids : List ℕ) (node : NodeData) : Type 0 where

@@ -1,7 +1,7 @@
-use Rattle.std.proofs.Common.{◌≡◌, Bool, false, sym, ap, ◌∙◌}
+use Rattle.std.proofs.Common.{sym, ap, ◌∙◌}
 use Rattle.std.specs.Prelude.{not, ◌&&◌}
 use Rattle.ps_text.specs.Answers.{next_of}
-use Rattle.ps_pgsolver.specs.Bytes.{is_digit, is_letter, begins_in, ends_in}
+use Rattle.ps_pgsolver.specs.Bytes.{is_letter, ends_in}
 use Rattle.ps_pgsolver.specs.Heads.{is_number}
 use Rattle.ps_pgsolver.proofs.NextSigns.{next_sign, at_number}
 use Rattle.ps_pgsolver.proofs.token.Tokens.is_at_number.Goals as goal

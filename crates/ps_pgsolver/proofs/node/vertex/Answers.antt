@@ -3,7 +3,7 @@ use Rattle.std.specs.Option.{unwrap_or}
 use Rattle.ps_pgsolver.specs.GamesOf.{place_of, vertex_made}
 use Rattle.ps_pgsolver.proofs.GameLemmas.{edge_made, places_more, vertex_made-within}
 use Rattle.ps_ids.proofs.Members.{any-from_Contains}
-use Rattle.ps_pgsolver.proofs.game.vertex.Goals as goal
+use Rattle.ps_pgsolver.proofs.node.vertex.Goals as goal
 
 pub loop-id-init : goal.loop-id-init
 loop-id-init c = (c.in_ok-vertex.ensures.ok, c.in_ok-vertex.ensures.number)
