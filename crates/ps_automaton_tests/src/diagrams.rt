@@ -19,6 +19,17 @@ fn changed(store: &mut Store) -> Result<[Option<u64>; 3], AllocError> {
     ])
 }
 
+/// What a new store makes of the leaf 2 of another one.
+fn relabelled_from(alloc: Global, store: &mut Store) -> Result<Option<u64>, AllocError> {
+    if store.propositions() != 2 {
+        return Ok(None);
+    }
+    let two = store.leaf(2)?;
+    let mut made = Store::new(alloc, 2);
+    let relabelled = made.relabel_from(store, two, &[4, 5, 6])?;
+    Ok(made.eval(relabelled, 0))
+}
+
 /// Whether the leaves 4 and 1 clash.
 fn clashes(store: &mut Store) -> Result<bool, AllocError> {
     let first = store.leaf(4)?;
@@ -42,13 +53,14 @@ fn least_letter(alloc: Global, store: &mut Store) -> Result<Option<u64>, AllocEr
 }
 
 /// How many leaves the diagram of a letter has, and how many classes its inputs have.
-fn leaves_and_classes(store: &mut Store) -> Result<(usize, usize), AllocError> {
+fn leaves_and_classes(alloc: Global, store: &mut Store) -> Result<(usize, usize), AllocError> {
     if store.propositions() != 2 {
         return Ok((0, 0));
     }
     let node = store.of_letter(3)?;
     let leaves = store.leaves(node)?.len();
-    let classes = store.classes(node, 1)?;
+    let mut made = Store::new(alloc, 2);
+    let classes = made.classes(store, node, 1)?;
     Ok((leaves, classes.list.len()))
 }
 
@@ -58,6 +70,7 @@ struct Answered {
     changed: [Option<u64>; 3],
     clashes: bool,
     least_letter: Option<u64>,
+    relabelled_from: Option<u64>,
     leaves_and_classes: (usize, usize),
     copied_propositions: u32,
 }
@@ -68,7 +81,8 @@ fn answers_of(alloc: Global, store: &mut Store) -> Result<Answered, AllocError> 
         changed: changed(store)?,
         clashes: clashes(store)?,
         least_letter: least_letter(alloc, store)?,
-        leaves_and_classes: leaves_and_classes(store)?,
+        relabelled_from: relabelled_from(alloc, store)?,
+        leaves_and_classes: leaves_and_classes(alloc, store)?,
         copied_propositions: store.copy()?.propositions(),
     })
 }
@@ -89,6 +103,7 @@ fn each_call_answers(rt: HostRuntime) -> Result<(), Fail> {
         changed: [Some(6), Some(7), Some(9)],
         clashes: true,
         least_letter: Some(2),
+        relabelled_from: Some(6),
         leaves_and_classes: (1, 2),
         copied_propositions: 2,
     };

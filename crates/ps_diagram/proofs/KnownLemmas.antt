@@ -1,5 +1,6 @@
 -- What is known stays known as the table grows, and one more is known.
-use Rattle.std.proofs.Common.{◌≡◌, ℕ, cond, eqb, Option, Some, None, ap, sym, subst, ◌∙◌, inl, inr}
+use Rattle.std.proofs.Common.{◌≡◌, ℕ, cond, eqb, Option, Some, None, refl, ap, sym, subst, ◌∙◌, inl, inr}
+use Rattle.std.specs.Option.{unwrap_or}
 use Rattle.std.proofs.lemmas.Bool.{eqb-true}
 use Rattle.ps_diagram.specs.Tree.{Tree}
 use Rattle.ps_diagram.specs.Table.{Table, IsNode, Keeps, tree_of}
@@ -13,6 +14,14 @@ keeps_trans t u v a b = record {
   held = λ node h. b.held node (a.held node h);
   same = λ node h. b.same node (a.held node h) ∙ a.same node h;
 }
+
+pub keeps_itself : (t : Table) → Keeps t t
+keeps_itself t = record { propositions = refl; held = λ node h. h; same = λ node h. refl }
+
+-- the table that is read, another one or else the one that grows
+pub read_keeps : (other : Option Table) (t u : Table) → Keeps t u → Keeps (unwrap_or other t) (unwrap_or other u)
+read_keeps None t u k = k
+read_keeps (Some s) t u k = keeps_itself s
 
 pub kept : (P : Tree → Type 0) (t u : Table) → Keeps t u → (node : ℕ) → IsNode t node → P (tree_of t node) → P (tree_of u node)
 kept P t u k node h p = subst P (sym (k.same node h)) p
@@ -28,20 +37,20 @@ pub some_nat : (x y : ℕ) → Some x ≡ Some y → x ≡ y
 unfolding nat_in
 some_nat x y e = ap nat_in e
 
-pub knows_kept : (R : Tree → Tree → Type 0) (t u : Table) (known : ℕ → Option ℕ) → Keeps t u → Knows R t known → Knows R u known
-knows_kept R t u known k h node made e =
+pub knows_kept : (R : Tree → Tree → Type 0) (s s' t t' : Table) (known : ℕ → Option ℕ) → Keeps s s' → Keeps t t' → Knows R s t known → Knows R s' t' known
+knows_kept R s s' t t' known j k h node made e =
     let r = h node made e in
-    (k.held node r.0, k.held made r.1, kept (λ x. R x (tree_of u made)) t u k node r.0 (kept (λ y. R (tree_of t node) y) t u k made r.1 r.2))
+    (j.held node r.0, k.held made r.1, kept (λ x. R x (tree_of t' made)) s s' j node r.0 (kept (λ y. R (tree_of s node) y) t t' k made r.1 r.2))
 
-pub knows_more : (R : Tree → Tree → Type 0) (t : Table) (known new : ℕ → Option ℕ) (key value : ℕ) → ((q : ℕ) → new q ≡ cond (eqb key q) (Some value) (known q)) →
-    Knows R t known → IsNode t key → IsNode t value → R (tree_of t key) (tree_of t value) → Knows R t new
-knows_more R t known new key value update h hk hv r node made e =
+pub knows_more : (R : Tree → Tree → Type 0) (s t : Table) (known new : ℕ → Option ℕ) (key value : ℕ) → ((q : ℕ) → new q ≡ cond (eqb key q) (Some value) (known q)) →
+    Knows R s t known → IsNode s key → IsNode t value → R (tree_of s key) (tree_of t value) → Knows R s t new
+knows_more R s t known new key value update h hk hv r node made e =
     elim (bool_cases (eqb key node)) [
       | inl is ↦
           let same : key ≡ node = eqb-true key node is in
           let value_is : value ≡ made = some_nat value made (sym (update node ∙ ap (λ b. cond b (Some value) (known node)) is) ∙ e) in
-          let P : ℕ → Type 0 = λ k. IsNode t k × IsNode t made × R (tree_of t k) (tree_of t made) in
-          let Q : ℕ → Type 0 = λ v. IsNode t key × IsNode t v × R (tree_of t key) (tree_of t v) in
+          let P : ℕ → Type 0 = λ k. IsNode s k × IsNode t made × R (tree_of s k) (tree_of t made) in
+          let Q : ℕ → Type 0 = λ v. IsNode s key × IsNode t v × R (tree_of s key) (tree_of t v) in
           subst P same (subst Q value_is (hk, hv, r))
       | inr isnt ↦ h node made (sym (update node ∙ ap (λ b. cond b (Some value) (known node)) isnt) ∙ e)
     ]
@@ -72,5 +81,5 @@ pairs_more R t known new x y value update h hx hy hv r a b made e =
 pub pairs_same : (R : Tree → Tree → Tree → Type 0) (t : Table) (known new : ℕ × ℕ → Option ℕ) → ((q : ℕ × ℕ) → new q ≡ known q) → KnowsPairs R t known → KnowsPairs R t new
 pairs_same R t known new e h a b made is = h a b made (sym (e (a, b)) ∙ is)
 
-pub knows_same : (R : Tree → Tree → Type 0) (t : Table) (known new : ℕ → Option ℕ) → ((q : ℕ) → new q ≡ known q) → Knows R t known → Knows R t new
-knows_same R t known new e h a made is = h a made (sym (e a) ∙ is)
+pub knows_same : (R : Tree → Tree → Type 0) (s t : Table) (known new : ℕ → Option ℕ) → ((q : ℕ) → new q ≡ known q) → Knows R s t known → Knows R s t new
+knows_same R s t known new e h a made is = h a made (sym (e a) ∙ is)

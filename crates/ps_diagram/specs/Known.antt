@@ -6,9 +6,10 @@ use Rattle.ps_diagram.specs.Leaves.{joined, AreAlike}
 use Rattle.ps_diagram.specs.Tree.{Tree, leaf_at}
 use Rattle.ps_diagram.specs.Table.{Table, IsNode, tree_of}
 
--- each known node is held, as is the one made of it, and their trees stand in the relation
-abbrev pub Knows : (Tree → Tree → Type 0) → Table → (ℕ → Option ℕ) → Type 0
-Knows R t known = (node made : ℕ) → known node ≡ Some made → IsNode t node × IsNode t made × R (tree_of t node) (tree_of t made)
+-- each known node is held in the first table, the one made of it in the second, and their trees stand in the relation
+abbrev pub Knows : (Tree → Tree → Type 0) → Table → Table → (ℕ → Option ℕ) → Type 0
+Knows R s t known =
+    (node made : ℕ) → known node ≡ Some made → IsNode s node × IsNode t made × R (tree_of s node) (tree_of t made)
 
 -- the same of pairs of nodes
 abbrev pub KnowsPairs : (Tree → Tree → Tree → Type 0) → Table → (ℕ × ℕ → Option ℕ) → Type 0

@@ -2,7 +2,7 @@
 
 ghost use Rattle.std.specs.Prelude.{◌≡◌, ◌≢◌, ℕ, ◌+◌, ◌<◌, Bool, AllPairs, IfOk, IsSome, Some, length, nat_eq};
 ghost use Rattle.indexmap.specs.IndexMap.{get};
-ghost use Rattle.ps_diagram.specs.Tree.{IsBlind, leaf_at};
+ghost use Rattle.ps_diagram.specs.Tree.{Tree, IsBlind, leaf_at};
 ghost use Rattle.ps_diagram.specs.Table.{IsNode, IsSound, Keeps, tree_of};
 ghost use Rattle.ps_diagram.specs.Known.{Knows};
 ghost use Rattle.ps_diagram.specs.Split.{IsConstant};
@@ -35,35 +35,40 @@ pub struct Classes {
 }
 
 impl Store {
-    /// The classes of the letters over the propositions of `split`: two are in one class exactly where each letter over
-    /// the others leads both to the same leaf, or both to none.
+    /// The classes of the letters over the propositions of `split`, where a node of another store leads them: two are
+    /// in one class exactly where each letter over the others leads both to the same leaf, or both to none. Their
+    /// diagrams are made in this store.
     ///
     /// # Errors
     ///
     /// Fails where a growth was refused.
-    pub fn classes(&mut self, node: Node, split: u64) -> Result<Classes, AllocError>
-        requires held { IsNode self.old node }
+    pub fn classes(&mut self, other: &Store, node: Node, split: u64) -> Result<Classes, AllocError>
+        requires held { IsNode other.now node }
+        requires letters { self.old.propositions ≡ other.now.propositions }
         ensures keeps { Keeps self.old self.new }
-        ensures classes { IfOk result (λ c. AreClasses self.new node split c.places c.list.items) }
+        ensures classes { IfOk result (λ c. AreClasses other.now self.new node split c.places c.list.items) }
     {
-        let divided = self.rests(node, split)?;
+        let _ = other.allocator();
+        let divided = self.rests(other, node, split)?;
         let leaves = self.leaves(divided)?;
         let classes = self.classes_of_leaves(divided, &leaves)?;
         Ok(classes)
     }
 
-    /// The diagram over the propositions of `split` whose leaf at a letter is the place of the node that is left there.
-    fn rests(&mut self, node: Node, split: u64) -> Result<Node, AllocError>
-        requires held { IsNode self.old node }
+    /// The diagram over the propositions of `split` whose leaf at a letter is the place of what is left there of a node
+    /// of another store.
+    fn rests(&mut self, other: &Store, node: Node, split: u64) -> Result<Node, AllocError>
+        requires held { IsNode other.now node }
+        requires letters { self.old.propositions ≡ other.now.propositions }
         ensures keeps { Keeps self.old self.new }
         ensures held { IfOk result (λ made. IsNode self.new made) }
         ensures leaf { IfOk result
-            (λ made. IsDivided self.new split (tree_of self.old node) (tree_of self.new made)) }
+            (λ made. IsDivided self.new split (tree_of other.now node) (tree_of self.new made)) }
     {
         let alloc = self.allocator();
         let mut known = IndexMap::new(alloc);
         let mut tests = IndexMap::new(alloc);
-        self.divided(node, split, &mut known, &mut tests)
+        self.divided(other, node, split, &mut known, &mut tests)
     }
 
     /// The classes of the leaves of a diagram, and the diagram with the place of each.
@@ -87,27 +92,30 @@ impl Store {
     }
 
     /// The diagram over the propositions of `split` whose leaf at a letter is the place of a node: of the one that
-    /// has, at each letter over the others, the leaf at the two together. The tables have what was made already.
+    /// has, at each letter over the others, the leaf that the other store's node has at the two together. The tables
+    /// have what was made already.
     fn divided(
         &mut self,
+        other: &Store,
         node: Node,
         split: u64,
         known: &mut IndexMap<Node, Node>,
         tests: &mut IndexMap<(u32, Node, Node), Node>,
     ) -> Result<Node, AllocError>
-        requires held { IsNode self.old node }
-        requires known { Knows (IsDivided self.old split) self.old (get nat_eq known.old) }
+        requires held { IsNode other.now node }
+        requires letters { self.old.propositions ≡ other.now.propositions }
+        requires known { Knows (IsDivided self.old split) other.now self.old (get nat_eq known.old) }
         requires tests { KnowsTests self.old (get test_eq tests.old) }
         ensures keeps { Keeps self.old self.new }
-        ensures known { Knows (IsDivided self.new split) self.new (get nat_eq known.new) }
+        ensures known { Knows (IsDivided self.new split) other.now self.new (get nat_eq known.new) }
         ensures tests { KnowsTests self.new (get test_eq tests.new) }
         ensures held { IfOk result (λ made. IsNode self.new made) }
         ensures leaf { IfOk result
-            (λ made. IsDivided self.new split (tree_of self.old node) (tree_of self.new made)) }
+            (λ made. IsDivided self.new split (tree_of other.now node) (tree_of self.new made)) }
     {
-        match self.cell(node) {
-            View::Nothing => self.intern(View::Leaf(node.place as u64)),
-            View::Leaf(_) => self.intern(View::Leaf(node.place as u64)),
+        match other.cell(node) {
+            View::Nothing => self.place_of_leaf(None),
+            View::Leaf(value) => self.place_of_leaf(Some(value)),
             View::Test {
                 proposition,
                 low,
@@ -116,14 +124,25 @@ impl Store {
                 if let Some(made) = known.get(&node) {
                     return Ok(*made);
                 }
-                let low = self.divided(low, split, known, tests)?;
-                let high = self.divided(high, split, known, tests)?;
+                let low = self.divided(other, low, split, known, tests)?;
+                let high = self.divided(other, high, split, known, tests)?;
                 let _ = self.allocator();
                 let made = self.divided_test(proposition, low, high, split, tests)?;
                 let _ = known.insert(node, made)?;
                 Ok(made)
             }
         }
+    }
+
+    /// The diagram that leads each letter to the place of the node with that leaf, or none, at each letter.
+    fn place_of_leaf(&mut self, leaf: Option<u64>) -> Result<Node, AllocError>
+        ensures keeps { Keeps self.old self.new }
+        ensures held { IfOk result (λ made. IsNode self.new made) }
+        ensures leaf { IfOk result (λ made. (mask : ℕ) (tree : Tree) → ((f : ℕ → Bool) → leaf_at tree f ≡ leaf)
+            → IsDivided self.new mask tree (tree_of self.new made)) }
+    {
+        let node = self.constant(leaf)?;
+        self.intern(View::Leaf(node.place as u64))
     }
 
     /// The same of a test, its two sides being divided.

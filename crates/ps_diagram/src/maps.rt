@@ -1,10 +1,12 @@
 //! Diagrams with their leaves changed by a rule.
 
-ghost use Rattle.std.specs.Prelude.{◌≡◌, ℕ, ◌+◌, ◌^◌, ◌<◌, Bool, Option, Some, None, IfOk, IfSome, length, nat_eq, option_map, option_and_then, unwrap_or, slice_index, is_none, cond};
+ghost use Rattle.std.specs.Prelude.{◌≡◌, ℕ, ◌+◌, ◌^◌, ◌<◌, ◌≤◌, Bool, Option, Some, None, IfOk, IfSome, length, nat_eq, option_map, option_and_then, unwrap_or, slice_index, is_none, cond};
+ghost use Rattle.std.specs.Option.{option_copied};
 ghost use Rattle.indexmap.specs.IndexMap.{get, index_of};
 ghost use Rattle.ps_diagram.specs.Tree.{leaf_at};
 ghost use Rattle.ps_diagram.specs.Table.{IsNode, Keeps, leaf_of, tree_of};
 ghost use Rattle.ps_diagram.specs.Known.{IsMapped, Knows};
+ghost use Rattle.ps_diagram.specs.Parts.{IsPart};
 
 use crate::store::Store;
 use crate::view::{Node, View};
@@ -124,7 +126,7 @@ impl Store {
         ensures leaf { IfOk result
             (λ made. (letter : ℕ) → leaf_of self.new made letter ≡ option_map (λ _. value) (leaf_of self.old node letter)) }
     {
-        self.mapped(node, &Guarded(value))
+        self.mapped(None, node, &Guarded(value))
     }
 
     /// The diagram with the node's leaves, and with that leaf wherever it has none.
@@ -139,7 +141,7 @@ impl Store {
         ensures leaf { IfOk result
             (λ made. (letter : ℕ) → leaf_of self.new made letter ≡ Some (unwrap_or (leaf_of self.old node letter) value)) }
     {
-        self.mapped(node, &Filled(value))
+        self.mapped(None, node, &Filled(value))
     }
 
     /// The diagram with `values[k]` wherever the node has the leaf k.
@@ -156,7 +158,32 @@ impl Store {
             (λ made. (letter : ℕ) → leaf_of self.new made letter ≡ option_map (λ k. slice_index values.now k) (leaf_of self.old node letter)) }
     {
         let _ = self.allocator();
-        self.mapped(node, &Relabelled(values))
+        self.mapped(None, node, &Relabelled(values))
+    }
+
+    /// The diagram with `values[k]` wherever a node of another store has the leaf k.
+    ///
+    /// # Errors
+    ///
+    /// Fails where a growth was refused.
+    pub fn relabel_from(
+        &mut self,
+        other: &Store,
+        node: Node,
+        values: &[u64],
+    ) -> Result<Node, AllocError>
+        requires held { IsNode other.now node }
+        requires few { other.now.propositions ≤ self.old.propositions }
+        requires within { (letter : ℕ) → letter < 2 ^ other.now.propositions
+            → IfSome (leaf_of other.now node letter) (λ k. k < length values.now) }
+        ensures keeps { Keeps self.old self.new }
+        ensures held { IfOk result (λ made. IsNode self.new made) }
+        ensures leaf { IfOk result
+            (λ made. (letter : ℕ) → leaf_of self.new made letter
+            ≡ option_map (λ k. slice_index values.now k) (leaf_of other.now node letter)) }
+    {
+        let _ = other.allocator();
+        self.mapped(Some(other), node, &Relabelled(values))
     }
 
     /// The diagram with 1 wherever the node has no leaf.
@@ -167,7 +194,7 @@ impl Store {
         ensures leaf { IfOk result
             (λ made. (letter : ℕ) → leaf_of self.new made letter ≡ opposite (leaf_of self.old node letter)) }
     {
-        self.mapped(node, &Negated)
+        self.mapped(None, node, &Negated)
     }
 
     /// The diagram with what the table has at the node's leaf.
@@ -182,38 +209,53 @@ impl Store {
         ensures leaf { IfOk result
             (λ made. IsMapped (λ leaf. option_and_then (λ k. get nat_eq places.now k) leaf) (tree_of self.old node) (tree_of self.new made)) }
     {
-        self.mapped(node, &Placed(places))
+        self.mapped(None, node, &Placed(places))
     }
 
-    fn mapped<R: LeafRule>(&mut self, node: Node, rule: &R) -> Result<Node, AllocError>
-        requires held { IsNode self.old node }
-        requires fits { (f : ℕ → Bool) → R.fits rule.now (leaf_at (tree_of self.old node) f) }
+    /// The diagram of a node of another store, or else of this one, with its leaves changed.
+    fn mapped<R: LeafRule>(
+        &mut self,
+        other: Option<&Store>,
+        node: Node,
+        rule: &R,
+    ) -> Result<Node, AllocError>
+        requires held { IsNode (unwrap_or (option_copied other) self.old) node }
+        requires few { (unwrap_or (option_copied other) self.old).propositions ≤ self.old.propositions }
+        requires fits { (f : ℕ → Bool)
+            → R.fits rule.now (leaf_at (tree_of (unwrap_or (option_copied other) self.old) node) f) }
         ensures keeps { Keeps self.old self.new }
         ensures held { IfOk result (λ made. IsNode self.new made) }
         ensures leaf { IfOk result
-            (λ made. IsMapped (R.rule rule.now) (tree_of self.old node) (tree_of self.new made)) }
+            (λ made. IsMapped (R.rule rule.now) (tree_of (unwrap_or (option_copied other.entry) self.old) node)
+            (tree_of self.new made)) }
     {
         let mut known = IndexMap::new(self.allocator());
-        self.mapped_by(node, rule, &mut known)
+        self.mapped_by(other, node, rule, &mut known)
     }
 
     /// The same, where the table has what was changed already.
     fn mapped_by<R: LeafRule>(
         &mut self,
+        other: Option<&Store>,
         node: Node,
         rule: &R,
         known: &mut IndexMap<Node, Node>,
     ) -> Result<Node, AllocError>
-        requires held { IsNode self.old node }
-        requires fits { (f : ℕ → Bool) → R.fits rule.now (leaf_at (tree_of self.old node) f) }
-        requires known { Knows (IsMapped (R.rule rule.now)) self.old (get nat_eq known.old) }
+        requires held { IsNode (unwrap_or (option_copied other) self.old) node }
+        requires few { (unwrap_or (option_copied other) self.old).propositions ≤ self.old.propositions }
+        requires fits { (f : ℕ → Bool)
+            → R.fits rule.now (leaf_at (tree_of (unwrap_or (option_copied other) self.old) node) f) }
+        requires known { Knows (IsMapped (R.rule rule.now)) (unwrap_or (option_copied other) self.old) self.old
+            (get nat_eq known.old) }
         ensures keeps { Keeps self.old self.new }
-        ensures known { Knows (IsMapped (R.rule rule.now)) self.new (get nat_eq known.new) }
+        ensures known { Knows (IsMapped (R.rule rule.now)) (unwrap_or (option_copied other.entry) self.new) self.new
+            (get nat_eq known.new) }
         ensures held { IfOk result (λ made. IsNode self.new made) }
         ensures leaf { IfOk result
-            (λ made. IsMapped (R.rule rule.now) (tree_of self.old node) (tree_of self.new made)) }
+            (λ made. IsMapped (R.rule rule.now) (tree_of (unwrap_or (option_copied other.entry) self.old) node)
+            (tree_of self.new made)) }
     {
-        match self.cell(node) {
+        match self.cell_of(other, node) {
             View::Nothing => self.constant(rule.changed(None)),
             View::Leaf(value) => self.constant(rule.changed(Some(value))),
             View::Test {
@@ -224,12 +266,23 @@ impl Store {
                 if let Some(changed) = known.get(&node) {
                     return Ok(*changed);
                 }
-                let low = self.mapped_by(low, rule, known)?;
-                let high = self.mapped_by(high, rule, known)?;
+                let low = self.mapped_by(other, low, rule, known)?;
+                let high = self.mapped_by(other, high, rule, known)?;
                 let changed = self.test(proposition, low, high)?;
                 let _ = known.insert(node, changed)?;
                 Ok(changed)
             }
+        }
+    }
+
+    /// The cell of a node of another store, or else of this one.
+    fn cell_of(&self, other: Option<&Store>, node: Node) -> View
+        requires held { IsNode (unwrap_or (option_copied other) self.now) node }
+        ensures part { IsPart (unwrap_or (option_copied other.entry) self.now) node result }
+    {
+        match other {
+            Some(store) => store.cell(node),
+            None => self.cell(node),
         }
     }
 

@@ -49,6 +49,7 @@ impl Store {
     pub fn propositions(&self) -> u32
         ensures value { result ≡ self.now.propositions }
         ensures few { result ≤ 64 }
+        ensures sound { IsSound self.now }
     {
         self.propositions
     }

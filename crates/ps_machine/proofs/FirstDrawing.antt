@@ -12,16 +12,18 @@ use Rattle.indexmap.specs.IndexSet.{insert_key}
 use Rattle.ps_game.specs.Games.{owner_of}
 use Rattle.ps_certificate.specs.Certificates.{CertificateData, choice_of}
 use Rattle.ps_diagram.specs.Letters.{letter_of, AgreeOn, AgreeOff}
-use Rattle.ps_diagram.specs.Table.{Table, IsNode, Keeps, leaf_of}
+use Rattle.ps_diagram.specs.Table.{Table, IsNode, leaf_of}
 use Rattle.ps_diagram.specs.Reached.{AreLeaves}
 use Rattle.ps_diagram.specs.Classes.{AreClasses}
 use Rattle.ps_diagram.specs.declared.classes.Class.{Class}
+use Rattle.ps_diagram.specs.declared.classes.Classes.{Classes}
 use Rattle.ps_diagram.proofs.KnownLemmas.{some_nat}
 use Rattle.ps_diagram.proofs.Letters.{letter_lt, letter_is, no_bit}
 use Rattle.ps_automaton.specs.Automata.{AutomatonData, node_of, pair_of, step_of}
 use Rattle.ps_automaton.specs.declared.step.Step.{Step}
 use Rattle.ps_machine.specs.Boards.{Board, IsSecondLetter, IsClass}
 use Rattle.ps_machine.specs.BuiltBoards.{board_of}
+use Rattle.ps_machine.specs.Dividing.{AreClassesOf}
 use Rattle.ps_machine.specs.Drawing.{IsPlan, IsRow, KeepsRows, IsDrawn, LeadsToRow}
 use Rattle.ps_machine.specs.Placing.{IsEntered, IsPlaced, PlaysClass}
 use Rattle.ps_machine.specs.Extracting.{IsUsed, StandsFor}
@@ -33,9 +35,8 @@ use Rattle.ps_machine.specs.declared.key.Key.{Key}
 use Rattle.ps_machine.specs.declared.key.Key.TheVariants.{First, Second}
 use Rattle.ps_machine.specs.declared.key.Order.{Order}
 use Rattle.ps_machine.specs.declared.machine.Row.{Row}
-use Rattle.ps_machine.proofs.BoardSteps.{heeds, leaf_kept, below_back, some_of, class_there, class_rest, move_is, move_leaf, leaf_within}
-use Rattle.ps_machine.proofs.DrawingLemmas.{setting, kept_at, kept_used, used_state, not_both, keeps_rows, keeps_rows_same, keeps_rows_trans, all_rows, move_at, class_at, to_pair_of, used_more}
-use Rattle.ps_machine.proofs.Remembering.{fit_kept}
+use Rattle.ps_machine.proofs.BoardSteps.{heeds, below_back, some_of, class_there, class_rest, move_is, move_leaf, leaf_within}
+use Rattle.ps_machine.proofs.DrawingLemmas.{setting, kept_at, kept_used, not_both, keeps_rows, keeps_rows_same, keeps_rows_trans, all_rows, move_at, class_at, to_pair_of, used_more}
 use Rattle.ps_machine.proofs.Rounds.{within_game, first_owner, second_owner}
 
 -- ## The rest of a class
@@ -87,7 +88,7 @@ pub Heeds : Order → AutomatonData → Table → ℕ → Type 0
 Heeds order a t rest =
     (x y : ℕ) → ((p : ℕ) → p < length a.names → (board_of order a).is_first p ≡ false → is_in p x ≡ is_in p y) → leaf_of t rest x ≡ leaf_of t rest y
 
-module _ (order : Order) (a : AutomatonData) (mask : ℕ) (t : Table) (q places : ℕ) (list : List Class) (f : IsFit order a mask t) (h : q ≤ a.states) (are : AreClasses t (node_of a q) mask places list) where
+module _ (order : Order) (a : AutomatonData) (mask : ℕ) (t : Table) (q places : ℕ) (list : List Class) (f : IsFit order a mask t) (h : q ≤ a.states) (are : AreClasses a.store t (node_of a q) mask places list) where
   class_heeds : (k : ℕ) (c : Class) → slice_get list k ≡ Some c → Heeds order a t c.rest
   unfolding Heeds
   class_heeds k c at x y alike = to x ∙ heeds order a mask t q (like x) (like y) f h same ∙ sym (to y)
@@ -101,7 +102,7 @@ module _ (order : Order) (a : AutomatonData) (mask : ℕ) (t : Table) (q places 
       to : (u : ℕ) → leaf_of t c.rest u ≡ leaf_of a.store (node_of a q) (like u)
       to u =
           let is = are.each k c at in
-          is.others u (like u) (joint_off (length a.names) mask c.letter f.is_mask.within u) ∙ is.shared (like u) (there u) ∙ leaf_kept order a mask t q (like u) f h
+          is.others u (like u) (joint_off (length a.names) mask c.letter f.is_mask.within u) ∙ is.shared (like u) (there u)
 
       same : (p : ℕ) → p < length a.names → is_in p (like x) ≡ is_in p (like y)
       same p lt = joint_same (length a.names) mask c.letter f.is_mask.within x y p (λ off. alike p lt (sym (f.is_mask.is p lt) ∙ off))
@@ -112,7 +113,7 @@ pub record Left (order : Order) (a : AutomatonData) (mask : ℕ) (t : Table) (q 
   pub is_rest : IsRest order a mask t q letter rest
   pub heeds_second : Heeds order a t rest
 
-pub left : (order : Order) (a : AutomatonData) (mask : ℕ) (t : Table) (q places : ℕ) (list : List Class) (letter rest : ℕ) → IsFit order a mask t → q ≤ a.states → AreClasses t (node_of a q) mask places list →
+pub left : (order : Order) (a : AutomatonData) (mask : ℕ) (t : Table) (q places : ℕ) (list : List Class) (letter rest : ℕ) → IsFit order a mask t → q ≤ a.states → AreClasses a.store t (node_of a q) mask places list →
     Any (λ (c : Class). (c.letter ≡ letter) × (c.rest ≡ rest)) list → Left order a mask t q letter rest
 left order a mask t q places list letter rest f h are any =
     let c : Class = any.1 in
@@ -124,17 +125,14 @@ left order a mask t q places list letter rest f h are any =
       heeds_second = subst (λ n. Heeds order a t n) any.4.1 (class_heeds order a mask t q places list f h are any.0 c at);
     }
 
--- the store and the places, by other names
-pub renamed : (t w u : Table) (places values : List ℕ) (rest made : ℕ) → w ≡ t → values ≡ places → ((x : ℕ) → leaf_of u made x ≡ option_map (λ k. slice_index values k) (leaf_of w rest x)) →
+-- the places by another name
+pub renamed : (t u : Table) (places values : List ℕ) (rest made : ℕ) → values ≡ places → ((x : ℕ) → leaf_of u made x ≡ option_map (λ k. slice_index values k) (leaf_of t rest x)) →
     (x : ℕ) → leaf_of u made x ≡ option_map (λ k. slice_index places k) (leaf_of t rest x)
-renamed t w u places values rest made store same named x =
-    named x ∙ ap (λ (l : List ℕ). option_map (λ k. slice_index l k) (leaf_of w rest x)) same ∙ ap (λ (v : Table). option_map (λ k. slice_index places k) (leaf_of v rest x)) store
+renamed t u places values rest made same named x = named x ∙ ap (λ (l : List ℕ). option_map (λ k. slice_index l k) (leaf_of t rest x)) same
 
-pub renamed_within : (t w : Table) (places values : List ℕ) (rest : ℕ) → w ≡ t → values ≡ places → ((x : ℕ) → x < 2 ^ t.propositions → IfSome (leaf_of t rest x) (λ k. k < length places)) →
-    (x : ℕ) → x < 2 ^ w.propositions → IfSome (leaf_of w rest x) (λ k. k < length values)
-renamed_within t w places values rest store same within =
-    subst (λ (v : Table). (x : ℕ) → x < 2 ^ v.propositions → IfSome (leaf_of v rest x) (λ k. k < length values)) (sym store)
-    (subst (λ (l : List ℕ). (x : ℕ) → x < 2 ^ t.propositions → IfSome (leaf_of t rest x) (λ k. k < length l)) (sym same) within)
+pub renamed_within : (t : Table) (places values : List ℕ) (rest : ℕ) → values ≡ places → ((x : ℕ) → x < 2 ^ t.propositions → IfSome (leaf_of t rest x) (λ k. k < length places)) →
+    (x : ℕ) → x < 2 ^ t.propositions → IfSome (leaf_of t rest x) (λ k. k < length values)
+renamed_within t places values rest same within = subst (λ (l : List ℕ). (x : ℕ) → x < 2 ^ t.propositions → IfSome (leaf_of t rest x) (λ k. k < length l)) (sym same) within
 
 -- a class of the list
 pub any_class : (list : List Class) (letter : ℕ) (c : Class) → c.letter ≡ letter → (k : ℕ) → k < length list → ((d : Class) → get_or list k d ≡ c) → Any (λ (d : Class). (d.letter ≡ letter) × (d.rest ≡ c.rest)) list
@@ -281,20 +279,13 @@ module _ (order : Order) (a : AutomatonData) (keys : List Key) (certificate : Ce
       } in
       subst (λ (x : ℕ × ℕ). IsEntered order a keys certificate is_first kept marks x.0) (get_or_default found k (0, 0) d within) item
 
-  -- the classes of the state that were made have that of the move
-  module _ (mask : ℕ) (s t : Table) (v q p node places : ℕ) (list l : List Class) (letter : ℕ) (is_kept : Contains kept v) (at : StandsAt keys v (First q p)) (plays : PlaysClass (board_of order a) keys certificate v q letter)
-      (fit : IsFit order a mask s) (keeps : Keeps s t) (is_node : node ≡ node_of a q) (are : AreClasses t node mask places list) (same : l ≡ list) where
-    pub class_listed : Any (λ (c : Class). c.letter ≡ letter) l
-    class_listed =
-        let small = used_state order a keys certificate is_first kept marks plan fit.whole v q p (kept_used order a keys certificate is_first kept marks plan v is_kept) at in
-        let here = subst (λ n. AreClasses t n mask places list) is_node are in
-        subst (λ (cs : List Class). Any (λ (c : Class). c.letter ≡ letter) cs) (sym same) (class_there order a mask t q places list (fit_kept order a mask s t keeps fit) small here letter plays.is_class)
+  -- the classes of the state have that of the move
+  module _ (mask : ℕ) (t : Table) (v q : ℕ) (c : Classes) (l : List Class) (letter : ℕ) (plays : PlaysClass (board_of order a) keys certificate v q letter) (fit : IsFit order a mask t) (of : AreClassesOf a mask t q c) (same : l ≡ c.list.items) where
+    pub class_listed : Any (λ (k : Class). k.letter ≡ letter) l
+    class_listed = subst (λ (cs : List Class). Any (λ (k : Class). k.letter ≡ letter) cs) (sym same) (class_there order a mask t q c.places c.list.items fit of.state of.are letter plays.is_class)
 
-    pub left_behind : (rest : ℕ) → Any (λ (c : Class). (c.letter ≡ letter) × (c.rest ≡ rest)) l → Left order a mask t q letter rest
-    left_behind rest any =
-        let small = used_state order a keys certificate is_first kept marks plan fit.whole v q p (kept_used order a keys certificate is_first kept marks plan v is_kept) at in
-        let here = subst (λ n. AreClasses t n mask places list) is_node are in
-        left order a mask t q places list letter rest (fit_kept order a mask s t keeps fit) small here (subst (λ (cs : List Class). Any (λ (c : Class). (c.letter ≡ letter) × (c.rest ≡ rest)) cs) same any)
+    pub left_behind : (rest : ℕ) → Any (λ (k : Class). (k.letter ≡ letter) × (k.rest ≡ rest)) l → Left order a mask t q letter rest
+    left_behind rest any = left order a mask t q c.places c.list.items letter rest fit of.state of.are (subst (λ (cs : List Class). Any (λ (k : Class). (k.letter ≡ letter) × (k.rest ≡ rest)) cs) same any)
 
   module _ (mask : ℕ) (t : Table) (v q p letter rest : ℕ) (found : List (ℕ × ℕ)) (rows : List Row) (places : List ℕ) (is_kept : Contains kept v) (at : StandsAt keys v (First q p)) (plays : PlaysClass (board_of order a) keys certificate v q letter)
       (l : Left order a mask t q letter rest) (are : AreLeaves t rest found) (placed : All (λ leaf. IsPlaced a keys is_first kept rows places letter leaf.0) found) where

@@ -3,14 +3,15 @@
 ghost use Rattle.std.specs.Prelude.{◌≡◌, ◌≢◌, ℕ, ◌<◌, true, false, Any, IfOk, OnOk, Some, length, slice_get};
 ghost use Rattle.std.specs.List.{All, Contains};
 ghost use Rattle.ps_diagram.specs.Table.{Keeps};
-ghost use Rattle.ps_machine.specs.BuiltBoards.{board_of};
-ghost use Rattle.ps_machine.specs.Drawing.{CanEnter, IsDrawn, IsOwn, IsPlan, IsRow, KeepsRows};
+ghost use Rattle.ps_machine.specs.Drawing.{IsOwn, KeepsRows};
 ghost use Rattle.ps_machine.specs.Extracting.{StandsFor};
-ghost use Rattle.ps_machine.specs.Moving.{IsFit};
 ghost use Rattle.ps_machine.specs.Numbering.{StandsAt};
-ghost use Rattle.ps_machine.specs.Placing.{IsEntered, IsPlaced, PlaysClass};
+ghost use Rattle.ps_machine.specs.Placing.{PlaysClass};
+ghost use Rattle.ps_machine.specs.Planning.{AreDividedBy, AreRowsBy, CanEnterBy, IsDrawnBy, IsEnteredBy};
+ghost use Rattle.ps_machine.specs.Planning.{IsPlacedBy, IsPlanned, board_by};
 ghost use Rattle.ps_machine.specs.declared.key.Key.TheVariants.{First};
 
+use crate::divided::Divided;
 use crate::key::{Key, Order};
 use crate::machine::Row;
 use crate::memories::{Memories, mark};
@@ -31,6 +32,8 @@ pub(crate) struct Plan<'a> {
     pub automaton: &'a Automaton,
     /// What each vertex of its game stands for.
     pub keys: &'a IndexSet<Key>,
+    /// The classes of their states.
+    pub divided: &'a Divided,
     /// Who wins each of them, by which moves.
     pub certificate: &'a Certificate,
     /// Whether the winner of vertex 0 moves first.
@@ -43,9 +46,7 @@ pub(crate) struct Plan<'a> {
 /// names.
 #[derive(Drop)]
 pub(crate) struct Drawing {
-    /// The propositions of the player who moves first.
-    pub mask: u64,
-    /// The automaton's diagrams, and those that were made of them.
+    /// The diagrams.
     pub store: Store,
     /// The rows, each at the place that its leaves have.
     pub rows: IndexSet<Row>,
@@ -56,7 +57,7 @@ pub(crate) struct Drawing {
 impl Plan<'_> {
     /// The memory in which the machine is behind a step of the automaton, to that state by an edge of that priority.
     pub fn memory_behind(&self, state: u32, priority: u64) -> usize
-        requires { CanEnter self.now.order self.now.automaton.now self.now.keys.now.keys self.now.certificate.now self.now.moves_first self.now.memories.now.kept.items self.now.memories.now.marks.keys state priority }
+        requires { CanEnterBy self.now state priority }
         ensures within { result < length self.now.memories.now.kept.items }
         ensures stands { (v : ℕ) → StandsAt self.now.keys.now.keys v (First state priority) → StandsFor self.now.moves_first self.now.keys.now.keys self.now.memories.now.kept.items result v state }
     {
@@ -69,10 +70,11 @@ impl Plan<'_> {
     /// The letter that a player who moves first plays at the vertex of a memory: that of the class to which its move
     /// leads.
     fn letter_at(&self, vertex: usize) -> u64
-        requires plan { IsPlan self.now.order self.now.automaton.now self.now.keys.now.keys self.now.certificate.now self.now.moves_first self.now.memories.now.kept.items self.now.memories.now.marks.keys }
+        requires plan { IsPlanned self.now }
         requires kept { Contains self.now.memories.now.kept.items vertex }
         requires turn { self.now.moves_first ≡ true }
-        ensures { (q p : ℕ) → StandsAt self.now.keys.now.keys vertex (First q p) → PlaysClass (board_of self.now.order self.now.automaton.now) self.now.keys.now.keys self.now.certificate.now vertex q result }
+        ensures { (q p : ℕ) → StandsAt self.now.keys.now.keys vertex (First q p)
+            → PlaysClass (board_by self.now) self.now.keys.now.keys self.now.certificate.now vertex q result }
     {
         let chosen = self.certificate.choice(vertex).unwrap();
         match self.keys.as_slice()[chosen] {
@@ -94,15 +96,15 @@ impl Drawing {
         plan: &Plan<'_>,
         vertex: usize,
     ) -> Result<Node, AllocError>
-        requires plan { IsPlan plan.now.order plan.now.automaton.now plan.now.keys.now.keys plan.now.certificate.now plan.now.moves_first plan.now.memories.now.kept.items plan.now.memories.now.marks.keys }
+        requires plan { IsPlanned plan.now }
         requires kept { Contains plan.now.memories.now.kept.items vertex }
-        requires fit { IsFit plan.now.order plan.now.automaton.now self.old.mask self.old.store }
-        requires rows { All (IsRow plan.now.moves_first (board_of plan.now.order plan.now.automaton.now) plan.now.memories.now.kept.items) self.old.rows.keys }
-        ensures mask { self.new.mask ≡ self.old.mask }
+        requires divided { AreDividedBy plan.now }
+        requires letters { plan.now.divided.now.store.propositions ≡ self.old.store.propositions }
+        requires rows { AreRowsBy plan.now self.old.rows.keys }
         ensures keeps { Keeps self.old.store self.new.store }
         ensures same_rows { KeepsRows self.old.rows.keys self.new.rows.keys }
-        ensures rows { All (IsRow plan.now.moves_first (board_of plan.now.order plan.now.automaton.now) plan.now.memories.now.kept.items) self.new.rows.keys }
-        ensures drawn { IfOk result (λ node. IsDrawn plan.now.moves_first (board_of plan.now.order plan.now.automaton.now) plan.now.keys.now.keys plan.now.memories.now.kept.items plan.now.certificate.now self.new.store self.new.rows.keys vertex node) }
+        ensures rows { AreRowsBy plan.now self.new.rows.keys }
+        ensures drawn { IfOk result (λ node. IsDrawnBy plan.now self.new.store self.new.rows.keys vertex node) }
     {
         match plan.keys.as_slice()[vertex] {
             Key::First { state, .. } => if plan.moves_first {
@@ -117,25 +119,24 @@ impl Drawing {
     /// The diagram of the memory of a player who moves first: the rest of the class to which its move leads, with its
     /// rows.
     fn first_node(&mut self, plan: &Plan<'_>, vertex: usize, state: u32) -> Result<Node, AllocError>
-        requires plan { IsPlan plan.now.order plan.now.automaton.now plan.now.keys.now.keys plan.now.certificate.now plan.now.moves_first plan.now.memories.now.kept.items plan.now.memories.now.marks.keys }
+        requires plan { IsPlanned plan.now }
         requires kept { Contains plan.now.memories.now.kept.items vertex }
         requires turn { plan.now.moves_first ≡ true }
         requires stands { (p : ℕ) × StandsAt plan.now.keys.now.keys vertex (First state p) }
-        requires fit { IsFit plan.now.order plan.now.automaton.now self.old.mask self.old.store }
-        requires rows { All (IsRow plan.now.moves_first (board_of plan.now.order plan.now.automaton.now) plan.now.memories.now.kept.items) self.old.rows.keys }
-        ensures mask { self.new.mask ≡ self.old.mask }
+        requires divided { AreDividedBy plan.now }
+        requires letters { plan.now.divided.now.store.propositions ≡ self.old.store.propositions }
+        requires rows { AreRowsBy plan.now self.old.rows.keys }
         ensures keeps { Keeps self.old.store self.new.store }
         ensures same_rows { KeepsRows self.old.rows.keys self.new.rows.keys }
-        ensures rows { All (IsRow plan.now.moves_first (board_of plan.now.order plan.now.automaton.now) plan.now.memories.now.kept.items) self.new.rows.keys }
-        ensures drawn { IfOk result (λ node. IsDrawn plan.now.moves_first (board_of plan.now.order plan.now.automaton.now) plan.now.keys.now.keys plan.now.memories.now.kept.items plan.now.certificate.now self.new.store self.new.rows.keys vertex node) }
+        ensures rows { AreRowsBy plan.now self.new.rows.keys }
+        ensures drawn { IfOk result (λ node. IsDrawnBy plan.now self.new.store self.new.rows.keys vertex node) }
     {
         let letter = plan.letter_at(vertex);
-        let node = plan.automaton.node(state);
-        let classes = self.store.classes(node, self.mask)?.list;
-        let rest = rest_of(&classes, letter);
-        let leaves = self.store.leaves(rest)?;
+        let rest = rest_of(&plan.divided.of(state).list, letter);
+        let leaves = plan.divided.store.leaves(rest)?;
         self.place_rows(plan, letter, &leaves)?;
-        self.store.relabel(rest, &self.places)
+        self.store
+            .relabel_from(&plan.divided.store, rest, &self.places)
     }
 
     /// Notes the places of the rows of leaves, where that letter is played.
@@ -145,14 +146,14 @@ impl Drawing {
         letter: u64,
         leaves: &[(u64, u64)],
     ) -> Result<(), AllocError>
-        requires entered { All (λ leaf. IsEntered plan.now.order plan.now.automaton.now plan.now.keys.now.keys plan.now.certificate.now plan.now.moves_first plan.now.memories.now.kept.items plan.now.memories.now.marks.keys leaf.0) leaves.now }
-        requires own { IsOwn plan.now.moves_first (board_of plan.now.order plan.now.automaton.now) letter }
-        requires rows { All (IsRow plan.now.moves_first (board_of plan.now.order plan.now.automaton.now) plan.now.memories.now.kept.items) self.old.rows.keys }
-        ensures mask { self.new.mask ≡ self.old.mask }
+        requires entered { All (λ leaf. IsEnteredBy plan.now leaf.0) leaves.now }
+        requires own { IsOwn plan.now.moves_first (board_by plan.now) letter }
+        requires rows { AreRowsBy plan.now self.old.rows.keys }
         ensures store { self.new.store ≡ self.old.store }
         ensures same_rows { KeepsRows self.old.rows.keys self.new.rows.keys }
-        ensures rows { All (IsRow plan.now.moves_first (board_of plan.now.order plan.now.automaton.now) plan.now.memories.now.kept.items) self.new.rows.keys }
-        ensures placed { OnOk result (All (λ leaf. IsPlaced plan.now.automaton.now plan.now.keys.now.keys plan.now.moves_first plan.now.memories.now.kept.items self.new.rows.keys self.new.places.items letter leaf.0) leaves.now) }
+        ensures rows { AreRowsBy plan.now self.new.rows.keys }
+        ensures placed { OnOk result
+            (All (λ leaf. IsPlacedBy plan.now self.new.rows.keys self.new.places.items letter leaf.0) leaves.now) }
     {
         for (leaf, _) in leaves {
             let step = plan.automaton.pair(*leaf);

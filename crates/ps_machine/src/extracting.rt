@@ -1,7 +1,6 @@
 //! The machine of a certificate.
 
 ghost use Rattle.std.specs.Prelude.{◌≡◌, ◌<◌, ◌≤◌, ℕ, List, IfOk, OnOk, length, map};
-ghost use Rattle.std.specs.List.{All};
 ghost use Rattle.ps_automaton.specs.Automata.{IsBuiltFrom};
 ghost use Rattle.ps_automaton.specs.Chains.{Chain};
 ghost use Rattle.ps_certificate.specs.Certificates.{Fits, IsValid};
@@ -9,15 +8,16 @@ ghost use Rattle.ps_game.specs.Games.{ParityGame, vertex_count};
 ghost use Rattle.ps_hoa.specs.Files.{FileData};
 ghost use Rattle.ps_hoa.specs.Memory.{bytes_of};
 ghost use Rattle.ps_hoa.specs.Sound.{AreNames};
-ghost use Rattle.ps_machine.specs.Assembling.{AreDrawn, HasRoles};
+ghost use Rattle.ps_machine.specs.Assembling.{HasRoles};
 ghost use Rattle.ps_machine.specs.Behaviours.{LassosWon};
 ghost use Rattle.ps_machine.specs.Boards.{IsGameOf};
 ghost use Rattle.ps_machine.specs.BuiltBoards.{board_of};
-ghost use Rattle.ps_machine.specs.Drawing.{AreMemories, AreUsed, IsPlan, IsRow};
+ghost use Rattle.ps_machine.specs.Dividing.{HasClasses};
+ghost use Rattle.ps_machine.specs.Drawing.{AreMemories, AreUsed};
 ghost use Rattle.ps_machine.specs.Extracting.{HasPropositions, IsMachineOf};
 ghost use Rattle.ps_machine.specs.Keys.{mover_of};
 ghost use Rattle.ps_machine.specs.Machines.{behaviour};
-ghost use Rattle.ps_machine.specs.Moving.{IsFit};
+ghost use Rattle.ps_machine.specs.Planning.{AreDividedBy, AreDrawnBy, AreRowsBy, IsPlanned, board_by};
 ghost use Rattle.ps_machine.specs.declared.key.Key.{Key};
 
 use crate::drawing::{Drawing, Plan};
@@ -25,12 +25,12 @@ use crate::game::AutomatonGame;
 use crate::key::{Key, Order};
 use crate::machine::{Diagrams, Machine, Propositions};
 use crate::memories::{Memories, remembered};
-use crate::moves::{first_mask, is_first};
+use crate::moves::is_first;
 use crate::used::used_vertices;
 use indexmap::IndexSet;
 use ps_automaton::Automaton;
 use ps_certificate::Certificate;
-use ps_diagram::Node;
+use ps_diagram::{Node, Store};
 use ps_game::{Game, NamedGame};
 use std::alloc::{AllocError, Global};
 
@@ -74,6 +74,7 @@ pub fn machine_of_certificate(
     certificate: &Certificate,
 ) -> Result<Machine, AllocError>
     requires game { IsGameOf (board_of order automaton.now) (mover_of order) game.now.keys.keys game.now.game.game }
+    requires classes { HasClasses order automaton.now game.now }
     requires fits { Fits game.now.game.game certificate.now }
     requires valid { IsValid game.now.game.game certificate.now }
     ensures machine { IfOk result (λ m. IsMachineOf (board_of order automaton.now) (mover_of order) game.now.keys.keys game.now.game.game certificate.now (behaviour m)) }
@@ -92,6 +93,7 @@ pub fn machine_of_certificate(
         order,
         automaton,
         keys: &game.keys,
+        divided: &game.divided,
         certificate,
         moves_first,
         memories: &memories,
@@ -118,10 +120,14 @@ fn memories_of(
 
 /// The machine that a plan describes.
 fn machine_by(alloc: Global, plan: &Plan<'_>) -> Result<Machine, AllocError>
-    requires { IsPlan plan.now.order plan.now.automaton.now plan.now.keys.now.keys plan.now.certificate.now plan.now.moves_first plan.now.memories.now.kept.items plan.now.memories.now.marks.keys }
-    ensures machine { IfOk result (λ m. (game : ParityGame) → IsGameOf (board_of plan.now.order plan.now.automaton.now) (mover_of plan.now.order) plan.now.keys.now.keys game →
-        IsMachineOf (board_of plan.now.order plan.now.automaton.now) (mover_of plan.now.order) plan.now.keys.now.keys game plan.now.certificate.now (behaviour m)) }
-    ensures propositions { IfOk result (λ m. HasPropositions plan.now.automaton.now.names (board_of plan.now.order plan.now.automaton.now) (behaviour m)) }
+    requires plan { IsPlanned plan.now }
+    requires divided { AreDividedBy plan.now }
+    ensures machine { IfOk result (λ m. (game : ParityGame)
+        → IsGameOf (board_by plan.now) (mover_of plan.now.order) plan.now.keys.now.keys game
+        → IsMachineOf (board_by plan.now) (mover_of plan.now.order) plan.now.keys.now.keys game plan.now.certificate.now
+        (behaviour m)) }
+    ensures propositions { IfOk result
+        (λ m. HasPropositions plan.now.automaton.now.names (board_by plan.now) (behaviour m)) }
     ensures won { IfOk result (λ m. (file : FileData) (chain : Chain) → IsBuiltFrom file chain plan.now.automaton.now → LassosWon file (behaviour m)) }
 {
     let diagrams = draw(alloc, plan)?;
@@ -132,13 +138,14 @@ fn machine_by(alloc: Global, plan: &Plan<'_>) -> Result<Machine, AllocError>
 
 /// The diagrams of all memories, and their rows.
 fn draw(alloc: Global, plan: &Plan<'_>) -> Result<Diagrams, AllocError>
-    requires { IsPlan plan.now.order plan.now.automaton.now plan.now.keys.now.keys plan.now.certificate.now plan.now.moves_first plan.now.memories.now.kept.items plan.now.memories.now.marks.keys }
+    requires plan { IsPlanned plan.now }
+    requires divided { AreDividedBy plan.now }
     ensures letters { IfOk result (λ made. made.store.propositions ≡ length plan.now.automaton.now.names) }
-    ensures drawn { IfOk result (λ made. AreDrawn plan.now.moves_first (board_of plan.now.order plan.now.automaton.now) plan.now.keys.now.keys plan.now.memories.now.kept.items plan.now.certificate.now made.store made.rows.keys made.nodes.items (length plan.now.memories.now.kept.items)) }
+    ensures drawn { IfOk result (λ made. AreDrawnBy plan.now made.store made.rows.keys made.nodes.items
+        (length plan.now.memories.now.kept.items)) }
 {
     let mut drawing = Drawing {
-        mask: first_mask(plan.automaton, plan.order),
-        store: plan.automaton.store().copy()?,
+        store: Store::new(alloc, plan.divided.store.propositions()),
         rows: IndexSet::new(alloc),
         places: Vec::new(alloc),
     };
@@ -152,11 +159,13 @@ fn draw(alloc: Global, plan: &Plan<'_>) -> Result<Diagrams, AllocError>
 
 /// Draws the diagrams of all memories.
 fn nodes_of(alloc: Global, plan: &Plan<'_>, drawing: &mut Drawing) -> Result<Vec<Node>, AllocError>
-    requires plan { IsPlan plan.now.order plan.now.automaton.now plan.now.keys.now.keys plan.now.certificate.now plan.now.moves_first plan.now.memories.now.kept.items plan.now.memories.now.marks.keys }
-    requires fit { IsFit plan.now.order plan.now.automaton.now drawing.old.mask drawing.old.store }
-    requires rows { All (IsRow plan.now.moves_first (board_of plan.now.order plan.now.automaton.now) plan.now.memories.now.kept.items) drawing.old.rows.keys }
-    ensures fit { OnOk result (IsFit plan.now.order plan.now.automaton.now drawing.new.mask drawing.new.store) }
-    ensures drawn { IfOk result (λ nodes. AreDrawn plan.now.moves_first (board_of plan.now.order plan.now.automaton.now) plan.now.keys.now.keys plan.now.memories.now.kept.items plan.now.certificate.now drawing.new.store drawing.new.rows.keys nodes.items (length plan.now.memories.now.kept.items)) }
+    requires plan { IsPlanned plan.now }
+    requires divided { AreDividedBy plan.now }
+    requires letters { plan.now.divided.now.store.propositions ≡ drawing.old.store.propositions }
+    requires rows { AreRowsBy plan.now drawing.old.rows.keys }
+    ensures letters { OnOk result (drawing.new.store.propositions ≡ drawing.old.store.propositions) }
+    ensures drawn { IfOk result (λ nodes. AreDrawnBy plan.now drawing.new.store drawing.new.rows.keys nodes.items
+        (length plan.now.memories.now.kept.items)) }
 {
     let mut nodes = Vec::new(alloc);
     for vertex in &plan.memories.kept {

@@ -25,6 +25,7 @@
 #![tactic(auto)]
 
 mod built_in;
+mod divided;
 mod drawing;
 mod extracting;
 mod fault;

@@ -5,10 +5,10 @@ ghost use Rattle.std.specs.List.{All, AllZip, Contains};
 ghost use Rattle.ps_automaton.specs.Automata.{pair_of};
 ghost use Rattle.ps_diagram.specs.Table.{Keeps};
 ghost use Rattle.ps_machine.specs.Boards.{IsClass};
-ghost use Rattle.ps_machine.specs.BuiltBoards.{board_of};
-ghost use Rattle.ps_machine.specs.Drawing.{CanEnter, IsAnswer, IsDrawn, IsPlan, IsReply, IsRow, KeepsRows, NamesAnswer};
-ghost use Rattle.ps_machine.specs.Moving.{IsFit, IsRest};
+ghost use Rattle.ps_machine.specs.Drawing.{IsReply, KeepsRows};
 ghost use Rattle.ps_machine.specs.Numbering.{StandsAt};
+ghost use Rattle.ps_machine.specs.Planning.{AreDividedBy, AreRowsBy, CanEnterBy, IsAnswerBy, IsDrawnBy};
+ghost use Rattle.ps_machine.specs.Planning.{IsPlanned, IsRestBy, NamesAnswerBy, board_by};
 ghost use Rattle.ps_machine.specs.declared.key.Key.TheVariants.{First};
 
 use crate::drawing::{Drawing, Plan};
@@ -22,10 +22,11 @@ impl Plan<'_> {
     /// The step to which the move of a winner who moves second leads, behind the least letter of a class.
     fn reply(&self, state: u32, letter: u64) -> Step
         requires turn { self.now.moves_first ≡ false }
-        requires entered { (p : ℕ) × CanEnter self.now.order self.now.automaton.now self.now.keys.now.keys self.now.certificate.now self.now.moves_first self.now.memories.now.kept.items self.now.memories.now.marks.keys state p }
-        requires class { IsClass (board_of self.now.order self.now.automaton.now) state letter }
-        ensures reply { IsReply (board_of self.now.order self.now.automaton.now) self.now.keys.now.keys self.now.certificate.now state letter result.state result.priority }
-        ensures enters { CanEnter self.now.order self.now.automaton.now self.now.keys.now.keys self.now.certificate.now self.now.moves_first self.now.memories.now.kept.items self.now.memories.now.marks.keys result.state result.priority }
+        requires entered { (p : ℕ) × CanEnterBy self.now state p }
+        requires class { IsClass (board_by self.now) state letter }
+        ensures reply { IsReply (board_by self.now) self.now.keys.now.keys self.now.certificate.now state letter
+            result.state result.priority }
+        ensures enters { CanEnterBy self.now result.state result.priority }
     {
         let at = self
             .keys
@@ -36,6 +37,22 @@ impl Plan<'_> {
             Key::First { state, priority } => Step { state, priority },
             Key::Second { .. } => unreachable!(),
         }
+    }
+
+    /// The row of what is played behind a class of the first player's letters, and of the memory that comes next.
+    fn row_of_class(&self, state: u32, class: Class) -> Result<Row, AllocError>
+        requires turn { self.now.moves_first ≡ false }
+        requires entered { (p : ℕ) × CanEnterBy self.now state p }
+        requires class { IsClass (board_by self.now) state class.letter }
+        requires rest { IsRestBy self.now state class.letter class.rest }
+        ensures { IfOk result (IsAnswerBy self.now state class.letter) }
+    {
+        let leaves = self.divided.store.leaves(class.rest)?;
+        let step = self.reply(state, class.letter);
+        Ok(Row {
+            memory: self.memory_behind(step.state, step.priority),
+            letter: letter_to(self.automaton, &leaves, step),
+        })
     }
 }
 
@@ -53,21 +70,22 @@ impl Drawing {
         vertex: usize,
         state: u32,
     ) -> Result<Node, AllocError>
-        requires plan { IsPlan plan.now.order plan.now.automaton.now plan.now.keys.now.keys plan.now.certificate.now plan.now.moves_first plan.now.memories.now.kept.items plan.now.memories.now.marks.keys }
+        requires plan { IsPlanned plan.now }
         requires kept { Contains plan.now.memories.now.kept.items vertex }
         requires turn { plan.now.moves_first ≡ false }
         requires stands { (p : ℕ) × StandsAt plan.now.keys.now.keys vertex (First state p) }
-        requires fit { IsFit plan.now.order plan.now.automaton.now self.old.mask self.old.store }
-        requires rows { All (IsRow plan.now.moves_first (board_of plan.now.order plan.now.automaton.now) plan.now.memories.now.kept.items) self.old.rows.keys }
-        ensures mask { self.new.mask ≡ self.old.mask }
+        requires divided { AreDividedBy plan.now }
+        requires letters { plan.now.divided.now.store.propositions ≡ self.old.store.propositions }
+        requires rows { AreRowsBy plan.now self.old.rows.keys }
         ensures keeps { Keeps self.old.store self.new.store }
         ensures same_rows { KeepsRows self.old.rows.keys self.new.rows.keys }
-        ensures rows { All (IsRow plan.now.moves_first (board_of plan.now.order plan.now.automaton.now) plan.now.memories.now.kept.items) self.new.rows.keys }
-        ensures drawn { IfOk result (λ node. IsDrawn plan.now.moves_first (board_of plan.now.order plan.now.automaton.now) plan.now.keys.now.keys plan.now.memories.now.kept.items plan.now.certificate.now self.new.store self.new.rows.keys vertex node) }
+        ensures rows { AreRowsBy plan.now self.new.rows.keys }
+        ensures drawn { IfOk result (λ node. IsDrawnBy plan.now self.new.store self.new.rows.keys vertex node) }
     {
-        let classes = self.store.classes(plan.automaton.node(state), self.mask)?;
+        let classes = plan.divided.of(state);
         let values = self.rows_of_classes(alloc, plan, state, &classes.list)?;
-        self.store.relabel(classes.places, &values)
+        self.store
+            .relabel_from(&plan.divided.store, classes.places, &values)
     }
 
     /// For each class of the first player's letters the place of the row of what is played there.
@@ -79,41 +97,24 @@ impl Drawing {
         classes: &[Class],
     ) -> Result<Vec<u64>, AllocError>
         requires turn { plan.now.moves_first ≡ false }
-        requires entered { (p : ℕ) × CanEnter plan.now.order plan.now.automaton.now plan.now.keys.now.keys plan.now.certificate.now plan.now.moves_first plan.now.memories.now.kept.items plan.now.memories.now.marks.keys state p }
-        requires fit { IsFit plan.now.order plan.now.automaton.now self.old.mask self.old.store }
-        requires classes { All (λ class. IsClass (board_of plan.now.order plan.now.automaton.now) state class.letter) classes.now }
-        requires rests { All (λ class. IsRest plan.now.order plan.now.automaton.now self.old.mask self.old.store state class.letter class.rest) classes.now }
-        requires rows { All (IsRow plan.now.moves_first (board_of plan.now.order plan.now.automaton.now) plan.now.memories.now.kept.items) self.old.rows.keys }
-        ensures mask { self.new.mask ≡ self.old.mask }
+        requires entered { (p : ℕ) × CanEnterBy plan.now state p }
+        requires classes { All (λ class. IsClass (board_by plan.now) state class.letter) classes.now }
+        requires rests { All (λ class. IsRestBy plan.now state class.letter class.rest) classes.now }
+        requires rows { AreRowsBy plan.now self.old.rows.keys }
         ensures store { self.new.store ≡ self.old.store }
         ensures same_rows { KeepsRows self.old.rows.keys self.new.rows.keys }
-        ensures rows { All (IsRow plan.now.moves_first (board_of plan.now.order plan.now.automaton.now) plan.now.memories.now.kept.items) self.new.rows.keys }
-        ensures values { IfOk result (λ values. AllZip (λ class value. NamesAnswer (board_of plan.now.order plan.now.automaton.now) plan.now.keys.now.keys plan.now.memories.now.kept.items plan.now.certificate.now self.new.rows.keys state class.letter value) classes.now values.items) }
+        ensures rows { AreRowsBy plan.now self.new.rows.keys }
+        ensures values { IfOk result
+            (λ values. AllZip (λ class value. NamesAnswerBy plan.now self.new.rows.keys state class.letter value)
+            classes.now values.items) }
     {
         let mut values = Vec::new(alloc);
         for class in classes {
-            let row = self.row_of_class(plan, state, *class)?;
+            let row = plan.row_of_class(state, *class)?;
             let (place, _) = self.rows.insert_full(row)?;
             values.push(place as u64)?;
         }
         Ok(values)
-    }
-
-    /// The row of what is played behind a class of the first player's letters, and of the memory that comes next.
-    fn row_of_class(&self, plan: &Plan<'_>, state: u32, class: Class) -> Result<Row, AllocError>
-        requires turn { plan.now.moves_first ≡ false }
-        requires entered { (p : ℕ) × CanEnter plan.now.order plan.now.automaton.now plan.now.keys.now.keys plan.now.certificate.now plan.now.moves_first plan.now.memories.now.kept.items plan.now.memories.now.marks.keys state p }
-        requires fit { IsFit plan.now.order plan.now.automaton.now self.now.mask self.now.store }
-        requires class { IsClass (board_of plan.now.order plan.now.automaton.now) state class.letter }
-        requires rest { IsRest plan.now.order plan.now.automaton.now self.now.mask self.now.store state class.letter class.rest }
-        ensures { IfOk result (IsAnswer (board_of plan.now.order plan.now.automaton.now) plan.now.keys.now.keys plan.now.memories.now.kept.items plan.now.certificate.now state class.letter) }
-    {
-        let leaves = self.store.leaves(class.rest)?;
-        let step = plan.reply(state, class.letter);
-        Ok(Row {
-            memory: plan.memory_behind(step.state, step.priority),
-            letter: letter_to(plan.automaton, &leaves, step),
-        })
     }
 }
 

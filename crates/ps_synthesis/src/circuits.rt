@@ -6,6 +6,7 @@ ghost use Rattle.ps_automaton.specs.Chains.{Chain};
 ghost use Rattle.ps_hoa.specs.Files.{FileData};
 ghost use Rattle.ps_machine.specs.Boards.{IsGameOf};
 ghost use Rattle.ps_machine.specs.BuiltBoards.{board_of};
+ghost use Rattle.ps_machine.specs.Dividing.{HasClasses};
 ghost use Rattle.ps_machine.specs.Solving.{winner};
 ghost use Rattle.ps_machine.specs.Keys.{mover_of};
 ghost use Rattle.ps_machine.specs.Solving.{IsCertified};
@@ -33,6 +34,7 @@ pub fn circuit_of_certificate(
     certificate: &Certificate,
 ) -> Result<Circuit, SynthFault>
     requires game { IsGameOf (board_of order automaton.now) (mover_of order) game.now.keys.keys game.now.game.game }
+    requires classes { HasClasses order automaton.now game.now }
     requires certified { IsCertified game.now.game certificate.now }
     ensures made { IfOk result (IsCircuitOf order automaton.now game.now.game.game certificate.now) }
     ensures answers { IfOk result (λ circuit. (file : FileData) (chain : Chain) → IsBuiltFrom file chain automaton.now → IsAnswer order file (winner certificate.now) circuit) }

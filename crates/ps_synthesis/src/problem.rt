@@ -9,6 +9,7 @@ ghost use Rattle.ps_game.specs.Games.{vertex_count};
 ghost use Rattle.ps_hoa.specs.Files.{FileData};
 ghost use Rattle.ps_machine.specs.Boards.{IsGameOf};
 ghost use Rattle.ps_machine.specs.BuiltBoards.{board_of};
+ghost use Rattle.ps_machine.specs.Dividing.{HasClasses};
 ghost use Rattle.ps_machine.specs.Solving.{winner};
 ghost use Rattle.ps_machine.specs.Keys.{mover_of};
 ghost use Rattle.ps_machine.specs.Solving.{IsCertified};
@@ -43,13 +44,14 @@ pub struct Problem {
 }
 
 impl Model for Problem {
+    ghost use Rattle.ps_machine.specs.Dividing.{HasClasses};
     ghost use Rattle.ps_synthesis.specs.Problems.{IsProblem, ProblemData};
 
     ghost Value = { ProblemData };
 
     ghost view = { λ p. record { order = p.order; automaton = p.automaton; keys = p.game.keys.keys; game = p.game.game } };
 
-    ghost invariant = { λ p. IsProblem (record { order = p.order; automaton = p.automaton; keys = p.game.keys.keys; game = p.game.game }) };
+    ghost invariant = { λ p. IsProblem (record { order = p.order; automaton = p.automaton; keys = p.game.keys.keys; game = p.game.game }) × HasClasses p.order p.automaton p.game };
 }
 
 impl Problem {
@@ -151,6 +153,7 @@ fn report_of_certificate(
     compact: bool,
 ) -> Result<Report, SynthFault>
     requires game { IsGameOf (board_of order automaton.now) (mover_of order) game.now.keys.keys game.now.game.game }
+    requires classes { HasClasses order automaton.now game.now }
     requires some { 0 < vertex_count game.now.game.game }
     requires certified { IsCertified game.now.game certificate.now }
     ensures realizable { IfOk result (λ report. IsTrue report.realizable ↔ (winner certificate.now ≡ 0)) }

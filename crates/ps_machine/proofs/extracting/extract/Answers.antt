@@ -15,6 +15,7 @@ machine_of_certificate-requires c =
     let same = (one_game_of board (mover_of c.args.order) given.0 c.in_ok-keyed.keyed.keys.keys c.args.game.now.game c.in_ok-keyed.keyed.game.game given.1 c.in_ok-keyed.ensures.game).1 in
     record {
       game = c.in_ok-keyed.ensures.game;
+      classes = c.in_ok-keyed.ensures.classes;
       fits = subst (λ g. Fits g c.args.certificate.now) same c.requires.fits;
       valid = subst (λ g. IsValid g c.args.certificate.now) same c.requires.valid;
     }

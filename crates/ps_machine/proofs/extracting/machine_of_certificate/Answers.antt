@@ -3,8 +3,8 @@ use Rattle.std.proofs.lemmas.Result.{IfOk-weaker}
 use Rattle.ps_machine.proofs.Extracted.{plan_is}
 use Rattle.ps_machine.proofs.extracting.machine_of_certificate.Goals as goal
 
-pub machine_by-requires : goal.machine_by-requires
-machine_by-requires c =
+pub machine_by-requires-clause-plan : goal.machine_by-requires-clause-plan
+machine_by-requires-clause-plan c =
     let game = c.args.game.now in
     let memories = c.in_ok-memories.memories in
     let kept = c.in_ok-memories.ensures in

@@ -1,9 +1,7 @@
-use Rattle.std.proofs.Common.{subst, ap, sym}
+use Rattle.std.proofs.Common.{ap, ◌∙◌}
 use Rattle.std.proofs.Common.{get_or}
 use Rattle.ps_machine.specs.BuiltBoards.{board_of}
-use Rattle.ps_machine.specs.Moving.{IsFit}
 use Rattle.ps_machine.proofs.Assembling.{drawn_more}
-use Rattle.ps_machine.proofs.Remembering.{fit_kept}
 use Rattle.ps_machine.proofs.extracting.nodes_of.Goals as goal
 
 pub loop-vertex-preserved : goal.loop-vertex-preserved
@@ -14,7 +12,7 @@ loop-vertex-preserved c =
     let new = c.node.new.self in
     let made = c.in_ok-node.ensures in
     record {
-      fit = subst (λ mask. IsFit p.order a mask new.store) (sym made.mask) (fit_kept p.order a old.mask old.store new.store made.keeps c.loop-vertex.invariant.fit);
+      letters = made.keeps.propositions ∙ c.loop-vertex.invariant.letters;
       drawn = drawn_more p.moves_first (board_of p.order a) p.keys.now.keys p.memories.now.kept.items p.certificate.now old.store new.store old.rows.keys new.rows.keys c.loop-vertex.nodes.items c.push.new.self.items c.loop-vertex.vertex-index _ c.in_ok-node.field-0
           made.keeps made.same_rows made.rows made.drawn (ap (λ l. get_or l c.loop-vertex.vertex-index 0) c.deref-vertex-items.ensures.value) c.in_ok-push.ensures.items c.loop-vertex.invariant.drawn;
     }

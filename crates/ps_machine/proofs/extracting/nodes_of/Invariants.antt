@@ -1,11 +1,11 @@
+use Rattle.std.proofs.Common.{◌≡◌}
 use Rattle.ps_machine.specs.Assembling.{AreDrawn}
 use Rattle.ps_machine.specs.BuiltBoards.{board_of}
-use Rattle.ps_machine.specs.Moving.{IsFit}
 use Rattle.ps_machine.proofs.extracting.nodes_of.Given as goal
 
 -- the memories that were looked at have their diagrams
 abbrev pub invariant-loop-vertex : goal.invariant-loop-vertex
 invariant-loop-vertex l = record {
-  fit : IsFit l.plan.order l.plan.automaton.now l.drawing.mask l.drawing.store;
+  letters : l.drawing.store.propositions ≡ l.fn.drawing.store.propositions;
   drawn : AreDrawn l.plan.moves_first (board_of l.plan.order l.plan.automaton.now) l.plan.keys.now.keys l.plan.memories.now.kept.items l.plan.certificate.now l.drawing.store l.drawing.rows.keys l.nodes.items l.vertex-index;
 }

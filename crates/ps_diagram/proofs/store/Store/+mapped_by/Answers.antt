@@ -1,10 +1,11 @@
-use Rattle.std.proofs.Common.{sym, ap, ℕ, Option, nat_eq, Bool, false, subst, rules}
+use Rattle.std.proofs.Common.{sym, ap, ℕ, Option, nat_eq, Bool, false, subst, rules, arith, ◌≤◌}
+use Rattle.std.specs.Option.{option_copied, unwrap_or}
 use Rattle.indexmap.specs.IndexMap.{get}
 use Rattle.ps_diagram.specs.Tree.{leaf_at}
 use Rattle.ps_diagram.specs.Table.{Keeps, tree_of}
 use Rattle.ps_diagram.specs.Known.{IsMapped}
 use Rattle.ps_diagram.proofs.Sides.{sides_of_test}
-use Rattle.ps_diagram.proofs.KnownLemmas.{keeps_trans, kept, back, knows_kept, knows_more}
+use Rattle.ps_diagram.proofs.KnownLemmas.{keeps_trans, kept, back, read_keeps, knows_kept, knows_more}
 use Rattle.ps_diagram.proofs.Mapping.{mapped_test, mapped_blind, on_low, on_high}
 use Rattle.ps_diagram.proofs.store.Store.+mapped_by.Goals as goal
 
@@ -28,7 +29,7 @@ pub mapped_by-requires : goal.mapped_by-requires
 mapped_by-requires g t c =
     λ κs b.
     let s = sides_of_test _ _ _ _ _ c.in-Test.ensures.part in
-    (search rules, (search rules, (s.low_held, (on_low (λ x. g.R.LeafRule.fits c.args.rule.now x) _ _ _ _ _ s c.requires.fits, c.requires.known))))
+    (search rules, (search rules, (s.low_held, (c.requires.few, (on_low (λ x. g.R.LeafRule.fits c.args.rule.now x) _ _ _ _ _ s c.requires.fits, c.requires.known)))))
 
 pub mapped_by-requires-in-Test : goal.mapped_by-requires-in-Test
 mapped_by-requires-in-Test g t c =
@@ -36,15 +37,21 @@ mapped_by-requires-in-Test g t c =
     let s = sides_of_test _ _ _ _ _ c.in-Test.ensures.part in
     let now = c.args.self.now in
     let then = c.mapped_by.new.self in
-    let k = c.mapped_by.ensures.keeps in (
+    let other = option_copied c.args.other in
+    let k = c.mapped_by.ensures.keeps in
+    let j : Keeps (unwrap_or other now) (unwrap_or other then) = read_keeps other now then k in
+    let few : (unwrap_or other then).propositions ≤ then.propositions = omega (arith, j.propositions, k.propositions, c.requires.few) in (
       search rules,
       (
         search rules,
         (
-          k.held _ s.high_held,
+          j.held _ s.high_held,
           (
-            kept (λ u. (f : ℕ → Bool) → g.R.LeafRule.fits c.args.rule.now (leaf_at u f)) now then k c.in-Test.high s.high_held (on_high (λ x. g.R.LeafRule.fits c.args.rule.now x) _ _ _ _ _ s c.requires.fits),
-            c.mapped_by.ensures.known,
+            few,
+            (
+              kept (λ u. (f : ℕ → Bool) → g.R.LeafRule.fits c.args.rule.now (leaf_at u f)) (unwrap_or other now) (unwrap_or other then) j c.in-Test.high s.high_held (on_high (λ x. g.R.LeafRule.fits c.args.rule.now x) _ _ _ _ _ s c.requires.fits),
+              c.mapped_by.ensures.known,
+            ),
           ),
         ),
       ),
@@ -53,24 +60,46 @@ mapped_by-requires-in-Test g t c =
 pub test-requires-clause-low_later : goal.test-requires-clause-low_later
 test-requires-clause-low_later g t c =
     let s = sides_of_test _ _ _ _ _ c.in-Test.ensures.part in
-    mapped_blind (g.R.LeafRule.rule c.args.rule.now) _ _ _ (kept (λ u. IsMapped (g.R.LeafRule.rule c.args.rule.now) (tree_of c.args.self.now c.in-Test.low) u) c.mapped_by.new.self c.mapped_by-in-Test.new.self c.mapped_by-in-Test.ensures.keeps c.in_ok-low-in-Test.low c.in_ok-low-in-Test.ensures.held c.in_ok-low-in-Test.ensures.leaf) s.low_later
+    let read = unwrap_or (option_copied c.args.other) c.args.self.now in
+    mapped_blind (g.R.LeafRule.rule c.args.rule.now) _ _ _ (kept (λ u. IsMapped (g.R.LeafRule.rule c.args.rule.now) (tree_of read c.in-Test.low) u) c.mapped_by.new.self c.mapped_by-in-Test.new.self c.mapped_by-in-Test.ensures.keeps c.in_ok-low-in-Test.low c.in_ok-low-in-Test.ensures.held c.in_ok-low-in-Test.ensures.leaf) s.low_later
 
 pub test-requires-clause-high_later : goal.test-requires-clause-high_later
 test-requires-clause-high_later g t c =
     let s = sides_of_test _ _ _ _ _ c.in-Test.ensures.part in
-    mapped_blind (g.R.LeafRule.rule c.args.rule.now) _ _ _ (back (λ u. IsMapped (g.R.LeafRule.rule c.args.rule.now) u (tree_of c.mapped_by-in-Test.new.self c.in_ok-high-in-Test.high)) c.args.self.now c.mapped_by.new.self c.mapped_by.ensures.keeps c.in-Test.high s.high_held c.in_ok-high-in-Test.ensures.leaf) s.high_later
+    let other = option_copied c.args.other in
+    let now = c.args.self.now in
+    let then = c.mapped_by.new.self in
+    mapped_blind (g.R.LeafRule.rule c.args.rule.now) _ _ _ (back (λ u. IsMapped (g.R.LeafRule.rule c.args.rule.now) u (tree_of c.mapped_by-in-Test.new.self c.in_ok-high-in-Test.high)) (unwrap_or other now) (unwrap_or other then) (read_keeps other now then c.mapped_by.ensures.keeps) c.in-Test.high s.high_held c.in_ok-high-in-Test.ensures.leaf) s.high_later
+
+pub test-requires-clause-named : goal.test-requires-clause-named
+test-requires-clause-named g t c =
+    let below = c.in-Test.ensures.part.below in
+    let one = c.mapped_by.ensures.keeps.propositions in
+    let two = c.mapped_by-in-Test.ensures.keeps.propositions in
+    omega (arith, below, one, two, c.requires.few)
+
+pub returns-in_err-changed-in-Test-clause-keeps : goal.returns-in_err-changed-in-Test-clause-keeps
+returns-in_err-changed-in-Test-clause-keeps g t c = keeps_trans _ _ _ (keeps_trans _ _ _ c.mapped_by.ensures.keeps c.mapped_by-in-Test.ensures.keeps) c.test.ensures.keeps
+
+pub returns-in_err-insert-in-Test-clause-keeps : goal.returns-in_err-insert-in-Test-clause-keeps
+returns-in_err-insert-in-Test-clause-keeps g t c = keeps_trans _ _ _ (keeps_trans _ _ _ c.mapped_by.ensures.keeps c.mapped_by-in-Test.ensures.keeps) c.test.ensures.keeps
 
 pub returns-in_ok-insert-in-Test-clause-known : goal.returns-in_ok-insert-in-Test-clause-known
 returns-in_ok-insert-in-Test-clause-known g t c =
     let rule = g.R.LeafRule.rule c.args.rule.now in
     let s = sides_of_test _ _ _ _ _ c.in-Test.ensures.part in
+    let other = option_copied c.args.other in
     let now = c.args.self.now in
+    let then = c.mapped_by.new.self in
+    let mid = c.mapped_by-in-Test.new.self in
     let last = c.test.new.self in
     let k : Keeps now last = keeps_trans _ _ _ (keeps_trans _ _ _ c.mapped_by.ensures.keeps c.mapped_by-in-Test.ensures.keeps) c.test.ensures.keeps in
-    let low = kept (λ u. IsMapped rule (tree_of now c.in-Test.low) u) c.mapped_by.new.self c.mapped_by-in-Test.new.self c.mapped_by-in-Test.ensures.keeps c.in_ok-low-in-Test.low c.in_ok-low-in-Test.ensures.held c.in_ok-low-in-Test.ensures.leaf in
-    let high = back (λ u. IsMapped rule u (tree_of c.mapped_by-in-Test.new.self c.in_ok-high-in-Test.high)) now c.mapped_by.new.self c.mapped_by.ensures.keeps c.in-Test.high s.high_held c.in_ok-high-in-Test.ensures.leaf in
-    let made = mapped_test rule c.in-Test.proposition (tree_of now c.args.node) (tree_of now c.in-Test.low) (tree_of now c.in-Test.high) (tree_of last c.in_ok-changed-in-Test.changed) _ _ s.leaf c.in_ok-changed-in-Test.ensures.leaf low high in
-    knows_more (IsMapped rule) last (get nat_eq c.mapped_by-in-Test.new.known) (get nat_eq c.insert.new.self) c.args.node c.in_ok-changed-in-Test.changed c.in_ok-insert-in-Test.ensures.updates.0
-    (knows_kept (IsMapped rule) c.mapped_by-in-Test.new.self last (get nat_eq c.mapped_by-in-Test.new.known) c.test.ensures.keeps c.mapped_by-in-Test.ensures.known)
-    (k.held c.args.node c.requires.held) c.in_ok-changed-in-Test.ensures.held
-    (kept (λ u. IsMapped rule u (tree_of last c.in_ok-changed-in-Test.changed)) now last k c.args.node c.requires.held made)
+    let j = read_keeps other now last k in
+    let read = unwrap_or other now in
+    let low = kept (λ u. IsMapped rule (tree_of read c.in-Test.low) u) then mid c.mapped_by-in-Test.ensures.keeps c.in_ok-low-in-Test.low c.in_ok-low-in-Test.ensures.held c.in_ok-low-in-Test.ensures.leaf in
+    let high = back (λ u. IsMapped rule u (tree_of mid c.in_ok-high-in-Test.high)) read (unwrap_or other then) (read_keeps other now then c.mapped_by.ensures.keeps) c.in-Test.high s.high_held c.in_ok-high-in-Test.ensures.leaf in
+    let made = mapped_test rule c.in-Test.proposition (tree_of read c.args.node) (tree_of read c.in-Test.low) (tree_of read c.in-Test.high) (tree_of last c.in_ok-changed-in-Test.changed) _ _ s.leaf c.in_ok-changed-in-Test.ensures.leaf low high in
+    knows_more (IsMapped rule) (unwrap_or other last) last (get nat_eq c.mapped_by-in-Test.new.known) (get nat_eq c.insert.new.self) c.args.node c.in_ok-changed-in-Test.changed c.in_ok-insert-in-Test.ensures.updates.0
+    (knows_kept (IsMapped rule) (unwrap_or other mid) (unwrap_or other last) mid last (get nat_eq c.mapped_by-in-Test.new.known) (read_keeps other mid last c.test.ensures.keeps) c.test.ensures.keeps c.mapped_by-in-Test.ensures.known)
+    (j.held c.args.node c.requires.held) c.in_ok-changed-in-Test.ensures.held
+    (kept (λ u. IsMapped rule u (tree_of last c.in_ok-changed-in-Test.changed)) read (unwrap_or other last) j c.args.node c.requires.held made)

@@ -47,7 +47,6 @@ loop-leaf-preserved c =
     let Next : Step → Type 0 = λ s. (v : ℕ) → StandsAt keys v (First s.state s.priority) → StandsFor p.moves_first keys kept c.memory_behind-memory.result v s.state in
     let next = subst Next c.pair-step.ensures.pair c.memory_behind-memory.ensures.stands in
     record {
-      mask = c.loop-leaf.invariant.mask;
       store = c.loop-leaf.invariant.store;
       noted = note_more a keys p.moves_first board kept c.args.letter leaves old new c.loop-leaf.self.places.items c.note.new.places.items i leaf c.in_ok-place.place row added (λ d. ap (λ (x : ℕ × ℕ). x.0) (get_or_default leaves i d (0, 0) within)) at refl next
           c.in_ok-note.ensures.noted c.in_ok-note.ensures.others;

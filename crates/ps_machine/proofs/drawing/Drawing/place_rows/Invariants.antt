@@ -6,7 +6,6 @@ use Rattle.ps_machine.proofs.drawing.Drawing.place_rows.Given as goal
 -- the rows of the leaves that were looked at are noted
 abbrev pub invariant-loop-leaf : goal.invariant-loop-leaf
 invariant-loop-leaf l = record {
-  mask : l.self.mask ≡ l.fn.self.mask;
   store : l.self.store ≡ l.fn.self.store;
   noted : AreNoted l.plan.automaton.now l.plan.keys.now.keys l.plan.moves_first (board_of l.plan.order l.plan.automaton.now) l.plan.memories.now.kept.items l.letter l.leaves l.fn.self.rows.keys l.self.rows.keys l.self.places.items l.leaf-index;
 }

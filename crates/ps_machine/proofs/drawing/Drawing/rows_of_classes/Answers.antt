@@ -1,11 +1,11 @@
 use Rattle.std.proofs.Common.{ℕ, List, refl, subst, sym, take}
 use Rattle.std.specs.List.{All, AllZip}
 use Rattle.std.proofs.lemmas.List.{take_all}
-use Rattle.ps_diagram.specs.Table.{Table}
 use Rattle.ps_diagram.specs.declared.classes.Class.{Class}
+use Rattle.ps_machine.specs.Boards.{IsClass}
 use Rattle.ps_machine.specs.BuiltBoards.{board_of}
 use Rattle.ps_machine.specs.Drawing.{IsRow, KeepsRows}
-use Rattle.ps_machine.specs.Moving.{IsFit, IsRest}
+use Rattle.ps_machine.specs.Planning.{IsRestBy}
 use Rattle.ps_machine.specs.declared.machine.Row.{Row}
 use Rattle.ps_machine.specs.contracts.machine.RowPartialEq.TheImpl as row_eq
 use Rattle.ps_machine.proofs.DrawingLemmas.{all_rows, keeps_rows, keeps_rows_same, keeps_rows_trans}
@@ -17,30 +17,20 @@ loop-class-init c =
     let plan = c.args.plan.now in
     let N = Names (board_of plan.order plan.automaton.now) plan.keys.now.keys plan.memories.now.kept.items plan.certificate.now c.args.state c.args.self.now.rows.keys in
     record {
-      mask = refl;
       store = refl;
       same_rows = keeps_rows_same c.args.self.now.rows.keys;
       rows = c.requires.rows;
       values = subst (λ (l : List ℕ). AllZip N (take 0 c.args.classes.now) l) (sym c.new-values.ensures.items) tt;
     }
 
-pub row_of_class-requires-clause-fit : goal.row_of_class-requires-clause-fit
-row_of_class-requires-clause-fit c =
+pub row_of_class-requires-clause-class : goal.row_of_class-requires-clause-class
+row_of_class-requires-clause-class c =
     let plan = c.args.plan.now in
-    let inv = c.loop-class.invariant in
-    subst (λ (t : Table). IsFit plan.order plan.automaton.now c.loop-class.self.mask t) (sym inv.store)
-    (subst (λ (m : ℕ). IsFit plan.order plan.automaton.now m c.args.self.now.store) (sym inv.mask) c.requires.fit)
+    subst (λ (k : Class). IsClass (board_of plan.order plan.automaton.now) c.args.state k.letter) (sym c.class-item.is) (c.requires.classes c.loop-class.class-index c.class-item.result c.loop-class-test.true)
 
 pub row_of_class-requires-clause-rest : goal.row_of_class-requires-clause-rest
 row_of_class-requires-clause-rest c =
-    let plan = c.args.plan.now in
-    let inv = c.loop-class.invariant in
-    let i = c.loop-class.class-index in
-    let d = c.class-item.result in
-    let self = c.args.self.now in
-    let rest = subst (λ (k : Class). IsRest plan.order plan.automaton.now self.mask self.store c.args.state k.letter k.rest) (sym c.class-item.is) (c.requires.rests i d c.loop-class-test.true) in
-    subst (λ (t : Table). IsRest plan.order plan.automaton.now c.loop-class.self.mask t c.args.state d.letter d.rest) (sym inv.store)
-    (subst (λ (m : ℕ). IsRest plan.order plan.automaton.now m self.store c.args.state d.letter d.rest) (sym inv.mask) rest)
+    subst (λ (k : Class). IsRestBy c.args.plan.now c.args.state k.letter k.rest) (sym c.class-item.is) (c.requires.rests c.loop-class.class-index c.class-item.result c.loop-class-test.true)
 
 pub returns-in_err-place-clause-same_rows : goal.returns-in_err-place-clause-same_rows
 returns-in_err-place-clause-same_rows c = subst (λ (l : List Row). KeepsRows c.args.self.now.rows.keys l) (sym c.in_err-place.ensures.err) c.loop-class.invariant.same_rows
@@ -76,7 +66,6 @@ loop-class-preserved c =
     let new = c.insert_full.new.self.keys in
     let inv = c.loop-class.invariant in
     record {
-      mask = inv.mask;
       store = inv.store;
       same_rows = keeps_rows_trans c.args.self.now.rows.keys old new inv.same_rows (keeps_rows (row_eq.eq-value).it old c.in_ok-row.row new c.in_ok-place.ensures.keys);
       rows = all_rows (IsRow plan.moves_first board kept) (row_eq.eq-value).it old c.in_ok-row.row new c.in_ok-place.ensures.keys inv.rows
@@ -91,9 +80,6 @@ returns-clause-values c =
     let N = Names (board_of plan.order plan.automaton.now) plan.keys.now.keys plan.memories.now.kept.items plan.certificate.now c.args.state c.loop-class.self.rows.keys in
     subst (λ (l : List Class). AllZip N l c.loop-class.values.items) (take_all c.loop-class.class-index c.args.classes.now c.loop-class-test.false) c.loop-class.invariant.values
 
-pub returns-in_err-row-clause-mask : goal.returns-in_err-row-clause-mask
-returns-in_err-row-clause-mask c = c.loop-class.invariant.mask
-
 pub returns-in_err-row-clause-store : goal.returns-in_err-row-clause-store
 returns-in_err-row-clause-store c = c.loop-class.invariant.store
 
@@ -103,20 +89,11 @@ returns-in_err-row-clause-same_rows c = c.loop-class.invariant.same_rows
 pub returns-in_err-row-clause-rows : goal.returns-in_err-row-clause-rows
 returns-in_err-row-clause-rows c = c.loop-class.invariant.rows
 
-pub returns-in_err-place-clause-mask : goal.returns-in_err-place-clause-mask
-returns-in_err-place-clause-mask c = c.loop-class.invariant.mask
-
 pub returns-in_err-place-clause-store : goal.returns-in_err-place-clause-store
 returns-in_err-place-clause-store c = c.loop-class.invariant.store
 
-pub returns-in_err-push-clause-mask : goal.returns-in_err-push-clause-mask
-returns-in_err-push-clause-mask c = c.loop-class.invariant.mask
-
 pub returns-in_err-push-clause-store : goal.returns-in_err-push-clause-store
 returns-in_err-push-clause-store c = c.loop-class.invariant.store
-
-pub returns-clause-mask : goal.returns-clause-mask
-returns-clause-mask c = c.loop-class.invariant.mask
 
 pub returns-clause-store : goal.returns-clause-store
 returns-clause-store c = c.loop-class.invariant.store

@@ -8,7 +8,6 @@ use Rattle.ps_machine.proofs.drawing.Drawing.rows_of_classes.Given as goal
 -- the classes that were looked at have their rows
 abbrev pub invariant-loop-class : goal.invariant-loop-class
 invariant-loop-class l = record {
-  mask : l.self.mask ≡ l.fn.self.mask;
   store : l.self.store ≡ l.fn.self.store;
   same_rows : KeepsRows l.fn.self.rows.keys l.self.rows.keys;
   rows : All (IsRow l.plan.moves_first (board_of l.plan.order l.plan.automaton.now) l.plan.memories.now.kept.items) l.self.rows.keys;

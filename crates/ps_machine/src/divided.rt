@@ -1,0 +1,39 @@
+//! The classes of an automaton's states.
+
+ghost use Rattle.std.specs.Prelude.{◌≡◌, ◌<◌, ◌≤◌, ℕ, IsSome, None, Some, nat_eq};
+ghost use Rattle.indexmap.specs.IndexMap.{get};
+
+use indexmap::IndexMap;
+use ps_diagram::{Classes, Store};
+use std::alloc::Global;
+
+/// The classes of the letters of the player who moves first, for each state that was divided.
+#[derive(Drop)]
+pub(crate) struct Divided {
+    /// The diagrams of the classes.
+    pub store: Store,
+    /// The classes of each of these states.
+    pub classes: IndexMap<u32, Classes>,
+}
+
+impl Divided {
+    /// No state is divided yet. There are that many propositions.
+    pub fn new(alloc: Global, propositions: u32) -> Self
+        requires few { propositions ≤ 64 }
+        ensures propositions { result.store.propositions ≡ propositions }
+        ensures none { (q : ℕ) → get nat_eq result.classes q ≡ None }
+    {
+        Divided {
+            store: Store::new(alloc, propositions),
+            classes: IndexMap::new(alloc),
+        }
+    }
+
+    /// The classes of a state.
+    pub fn of(&self, state: u32) -> &Classes
+        requires { IsSome (get nat_eq self.now.classes state) }
+        ensures { get nat_eq self.now.classes state ≡ Some result.now }
+    {
+        self.classes.get(&state).unwrap()
+    }
+}
