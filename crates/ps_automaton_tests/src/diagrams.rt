@@ -60,7 +60,7 @@ fn leaves_and_classes(alloc: Global, store: &mut Store) -> Result<(usize, usize)
     let node = store.of_letter(3)?;
     let leaves = store.leaves(node)?.len();
     let mut made = Store::new(alloc, 2);
-    let classes = made.classes(store, node, 1)?;
+    let classes = made.classes_from(store, node, 1)?;
     Ok((leaves, classes.list.len()))
 }
 

@@ -29,9 +29,9 @@ pub first_leaf-push : (t : Table) (nodes more : List ℕ) (node letter : ℕ) �
     first_leaf (leaves_of t more letter) ≡ joined (first_leaf (leaves_of t nodes letter)) (leaf_of t node letter)
 first_leaf-push t nodes more node letter e =
     ap (λ (ns : List ℕ). first_leaf (leaves_of t ns letter)) e
-        ∙ ap first_leaf (map-append (λ n. leaf_of t n letter) nodes (node ∷ []))
+    ∙ ap first_leaf (map-append (λ n. leaf_of t n letter) nodes (node ∷ []))
     ∙ first_leaf-append (leaves_of t nodes letter) (leaf_of t node letter ∷ [])
-        ∙ ap (joined (first_leaf (leaves_of t nodes letter))) (joined_none (leaf_of t node letter))
+    ∙ ap (joined (first_leaf (leaves_of t nodes letter))) (joined_none (leaf_of t node letter))
 
 -- the two halves
 pub first_leaf-halves : (t : Table) (nodes : List ℕ) (m letter : ℕ) →
@@ -61,16 +61,18 @@ pub leaves_kept : (t u : Table) (nodes : List ℕ) (letter : ℕ) → Keeps t u 
 leaves_kept t u [] letter k h = refl
 leaves_kept t u (node ∷ nodes) letter k h =
     ap (λ x. x ∷ leaves_of u nodes letter) (leaf_kept t u node letter k (h 0 node (omega arith)).held)
-        ∙ ap (λ xs. leaf_of t node letter ∷ xs) (leaves_kept t u nodes letter k (tail_of t node nodes h))
+    ∙ ap (λ xs. leaf_of t node letter ∷ xs) (leaves_kept t u nodes letter k (tail_of t node nodes h))
 
 pub union_truth : (t : Table) (nodes : List ℕ) (letter : ℕ) → All (IsTruth t) nodes →
     IsOneOrNone (first_leaf (leaves_of t nodes letter))
 union_truth t [] letter h = (false, refl)
 union_truth t (node ∷ nodes) letter h =
     let one = (h 0 node (omega arith)).leaf letter in
-    let others = union_truth t nodes letter (tail_of t node nodes h) in
-    (cond one.0 true others.0, ap (λ x. joined x (first_leaf (leaves_of t nodes letter))) one.1
-        ∙ ap (joined (one_where one.0)) others.1 ∙ joined_of one.0 others.0)
+    let others = union_truth t nodes letter (tail_of t node nodes h) in (
+      cond one.0 true others.0,
+      ap (λ x. joined x (first_leaf (leaves_of t nodes letter))) one.1
+          ∙ ap (joined (one_where one.0)) others.1 ∙ joined_of one.0 others.0,
+    )
 
 -- one node more, in a table that has grown
 pub truths_more : (t u : Table) (nodes more : List ℕ) (node : ℕ) → Keeps t u → All (IsTruth t) nodes → IsTruth u node →
@@ -83,7 +85,7 @@ pub union_more : (t u : Table) (nodes more : List ℕ) (node letter : ℕ) → K
     first_leaf (leaves_of u more letter) ≡ joined (first_leaf (leaves_of t nodes letter)) (leaf_of u node letter)
 union_more t u nodes more node letter k h e =
     first_leaf-push u nodes more node letter e
-        ∙ ap (λ xs. joined (first_leaf xs) (leaf_of u node letter)) (leaves_kept t u nodes letter k h)
+    ∙ ap (λ xs. joined (first_leaf xs) (leaf_of u node letter)) (leaves_kept t u nodes letter k h)
 
 pub no_nodes : (t : Table) (nodes : List ℕ) → nodes ≡ [] → All (IsTruth t) nodes
 no_nodes t nodes e = subst (All (IsTruth t)) (sym e) (λ i d lt. absurd (omega arith))
@@ -107,10 +109,10 @@ module _ (s t u : Table) (nodes front back : List ℕ) (m one other : ℕ) (is_f
   union_halves letter other_leaf =
       let back_truths = All-drop (IsTruth s) m nodes h in
       ap (λ x. joined x (leaf_of u other letter)) (leaf_kept t u one letter second held ∙ one_leaf letter
-          ∙ ap (λ (ns : List ℕ). first_leaf (leaves_of s ns letter)) is_front)
+      ∙ ap (λ (ns : List ℕ). first_leaf (leaves_of s ns letter)) is_front)
       ∙ ap (joined (first_leaf (leaves_of s (take m nodes) letter)))
       (other_leaf ∙ ap (λ (ns : List ℕ). first_leaf (leaves_of t ns letter)) is_back
-          ∙ ap first_leaf (leaves_kept s t (drop m nodes) letter first back_truths))
+      ∙ ap first_leaf (leaves_kept s t (drop m nodes) letter first back_truths))
       ∙ first_leaf-halves s nodes m letter
 
 pub back_kept : (s t : Table) (nodes back : List ℕ) (m : ℕ) → back ≡ drop m nodes → Keeps s t → All (IsTruth s) nodes →

@@ -35,14 +35,34 @@ pub struct Classes {
 }
 
 impl Store {
-    /// The classes of the letters over the propositions of `split`, where a node of another store leads them: two are
-    /// in one class exactly where each letter over the others leads both to the same leaf, or both to none. Their
-    /// diagrams are made in this store.
+    /// The classes of the letters over the propositions of `split`: two are in one class exactly where each letter over
+    /// the others leads both to the same leaf, or both to none. The node is looked at in a copy of the store;
+    /// `classes_from` reads one that is lent.
     ///
     /// # Errors
     ///
     /// Fails where a growth was refused.
-    pub fn classes(&mut self, other: &Store, node: Node, split: u64) -> Result<Classes, AllocError>
+    pub fn classes(&mut self, node: Node, split: u64) -> Result<Classes, AllocError>
+        requires held { IsNode self.old node }
+        ensures keeps { Keeps self.old self.new }
+        ensures classes { IfOk result (λ c. AreClasses self.old self.new node split c.places c.list.items) }
+    {
+        let lent = self.copy()?;
+        let classes = self.classes_from(&lent, node, split)?;
+        Ok(classes)
+    }
+
+    /// The same classes, where a node of another store leads the letters. Their diagrams are made in this store.
+    ///
+    /// # Errors
+    ///
+    /// Fails where a growth was refused.
+    pub fn classes_from(
+        &mut self,
+        other: &Store,
+        node: Node,
+        split: u64,
+    ) -> Result<Classes, AllocError>
         requires held { IsNode other.now node }
         requires letters { self.old.propositions ≡ other.now.propositions }
         ensures keeps { Keeps self.old self.new }

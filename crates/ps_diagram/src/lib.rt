@@ -18,13 +18,14 @@
 //!
 //! Each of these calls keeps each node that was held, with the same leaf at each letter, also where it fails (`Keeps`).
 //! `eval`, `same` and `view` read a node and take no memory. `leaves` lists the leaves of a node with the least letter
-//! of each, `path_to` finds that of one leaf. `classes(other, node, split)` divides the letters over some propositions
-//! into those that a node of another store leads alike (`AreClasses`), and keeps each node too. `copy` is a store of
-//! the same value.
+//! of each, `path_to` finds that of one leaf. `classes(node, split)` divides the letters over some propositions into
+//! those that lead alike (`AreClasses`), `classes_from(other, node, split)` into those that a node of another store
+//! leads alike; both keep each node too. `copy` is a store of the same value.
 //!
 //! A store never drops a node, and equal diagrams are one node, which a hash table finds. `guard`, `fill`, `relabel`
 //! and `relabel_from` look at each node below theirs once, `overlay` at each pair of nodes that it comes to once;
-//! `of_letter` makes a node for each proposition, `of_label` joins the diagrams of its operands one after another.
+//! `of_letter` makes a node for each proposition, `of_label` joins the diagrams of its operands by halves, `classes`
+//! copies the store first.
 #![tactic(auto)]
 
 mod classes;

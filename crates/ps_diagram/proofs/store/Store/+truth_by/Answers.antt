@@ -21,9 +21,9 @@ loop-operand-init t c =
       aliases = c.requires.aliases;
       within = within;
       leaf = λ known h letter. record {
-          so_far = false;
-          is = ap (λ (ns : List ℕ). first_leaf (leaves_of c.args.self.now ns letter)) c.new-nodes.ensures.items;
-          decides = refl;
+        so_far = false;
+        is = ap (λ (ns : List ℕ). first_leaf (leaves_of c.args.self.now ns letter)) c.new-nodes.ensures.items;
+        decides = refl;
       };
     })
 
@@ -37,10 +37,10 @@ loop-operand-2-init t c =
       aliases = c.requires.aliases;
       within = within;
       leaf = λ known h letter. record {
-          so_far = false;
-          is = ap (λ (ns : List ℕ). first_leaf (leaves_of c.args.self.now ns letter))
-              c.new-nodes-in-Either.ensures.items;
-          decides = refl;
+        so_far = false;
+        is = ap (λ (ns : List ℕ). first_leaf (leaves_of c.args.self.now ns letter))
+            c.new-nodes-in-Either.ensures.items;
+        decides = refl;
       };
     })
 
@@ -53,16 +53,18 @@ loop-operand-preserved t c =
     let here : l.operand-index < length items = omega arith in
     let u = c.negated-in-loop-operand.new.self in
     let k : Keeps l.self u = keeps_trans _ _ _ c.truth_by-in-loop-operand.ensures.keeps
-        c.negated-in-loop-operand.ensures.keeps in
+    c.negated-in-loop-operand.ensures.keeps in
     let not = c.in_ok-negated-in-Both.field-0 in
     let a = c.requires.aliases in
     let kept = λ (known : ℕ → List Bool). truths_kept c.args.self.now l.self c.args.aliases.now known v.keeps in
     let is_truth : IsTruth u not = record {
       held = c.in_ok-negated-in-Both.ensures.held;
       leaf = λ letter.
-          let b = truth (a.0 letter) letter (expression x.result) in
-          (cond b false true, c.in_ok-negated-in-Both.ensures.leaf letter
-              ∙ ap opposite (c.in_ok-node-in-Both.ensures.leaf a.0 (kept a.0 a.1) letter) ∙ opposite_of b);
+          let b = truth (a.0 letter) letter (expression x.result) in (
+            cond b false true,
+            c.in_ok-negated-in-Both.ensures.leaf letter
+                ∙ ap opposite (c.in_ok-node-in-Both.ensures.leaf a.0 (kept a.0 a.1) letter) ∙ opposite_of b,
+          );
     } in
     record {
       keeps = keeps_trans _ _ _ v.keeps k;
@@ -76,13 +78,13 @@ loop-operand-preserved t c =
           let old = first_leaf (leaves_of l.self l.nodes.items letter) in
           let R : Bool → Type 0 = λ r. IsNotAll old r whole in
           let before = subst R (all_rest (known letter) letter items l.operand-index x.result here x.is)
-              (v.leaf known h letter) in
+          (v.leaf known h letter) in
           all_more old _ (leaf_of c.truth_by-in-loop-operand.new.self c.in_ok-node-in-Both.node letter)
-              (leaf_of u not letter) b _ whole before
+          (leaf_of u not letter) b _ whole before
           (c.in_ok-node-in-Both.ensures.leaf known (kept known h) letter)
           (c.in_ok-negated-in-Both.ensures.leaf letter)
           (union_more l.self u l.nodes.items c.push.new.self.items not letter k v.nodes
-              c.in_ok-push-in-Both.ensures.items);
+          c.in_ok-push-in-Both.ensures.items);
     }
 
 pub loop-operand-2-preserved : goal.loop-operand-2-preserved
@@ -116,9 +118,9 @@ loop-operand-2-preserved t c =
           let old = first_leaf (leaves_of l.self l.nodes.items letter) in
           let R : Bool → Type 0 = λ r. IsAny old r whole in
           let before = subst R (any_rest (known letter) letter items l.operand-index x.result here x.is)
-              (v.leaf known h letter) in
+          (v.leaf known h letter) in
           any_more old _ (leaf_of u node letter) b _ whole before
           (c.in_ok-truth_by-in-Either.ensures.leaf known (kept known h) letter)
           (union_more l.self u l.nodes.items c.push-in-loop-operand-2.new.self.items node letter k v.nodes
-              c.in_ok-push-in-Either.ensures.items);
+          c.in_ok-push-in-Either.ensures.items);
     }

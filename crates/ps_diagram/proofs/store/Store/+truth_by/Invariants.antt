@@ -19,8 +19,8 @@ invariant-loop-operand l = record {
   within : AreOver (length l.aliases) l.self.propositions (row_of (expressions (drop l.operand-index l.operand-items)));
   leaf : (known : ℕ → List Bool) → HaveTruths l.fn.self l.aliases known → (letter : ℕ) →
       IsNotAll (first_leaf (leaves_of l.self l.nodes.items letter))
-          (all_true (known letter) letter (row_of (expressions (drop l.operand-index l.operand-items))))
-          (truth (known letter) letter (expression l.label));
+      (all_true (known letter) letter (row_of (expressions (drop l.operand-index l.operand-items))))
+      (truth (known letter) letter (expression l.label));
 }
 
 abbrev pub invariant-loop-operand-2 : goal.invariant-loop-operand-2
@@ -31,6 +31,6 @@ invariant-loop-operand-2 l = record {
   within : AreOver (length l.aliases) l.self.propositions (row_of (expressions (drop l.operand-index l.operand-items)));
   leaf : (known : ℕ → List Bool) → HaveTruths l.fn.self l.aliases known → (letter : ℕ) →
       IsAny (first_leaf (leaves_of l.self l.nodes.items letter))
-          (any_true (known letter) letter (row_of (expressions (drop l.operand-index l.operand-items))))
-          (truth (known letter) letter (expression l.label));
+      (any_true (known letter) letter (row_of (expressions (drop l.operand-index l.operand-items))))
+      (truth (known letter) letter (expression l.label));
 }

@@ -3,7 +3,7 @@ use Rattle.ps_diagram.specs.Reached.{AreLeaves}
 use Rattle.ps_diagram.proofs.Classing.{classes_of}
 use Rattle.ps_diagram.proofs.KnownLemmas.{keeps_trans}
 use Rattle.ps_diagram.proofs.Numbering.{leaves_differ}
-use Rattle.ps_diagram.proofs.store.Store.classes.Goals as goal
+use Rattle.ps_diagram.proofs.store.Store.classes_from.Goals as goal
 
 pub classes_of_leaves-requires-clause-leaves : goal.classes_of_leaves-requires-clause-leaves
 classes_of_leaves-requires-clause-leaves c =
