@@ -1,11 +1,13 @@
 #!/usr/bin/env python3
-"""Times `solve`, from text to text, beside another solver, and lets psyn check what it printed.
+"""Times `solve` and `check`, from text to text, beside another solver.
 
-  bench/solve.py PSYN GAMES [SOLVER]
+  bench/solve.py PSYN GAMES [SOLVER] [--runs N]
   bench/solve.py PSYN --compact
 
-GAMES is a folder of game texts NAME.pg. SOLVER is run on the same text as `SOLVER solve`. A line for each game has the seconds
-of psyn, of the other one and their ratio, each time of a whole process, and what `check` says of psyn's certificate.
+GAMES is a folder of game texts NAME.pg. SOLVER is run on the same text as `SOLVER solve`, and as `SOLVER check GAME CERTIFICATE`
+on what psyn printed. The least processor time of N (3) whole processes, in turn, is taken of each. A row for each game has the
+seconds of psyn and, beside the other one, their ratio; the last row has the ratios of the sums. psyn's `check` has to say that
+psyn's certificate is valid.
 
 With --compact it makes games of N vertices with N priorities and times `solve --compact`, with the bytes of the certificate and
 the most memory that the process held.
@@ -14,6 +16,7 @@ import os
 import resource
 import subprocess
 import sys
+import tempfile
 import time
 
 
@@ -56,26 +59,69 @@ def compact(psyn):
     return 1 if wrong else 0
 
 
+def processor(words, text, output):
+    """The processor seconds of a process whose output goes to a file."""
+    with open(text, "rb") as given, open(output, "wb") as told:
+        child = subprocess.Popen(words, stdin=given, stdout=told, stderr=subprocess.DEVNULL)
+        _, _status, used = os.wait4(child.pid, 0)
+        child.returncode = 0
+    return used.ru_utime + used.ru_stime
+
+
+def least(runs, calls):
+    """The least seconds of each call, the calls made in turn."""
+    seconds = [[call() for call in calls] for _ in range(runs)]
+    return [min(of) for of in zip(*seconds)]
+
+
+def row_of(psyn, game, solver, runs, room):
+    """The least seconds of psyn's `solve` and `check`, and of the other's, and whether the certificate is valid."""
+    path_to = {name: os.path.join(room, name) for name in ("solve", "check", "certificate", "said")}
+    with open(game, "rb") as file:
+        text = file.read().rstrip(b"\n") + b"\n"
+    with open(path_to["solve"], "wb") as file:
+        file.write(b"solve\n" + text)
+    processor([psyn], path_to["solve"], path_to["certificate"])
+    with open(path_to["certificate"], "rb") as certificate, open(path_to["check"], "wb") as file:
+        file.write(b"check\n" + text + b"%%\n" + certificate.read())
+    calls = [lambda: processor([psyn], path_to["solve"], os.devnull), lambda: processor([psyn], path_to["check"], path_to["said"])]
+    if solver:
+        calls.append(lambda: processor([solver, "solve"], game, os.devnull))
+        calls.append(lambda: processor([solver, "check", game, path_to["certificate"]], os.devnull, os.devnull))
+    seconds = least(runs, calls)
+    with open(path_to["said"], "rb") as said:
+        return seconds, said.read() == b"valid\n"
+
+
+def shown(name, seconds):
+    line = f"| {name:28} | {seconds[0]:8.3f} | {seconds[1]:8.3f} |"
+    if len(seconds) == 4:
+        ratios = [f"{mine / other:5.2f}" if other else "    -" for mine, other in ((seconds[0], seconds[2]), (seconds[1], seconds[3]))]
+        line += f" {ratios[0]} | {ratios[1]} |"
+    return line
+
+
 def main():
-    if len(sys.argv) == 3 and sys.argv[2] == "--compact":
-        return compact(sys.argv[1])
-    if len(sys.argv) not in (3, 4):
+    words, runs = sys.argv[1:], 3
+    if words[1:] == ["--compact"]:
+        return compact(words[0])
+    if "--runs" in words[:-1]:
+        at = words.index("--runs")
+        runs = int(words[at + 1])
+        words = words[:at] + words[at + 2:]
+    if len(words) not in (2, 3):
         print(__doc__)
         return 2
-    psyn, games = sys.argv[1:3]
-    wrong = 0
-    for name in sorted(name for name in os.listdir(games) if name.endswith(".pg")):
-        with open(os.path.join(games, name), "rb") as file:
-            text = file.read()
-        text += b"" if text.endswith(b"\n") else b"\n"
-        mine, certificate = timed([psyn], b"solve\n" + text)
-        _, said = timed([psyn], b"check\n" + text + b"%%\n" + certificate)
-        wrong += said != b"valid\n"
-        line = f"{name:32} {mine:7.3f} s"
-        if len(sys.argv) == 4:
-            other, _ = timed([sys.argv[3], "solve"], text)
-            line += f"   beside {other:7.3f} s, ratio {mine / other:5.2f}"
-        print(f"{line}   {said.decode().strip()}", flush=True)
+    psyn, games, solver = words[0], words[1], words[2] if len(words) == 3 else None
+    print("| game | `solve`, s | `check`, s |" + (" `solve`, ratio | `check`, ratio |" if solver else ""))
+    sums, wrong = [], 0
+    with tempfile.TemporaryDirectory() as room:
+        for name in sorted(name for name in os.listdir(games) if name.endswith(".pg")):
+            seconds, is_valid = row_of(psyn, os.path.join(games, name), solver, runs, room)
+            wrong += not is_valid
+            sums.append(seconds)
+            print(shown(name.removesuffix(".pg"), seconds) + ("" if is_valid else " not valid"), flush=True)
+    print(shown("sums", [sum(of) for of in zip(*sums)]))
     return 1 if wrong else 0
 
 
