@@ -5,8 +5,6 @@
 --     text_fails, text_reads, text_trails      the text
 use Rattle.std.proofs.Common.{◌≡◌, ◌≢◌, ℕ, ◌+◌, Bool, true, false, not, cond, eqb, ltb, List, [], ◌∷◌, length, Option, Some, None, Result, Ok, Err, IsErrAnd, refl, sym, ap, ap₂, subst, ◌∙◌, arith}
 use Rattle.std.specs.Prelude.{codes, position}
-use Rattle.std.specs.Global.{Global}
-use Rattle.std.specs.Prelude.{Vec}
 use Rattle.std.specs.List.{Contains, prefix_len}
 use Rattle.std.proofs.lemmas.Bool.{eqb-true}
 use Rattle.std.proofs.lemmas.Bool.Decides.{nat_tests}
@@ -315,7 +313,7 @@ module _ (odd even ids : List ℕ) where
             (record { cause = cause; offset = offset }) s
         go OutOfMemory s = tt
 
-    pub text_fails : (e : CertFault) (r : Result (Vec EntryData Global) CertFault)
+    pub text_fails : (e : CertFault) (r : Result (List EntryData) CertFault)
         → Stops causes whole (at_place start) (found_of e) → IsErrAnd r (λ y. y ≡ e) → TellsEntries odd even ids text r
     text_fails e r s i = let y = err_from_is_err_and r i in
         subst (TellsEntries odd even ids text) (sym (y.1 ∙ ap Err y.2)) (text_stops e s)

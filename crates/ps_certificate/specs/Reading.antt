@@ -3,8 +3,7 @@
 --     numeral bytes      the longest run of digits without a leading zero that the bytes begin with
 --     TellsNumber old result new      this run was passed; or it is empty, or a word of 64 bits does not hold its number
 --     TellsPriority, TellsHead, TellsEntries      the priority of a pair; what stands before the lines of the vertices; the text
-use Rattle.std.specs.Prelude.{◌≡◌, ℕ, ◌+◌, ◌^◌, ◌<◌, ◌≤◌, ◌⊎◌, List, [], ◌∷◌, length, drop, Option, Some, None, Result, Ok, Err, Bool, true, false, ◌||◌, nat_lt, ◌==◌, if◌then◌else◌, take_while, slice_index, Vec}
-use Rattle.std.specs.Global.{Global}
+use Rattle.std.specs.Prelude.{◌≡◌, ℕ, ◌+◌, ◌^◌, ◌<◌, ◌≤◌, ◌⊎◌, List, [], ◌∷◌, length, drop, Option, Some, None, Result, Ok, Err, Bool, true, false, ◌||◌, nat_lt, ◌==◌, if◌then◌else◌, take_while, slice_index}
 use Rattle.std.specs.Char.{is_ascii_digit}
 use Rattle.ps_text.specs.Answers.{Stream}
 use Rattle.ps_text.specs.Parts.{PartAnswers, mapped}
@@ -92,9 +91,9 @@ TellsHead odd even ids old (Ok compact) new = Carries causes (certificate odd ev
     (all_entries compact odd even ids) (at_place new)
 TellsHead odd even ids old (Err e) new = Stops causes (certificate odd even ids) (at_place old) (found_of e)
 
-abbrev pub TellsEntries : List ℕ → List ℕ → List ℕ → List ℕ → Result (Vec EntryData Global) CertFault → Type 0
+abbrev pub TellsEntries : List ℕ → List ℕ → List ℕ → List ℕ → Result (List EntryData) CertFault → Type 0
 TellsEntries odd even ids text (Ok es) = PartAnswers causes (certificate odd even ids) (stream_at 0 text)
-    (Ok (record { odd = odd; even = even; entries = es.items }))
+    (Ok (record { odd = odd; even = even; entries = es }))
 TellsEntries odd even ids text (Err (Text cause offset)) = PartAnswers causes (certificate odd even ids)
     (stream_at 0 text) (Err (record { cause = cause; offset = offset }))
 TellsEntries odd even ids text (Err OutOfMemory) = Unit {0}

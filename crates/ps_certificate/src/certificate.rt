@@ -1,27 +1,10 @@
 //! The value of a certificate.
 
 ghost use Rattle.std.specs.Prelude.{◌≡◌, ℕ, ◌<◌, length, Option, slice_index};
-ghost use Rattle.ps_certificate.specs.Certificates.{CertificateData, EntryData, winner_of, choice_of, counts_of, opposing};
+ghost use Rattle.ps_certificate.specs.Certificates.{CertificateData, winner_of, choice_of, counts_of, opposing};
 
-use std::alloc::Global;
+use crate::entries::Entries;
 use std::marker::Model;
-
-/// What a certificate says of one vertex.
-#[derive(Debug, Drop)]
-pub struct Entry {
-    /// The player who wins the vertex, 0 or 1.
-    pub winner: u8,
-    /// The winner's move, a vertex by place; none where the loser owns the vertex.
-    pub choice: Option<usize>,
-    /// One count for each priority of the certificate's list that the winner loses, in its order.
-    pub counts: Vec<u64>,
-}
-
-impl Model for Entry {
-    ghost Value = { EntryData };
-
-    ghost view = { λ entry. record { winner = entry.winner; choice = entry.choice; counts = entry.counts.items } };
-}
 
 /// Who wins each vertex of a game, by which moves, with the counts that show it.
 #[derive(Debug, Drop)]
@@ -31,7 +14,7 @@ pub struct Certificate {
     /// The even priorities of the game, rising. Player 1 loses by them.
     pub even: Vec<u64>,
     /// One entry for each vertex.
-    pub entries: Vec<Entry>,
+    pub entries: Entries,
 }
 
 impl Model for Certificate {
@@ -40,7 +23,7 @@ impl Model for Certificate {
     ghost view = { λ certificate. record {
       odd = certificate.odd.items;
       even = certificate.even.items;
-      entries = certificate.entries.items;
+      entries = certificate.entries;
     } };
 }
 
@@ -51,7 +34,7 @@ impl Certificate {
         requires { vertex < length self.now.entries }
         ensures { result ≡ winner_of self.now vertex }
     {
-        self.entries[vertex].winner
+        self.entries.winner(vertex)
     }
 
     /// The move given for a vertex.
@@ -59,7 +42,7 @@ impl Certificate {
         requires { vertex < length self.now.entries }
         ensures { result ≡ choice_of self.now vertex }
     {
-        self.entries[vertex].choice
+        self.entries.choice(vertex)
     }
 
     /// The counts of a vertex.
@@ -67,7 +50,7 @@ impl Certificate {
         requires { vertex < length self.now.entries }
         ensures { result.now ≡ counts_of self.now vertex }
     {
-        self.entries[vertex].counts.as_slice()
+        self.entries.counts(vertex)
     }
 
     /// The priorities by which a player loses, rising.

@@ -240,16 +240,16 @@ impl<'a> Cursor<'a> {
     }
 
     /// So many counts, each behind a space, and the end of the line.
-    pub(crate) fn counts(&mut self, alloc: Global, count: usize) -> Result<Vec<u64>, CertFault>
-        ensures { Tells (λ v. v.items) (parts.counts count) self.old result self.new }
+    pub(crate) fn counts(&mut self, count: usize, counts: &mut Vec<u64>) -> Result<(), CertFault>
+        ensures { Tells (λ _. counts.new.items) (parts.counts count) self.old result self.new }
     {
-        let mut counts = Vec::with_capacity(alloc, count)?;
+        counts.clear();
         for _ in 0..count {
             self.byte(b' ')?;
             counts.push(self.number()?)?;
         }
         self.byte(b'\n')?;
-        Ok(counts)
+        Ok(())
     }
 }
 

@@ -10,33 +10,33 @@ ghost use Rattle.ps_certificate.specs.Texts.{IsZero};
 use crate::cursor::Cursor;
 use crate::fault::{CertCause, CertFault};
 use crate::rising::place_of;
-use std::alloc::Global;
 
 impl<'a> Cursor<'a> {
     /// The counts for these priorities that come next, all of them, or in a compact text those that are not 0; and the
-    /// end of the line.
+    /// end of the line. They take the place of what was in a list.
     pub(crate) fn counts_for(
         &mut self,
-        alloc: Global,
         priorities: &[u64],
         compact: bool,
-    ) -> Result<Vec<u64>, CertFault>
+        counts: &mut Vec<u64>,
+    ) -> Result<(), CertFault>
         requires { IsStrictlyIncreasing priorities.now }
-        ensures { Tells (λ v. v.items) (parts.counts_in compact priorities.now) self.old result self.new }
+        ensures { Tells (λ _. counts.new.items) (parts.counts_in compact priorities.now) self.old result self.new }
     {
         if compact {
-            self.pairs(alloc, priorities)
+            self.pairs(priorities, counts)
         } else {
-            self.counts(alloc, priorities.len())
+            self.counts(priorities.len(), counts)
         }
     }
 
     /// Pairs of a priority and its count, each behind a space, and the end of the line. A count left out is 0.
-    fn pairs(&mut self, alloc: Global, priorities: &[u64]) -> Result<Vec<u64>, CertFault>
+    fn pairs(&mut self, priorities: &[u64], counts: &mut Vec<u64>) -> Result<(), CertFault>
         requires { IsStrictlyIncreasing priorities.now }
-        ensures { Tells (λ v. v.items) (parts.counts_in true priorities.now) self.old result self.new }
+        ensures { Tells (λ _. counts.new.items) (parts.counts_in true priorities.now) self.old result self.new }
     {
-        let mut counts = vec![in alloc; 0; priorities.len()]?;
+        counts.clear();
+        counts.resize(priorities.len(), 0)?;
         let mut last = None;
         'more: while self.comes(b' ') {
             let (place, count) = self.pair(priorities, last)?;
@@ -44,7 +44,7 @@ impl<'a> Cursor<'a> {
             last = Some(priorities[place]);
         }
         self.byte(b'\n')?;
-        Ok(counts)
+        Ok(())
     }
 
     /// The place of a priority above the last one, and its count.

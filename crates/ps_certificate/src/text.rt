@@ -11,8 +11,9 @@ ghost use Rattle.ps_certificate.specs.Texts as parts;
 ghost use Rattle.ps_certificate.specs.Texts.{Reads, IsAnswer};
 ghost use Rattle.ps_certificate.specs.declared.fault.CertCause.{CertCause};
 
-use crate::certificate::{Certificate, Entry};
+use crate::certificate::Certificate;
 use crate::cursor::Cursor;
+use crate::entries::{Entries, Entry};
 use crate::fault::{CertCause, CertFault};
 use ps_game::{Arena, NamedGame, priorities_of};
 use ps_ids::Ids;
@@ -68,17 +69,24 @@ fn head(cursor: &mut Cursor, known: &Known, count: usize) -> Result<bool, CertFa
     Ok(compact)
 }
 
-/// The entry of the vertex with an id, from its line.
+/// Who wins a vertex, by which move.
+#[derive(Clone, Copy)]
+struct Won {
+    winner: u8,
+    choice: Option<usize>,
+}
+
+/// Who wins the vertex with an id, by which move, from its line. Its counts take the place of what was in a list.
 fn entry(
-    alloc: Global,
     cursor: &mut Cursor,
     known: &Known,
     compact: bool,
     id: u64,
-) -> Result<Entry, CertFault>
+    counts: &mut Vec<u64>,
+) -> Result<Won, CertFault>
     requires odd { IsStrictlyIncreasing known.now.odd.items }
     requires even { IsStrictlyIncreasing known.now.even.items }
-    ensures { Tells (λ e. e) (parts.entry compact known.now.odd.items known.now.even.items known.now.ids id) cursor.old result cursor.new }
+    ensures { Tells (λ won. record { winner = won.winner; choice = won.choice; counts = counts.new.items }) (parts.entry compact known.now.odd.items known.now.even.items known.now.ids id) cursor.old result cursor.new }
 {
     cursor.exactly(id)?;
     cursor.byte(b' ')?;
@@ -86,12 +94,8 @@ fn entry(
     cursor.byte(b' ')?;
     let choice = cursor.choice(&known.ids)?;
     let priorities = known.lost_by(winner);
-    let counts = cursor.counts_for(alloc, priorities, compact)?;
-    Ok(Entry {
-        winner,
-        choice,
-        counts,
-    })
+    cursor.counts_for(priorities, compact, counts)?;
+    Ok(Won { winner, choice })
 }
 
 /// The entries of all vertices, a line each.
@@ -101,14 +105,20 @@ fn entries(
     known: &Known,
     compact: bool,
     game: &NamedGame,
-) -> Result<Vec<Entry>, CertFault>
+) -> Result<Entries, CertFault>
     requires odd { IsStrictlyIncreasing known.now.odd.items }
     requires even { IsStrictlyIncreasing known.now.even.items }
-    ensures { Tells (λ v. v.items) (parts.entries compact known.now.odd.items known.now.even.items known.now.ids game.now.ids) cursor.old result cursor.new }
+    ensures { Tells (λ es. es) (parts.entries compact known.now.odd.items known.now.even.items known.now.ids game.now.ids) cursor.old result cursor.new }
 {
-    let mut entries = Vec::new(alloc);
+    let mut entries = Entries::new(alloc);
+    let mut counts = Vec::new(alloc);
     for vertex in 0..game.game().count() {
-        entries.push(entry(alloc, cursor, known, compact, game.id(vertex))?)?;
+        let won = entry(cursor, known, compact, game.id(vertex), &mut counts)?;
+        entries.push(&Entry {
+            winner: won.winner,
+            choice: won.choice,
+            counts: &counts,
+        })?;
     }
     Ok(entries)
 }
@@ -119,7 +129,7 @@ fn entries_of(
     text: &[u8],
     known: &Known,
     game: &NamedGame,
-) -> Result<Vec<Entry>, CertFault>
+) -> Result<Entries, CertFault>
     requires odd { IsStrictlyIncreasing known.now.odd.items }
     requires even { IsStrictlyIncreasing known.now.even.items }
     requires ids { known.now.ids ≡ game.now.ids }

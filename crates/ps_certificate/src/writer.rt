@@ -7,7 +7,8 @@ ghost use Rattle.ps_certificate.specs.Certificates.{Fits};
 ghost use Rattle.ps_certificate.specs.Texts.{Reads, lost_by};
 ghost use Rattle.ps_certificate.specs.Written.{IsWord, IsWritable, fields, pairs, counts_text, line_with, entry_lines, version_digit, head_text, text_in, certificate_text, compact_text};
 
-use crate::certificate::{Certificate, Entry};
+use crate::certificate::Certificate;
+use crate::entries::{Entries, Entry};
 use ps_game::{Arena, NamedGame};
 use ps_text::numbers::write_number;
 use std::alloc::{AllocError, Global};
@@ -98,7 +99,7 @@ fn version_digit(compact: bool) -> u8
 fn write_entries(
     out: &mut Vec<u8>,
     game: &NamedGame,
-    entries: &[Entry],
+    entries: &Entries,
     odd: &[u64],
     even: &[u64],
     compact: bool,
@@ -110,9 +111,10 @@ fn write_entries(
     ensures ids { OnOk result (All IsWord game.now.ids) }
     ensures counts { OnOk result (All (λ entry. All IsWord entry.counts) entries.now) }
 {
-    for (vertex, entry) in entries.iter().enumerate() {
+    for vertex in 0..entries.len() {
+        let entry = entries.get(vertex);
         let priorities = lost_by(odd, even, entry.winner);
-        write_entry(out, game, vertex, entry, priorities, compact)?;
+        write_entry(out, game, vertex, &entry, priorities, compact)?;
     }
     Ok(())
 }
@@ -147,7 +149,7 @@ fn write_entry(
         Some(successor) => write_number(out, game.id(successor))?,
         None => out.push(b'-')?,
     }
-    write_counts(out, priorities, &entry.counts, compact)?;
+    write_counts(out, priorities, entry.counts, compact)?;
     out.push(b'\n')?;
     Ok(())
 }

@@ -230,8 +230,9 @@ fn is_count(alloc: Global, ranks: &Ranks, vertex: usize, count: u64) -> bool {
     if vertex >= ranks.counts.len() {
         return false;
     }
-    match ranks.counts.row(alloc, vertex) {
-        Ok(row) => row.as_slice() == [count].as_slice(),
+    let mut row = Vec::new(alloc);
+    match ranks.counts.row_into(vertex, &mut row) {
+        Ok(()) => row.as_slice() == [count].as_slice(),
         Err(_) => false,
     }
 }
@@ -347,8 +348,10 @@ fn add_counts(
     counts: &CountTable,
     found: &mut Vec<Option<u64>>,
 ) -> Result<(), MeasureFault> {
+    let mut row = Vec::new(alloc);
     for vertex in 0..counts.len() {
-        for &count in &counts.row(alloc, vertex)? {
+        counts.row_into(vertex, &mut row)?;
+        for &count in &row {
             found.push(Some(count))?;
         }
     }

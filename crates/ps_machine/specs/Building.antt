@@ -1,5 +1,5 @@
 -- How a certificate is made of two regions, their tables and their counts. (Of private functions.)
-use Rattle.std.specs.Prelude.{◌≡◌, ◌≢◌, ℕ, ◌<◌, List, length, Option, None, Some, Bool, true, false, slice_get, slice_index_or}
+use Rattle.std.specs.Prelude.{◌≡◌, ◌≢◌, ℕ, ◌<◌, List, [], ◌∷◌, ◌++◌, length, Option, None, Some, Bool, true, false, slice_get, slice_index_or}
 use Rattle.ps_game.specs.Games.{ParityGame, owner_of}
 use Rattle.ps_game.specs.Regions.{has}
 use Rattle.ps_certificate.specs.Certificates.{EntryData, no_entry}
@@ -20,6 +20,12 @@ pub record IsEntryAmong (game : ParityGame) (player : ℕ) (table : ℕ → Opti
   pub row : List ℕ
   pub has_row : HasRow rows v row
   pub is_entry : IsEntryFor game player table v row entry
+
+-- an entry of which that holds is appended
+pub record Adds (Is : EntryData → Type 0) (old new : List EntryData) : Type 0 where
+  pub entry : EntryData
+  pub is : Is entry
+  pub added : new ≡ old ++ entry ∷ []
 
 -- an entry for each of the first n vertices: player 0 wins those of the region by the first table, player 1 all others by the second
 pub record AreEntries (game : ParityGame) (region : List Bool) (first second : ℕ → Option ℕ) (first_rows second_rows : List (List ℕ)) (n : ℕ) (entries : List EntryData) : Type 0 where

@@ -1,20 +1,20 @@
 //! The solver that psyn has of its own.
 
-ghost use Rattle.std.specs.Prelude.{◌≡◌, ◌<◌, true, false, None, IfOk, IfErr, length};
+ghost use Rattle.std.specs.Prelude.{◌≡◌, ◌<◌, true, false, None, IfOk, IfErr, OnOk, length};
 ghost use Rattle.ps_certificate.specs.Certificates.{Fits, IsValid};
 ghost use Rattle.ps_game.specs.Flat.{FitsWithin};
 ghost use Rattle.ps_game.specs.Games.{vertex_count, owner_of};
 ghost use Rattle.ps_game.specs.Plays.{Holds};
 ghost use Rattle.ps_game.specs.Regions.{has, move_at};
 ghost use Rattle.ps_measure.specs.Ranks.{AreRanks};
-ghost use Rattle.ps_machine.specs.Building.{AreEntries, IsEntryAmong, IsEntryFor};
+ghost use Rattle.ps_machine.specs.Building.{Adds, AreEntries, IsEntryAmong, IsEntryFor};
 ghost use Rattle.ps_zielonka.specs.Answers.{others};
 ghost use Rattle.ps_machine.specs.Solving.{HasLeastCounts};
 ghost use Rattle.ps_machine.specs.declared.fault.SolveFault.TheVariants as faults;
 
 use crate::fault::SolveFault;
 use crate::solver::Solver;
-use ps_certificate::{Certificate, Entry};
+use ps_certificate::{Certificate, Entries, Entry};
 use ps_game::{Arena, Counts, FlatGame, Game, NamedGame, Region, Strategy, Width, fits_narrow};
 use ps_measure::{CountTable, MeasureFault, Ranks, ranks};
 use ps_zielonka::regions;
@@ -148,82 +148,85 @@ fn entries_of<A: Arena>(
     second: &Strategy,
     first_rows: &CountTable,
     second_rows: &CountTable,
-) -> Result<Vec<Entry>, AllocError>
+) -> Result<Entries, AllocError>
     requires region { length won.now ≡ vertex_count (A.game arena.now) }
     requires first { length first.now ≡ vertex_count (A.game arena.now) }
     requires second { length second.now ≡ vertex_count (A.game arena.now) }
     requires first_rows { length first_rows.now ≡ vertex_count (A.game arena.now) }
     requires second_rows { length second_rows.now ≡ vertex_count (A.game arena.now) }
     ensures { IfOk result
-        (λ entries. AreEntries (A.game arena.now) won.now (move_at first.now) (move_at second.now) first_rows.now second_rows.now (vertex_count (A.game arena.now)) entries.items) }
+        (λ entries. AreEntries (A.game arena.now) won.now (move_at first.now) (move_at second.now) first_rows.now second_rows.now (vertex_count (A.game arena.now)) entries) }
 {
-    let mut entries = Vec::with_capacity(alloc, arena.count())?;
+    let mut entries = Entries::with_capacity(alloc, arena.count())?;
+    let mut row = Vec::new(alloc);
     for vertex in 0..arena.count() {
         let first = (first, first_rows);
         let second = (second, second_rows);
-        let entry = entry_of(alloc, arena, vertex, won, first, second)?;
-        entries.push(entry)?;
+        add_entry(arena, vertex, won, first, second, &mut row, &mut entries)?;
     }
     Ok(entries)
 }
 
-/// The entry of a vertex: player 0 wins those of a region by the first table and rows, player 1 all others by the
-/// second.
-fn entry_of<A: Arena>(
-    alloc: Global,
+/// Appends the entry of a vertex: player 0 wins those of a region by the first table and rows, player 1 all others by
+/// the second. What was in the row is overwritten.
+fn add_entry<A: Arena>(
     arena: &A,
     vertex: usize,
     won: &Region,
     first: (&Strategy, &CountTable),
     second: (&Strategy, &CountTable),
-) -> Result<Entry, AllocError>
+    row: &mut Vec<u64>,
+    entries: &mut Entries,
+) -> Result<(), AllocError>
     requires vertex { vertex < vertex_count (A.game arena.now) }
     requires region { length won.now ≡ vertex_count (A.game arena.now) }
     requires first { length first.0.now ≡ vertex_count (A.game arena.now) }
     requires first_rows { length first.1.now ≡ vertex_count (A.game arena.now) }
     requires second { length second.0.now ≡ vertex_count (A.game arena.now) }
     requires second_rows { length second.1.now ≡ vertex_count (A.game arena.now) }
-    ensures won { has won.now vertex ≡ true → IfOk result (IsEntryAmong (A.game arena.now) 0 (move_at first.entry.0.now) first.entry.1.now vertex) }
-    ensures lost { has won.now vertex ≡ false → IfOk result (IsEntryAmong (A.game arena.now) 1 (move_at second.entry.0.now) second.entry.1.now vertex) }
+    ensures won { has won.now vertex ≡ true → OnOk result (Adds (IsEntryAmong (A.game arena.now) 0 (move_at first.entry.0.now) first.entry.1.now vertex) entries.old entries.new) }
+    ensures lost { has won.now vertex ≡ false → OnOk result (Adds (IsEntryAmong (A.game arena.now) 1 (move_at second.entry.0.now) second.entry.1.now vertex) entries.old entries.new) }
 {
     if won.contains(vertex) {
         let (strategy, rows) = first;
-        entry_among(alloc, arena, vertex, 0, strategy, rows)
+        add_entry_among(arena, vertex, 0, strategy, rows, row, entries)
     } else {
         let (strategy, rows) = second;
-        entry_among(alloc, arena, vertex, 1, strategy, rows)
+        add_entry_among(arena, vertex, 1, strategy, rows, row, entries)
     }
 }
 
-/// The entry of a vertex that a player wins, with its row of these counts.
-fn entry_among<A: Arena>(
-    alloc: Global,
+/// Appends the entry of a vertex that a player wins, with its row of these counts.
+fn add_entry_among<A: Arena>(
     arena: &A,
     vertex: usize,
     player: u8,
     strategy: &Strategy,
     rows: &CountTable,
-) -> Result<Entry, AllocError>
+    row: &mut Vec<u64>,
+    entries: &mut Entries,
+) -> Result<(), AllocError>
     requires vertex { vertex < vertex_count (A.game arena.now) }
     requires strategy { length strategy.now ≡ vertex_count (A.game arena.now) }
     requires rows { length rows.now ≡ vertex_count (A.game arena.now) }
-    ensures { IfOk result (IsEntryAmong (A.game arena.now) player (move_at strategy.now) rows.now vertex) }
+    ensures { OnOk result (Adds (IsEntryAmong (A.game arena.now) player (move_at strategy.now) rows.now vertex) entries.old entries.new) }
 {
-    let counts = rows.row(alloc, vertex)?;
-    Ok(entry(arena, vertex, player, strategy, counts))
+    rows.row_into(vertex, row)?;
+    entries.push(&entry(arena, vertex, player, strategy, row))?;
+    Ok(())
 }
 
 /// The entry of a vertex that a player wins, with its counts.
-fn entry<A: Arena>(
+fn entry<'a, A: Arena>(
     arena: &A,
     vertex: usize,
     player: u8,
     strategy: &Strategy,
-    counts: Vec<u64>,
-) -> Entry
+    counts: &'a [u64],
+) -> Entry<'a>
     requires vertex { vertex < vertex_count (A.game arena.now) }
     requires strategy { length strategy.now ≡ vertex_count (A.game arena.now) }
-    ensures { IsEntryFor (A.game arena.now) player (move_at strategy.now) vertex counts.items result }
+    ensures { IsEntryFor (A.game arena.now) player (move_at strategy.now) vertex counts.now result }
 {
     let choice = if arena.owner(vertex) == player {
         strategy.get(vertex)

@@ -12,7 +12,7 @@
 //! | Call | What it gives |
 //! |---|---|
 //! | `ranks` | `Ranks`: the priorities by which the player loses, and for each vertex a row with a count for each |
-//! | `CountTable::row`, `len` | the row of a vertex; how many rows there are |
+//! | `CountTable::row_into`, `len` | the row of a vertex, into a list; how many rows there are |
 //! | `MeasureFault::number`, `name` | a fault as psyn's list has it |
 #![tactic(auto)]
 

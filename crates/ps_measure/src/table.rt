@@ -1,9 +1,9 @@
 //! The counts that were found.
 
-ghost use Rattle.std.specs.Prelude.{◌≡◌, ◌<◌, Some, IfOk, length, slice_get, slice_index};
+ghost use Rattle.std.specs.Prelude.{◌≡◌, ◌<◌, Some, OnOk, length, slice_get, slice_index};
 ghost use Rattle.ps_measure.specs.Tables.{row_in};
 
-use std::alloc::{AllocError, Global};
+use std::alloc::AllocError;
 use std::marker::Model;
 
 /// A row of counts for each vertex, kept by columns: the counts of all vertices for one priority lie side by side. A
@@ -31,29 +31,29 @@ impl CountTable {
         self.count
     }
 
-    /// The counts of a vertex, one for each priority.
+    /// Puts the counts of a vertex, one for each priority, into a list, in the place of what was in it.
     ///
     /// # Errors
     ///
     /// Fails where a growth was refused.
-    pub fn row(&self, alloc: Global, vertex: usize) -> Result<Vec<u64>, AllocError>
+    pub fn row_into(&self, vertex: usize, row: &mut Vec<u64>) -> Result<(), AllocError>
         requires { vertex < length self.now }
-        ensures { IfOk result (λ row. slice_get self.now vertex ≡ Some row.items) }
+        ensures { OnOk result (slice_get self.now vertex ≡ Some row.new.items) }
     {
-        let row = row_in(alloc, &self.columns, vertex)?;
-        Ok(row)
+        row_in(&self.columns, vertex, row)?;
+        Ok(())
     }
 }
 
-/// The counts of a vertex in all columns.
-fn row_in(alloc: Global, columns: &[Vec<u64>], vertex: usize) -> Result<Vec<u64>, AllocError>
-    ensures { IfOk result (λ row. row.items ≡ row_in columns.now vertex) }
+/// Puts the counts of a vertex in all columns into a list, in the place of what was in it.
+fn row_in(columns: &[Vec<u64>], vertex: usize, row: &mut Vec<u64>) -> Result<(), AllocError>
+    ensures { OnOk result (row.new.items ≡ row_in columns.now vertex) }
 {
-    let mut row = Vec::with_capacity(alloc, columns.len())?;
+    row.clear();
     for column in columns {
         row.push(count_at(column, vertex))?;
     }
-    Ok(row)
+    Ok(())
 }
 
 /// The count of a vertex in a column.

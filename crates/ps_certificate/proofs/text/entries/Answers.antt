@@ -1,43 +1,46 @@
-use Rattle.std.proofs.Common.{ap, arith}
+use Rattle.std.proofs.Common.{ℕ, List, [], ◌∷◌, ◌++◌, ◌∙◌, ap, arith}
 use Rattle.ps_game.specs.Games.{vertex_count}
 use Rattle.ps_certificate.specs.Reading.{at_place}
 use Rattle.ps_certificate.specs.Texts.{entries}
 use Rattle.ps_certificate.proofs.Loops.{fails, entry_fails, entry_next, entries_end}
 use Rattle.ps_certificate.proofs.text.entries.Goals as goal
 
-pub returns-in_err-entry : goal.returns-in_err-entry
-returns-in_err-entry c =
+pub returns-in_err-won : goal.returns-in_err-won
+returns-in_err-won c =
     fails _ (entries c.args.compact c.args.known.now.odd.items c.args.known.now.even.items c.args.known.now.ids
     c.args.game.now.ids) c.args.cursor.now _ _ _
     (entry_fails c.args.compact c.args.known.now.odd.items c.args.known.now.even.items c.args.known.now.ids
     c.args.game.now.ids c.loop-vertex.vertex (at_place c.args.cursor.now)
-    (at_place c.loop-vertex.cursor) c.loop-vertex.entries.items c.loop-vertex.invariant
+    (at_place c.loop-vertex.cursor) c.loop-vertex.entries c.loop-vertex.invariant
     (omega (
       arith,
       c.count-vertex-end.ensures.vertices,
       ap vertex_count c.game.ensures.game,
       c.game.ensures.well_formed.id_each,
-    )) c.id.result c.id.ensures _ c.in_err-entry.ensures)
+    )) c.id.result c.id.ensures _ c.in_err-won.ensures)
     c.from_residual.ensures.1
 
 pub loop-vertex-preserved : goal.loop-vertex-preserved
 loop-vertex-preserved c =
     entry_next c.args.compact c.args.known.now.odd.items c.args.known.now.even.items c.args.known.now.ids
     c.args.game.now.ids c.loop-vertex.vertex (at_place c.args.cursor.now)
-    (at_place c.loop-vertex.cursor) c.loop-vertex.entries.items c.loop-vertex.invariant
+    (at_place c.loop-vertex.cursor) c.loop-vertex.entries c.loop-vertex.invariant
     (omega (
       arith,
       c.count-vertex-end.ensures.vertices,
       ap vertex_count c.game.ensures.game,
       c.game.ensures.well_formed.id_each,
     )) c.id.result c.id.ensures
-    (at_place c.entry.new.cursor) _ c.in_ok-entry.ensures _ c.in_ok-push.ensures.items
+    (at_place c.entry.new.cursor) _ c.in_ok-won.ensures _
+    (c.in_ok-push.ensures.ok
+    ∙ ap (λ (counts : List ℕ). c.loop-vertex.entries ++ record { winner = c.in_ok-won.won.winner; choice = c.in_ok-won.won.choice; counts = counts } ∷ [])
+    c.deref.ensures.value)
 
 pub returns : goal.returns
 returns c =
     entries_end c.args.compact c.args.known.now.odd.items c.args.known.now.even.items c.args.known.now.ids
     c.args.game.now.ids c.loop-vertex.vertex (at_place c.args.cursor.now)
-    (at_place c.loop-vertex.cursor) c.loop-vertex.entries.items c.loop-vertex.invariant
+    (at_place c.loop-vertex.cursor) c.loop-vertex.entries c.loop-vertex.invariant
     (omega (
       arith,
       c.count-vertex-end.ensures.vertices,

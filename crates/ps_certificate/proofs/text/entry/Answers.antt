@@ -6,14 +6,14 @@ use Rattle.ps_certificate.proofs.text.entry.Goals as goal
 
 pub returns-in_err-exactly : goal.returns-in_err-exactly
 returns-in_err-exactly c =
-    fails (λ e. e) (entry c.args.compact c.args.known.now.odd.items c.args.known.now.even.items c.args.known.now.ids
+    fails _ (entry c.args.compact c.args.known.now.odd.items c.args.known.now.even.items c.args.known.now.ids
     c.args.id) c.args.cursor.now _ _ _
     (at_id c.args.compact c.args.known.now.odd.items c.args.known.now.even.items c.args.known.now.ids c.args.id
     (at_place c.args.cursor.now) _ c.in_err-exactly.ensures) c.from_residual.ensures.1
 
 pub returns-in_err-byte : goal.returns-in_err-byte
 returns-in_err-byte c =
-    fails (λ e. e) (entry c.args.compact c.args.known.now.odd.items c.args.known.now.even.items c.args.known.now.ids
+    fails _ (entry c.args.compact c.args.known.now.odd.items c.args.known.now.even.items c.args.known.now.ids
     c.args.id) c.args.cursor.now _ _ _
     (at_first_space c.args.compact c.args.known.now.odd.items c.args.known.now.even.items c.args.known.now.ids
     c.args.id (at_place c.args.cursor.now) _ _ c.in_ok-exactly.ensures _ c.in_err-byte.ensures)
@@ -21,7 +21,7 @@ returns-in_err-byte c =
 
 pub returns-in_err-winner : goal.returns-in_err-winner
 returns-in_err-winner c =
-    fails (λ e. e) (entry c.args.compact c.args.known.now.odd.items c.args.known.now.even.items c.args.known.now.ids
+    fails _ (entry c.args.compact c.args.known.now.odd.items c.args.known.now.even.items c.args.known.now.ids
     c.args.id) c.args.cursor.now _ _ _
     (at_winner c.args.compact c.args.known.now.odd.items c.args.known.now.even.items c.args.known.now.ids c.args.id
     (at_place c.args.cursor.now) _ _ c.in_ok-exactly.ensures _ c.in_ok-byte.ensures _ c.in_err-winner.ensures)
@@ -29,7 +29,7 @@ returns-in_err-winner c =
 
 pub returns-in_err-byte-2 : goal.returns-in_err-byte-2
 returns-in_err-byte-2 c =
-    fails (λ e. e) (entry c.args.compact c.args.known.now.odd.items c.args.known.now.even.items c.args.known.now.ids
+    fails _ (entry c.args.compact c.args.known.now.odd.items c.args.known.now.even.items c.args.known.now.ids
     c.args.id) c.args.cursor.now _ _ _
     (at_second_space c.args.compact c.args.known.now.odd.items c.args.known.now.even.items c.args.known.now.ids
     c.args.id (at_place c.args.cursor.now) _ _ c.in_ok-exactly.ensures _ c.in_ok-byte.ensures _ _
@@ -38,26 +38,26 @@ returns-in_err-byte-2 c =
 
 pub returns-in_err-choice : goal.returns-in_err-choice
 returns-in_err-choice c =
-    fails (λ e. e) (entry c.args.compact c.args.known.now.odd.items c.args.known.now.even.items c.args.known.now.ids
+    fails _ (entry c.args.compact c.args.known.now.odd.items c.args.known.now.even.items c.args.known.now.ids
     c.args.id) c.args.cursor.now _ _ _
     (at_choice c.args.compact c.args.known.now.odd.items c.args.known.now.even.items c.args.known.now.ids c.args.id
     (at_place c.args.cursor.now) _ _ c.in_ok-exactly.ensures _ c.in_ok-byte.ensures _ _ c.in_ok-winner.ensures _
     c.in_ok-byte-2.ensures
     _ c.in_err-choice.ensures) c.from_residual-in_err-choice.ensures.1
 
-pub returns-in_err-counts : goal.returns-in_err-counts
-returns-in_err-counts c =
-    fails (λ e. e) (entry c.args.compact c.args.known.now.odd.items c.args.known.now.even.items c.args.known.now.ids
+pub returns-in_err-counts_for : goal.returns-in_err-counts_for
+returns-in_err-counts_for c =
+    fails _ (entry c.args.compact c.args.known.now.odd.items c.args.known.now.even.items c.args.known.now.ids
     c.args.id) c.args.cursor.now _ _ _
     (at_counts c.args.compact c.args.known.now.odd.items c.args.known.now.even.items c.args.known.now.ids c.args.id
     (at_place c.args.cursor.now) _ _ c.in_ok-exactly.ensures _ c.in_ok-byte.ensures _ _ c.in_ok-winner.ensures _
     c.in_ok-byte-2.ensures
-    _ _ c.in_ok-choice.ensures _ c.lost_by-priorities.ensures _ c.in_err-counts.ensures)
-    c.from_residual-in_err-counts.ensures.1
+    _ _ c.in_ok-choice.ensures _ c.lost_by-priorities.ensures _ c.in_err-counts_for.ensures)
+    c.from_residual-in_err-counts_for.ensures.1
 
 pub returns : goal.returns
 returns c =
     entry_reads c.args.compact c.args.known.now.odd.items c.args.known.now.even.items c.args.known.now.ids c.args.id
     (at_place c.args.cursor.now) _ _ c.in_ok-exactly.ensures _ c.in_ok-byte.ensures _ _ c.in_ok-winner.ensures _
     c.in_ok-byte-2.ensures
-    _ _ c.in_ok-choice.ensures _ c.lost_by-priorities.ensures _ _ c.in_ok-counts.ensures
+    _ _ c.in_ok-choice.ensures _ c.lost_by-priorities.ensures _ _ c.in_ok-counts_for.ensures

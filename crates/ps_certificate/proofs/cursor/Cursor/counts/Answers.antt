@@ -9,7 +9,7 @@ returns-in_err-byte c =
     fails _ (counts c.args.count) c.args.self.now _ _ _
     (space_fails c.args.count c.loop.counter (at_place c.args.self.now)
     (at_place c.loop.self) c.loop.counts.items c.loop.invariant c.loop-test.true _ c.in_err-byte.ensures)
-    c.from_residual-in_err-byte.ensures.1
+    c.from_residual.ensures.1
 
 pub returns-in_err-number : goal.returns-in_err-number
 returns-in_err-number c =

@@ -1,13 +1,17 @@
-use Rattle.std.proofs.Common.{true, length, refl, sym}
+use Rattle.std.proofs.Common.{◌≡◌, [], None, true, length, replicate, refl, sym, subst, arith}
+use Rattle.std.proofs.lemmas.Grind.{common_steps}
 use Rattle.ps_certificate.specs.Reading.{at_place}
 use Rattle.ps_certificate.specs.Texts.{counts_in}
 use Rattle.ps_certificate.proofs.Loops.{fails}
-use Rattle.ps_certificate.proofs.PairLoops.{no_pairs_yet, pair_more, pair_fails, pairs_fail, pairs_done, pair_shrinks}
+use Rattle.ps_certificate.proofs.PairLoops.{PairsSoFar, no_pairs_yet, pair_more, pair_fails, pairs_fail, pairs_done, pair_shrinks}
 use Rattle.ps_certificate.proofs.cursor.Cursor.pairs.Goals as goal
 
 pub more-init : goal.more-init
 more-init c =
-    rw (c.in_ok-counts.ensures.items_if_clones_equal (λ y e. e))
+    let none : c.clear.new.self.items ≡ [] = c.clear.ensures.items in
+    let zeros : c.resize.new.self.items ≡ replicate (length c.args.priorities.now) 0 =
+    grind (arith, common_steps, c.in_ok-resize.ensures.items, c.clear.ensures.len) in
+    subst (PairsSoFar c.args.priorities.now (at_place c.args.self.now) c.args.self.now None) (sym zeros)
     (no_pairs_yet c.args.priorities.now c.args.self.now (length c.args.priorities.now) refl)
 
 pub returns-in_err-place : goal.returns-in_err-place
