@@ -1,16 +1,16 @@
 -- The rule of counts at one edge, and the first edge of a vertex that breaks it.
-use Rattle.std.proofs.Common.{◌≡◌, ◌≢◌, ℕ, ◌%◌, ◌<◌, ◌≤◌, ◌∙◌, List, length, get_or, max, ◌⊎◌, inl, inr, sym, ap, subst, arith, refl, Some, true, false, zero, suc, cond}
-use Rattle.std.specs.Prelude.{slice_index, ◌==◌}
+use Rattle.std.proofs.Common.{◌≡◌, ◌≢◌, ℕ, ◌%◌, ◌<◌, ◌≤◌, ◌∙◌, List, length, get_or, max, ◌⊎◌, inl, inr, sym, ap, subst, arith, refl, None, Some, Option, true, false, zero, suc, cond}
+use Rattle.std.specs.Prelude.{slice_index, ◌==◌, IfNone}
 use Rattle.std.specs.List.{Contains}
 use Rattle.std.specs.List.Sorted.{IsStrictlyIncreasing}
 use Rattle.std.proofs.lemmas.Bool.{cases_order, cases_lt, cases_eq}
 use Rattle.ps_game.specs.Games.{ParityGame, vertex_count, owner_of, priority_of, successors_of, HasEdge}
 use Rattle.ps_certificate.specs.declared.flaw.Flaw.{Flaw}
 use Rattle.ps_certificate.specs.declared.flaw.Flaw.TheVariants.{Move, Escape, Rank}
-use Rattle.ps_certificate.specs.Certificates.{CertificateData, Fits, Remains, IsClosed, IsValid, KeepsCount, BreaksCount, IsFlaw, Precedes, IsFirstFlaw, StandsBefore, winner_of, choice_of, counts_of, opposing, opposing_at}
-use Rattle.ps_certificate.specs.Prefixes.{IsFirstBroken, IsFirstFlawAt, KeepsCounts, KeepsCountsAt, stage_of, vertex_of}
+use Rattle.ps_certificate.specs.Certificates.{CertificateData, Fits, Remains, HasRightMove, IsClosed, IsValid, KeepsCount, BreaksCount, IsFlaw, Precedes, IsFirstFlaw, StandsBefore, winner_of, choice_of, counts_of, opposing, opposing_at}
+use Rattle.ps_certificate.specs.Prefixes.{IsFirstBroken, IsFirstFlawAt, KeepsCounts, KeepsCountsAt, KeepCountsBefore, IsSoundAt, stage_of, vertex_of}
 use Rattle.ps_certificate.proofs.Edges.{place_of, IsSomeAnd-at, Remains-own}
-use Rattle.ps_certificate.proofs.FirstFlaws.{first_of_stage, closed_has_no_flaw, stage_cases}
+use Rattle.ps_certificate.proofs.FirstFlaws.{first_of_stage, closed_has_no_flaw, stage_cases, IsClosed-from_sound}
 use Rattle.ps_certificate.proofs.Lists.{rising_far}
 
 -- the lists of opposing priorities rise
@@ -132,9 +132,9 @@ IsFirstFlawAt-rank game certificate v w p fits remains same_winner broken edges 
         subst Q (sym same) (here w' p' (subst P same is_flaw))
 
 -- the winner's move is an edge
-pub own_edge : (game : ParityGame) (certificate : CertificateData) (v w : ℕ) → IsClosed game certificate → v < vertex_count game → owner_of game v ≡ winner_of certificate v → choice_of certificate v ≡ Some w → Remains game certificate v w
-own_edge game certificate v w closed below own is =
-    Remains-own game certificate v w is (IsSomeAnd-at (choice_of certificate v) (HasEdge game v) w is ((closed.moves v below).own own))
+pub own_edge : (game : ParityGame) (certificate : CertificateData) (v w : ℕ) → HasRightMove game certificate v → owner_of game v ≡ winner_of certificate v → choice_of certificate v ≡ Some w → Remains game certificate v w
+own_edge game certificate v w right own is =
+    Remains-own game certificate v w is (IsSomeAnd-at (choice_of certificate v) (HasEdge game v) w is (right.own own))
 
 -- a vertex that its winner owns has one edge that remains
 pub own_edges : (game : ParityGame) (certificate : CertificateData) (v w : ℕ) → owner_of game v ≡ winner_of certificate v → choice_of certificate v ≡ Some w → (w' : ℕ) → Remains game certificate v w' → w' ≡ w
@@ -183,3 +183,12 @@ pub valid_has_no_flaw : (game : ParityGame) (certificate : CertificateData) (fla
 valid_has_no_flaw game certificate (Move v m) valid is_flaw = closed_has_no_flaw game certificate valid.closed (Move v m) is_flaw refl
 valid_has_no_flaw game certificate (Escape v w) valid is_flaw = closed_has_no_flaw game certificate valid.closed (Escape v w) is_flaw refl
 valid_has_no_flaw game certificate (Rank v w p) valid is_flaw = is_flaw.broken (valid.counts v w is_flaw.place is_flaw.remains is_flaw.same_winner is_flaw.within)
+
+-- a certificate whose vertices are all sound, with no flaw found in counts
+pub valid_in_the_end : (game : ParityGame) (certificate : CertificateData) (n : ℕ) (found : Option Flaw) → vertex_count game ≤ n
+    → ((v : ℕ) → v < n → IsSoundAt game certificate v) → IfNone found (KeepCountsBefore game certificate n) → found ≡ None
+    → IsValid game certificate
+valid_in_the_end game certificate n found all sound kept none =
+    let closed : IsClosed game certificate = IsClosed-from_sound game certificate (λ v below. sound v (omega (arith, below, all))) in
+    let keeps : KeepCountsBefore game certificate n = rw none at kept in
+    IsValid-from_kept game certificate closed (λ v below. keeps v (omega (arith, below, all)))

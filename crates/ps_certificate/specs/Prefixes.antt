@@ -67,6 +67,16 @@ KeepsCounts game certificate v w = (k : ℕ) → k < length (opposing certificat
 abbrev pub KeepsCountsAt : ParityGame → CertificateData → ℕ → Type 0
 KeepsCountsAt game certificate v = (w : ℕ) → Remains game certificate v w → KeepsCounts game certificate v w
 
+-- the vertices before a place do
+abbrev pub KeepCountsBefore : ParityGame → CertificateData → ℕ → Type 0
+KeepCountsBefore game certificate n = (v : ℕ) → v < n → KeepsCountsAt game certificate v
+
+-- the first flaw in counts at a vertex, where each earlier one keeps the rule
+pub record IsFirstUnranked (game : ParityGame) (certificate : CertificateData) (flaw : Flaw) : Type 0 where
+  pub vertex : ℕ
+  pub at_vertex : IsFirstFlawAt game certificate 1 vertex flaw
+  pub before : KeepCountsBefore game certificate vertex
+
 -- the first opposing priority for which an edge breaks the rule
 pub record IsFirstBroken (game : ParityGame) (certificate : CertificateData) (v w p : ℕ) : Type 0 where
   pub place : ℕ

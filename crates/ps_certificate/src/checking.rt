@@ -1,13 +1,13 @@
 //! The whole check: what is closed, and the rule of counts on each edge that remains.
 
-ghost use Rattle.std.specs.Prelude.{◌≡◌, ℕ, ◌<◌, ◌↔◌, IsTrue, IsOk, IfErr, OnOk, IfNone, IfSome};
+ghost use Rattle.std.specs.Prelude.{◌≡◌, ℕ, ◌+◌, ◌<◌, ◌↔◌, IsTrue, IsOk, IfErr, OnOk, IfNone, IfSome};
 ghost use Rattle.ps_game.specs.Games.{vertex_count};
-ghost use Rattle.ps_certificate.specs.Certificates.{Fits, IsClosed, IsValid, IsFirstFlaw, winner_of};
+ghost use Rattle.ps_certificate.specs.Certificates.{Fits, IsValid, IsFirstFlaw, winner_of};
 ghost use Rattle.ps_certificate.specs.Regions.{BothHold, NoneWinsOutside};
-ghost use Rattle.ps_certificate.specs.Prefixes.{KeepsCounts, KeepsCountsAt, IsFirstBroken, IsFirstFlawAt};
+ghost use Rattle.ps_certificate.specs.Prefixes.{IsSoundAt, KeepsCounts, KeepsCountsAt, KeepCountsBefore, IsFirstBroken, IsFirstFlawAt, IsFirstUnranked};
 
 use crate::certificate::Certificate;
-use crate::closing::closed;
+use crate::closing::unsound_at;
 use crate::flaw::Flaw;
 use crate::rising::first_at_least;
 use ps_game::Arena;
@@ -47,7 +47,7 @@ fn broken_priority<A: Arena>(
 fn unranked_at<A: Arena>(arena: &A, certificate: &Certificate, vertex: usize) -> Option<Flaw>
     requires fits { Fits (A.game arena.now) certificate.now }
     requires vertex { vertex < vertex_count (A.game arena.now) }
-    requires closed { IsClosed (A.game arena.now) certificate.now }
+    requires sound { IsSoundAt (A.game arena.now) certificate.now vertex }
     ensures none { IfNone result (KeepsCountsAt (A.game arena.now) certificate.now vertex) }
     ensures some { IfSome result (IsFirstFlawAt (A.game arena.now) certificate.now 1 vertex) }
 {
@@ -78,8 +78,29 @@ fn unranked_at<A: Arena>(arena: &A, certificate: &Certificate, vertex: usize) ->
     None
 }
 
+/// The first flaw in counts of the vertices up to one, from that of the earlier ones.
+fn unranked_through<A: Arena>(
+    arena: &A,
+    certificate: &Certificate,
+    vertex: usize,
+    earlier: Option<Flaw>,
+) -> Option<Flaw>
+    requires fits { Fits (A.game arena.now) certificate.now }
+    requires vertex { vertex < vertex_count (A.game arena.now) }
+    requires sound { IsSoundAt (A.game arena.now) certificate.now vertex }
+    requires none { IfNone earlier (KeepCountsBefore (A.game arena.now) certificate.now vertex) }
+    requires some { IfSome earlier (IsFirstUnranked (A.game arena.now) certificate.now) }
+    ensures none { IfNone result (KeepCountsBefore (A.game arena.now) certificate.now (vertex + 1)) }
+    ensures some { IfSome result (IsFirstUnranked (A.game arena.now) certificate.now) }
+{
+    match earlier {
+        Some(flaw) => Some(flaw),
+        None => unranked_at(arena, certificate, vertex),
+    }
+}
+
 /// Whether a certificate is valid: it is closed, and each edge that remains keeps the rule of counts.
-/// Else the first flaw: that of [`closed`] if there is one, else the first edge that breaks the rule, by
+/// Else the first flaw: that of [`crate::closed`] if there is one, else the first edge that breaks the rule, by
 /// vertex, in the order of successors, by priority. Takes no memory.
 ///
 /// # Errors
@@ -92,13 +113,15 @@ pub fn check<A: Arena>(arena: &A, certificate: &Certificate) -> Result<(), Flaw>
     ensures regions { OnOk result (BothHold (A.game arena.now) certificate.now) }
     ensures best { OnOk result (NoneWinsOutside (A.game arena.now) certificate.now) }
 {
-    if let Err(flaw) = closed(arena, certificate) {
-        return Err(flaw);
-    }
+    let mut unranked = None;
     for vertex in 0..arena.count() {
-        if let Some(flaw) = unranked_at(arena, certificate, vertex) {
+        if let Some(flaw) = unsound_at(arena, certificate, vertex) {
             return Err(flaw);
         }
+        unranked = unranked_through(arena, certificate, vertex, unranked);
     }
-    Ok(())
+    match unranked {
+        Some(flaw) => Err(flaw),
+        None => Ok(()),
+    }
 }

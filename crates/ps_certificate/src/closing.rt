@@ -65,7 +65,11 @@ fn first_escape<A: Arena>(arena: &A, certificate: &Certificate, vertex: usize) -
 }
 
 /// The first flaw of a vertex in its move or in what remains of its edges.
-fn unsound_at<A: Arena>(arena: &A, certificate: &Certificate, vertex: usize) -> Option<Flaw>
+pub(crate) fn unsound_at<A: Arena>(
+    arena: &A,
+    certificate: &Certificate,
+    vertex: usize,
+) -> Option<Flaw>
     requires fits { Fits (A.game arena.now) certificate.now }
     requires vertex { vertex < vertex_count (A.game arena.now) }
     ensures none { IfNone result (IsSoundAt (A.game arena.now) certificate.now vertex) }

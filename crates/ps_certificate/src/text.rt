@@ -110,9 +110,10 @@ fn entries(
     requires even { IsStrictlyIncreasing known.now.even.items }
     ensures { Tells (λ es. es) (parts.entries compact known.now.odd.items known.now.even.items known.now.ids game.now.ids) cursor.old result cursor.new }
 {
-    let mut entries = Entries::new(alloc);
+    let vertices = game.game().count();
+    let mut entries = Entries::with_capacity(alloc, vertices, 0)?;
     let mut counts = Vec::new(alloc);
-    for vertex in 0..game.game().count() {
+    for vertex in 0..vertices {
         let won = entry(cursor, known, compact, game.id(vertex), &mut counts)?;
         entries.push(&Entry {
             winner: won.winner,

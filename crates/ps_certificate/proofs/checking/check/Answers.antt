@@ -1,23 +1,48 @@
-use Rattle.std.proofs.Common.{arith, below_more, rules}
+use Rattle.std.proofs.Common.{arith, below_more, refl}
 use Rattle.ps_certificate.specs.Certificates.{IsClosed}
-use Rattle.ps_certificate.proofs.Counts.{first_unranked, IsValid-from_kept}
+use Rattle.ps_certificate.specs.Prefixes.{IsFirstUnranked}
+use Rattle.ps_certificate.proofs.Counts.{first_unranked, valid_in_the_end, valid_has_no_flaw}
+use Rattle.ps_certificate.proofs.FirstFlaws.{first_unsound, IsClosed-from_sound}
 use Rattle.ps_certificate.proofs.Holding.{BothHold-from_valid, NoneWinsOutside-from_valid}
 use Rattle.ps_certificate.proofs.checking.check.Goals as goal
 
+pub returns-in-Some-clause-exact : goal.returns-in-Some-clause-exact
+returns-in-Some-clause-exact g c =
+    ((λ no. absurd (cc)), λ valid. absurd (valid_has_no_flaw (g.A.Arena.game c.args.arena.now) c.args.certificate.now c.in-Some.flaw valid c.in-Some.ensures.some.is_flaw))
+
 pub returns-in-Some-clause-flaw : goal.returns-in-Some-clause-flaw
 returns-in-Some-clause-flaw g c =
-    let closed : IsClosed (g.A.Arena.game c.args.arena.now) c.args.certificate.now = search rules in
-    first_unranked (g.A.Arena.game c.args.arena.now) c.args.certificate.now c.loop-vertex.vertex c.in-Some.flaw closed c.loop-vertex.invariant c.in-Some.ensures.some
+    first_unsound (g.A.Arena.game c.args.arena.now) c.args.certificate.now c.loop-vertex.vertex c.in-Some.flaw c.loop-vertex.invariant.sound c.in-Some.ensures.some
 
 pub loop-vertex-preserved : goal.loop-vertex-preserved
-loop-vertex-preserved g c = below_more _ _ c.loop-vertex.invariant c.in_default-unranked_at.ensures.none
+loop-vertex-preserved g c = record {
+  sound = below_more _ _ c.loop-vertex.invariant.sound c.in_default.ensures.none;
+  none = c.unranked_through-unranked.ensures.none;
+  some = c.unranked_through-unranked.ensures.some;
+}
 
-pub returns-clause-regions : goal.returns-clause-regions
-returns-clause-regions g c =
-    let closed : IsClosed (g.A.Arena.game c.args.arena.now) c.args.certificate.now = search rules in
-    BothHold-from_valid (g.A.Arena.game c.args.arena.now) c.args.certificate.now c.requires (IsValid-from_kept (g.A.Arena.game c.args.arena.now) c.args.certificate.now closed (λ v below. c.loop-vertex.invariant v (omega (arith, below))))
+pub returns-in-Some-unranked-clause-flaw : goal.returns-in-Some-unranked-clause-flaw
+returns-in-Some-unranked-clause-flaw g c =
+    let game = g.A.Arena.game c.args.arena.now in
+    let closed : IsClosed game c.args.certificate.now =
+    IsClosed-from_sound game c.args.certificate.now (λ v below. c.loop-vertex.invariant.sound v (omega (arith, below))) in
+    let found : IsFirstUnranked game c.args.certificate.now c.in-Some-unranked.flaw =
+    rw c.in-Some-unranked.is at c.loop-vertex.invariant.some in
+    first_unranked game c.args.certificate.now found.vertex c.in-Some-unranked.flaw closed found.before found.at_vertex
 
-pub returns-clause-best : goal.returns-clause-best
-returns-clause-best g c =
-    let closed : IsClosed (g.A.Arena.game c.args.arena.now) c.args.certificate.now = search rules in
-    NoneWinsOutside-from_valid (g.A.Arena.game c.args.arena.now) c.args.certificate.now c.count-vertex-end.ensures.well_formed c.requires (IsValid-from_kept (g.A.Arena.game c.args.arena.now) c.args.certificate.now closed (λ v below. c.loop-vertex.invariant v (omega (arith, below))))
+pub returns-in-None-clause-exact : goal.returns-in-None-clause-exact
+returns-in-None-clause-exact g c = (
+  (λ _. valid_in_the_end (g.A.Arena.game c.args.arena.now) c.args.certificate.now c.loop-vertex.vertex c.loop-vertex.unranked
+      (omega (arith, c.loop-vertex-test.false, c.count-vertex-end.ensures.vertices)) c.loop-vertex.invariant.sound c.loop-vertex.invariant.none c.in-None.is),
+  λ _. refl,
+)
+
+pub returns-in-None-clause-regions : goal.returns-in-None-clause-regions
+returns-in-None-clause-regions g c =
+    BothHold-from_valid (g.A.Arena.game c.args.arena.now) c.args.certificate.now c.requires (valid_in_the_end (g.A.Arena.game c.args.arena.now) c.args.certificate.now c.loop-vertex.vertex c.loop-vertex.unranked
+    (omega (arith, c.loop-vertex-test.false, c.count-vertex-end.ensures.vertices)) c.loop-vertex.invariant.sound c.loop-vertex.invariant.none c.in-None.is)
+
+pub returns-in-None-clause-best : goal.returns-in-None-clause-best
+returns-in-None-clause-best g c =
+    NoneWinsOutside-from_valid (g.A.Arena.game c.args.arena.now) c.args.certificate.now c.count-vertex-end.ensures.well_formed c.requires (valid_in_the_end (g.A.Arena.game c.args.arena.now) c.args.certificate.now c.loop-vertex.vertex c.loop-vertex.unranked
+    (omega (arith, c.loop-vertex-test.false, c.count-vertex-end.ensures.vertices)) c.loop-vertex.invariant.sound c.loop-vertex.invariant.none c.in-None.is)

@@ -1,7 +1,12 @@
 use Rattle.std.proofs.Common.{ℕ, ◌<◌}
-use Rattle.ps_certificate.specs.Prefixes.{KeepsCountsAt}
+use Rattle.std.specs.Prelude.{IfNone, IfSome}
+use Rattle.ps_certificate.specs.Prefixes.{IsSoundAt, KeepCountsBefore, IsFirstUnranked}
 use Rattle.ps_certificate.proofs.checking.check.Given as goal
 
--- each vertex before the place keeps the rule
+-- each vertex before the place is sound, and keeps the rule where no flaw in counts was found
 abbrev pub invariant-loop-vertex : goal.invariant-loop-vertex
-invariant-loop-vertex g l = (v : ℕ) → v < l.vertex → KeepsCountsAt (g.A.Arena.game l.arena) l.certificate v
+invariant-loop-vertex g l = record {
+  sound : (v : ℕ) → v < l.vertex → IsSoundAt (g.A.Arena.game l.arena) l.certificate v;
+  none : IfNone l.unranked (KeepCountsBefore (g.A.Arena.game l.arena) l.certificate l.vertex);
+  some : IfSome l.unranked (IsFirstUnranked (g.A.Arena.game l.arena) l.certificate);
+}

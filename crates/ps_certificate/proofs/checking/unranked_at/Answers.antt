@@ -9,14 +9,14 @@ use Rattle.ps_certificate.proofs.checking.unranked_at.Goals as goal
 pub broken_priority-requires-clause-same_winner : goal.broken_priority-requires-clause-same_winner
 broken_priority-requires-clause-same_winner g c =
     let own : owner_of (g.A.Arena.game c.args.arena.now) c.args.vertex ≡ winner_of c.args.certificate.now c.args.vertex = sym c.owner.ensures ∙ c.if-owner-winner.true ∙ c.winner.ensures in
-    c.requires.closed.stays c.args.vertex c.in-Some.successor (own_edge (g.A.Arena.game c.args.arena.now) c.args.certificate.now c.args.vertex c.in-Some.successor c.requires.closed c.requires.vertex own (sym c.choice.ensures ∙ c.in-Some.is))
+    c.requires.sound.inside c.in-Some.successor (own_edge (g.A.Arena.game c.args.arena.now) c.args.certificate.now c.args.vertex c.in-Some.successor c.requires.sound.right_move own (sym c.choice.ensures ∙ c.in-Some.is))
 
 pub returns-in-Some-broken_priority-clause-some : goal.returns-in-Some-broken_priority-clause-some
 returns-in-Some-broken_priority-clause-some g c =
     let own : owner_of (g.A.Arena.game c.args.arena.now) c.args.vertex ≡ winner_of c.args.certificate.now c.args.vertex = sym c.owner.ensures ∙ c.if-owner-winner.true ∙ c.winner.ensures in
     let is : choice_of c.args.certificate.now c.args.vertex ≡ Some c.in-Some.successor = sym c.choice.ensures ∙ c.in-Some.is in
-    let remains : Remains (g.A.Arena.game c.args.arena.now) c.args.certificate.now c.args.vertex c.in-Some.successor = own_edge (g.A.Arena.game c.args.arena.now) c.args.certificate.now c.args.vertex c.in-Some.successor c.requires.closed c.requires.vertex own is in
-    IsFirstFlawAt-rank (g.A.Arena.game c.args.arena.now) c.args.certificate.now c.args.vertex c.in-Some.successor c.in-Some-broken_priority.priority c.requires.fits remains (c.requires.closed.stays c.args.vertex c.in-Some.successor remains) c.in-Some-broken_priority.ensures.some (λ w other. inl (own_edges (g.A.Arena.game c.args.arena.now) c.args.certificate.now c.args.vertex c.in-Some.successor own is w other))
+    let remains : Remains (g.A.Arena.game c.args.arena.now) c.args.certificate.now c.args.vertex c.in-Some.successor = own_edge (g.A.Arena.game c.args.arena.now) c.args.certificate.now c.args.vertex c.in-Some.successor c.requires.sound.right_move own is in
+    IsFirstFlawAt-rank (g.A.Arena.game c.args.arena.now) c.args.certificate.now c.args.vertex c.in-Some.successor c.in-Some-broken_priority.priority c.requires.fits remains (c.requires.sound.inside c.in-Some.successor remains) c.in-Some-broken_priority.ensures.some (λ w other. inl (own_edges (g.A.Arena.game c.args.arena.now) c.args.certificate.now c.args.vertex c.in-Some.successor own is w other))
 
 pub broken_priority-requires-in-loop-number-clause-successor : goal.broken_priority-requires-in-loop-number-clause-successor
 broken_priority-requires-in-loop-number-clause-successor g c =
@@ -26,7 +26,7 @@ pub returns-in-Some-broken_priority-2-clause-some : goal.returns-in-Some-broken_
 returns-in-Some-broken_priority-2-clause-some g c =
     let other : owner_of (g.A.Arena.game c.args.arena.now) c.args.vertex ≡ winner_of c.args.certificate.now c.args.vertex → ⊥ = λ own. c.if-owner-winner.false (c.owner.ensures ∙ own ∙ sym c.winner.ensures) in
     let remains : Remains (g.A.Arena.game c.args.arena.now) c.args.certificate.now c.args.vertex c.successor-successor.result = Remains-other (g.A.Arena.game c.args.arena.now) c.args.certificate.now c.args.vertex c.successor-successor.result other (HasEdge-at (g.A.Arena.game c.args.arena.now) c.args.vertex c.loop-number.number c.successor-successor.result c.requires.vertex (omega arith) c.successor-successor.ensures) in
-    IsFirstFlawAt-rank (g.A.Arena.game c.args.arena.now) c.args.certificate.now c.args.vertex c.successor-successor.result c.in-Some-broken_priority-2.priority c.requires.fits remains (c.requires.closed.stays c.args.vertex c.successor-successor.result remains) c.in-Some-broken_priority-2.ensures.some (other_edges (g.A.Arena.game c.args.arena.now) c.args.certificate.now c.args.vertex c.successor-successor.result c.loop-number.number (omega arith) c.successor-successor.ensures c.loop-number.invariant)
+    IsFirstFlawAt-rank (g.A.Arena.game c.args.arena.now) c.args.certificate.now c.args.vertex c.successor-successor.result c.in-Some-broken_priority-2.priority c.requires.fits remains (c.requires.sound.inside c.successor-successor.result remains) c.in-Some-broken_priority-2.ensures.some (other_edges (g.A.Arena.game c.args.arena.now) c.args.certificate.now c.args.vertex c.successor-successor.result c.loop-number.number (omega arith) c.successor-successor.ensures c.loop-number.invariant)
 
 pub loop-number-preserved : goal.loop-number-preserved
 loop-number-preserved g c =

@@ -14,11 +14,11 @@ returns-in_err-won c =
     (at_place c.loop-vertex.cursor) c.loop-vertex.entries c.loop-vertex.invariant
     (omega (
       arith,
-      c.count-vertex-end.ensures.vertices,
+      c.count-vertices.ensures.vertices,
       ap vertex_count c.game.ensures.game,
       c.game.ensures.well_formed.id_each,
     )) c.id.result c.id.ensures _ c.in_err-won.ensures)
-    c.from_residual.ensures.1
+    c.from_residual-in_err-won.ensures.1
 
 pub loop-vertex-preserved : goal.loop-vertex-preserved
 loop-vertex-preserved c =
@@ -27,7 +27,7 @@ loop-vertex-preserved c =
     (at_place c.loop-vertex.cursor) c.loop-vertex.entries c.loop-vertex.invariant
     (omega (
       arith,
-      c.count-vertex-end.ensures.vertices,
+      c.count-vertices.ensures.vertices,
       ap vertex_count c.game.ensures.game,
       c.game.ensures.well_formed.id_each,
     )) c.id.result c.id.ensures
@@ -43,7 +43,7 @@ returns c =
     (at_place c.loop-vertex.cursor) c.loop-vertex.entries c.loop-vertex.invariant
     (omega (
       arith,
-      c.count-vertex-end.ensures.vertices,
+      c.count-vertices.ensures.vertices,
       ap vertex_count c.game.ensures.game,
       c.game.ensures.well_formed.id_each,
     ))
