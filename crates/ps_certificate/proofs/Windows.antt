@@ -1,10 +1,10 @@
 -- Which numbers of a list are priorities of a game, found by marks.
-use Rattle.std.proofs.Common.{◌≡◌, ℕ, ◌+◌, ◌-◌, ◌<◌, ◌≤◌, ◌∙◌, List, length, get_or, set, inl, inr, sym, ap, arith, Bool, true, false, Option, None, Some, take, drop, get_or-set_other, get_or-set_same, subst, length-take, length-drop, length-set}
+use Rattle.std.proofs.Common.{◌≡◌, ℕ, ◌%◌, below_more, ◌+◌, ◌-◌, ◌<◌, ◌≤◌, ◌∙◌, List, length, get_or, set, inl, inr, sym, ap, arith, Bool, true, false, Option, None, Some, take, drop, get_or-set_other, get_or-set_same, subst, length-take, length-drop, length-set}
 use Rattle.std.specs.Prelude.{slice_index, IfSome, is_some}
 use Rattle.std.specs.List.{All, Contains}
 use Rattle.std.specs.List.Sorted.{IsStrictlyIncreasing}
 use Rattle.std.proofs.lemmas.List.{get_or-take, get_or-drop}
-use Rattle.std.proofs.lemmas.List.Elements.{All-from_get_or}
+use Rattle.std.proofs.lemmas.List.Elements.{All-from_get_or, All-contains}
 use Rattle.std.proofs.lemmas.Bool.{cases_eq, cases_order, cases_lt}
 use Rattle.ps_game.specs.Games.{ParityGame, vertex_count, priority_of}
 use Rattle.ps_game.specs.Ranking.{HasPriority}
@@ -85,3 +85,25 @@ present_more game list start end within before part k below = elim (cases_lt k s
       let P : ℕ → Type 0 = HasPriority game in
       subst P is (part (k - start) 0 (omega (arith, long)))
 ]
+
+-- marks of a list, which has the priority of each vertex of one parity before a place
+pub record AreJust (game : ParityGame) (parity : ℕ) (list : List ℕ) (seen : List Bool) (vertex : ℕ) : Type 0 where
+  pub marks : AreMarks game list seen vertex
+  pub complete : (v : ℕ) → v < vertex → priority_of game v % 2 ≡ parity → Contains list (priority_of game v)
+
+-- one more vertex of the other parity
+pub AreJust-other : (game : ParityGame) (parity : ℕ) (list : List ℕ) (seen : List Bool) (vertex priority : ℕ) → All (λ p. p % 2 ≡ parity) list
+    → priority ≡ priority_of game vertex → (priority % 2 ≡ parity → ⊥) → AreJust game parity list seen vertex → AreJust game parity list seen (vertex + 1)
+AreJust-other game parity list seen vertex priority right is other just = record {
+  marks = AreMarks-missing game list seen vertex priority is (λ has. other (All-contains (λ p. p % 2 ≡ parity) list priority right has)) just.marks;
+  complete = below_more _ _ just.complete (λ same. absurd (other (ap (λ n. n % 2) is ∙ same)));
+}
+
+-- one more vertex whose priority is listed
+pub AreJust-found : (game : ParityGame) (parity : ℕ) (list : List ℕ) (seen : List Bool) (vertex place priority : ℕ) → IsStrictlyIncreasing list
+    → vertex < vertex_count game → priority ≡ priority_of game vertex → IsAt list priority place
+    → AreJust game parity list seen vertex → AreJust game parity list (set seen place true) (vertex + 1)
+AreJust-found game parity list seen vertex place priority rising in_range is at just = record {
+  marks = AreMarks-found game list seen vertex place priority rising in_range is at just.marks;
+  complete = below_more _ _ just.complete (λ same. Contains-at list place (priority_of game vertex) at.within (sym is ∙ sym at.is));
+}

@@ -50,6 +50,33 @@ fn window_present<A: Arena>(arena: &A, window: &[u64]) -> bool
     true
 }
 
+/// Whether a short rising list of one parity has just the priorities of that parity. One pass over the vertices, with a
+/// search of the list at each of the parity.
+fn is_just<A: Arena>(arena: &A, parity: u64, list: &[u64]) -> bool
+    requires rising { IsStrictlyIncreasing list.now }
+    requires right_parity { All (λ p. p % 2 ≡ parity) list.now }
+    requires short { length list.now ≤ 1024 }
+    ensures { IsTrue result ↔ (IsComplete (A.game arena.now) parity list.now × All (HasPriority (A.game arena.now)) list.now) }
+{
+    let mut seen = [false; WINDOW];
+    for vertex in 0..arena.count() {
+        let priority = arena.priority(vertex);
+        if priority % 2 != parity {
+            continue;
+        }
+        let Some(place) = place_of(list, priority) else {
+            return false;
+        };
+        seen[place] = true;
+    }
+    for place in 0..list.len() {
+        if !seen[place] {
+            return false;
+        }
+    }
+    true
+}
+
 /// Whether each number of a rising list is the priority of some vertex. Without memory that grows
 /// this takes one pass over the vertices for each 1024 numbers.
 fn all_present<A: Arena>(arena: &A, list: &[u64]) -> bool
@@ -76,6 +103,9 @@ fn lists_priorities<A: Arena>(arena: &A, parity: u64, list: &[u64]) -> bool
     }
     if !list.iter().all(|priority| *priority % 2 == parity) {
         return false;
+    }
+    if list.len() <= WINDOW {
+        return is_just(arena, parity, list);
     }
     is_complete(arena, parity, list) && all_present(arena, list)
 }
