@@ -6,6 +6,10 @@ pub mod CommandLemmas
 pub mod KindLemmas
 pub mod LassoLemmas
 pub mod OneAnswer
+pub mod OneCut
+pub mod OneLine
+pub mod OneStage
+pub mod OneStep
 pub mod OneTrace
 pub mod OutcomeLemmas
 pub mod ProgramLemmas
