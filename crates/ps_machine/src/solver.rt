@@ -24,6 +24,9 @@ pub trait Solver: Drop {
     /// What it may answer for a game, where it was fed that.
     ghost may_answer: { Self → Option (List ℕ) → NamedGameData → Result CertificateData SolveFault → Type 0 };
 
+    /// What it gave last, and for which game; for a solver that keeps no record of that this says nothing.
+    ghost gave: { Self → NamedGameData → Result CertificateData SolveFault → Type 0 } = { λ _ _ _. Unit {0} };
+
     /// Takes a text in the place of the one before. One that can't be kept leaves the earlier one; a solver that keeps
     /// none takes each.
     fn feed(&mut self, text: &[u8]) -> Result<(), AllocError>
@@ -40,5 +43,6 @@ pub trait Solver: Drop {
         ensures cycle { NamesVertices game.now result }
         ensures kept { fed self.new ≡ fed self.old }
         ensures same { (text : Option (List ℕ)) (game : NamedGameData) (answer : Result CertificateData SolveFault) → may_answer self.new text game answer → may_answer self.old text game answer }
-        ensures answered { may_answer self.old (fed self.old) game.now result };
+        ensures answered { may_answer self.old (fed self.old) game.now result }
+        ensures recorded { gave self.new game.now result };
 }

@@ -5,6 +5,7 @@ use Rattle.ps_game.specs.Games.{NamedGameData}
 use Rattle.ps_machine.specs.Solving.{AnswersSurely, IsCertified, NamesVertices}
 use Rattle.ps_machine.specs.declared.fault.SolveFault.{SolveFault}
 use Rattle.ps_machine.specs.declared.fault.SolveFault.TheVariants as solver
+use Rattle.ps_synthesis.specs.Asking.{Answered}
 use Rattle.ps_synthesis.specs.Promises.{MayAnswer}
 use Rattle.ps_synthesis.specs.Stages.{IsRefusedAs, IsSolverFault}
 use Rattle.ps_synthesis.specs.declared.fault.SynthFault.{SynthFault}
@@ -41,3 +42,15 @@ refused_as May named solver.OutOfMemory given may names refused = of_memory May 
 pub solver_fault : (May : MayAnswer) (named : NamedGameData) (answer : Result CertificateData SolveFault) (fault : SolveFault) (given : SynthFault) → May named answer → NamesVertices named answer → answer ≡ Err fault → IsRefusedAs named fault given → IsSolverFault May named given
 solver_fault May named answer fault given may names is refused =
     refused_as May named fault given (subst (λ (r : Result CertificateData SolveFault). May named r) is may) (subst (λ (r : Result CertificateData SolveFault). NamesVertices named r) is names) refused
+
+-- where it is told by what the solver gave, it is one that the solver might give
+pub fault_might : (May Gave : MayAnswer) (named : NamedGameData) (given : SynthFault) → IsSolverFault (Answered May Gave) named given
+    → IsSolverFault May named given
+fault_might May Gave named (BadCycle ids) h =
+    record { cycle = h.cycle; answered = h.answered.0; some = h.some; vertices = h.vertices; ids_are = h.ids_are }
+fault_might May Gave named (Certificate cause offset) h = h.0
+fault_might May Gave named NotCertified h = record { certificate = h.certificate; answered = h.answered.0; wrong = h.wrong }
+fault_might May Gave named OutOfMemory h = h
+fault_might May Gave named (Text cause offset) h = absurd h
+fault_might May Gave named (Automaton fault) h = absurd h
+fault_might May Gave named CircuitTooLarge h = absurd h

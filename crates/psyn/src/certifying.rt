@@ -7,6 +7,7 @@ ghost use Rattle.ps_certificate.specs.Regions.{BothHold, NoneWinsOutside};
 ghost use Rattle.ps_game.specs.Games.{NamedGameData, vertex_count};
 ghost use Rattle.ps_machine.specs.Solving.{AnswersSurely, IsCertified, NamesVertices};
 ghost use Rattle.ps_machine.specs.declared.fault.SolveFault.{SolveFault};
+ghost use Rattle.ps_synthesis.specs.Asking.{Answered};
 ghost use Rattle.ps_synthesis.specs.Stages.{IsRefusedAs, IsSolverFault};
 ghost use Rattle.ps_synthesis.specs.declared.fault.SynthFault.TheVariants.{OutOfMemory};
 
@@ -27,11 +28,11 @@ pub fn certified(
     game: &NamedGame,
     solver: &mut Box<dyn Solver>,
 ) -> Result<Certificate, SynthFault>
-    ensures answered { IfOk result (λ certificate. may_answer solver.old (fed solver.old) game.now (Ok certificate)) }
+    ensures answered { IfOk result (λ certificate. Answered (may_answer solver.old (fed solver.old)) (gave solver.new) game.now (Ok certificate)) }
     ensures certified { IfOk result (IsCertified game.now) }
     ensures both_hold { IfOk result (BothHold game.now.game) }
     ensures none_wins_outside { IfOk result (NoneWinsOutside game.now.game) }
-    ensures refused { IfErr result (IsSolverFault (may_answer solver.old (fed solver.old)) game.now) }
+    ensures refused { IfErr result (IsSolverFault (Answered (may_answer solver.old (fed solver.old)) (gave solver.new)) game.now) }
     ensures sure { is_sure solver.old ≡ true → IfErr result (λ fault. fault ≡ OutOfMemory) }
     ensures steady { is_sure solver.new ≡ is_sure solver.old }
     ensures kept { fed solver.new ≡ fed solver.old }
@@ -53,7 +54,7 @@ pub fn certified(
 
 /// What a solver answers.
 fn asked(game: &NamedGame, solver: &mut Box<dyn Solver>) -> Result<Certificate, SolveFault>
-    ensures answered { may_answer solver.old (fed solver.old) game.now result }
+    ensures answered { Answered (may_answer solver.old (fed solver.old)) (gave solver.new) game.now result }
     ensures surely { is_sure solver.old ≡ true → AnswersSurely game.now result }
     ensures cycle { NamesVertices game.now result }
     ensures steady { is_sure solver.new ≡ is_sure solver.old }

@@ -5,6 +5,7 @@ ghost use Rattle.ps_certificate.specs.Certificates.{CertificateData};
 ghost use Rattle.ps_game.specs.Games.{NamedGameData};
 ghost use Rattle.ps_hoa.specs.Files.{FileData};
 ghost use Rattle.ps_machine.specs.declared.fault.SolveFault.{SolveFault};
+ghost use Rattle.ps_synthesis.specs.Asking.{Answered};
 ghost use Rattle.ps_synthesis.specs.Promises.{IsAccepted};
 ghost use Rattle.ps_synthesis.specs.Reports.{IsReport};
 ghost use Rattle.ps_synthesis.specs.SynthFaults.{IsOutcome, IsSynthFault};
@@ -28,11 +29,11 @@ pub fn synthesise(
     compact: bool,
     solver: &mut Box<dyn Solver>,
 ) -> Result<Report, SynthFault>
-    // The report is right, whatever solver is handed in; and each fault has its cause.
-    ensures report { IfOk result (IsReport (may_answer solver.old (fed solver.old)) order compact text.now) }
-    ensures refused { IfErr result (IsSynthFault (may_answer solver.old (fed solver.old)) order text.now) }
+    // The report is right, whatever solver is handed in; and each fault has its cause. Both are of what the solver gave.
+    ensures report { IfOk result (IsReport (Answered (may_answer solver.old (fed solver.old)) (gave solver.new)) order compact text.now) }
+    ensures refused { IfErr result (IsSynthFault (Answered (may_answer solver.old (fed solver.old)) (gave solver.new)) order text.now) }
     // With a sure solver, a text that is accepted gets a report; or memory ran out, or the circuit is too large.
-    ensures sure { is_sure solver.old ≡ true → (file : FileData) → IsAccepted text.now file → IsOutcome (may_answer solver.old (fed solver.old)) order compact text.now result }
+    ensures sure { is_sure solver.old ≡ true → (file : FileData) → IsAccepted text.now file → IsOutcome (Answered (may_answer solver.old (fed solver.old)) (gave solver.new)) order compact text.now result }
     // The solver stays as it was.
     ensures steady { is_sure solver.new ≡ is_sure solver.old }
     ensures kept { fed solver.new ≡ fed solver.old }

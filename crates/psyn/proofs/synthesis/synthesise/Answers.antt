@@ -1,5 +1,6 @@
 use Rattle.std.proofs.Common.{Ok, subst}
 use Rattle.ps_game.specs.Games.{NamedGameData}
+use Rattle.ps_synthesis.specs.Asking.{Answered}
 use Rattle.ps_synthesis.specs.Promises.{MayAnswer}
 use Rattle.ps_synthesis.proofs.Outcomes.{cause_in, report_in}
 use Rattle.psyn.proofs.SynthesiseLemmas.{outcome_by}
@@ -9,7 +10,9 @@ pub returns-clause-report : goal.returns-clause-report
 returns-clause-report g c =
     let b = c.args.solver.now in
     let s = goal.Solver-dyn g (b.vtable, b.value) in
-    let may : MayAnswer = s.may_answer b.value (s.fed b.value) in
+    let d = c.certified.new.solver in
+    let t = goal.Solver-dyn g (d.vtable, d.value) in
+    let may : MayAnswer = Answered (s.may_answer b.value (s.fed b.value)) (t.gave d.value) in
     let p = c.in_ok-problem.problem in
     let certificate = c.in_ok-certificate.certificate in
     let order = c.args.order in
@@ -22,7 +25,9 @@ pub returns-clause-refused : goal.returns-clause-refused
 returns-clause-refused g c =
     let b = c.args.solver.now in
     let s = goal.Solver-dyn g (b.vtable, b.value) in
-    let may : MayAnswer = s.may_answer b.value (s.fed b.value) in
+    let d = c.certified.new.solver in
+    let t = goal.Solver-dyn g (d.vtable, d.value) in
+    let may : MayAnswer = Answered (s.may_answer b.value (s.fed b.value)) (t.gave d.value) in
     let p = c.in_ok-problem.problem in
     let certificate = c.in_ok-certificate.certificate in
     let order = c.args.order in
@@ -35,7 +40,9 @@ pub returns-clause-sure : goal.returns-clause-sure
 returns-clause-sure g c = λ sure file accepted.
     (let b = c.args.solver.now in
     let s = goal.Solver-dyn g (b.vtable, b.value) in
-    let may : MayAnswer = s.may_answer b.value (s.fed b.value) in
+    let d = c.certified.new.solver in
+    let t = goal.Solver-dyn g (d.vtable, d.value) in
+    let may : MayAnswer = Answered (s.may_answer b.value (s.fed b.value)) (t.gave d.value) in
     let p = c.in_ok-problem.problem in
     let certificate = c.in_ok-certificate.certificate in
     let order = c.args.order in

@@ -1,0 +1,6 @@
+-- What is known of the answer of a solver that was asked.
+--     Answered May Gave      the solver might answer that, and, where it keeps a record of it, that is what it gave last
+use Rattle.ps_synthesis.specs.Promises.{MayAnswer}
+
+abbrev pub Answered : MayAnswer → MayAnswer → MayAnswer
+Answered May Gave game answer = May game answer × Gave game answer
