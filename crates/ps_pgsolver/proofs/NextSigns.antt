@@ -16,7 +16,8 @@ abbrev pub head_sign : List ℕ → List ℕ → Option Sign
 head_sign before [] = None
 head_sign before (b ∷ bs) = Some (first_sign before (b ∷ bs))
 
-first_of_lex : (before rest : List ℕ) → prefix_len is_blank rest ≡ 0 → first_of (signs (lex 0 before rest)) ≡ head_sign before rest
+first_of_lex : (before rest : List ℕ) → prefix_len is_blank rest ≡ 0 →
+    first_of (signs (lex 0 before rest)) ≡ head_sign before rest
 first_of_lex before [] none = ap (λ ps. first_of (signs ps)) (lex-end before)
 first_of_lex before (b ∷ bs) none = ap (λ ps. first_of (signs ps)) (lex-first before (b ∷ bs) none (omega arith))
 
@@ -31,26 +32,32 @@ next_sign text before rest at start begins front back =
 
 -- ## What the first byte says of the sign
 
-sign_digit : (before : List ℕ) (b : ℕ) (bs : List ℕ) → is_digit b ≡ true → first_sign before (b ∷ bs) ≡ number_sign before (b ∷ bs)
+sign_digit : (before : List ℕ) (b : ℕ) (bs : List ℕ) → is_digit b ≡ true →
+    first_sign before (b ∷ bs) ≡ number_sign before (b ∷ bs)
 unfolding first_sign
 sign_digit before b bs d = rw d refl
 
-sign_letter : (before : List ℕ) (b : ℕ) (bs : List ℕ) → is_digit b ≡ false → is_letter b ≡ true → first_sign before (b ∷ bs) ≡ word_sign before (b ∷ bs)
+sign_letter : (before : List ℕ) (b : ℕ) (bs : List ℕ) → is_digit b ≡ false → is_letter b ≡ true →
+    first_sign before (b ∷ bs) ≡ word_sign before (b ∷ bs)
 unfolding first_sign
 sign_letter before b bs d l = rw (d, l) refl
 
-sign_quote : (before : List ℕ) (b : ℕ) (bs : List ℕ) → is_digit b ≡ false → is_letter b ≡ false → eqb b 34 ≡ true → first_sign before (b ∷ bs) ≡ name_sign bs
+sign_quote : (before : List ℕ) (b : ℕ) (bs : List ℕ) → is_digit b ≡ false → is_letter b ≡ false → eqb b 34 ≡ true →
+    first_sign before (b ∷ bs) ≡ name_sign bs
 unfolding first_sign
 sign_quote before b bs d l q = rw (d, l, q) refl
 
-sign_mark : (before : List ℕ) (b : ℕ) (bs : List ℕ) → is_digit b ≡ false → is_letter b ≡ false → eqb b 34 ≡ false → first_sign before (b ∷ bs) ≡ mark_sign b
+sign_mark : (before : List ℕ) (b : ℕ) (bs : List ℕ) → is_digit b ≡ false → is_letter b ≡ false → eqb b 34 ≡ false →
+    first_sign before (b ∷ bs) ≡ mark_sign b
 unfolding first_sign
 sign_mark before b bs d l q = rw (d, l, q) refl
 
 -- a property of the first sign, by the byte's class
 by_class : (P : Sign → Type 0) (before : List ℕ) (b : ℕ) (bs : List ℕ) →
-    (is_digit b ≡ true → P (number_sign before (b ∷ bs))) → (is_digit b ≡ false → is_letter b ≡ true → P (word_sign before (b ∷ bs))) →
-    (is_digit b ≡ false → eqb b 34 ≡ true → P (name_sign bs)) → (is_digit b ≡ false → eqb b 34 ≡ false → P (mark_sign b)) → P (first_sign before (b ∷ bs))
+    (is_digit b ≡ true → P (number_sign before (b ∷ bs))) →
+    (is_digit b ≡ false → is_letter b ≡ true → P (word_sign before (b ∷ bs))) →
+    (is_digit b ≡ false → eqb b 34 ≡ true → P (name_sign bs)) →
+    (is_digit b ≡ false → eqb b 34 ≡ false → P (mark_sign b)) → P (first_sign before (b ∷ bs))
 by_class P before b bs number word name mark = ⊎_elim
     (λ (d : is_digit b ≡ true). rw (sign_digit before b bs d) (number d))
     (λ (d : is_digit b ≡ false). ⊎_elim
@@ -63,40 +70,50 @@ by_class P before b bs number word name mark = ⊎_elim
     (cases_Bool (is_digit b))
 
 number_number : (before text : List ℕ) → is_number (Some (number_sign before text)) ≡ not (ends_in is_letter before)
-number_number before text = ⊎_elim (λ (e : ends_in is_letter before ≡ true). rw e refl) (λ (e : ends_in is_letter before ≡ false). rw e refl) (cases_Bool (ends_in is_letter before))
+number_number before text = ⊎_elim (λ (e : ends_in is_letter before ≡ true). rw e refl)
+    (λ (e : ends_in is_letter before ≡ false). rw e refl) (cases_Bool (ends_in is_letter before))
 
 word_number : (before text : List ℕ) → is_number (Some (word_sign before text)) ≡ false
-word_number before text = ⊎_elim (λ (e : ends_in is_digit before ≡ true). rw e refl) (λ (e : ends_in is_digit before ≡ false). rw e refl) (cases_Bool (ends_in is_digit before))
+word_number before text = ⊎_elim (λ (e : ends_in is_digit before ≡ true). rw e refl)
+    (λ (e : ends_in is_digit before ≡ false). rw e refl) (cases_Bool (ends_in is_digit before))
 
 name_number : (bs : List ℕ) → is_number (Some (name_sign bs)) ≡ false
-name_number bs = ⊎_elim (λ (e : is_closed bs ≡ true). rw e refl) (λ (e : is_closed bs ≡ false). rw e refl) (cases_Bool (is_closed bs))
+name_number bs = ⊎_elim (λ (e : is_closed bs ≡ true). rw e refl) (λ (e : is_closed bs ≡ false). rw e refl)
+    (cases_Bool (is_closed bs))
 
 mark_number : (b : ℕ) → is_number (Some (mark_sign b)) ≡ false
 mark_number b = ⊎_elim (λ (e : eqb b 44 ≡ true). rw e refl)
-    (λ (e : eqb b 44 ≡ false). ⊎_elim (λ (f : eqb b 59 ≡ true). rw (e, f) refl) (λ (f : eqb b 59 ≡ false). rw (e, f) refl) (cases_Bool (eqb b 59)))
+    (λ (e : eqb b 44 ≡ false). ⊎_elim (λ (f : eqb b 59 ≡ true). rw (e, f) refl)
+    (λ (f : eqb b 59 ≡ false). rw (e, f) refl) (cases_Bool (eqb b 59)))
     (cases_Bool (eqb b 44))
 
 -- a number comes next where a digit does, and no letter stands directly before it
-pub at_number : (before rest : List ℕ) → is_number (head_sign before rest) ≡ begins_in is_digit rest && not (ends_in is_letter before)
+pub at_number : (before rest : List ℕ) →
+    is_number (head_sign before rest) ≡ begins_in is_digit rest && not (ends_in is_letter before)
 at_number before [] = refl
-at_number before (b ∷ bs) = by_class (λ sign. is_number (Some sign) ≡ is_digit b && not (ends_in is_letter before)) before b bs
+at_number before (b ∷ bs) = by_class (λ sign. is_number (Some sign) ≡ is_digit b && not (ends_in is_letter before))
+    before b bs
     (λ d. number_number before (b ∷ bs) ∙ sym (ap (λ t. t && not (ends_in is_letter before)) d))
     (λ d l. word_number before (b ∷ bs) ∙ sym (ap (λ t. t && not (ends_in is_letter before)) d))
     (λ d q. name_number bs ∙ sym (ap (λ t. t && not (ends_in is_letter before)) d))
     (λ d q. mark_number b ∙ sym (ap (λ t. t && not (ends_in is_letter before)) d))
 
 number_comma : (before text : List ℕ) → is_comma (Some (number_sign before text)) ≡ false
-number_comma before text = ⊎_elim (λ (e : ends_in is_letter before ≡ true). rw e refl) (λ (e : ends_in is_letter before ≡ false). rw e refl) (cases_Bool (ends_in is_letter before))
+number_comma before text = ⊎_elim (λ (e : ends_in is_letter before ≡ true). rw e refl)
+    (λ (e : ends_in is_letter before ≡ false). rw e refl) (cases_Bool (ends_in is_letter before))
 
 word_comma : (before text : List ℕ) → is_comma (Some (word_sign before text)) ≡ false
-word_comma before text = ⊎_elim (λ (e : ends_in is_digit before ≡ true). rw e refl) (λ (e : ends_in is_digit before ≡ false). rw e refl) (cases_Bool (ends_in is_digit before))
+word_comma before text = ⊎_elim (λ (e : ends_in is_digit before ≡ true). rw e refl)
+    (λ (e : ends_in is_digit before ≡ false). rw e refl) (cases_Bool (ends_in is_digit before))
 
 name_comma : (bs : List ℕ) → is_comma (Some (name_sign bs)) ≡ false
-name_comma bs = ⊎_elim (λ (e : is_closed bs ≡ true). rw e refl) (λ (e : is_closed bs ≡ false). rw e refl) (cases_Bool (is_closed bs))
+name_comma bs = ⊎_elim (λ (e : is_closed bs ≡ true). rw e refl) (λ (e : is_closed bs ≡ false). rw e refl)
+    (cases_Bool (is_closed bs))
 
 mark_comma : (b : ℕ) → is_comma (Some (mark_sign b)) ≡ eqb b 44
 mark_comma b = ⊎_elim (λ (e : eqb b 44 ≡ true). rw e refl)
-    (λ (e : eqb b 44 ≡ false). ⊎_elim (λ (f : eqb b 59 ≡ true). rw (e, f) refl) (λ (f : eqb b 59 ≡ false). rw (e, f) refl) (cases_Bool (eqb b 59)))
+    (λ (e : eqb b 44 ≡ false). ⊎_elim (λ (f : eqb b 59 ≡ true). rw (e, f) refl)
+    (λ (f : eqb b 59 ≡ false). rw (e, f) refl) (cases_Bool (eqb b 59)))
     (cases_Bool (eqb b 44))
 
 no_comma_where : (b : ℕ) (p : ℕ → Bool) → p 44 ≡ false → p b ≡ true → eqb b 44 ≡ false
@@ -115,18 +132,22 @@ at_comma before (b ∷ bs) = by_class (λ sign. is_comma (Some sign) ≡ eqb b 4
     (λ d q. mark_comma b)
 
 number_name : (before text : List ℕ) → name_of (Some (number_sign before text)) ≡ None
-number_name before text = ⊎_elim (λ (e : ends_in is_letter before ≡ true). rw e refl) (λ (e : ends_in is_letter before ≡ false). rw e refl) (cases_Bool (ends_in is_letter before))
+number_name before text = ⊎_elim (λ (e : ends_in is_letter before ≡ true). rw e refl)
+    (λ (e : ends_in is_letter before ≡ false). rw e refl) (cases_Bool (ends_in is_letter before))
 
 word_name : (before text : List ℕ) → name_of (Some (word_sign before text)) ≡ None
-word_name before text = ⊎_elim (λ (e : ends_in is_digit before ≡ true). rw e refl) (λ (e : ends_in is_digit before ≡ false). rw e refl) (cases_Bool (ends_in is_digit before))
+word_name before text = ⊎_elim (λ (e : ends_in is_digit before ≡ true). rw e refl)
+    (λ (e : ends_in is_digit before ≡ false). rw e refl) (cases_Bool (ends_in is_digit before))
 
 mark_name : (b : ℕ) → name_of (Some (mark_sign b)) ≡ None
 mark_name b = ⊎_elim (λ (e : eqb b 44 ≡ true). rw e refl)
-    (λ (e : eqb b 44 ≡ false). ⊎_elim (λ (f : eqb b 59 ≡ true). rw (e, f) refl) (λ (f : eqb b 59 ≡ false). rw (e, f) refl) (cases_Bool (eqb b 59)))
+    (λ (e : eqb b 44 ≡ false). ⊎_elim (λ (f : eqb b 59 ≡ true). rw (e, f) refl)
+    (λ (f : eqb b 59 ≡ false). rw (e, f) refl) (cases_Bool (eqb b 59)))
     (cases_Bool (eqb b 44))
 
 -- no name comes next where no quote does
-pub at_no_name : (before rest : List ℕ) → begins_in (λ b. eqb b 34) rest ≡ false → name_of (head_sign before rest) ≡ None
+pub at_no_name : (before rest : List ℕ) → begins_in (λ b. eqb b 34) rest ≡ false →
+    name_of (head_sign before rest) ≡ None
 at_no_name before [] none = refl
 at_no_name before (b ∷ bs) none = by_class (λ sign. name_of (Some sign) ≡ None) before b bs
     (λ d. number_name before (b ∷ bs))

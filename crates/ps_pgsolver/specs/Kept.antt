@@ -7,11 +7,13 @@ use Rattle.ps_pgsolver.specs.Nodes.{NodeData, AreNodes}
 use Rattle.ps_pgsolver.specs.declared.node.Head.{Head}
 
 abbrev pub node_kept : ℕ → Head → Option (List ℕ) → List ℕ → NodeData
-node_kept id head name successors = record { id = id; priority = head.priority; owner = head.owner; successors = successors; name = name }
+node_kept id head name successors =
+    record { id = id; priority = head.priority; owner = head.owner; successors = successors; name = name }
 
 -- the nodes that are kept in these lists
 unfoldable pub nodes_kept : List ℕ → List Head → List (Option (List ℕ)) → List ℕ → List NodeData
-nodes_kept (id ∷ ids) (head ∷ heads) (name ∷ names) all = node_kept id head name (take head.degree all) ∷ nodes_kept ids heads names (drop head.degree all)
+nodes_kept (id ∷ ids) (head ∷ heads) (name ∷ names) all = node_kept id head name (take head.degree all) ∷ nodes_kept
+    ids heads names (drop head.degree all)
 nodes_kept _ _ _ all = []
 
 abbrev pub degrees : List Head → ℕ
@@ -21,7 +23,8 @@ degrees (head ∷ heads) = head.degree + degrees heads
 -- the draft of their game, where the ids of all nodes are known
 abbrev pub draft_kept : List ℕ → List Head → List ℕ → ParityGame
 draft_kept ids [] all = []
-draft_kept ids (head ∷ heads) all = vertex_made head.owner head.priority (map (place_of ids) (take head.degree all)) ∷ draft_kept ids heads (drop head.degree all)
+draft_kept ids (head ∷ heads) all = vertex_made head.owner head.priority
+    (map (place_of ids) (take head.degree all)) ∷ draft_kept ids heads (drop head.degree all)
 
 -- the lists are of one length, and each successor is some node's
 pub record AreKept (ids : List ℕ) (heads : List Head) (names : List (Option (List ℕ))) (all : List ℕ) : Type 0 where

@@ -121,7 +121,7 @@ impl Nodes {
             degree,
         });
         self.names.push_reserved(node.name);
-        self.successors.extend_from_slice(&node.successors).unwrap();
+        put_all(&mut self.successors, &node.successors);
         Ok(())
     }
 
@@ -165,6 +165,16 @@ fn make_room(
     heads.reserve(1)?;
     names.reserve(1)?;
     successors.reserve(degree)
+}
+
+/// Puts numbers at the end of others, where there is room.
+fn put_all(numbers: &mut Vec<u64>, more: &[u64])
+    requires { vec_len numbers.old + length more.now ≤ vec_capacity numbers.old }
+    ensures { numbers.new.items ≡ numbers.old.items ++ more.now }
+{
+    for number in more {
+        numbers.push_reserved(*number);
+    }
 }
 
 /// The vertices of nodes that are kept so.

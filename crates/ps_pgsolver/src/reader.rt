@@ -169,6 +169,7 @@ fn new_id(tokens: &mut Tokens, nodes: &Nodes) -> Result<u64, PgFault>
 }
 
 /// Reads a number.
+#[inline(always)]
 fn number(tokens: &mut Tokens) -> Result<u64, PgFault>
     ensures { Reads (λ n. n) parts.number tokens.old result tokens.new }
 {
@@ -234,6 +235,7 @@ fn successor(tokens: &mut Tokens, known: Option<&Ids>) -> Result<u64, PgFault>
 }
 
 /// Reads a name, if one stands here.
+#[inline(always)]
 fn name(alloc: Global, tokens: &mut Tokens) -> Result<Option<Vec<u8>>, PgFault>
     ensures part { Reads name_bytes parts.name tokens.old result tokens.new }
     ensures plain { IfOk result (λ name. HasNoQuote (name_bytes name)) }
@@ -246,6 +248,7 @@ fn name(alloc: Global, tokens: &mut Tokens) -> Result<Option<Vec<u8>>, PgFault>
 }
 
 /// Reads a comma.
+#[inline(always)]
 fn comma(tokens: &mut Tokens) -> Result<(), PgFault>
     ensures { Reads (λ u. u) parts.comma tokens.old result tokens.new }
 {
@@ -253,6 +256,7 @@ fn comma(tokens: &mut Tokens) -> Result<(), PgFault>
 }
 
 /// Reads a semicolon.
+#[inline(always)]
 fn semicolon(tokens: &mut Tokens) -> Result<(), PgFault>
     ensures { Reads (λ u. u) parts.semicolon tokens.old result tokens.new }
 {

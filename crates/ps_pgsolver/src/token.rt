@@ -1,6 +1,7 @@
 //! Tokens of game texts.
 
-ghost use Rattle.std.specs.Prelude.{◌≡◌, ◌+◌, ◌≤◌, ◌<◌, ◌^◌, [], length, take, take_while, drop, Some};
+ghost use Rattle.std.specs.Prelude.{◌≡◌, ◌+◌, ◌≤◌, ◌<◌, ◌^◌, [], length, take, take_while, drop, Some, IfSome};
+ghost use Rattle.std.specs.Char.{is_ascii_digit};
 ghost use Rattle.std.specs.List.{prefix_len, AllPass};
 ghost use Rattle.ps_pgsolver.specs.Bytes.{is_blank, is_digit, is_letter, begins_in, ends_in};
 ghost use Rattle.ps_pgsolver.specs.Classes.{in_class};
@@ -10,8 +11,11 @@ ghost use Rattle.ps_pgsolver.specs.Signs.{Sign, Number};
 ghost use Rattle.ps_pgsolver.specs.Heads.{sign_of, IsPlain, IsAhead};
 ghost use Rattle.ps_pgsolver.specs.Lexer.{stream_of, stream_from, first_sign, first_size, number_sign, word_sign, name_sign, name_size, mark_sign};
 
-use ps_text::numbers::leading_number;
+use ps_text::numbers::{LeadingNumber, leading_number};
 use std::marker::Model;
+
+/// From so many digits on, a number may be too large.
+const FEW: usize = 18;
 
 /// A class of bytes.
 #[derive(Clone, Copy)]
@@ -252,6 +256,9 @@ fn digits_at<'a>(rest: &'a [u8]) -> (Kind<'a>, usize)
     ensures plain { IsPlain result.0 }
     ensures within { result.1 ≤ length rest.now }
 {
+    if let Some(number) = few_digits(rest) {
+        return (Kind::Number(number.value), number.digits);
+    }
     match leading_number(rest) {
         Some(number) => (Kind::Number(number.value), number.digits),
         None => {
@@ -259,6 +266,26 @@ fn digits_at<'a>(rest: &'a [u8]) -> (Kind<'a>, usize)
             (Kind::LargeNumber(&rest[..size]), size)
         }
     }
+}
+
+/// The number that the digits write with which a text begins, if there are less than 18: then no step is too large.
+#[inline(always)]
+fn few_digits(text: &[u8]) -> Option<LeadingNumber>
+    ensures value { IfSome result (λ number. number.value ≡ decimal_value (take_while is_ascii_digit text.now)) }
+    ensures digits { IfSome result (λ number. number.digits ≡ prefix_len is_ascii_digit text.now) }
+    ensures within { IfSome result (λ number. number.digits ≤ length text.now) }
+{
+    let most = text.len().min(FEW);
+    let mut value: u64 = 0;
+    let mut digits = 0;
+    while digits < most && text[digits].is_ascii_digit() {
+        value = value * 10 + u64::from(text[digits] - b'0');
+        digits += 1;
+    }
+    if digits == FEW {
+        return None;
+    }
+    Some(LeadingNumber { value, digits })
 }
 
 /// A run of letters, and how many bytes it has.

@@ -4,7 +4,9 @@ use Rattle.ps_pgsolver.proofs.KeptLemmas.{ids_are, names_are}
 use Rattle.ps_pgsolver.proofs.node.Nodes.into_labels.Goals as goal
 
 pub returns-clause-ids : goal.returns-clause-ids
-returns-clause-ids c = c.into_list.ensures.list ∙ ids_are c.self.inside.ids c.self.inside.heads.items (map name_bytes c.self.inside.names.items) c.self.inside.successors.items c.self.invariant _ c.self.view_is
+returns-clause-ids c = c.into_list.ensures.list ∙ ids_are c.self.inside.ids c.self.inside.heads.items
+    (map name_bytes c.self.inside.names.items) c.self.inside.successors.items c.self.invariant _ c.self.view_is
 
 pub returns-clause-names : goal.returns-clause-names
-returns-clause-names c = names_are c.self.inside.ids c.self.inside.heads.items (map name_bytes c.self.inside.names.items) c.self.inside.successors.items c.self.invariant _ c.self.view_is
+returns-clause-names c = names_are c.self.inside.ids c.self.inside.heads.items
+    (map name_bytes c.self.inside.names.items) c.self.inside.successors.items c.self.invariant _ c.self.view_is
