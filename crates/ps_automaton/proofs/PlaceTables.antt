@@ -85,7 +85,7 @@ table_same old new table e is = subst (λ (ts : List Target). IsTableOf ts table
 module _ (targets : List Target) (old new : ℕ → ℕ → Option ℕ) (t : Target) (place : ℕ) (is : IsTableOf targets old)
     (size : place ≡ length targets) (none : old t.state t.sets ≡ None)
     (puts : (state sets : ℕ) →
-        new state sets ≡ cond (is_eq (pair_cmp (t.state, t.sets) (state, sets))) (Some place) (old state sets)) where
+    new state sets ≡ cond (is_eq (pair_cmp (t.state, t.sets) (state, sets))) (Some place) (old state sets)) where
   here : new t.state t.sets ≡ Some place
   here = puts t.state t.sets ∙ ap (λ b. cond b (Some place) (old t.state t.sets)) (target_tied t)
 
@@ -107,7 +107,7 @@ module _ (targets : List Target) (old new : ℕ → ℕ → Option ℕ) (t : Tar
       sound_by s p h (inl one) =
           let same : t ≡ s = same_target t s one in
           let at : p ≡ length targets =
-              sym (same_some place p (sym here ∙ ap (λ (x : Target). new x.state x.sets) same ∙ h)) ∙ size in
+          sym (same_some place p (sym here ∙ ap (λ (x : Target). new x.state x.sets) same ∙ h)) ∙ size in
           ap (slice_get (targets ++ t ∷ [])) at ∙ at_end targets t ∙ ap (λ (x : Target). Some x) same
       sound_by s p h (inr other) = at_left targets (t ∷ []) p s (is.sound s p (sym (there s other) ∙ h))
 

@@ -82,7 +82,7 @@ module _ (seen : List (List Bool)) (old new : BTreeMap (Vec Bool Global) ℕ) (h
     (key : Vec Bool Global) (place : ℕ) (size : place ≡ length seen)
     (none : get bits_cmp old key ≡ None) (more : btree_map_len new ≡ btree_map_len old + 1)
     (puts : (q : Vec Bool Global) →
-        get bits_cmp new q ≡ cond (is_eq (bits_cmp key q)) (Some place) (get bits_cmp old q)) where
+    get bits_cmp new q ≡ cond (is_eq (bits_cmp key q)) (Some place) (get bits_cmp old q)) where
   pub not_seen : (k : ℕ) → k < length seen → get_or seen k [] ≢ key.items
   not_seen k lt e = none_is_some k
       (sym none ∙ have.whole key k (slice_get-get_or seen k [] lt ∙ ap (λ (l : List Bool). Some l) e))
@@ -90,7 +90,7 @@ module _ (seen : List (List Bool)) (old new : BTreeMap (Vec Bool Global) ℕ) (h
   here : (q : Vec Bool Global) → key.items ≡ q.items → get bits_cmp new q ≡ Some place
   here q e = puts q
       ∙ ap (λ b. cond b (Some place) (get bits_cmp old q))
-          (ap (λ (l : List Bool). is_eq (slice_cmp bool_cmp key.items l)) (sym e) ∙ bits_own key.items)
+      (ap (λ (l : List Bool). is_eq (slice_cmp bool_cmp key.items l)) (sym e) ∙ bits_own key.items)
 
   there : (q : Vec Bool Global) → is_eq (bits_cmp key q) ≡ false → get bits_cmp new q ≡ get bits_cmp old q
   there q e = puts q ∙ ap (λ b. cond b (Some place) (get bits_cmp old q)) e

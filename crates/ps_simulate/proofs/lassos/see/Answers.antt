@@ -24,8 +24,8 @@ returns c = λ old have.
     let place = c.len-place.result in
     let size = c.len-place.ensures.len ∙ have.each in
     let more = c.in_ok-insert.ensures.len
-        ∙ ap (λ (o : Option ℕ). btree_map_len before + (if is_some o then 0 else 1))
-            (c.in_ok-insert.ensures.old ∙ none) in
+    ∙ ap (λ (o : Option ℕ). btree_map_len before + (if is_some o then 0 else 1))
+    (c.in_ok-insert.ensures.old ∙ none) in
     let puts = c.in_ok-insert.ensures.updates.0 in (
       old ++ key.items ∷ [],
       (

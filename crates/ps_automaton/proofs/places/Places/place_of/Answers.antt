@@ -11,7 +11,7 @@ returns-in-Some-clause-placed c = record {
   list = inl refl;
   stored = subst (λ (ts : List Target). slice_get ts c.in-Some.place ≡ Some c.args.target) c.self.view_is
       (c.self.invariant.sound c.args.target c.in-Some.place
-          (sym c.get.ensures.value ∙ sym c.copied.ensures ∙ c.in-Some.is));
+      (sym c.get.ensures.value ∙ sym c.copied.ensures ∙ c.in-Some.is));
 }
 
 pub returns-in-Some-clause-distinct : goal.returns-in-Some-clause-distinct
@@ -24,13 +24,13 @@ invariant_of-self-2 c =
     let old = c.self.inside.list.items in
     let pushed : c.push.new.self.items ≡ old ++ t ∷ [] =
     c.push.ensures.items
-        ∙ ap (λ r. cond (is_ok r) (c.reserve.new.self.items ++ t ∷ []) c.reserve.new.self.items) c.unwrap.ensures
+    ∙ ap (λ r. cond (is_ok r) (c.reserve.new.self.items ++ t ∷ []) c.reserve.new.self.items) c.unwrap.ensures
     ∙ ap (λ (ts : List Target). ts ++ t ∷ []) c.reserve.ensures.items in
     let puts = c.in_ok-insert.ensures.updates.0 in
     table_same (old ++ t ∷ []) c.push.new.self.items _ pushed
     (table_push old _ _ t c.len-place.result c.self.invariant
-        (omega (arith, c.len-place.ensures, c.self.inside.list.ok.0))
-        (sym c.get.ensures.value ∙ sym c.copied.ensures ∙ c.in_default.is) (λ state sets. puts (state, sets)))
+    (omega (arith, c.len-place.ensures, c.self.inside.list.ok.0))
+    (sym c.get.ensures.value ∙ sym c.copied.ensures ∙ c.in_default.is) (λ state sets. puts (state, sets)))
 
 pub returns-clause-placed : goal.returns-clause-placed
 returns-clause-placed c =
@@ -38,7 +38,7 @@ returns-clause-placed c =
     let old = c.self.inside.list.items in
     let pushed : c.push.new.self.items ≡ old ++ t ∷ [] =
     c.push.ensures.items
-        ∙ ap (λ r. cond (is_ok r) (c.reserve.new.self.items ++ t ∷ []) c.reserve.new.self.items) c.unwrap.ensures
+    ∙ ap (λ r. cond (is_ok r) (c.reserve.new.self.items ++ t ∷ []) c.reserve.new.self.items) c.unwrap.ensures
     ∙ ap (λ (ts : List Target). ts ++ t ∷ []) c.reserve.ensures.items in
     let size : c.len-place.result ≡ length old = omega (arith, c.len-place.ensures, c.self.inside.list.ok.0) in
     record {
