@@ -95,7 +95,8 @@ record Place (s u : Table) (m : Made s u) (f : ℕ → Bool) : Type 0 where
   is : leaf_at (tree_of u m.at) f ≡ Some place
   rest : leaf_at (tree_of u m.divided) f ≡ Some (class_at m.list place).rest
   held : IsNode u (class_at m.list place).rest
-  leaf : (g : ℕ → Bool) → leaf_at (tree_of u (class_at m.list place).rest) g ≡ leaf_at (tree_of s m.node) (mixed m.mask f g)
+  leaf : (g : ℕ → Bool) → leaf_at (tree_of u (class_at m.list place).rest) g ≡ leaf_at (tree_of s m.node)
+      (mixed m.mask f g)
 
 place_at : (s u : Table) (m : Made s u) (f : ℕ → Bool) → Place s u m f
 place_at s u m f =
@@ -103,7 +104,8 @@ place_at s u m f =
     let there = m.listed.complete f x.0 x.1 in
     let same : x.0 ≡ (class_at m.list there.0).rest = sym there.2 in
     let H : ℕ → Type 0 = λ k. IsNode u k in
-    let L : ℕ → Type 0 = λ k. (g : ℕ → Bool) → leaf_at (tree_of u k) g ≡ leaf_at (tree_of s m.node) (mixed m.mask f g) in
+    let L : ℕ → Type 0 = λ k. (g : ℕ → Bool) → leaf_at (tree_of u k) g ≡ leaf_at (tree_of s m.node)
+    (mixed m.mask f g) in
     let rest : leaf_at (tree_of u m.divided) f ≡ Some (class_at m.list there.0).rest = x.1 ∙ ap (λ k. Some k) same in
     record {
       place = there.0;
@@ -150,9 +152,12 @@ mixed_alike mask f g w on q = elim (bool_cases (is_in q mask)) [
 ]
 
 -- the division heeds the mask alone
-heeds_mask : (s u : Table) (m : Made s u) (f g : ℕ → Bool) → ((q : ℕ) → is_in q m.mask ≡ true → f q ≡ g q) → leaf_at (tree_of u m.divided) f ≡ leaf_at (tree_of u m.divided) g
+heeds_mask : (s u : Table) (m : Made s u) (f g : ℕ → Bool) → ((q : ℕ) → is_in q m.mask ≡ true → f q ≡ g q) →
+    leaf_at (tree_of u m.divided) f ≡ leaf_at (tree_of u m.divided) g
 heeds_mask s u m f g on =
-    divided_alike u m.sound m.mask (tree_of s m.node) (tree_of u m.divided) m.division f g (λ w. same_letters s m.node_sound m.node m.node_held (mixed m.mask f w) (mixed m.mask g w) (mixed_alike m.mask f g w on))
+    divided_alike u m.sound m.mask (tree_of s m.node) (tree_of u m.divided) m.division f g
+    (λ w. same_letters s m.node_sound m.node m.node_held (mixed m.mask f w) (mixed m.mask g w)
+    (mixed_alike m.mask f g w on))
 
 -- letters of one place lead alike
 
@@ -160,7 +165,8 @@ together : (s u : Table) (m : Made s u) (x y : ℕ) → leaf_of u m.at x ≡ lea
 together s u m x y e v w on_x on_y off =
     let p = place_at s u m (assignment x) in
     let q = known_at s u m (assignment y) p.place (sym e ∙ p.is) in
-    let same : (f g : ℕ → Bool) → ((i : ℕ) → f i ≡ g i) → leaf_at (tree_of s m.node) f ≡ leaf_at (tree_of s m.node) g = same_letters s m.node_sound m.node m.node_held in
+    let same : (f g : ℕ → Bool) → ((i : ℕ) → f i ≡ g i) → leaf_at (tree_of s m.node) f ≡ leaf_at (tree_of s m.node) g
+    = same_letters s m.node_sound m.node m.node_held in
     sym (same (mixed m.mask (assignment x) (assignment v)) (assignment v) (λ i. mixed_first m.mask x v i on_x))
     ∙ same (mixed m.mask (assignment x) (assignment v)) (mixed m.mask (assignment x) (assignment w)) (λ i. mixed_second m.mask x v w i off)
     ∙ sym (p.leaf (assignment w)) ∙ q.leaf (assignment w)
@@ -184,7 +190,8 @@ others_agree n mask x y w p isnt =
       | inr ge ↦ no_bit n (letter_of n f) p (letter_lt n f) ge ∙ sym (no_bit n (letter_of n g) p (letter_lt n g) ge)
     ]
 
-apart : (s u : Table) (m : Made s u) (x y : ℕ) → x < 2 ^ u.propositions → y < 2 ^ u.propositions → LeadAlike s m.node m.mask x y → leaf_of u m.at x ≡ leaf_of u m.at y
+apart : (s u : Table) (m : Made s u) (x y : ℕ) → x < 2 ^ u.propositions → y < 2 ^ u.propositions →
+    LeadAlike s m.node m.mask x y → leaf_of u m.at x ≡ leaf_of u m.at y
 apart s u m x y hx hy h =
     let n = s.propositions in
     let a = tree_of s m.node in
@@ -194,14 +201,16 @@ apart s u m x y hx hy h =
     let sy : y < 2 ^ n = subst (B y) m.letters hy in
     let e : (w : ℕ → Bool) → leaf_at a (mixed m.mask (assignment x) w) ≡ leaf_at a (mixed m.mask (assignment y) w) = λ w.
     leaf_by_number n a own (mixed m.mask (assignment x) w)
-    ∙ h (letter_of n (mixed m.mask (assignment x) w)) (letter_of n (mixed m.mask (assignment y) w)) (joined_letter n m.mask x w sx) (joined_letter n m.mask y w sy) (others_agree n m.mask x y w)
+    ∙ h (letter_of n (mixed m.mask (assignment x) w)) (letter_of n (mixed m.mask (assignment y) w))
+    (joined_letter n m.mask x w sx) (joined_letter n m.mask y w sy) (others_agree n m.mask x y w)
     ∙ sym (leaf_by_number n a own (mixed m.mask (assignment y) w)) in
     m.mapped (assignment x) ∙ ap (λ o. option_and_then m.places o) (divided_alike u m.sound m.mask a (tree_of u m.divided) m.division (assignment x) (assignment y) e) ∙ sym (m.mapped (assignment y))
 
 -- the class at a place
 
 -- a proposition outside the mask that the letter had could be left out
-masked : (s u : Table) (m : Made s u) (c : Class) → IsLeast (LeadsTo u m.divided c.rest) c.letter → (p : ℕ) → is_in p m.mask ≡ false → is_in p c.letter ≡ false
+masked : (s u : Table) (m : Made s u) (c : Class) → IsLeast (LeadsTo u m.divided c.rest) c.letter → (p : ℕ) →
+    is_in p m.mask ≡ false → is_in p c.letter ≡ false
 masked s u m c first p off =
     elim (bool_cases (is_in p c.letter)) [
       | inr isnt ↦ isnt
@@ -210,7 +219,10 @@ masked s u m c first p off =
           let d = tree_of u m.divided in
           let g = changed (assignment c.letter) p false in
           let lt : p < n = elim (cases_lt p n) [ inl l ↦ l | inr ge ↦ absurd (true_is_not_false (sym is ∙ no_bit n c.letter p first.here.0 ge)) ] in
-          let same : leaf_at d g ≡ leaf_at d (assignment c.letter) = heeds_mask s u m g (assignment c.letter) (λ q on. changed-other (assignment c.letter) p false q (λ e. (let P : ℕ → Type 0 = λ k. is_in k m.mask ≡ true in true_is_not_false (sym (subst P e on) ∙ off)))) in
+          let same : leaf_at d g ≡ leaf_at d (assignment c.letter) = heeds_mask s u m g (assignment c.letter)
+          (λ q on. changed-other (assignment c.letter) p false q
+          (λ e. (let P : ℕ → Type 0 = λ k. is_in k m.mask ≡ true in true_is_not_false
+          (sym (subst P e on) ∙ off)))) in
           let before : IsBefore (letter_of n g) c.letter = record {
             first = p;
             is_false = letter_is n g p lt ∙ changed-here (assignment c.letter) p false;
@@ -220,21 +232,28 @@ masked s u m c first p off =
           absurd (first.none_before (letter_of n g) (letter_lt n g, sym (leaf_by_number n d (m.sound.ordered m.divided m.divided_held) g) ∙ same ∙ first.here.1) before)
     ]
 
-class_is : (s u : Table) (m : Made s u) (k : ℕ) → k < length m.list → IsClass s u m.node m.mask m.at k (class_at m.list k)
+class_is : (s u : Table) (m : Made s u) (k : ℕ) → k < length m.list →
+    IsClass s u m.node m.mask m.at k (class_at m.list k)
 class_is s u m k lt =
     let c = class_at m.list k in
     let first = m.listed.least k lt in
     let its_own : leaf_of u m.at c.letter ≡ Some k = m.mapped (assignment c.letter) ∙ ap (λ o. option_and_then m.places o) first.here.1 ∙ m.placed.placed k lt in
     let here = known_at s u m (assignment c.letter) k its_own in
     let x = m.division (assignment c.letter) in
-    let same : (f g : ℕ → Bool) → ((i : ℕ) → f i ≡ g i) → leaf_at (tree_of s m.node) f ≡ leaf_at (tree_of s m.node) g = same_letters s m.node_sound m.node m.node_held in
+    let same : (f g : ℕ → Bool) → ((i : ℕ) → f i ≡ g i) → leaf_at (tree_of s m.node) f ≡ leaf_at (tree_of s m.node) g
+    = same_letters s m.node_sound m.node m.node_held in
     let H : ℕ → Type 0 = λ r. IsNode u r in
     record {
-      least = record { here = (first.here.0, its_own); none_before = λ y e before. first.none_before y (e.0, (known_at s u m (assignment y) k e.1).rest) before };
+      least = record {
+        here = (first.here.0, its_own);
+        none_before = λ y e before. first.none_before y
+            (e.0, (known_at s u m (assignment y) k e.1).rest) before;
+      };
       masked = masked s u m c first;
       held = subst H (some_nat x.0 c.rest (sym x.1 ∙ first.here.1)) x.2;
       others = λ y z off. here.leaf (assignment y) ∙ same _ _ (λ i. mixed_second m.mask c.letter y z i off) ∙ sym (here.leaf (assignment z));
-      shared = λ y e. (known_at s u m (assignment y) k e).leaf (assignment y) ∙ same _ _ (λ i. mixed_first m.mask y y i (λ p is. refl));
+      shared = λ y e. (known_at s u m (assignment y) k e).leaf (assignment y) ∙ same _ _
+          (λ i. mixed_first m.mask y y i (λ p is. refl));
     }
 
 is_some_and : (o : Option ℕ) (k n : ℕ) → o ≡ Some k → k < n → IsSomeAnd o (λ p. p < n)
@@ -243,10 +262,12 @@ is_some_and o k n e lt = let P : Option ℕ → Type 0 = λ x. IsSomeAnd x (λ p
 are_classes : (s u : Table) (m : Made s u) → IsNode u m.at → AreClasses s u m.node m.mask m.at m.list
 are_classes s u m held = record {
   held = held;
-  read = λ x y on. m.mapped (assignment x) ∙ ap (λ o. option_and_then m.places o) (heeds_mask s u m (assignment x) (assignment y) on) ∙ sym (m.mapped (assignment y));
+  read = λ x y on. m.mapped (assignment x) ∙ ap (λ o. option_and_then m.places o)
+      (heeds_mask s u m (assignment x) (assignment y) on) ∙ sym (m.mapped (assignment y));
   placed = λ x. (let p = place_at s u m (assignment x) in is_some_and _ p.place (length m.list) p.is p.within);
   alike = λ x y hx hy. (together s u m x y, apart s u m x y hx hy);
-  each = λ k c e. (let P : Class → Type 0 = λ x. IsClass s u m.node m.mask m.at k x in subst P (get_or_from_slice_get m.list k c _ e) (class_is s u m k (slice_get_within m.list k c e)));
+  each = λ k c e. (let P : Class → Type 0 = λ x. IsClass s u m.node m.mask m.at k x in subst P
+      (get_or_from_slice_get m.list k c _ e) (class_is s u m k (slice_get_within m.list k c e)));
   rising = λ i j d lt below.
       (let P : Class → Type 0 = λ x. IsBefore x.letter (get_or m.list j d).letter in
       let Q : Class → Type 0 = λ x. IsBefore (class_at m.list i).letter x.letter in
@@ -254,9 +275,13 @@ are_classes s u m held = record {
 }
 
 -- the node stands in one table, its division in the next one, and the places in a third, which keeps that
-pub classes_of : (s v u : Table) → Keeps v u → IsSound s → IsSound u → u.propositions ≡ s.propositions → (mask node divided at : ℕ) (places : ℕ → Option ℕ) (leaves : List (ℕ × ℕ)) (list : List Class) → IsNode s node → IsNode v divided → IsNode u at → IsDivided v mask (tree_of s node) (tree_of v divided) →
-    AreLeaves v divided leaves → AreOf leaves (length leaves) list → IsPlaced places list → IsMapped (λ leaf. option_and_then places leaf) (tree_of v divided) (tree_of u at) → AreClasses s u node mask at list
-classes_of s v u m node_sound sound letters mask node divided at places leaves list hn hd ha division all of placed mapped =
+pub classes_of : (s v u : Table) → Keeps v u → IsSound s → IsSound u → u.propositions ≡ s.propositions →
+    (mask node divided at : ℕ) (places : ℕ → Option ℕ) (leaves : List (ℕ × ℕ)) (list : List Class) → IsNode s node →
+    IsNode v divided → IsNode u at → IsDivided v mask (tree_of s node) (tree_of v divided) →
+    AreLeaves v divided leaves → AreOf leaves (length leaves) list → IsPlaced places list → IsMapped
+    (λ leaf. option_and_then places leaf) (tree_of v divided) (tree_of u at) → AreClasses s u node mask at list
+classes_of s v u m node_sound sound letters mask node divided at places leaves list hn hd ha division all of placed
+    mapped =
     let d : tree_of u divided ≡ tree_of v divided = m.same divided hd in
     let B : Tree → Type 0 = λ x. IsDivided u mask (tree_of s node) x in
     let M : Tree → Type 0 = λ x. (f : ℕ → Bool) → leaf_at (tree_of u at) f ≡ option_and_then places (leaf_at x f) in
@@ -283,7 +308,8 @@ classes_of s v u m node_sound sound letters mask node divided at places leaves l
 leaf_kept : (t u : Table) → Keeps t u → (node x : ℕ) → IsNode t node → leaf_of u node x ≡ leaf_of t node x
 leaf_kept t u k node x held = ap (λ tree. leaf_at tree (assignment x)) (k.same node held)
 
-class_kept : (s t u : Table) → Keeps t u → (node mask places k : ℕ) (c : Class) → IsNode t places → IsClass s t node mask places k c → IsClass s u node mask places k c
+class_kept : (s t u : Table) → Keeps t u → (node mask places k : ℕ) (c : Class) → IsNode t places →
+    IsClass s t node mask places k c → IsClass s u node mask places k c
 class_kept s t u keeps node mask places k c held is = record {
   least = record {
     here = (leads_same t u keeps places held k c.letter).0 is.least.here;
@@ -291,18 +317,21 @@ class_kept s t u keeps node mask places k c held is = record {
   };
   masked = is.masked;
   held = keeps.held c.rest is.held;
-  others = λ x y off. leaf_kept t u keeps c.rest x is.held ∙ is.others x y off ∙ sym (leaf_kept t u keeps c.rest y is.held);
+  others = λ x y off. leaf_kept t u keeps c.rest x is.held ∙ is.others x y off ∙ sym
+      (leaf_kept t u keeps c.rest y is.held);
   shared = λ x e. leaf_kept t u keeps c.rest x is.held ∙ is.shared x (sym (leaf_kept t u keeps places x held) ∙ e);
 }
 
-pub classes_kept : (s t u : Table) → Keeps t u → (node mask places : ℕ) (list : List Class) → AreClasses s t node mask places list → AreClasses s u node mask places list
+pub classes_kept : (s t u : Table) → Keeps t u → (node mask places : ℕ) (list : List Class) →
+    AreClasses s t node mask places list → AreClasses s u node mask places list
 classes_kept s t u keeps node mask places list are =
     let same : (x : ℕ) → leaf_of u places x ≡ leaf_of t places x = λ x. leaf_kept t u keeps places x are.held in
     let B : ℕ → ℕ → Type 0 = λ z n. z < 2 ^ n in
     record {
       held = keeps.held places are.held;
       read = λ x y on. same x ∙ are.read x y on ∙ sym (same y);
-      placed = λ x. (let P : Option ℕ → Type 0 = λ o. IsSomeAnd o (λ k. k < length list) in subst P (sym (same x)) (are.placed x));
+      placed = λ x. (let P : Option ℕ → Type 0 = λ o. IsSomeAnd o (λ k. k < length list) in subst P (sym (same x))
+          (are.placed x));
       alike = λ x y hx hy.
           (let were = are.alike x y (subst (B x) keeps.propositions hx) (subst (B y) keeps.propositions hy) in
           (λ e. were.0 (sym (same x) ∙ e ∙ same y), λ a. same x ∙ were.1 a ∙ sym (same y)));

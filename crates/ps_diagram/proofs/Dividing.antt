@@ -69,7 +69,9 @@ tested_blind t s p level a b d h ba bb f g e = tested_alike t s p a b d h f g (b
 
 -- how each is made
 
-pub divided_leaf : (t : Table) (mask node : ℕ) (a d : Tree) (leaf : Option ℕ) → ((f : ℕ → Bool) → leaf_at a f ≡ leaf) → ((f : ℕ → Bool) → leaf_at (tree_of t node) f ≡ leaf) → IsNode t node → ((f : ℕ → Bool) → leaf_at d f ≡ Some node) → IsDivided t mask a d
+pub divided_leaf : (t : Table) (mask node : ℕ) (a d : Tree) (leaf : Option ℕ) →
+    ((f : ℕ → Bool) → leaf_at a f ≡ leaf) → ((f : ℕ → Bool) → leaf_at (tree_of t node) f ≡ leaf) → IsNode t node →
+    ((f : ℕ → Bool) → leaf_at d f ≡ Some node) → IsDivided t mask a d
 divided_leaf t mask node a d leaf all is held e f = (node, e f, held, (λ g. is g ∙ sym (all (mixed mask f g))))
 
 pub divided_test : (t : Table) (mask p : ℕ) (a al ah d dl dh : Tree) → IsTestOf p al ah a → IsDividedTest t mask p dl dh d → IsDivided t mask al dl → IsDivided t mask ah dh → IsDivided t mask a d
@@ -195,9 +197,12 @@ tested_test t p q a al ah b bl bh d dl dh ta tb td l h f =
 
 -- what is known stays known as the table grows, and one more is known
 
-pub known_divided_kept : (s t u : Table) (mask : ℕ) (known : ℕ → Option ℕ) → Keeps t u → Knows (IsDivided t mask) s t known → Knows (IsDivided u mask) s u known
+pub known_divided_kept : (s t u : Table) (mask : ℕ) (known : ℕ → Option ℕ) → Keeps t u →
+    Knows (IsDivided t mask) s t known → Knows (IsDivided u mask) s u known
 known_divided_kept s t u mask known k h =
-    knows_kept (IsDivided u mask) s s t u known (keeps_itself s) k (λ node made e. let r = h node made e in (r.0, r.1, divided_kept t u k mask (tree_of s node) (tree_of t made) r.2))
+    knows_kept (IsDivided u mask) s s t u known (keeps_itself s) k
+    (λ node made e. let r = h node made e in
+    (r.0, r.1, divided_kept t u k mask (tree_of s node) (tree_of t made) r.2))
 
 pub tests_kept : (t u : Table) (known : ℕ × ℕ × ℕ → Option ℕ) → Keeps t u → KnowsTests t known → KnowsTests u known
 tests_kept t u known k h p a b made e =
@@ -288,7 +293,8 @@ pub record AreDivided (t : Table) (mask : ℕ) (al dl ah dh : Tree) : Type 0 whe
   pub low : IsDivided t mask al dl
   pub high : IsDivided t mask ah dh
 
-pub are_divided : (u v : Table) → Keeps u v → (mask : ℕ) (al ah : Tree) (low : ℕ) (dh : Tree) → IsNode u low → IsDivided u mask al (tree_of u low) → IsDivided v mask ah dh →
+pub are_divided : (u v : Table) → Keeps u v → (mask : ℕ) (al ah : Tree) (low : ℕ) (dh : Tree) → IsNode u low →
+    IsDivided u mask al (tree_of u low) → IsDivided v mask ah dh →
     AreDivided v mask al (tree_of v low) ah dh
 are_divided u v m mask al ah low dh hl l h = record {
   low = kept (λ x. IsDivided v mask al x) u v m low hl (divided_kept u v m mask al (tree_of u low) l);
@@ -300,5 +306,9 @@ pub sides_divided : (t u : Table) → Keeps t u → (mask p : ℕ) (a al ah d dl
 sides_divided t u k mask p a al ah d dl dh ta h s = divided_test u mask p a al ah d dl dh ta h (divided_kept t u k mask al dl s.low) (divided_kept t u k mask ah dh s.high)
 
 -- what is left of a diagram that tests nothing has its leaf
-pub divided_here : (t u : Table) → Keeps t u → (mask node place : ℕ) (a d : Tree) (leaf : Option ℕ) → ((f : ℕ → Bool) → leaf_at a f ≡ leaf) → IsNode t node → ((f : ℕ → Bool) → leaf_at (tree_of t node) f ≡ leaf) → place ≡ node → d ≡ final place → IsDivided u mask a d
-divided_here t u k mask node place a d leaf all held c named is = divided_leaf u mask node a d leaf all (λ f. ap (λ x. leaf_at x f) (k.same node held) ∙ c f) (k.held node held) (λ f. ap (λ x. leaf_at x f) is ∙ ap (λ n. Some n) named)
+pub divided_here : (t u : Table) → Keeps t u → (mask node place : ℕ) (a d : Tree) (leaf : Option ℕ) →
+    ((f : ℕ → Bool) → leaf_at a f ≡ leaf) → IsNode t node → ((f : ℕ → Bool) → leaf_at (tree_of t node) f ≡ leaf) →
+    place ≡ node → d ≡ final place → IsDivided u mask a d
+divided_here t u k mask node place a d leaf all held c named is = divided_leaf u mask node a d leaf all
+    (λ f. ap (λ x. leaf_at x f) (k.same node held) ∙ c f) (k.held node held)
+    (λ f. ap (λ x. leaf_at x f) is ∙ ap (λ n. Some n) named)

@@ -37,12 +37,18 @@ pub some_nat : (x y : ℕ) → Some x ≡ Some y → x ≡ y
 unfolding nat_in
 some_nat x y e = ap nat_in e
 
-pub knows_kept : (R : Tree → Tree → Type 0) (s s' t t' : Table) (known : ℕ → Option ℕ) → Keeps s s' → Keeps t t' → Knows R s t known → Knows R s' t' known
+pub knows_kept : (R : Tree → Tree → Type 0) (s s' t t' : Table) (known : ℕ → Option ℕ) → Keeps s s' → Keeps t t' →
+    Knows R s t known → Knows R s' t' known
 knows_kept R s s' t t' known j k h node made e =
-    let r = h node made e in
-    (j.held node r.0, k.held made r.1, kept (λ x. R x (tree_of t' made)) s s' j node r.0 (kept (λ y. R (tree_of s node) y) t t' k made r.1 r.2))
+    let r = h node made e in (
+      j.held node r.0,
+      k.held made r.1,
+      kept (λ x. R x (tree_of t' made)) s s' j node r.0
+          (kept (λ y. R (tree_of s node) y) t t' k made r.1 r.2),
+    )
 
-pub knows_more : (R : Tree → Tree → Type 0) (s t : Table) (known new : ℕ → Option ℕ) (key value : ℕ) → ((q : ℕ) → new q ≡ cond (eqb key q) (Some value) (known q)) →
+pub knows_more : (R : Tree → Tree → Type 0) (s t : Table) (known new : ℕ → Option ℕ) (key value : ℕ) →
+    ((q : ℕ) → new q ≡ cond (eqb key q) (Some value) (known q)) →
     Knows R s t known → IsNode s key → IsNode t value → R (tree_of s key) (tree_of t value) → Knows R s t new
 knows_more R s t known new key value update h hk hv r node made e =
     elim (bool_cases (eqb key node)) [
@@ -81,5 +87,6 @@ pairs_more R t known new x y value update h hx hy hv r a b made e =
 pub pairs_same : (R : Tree → Tree → Tree → Type 0) (t : Table) (known new : ℕ × ℕ → Option ℕ) → ((q : ℕ × ℕ) → new q ≡ known q) → KnowsPairs R t known → KnowsPairs R t new
 pairs_same R t known new e h a b made is = h a b made (sym (e (a, b)) ∙ is)
 
-pub knows_same : (R : Tree → Tree → Type 0) (s t : Table) (known new : ℕ → Option ℕ) → ((q : ℕ) → new q ≡ known q) → Knows R s t known → Knows R s t new
+pub knows_same : (R : Tree → Tree → Type 0) (s t : Table) (known new : ℕ → Option ℕ) → ((q : ℕ) → new q ≡ known q) →
+    Knows R s t known → Knows R s t new
 knows_same R s t known new e h a made is = h a made (sym (e a) ∙ is)

@@ -1,9 +1,9 @@
 -- The classes of states, which are remembered.
-use Rattle.std.proofs.Common.{◌≡◌, ◌≢◌, ◌∙◌, ℕ, ◌<◌, ◌≤◌, Bool, cond, eqb, Option, None, Some, Result, Ok, Err, List, length, get_or, ap, refl, subst, sym, inl, inr}
+use Rattle.std.proofs.Common.{◌≡◌, ◌≢◌, ◌∙◌, ℕ, ◌<◌, ◌≤◌, Bool, cond, eqb, Option, None, Some}
+use Rattle.std.proofs.Common.{Result, Ok, Err, List, length, get_or, ap, refl, subst, sym, inl, inr}
 use Rattle.std.specs.Prelude.{IsSome, IsSomeAnd, OnOk}
 use Rattle.std.specs.List.{All, AllPairs}
 use Rattle.std.proofs.lemmas.Bool.{eqb-true}
-use Rattle.std.proofs.lemmas.List.Elements.{All-map}
 use Rattle.ps_diagram.specs.Classes.{AreClasses}
 use Rattle.ps_diagram.specs.Table.{Table, Keeps}
 use Rattle.ps_diagram.specs.declared.classes.Classes.{Classes}
@@ -30,72 +30,103 @@ one_value v w e = cc
 is_some : (o : Option Classes) (c : Classes) → o ≡ Some c → IsSome o
 is_some o c e = subst (λ (x : Option Classes). IsSome x) (sym e) refl
 
-pub no_classes : (order : Order) (a : AutomatonData) (mask : ℕ) (t : Table) (rests : ℕ × ℕ → Option ℕ) (classes : ℕ → Option Classes) (key : Key) → ((q : ℕ) → classes q ≡ None) → IsKnown order a mask t rests key →
+pub no_classes : (order : Order) (a : AutomatonData) (mask : ℕ) (t : Table) (rests : ℕ × ℕ → Option ℕ)
+    (classes : ℕ → Option Classes) (key : Key) → ((q : ℕ) → classes q ≡ None) → IsKnown order a mask t rests key →
     KnowsMoves order a mask t rests classes key
-no_classes order a mask t rests classes key none is = record { is_known = is; are = λ q c e. absurd (some_none c (sym (none q) ∙ e)) }
+no_classes order a mask t rests classes key none is =
+    record { is_known = is; are = λ q c e. absurd (some_none c (sym (none q) ∙ e)) }
 
-pub classes_of_state : (a : AutomatonData) (mask : ℕ) (s u : Table) (q node : ℕ) (c : Classes) → q ≤ a.states → s ≡ a.store → node ≡ node_of a q → AreClasses s u node mask c.places c.list.items → AreClassesOf a mask u q c
+pub classes_of_state : (a : AutomatonData) (mask : ℕ) (s u : Table) (q node : ℕ) (c : Classes) → q ≤ a.states →
+    s ≡ a.store → node ≡ node_of a q → AreClasses s u node mask c.places c.list.items → AreClassesOf a mask u q c
 classes_of_state a mask s u q node c state same is are = record {
   state = state;
-  are = subst (λ (x : Table). AreClasses x u (node_of a q) mask c.places c.list.items) same (subst (λ n. AreClasses s u n mask c.places c.list.items) is are);
+  are = subst (λ (x : Table). AreClasses x u (node_of a q) mask c.places c.list.items) same
+      (subst (λ n. AreClasses s u n mask c.places c.list.items) is are);
 }
 
 -- what was known is known as the table grows
-module _ (order : Order) (a : AutomatonData) (mask : ℕ) (t u : Table) (rests now : ℕ × ℕ → Option ℕ) (keeps : Keeps t u) (before : (k : Key) → IsKnown order a mask t rests k → IsKnown order a mask u now k) where
-  remembered_kept : (q : ℕ) (c : Classes) → AreRemembered order a mask t rests q c → AreRemembered order a mask u now q c
+module _ (order : Order) (a : AutomatonData) (mask : ℕ) (t u : Table) (rests now : ℕ × ℕ → Option ℕ)
+    (keeps : Keeps t u) (before : (k : Key) → IsKnown order a mask t rests k → IsKnown order a mask u now k) where
+  remembered_kept : (q : ℕ) (c : Classes) → AreRemembered order a mask t rests q c →
+      AreRemembered order a mask u now q c
   remembered_kept q c h = record {
-    are = record { state = h.are.state; are = classes_kept a.store t u keeps (node_of a q) mask c.places c.list.items h.are.are };
+    are = record {
+      state = h.are.state;
+      are = classes_kept a.store t u keeps (node_of a q) mask c.places c.list.items
+          h.are.are;
+    };
     known = λ k d within. before (get_or (class_keys q c.list.items) k d) (h.known k d within);
   }
 
   module _ (classes : ℕ → Option Classes) (key : Key) (is : KnowsMoves order a mask t rests classes key) where
     -- with no more classes
     pub moves_kept : (new : ℕ → Option Classes) → ((r : ℕ) → new r ≡ classes r) → KnowsMoves order a mask u now new key
-    moves_kept new same = record { is_known = before key is.is_known; are = λ r c e. remembered_kept r c (is.are r c (sym (same r) ∙ e)) }
+    moves_kept new same = record {
+      is_known = before key is.is_known;
+      are = λ r c e. remembered_kept r c
+          (is.are r c (sym (same r) ∙ e));
+    }
 
     -- and with those of one more state
-    pub moves_more : (new : ℕ → Option Classes) (q : ℕ) (added : Classes) → ((r : ℕ) → new r ≡ cond (eqb q r) (Some added) (classes r)) → AreRemembered order a mask u now q added → KnowsMoves order a mask u now new key
+    pub moves_more : (new : ℕ → Option Classes) (q : ℕ) (added : Classes) →
+        ((r : ℕ) → new r ≡ cond (eqb q r) (Some added) (classes r)) → AreRemembered order a mask u now q added →
+        KnowsMoves order a mask u now new key
     moves_more new q added update b = record {
       is_known = before key is.is_known;
       are = λ r c e. elim (bool_cases (eqb q r)) [
         | inl one ↦
-            (let value : added ≡ c = one_value added c (sym (update r ∙ ap (λ (x : Bool). cond x (Some added) (classes r)) one) ∙ e) in
-            subst (λ n. AreRemembered order a mask u now n c) (eqb-true q r one) (subst (λ (v : Classes). AreRemembered order a mask u now q v) value b))
-        | inr other ↦ remembered_kept r c (is.are r c (sym (update r ∙ ap (λ (x : Bool). cond x (Some added) (classes r)) other) ∙ e))
+            (let value : added ≡ c = one_value added c
+            (sym (update r ∙ ap (λ (x : Bool). cond x (Some added) (classes r)) one) ∙ e) in
+            subst (λ n. AreRemembered order a mask u now n c) (eqb-true q r one)
+            (subst (λ (v : Classes). AreRemembered order a mask u now q v) value b))
+        | inr other ↦ remembered_kept r c
+            (is.are r c (sym (update r ∙ ap (λ (x : Bool). cond x (Some added) (classes r)) other) ∙ e))
       ];
     }
 
 -- a state that was divided is
-pub divided_more : (classes new : ℕ → Option Classes) (q : ℕ) (added : Classes) → ((r : ℕ) → new r ≡ cond (eqb q r) (Some added) (classes r)) → (r : ℕ) → IsSome (classes r) → IsSome (new r)
+pub divided_more : (classes new : ℕ → Option Classes) (q : ℕ) (added : Classes) →
+    ((r : ℕ) → new r ≡ cond (eqb q r) (Some added) (classes r)) → (r : ℕ) → IsSome (classes r) → IsSome (new r)
 divided_more classes new q added update r h = elim (bool_cases (eqb q r)) [
   | inl one ↦ is_some (new r) added (update r ∙ ap (λ (x : Bool). cond x (Some added) (classes r)) one)
-  | inr other ↦ subst (λ (x : Option Classes). IsSome x) (sym (update r ∙ ap (λ (x : Bool). cond x (Some added) (classes r)) other)) h
+  | inr other ↦ subst (λ (x : Option Classes). IsSome x)
+      (sym (update r ∙ ap (λ (x : Bool). cond x (Some added) (classes r)) other)) h
 ]
 
 -- the keys of a state's classes
-module _ (order : Order) (a : AutomatonData) (mask : ℕ) (t : Table) (rests : ℕ × ℕ → Option ℕ) (classes : ℕ → Option Classes) (q p : ℕ) (is : KnowsMoves order a mask t rests classes (First q p)) (c : Classes) (at : classes q ≡ Some c)
+module _ (order : Order) (a : AutomatonData) (mask : ℕ) (t : Table) (rests : ℕ × ℕ → Option ℕ)
+    (classes : ℕ → Option Classes) (q p : ℕ) (is : KnowsMoves order a mask t rests classes (First q p)) (c : Classes)
+    (at : classes q ≡ Some c)
     (next : List Key) (e : next ≡ class_keys q c.list.items) where
   of : AreClassesOf a mask t q c
   of = (is.are q c at).are
 
   pub leads_behind : LeadsTo (board_of order a) (First q p) next
-  leads_behind = subst (LeadsTo (board_of order a) (First q p)) (sym e) (class_leads order a mask t is.is_known.fit q c.places c.list.items of.state of.are p)
+  leads_behind = subst (LeadsTo (board_of order a) (First q p)) (sym e)
+      (class_leads order a mask t is.is_known.fit q c.places c.list.items of.state of.are p)
 
   pub known_behind : All (KnowsMoves order a mask t rests classes) next
-  known_behind = subst (λ (keys : List Key). All (KnowsMoves order a mask t rests classes) keys) (sym e) (λ k d within. record { is_known = (is.are q c at).known k d within; are = is.are })
+  known_behind = subst (λ (keys : List Key). All (KnowsMoves order a mask t rests classes) keys) (sym e)
+      (λ k d within. record { is_known = (is.are q c at).known k d within; are = is.are })
 
   pub some_behind : 0 < length next
-  some_behind = subst (λ (keys : List Key). 0 < length keys) (sym e) (class_some order a mask t is.is_known.fit q c.places c.list.items of.state of.are)
+  some_behind = subst (λ (keys : List Key). 0 < length keys) (sym e)
+      (class_some order a mask t is.is_known.fit q c.places c.list.items of.state of.are)
 
   pub different_behind : AllPairs (λ x y. x ≢ y) next
-  different_behind = subst (λ (keys : List Key). AllPairs (λ x y. x ≢ y) keys) (sym e) (class_different order a mask t is.is_known.fit q c.places c.list.items of.state of.are)
+  different_behind = subst (λ (keys : List Key). AllPairs (λ x y. x ≢ y) keys) (sym e)
+      (class_different order a mask t is.is_known.fit q c.places c.list.items of.state of.are)
 
 -- ## What was answered
 
-pub answered_by : (order : Order) (a : AutomatonData) (mask : ℕ) (t : Table) (rests : ℕ × ℕ → Option ℕ) (classes : ℕ → Option Classes) (any key : Key) → KnowsMoves order a mask t rests classes any → IsDivided classes key → HasAnswered order a mask t classes key
-answered_by order a mask t rests classes any key is divided = record { fit = is.is_known.fit; are = λ q c e. (is.are q c e).are; is_divided = divided }
+pub answered_by : (order : Order) (a : AutomatonData) (mask : ℕ) (t : Table) (rests : ℕ × ℕ → Option ℕ)
+    (classes : ℕ → Option Classes) (any key : Key) → KnowsMoves order a mask t rests classes any →
+    IsDivided classes key → HasAnswered order a mask t classes key
+answered_by order a mask t rests classes any key is divided =
+    record { fit = is.is_known.fit; are = λ q c e. (is.are q c e).are; is_divided = divided }
 
-pub divided_still : (old new : ℕ → Option Classes) → ((q : ℕ) → IsSome (old q) → IsSome (new q)) → (key : Key) → IsDivided old key → IsDivided new key
+pub divided_still : (old new : ℕ → Option Classes) → ((q : ℕ) → IsSome (old q) → IsSome (new q)) → (key : Key) →
+    IsDivided old key → IsDivided new key
 divided_still old new still (First q p) h = still q h
 divided_still old new still (Second q x) h = h
 
@@ -108,14 +139,17 @@ some_of None P h all = absurd (true_is_not_false (sym h))
 some_of (Some c) P h all = all c refl
 
 -- the classes of all keys that were answered
-pub all_divided : (order o : Order) (a b : AutomatonData) (mask : ℕ) (t : Table) (classes : ℕ → Option Classes) (keys : List Key) (key : Key) → o ≡ order → b ≡ a → StandsAt keys 0 key →
+pub all_divided : (order o : Order) (a b : AutomatonData) (mask : ℕ) (t : Table) (classes : ℕ → Option Classes)
+    (keys : List Key) (key : Key) → o ≡ order → b ≡ a → StandsAt keys 0 key →
     ((v : ℕ) (k : Key) → StandsAt keys v k → HasAnswered o b mask t classes k) → AreDivided order a keys t classes
 all_divided order o a b mask t classes keys key same is begins all =
-    subst (λ (d : AutomatonData). AreDivided order d keys t classes) is (subst (λ (x : Order). AreDivided x b keys t classes) same
+    subst (λ (d : AutomatonData). AreDivided order d keys t classes) is
+    (subst (λ (x : Order). AreDivided x b keys t classes) same
     (record {
       mask = mask;
       fit = (all 0 key begins).fit;
-      each = λ v q p at. (let h = all v (First q p) at in some_of (classes q) (AreClassesOf b mask t q) h.is_divided (λ c e. h.are q c e));
+      each = λ v q p at. (let h = all v (First q p) at in some_of (classes q) (AreClassesOf b mask t q) h.is_divided
+          (λ c e. h.are q c e));
     }))
 
 -- ## What is lent

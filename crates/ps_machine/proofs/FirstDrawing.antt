@@ -35,8 +35,10 @@ use Rattle.ps_machine.specs.declared.key.Key.{Key}
 use Rattle.ps_machine.specs.declared.key.Key.TheVariants.{First, Second}
 use Rattle.ps_machine.specs.declared.key.Order.{Order}
 use Rattle.ps_machine.specs.declared.machine.Row.{Row}
-use Rattle.ps_machine.proofs.BoardSteps.{heeds, below_back, some_of, class_there, class_rest, move_is, move_leaf, leaf_within}
-use Rattle.ps_machine.proofs.DrawingLemmas.{setting, kept_at, kept_used, not_both, keeps_rows, keeps_rows_same, keeps_rows_trans, all_rows, move_at, class_at, to_pair_of, used_more}
+use Rattle.ps_machine.proofs.BoardSteps.{heeds, below_back, some_of, class_there}
+use Rattle.ps_machine.proofs.BoardSteps.{class_rest, move_is, move_leaf, leaf_within}
+use Rattle.ps_machine.proofs.DrawingLemmas.{setting, kept_at, kept_used, not_both, keeps_rows, keeps_rows_same}
+use Rattle.ps_machine.proofs.DrawingLemmas.{keeps_rows_trans, all_rows, move_at, class_at, to_pair_of, used_more}
 use Rattle.ps_machine.proofs.Rounds.{within_game, first_owner, second_owner}
 
 -- ## The rest of a class
@@ -88,7 +90,8 @@ pub Heeds : Order → AutomatonData → Table → ℕ → Type 0
 Heeds order a t rest =
     (x y : ℕ) → ((p : ℕ) → p < length a.names → (board_of order a).is_first p ≡ false → is_in p x ≡ is_in p y) → leaf_of t rest x ≡ leaf_of t rest y
 
-module _ (order : Order) (a : AutomatonData) (mask : ℕ) (t : Table) (q places : ℕ) (list : List Class) (f : IsFit order a mask t) (h : q ≤ a.states) (are : AreClasses a.store t (node_of a q) mask places list) where
+module _ (order : Order) (a : AutomatonData) (mask : ℕ) (t : Table) (q places : ℕ) (list : List Class)
+    (f : IsFit order a mask t) (h : q ≤ a.states) (are : AreClasses a.store t (node_of a q) mask places list) where
   class_heeds : (k : ℕ) (c : Class) → slice_get list k ≡ Some c → Heeds order a t c.rest
   unfolding Heeds
   class_heeds k c at x y alike = to x ∙ heeds order a mask t q (like x) (like y) f h same ∙ sym (to y)
@@ -102,7 +105,8 @@ module _ (order : Order) (a : AutomatonData) (mask : ℕ) (t : Table) (q places 
       to : (u : ℕ) → leaf_of t c.rest u ≡ leaf_of a.store (node_of a q) (like u)
       to u =
           let is = are.each k c at in
-          is.others u (like u) (joint_off (length a.names) mask c.letter f.is_mask.within u) ∙ is.shared (like u) (there u)
+          is.others u (like u) (joint_off (length a.names) mask c.letter f.is_mask.within u) ∙ is.shared (like u)
+          (there u)
 
       same : (p : ℕ) → p < length a.names → is_in p (like x) ≡ is_in p (like y)
       same p lt = joint_same (length a.names) mask c.letter f.is_mask.within x y p (λ off. alike p lt (sym (f.is_mask.is p lt) ∙ off))
@@ -113,7 +117,8 @@ pub record Left (order : Order) (a : AutomatonData) (mask : ℕ) (t : Table) (q 
   pub is_rest : IsRest order a mask t q letter rest
   pub heeds_second : Heeds order a t rest
 
-pub left : (order : Order) (a : AutomatonData) (mask : ℕ) (t : Table) (q places : ℕ) (list : List Class) (letter rest : ℕ) → IsFit order a mask t → q ≤ a.states → AreClasses a.store t (node_of a q) mask places list →
+pub left : (order : Order) (a : AutomatonData) (mask : ℕ) (t : Table) (q places : ℕ) (list : List Class)
+    (letter rest : ℕ) → IsFit order a mask t → q ≤ a.states → AreClasses a.store t (node_of a q) mask places list →
     Any (λ (c : Class). (c.letter ≡ letter) × (c.rest ≡ rest)) list → Left order a mask t q letter rest
 left order a mask t q places list letter rest f h are any =
     let c : Class = any.1 in
@@ -126,13 +131,17 @@ left order a mask t q places list letter rest f h are any =
     }
 
 -- the places by another name
-pub renamed : (t u : Table) (places values : List ℕ) (rest made : ℕ) → values ≡ places → ((x : ℕ) → leaf_of u made x ≡ option_map (λ k. slice_index values k) (leaf_of t rest x)) →
+pub renamed : (t u : Table) (places values : List ℕ) (rest made : ℕ) → values ≡ places →
+    ((x : ℕ) → leaf_of u made x ≡ option_map (λ k. slice_index values k) (leaf_of t rest x)) →
     (x : ℕ) → leaf_of u made x ≡ option_map (λ k. slice_index places k) (leaf_of t rest x)
-renamed t u places values rest made same named x = named x ∙ ap (λ (l : List ℕ). option_map (λ k. slice_index l k) (leaf_of t rest x)) same
+renamed t u places values rest made same named x = named x ∙ ap
+    (λ (l : List ℕ). option_map (λ k. slice_index l k) (leaf_of t rest x)) same
 
-pub renamed_within : (t : Table) (places values : List ℕ) (rest : ℕ) → values ≡ places → ((x : ℕ) → x < 2 ^ t.propositions → IfSome (leaf_of t rest x) (λ k. k < length places)) →
+pub renamed_within : (t : Table) (places values : List ℕ) (rest : ℕ) → values ≡ places →
+    ((x : ℕ) → x < 2 ^ t.propositions → IfSome (leaf_of t rest x) (λ k. k < length places)) →
     (x : ℕ) → x < 2 ^ t.propositions → IfSome (leaf_of t rest x) (λ k. k < length values)
-renamed_within t places values rest same within = subst (λ (l : List ℕ). (x : ℕ) → x < 2 ^ t.propositions → IfSome (leaf_of t rest x) (λ k. k < length l)) (sym same) within
+renamed_within t places values rest same within = subst
+    (λ (l : List ℕ). (x : ℕ) → x < 2 ^ t.propositions → IfSome (leaf_of t rest x) (λ k. k < length l)) (sym same) within
 
 -- a class of the list
 pub any_class : (list : List Class) (letter : ℕ) (c : Class) → c.letter ≡ letter → (k : ℕ) → k < length list → ((d : Class) → get_or list k d ≡ c) → Any (λ (d : Class). (d.letter ≡ letter) × (d.rest ≡ c.rest)) list
@@ -280,12 +289,17 @@ module _ (order : Order) (a : AutomatonData) (keys : List Key) (certificate : Ce
       subst (λ (x : ℕ × ℕ). IsEntered order a keys certificate is_first kept marks x.0) (get_or_default found k (0, 0) d within) item
 
   -- the classes of the state have that of the move
-  module _ (mask : ℕ) (t : Table) (v q : ℕ) (c : Classes) (l : List Class) (letter : ℕ) (plays : PlaysClass (board_of order a) keys certificate v q letter) (fit : IsFit order a mask t) (of : AreClassesOf a mask t q c) (same : l ≡ c.list.items) where
+  module _ (mask : ℕ) (t : Table) (v q : ℕ) (c : Classes) (l : List Class) (letter : ℕ)
+      (plays : PlaysClass (board_of order a) keys certificate v q letter) (fit : IsFit order a mask t)
+      (of : AreClassesOf a mask t q c) (same : l ≡ c.list.items) where
     pub class_listed : Any (λ (k : Class). k.letter ≡ letter) l
-    class_listed = subst (λ (cs : List Class). Any (λ (k : Class). k.letter ≡ letter) cs) (sym same) (class_there order a mask t q c.places c.list.items fit of.state of.are letter plays.is_class)
+    class_listed = subst (λ (cs : List Class). Any (λ (k : Class). k.letter ≡ letter) cs) (sym same)
+        (class_there order a mask t q c.places c.list.items fit of.state of.are letter plays.is_class)
 
-    pub left_behind : (rest : ℕ) → Any (λ (k : Class). (k.letter ≡ letter) × (k.rest ≡ rest)) l → Left order a mask t q letter rest
-    left_behind rest any = left order a mask t q c.places c.list.items letter rest fit of.state of.are (subst (λ (cs : List Class). Any (λ (k : Class). (k.letter ≡ letter) × (k.rest ≡ rest)) cs) same any)
+    pub left_behind : (rest : ℕ) → Any (λ (k : Class). (k.letter ≡ letter) × (k.rest ≡ rest)) l →
+        Left order a mask t q letter rest
+    left_behind rest any = left order a mask t q c.places c.list.items letter rest fit of.state of.are
+        (subst (λ (cs : List Class). Any (λ (k : Class). (k.letter ≡ letter) × (k.rest ≡ rest)) cs) same any)
 
   module _ (mask : ℕ) (t : Table) (v q p letter rest : ℕ) (found : List (ℕ × ℕ)) (rows : List Row) (places : List ℕ) (is_kept : Contains kept v) (at : StandsAt keys v (First q p)) (plays : PlaysClass (board_of order a) keys certificate v q letter)
       (l : Left order a mask t q letter rest) (are : AreLeaves t rest found) (placed : All (λ leaf. IsPlaced a keys is_first kept rows places letter leaf.0) found) where

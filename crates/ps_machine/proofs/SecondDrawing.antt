@@ -236,7 +236,9 @@ module _ (board : Board) (keys : List Key) (kept : List ℕ) (certificate : Cert
 
 -- ## The diagram
 
-pub class_each : (order : Order) (a : AutomatonData) (mask : ℕ) (t : Table) (q places : ℕ) (list : List Class) → IsFit order a mask t → q ≤ a.states → AreClasses a.store t (node_of a q) mask places list → All (λ (c : Class). IsClass (board_of order a) q c.letter) list
+pub class_each : (order : Order) (a : AutomatonData) (mask : ℕ) (t : Table) (q places : ℕ) (list : List Class) →
+    IsFit order a mask t → q ≤ a.states → AreClasses a.store t (node_of a q) mask places list → All
+    (λ (c : Class). IsClass (board_of order a) q c.letter) list
 class_each order a mask t q places list f h are k d within = class_is order a mask t q places list f h are k (get_or list k d) (slice_get-get_or list k d within)
 
 some_if : (o : Option ℕ) (n m : ℕ) → m ≡ n → IsSomeAnd o (λ k. k < n) → IfSome o (λ k. k < m)
@@ -244,7 +246,8 @@ some_if None n m e is = tt
 some_if (Some k) n m e is = omega (arith, e, is)
 
 module _ (order : Order) (a : AutomatonData) (mask : ℕ) (t : Table) (keys : List Key) (kept : List ℕ) (certificate : CertificateData) (rows : List Row) (q places : ℕ) (list : List Class) (values : List ℕ)
-    (f : IsFit order a mask t) (h : q ≤ a.states) (are : AreClasses a.store t (node_of a q) mask places list) (named : AllZip (Names (board_of order a) keys kept certificate q rows) list values) where
+    (f : IsFit order a mask t) (h : q ≤ a.states) (are : AreClasses a.store t (node_of a q) mask places list)
+    (named : AllZip (Names (board_of order a) keys kept certificate q rows) list values) where
   pub places_within : (letter : ℕ) → IfSome (leaf_of t places letter) (λ k. k < length values)
   places_within letter = some_if (leaf_of t places letter) (length list) (length values) (AllZip-long (Names (board_of order a) keys kept certificate q rows) list values named) (are.placed letter)
 

@@ -26,11 +26,13 @@ loop-class-init c =
 pub row_of_class-requires-clause-class : goal.row_of_class-requires-clause-class
 row_of_class-requires-clause-class c =
     let plan = c.args.plan.now in
-    subst (λ (k : Class). IsClass (board_of plan.order plan.automaton.now) c.args.state k.letter) (sym c.class-item.is) (c.requires.classes c.loop-class.class-index c.class-item.result c.loop-class-test.true)
+    subst (λ (k : Class). IsClass (board_of plan.order plan.automaton.now) c.args.state k.letter)
+    (sym c.class-item.is) (c.requires.classes c.loop-class.class-index c.class-item.result c.loop-class-test.true)
 
 pub row_of_class-requires-clause-rest : goal.row_of_class-requires-clause-rest
 row_of_class-requires-clause-rest c =
-    subst (λ (k : Class). IsRestBy c.args.plan.now c.args.state k.letter k.rest) (sym c.class-item.is) (c.requires.rests c.loop-class.class-index c.class-item.result c.loop-class-test.true)
+    subst (λ (k : Class). IsRestBy c.args.plan.now c.args.state k.letter k.rest) (sym c.class-item.is)
+    (c.requires.rests c.loop-class.class-index c.class-item.result c.loop-class-test.true)
 
 pub returns-in_err-place-clause-same_rows : goal.returns-in_err-place-clause-same_rows
 returns-in_err-place-clause-same_rows c = subst (λ (l : List Row). KeepsRows c.args.self.now.rows.keys l) (sym c.in_err-place.ensures.err) c.loop-class.invariant.same_rows

@@ -17,4 +17,5 @@ returns-clause-outcome c = λ order text.
     let hold = c.valid_regions_are_held.ensures p.game.game certificate certified.fits certified.valid in
     let outside = c.no_strategy_wins_outside.ensures p.game.game certificate c.game.ensures.well_formed.is_game certified.fits certified.valid in
     subst (λ (q : ProblemData). IsProblemOf order text q → IsOutcome (Gives q.game certificate) order c.args.compact text result) c.self.view_is
-    (λ of. problem_outcome p c.self.invariant.0 certificate c.args.compact result made certified order text of hold outside))
+    (λ of. problem_outcome p c.self.invariant.0 certificate c.args.compact result made certified order text of hold
+    outside))
