@@ -34,3 +34,20 @@ def sweep(program, shim, path, expected):
         faults += answer == OUT_OF_MEMORY != expected
         if answer not in (expected, OUT_OF_MEMORY):
             wrong.append((growths, answer))
+
+
+def sweep_test(program, shim, name):
+    """How many growths a test asks for, and those of them without which it fails."""
+    growths, failed = 0, []
+    while True:
+        asked, tells = os.pipe()
+        environment = {**os.environ, "LD_PRELOAD": shim, "REFUSED_GROWTH": str(growths + 1), "REFUSED_TELLS": str(tells)}
+        done = subprocess.run([program, name], capture_output=True, env=environment, pass_fds=[tells], timeout=SECONDS, check=False)
+        os.close(tells)
+        was_refused = os.read(asked, 1) != b""
+        os.close(asked)
+        if not was_refused:
+            return growths, failed
+        growths += 1
+        if done.returncode != 0:
+            failed.append(growths)
