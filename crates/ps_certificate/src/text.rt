@@ -111,7 +111,8 @@ fn entries(
     ensures { Tells (λ es. es) (parts.entries compact known.now.odd.items known.now.even.items known.now.ids game.now.ids) cursor.old result cursor.new }
 {
     let vertices = game.game().count();
-    let mut entries = Entries::with_capacity(alloc, vertices, 0)?;
+    // A count takes two bytes at least.
+    let mut entries = Entries::with_capacity(alloc, vertices, cursor.left() / 2)?;
     let mut counts = Vec::new(alloc);
     for vertex in 0..vertices {
         let won = entry(cursor, known, compact, game.id(vertex), &mut counts)?;
