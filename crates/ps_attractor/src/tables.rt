@@ -12,7 +12,7 @@ use std::marker::Model;
 pub struct Tables {
     level: Vec<usize>,
     moves: Vec<usize>,
-    watch: Vec<usize>,
+    watch: Vec<u32>,
     trail: Vec<usize>,
 }
 
@@ -123,11 +123,12 @@ impl Tables {
         self.trail.truncate(placed);
     }
 
-    /// The number of the successor at which the last search from a vertex ended.
+    /// The number of the successor at which the last search from a vertex ended. A greater one than 32 bits hold is kept as
+    /// the greatest of these.
     pub(crate) fn watched(&self, vertex: usize) -> usize
         requires { vertex < length self.now.level }
     {
-        self.watch[vertex]
+        self.watch[vertex] as usize
     }
 
     /// Keeps the number of the successor at which a search from a vertex ended.
@@ -135,6 +136,6 @@ impl Tables {
         requires { vertex < length self.old.level }
         ensures { self.new ≡ self.old }
     {
-        self.watch[vertex] = number;
+        self.watch[vertex] = u32::try_from(number).unwrap_or(u32::MAX);
     }
 }
