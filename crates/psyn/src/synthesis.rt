@@ -29,7 +29,7 @@ pub fn synthesise(
     compact: bool,
     solver: &mut Box<dyn Solver>,
 ) -> Result<Report, SynthFault>
-    // The report is right, whatever solver is handed in; and each fault has its cause. Both are of what the solver gave.
+    // The report is right, whatever solver is handed in; each fault has its cause. Both are of what the solver gave.
     ensures report { IfOk result (IsReport (Answered (may_answer solver.old (fed solver.old)) (gave solver.new)) order compact text.now) }
     ensures refused { IfErr result (IsSynthFault (Answered (may_answer solver.old (fed solver.old)) (gave solver.new)) order text.now) }
     // With a sure solver, a text that is accepted gets a report; or memory ran out, or the circuit is too large.
