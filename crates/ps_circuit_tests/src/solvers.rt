@@ -2,6 +2,7 @@
 
 use ps_game::NamedGame;
 use ps_machine::{Replay, SolveFault, Solver};
+use ps_pgsolver::{PgFault, read};
 use std::alloc::{AllocError, Global};
 use std::test::Fail;
 
@@ -52,9 +53,17 @@ fn answers_for(alloc: Global, game: &NamedGame) -> Result<Answers, Fail> {
     Ok([none, early, answer_again(&mut solver, game)])
 }
 
+/// The game of a text, read once more where a growth was refused.
+fn game_of(alloc: Global, text: &[u8]) -> Result<NamedGame, PgFault> {
+    match read(alloc, text) {
+        Ok(game) => Ok(game),
+        Err(_) => read(alloc, text),
+    }
+}
+
 /// The answers for the game of a text.
 fn answers_of(alloc: Global, text: &[u8]) -> Result<Answers, Fail> {
-    let game = ps_pgsolver::read(alloc, text)?;
+    let game = game_of(alloc, text)?;
     answers_for(alloc, &game)
 }
 
