@@ -11,7 +11,7 @@ use Rattle.ps_attractor.specs.Aims.{StandsFrom, IsPosed, IsTaken, IsAttracted, I
 use Rattle.ps_zielonka.specs.declared.board.TheConstants.{UNPLACED}
 use Rattle.ps_zielonka.specs.declared.frame.Frame.{Frame}
 use Rattle.ps_zielonka.specs.Turns.{IsWithout, IsTurned}
-use Rattle.ps_zielonka.specs.Nests.{from, size_from, winner_of, frame_at, steps_left, IsSegment, Waits, Searches, IsSound, IsNest, ArePlaced, IsGiven}
+use Rattle.ps_zielonka.specs.Nests.{from, size_from, winner_of, frame_at, steps_left, IsSegment, Waits, Searches, IsSoundBoard, IsNest, ArePlaced, IsGiven}
 use Rattle.ps_zielonka.specs.Depths.{IsClosedToTops}
 use Rattle.ps_zielonka.proofs.Depths.{left_out}
 use Rattle.ps_zielonka.proofs.Forms.{progress_start, subgame_left}
@@ -84,7 +84,7 @@ pub record Begun : Type 0 where
   pub new : TablesData
   pub winner : List ℕ
   pub winner_now : List ℕ
-  pub sound : IsSound game old winner order
+  pub sound : IsSoundBoard game old winner order
   pub searches : Searches game old winner order (2 * depth) start
   pub player : aim.player ≡ priority_of game (get_or order cursor 0) % 2
   pub begin : aim.begin ≡ length old.trail
@@ -477,7 +477,7 @@ waits_later b a frame below waits =
     let grown = grown_all b in
     waits_below b.game (2 * b.depth + 2) a (length b.old.trail) b.old b.new b.winner b.winner_now b.order frame (agrees b) below grown.front grown.longer waits.end (segment_later b a frame below waits) waits
 
-sound_now : (b : Begun) → IsSound b.game b.new b.winner_now b.order
+sound_now : (b : Begun) → IsSoundBoard b.game b.new b.winner_now b.order
 sound_now b =
     let grown = grown_all b in
     let mark : b.aim.mark ≡ 2 * b.depth + 2 = b.mark in

@@ -5,13 +5,13 @@ use Rattle.ps_game.specs.Games.{ParityGame, vertex_count}
 use Rattle.ps_attractor.specs.Tables.{TablesData, level_of, moves_of}
 use Rattle.ps_zielonka.specs.declared.board.TheConstants.{UNPLACED}
 use Rattle.ps_zielonka.specs.declared.frame.Frame.{Frame}
-use Rattle.ps_zielonka.specs.Nests.{from, size_from, winner_of, Searches, HasAnswer, IsSound, IsNest}
+use Rattle.ps_zielonka.specs.Nests.{from, size_from, winner_of, Searches, HasAnswer, IsSoundBoard, IsNest}
 use Rattle.ps_zielonka.specs.Stacks.{IsSolvedBy}
 use Rattle.ps_zielonka.proofs.Forms.{progress_end}
 use Rattle.ps_zielonka.proofs.Sets.{from_at, to_from}
 
 -- where the order has no unplaced vertex behind the cursor, none is left
-none_left : (game : ParityGame) (tables : TablesData) (winner order : List ℕ) (a cursor : ℕ) → IsSound game tables winner order → Searches game tables winner order a cursor
+none_left : (game : ParityGame) (tables : TablesData) (winner order : List ℕ) (a cursor : ℕ) → IsSoundBoard game tables winner order → Searches game tables winner order a cursor
     → ((j : ℕ) → cursor ≤ j → j < length order → level_of tables (get_or order j 0) ≢ UNPLACED) → (v : ℕ) → a + 2 ≤ level_of tables v → ⊥
 none_left game tables winner order a cursor sound searches placed v high =
     let (j, within, is) = sound.is_order.all v (searches.alive.vertices v (to_from tables.level (a + 2) v high)) in

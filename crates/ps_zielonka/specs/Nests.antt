@@ -80,7 +80,7 @@ abbrev pub frame_at : List Frame → ℕ → Frame
 frame_at frames i = slice_index_or frames i (record { cursor = 0; player = 0; turn = 0; top = 0 })
 
 -- what fits a game at all times
-pub record IsSound (game : ParityGame) (tables : TablesData) (winner order : List ℕ) : Type 0 where
+pub record IsSoundBoard (game : ParityGame) (tables : TablesData) (winner order : List ℕ) : Type 0 where
   pub is_game : IsGame game
   pub fits : FitsGame game tables
   pub winners : length winner ≡ vertex_count game
@@ -91,7 +91,7 @@ pub record IsSound (game : ParityGame) (tables : TablesData) (winner order : Lis
 
 -- all calls but the present one wait, and the present one looks for its next turn or has its answer
 pub record IsNest (game : ParityGame) (tables : TablesData) (winner order : List ℕ) (frames : List Frame) (cursor : ℕ) (solved : Bool) : Type 0 where
-  pub sound : IsSound game tables winner order
+  pub sound : IsSoundBoard game tables winner order
   pub waits : (i : ℕ) → i < length frames → Waits game tables winner order (2 * i) (frame_at frames i)
   pub rises : (i j : ℕ) → i < j → j < length frames → (frame_at frames i).top ≤ (frame_at frames j).turn
   pub searches : solved ≡ false → Searches game tables winner order (2 * length frames) cursor
