@@ -11,7 +11,7 @@ import subprocess
 
 from psyntool.sweeps import TOP
 
-PLAIN = {"text", "python", "verilog"}
+PLAIN = {"text", "python", "rust", "verilog"}
 MARKS = {"foreign", "gate"}
 SECONDS = 60
 
