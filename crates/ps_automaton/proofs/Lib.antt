@@ -17,6 +17,6 @@ pub mod Drafting
 pub mod Building
 pub mod ChainSets
 pub mod OneRefusal
-mod Deciding
+pub mod Deciding
 mod Existing
 pub mod LetterRows

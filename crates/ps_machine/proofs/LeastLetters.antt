@@ -6,13 +6,14 @@ use Rattle.std.proofs.lemmas.Bool.{cases_eq, cases_lt}
 use Rattle.std.proofs.lemmas.Nat.Bits.{bit_at-suc, bit_at_lowest, bit_at-lt}
 use Rattle.std.proofs.Math.Nat.{pow-suc}
 use Rattle.ps_label.specs.Truth.{is_in}
-use Rattle.ps_diagram.specs.Letters.{IsLeast}
+use Rattle.ps_diagram.specs.Letters.{IsBefore, IsLeast}
 use Rattle.ps_diagram.proofs.Letters.{no_bit}
+use Rattle.ps_automaton.proofs.Deciding.{some_or_none}
 
 -- ## The order
 
 -- how many letters come before one, where propositions from one on count alone
-rank : ℕ → ℕ → ℕ → ℕ
+pub rank : ℕ → ℕ → ℕ → ℕ
 rank from zero y = 0
 rank from (suc n) y = cond (is_in from y) (2 ^ n) 0 + rank (from + 1) n y
 
@@ -54,19 +55,48 @@ true_is_within n y p within is = elim (cases_lt p n) [
     both : (b : Bool) → b ≡ true → b ≡ false → ⊥
     both b t f = search rules
 
+pub before_ranks : (n x y : ℕ) → y < 2 ^ n → IsBefore x y → rank 0 n x < rank 0 n y
+before_ranks n x y within before =
+    let first_within : before.first < 0 + n = omega (arith, true_is_within n y before.first within before.is_true) in
+    rank_rises 0 n x y before.first (omega arith) first_within before.is_false before.is_true before.same
+
 goes_down : (n : ℕ) (P : ℕ → Type 0) → ((y : ℕ) → P y → y < 2 ^ n) → ((y : ℕ) → IsLeast P y → ⊥) → (bound y : ℕ) → P y → rank 0 n y < bound → ⊥
 goes_down n P within none zero y here small = absurd (omega (arith, small))
 goes_down n P within none (suc bound) y here small = none y (record {
   here = here;
   none_before = λ x at before.
-      let first_within : before.first < 0 + n = omega (arith, true_is_within n y before.first (within y here) before.is_true) in
-      let lower : rank 0 n x < rank 0 n y = rank_rises 0 n x y before.first (omega arith) first_within before.is_false before.is_true before.same in
+      let lower = before_ranks n x y (within y here) before in
       goes_down n P within none bound x at (omega (arith, small, lower));
 })
 
 -- where a property of letters has no least one it has none at all
 pub none_without_least : (n : ℕ) (P : ℕ → Type 0) → ((y : ℕ) → P y → y < 2 ^ n) → ((y : ℕ) → IsLeast P y → ⊥) → (y : ℕ) → P y → ⊥
 none_without_least n P within none y here = goes_down n P within none (rank 0 n y + 1) y here (omega arith)
+
+-- ## A least one
+
+down_to_least : (n : ℕ) (P : ℕ → Type 0) → ((y : ℕ) → P y ⊎ (P y → ⊥)) → ((y : ℕ) → P y → y < 2 ^ n) → (bound y : ℕ) → P y → rank 0 n y < bound → (z : ℕ) × IsLeast P z
+down_to_least n P tell within zero y here small = absurd (omega (arith, small))
+down_to_least n P tell within (suc bound) y here small = elim (some_or_none Lower lower_or_not (2 ^ n) (λ x lower. within x lower.0)) [
+  | inl lower ↦ down_to_least n P tell within bound lower.0 lower.1.0 (omega (arith, small, lower.1.1))
+  | inr none ↦ (y, record { here = here; none_before = λ x at before. none (x, (at, before_ranks n x y (within y here) before)) })
+]
+  where
+    Lower : ℕ → Type 0
+    Lower x = P x × (rank 0 n x < rank 0 n y)
+
+    lower_or_not : (x : ℕ) → Lower x ⊎ (Lower x → ⊥)
+    lower_or_not x = elim (tell x) [
+      | inr not_so ↦ inr (λ l. not_so l.0)
+      | inl so ↦ elim (cases_lt (rank 0 n x) (rank 0 n y)) [
+        | inl less ↦ inl (so, less)
+        | inr most ↦ inr (λ l. omega (arith, most, l.1))
+      ]
+    ]
+
+-- of letters with a property that can be told there is a least one, where there is one
+pub least_there : (n : ℕ) (P : ℕ → Type 0) → ((y : ℕ) → P y ⊎ (P y → ⊥)) → ((y : ℕ) → P y → y < 2 ^ n) → (y : ℕ) → P y → (z : ℕ) × IsLeast P z
+least_there n P tell within y here = down_to_least n P tell within (rank 0 n y + 1) y here (omega arith)
 
 -- ## Sums
 

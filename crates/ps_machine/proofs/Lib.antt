@@ -17,6 +17,7 @@ mod LassosAreWon
 mod LeastLetters
 mod Listing
 mod MachineLemmas
+mod MachineThere
 mod Rounds
 mod Walking
 mod MaskLemmas

@@ -23,7 +23,7 @@ use Rattle.ps_machine.specs.declared.key.Key.TheVariants.{First, Second}
 use Rattle.ps_machine.specs.declared.machine.Row.{Row}
 use Rattle.ps_machine.proofs.Standing.{same_some}
 
-back : (b : Bool) → not b ≡ false → b ≡ true
+pub back : (b : Bool) → not b ≡ false → b ≡ true
 back true e = refl
 back false e = sym e
 
@@ -36,19 +36,19 @@ letter_in (First q p) = 0
 letter_in (Second q x) = x
 
 -- a player who moves first plays the same letter at a vertex, whatever the other one plays
-one_letter : (b : Bool) (board : Board) (keys : List Key) (certificate : CertificateData) (v q x y one other : ℕ) → b ≡ true → IsPlayed b board keys certificate v q x one → IsPlayed b board keys certificate v q y other → one ≡ other
+pub one_letter : (b : Bool) (board : Board) (keys : List Key) (certificate : CertificateData) (v q x y one other : ℕ) → b ≡ true → IsPlayed b board keys certificate v q x one → IsPlayed b board keys certificate v q y other → one ≡ other
 unfolding letter_in
 one_letter true board keys certificate v q x y one other is s t =
     let chosen = some_nat s.chosen t.chosen (sym s.choice ∙ t.choice) in
     ap letter_in (same_some (Second q one) (Second q other) (sym s.stands ∙ ap (λ w. slice_get keys w) chosen ∙ t.stands))
 one_letter false board keys certificate v q x y one other is s t = absurd (true_is_not_false (sym is))
 
-own_within : (b : Bool) (board : Board) (y : ℕ) → IsOwn b board y → y < 2 ^ board.propositions
+pub own_within : (b : Bool) (board : Board) (y : ℕ) → IsOwn b board y → y < 2 ^ board.propositions
 own_within true board y own = own.within
 own_within false board y own = own.within
 
 -- of the other player's propositions none is true
-own_none : (b : Bool) (board : Board) (y p : ℕ) → IsOwn b board y → is_others b board p ≡ true → is_in p y ≡ false
+pub own_none : (b : Bool) (board : Board) (y p : ℕ) → IsOwn b board y → is_others b board p ≡ true → is_in p y ≡ false
 own_none true board y p own is = own.own p (back_not (board.is_first p) is)
 own_none false board y p own is = own.own p is
 

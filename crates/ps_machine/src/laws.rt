@@ -1,7 +1,8 @@
 //! Laws on the definitions.
 
-ghost use Rattle.std.specs.Prelude.{◌≡◌, ℕ, List};
+ghost use Rattle.std.specs.Prelude.{◌≡◌, ℕ, ◌<◌, ◌≤◌, List, length};
 ghost use Rattle.ps_hoa.specs.Files.{FileData};
+ghost use Rattle.ps_hoa.specs.Sound.{AreNames};
 ghost use Rattle.ps_automaton.specs.Automata.{AutomatonData, IsBuiltFrom};
 ghost use Rattle.ps_automaton.specs.Chains.{Chain};
 ghost use Rattle.ps_game.specs.Games.{NamedGameData, ParityGame};
@@ -33,4 +34,12 @@ pub fn one_game()
 /// comes.
 pub fn one_game_of_file()
     ensures { (order : Order) (file : FileData) (game other : NamedGameData) → IsGameOfFile order file game → IsGameOfFile order file other → game ≡ other }
+{}
+
+/// Each valid certificate of a board's game has a machine, with names for the board's propositions.
+pub fn machine_is_there()
+    ensures { (names : List (List ℕ)) (board : Board) (mover : ℕ) (keys : List Key) (game : ParityGame) (certificate : CertificateData) →
+        length names ≤ 64 → AreNames names → length names ≡ board.propositions → mover < 2 →
+        IsGameOf board mover keys game → Fits game certificate → IsValid game certificate →
+        (m : Behaviour) × IsMachine m × HasPropositions names board m × IsMachineOf board mover keys game certificate m }
 {}

@@ -21,11 +21,11 @@ Remains r = RemainsWithin r.game r.player (has r.region) (move_at r.strategy)
 pub successor_within : (game : ParityGame) (v k : ℕ) → IsGame game → v < vertex_count game → k < length (successors_of game v) → slice_index (successors_of game v) k < vertex_count game
 successor_within game v k is_game below within = is_game.within v (slice_index (successors_of game v) k) (below, (k, within, get_or_default (successors_of game v) k (slice_index (successors_of game v) k) 0 within))
 
-is_move-some : (o : Option ℕ) (w : ℕ) → is_move o w ≡ true → o ≡ Some w
+pub is_move-some : (o : Option ℕ) (w : ℕ) → is_move o w ≡ true → o ≡ Some w
 is_move-some None w e = absurd cc
 is_move-some (Some x) w e = ap Some (eqb-true x w e)
 
-some-is_move : (o : Option ℕ) (w : ℕ) → o ≡ Some w → is_move o w ≡ true
+pub some-is_move : (o : Option ℕ) (w : ℕ) → o ≡ Some w → is_move o w ≡ true
 some-is_move None w e = absurd cc
 some-is_move (Some x) w e = (let same : x ≡ w = cc in eq-eqb x w same)
 

@@ -1,5 +1,6 @@
 pub mod Chaining
 pub mod Edges
+pub mod Existing
 pub mod Growing
 pub mod Held
 pub mod Least

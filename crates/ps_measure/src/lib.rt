@@ -14,16 +14,20 @@
 //! | `ranks` | `Ranks`: the priorities by which the player loses, and for each vertex a row with a count for each |
 //! | `CountTable::row_into`, `len` | the row of a vertex, into a list; how many rows there are |
 //! | `MeasureFault::number`, `name` | a fault as psyn's list has it |
+//!
+//! The law `counts_are_there` says that a region that is held has such counts, whatever memory there is.
 #![tactic(auto)]
 
 mod back;
 mod column;
 mod fault;
+mod laws;
 mod low;
 mod measuring;
 mod remaining;
 mod table;
 
 pub use fault::MeasureFault;
+pub use laws::counts_are_there;
 pub use measuring::ranks;
 pub use table::{CountTable, Ranks};

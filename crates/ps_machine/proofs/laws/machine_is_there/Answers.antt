@@ -1,0 +1,5 @@
+use Rattle.ps_machine.proofs.MachineThere.{machine_there}
+use Rattle.ps_machine.proofs.laws.machine_is_there.Goals as goal
+
+pub returns : goal.returns
+returns c = machine_there

@@ -1,0 +1,16 @@
+//! A law on the definitions.
+
+ghost use Rattle.std.specs.Prelude.{ℕ, ◌<◌, ◌⊎◌, Bool, List, Option};
+ghost use Rattle.ps_game.specs.Games.{ParityGame};
+ghost use Rattle.ps_game.specs.Plays.{Holds};
+ghost use Rattle.ps_measure.specs.Ranks.{AreRanks, IsLostCycle};
+
+/// A player's region and moves have least counts, or a cycle that the player loses. A region that is held has counts.
+pub fn counts_are_there()
+    ensures either { (game : ParityGame) (player : ℕ) (set : ℕ → Bool) (table : ℕ → Option ℕ) →
+        ((priorities : List ℕ) × (rows : List (List ℕ)) × AreRanks game player set table priorities rows) ⊎
+        ((cycle : List ℕ) × IsLostCycle game player set table cycle) }
+    ensures held { (game : ParityGame) (player : ℕ) (set : ℕ → Bool) (table : ℕ → Option ℕ) →
+        player < 2 → Holds game player set table →
+        (priorities : List ℕ) × (rows : List (List ℕ)) × AreRanks game player set table priorities rows }
+{}
