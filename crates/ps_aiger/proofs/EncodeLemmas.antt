@@ -16,8 +16,8 @@ use Rattle.ps_label.specs.Truth.{is_in}
 use Rattle.ps_hoa.specs.Files.{is_among}
 use Rattle.ps_machine.specs.Behaviours.{IsMachine}
 use Rattle.ps_machine.specs.Machines.{MachineData, behaviour, step_of}
-use Rattle.ps_circuit.specs.Circuits.{CircuitData, IsDraft, IsCircuit, IsDefinition, IsKnown, IsName, Reads, variable, definitions}
-use Rattle.ps_circuit.specs.Building.{Drafted, Extends, AreSides, IsSound, Meets, bit}
+use Rattle.ps_circuit.specs.Circuits.{CircuitData, IsDraft, IsCircuit, IsDefinition, IsKnown, IsName, ReadsGate, variable, definitions}
+use Rattle.ps_circuit.specs.Building.{Drafted, Extends, AreSides, IsSoundDraft, Meets, bit}
 use Rattle.ps_aiger.specs.Built.{AreLiterals, IsBuilt}
 use Rattle.ps_aiger.specs.Encoded.{Encodes, IsTidy, IsTidyGate, StepsAs, number_of, memory_at, memory_of, letter_over, bits_over, symbols_of}
 use Rattle.ps_aiger.specs.Timing.{SeesNoInput}
@@ -153,7 +153,7 @@ each_side P (g ∷ gates) all =
     subst (λ xs. All P xs) (sym (flat_map-cons (λ (g : Gate). g.first ∷ g.second ∷ []) g gates))
     (All-append P (g.first ∷ g.second ∷ []) (flat_map (λ (g : Gate). g.first ∷ g.second ∷ []) gates) (two_hold P g.first g.second here.0 here.1) (each_side P gates (λ k e lt. all (suc k) e (omega arith))))
 
-module _ (m : MachineData) (machine : IsMachine (behaviour m)) (d : Drafted) (sound : IsSound d) (latches : ℕ) (next outputs : List ℕ) (c : CircuitData) (built : IsBuilt m d next outputs c)
+module _ (m : MachineData) (machine : IsMachine (behaviour m)) (d : Drafted) (sound : IsSoundDraft d) (latches : ℕ) (next outputs : List ℕ) (c : CircuitData) (built : IsBuilt m d next outputs c)
     (given : d.given ≡ length m.inputs + latches) (many : length next ≡ latches) where
   latch_is : (k : ℕ) → k < latches → get_or c.latches k no_latch ≡ record { literal = 2 * (length m.inputs + 1 + k); next = get_or next k 0; reset = false }
   latch_is k lt = get_or_from_slice_get c.latches k _ no_latch (built.latches.each k (subst (λ n. k < n) (sym many) lt))
@@ -264,7 +264,7 @@ module _ (m : MachineData) (machine : IsMachine (behaviour m)) (d : Drafted) (so
       output_names = subst (λ xs. All IsName xs) (sym built.output_names) named_out;
     }
 
-  pub ordered : (i j : ℕ) → Reads c.gates i j → j < i
+  pub ordered : (i j : ℕ) → ReadsGate c.gates i j → j < i
   ordered i j r =
       (let i_lt : i < length d.gates = subst (λ n. i < n) many_gates (slice_get_within c.gates i r.reader r.at_i) in
       let j_lt : j < length d.gates = subst (λ n. j < n) many_gates (slice_get_within c.gates j r.read r.at_j) in

@@ -7,7 +7,7 @@ ghost use Rattle.ps_machine.specs.Machines.{behaviour};
 ghost use Rattle.ps_circuit.specs.Drafts.{data_of, name_bytes};
 ghost use Rattle.ps_aiger.specs.Encoded.{Encodes, IsTidy, symbols_of};
 ghost use Rattle.ps_aiger.specs.Timing.{SeesNoInput};
-ghost use Rattle.ps_circuit.specs.Building.{Extends, IsSound, variables_of};
+ghost use Rattle.ps_circuit.specs.Building.{Extends, IsSoundDraft, variables_of};
 ghost use Rattle.ps_aiger.specs.Built.{AreLatches, AreLiterals, IsBuilt};
 ghost use Rattle.ps_aiger.specs.Wires.{AreGates, IsOutOfLiterals, IsWired, next_wires, output_wires};
 ghost use Rattle.ps_aiger.specs.Functions.{IsLiteralAt, bits_wired, wanted_place};
@@ -180,7 +180,7 @@ fn parts_of(
     requires given { builder.now.given ≡ length machine.now.inputs + length next.now }
     requires small { length machine.now.inputs ≤ 64 }
     ensures machine { IsMachine (behaviour machine.now) }
-    ensures sound { IsSound builder.now }
+    ensures sound { IsSoundDraft builder.now }
     ensures built { IfOk result (λ parts. IsBuilt machine.now builder.now next.now outputs.items (data_of parts)) }
 {
     let inputs = machine.inputs();

@@ -7,7 +7,7 @@ use Rattle.std.proofs.lemmas.Option.{slice_get_within, slice_get-get_or, get_or_
 use Rattle.ps_diagram.specs.Table.{Table, IsNode, leaf_of}
 use Rattle.ps_hoa.specs.Edges.{Goes}
 use Rattle.ps_hoa.specs.Files.{FileData}
-use Rattle.ps_hoa.specs.Sound.{AreBelow, AreNames, IsSound}
+use Rattle.ps_hoa.specs.Sound.{AreBelow, AreNames, IsSoundFile}
 use Rattle.ps_hoa.proofs.SoundLaws.{row_of_state}
 use Rattle.ps_automaton.specs.Answers.{IsDeterministic, IsRefused}
 use Rattle.ps_automaton.specs.Automata.{AutomatonData, IsWhole, auto_of, node_of, pair_of, step_of}
@@ -24,13 +24,13 @@ named_within : (states : ℕ) (steps : List Step) → AreSteps states steps → 
 named_within states steps all None step h = absurd h
 named_within states steps all (Some k) step h = all.within k step h
 
-pub draft_is_deterministic : (file : FileData) (chain : Chain) (steps : List Step) (t : Table) (nodes : List ℕ) → IsSound file → IsDraft file chain steps t nodes → IsDeterministic file
+pub draft_is_deterministic : (file : FileData) (chain : Chain) (steps : List Step) (t : Table) (nodes : List ℕ) → IsSoundFile file → IsDraft file chain steps t nodes → IsDeterministic file
 draft_is_deterministic file chain steps t nodes sound d q first second k =
     let row = row_of_state file sound q k.row k.of_state in
     let low : q < file.states = (let s = row.0.state in let e = row.1 in omega (arith, s, e)) in
     (d.states q low).clear first second k
 
-module _ (file : FileData) (sound : IsSound file) (chain : Chain) (a : AutomatonData) (draft : IsDraft file chain a.steps a.store a.nodes)
+module _ (file : FileData) (sound : IsSoundFile file) (chain : Chain) (a : AutomatonData) (draft : IsDraft file chain a.steps a.store a.nodes)
     (names : a.names ≡ file.names) (controllable : a.controllable ≡ file.controllable) (states : a.states ≡ file.states) (start : a.start ≡ file.start) where
   named_step : (q letter : ℕ) (step : Step) → Names a.steps (leaf_of a.store (node_of a q) letter) step → step_of a q letter ≡ step
   named_step q letter step = by_leaf (leaf_of a.store (node_of a q) letter)

@@ -4,7 +4,7 @@ use Rattle.std.proofs.lemmas.Bool.{cases_order}
 use Rattle.std.proofs.lemmas.Option.{slice_get_within}
 use Rattle.ps_hoa.specs.Files.{EdgeData, RowData, FileData}
 use Rattle.ps_hoa.specs.Edges.{row_of, IsTaken, is_marked, Goes}
-use Rattle.ps_hoa.specs.Sound.{IsSound}
+use Rattle.ps_hoa.specs.Sound.{IsSoundFile}
 use Rattle.ps_hoa.proofs.SoundLaws.{row_of_state, sound_edge}
 use Rattle.ps_automaton.specs.Answers.{AreAlike, IsDeterministic, IsAdmitted}
 use Rattle.ps_automaton.specs.Autos.{Auto, IsAutoOf}
@@ -36,7 +36,7 @@ taken_or_not file row letter place = at (slice_get row.edges place) refl
       | inr never ↦ inr (λ t. (let same : t.edge ≡ edge = (let is = t.at_place in cc) in never (subst (λ x. IsTaken file row x letter) same t.taken)))
     ]
 
-module _ (file : FileData) (sound : IsSound file) (chain : Chain) (deterministic : IsDeterministic file) where
+module _ (file : FileData) (sound : IsSoundFile file) (chain : Chain) (deterministic : IsDeterministic file) where
   -- a step by an edge, or to the sink where there is none
   record IsGood (q letter next priority : ℕ) : Type 0 where
     within : next ≤ file.states
@@ -126,5 +126,5 @@ module _ (file : FileData) (sound : IsSound file) (chain : Chain) (deterministic
     ];
   }
 
-pub auto_there : (file : FileData) → IsSound file → IsAdmitted file → (chain : Chain) × (auto : Auto) × (chain_of file.condition ≡ Some chain) × IsAutoOf file chain auto
+pub auto_there : (file : FileData) → IsSoundFile file → IsAdmitted file → (chain : Chain) × (auto : Auto) × (chain_of file.condition ≡ Some chain) × IsAutoOf file chain auto
 auto_there file sound admitted = (admitted.chain, auto file sound admitted.chain admitted.deterministic, admitted.is_chain, is_auto file sound admitted.chain admitted.deterministic)

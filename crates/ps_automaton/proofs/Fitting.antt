@@ -12,7 +12,7 @@ use Rattle.ps_label.specs.Expression.{Expression, constant, proposition, alias, 
 use Rattle.ps_diagram.specs.Labels.{IsOver, AreOver, AreOverFrom}
 use Rattle.ps_hoa.specs.Edges.{is_marked}
 use Rattle.ps_hoa.specs.Files.{GuardData, EdgeData, RowData, FileData, stated, of_state, at_letter, is_among}
-use Rattle.ps_hoa.specs.Sound.{AreAliases, AreAtLetters, AreBelow, AreLabelled, AreLabels, IsGuard, IsLabel, IsOfState, IsSound, IsSoundRow, IsStated}
+use Rattle.ps_hoa.specs.Sound.{AreAliases, AreAtLetters, AreBelow, AreLabelled, AreLabels, IsGuard, IsLabel, IsOfState, IsSoundFile, IsSoundRow, IsStated}
 use Rattle.ps_hoa.specs.Views.{edge_data}
 use Rattle.ps_hoa.specs.declared.file.Edge.{Edge}
 use Rattle.ps_hoa.proofs.SoundLaws.{all_at, all_get, sound_edge}
@@ -85,7 +85,7 @@ by_letters_of file row s e k at is = by_label row.label s.labelled
         absurd (no_letter k e.guard is (ap is_letter s.1))
     by_label None (inr a) = a
 
-module _ (file : FileData) (sound : IsSound file) (row : RowData) (row_sound : IsSoundRow file row) where
+module _ (file : FileData) (sound : IsSoundFile file) (row : RowData) (row_sound : IsSoundRow file row) where
   pub fits : (j : ℕ) (e : EdgeData) → slice_get row.edges j ≡ Some e → IsFit file e.guard
   fits j e at = by_guard e.guard refl
     where

@@ -11,7 +11,7 @@ use Rattle.ps_label.specs.Truth.{is_in}
 use Rattle.ps_diagram.specs.Table.{Table, IsNode, leaf_of}
 use Rattle.ps_hoa.specs.Edges.{Goes, IsTaken, is_marked, row_of}
 use Rattle.ps_hoa.specs.Files.{RowData, FileData}
-use Rattle.ps_hoa.specs.Sound.{IsSound, IsSoundRow}
+use Rattle.ps_hoa.specs.Sound.{IsSoundFile, IsSoundRow}
 use Rattle.ps_automaton.specs.Answers.{AreClashing}
 use Rattle.ps_automaton.specs.Chains.{Chain, Link, first_number, level, level_by}
 use Rattle.ps_automaton.specs.Drafts.{AreJoined, ArePlaces, AreSteps, IsStepsOf, IsTargetAt, IsUnion, Moves, Names, Stops, TakenEdge, step_of_target}
@@ -39,7 +39,7 @@ leaf_within file row count targets t node union letter small = by_leaf (leaf_of 
         slice_get_within targets k there.0 there.1
 
 -- the leaf of a taken edge, and none where no edge is taken, in a joined row of all edges
-module _ (file : FileData) (sound : IsSound file) (row : RowData) (row_sound : IsSoundRow file row) (chain : Chain) (few : AreSetsBelow 64 chain.links)
+module _ (file : FileData) (sound : IsSoundFile file) (row : RowData) (row_sound : IsSoundRow file row) (chain : Chain) (few : AreSetsBelow 64 chain.links)
     (targets : List Target) (place_at : ℕ → Option ℕ) (joined : AreJoined file row (length row.edges) targets place_at)
     (steps : List Step) (all_steps : AreSteps file.states steps) (places : List ℕ) (are_places : ArePlaces chain targets steps places) where
   -- the leaf that is made of one

@@ -8,7 +8,7 @@ use Rattle.ps_diagram.specs.Leaves.{AreAlike as AgreeingLeaves, joined}
 use Rattle.ps_diagram.specs.Table.{Table, IsNode, Keeps, leaf_of}
 use Rattle.ps_hoa.specs.Edges.{IsTaken}
 use Rattle.ps_hoa.specs.Files.{EdgeData, RowData, FileData}
-use Rattle.ps_hoa.specs.Sound.{IsSound, IsSoundRow}
+use Rattle.ps_hoa.specs.Sound.{IsSoundFile, IsSoundRow}
 use Rattle.ps_hoa.proofs.SoundLaws.{sound_edge}
 use Rattle.ps_automaton.specs.Answers.{AreAlike, AreClashing}
 use Rattle.ps_automaton.specs.Drafts.{AreJoined, IsFirstOfRow, IsTargetAt, IsUnion, IsWhere, ShowsEdge, TakenEdge}
@@ -47,7 +47,7 @@ at_leaf P (Some y) x e h = subst P (same_some y x e) h
 pub wider : (file : FileData) (row : RowData) (count letter : ℕ) → TakenEdge file row count letter → TakenEdge file row (count + 1) letter
 wider file row count letter e = record { place = e.place; within = (let h = e.within in omega (arith, h)); edge = e.edge; at_place = e.at_place; taken = e.taken }
 
-module _ (file : FileData) (sound : IsSound file) (row : RowData) (row_sound : IsSoundRow file row) where
+module _ (file : FileData) (sound : IsSoundFile file) (row : RowData) (row_sound : IsSoundRow file row) where
   -- edges that were joined do not clash
   pub union_clear : (count : ℕ) (targets : List Target) (place_at : ℕ → Option ℕ) → AreJoined file row count targets place_at → (a b : ℕ) → b < count → AreClashing file row a b → ⊥
   union_clear count targets place_at u a b within k =

@@ -10,7 +10,7 @@ use Rattle.ps_diagram.specs.Labels.{AreNodesOf, one_where}
 use Rattle.ps_diagram.specs.Table.{Table, IsNode, Keeps, leaf_of}
 use Rattle.ps_hoa.specs.Files.{GuardData, EdgeData, RowData, FileData, stated, of_state, at_letter}
 use Rattle.ps_hoa.specs.Edges.{Goes, IsTaken}
-use Rattle.ps_hoa.specs.Sound.{AreAtLetters, IsLabelOf, IsSound, IsSoundRow}
+use Rattle.ps_hoa.specs.Sound.{AreAtLetters, IsLabelOf, IsSoundFile, IsSoundRow}
 use Rattle.ps_hoa.specs.Views.{row_data}
 use Rattle.ps_automaton.specs.Answers.{AreClashing, Clash, IsFirstClash}
 use Rattle.ps_automaton.specs.Chains.{Chain, level}
@@ -34,7 +34,7 @@ IsLabelNode t file (Some e) None = ⊥
 IsLabelNode t file (Some e) (Some node) = IsNode t node × ((letter : ℕ) → leaf_of t node letter ≡ one_where (label_truth file.aliases letter e))
 
 pub record IsReady (t : Table) (g : Guards) : Type 0 where
-  pub sound : IsSound g.file.now
+  pub sound : IsSoundFile g.file.now
   pub row : IsSoundRow g.file.now (row_data g.row.now)
   pub letters : t.propositions ≡ length g.file.now.names
   pub aliases : AreNodesOf t g.file.now.aliases g.aliases.now

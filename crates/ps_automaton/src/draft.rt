@@ -4,7 +4,7 @@ ghost use Rattle.std.specs.Prelude.{◌≡◌, ℕ, ◌+◌, ◌^◌, ◌<◌, �
 ghost use Rattle.ps_diagram.specs.Labels.{AreNodesOf};
 ghost use Rattle.ps_diagram.specs.Table.{IsNode, Keeps, leaf_of};
 ghost use Rattle.ps_hoa.specs.Files.{FileData};
-ghost use Rattle.ps_hoa.specs.Sound.{IsSound, IsSoundRow};
+ghost use Rattle.ps_hoa.specs.Sound.{IsSoundFile, IsSoundRow};
 ghost use Rattle.ps_hoa.specs.Views.{row_data};
 ghost use Rattle.ps_hoa.specs.Edges.{row_of};
 ghost use Rattle.ps_automaton.specs.Drafts.{AreLevels, ArePlaces, AreSteps, AreTargets, Extends, Grows, IsByLetters, IsDraft, IsDraftFault, IsLabelNode, IsReady, IsRowFault, IsStateFault, IsStepsOf};
@@ -186,7 +186,7 @@ fn node_by_letters(pairs: &mut Pairs, levels: &Levels, guards: &Guards) -> Resul
 
 /// The targets of a row's edges, in their order.
 fn targets_of(alloc: Global, guards: &Guards) -> Result<Vec<Target>, AllocError>
-    requires file { IsSound guards.now.file.now }
+    requires file { IsSoundFile guards.now.file.now }
     requires row { IsSoundRow guards.now.file.now (row_data guards.now.row.now) }
     ensures { IfOk result (λ targets. AreTargets (row_data guards.now.row.now) targets.items) }
 {

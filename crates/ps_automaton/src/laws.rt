@@ -3,7 +3,7 @@
 ghost use Rattle.std.specs.Prelude.{◌≡◌, ◌≢◌, ◌⊎◌, ℕ, ◌<◌, Bool, List, Some, length};
 ghost use Rattle.ps_hoa.specs.Conditions.{Condition};
 ghost use Rattle.ps_hoa.specs.Files.{FileData};
-ghost use Rattle.ps_hoa.specs.Sound.{IsSound};
+ghost use Rattle.ps_hoa.specs.Sound.{IsSoundFile};
 ghost use Rattle.ps_automaton.specs.Answers.{IsAdmitted, IsRefused};
 ghost use Rattle.ps_automaton.specs.Autos.{Auto, IsAutoOf};
 ghost use Rattle.ps_automaton.specs.Chains.{Chain, chain_of, greatest_level, holds, is_even, is_met};
@@ -18,7 +18,7 @@ pub fn greatest_level_decides()
 
 /// A file that was read and is admitted has an automaton: a step for each state and letter.
 pub fn automaton_is_there()
-    ensures { (file : FileData) → IsSound file → IsAdmitted file → (chain : Chain) × (auto : Auto) × (chain_of file.condition ≡ Some chain) × IsAutoOf file chain auto }
+    ensures { (file : FileData) → IsSoundFile file → IsAdmitted file → (chain : Chain) × (auto : Auto) × (chain_of file.condition ≡ Some chain) × IsAutoOf file chain auto }
 {}
 
 /// A file has one answer: it is admitted, or refused for one cause. Memory may be wanting for any.

@@ -13,7 +13,7 @@ use Rattle.ps_certificate.specs.declared.fault.CertCause.TheVariants.{Syntax, Ot
 use Rattle.ps_certificate.specs.Faults.{cause_number}
 use Rattle.ps_game.specs.Ranking.{ListsPriorities, HasPriority}
 use Rattle.ps_certificate.specs.Certificates.{CertificateData}
-use Rattle.ps_certificate.specs.Texts.{stream_at, causes, certificate, Reads}
+use Rattle.ps_certificate.specs.Texts.{stream_at, causes, certificate, ReadsCertificate}
 use Rattle.ps_certificate.proofs.TextLaws.{laws_certificate}
 
 -- each number is below all that follow it
@@ -76,7 +76,7 @@ numbered Syntax OtherGame e = absurd (omega (arith, e))
 numbered OtherGame Syntax e = absurd (omega (arith, e))
 numbered OtherGame OtherGame e = refl
 
-pub one_reading : (game : NamedGameData) (text : List ℕ) (answer other : Result CertificateData (Found CertCause)) → Reads game text answer → Reads game text other → answer ≡ other
+pub one_reading : (game : NamedGameData) (text : List ℕ) (answer other : Result CertificateData (Found CertCause)) → ReadsCertificate game text answer → ReadsCertificate game text other → answer ≡ other
 one_reading game text answer other a b =
     has_one_answer (certificate a.odd a.even game.ids).IsText (IsWrong causes (certificate a.odd a.even game.ids)) cause_number (laws_certificate a.odd a.even game.ids).one_value numbered (stream_at 0 text) answer other
     a.answers

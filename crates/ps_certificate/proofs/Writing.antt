@@ -33,7 +33,7 @@ use Rattle.ps_certificate.specs.Places.{Place}
 use Rattle.ps_certificate.specs.Words.{first_word, vertices_word, odd_word, even_word}
 use Rattle.ps_certificate.specs.Pairs.{Pairs, no_pairs, with_pair, DoesNotRise}
 use Rattle.ps_certificate.specs.Reading.{comes, numeral, IsNumberRead}
-use Rattle.ps_certificate.specs.Texts.{Field, stream_at, EndsField, Verdict, byte, word, judged, number, Never, NotNext, priority, priorities, version, winner, vertex_of, choice, counts, WrongPriority, pair, counts_in, lost_by, entry, entries, certificate, Reads as ReadsText}
+use Rattle.ps_certificate.specs.Texts.{Field, stream_at, EndsField, Verdict, byte, word, judged, number, Never, NotNext, priority, priorities, version, winner, vertex_of, choice, counts, WrongPriority, pair, counts_in, lost_by, entry, entries, certificate, ReadsCertificate as ReadsText}
 use Rattle.ps_certificate.specs.Written.{fields, pairs, counts_text, move_text, entry_line, entry_lines, version_digit, head_text, IsWord, IsWritable, HasWords, text_in}
 use Rattle.ps_certificate.proofs.OneReading.{Rises, rises as rises_of}
 use Rattle.ps_certificate.proofs.Numerals.{numeral_ended}

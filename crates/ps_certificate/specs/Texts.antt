@@ -193,7 +193,7 @@ certificate odd even ids =
     mapped (λ es. record { odd = odd; even = even; entries = es }) (entries compact odd even ids ids)))))))))
 
 -- the answer to a text, for a given game: its certificate, or the first cause in it
-pub record Reads (game : NamedGameData) (text : List ℕ) (answer : Result CertificateData (Found CertCause)) : Type 0 where
+pub record ReadsCertificate (game : NamedGameData) (text : List ℕ) (answer : Result CertificateData (Found CertCause)) : Type 0 where
   pub odd : List ℕ
   pub even : List ℕ
   pub odd_listed : ListsPriorities game.game 1 odd
@@ -201,5 +201,5 @@ pub record Reads (game : NamedGameData) (text : List ℕ) (answer : Result Certi
   pub answers : PartAnswers causes (certificate odd even game.ids) (stream_at 0 text) answer
 
 -- what the reader answers: this, unless memory runs out
-abbrev pub IsAnswer : NamedGameData → List ℕ → Result CertificateData CertFault → Type 0
-IsAnswer game text result = UnlessMemory (Reads game text) result
+abbrev pub IsCertificateAnswer : NamedGameData → List ℕ → Result CertificateData CertFault → Type 0
+IsCertificateAnswer game text result = UnlessMemory (ReadsCertificate game text) result

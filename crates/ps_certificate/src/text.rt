@@ -8,7 +8,7 @@ ghost use Rattle.ps_game.specs.Ranking.{ListsPriorities};
 ghost use Rattle.ps_certificate.specs.Certificates.{CertificateData, Fits};
 ghost use Rattle.ps_certificate.specs.Reading.{Tells, TellsHead, TellsEntries};
 ghost use Rattle.ps_certificate.specs.Texts as parts;
-ghost use Rattle.ps_certificate.specs.Texts.{Reads, IsAnswer};
+ghost use Rattle.ps_certificate.specs.Texts.{ReadsCertificate, IsCertificateAnswer};
 ghost use Rattle.ps_certificate.specs.declared.fault.CertCause.{CertCause};
 
 use crate::certificate::Certificate;
@@ -155,7 +155,7 @@ fn entries_of(
 /// [`CertFault::Text`] with the first cause in the text's order, at its byte; else want of memory.
 pub fn read(alloc: Global, text: &[u8], game: &NamedGame) -> Result<Certificate, CertFault>
     // The text's certificate, or the first cause for which it is none.
-    ensures exact { IsAnswer game.now text.now result }
+    ensures exact { IsCertificateAnswer game.now text.now result }
     ensures fits { IfOk result (Fits game.now.game) }
 {
     let known = Known {
@@ -170,5 +170,5 @@ pub fn read(alloc: Global, text: &[u8], game: &NamedGame) -> Result<Certificate,
 
 /// The text of a certificate has one answer for a game.
 pub fn certificate_text_has_one_answer()
-    ensures { (game : NamedGameData) (text : List ℕ) (answer other : Result CertificateData (Found CertCause)) → Reads game text answer → Reads game text other → answer ≡ other }
+    ensures { (game : NamedGameData) (text : List ℕ) (answer other : Result CertificateData (Found CertCause)) → ReadsCertificate game text answer → ReadsCertificate game text other → answer ≡ other }
 {}

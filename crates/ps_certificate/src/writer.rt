@@ -4,7 +4,7 @@ ghost use Rattle.std.specs.Prelude.{◌≡◌, ◌++◌, ◌+◌, ◌∷◌, [],
 ghost use Rattle.std.specs.List.{All};
 ghost use Rattle.ps_game.specs.Games.{vertex_count};
 ghost use Rattle.ps_certificate.specs.Certificates.{Fits};
-ghost use Rattle.ps_certificate.specs.Texts.{Reads, lost_by};
+ghost use Rattle.ps_certificate.specs.Texts.{ReadsCertificate, lost_by};
 ghost use Rattle.ps_certificate.specs.Written.{IsWord, IsWritable, fields, pairs, counts_text, line_with, entry_lines, version_digit, head_text, text_in, certificate_text, compact_text};
 
 use crate::certificate::Certificate;
@@ -26,7 +26,7 @@ pub fn write(
 ) -> Result<Vec<u8>, AllocError>
     requires { Fits game.now.game certificate.now }
     ensures bytes { IfOk result (λ bytes. bytes.items ≡ certificate_text game.now certificate.now) }
-    ensures read_again { IfOk result (λ bytes. Reads game.now bytes.items (Ok certificate.now)) }
+    ensures read_again { IfOk result (λ bytes. ReadsCertificate game.now bytes.items (Ok certificate.now)) }
 {
     write_text(alloc, certificate, game, false)
 }
@@ -43,7 +43,7 @@ pub fn write_compact(
 ) -> Result<Vec<u8>, AllocError>
     requires { Fits game.now.game certificate.now }
     ensures bytes { IfOk result (λ bytes. bytes.items ≡ compact_text game.now certificate.now) }
-    ensures read_again { IfOk result (λ bytes. Reads game.now bytes.items (Ok certificate.now)) }
+    ensures read_again { IfOk result (λ bytes. ReadsCertificate game.now bytes.items (Ok certificate.now)) }
 {
     write_text(alloc, certificate, game, true)
 }
@@ -57,7 +57,7 @@ fn write_text(
 ) -> Result<Vec<u8>, AllocError>
     requires { Fits game.now.game certificate.now }
     ensures bytes { IfOk result (λ bytes. bytes.items ≡ text_in compact game.now certificate.now) }
-    ensures read_again { IfOk result (λ bytes. Reads game.now bytes.items (Ok certificate.now)) }
+    ensures read_again { IfOk result (λ bytes. ReadsCertificate game.now bytes.items (Ok certificate.now)) }
 {
     let mut out = Vec::new(alloc);
     write_head(&mut out, game.game().count(), certificate, compact)?;

@@ -24,10 +24,10 @@ use Rattle.ps_circuit.specs.declared.fault.AigCause.TheVariants.{Syntax}
 use Rattle.ps_circuit.specs.Causes.{AigFault}
 use Rattle.ps_text.specs.declared.faults.Fault.TheVariants.{Text, OutOfMemory}
 use Rattle.ps_components.specs.Graphs.{Way}
-use Rattle.ps_circuit.specs.Circuits.{CircuitData, readings, IsName, IsDraft, IsCircuit, Reads as ReadsGate}
+use Rattle.ps_circuit.specs.Circuits.{CircuitData, readings, IsName, IsDraft, IsCircuit, ReadsGate}
 use Rattle.ps_circuit.specs.Signs.{Seen, Field, aig_causes, stream_of}
 use Rattle.ps_circuit.specs.Cursors.{next_byte, place_of, found_of, saturated}
-use Rattle.ps_circuit.specs.Texts.{HeaderData, header, Lines, no_lines, next_lines, input_line, latch_line, output_line, gate_line, NamesData, no_names, symbol_line, comment, DraftData, draft_of as drafted, symbols, body, circuit_text, IsDefined, refused, undefined, cyclic, meaning, IsAnswer}
+use Rattle.ps_circuit.specs.Texts.{HeaderData, header, Lines, no_lines, next_lines, input_line, latch_line, output_line, gate_line, NamesData, no_names, symbol_line, comment, DraftData, draft_of as drafted, symbols, body, circuit_text, IsDefined, refused, undefined, cyclic, meaning, IsCircuitAnswer}
 use Rattle.ps_circuit.specs.Reading.{Defines, IsKnownIn, AddsInput, AddsLatch, AddsOutput, AddsGate, Grown, none, more, IsSoundDraft, FoundAnswers, TellsDraft, TellsDefined, TellsCyclic}
 use Rattle.ps_circuit.proofs.ReadingLemmas.{defines_none, defines_more, defines_mapped, reads_more, reads_gate, draft_of}
 use Rattle.ps_circuit.proofs.LineLemmas.{value_is}
@@ -232,18 +232,18 @@ module _ (most : ℕ) (i : Lines ℕ) (l : Lines Latch) (u : Lines ℕ) (a : Lin
 
 -- ## The answer
 
-pub answer_fails : (text : List ℕ) (e : AigFault) (r : Result CircuitData AigFault) → FoundAnswers text (found_of e) → IsErrAnd r (λ y. y ≡ e) → IsAnswer text r
-answer_fails text e r m i = let y = err_from_is_err_and r i in subst (IsAnswer text) (sym (y.1 ∙ ap Err y.2)) (go e m)
+pub answer_fails : (text : List ℕ) (e : AigFault) (r : Result CircuitData AigFault) → FoundAnswers text (found_of e) → IsErrAnd r (λ y. y ≡ e) → IsCircuitAnswer text r
+answer_fails text e r m i = let y = err_from_is_err_and r i in subst (IsCircuitAnswer text) (sym (y.1 ∙ ap Err y.2)) (go e m)
   where
-    go : (e : AigFault) → FoundAnswers text (found_of e) → IsAnswer text (Err e)
+    go : (e : AigFault) → FoundAnswers text (found_of e) → IsCircuitAnswer text (Err e)
     go (Text cause offset) m = refused (record { cause = cause; offset = offset }) m refl
     go OutOfMemory m = tt
 
 module _ (text : List ℕ) (d : DraftData) (okay : PartAnswers aig_causes circuit_text (stream_of text) (Ok d)) where
-  pub answer_undefined : (e : AigFault) (r : Result CircuitData AigFault) → TellsDefined d.defined d.readings (Err e) → IsErrAnd r (λ y. y ≡ e) → IsAnswer text r
-  answer_undefined e r m i = let y = err_from_is_err_and r i in subst (IsAnswer text) (sym (y.1 ∙ ap Err (y.2 ∙ m.1))) (undefined d m.0 okay m.2 refl)
+  pub answer_undefined : (e : AigFault) (r : Result CircuitData AigFault) → TellsDefined d.defined d.readings (Err e) → IsErrAnd r (λ y. y ≡ e) → IsCircuitAnswer text r
+  answer_undefined e r m i = let y = err_from_is_err_and r i in subst (IsCircuitAnswer text) (sym (y.1 ∙ ap Err (y.2 ∙ m.1))) (undefined d m.0 okay m.2 refl)
 
-  pub answered : All (IsDefined d.defined) d.readings → (r : Result CircuitData AigFault) → IfOk r (λ c. c ≡ d.circuit) → IfOk r IsCircuit → ((e : AigFault) → r ≡ Err e → TellsCyclic d.circuit.gates d.starts (found_of e)) → IsAnswer text r
+  pub answered : All (IsDefined d.defined) d.readings → (r : Result CircuitData AigFault) → IfOk r (λ c. c ≡ d.circuit) → IfOk r IsCircuit → ((e : AigFault) → r ≡ Err e → TellsCyclic d.circuit.gates d.starts (found_of e)) → IsCircuitAnswer text r
   answered known (Ok c) same is cause = meaning d okay known (λ i. subst (λ (x : CircuitData). (i : ℕ) → Way (ReadsGate x.gates) i i → ⊥) same is.acyclic i) (ap Ok same)
   answered known (Err (Text f offset)) same is cause =
       let k = cause (Text f offset) refl in

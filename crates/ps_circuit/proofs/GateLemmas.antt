@@ -10,7 +10,7 @@ use Rattle.ps_components.proofs.Places.{slice_get-append_left, slice_get-push_ca
 use Rattle.ps_circuit.specs.declared.builder.Sides.{Sides}
 use Rattle.ps_circuit.specs.contracts.builder.SidesPartialEq.TheImpl as sides_eq
 use Rattle.ps_circuit.specs.Circuits.{variable}
-use Rattle.ps_circuit.specs.Building.{Drafted, AreSides, Extends, IsFull, IsHeld, IsNew, IsSound, Meets, NeedsGate, bit, negated, variables_of}
+use Rattle.ps_circuit.specs.Building.{Drafted, AreSides, Extends, IsFull, IsHeld, IsNew, IsSoundDraft, Meets, NeedsGate, bit, negated, variables_of}
 
 pub bool_cases : (b : Bool) → (b ≡ true) ⊎ (b ≡ false)
 bool_cases true = inl refl
@@ -105,7 +105,7 @@ absent d s none k t e same =
 pub new-absent : (d : Drafted) (s : Sides) → list_any ((sides_eq.eq-value).it s) d.gates ≡ false → IsNew d s.first s.second
 new-absent d s none k t e both = absent d s none k t e (sides_are s t (sym both.0) (sym both.1))
 
-sound-more : (d : Drafted) (s : Sides) → IsSound d → variables_of d + 1 < 2 ^ 31 → AreSides (variables_of d + 1) s → list_any ((sides_eq.eq-value).it s) d.gates ≡ false → IsSound (more d s)
+sound-more : (d : Drafted) (s : Sides) → IsSoundDraft d → variables_of d + 1 < 2 ^ 31 → AreSides (variables_of d + 1) s → list_any ((sides_eq.eq-value).it s) d.gates ≡ false → IsSoundDraft (more d s)
 sound-more d s is room sides none = record {
   room = (let e = length-append d.gates (s ∷ []) in omega arith);
   sides = λ k t e. elim (slice_get-push_cases d.gates s k t e) [
@@ -130,11 +130,11 @@ drafted_are a b e f = let made : ℕ → List Sides → Drafted = λ n g. record
 
 -- what is true once a gate has its place
 pub record Placed (old new : Drafted) (s : Sides) (place : ℕ) : Type 0 where
-  pub sound : IsSound new
+  pub sound : IsSoundDraft new
   pub extends : Extends old new
   pub at : slice_get new.gates place ≡ Some s
 
-pub placed : (old new : Drafted) (s : Sides) (place : ℕ) → IsSound old → AreSides (variables_of old + 1) s → (list_any ((sides_eq.eq-value).it s) old.gates ≡ false → IsFull old → ⊥) →
+pub placed : (old new : Drafted) (s : Sides) (place : ℕ) → IsSoundDraft old → AreSides (variables_of old + 1) s → (list_any ((sides_eq.eq-value).it s) old.gates ≡ false → IsFull old → ⊥) →
     new.given ≡ old.given → new.gates ≡ insert_key (sides_eq.eq-value).it old.gates s → ((k : Sides) × (slice_get new.gates place ≡ Some k) × ((sides_eq.eq-value).it s k ≡ true)) → Placed old new s place
 placed old new s place is sides room given keys stored =
     let at : slice_get new.gates place ≡ Some s = stored.1 ∙ ap (λ k. Some k) (sym (same_sides s stored.0 stored.2)) in
@@ -142,18 +142,18 @@ placed old new s place is sides room given keys stored =
     elim (bool_cases known) [
       | inl there ↦
           let same : new ≡ old = drafted_are new old given (keys ∙ ap (λ b. cond b old.gates (old.gates ++ s ∷ [])) there) in
-          record { sound = subst IsSound (sym same) is; extends = subst (Extends old) (sym same) (extends-refl old); at = at }
+          record { sound = subst IsSoundDraft (sym same) is; extends = subst (Extends old) (sym same) (extends-refl old); at = at }
       | inr none ↦
           let same : new ≡ more old s = drafted_are new (more old s) given (keys ∙ ap (λ b. cond b old.gates (old.gates ++ s ∷ [])) none) in
           let less : variables_of old + 1 < 2 ^ 31 = (let p = is.room in let q : IsFull old → ⊥ = room none in omega arith) in
-          record { sound = subst IsSound (sym same) (sound-more old s is less sides none); extends = subst (Extends old) (sym same) (extends-more old s); at = at }
+          record { sound = subst IsSoundDraft (sym same) (sound-more old s is less sides none); extends = subst (Extends old) (sym same) (extends-more old s); at = at }
     ]
 
 pub placed-bit : (d : Drafted) (s : Sides) (place : ℕ) → slice_get d.gates place ≡ Some s → (v : ℕ → Bool) → Meets d v → bit v (2 * (d.given + 1 + place)) ≡ (bit v s.first && bit v s.second)
 placed-bit d s place at v m = bit-plain v (d.given + 1 + place) ∙ m.each place s at
 
 -- where a gate is wanted
-pub needs : (d : Drafted) (own : ℕ) (s : Sides) → IsSound d → AreSides own s → IsNew d s.first s.second → NeedsGate d s.first s.second
+pub needs : (d : Drafted) (own : ℕ) (s : Sides) → IsSoundDraft d → AreSides own s → IsNew d s.first s.second → NeedsGate d s.first s.second
 needs d own s is a new = record {
   first_varies = (let p = a.falls in let q = a.not_constant in omega arith);
   second_varies = a.not_constant;

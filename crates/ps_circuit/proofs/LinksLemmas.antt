@@ -8,7 +8,7 @@ use Rattle.ps_circuit.specs.declared.links.Links.{Links}
 use Rattle.ps_circuit.specs.declared.parts.Gate.{Gate}
 use Rattle.ps_components.specs.Graphs.{Way, Link, IsWithin}
 use Rattle.ps_components.specs.Orders.{IsOrder, IsFirstOnCycle}
-use Rattle.ps_circuit.specs.Circuits.{CircuitData, variable, definitions, Reads}
+use Rattle.ps_circuit.specs.Circuits.{CircuitData, variable, definitions, ReadsGate}
 use Rattle.ps_circuit.specs.Drafts.{links_by, place_in}
 use Rattle.ps_ids.specs.Ids.{AreDistinct}
 use Rattle.ps_ids.proofs.IdPlaces.{position_here}
@@ -77,19 +77,19 @@ links-by_places gates place_of links a e = record {
         found None is e = cc
         found (Some g) is e = (g, (is, cc, cc))
 
-    read_by : (i j : ℕ) (g h : Gate) → slice_get gates i ≡ Some g → (side : ℕ) → (variable side ≡ variable g.first) ⊎ (variable side ≡ variable g.second) → (slice_get gates j ≡ Some h) × (variable h.literal ≡ variable side) → Reads gates i j
+    read_by : (i j : ℕ) (g h : Gate) → slice_get gates i ≡ Some g → (side : ℕ) → (variable side ≡ variable g.first) ⊎ (variable side ≡ variable g.second) → (slice_get gates j ≡ Some h) × (variable h.literal ≡ variable side) → ReadsGate gates i j
     read_by i j g h at_i side (inl e) r = record { reader = g; read = h; at_i = at_i; at_j = r.0; side = inl (sym e ∙ sym r.1) }
     read_by i j g h at_i side (inr e) r = record { reader = g; read = h; at_i = at_i; at_j = r.0; side = inr (sym e ∙ sym r.1) }
 
-    reads : (i j : ℕ) → Link (graph_of (links_by place_of gates)) i j → Reads gates i j
+    reads : (i j : ℕ) → Link (graph_of (links_by place_of gates)) i j → ReadsGate gates i j
     reads i j l = found (slice_get (links_by place_of gates) i) refl l.place l.at l.target
       where
-        found : (o : Option Links) → slice_get (links_by place_of gates) i ≡ o → (place : ℕ) → place < 2 → target_of o place ≡ Some j → Reads gates i j
+        found : (o : Option Links) → slice_get (links_by place_of gates) i ≡ o → (place : ℕ) → place < 2 → target_of o place ≡ Some j → ReadsGate gates i j
         found None is place lt t = cc
         found (Some sides) is zero lt t = (let g = there i sides is in let h = a.back (variable g.0.first) j (g.1.1 ∙ t) in read_by i j g.0 h.0 g.1.0 g.0.first (inl refl) (h.1, h.2))
         found (Some sides) is (suc place) lt t = (let g = there i sides is in let h = a.back (variable g.0.second) j (g.1.2 ∙ t) in read_by i j g.0 h.0 g.1.0 g.0.second (inr refl) (h.1, h.2))
 
-    linked : (i j : ℕ) → Reads gates i j → Link (graph_of (links_by place_of gates)) i j
+    linked : (i j : ℕ) → ReadsGate gates i j → Link (graph_of (links_by place_of gates)) i j
     linked i j r =
         let sides : Links = record { first = place_of (variable r.reader.first); second = place_of (variable r.reader.second) } in
         let at : slice_get (links_by place_of gates) i ≡ Some sides = slice_get-map _ gates i ∙ (rw r.at_i) in
@@ -121,7 +121,7 @@ module _ (gates : List Gate) (links : List Links) (a : AreLinksOf gates links) w
   pub links_within : IsWithin (graph_of links)
   links_within i j l = omega (arith, a.each, slice_get_within gates j _ (a.link_reads i j l).at_j)
 
-  pub order-of_links : (order : List ℕ) → IsOrder (Link (graph_of links)) (length links) order → IsOrder (Reads gates) (length gates) order
+  pub order-of_links : (order : List ℕ) → IsOrder (Link (graph_of links)) (length links) order → IsOrder (ReadsGate gates) (length gates) order
   order-of_links order o = record {
     within = λ k i h. omega (arith, o.within k i h, a.each);
     once = o.once;
@@ -129,10 +129,10 @@ module _ (gates : List Gate) (links : List Links) (a : AreLinksOf gates links) w
     behind = λ k l i j hk hl r. o.behind k l i j hk hl (a.reads_link i j r);
   }
 
-  pub acyclic-of_links : ((i : ℕ) → Way (Link (graph_of links)) i i → ⊥) → (i : ℕ) → Way (Reads gates) i i → ⊥
+  pub acyclic-of_links : ((i : ℕ) → Way (Link (graph_of links)) i i → ⊥) → (i : ℕ) → Way (ReadsGate gates) i i → ⊥
   acyclic-of_links none i w = none i (Way-map a.reads_link w)
 
-  pub cyclic-of_links : (i : ℕ) → IsFirstOnCycle (Link (graph_of links)) i → IsFirstOnCycle (Reads gates) i
+  pub cyclic-of_links : (i : ℕ) → IsFirstOnCycle (Link (graph_of links)) i → IsFirstOnCycle (ReadsGate gates) i
   cyclic-of_links i c = record { cyclic = Way-map a.link_reads c.cyclic; first = λ j w. c.first j (Way-map a.reads_link w) }
 
 -- no two gates of a circuit have one variable

@@ -13,9 +13,9 @@ use Rattle.ps_circuit.specs.declared.fault.AigCause.TheVariants as causes
 use Rattle.ps_circuit.specs.Causes.{cause_number}
 use Rattle.ps_components.specs.Graphs.{Way}
 use Rattle.ps_components.specs.Orders.{IsFirstOnCycle}
-use Rattle.ps_circuit.specs.Circuits.{CircuitData, Reads as ReadsGate}
+use Rattle.ps_circuit.specs.Circuits.{CircuitData, ReadsGate}
 use Rattle.ps_circuit.specs.Signs.{stream_of, aig_causes}
-use Rattle.ps_circuit.specs.Texts.{DraftData, circuit_text, IsDefined, IsFirstUndefined, Reads, refused, undefined, cyclic, meaning}
+use Rattle.ps_circuit.specs.Texts.{DraftData, circuit_text, IsDefined, IsFirstUndefined, ReadsCircuit, refused, undefined, cyclic, meaning}
 use Rattle.ps_circuit.proofs.TextLaws.{laws_text}
 
 abbrev of_number : ℕ → AigCause
@@ -66,7 +66,7 @@ data Over (text : List ℕ) (answer : CircuitAnswer) : Type 0 where
   first : (f : Found AigCause) → PartAnswers aig_causes circuit_text (stream_of text) (Err f) → answer ≡ Err f → Over text answer
   draft : (d : DraftData) → PartAnswers aig_causes circuit_text (stream_of text) (Ok d) → Settled d answer → Over text answer
 
-over : (text : List ℕ) (a : CircuitAnswer) → Reads text a → Over text a
+over : (text : List ℕ) (a : CircuitAnswer) → ReadsCircuit text a → Over text a
 over text a (refused f h e) = first f h e
 over text a (undefined d l h u e) = draft d h (undefined_at l u e)
 over text a (cyclic d i start h k c s e) = draft d h (cyclic_at i start k c s e)
@@ -112,5 +112,5 @@ one_over text a b (first f h e) (draft d k s) = absurd (subst IsOkDraft (sym (sa
 one_over text a b (draft d h s) (first g k i) = absurd (subst IsOkDraft (same_draft text (Ok d) (Err g) h k) tt)
 one_over text a b (draft d h s) (draft x k t) = settled d a b s (subst (λ z. Settled z b) (sym (ap (draft_in d) (same_draft text (Ok d) (Ok x) h k))) t)
 
-pub one_reading : (text : List ℕ) (a b : CircuitAnswer) → Reads text a → Reads text b → a ≡ b
+pub one_reading : (text : List ℕ) (a b : CircuitAnswer) → ReadsCircuit text a → ReadsCircuit text b → a ≡ b
 one_reading text a b h k = one_over text a b (over text a h) (over text b k)

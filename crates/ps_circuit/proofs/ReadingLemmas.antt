@@ -8,7 +8,7 @@ use Rattle.std.proofs.lemmas.List.Quantifiers.{all_pairs_push}
 use Rattle.std.specs.Global.{Global}
 use Rattle.ps_circuit.specs.declared.parts.Gate.{Gate}
 use Rattle.ps_components.specs.Graphs.{Way, last, next}
-use Rattle.ps_circuit.specs.Circuits.{CircuitData, variable, definitions, readings, IsDefinition, IsName, IsDraft, Reads}
+use Rattle.ps_circuit.specs.Circuits.{CircuitData, variable, definitions, readings, IsDefinition, IsName, IsDraft, ReadsGate}
 use Rattle.ps_circuit.specs.Drafts.{name_bytes}
 use Rattle.ps_components.specs.Orders.{IsFirstOnCycle}
 use Rattle.ps_circuit.specs.Causes.{AigFault}
@@ -49,7 +49,7 @@ pub names_set : (names : List (Option (Vec ℕ Global))) (i : ℕ) (name : Vec �
 names_set names i name h some plain =
     subst (λ ns. All IsName ns) (sym (map-set name_bytes names i (Some name))) (All-set IsName (map name_bytes names) i (Some name.items) (some, plain) h)
 
-pub way_within : (gates : List Gate) (i j : ℕ) → Way (Reads gates) i j → i < length gates
+pub way_within : (gates : List Gate) (i j : ℕ) → Way (ReadsGate gates) i j → i < length gates
 way_within gates i j (last r) = slice_get_within gates i r.reader r.at_i
 way_within gates i j (next r w) = slice_get_within gates i r.reader r.at_i
 
@@ -112,7 +112,7 @@ known_all variables fields i le h = subst (λ fs. All (λ f. IsKnownIn variables
 pub first_undefined : (variables : List ℕ) (readings : List Number) (i : ℕ) (d : Number) → i < length readings → All (IsDefined variables) (take i readings) → (IsDefined variables (get_or readings i d) → ⊥) → IsFirstUndefined variables readings (get_or readings i d)
 first_undefined variables readings i d l h n = record { before = take i readings; after = drop (suc i) readings; split = sym (take-append-drop i readings) ∙ ap (λ xs. take i readings ++ xs) (drop-cons readings i d l); before_defined = h; not_defined = n }
 
-pub cyclic_tells : (gates : List Gate) (starts : List ℕ) (i : ℕ) (f e : AigFault) → IsFirstOnCycle (Reads gates) i → i < length starts → f ≡ Text Cyclic (get_or starts i 0) → f ≡ e → TellsCyclic gates starts (found_of e)
+pub cyclic_tells : (gates : List Gate) (starts : List ℕ) (i : ℕ) (f e : AigFault) → IsFirstOnCycle (ReadsGate gates) i → i < length starts → f ≡ Text Cyclic (get_or starts i 0) → f ≡ e → TellsCyclic gates starts (found_of e)
 cyclic_tells gates starts i f e first l is same = subst (λ x. TellsCyclic gates starts (found_of x)) (sym is ∙ same) (i, refl, first, slice_get-get_or starts i 0 l)
 
 -- a name that was read fits

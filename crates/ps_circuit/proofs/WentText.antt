@@ -11,10 +11,10 @@ use Rattle.ps_text.proofs.Whole.{answers_ok}
 use Rattle.ps_circuit.specs.declared.cursor.Number.{Number}
 use Rattle.ps_circuit.specs.declared.parts.Latch.{Latch}
 use Rattle.ps_circuit.specs.declared.parts.Gate.{Gate}
-use Rattle.ps_circuit.specs.Circuits.{CircuitData, variable, definitions, readings, IsCircuit, Reads as ReadsGate}
+use Rattle.ps_circuit.specs.Circuits.{CircuitData, variable, definitions, readings, IsCircuit, ReadsGate}
 use Rattle.ps_components.specs.Graphs.{Way}
 use Rattle.ps_circuit.specs.Signs.{stream_of, ends_line, closed, aig_causes, pieces_at}
-use Rattle.ps_circuit.specs.Texts.{Lines, no_lines, next_lines, OfInput, OfLatch, OfOutput, NamesData, no_names, symbol_line, DraftData, draft_of, symbols, body, circuit_text, IsDefined, Reads, meaning}
+use Rattle.ps_circuit.specs.Texts.{Lines, no_lines, next_lines, OfInput, OfLatch, OfOutput, NamesData, no_names, symbol_line, DraftData, draft_of, symbols, body, circuit_text, IsDefined, ReadsCircuit, meaning}
 use Rattle.ps_circuit.specs.Written.{fields, line, latch_line as latch_line_of, symbol_line as symbol_line_of, header_line, literal_lines, latch_lines, gate_lines, symbol_lines, text_of}
 use Rattle.ps_circuit.proofs.TextLaws.{laws_input_line, laws_latch_line, laws_output_line, laws_gate_line, joint_lines, laws_body_latches, laws_body_outputs, laws_body_gates, laws_behind_gates, joint_symbols, joint_text, laws_text}
 use Rattle.ps_circuit.proofs.WentFields.{Went, went_then, went_mapped}
@@ -186,7 +186,7 @@ known_numbers defined values numbers e h k d l =
     subst (λ x. (variable x ≡ 0) ⊎ Contains defined (variable x)) (ap (λ z. get_or z k (value_of d)) (sym e) ∙ get_or-map value_of numbers k d (value_of d) l)
     (h k (value_of d) (subst (λ z. k < length z) e (omega (arith, l, length-map numbers value_of))))
 
-pub reads_again : (c : CircuitData) → IsCircuit c → length c.inputs < 2 ^ 64 → length c.latches < 2 ^ 64 → length c.outputs < 2 ^ 64 → length c.gates < 2 ^ 64 → Reads (text_of c) (Ok c)
+pub reads_again : (c : CircuitData) → IsCircuit c → length c.inputs < 2 ^ 64 → length c.latches < 2 ^ 64 → length c.outputs < 2 ^ 64 → length c.gates < 2 ^ 64 → ReadsCircuit (text_of c) (Ok c)
 reads_again c circuit i l o a = meaning d answers known (subst (λ (z : CircuitData). (i : ℕ) → Way (ReadsGate z.gates) i i → ⊥) (sym is.circuit) circuit.acyclic) (ap Ok (sym is.circuit))
   where
     went : Went circuit_text (length (text_of c)) (IsDraftOf c) [] 0 (text_of c)

@@ -3,7 +3,7 @@
 --     bit v literal      the bit of a literal, where each variable has one
 --     Meets d v      variable 0 is false, and each gate is the conjunction of its two literals
 --     Extends old new      the gates that were there are there, at their variables
---     IsSound d      what is true of the gates of a builder
+--     IsSoundDraft d      what is true of the gates of a builder
 use Rattle.std.specs.Prelude.{◌≡◌, ◌≢◌, ℕ, ◌+◌, ◌-◌, ◌%◌, ◌^◌, ◌<◌, ◌≤◌, ◌==◌, ◌&&◌, Bool, false, not, if◌then◌else◌, List, length, slice_get, Some}
 use Rattle.ps_circuit.specs.declared.builder.Sides.{Sides}
 use Rattle.ps_circuit.specs.Circuits.{variable}
@@ -43,7 +43,7 @@ pub record AreSides (own : ℕ) (s : Sides) : Type 0 where
   pub not_constant : 0 < variable s.second
 
 -- there is a literal for each variable; and no two gates have the same two literals
-pub record IsSound (d : Drafted) : Type 0 where
+pub record IsSoundDraft (d : Drafted) : Type 0 where
   pub room : variables_of d < 2 ^ 31
   pub sides : (k : ℕ) (s : Sides) → slice_get d.gates k ≡ Some s → AreSides (d.given + 1 + k) s
   pub once : (k l : ℕ) (s : Sides) → slice_get d.gates k ≡ Some s → slice_get d.gates l ≡ Some s → k ≡ l

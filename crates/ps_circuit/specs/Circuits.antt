@@ -1,7 +1,7 @@
 -- What a circuit is. A literal is twice its variable, and one more where it is negated; variable 0 is false.
 --     CircuitData      the value of a circuit: its greatest variable, its literals, and a name or none for each input, latch and output
 --     definitions, readings      the literals that define a variable, and those that are read
---     Reads gates i j, Way      one gate reads another; it depends on it
+--     ReadsGate gates i j, Way      one gate reads another; it depends on it
 --     IsDraft, IsCircuit      all but that no gate depends on itself; the whole
 use Rattle.std.specs.Prelude.{◌≡◌, ◌≢◌, ℕ, ◌+◌, ◌*◌, ◌/◌, ◌%◌, ◌<◌, ◌≤◌, ◌⊎◌, ◌^◌, List, [], ◌∷◌, ◌++◌, length, map, slice_get, Option, None, Some, All, AllPairs, Contains}
 use Rattle.std.specs.List.{flat_map}
@@ -39,7 +39,7 @@ abbrev pub IsKnown : List ℕ → ℕ → Type 0
 IsKnown defined literal = (variable literal ≡ 0) ⊎ Contains (map variable defined) (variable literal)
 
 -- the gate at place i has a literal of the variable of the gate at place j
-pub record Reads (gates : List Gate) (i j : ℕ) : Type 0 where
+pub record ReadsGate (gates : List Gate) (i j : ℕ) : Type 0 where
   pub reader : Gate
   pub read : Gate
   pub at_i : slice_get gates i ≡ Some reader
@@ -65,4 +65,4 @@ pub record IsDraft (c : CircuitData) : Type 0 where
 
 pub record IsCircuit (c : CircuitData) : Type 0 where
   pub draft : IsDraft c
-  pub acyclic : (i : ℕ) → ¬ Way (Reads c.gates) i i
+  pub acyclic : (i : ℕ) → ¬ Way (ReadsGate c.gates) i i

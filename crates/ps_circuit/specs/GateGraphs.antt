@@ -3,7 +3,7 @@ use Rattle.std.specs.Prelude.{◌≡◌, ℕ, List, length, slice_get, Option, S
 use Rattle.ps_components.specs.Graphs.{Digraph, Link}
 use Rattle.ps_circuit.specs.declared.links.Links.{Links}
 use Rattle.ps_circuit.specs.declared.parts.Gate.{Gate}
-use Rattle.ps_circuit.specs.Circuits.{Reads}
+use Rattle.ps_circuit.specs.Circuits.{ReadsGate}
 
 abbrev pub side_of : Links → ℕ → Option ℕ
 side_of sides zero = sides.first
@@ -19,5 +19,5 @@ graph_of links = record { count = length links; degree = λ _. 2; target = λ i 
 -- the links are from each gate to those that it reads
 pub record AreLinksOf (gates : List Gate) (links : List Links) : Type 0 where
   pub each : length links ≡ length gates
-  pub link_reads : (i j : ℕ) → Link (graph_of links) i j → Reads gates i j
-  pub reads_link : (i j : ℕ) → Reads gates i j → Link (graph_of links) i j
+  pub link_reads : (i j : ℕ) → Link (graph_of links) i j → ReadsGate gates i j
+  pub reads_link : (i j : ℕ) → ReadsGate gates i j → Link (graph_of links) i j

@@ -8,7 +8,7 @@ use Rattle.ps_text.specs.Answers.{Stream, Found}
 use Rattle.ps_text.specs.Parts.{PartAnswers, times}
 use Rattle.ps_text.specs.Readers.{Reads as ReadsPart, Stops, Goes}
 use Rattle.ps_components.specs.Orders.{IsFirstOnCycle}
-use Rattle.ps_circuit.specs.Circuits.{variable, IsDefinition, IsDraft, Reads}
+use Rattle.ps_circuit.specs.Circuits.{variable, IsDefinition, IsDraft, ReadsGate}
 use Rattle.ps_circuit.specs.Drafts.{data_of}
 use Rattle.ps_circuit.specs.Signs.{Seen, Field, aig_causes, gap, stream_of}
 use Rattle.ps_circuit.specs.Cursors.{found_of, saturated, NumberIs, TellsNumber}
@@ -126,4 +126,4 @@ TellsDefined defined readings (Err e) = (l : Number) × (e ≡ Text Undefined l.
 -- the refusal of the first gate that depends on itself
 abbrev pub TellsCyclic : List Gate → List ℕ → Option (Found AigCause) → Type 0
 TellsCyclic gates starts None = Unit {0}
-TellsCyclic gates starts (Some found) = (i : ℕ) × (found.cause ≡ Cyclic) × IsFirstOnCycle (Reads gates) i × (slice_get starts i ≡ Some found.offset)
+TellsCyclic gates starts (Some found) = (i : ℕ) × (found.cause ≡ Cyclic) × IsFirstOnCycle (ReadsGate gates) i × (slice_get starts i ≡ Some found.offset)

@@ -25,7 +25,7 @@ use Rattle.ps_text.specs.Parts.{PartAnswers, NoBad, give, one, then_by, either, 
 use Rattle.ps_text.specs.Digits.{decimal_value}
 use Rattle.ps_components.specs.Graphs.{Way}
 use Rattle.ps_components.specs.Orders.{IsFirstOnCycle}
-use Rattle.ps_circuit.specs.Circuits.{CircuitData, IsDefinition, variable, Reads as ReadsGate}
+use Rattle.ps_circuit.specs.Circuits.{CircuitData, IsDefinition, variable, ReadsGate}
 use Rattle.ps_circuit.specs.Signs.{Seen, stream_of, aig_causes, Field, BeginsRun, is_digit, byte, word, number, gap, rest_of_line, newline, line_end, more, by_more}
 use Rattle.ps_circuit.specs.declared.cursor.Number.{Number}
 use Rattle.ps_circuit.specs.declared.fault.AigCause.{AigCause}
@@ -249,15 +249,15 @@ pub record IsFirstUndefined (defined : List ℕ) (readings : List Number) (l : N
   pub not_defined : ¬ IsDefined defined l
 
 -- the answer to a text: its circuit, or the first cause for which it has none
-pub data Reads (text : List ℕ) (answer : Result CircuitData (Found AigCause)) : Type 0 where
-  refused : (found : Found AigCause) → PartAnswers aig_causes circuit_text (stream_of text) (Err found) → answer ≡ Err found → Reads text answer
+pub data ReadsCircuit (text : List ℕ) (answer : Result CircuitData (Found AigCause)) : Type 0 where
+  refused : (found : Found AigCause) → PartAnswers aig_causes circuit_text (stream_of text) (Err found) → answer ≡ Err found → ReadsCircuit text answer
   undefined : (d : DraftData) (l : Number) → PartAnswers aig_causes circuit_text (stream_of text) (Ok d) → IsFirstUndefined d.defined d.readings l →
-      answer ≡ Err (record { cause = Undefined; offset = l.offset }) → Reads text answer
+      answer ≡ Err (record { cause = Undefined; offset = l.offset }) → ReadsCircuit text answer
   cyclic : (d : DraftData) (i start : ℕ) → PartAnswers aig_causes circuit_text (stream_of text) (Ok d) → All (IsDefined d.defined) d.readings →
-      IsFirstOnCycle (ReadsGate d.circuit.gates) i → slice_get d.starts i ≡ Some start → answer ≡ Err (record { cause = Cyclic; offset = start }) → Reads text answer
+      IsFirstOnCycle (ReadsGate d.circuit.gates) i → slice_get d.starts i ≡ Some start → answer ≡ Err (record { cause = Cyclic; offset = start }) → ReadsCircuit text answer
   meaning : (d : DraftData) → PartAnswers aig_causes circuit_text (stream_of text) (Ok d) → All (IsDefined d.defined) d.readings →
-      ((i : ℕ) → ¬ Way (ReadsGate d.circuit.gates) i i) → answer ≡ Ok d.circuit → Reads text answer
+      ((i : ℕ) → ¬ Way (ReadsGate d.circuit.gates) i i) → answer ≡ Ok d.circuit → ReadsCircuit text answer
 
 -- what the reader answers: this, unless memory runs out
-abbrev pub IsAnswer : List ℕ → Result CircuitData AigFault → Type 0
-IsAnswer text result = UnlessMemory (Reads text) result
+abbrev pub IsCircuitAnswer : List ℕ → Result CircuitData AigFault → Type 0
+IsCircuitAnswer text result = UnlessMemory (ReadsCircuit text) result

@@ -1,7 +1,7 @@
 //! And-gates made one after another, each once.
 
 ghost use Rattle.std.specs.Prelude.{◌≡◌, ℕ, ◌+◌, ◌*◌, ◌^◌, ◌<◌, ◌≤◌, ◌&&◌, ◌||◌, Bool, not, cond, [], length, slice_get, Some, IfOk};
-ghost use Rattle.ps_circuit.specs.Building.{Drafted, AreSides, Extends, IsFull, IsHeld, IsNew, IsSound, Meets, NeedsGate, bit, negated, variables_of};
+ghost use Rattle.ps_circuit.specs.Building.{Drafted, AreSides, Extends, IsFull, IsHeld, IsNew, IsSoundDraft, Meets, NeedsGate, bit, negated, variables_of};
 ghost use Rattle.ps_circuit.specs.Gates.{and_of, chosen_of, gate_of, mux_of, or_of};
 
 use crate::encode_fault::EncodeFault;
@@ -36,7 +36,7 @@ impl Model for Builder {
 
     ghost view = { λ b. record { given = b.given; gates = b.gates.keys } };
 
-    ghost invariant = { λ b. IsSound (record { given = b.given; gates = b.gates.keys }) };
+    ghost invariant = { λ b. IsSoundDraft (record { given = b.given; gates = b.gates.keys }) };
 }
 
 impl Builder {
@@ -55,7 +55,7 @@ impl Builder {
     /// How many variables there are, 0 not counted.
     pub fn variables(&self) -> u32
         ensures variables { result ≡ variables_of self.now }
-        ensures sound { IsSound self.now }
+        ensures sound { IsSoundDraft self.now }
     {
         self.given + self.gates.len() as u32
     }
@@ -63,7 +63,7 @@ impl Builder {
     /// How many of them are given.
     pub fn given(&self) -> u32
         ensures given { result ≡ self.now.given }
-        ensures sound { IsSound self.now }
+        ensures sound { IsSoundDraft self.now }
     {
         self.given
     }
@@ -71,7 +71,7 @@ impl Builder {
     /// The gates, in the order of their variables.
     pub fn gates(&self) -> &[Sides]
         ensures gates { result.now ≡ self.now.gates }
-        ensures sound { IsSound self.now }
+        ensures sound { IsSoundDraft self.now }
     {
         self.gates.as_slice()
     }

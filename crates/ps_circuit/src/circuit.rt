@@ -3,7 +3,7 @@
 ghost use Rattle.std.specs.Prelude.{◌≡◌, ℕ, ◌<◌, length, map, slice_index, slice_index_or, IfOk, None};
 ghost use Rattle.std.specs.Option.{option_copied};
 ghost use Rattle.ps_components.specs.Orders.{IsOrder, IsFirstOnCycle};
-ghost use Rattle.ps_circuit.specs.Circuits.{CircuitData, IsDraft, IsCircuit, Reads};
+ghost use Rattle.ps_circuit.specs.Circuits.{CircuitData, IsDraft, IsCircuit, ReadsGate};
 ghost use Rattle.ps_circuit.specs.Drafts.{data_of, name_bytes};
 
 use crate::encode_fault::EncodeFault;
@@ -79,7 +79,7 @@ impl Model for Circuit {
 
     ghost view = { λ c. data_of c.parts };
 
-    ghost invariant = { λ c. IsCircuit (data_of c.parts) × IsOrder (Reads c.parts.gates.items) (length c.parts.gates.items) c.order.items };
+    ghost invariant = { λ c. IsCircuit (data_of c.parts) × IsOrder (ReadsGate c.parts.gates.items) (length c.parts.gates.items) c.order.items };
 }
 
 impl Circuit {
@@ -88,7 +88,7 @@ impl Circuit {
         requires { IsDraft (data_of parts) }
         ensures ok { IfOk result (λ c. c ≡ data_of parts) }
         ensures well_formed { IfOk result (λ c. IsCircuit c) }
-        ensures cyclic { (i : ℕ) → result ≡ Err (CircuitFault.Cyclic i) → IsFirstOnCycle (Reads parts.gates.items) i }
+        ensures cyclic { (i : ℕ) → result ≡ Err (CircuitFault.Cyclic i) → IsFirstOnCycle (ReadsGate parts.gates.items) i }
     {
         let links = links_of(alloc, &parts.gates)?;
         let graph = GateGraph { links };
@@ -106,7 +106,7 @@ impl Circuit {
     /// Fails where a growth was refused.
     pub fn in_order(alloc: Global, parts: Parts) -> Result<Self, AllocError>
         requires draft { IsDraft (data_of parts) }
-        requires ordered { (i j : ℕ) → Reads parts.gates.items i j → j < i }
+        requires ordered { (i j : ℕ) → ReadsGate parts.gates.items i j → j < i }
         ensures ok { IfOk result (λ c. c ≡ data_of parts) }
         ensures well_formed { IfOk result (λ c. IsCircuit c) }
     {
@@ -156,7 +156,7 @@ impl Circuit {
 
     /// The places of the gates, each behind those that it reads.
     pub fn order(&self) -> &[usize]
-        ensures { IsOrder (Reads self.now.gates) (length self.now.gates) result.now }
+        ensures { IsOrder (ReadsGate self.now.gates) (length self.now.gates) result.now }
     {
         &self.order
     }

@@ -3,10 +3,10 @@
 ghost use Rattle.std.specs.Prelude.{◌≡◌, ℕ, List, Result};
 ghost use Rattle.ps_text.specs.Answers.{Found};
 ghost use Rattle.ps_circuit.specs.Circuits.{CircuitData};
-ghost use Rattle.ps_circuit.specs.Texts.{Reads};
+ghost use Rattle.ps_circuit.specs.Texts.{ReadsCircuit};
 ghost use Rattle.ps_circuit.specs.declared.fault.AigCause.{AigCause};
 
 /// A text has at most one answer: its circuit, or its first cause and where that stands.
 pub fn one_answer()
-    ensures { (text : List ℕ) (a b : Result CircuitData (Found AigCause)) → Reads text a → Reads text b → a ≡ b }
+    ensures { (text : List ℕ) (a b : Result CircuitData (Found AigCause)) → ReadsCircuit text a → ReadsCircuit text b → a ≡ b }
 {}

@@ -8,7 +8,7 @@ ghost use Rattle.ps_circuit.specs.Circuits.{CircuitData, IsDraft, IsCircuit};
 ghost use Rattle.ps_circuit.specs.Cursors.{found_of};
 ghost use Rattle.ps_circuit.specs.Drafts.{data_of};
 ghost use Rattle.ps_circuit.specs.Reading.{TellsDraft, TellsDefined, TellsCyclic, IsSoundDraft, draft_data};
-ghost use Rattle.ps_circuit.specs.Texts.{IsAnswer};
+ghost use Rattle.ps_circuit.specs.Texts.{IsCircuitAnswer};
 ghost use Rattle.ps_circuit.specs.declared.fault.AigCause.{AigCause};
 
 use crate::circuit::{Circuit, CircuitFault};
@@ -35,7 +35,7 @@ pub(crate) struct Draft {
 /// The first cause in the text's order for which it is no circuit's, or want of memory.
 pub fn read(alloc: Global, text: &[u8]) -> Result<Circuit, AigFault>
     // The text's circuit, or the first cause for which it has none.
-    ensures exact { IsAnswer text.now result }
+    ensures exact { IsCircuitAnswer text.now result }
     ensures well_formed { IfOk result (λ c. IsCircuit c) }
 {
     let Draft { parts, noted } = read_draft(alloc, text)?;

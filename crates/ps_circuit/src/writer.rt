@@ -1,7 +1,7 @@
 //! Circuits written as AIGER texts.
 
 ghost use Rattle.std.specs.Prelude.{◌≡◌, ◌++◌, ◌∷◌, [], length, map, codes, decimal, OnOk, IfOk, Ok};
-ghost use Rattle.ps_circuit.specs.Texts.{Reads};
+ghost use Rattle.ps_circuit.specs.Texts.{ReadsCircuit};
 ghost use Rattle.ps_circuit.specs.Drafts.{name_bytes};
 ghost use Rattle.ps_circuit.specs.Written.{fields, line, latch_line, literal_lines, latch_lines, gate_lines, symbol_line, symbol_lines, header_line, text_of};
 
@@ -18,7 +18,7 @@ use std::alloc::{AllocError, Global};
 /// Fails where a growth was refused.
 pub fn write(alloc: Global, circuit: &Circuit) -> Result<Vec<u8>, AllocError>
     ensures bytes { IfOk result (λ bytes. bytes.items ≡ text_of circuit.now) }
-    ensures read_again { IfOk result (λ bytes. Reads bytes.items (Ok circuit.now)) }
+    ensures read_again { IfOk result (λ bytes. ReadsCircuit bytes.items (Ok circuit.now)) }
 {
     let mut out = Vec::new(alloc);
     write_header(&mut out, circuit)?;

@@ -7,7 +7,7 @@ use Rattle.ps_components.specs.declared.search.Mark.{Mark}
 use Rattle.ps_components.specs.declared.search.Mark.TheVariants.{Unseen, Active, Closed}
 use Rattle.ps_components.specs.declared.search.Pending.{Pending}
 use Rattle.ps_components.specs.Graphs.{Digraph, Link, SameOrWay}
-use Rattle.ps_components.specs.Searching.{NoLater, IsSettled, closed, active as settled_active, IsSound, close_all, turns_from, turns}
+use Rattle.ps_components.specs.Searching.{NoLater, IsSettled, closed, active as settled_active, IsSoundSearch, close_all, turns_from, turns}
 use Rattle.ps_components.proofs.Places.{slice_get-append_left, slice_get-append_cases, slice_get-append_right, slice_get-push, slice_get-push_cases, slice_get-set_same, slice_get-set_other, slice_get-take, slice_get-take_back, slice_get-drop}
 
 pub length-close_all : (marks : List Mark) (vs : List ℕ) (k : ℕ) → length (close_all marks vs k) ≡ length marks
@@ -62,7 +62,7 @@ pub turns-close_all : (g : Digraph) (marks : List Mark) (vs : List ℕ) (k : ℕ
 turns-close_all g marks [] k = omega arith
 turns-close_all g marks (v ∷ vs) k = omega (arith, turns-close_one g 0 marks v k, turns-close_all g (set marks v (Closed k)) vs k)
 
-module _ (g : Digraph) (marks : List Mark) (active front : List ℕ) (bound : ℕ) (pending : List Pending) (order : List ℕ) (s : IsSound g marks active (front ++ bound ∷ []) pending order) (done : (i : ℕ) (e : Pending) → slice_get pending i ≡ Some e → e.from < bound) where
+module _ (g : Digraph) (marks : List Mark) (active front : List ℕ) (bound : ℕ) (pending : List Pending) (order : List ℕ) (s : IsSoundSearch g marks active (front ++ bound ∷ []) pending order) (done : (i : ℕ) (e : Pending) → slice_get pending i ≡ Some e → e.from < bound) where
   abbrev number : ℕ
   number = length order
 
@@ -251,7 +251,7 @@ module _ (g : Digraph) (marks : List Mark) (active front : List ℕ) (bound : �
         ]
       ]
 
-  pub sound-closed : IsSound g marks' (take bound active) front pending order'
+  pub sound-closed : IsSoundSearch g marks' (take bound active) front pending order'
   sound-closed = record {
     within = s.within;
     marked = length-close_all marks (drop bound active) number ∙ s.marked;

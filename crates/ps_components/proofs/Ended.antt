@@ -8,10 +8,10 @@ use Rattle.ps_components.specs.declared.search.Mark.TheVariants.{Unseen, Active,
 use Rattle.ps_components.specs.declared.search.Pending.{Pending}
 use Rattle.ps_components.specs.Graphs.{Digraph, IsReached}
 use Rattle.ps_components.specs.ComponentLists.{ComponentsData, IsIn, AreComponents, AreMet, AreAllMet}
-use Rattle.ps_components.specs.Searching.{IsSound, number_of}
+use Rattle.ps_components.specs.Searching.{IsSoundSearch, number_of}
 use Rattle.ps_components.proofs.Reaching.{met_is_reached}
 
-module _ (g : Digraph) (marks : List Mark) (active bounds : List ℕ) (pending : List Pending) (order : List ℕ) (s : IsSound g marks active bounds pending order) where
+module _ (g : Digraph) (marks : List Mark) (active bounds : List ℕ) (pending : List Pending) (order : List ℕ) (s : IsSoundSearch g marks active bounds pending order) where
   abbrev found : ComponentsData
   found = record { numbers = map number_of marks; order = order }
 

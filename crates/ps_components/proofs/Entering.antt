@@ -6,7 +6,7 @@ use Rattle.ps_components.specs.declared.search.Mark.{Mark}
 use Rattle.ps_components.specs.declared.search.Mark.TheVariants.{Unseen, Active, Closed}
 use Rattle.ps_components.specs.declared.search.Pending.{Pending}
 use Rattle.ps_components.specs.Graphs.{Digraph, Link, SameOrWay, Way}
-use Rattle.ps_components.specs.Searching.{NoLater, IsSettled, closed, active as settled_active, IsPending, IsSound, wait_of, waits, turns, turns_of, turns_from}
+use Rattle.ps_components.specs.Searching.{NoLater, IsSettled, closed, active as settled_active, IsPending, IsSoundSearch, wait_of, waits, turns, turns_of, turns_from}
 use Rattle.ps_components.proofs.Places.{slice_get-append_left, slice_get-append_cases, slice_get-append_right, slice_get-push, slice_get-push_cases, slice_get-set_same, slice_get-set_other}
 
 -- one more place of an item
@@ -56,7 +56,7 @@ turns_from-set g first (m ∷ ms) (suc i) old new h =
 pub IsPending-append : (pending more : List Pending) (p w : ℕ) → IsPending pending p w → IsPending (pending ++ more) p w
 IsPending-append pending more p w h = record { at = h.at; step = h.step; is = slice_get-append_left pending more h.at h.step h.is; from_is = h.from_is; to_is = h.to_is }
 
-module _ (g : Digraph) (marks : List Mark) (active bounds : List ℕ) (pending : List Pending) (order : List ℕ) (s : IsSound g marks active bounds pending order) (item : ℕ) (within : item < g.count) (unseen : slice_get marks item ≡ Some Unseen) (reached : (p v : ℕ) → slice_get active p ≡ Some v → Way (Link g) v item) where
+module _ (g : Digraph) (marks : List Mark) (active bounds : List ℕ) (pending : List Pending) (order : List ℕ) (s : IsSoundSearch g marks active bounds pending order) (item : ℕ) (within : item < g.count) (unseen : slice_get marks item ≡ Some Unseen) (reached : (p v : ℕ) → slice_get active p ≡ Some v → Way (Link g) v item) where
   abbrev marks' : List Mark
   marks' = set marks item (Active (length active))
 
@@ -193,7 +193,7 @@ module _ (g : Digraph) (marks : List Mark) (active bounds : List ℕ) (pending :
       still p w lt (settled_active q a later) =
           settled_active q (active_on w q a) (λ k b h le. elim (slice_get-push_cases bounds _ k b h) [ inl y ↦ later k b y le | inr y ↦ absurd (omega (arith, y.1)) ])
 
-  pub sound-entered : IsSound g marks' (active ++ item ∷ []) (bounds ++ length active ∷ []) pending' order
+  pub sound-entered : IsSoundSearch g marks' (active ++ item ∷ []) (bounds ++ length active ∷ []) pending' order
   sound-entered = record {
     within = s.within;
     marked = length-set marks item _ ∙ s.marked;

@@ -5,13 +5,13 @@ use Rattle.ps_components.specs.declared.search.Mark.{Mark}
 use Rattle.ps_components.specs.declared.search.Mark.TheVariants.{Active}
 use Rattle.ps_components.specs.declared.search.Pending.{Pending}
 use Rattle.ps_components.specs.Graphs.{Digraph, Link}
-use Rattle.ps_components.specs.Searching.{IsSettled, closed, active as settled_active, IsPending, IsSound, IsCut}
+use Rattle.ps_components.specs.Searching.{IsSettled, closed, active as settled_active, IsPending, IsSoundSearch, IsCut}
 use Rattle.ps_components.proofs.Places.{slice_get-append_left, slice_get-push_cases}
 use Rattle.ps_components.proofs.Ways.{across}
 
-module _ (g : Digraph) (marks : List Mark) (active bounds : List ℕ) (pending : List Pending) (order : List ℕ) (s : IsSound g marks active bounds pending order) where
+module _ (g : Digraph) (marks : List Mark) (active bounds : List ℕ) (pending : List Pending) (order : List ℕ) (s : IsSoundSearch g marks active bounds pending order) where
   -- the last segment and those behind the place of w are joined, where the last one has a link to w
-  pub sound-merged : (from place v w : ℕ) (fewer : List ℕ) → slice_get active from ≡ Some v → Link g v w → slice_get marks w ≡ Some (Active place) → ((k b : ℕ) → slice_get bounds k ≡ Some b → b ≤ from) → IsCut bounds place fewer → IsSound g marks active fewer pending order
+  pub sound-merged : (from place v w : ℕ) (fewer : List ℕ) → slice_get active from ≡ Some v → Link g v w → slice_get marks w ≡ Some (Active place) → ((k b : ℕ) → slice_get bounds k ≡ Some b → b ≤ from) → IsCut bounds place fewer → IsSoundSearch g marks active fewer pending order
   sound-merged from place v w fewer hv l hw last cut = record {
     within = s.within;
     marked = s.marked;
@@ -46,7 +46,7 @@ module _ (g : Digraph) (marks : List Mark) (active bounds : List ℕ) (pending :
       still p w (settled_active q a later) = settled_active q a (λ k b h le. later k b (cut.part k b h) le)
 
 -- a link that leads to what is settled need wait no more
-pub sound-taken : (g : Digraph) (marks : List Mark) (active bounds : List ℕ) (pending : List Pending) (order : List ℕ) (e : Pending) → IsSound g marks active bounds (pending ++ e ∷ []) order → IsSettled marks bounds e.from e.to → IsSound g marks active bounds pending order
+pub sound-taken : (g : Digraph) (marks : List Mark) (active bounds : List ℕ) (pending : List Pending) (order : List ℕ) (e : Pending) → IsSoundSearch g marks active bounds (pending ++ e ∷ []) order → IsSettled marks bounds e.from e.to → IsSoundSearch g marks active bounds pending order
 sound-taken g marks active bounds pending order e s settled = record {
   within = s.within;
   marked = s.marked;

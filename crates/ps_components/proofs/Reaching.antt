@@ -7,7 +7,7 @@ use Rattle.ps_components.specs.declared.search.Mark.TheVariants.{Closed}
 use Rattle.ps_components.specs.declared.search.Pending.{Pending}
 use Rattle.ps_components.specs.Graphs.{Digraph, SameOrWay, IsReached}
 use Rattle.ps_components.specs.ComponentLists.{ComponentsData, IsIn, AreComponents, AreMet}
-use Rattle.ps_components.specs.Searching.{IsSound, ChangesReached, close_all}
+use Rattle.ps_components.specs.Searching.{IsSoundSearch, ChangesReached, close_all}
 use Rattle.ps_components.proofs.Ways.{Way-join}
 use Rattle.ps_components.proofs.Knots.{way_falls}
 use Rattle.ps_components.proofs.Places.{slice_get-set_other, slice_get-drop}
@@ -55,9 +55,9 @@ reached-root g roots k root v at r = from r.0 r.1 r.2 r.3
     from zero u h y = let same : root ≡ u = cc in (k, root, at, subst (λ x. SameOrWay g x v) (sym same) y)
     from (suc i) u h y = cc
 
-module _ (g : Digraph) (marks : List Mark) (active bounds : List ℕ) (pending : List Pending) (order : List ℕ) (s : IsSound g marks active bounds pending order) where
+module _ (g : Digraph) (marks : List Mark) (active bounds : List ℕ) (pending : List Pending) (order : List ℕ) (s : IsSoundSearch g marks active bounds pending order) where
   -- one step more
-  pub reached-more : (marks' : List Mark) (active' bounds' : List ℕ) (pending' : List Pending) (order' : List ℕ) (marks'' : List Mark) → IsSound g marks' active' bounds' pending' order' → ChangesReached g active marks marks' → ChangesReached g active' marks' marks'' → ChangesReached g active marks marks''
+  pub reached-more : (marks' : List Mark) (active' bounds' : List ℕ) (pending' : List Pending) (order' : List ℕ) (marks'' : List Mark) → IsSoundSearch g marks' active' bounds' pending' order' → ChangesReached g active marks marks' → ChangesReached g active' marks' marks'' → ChangesReached g active marks marks''
   reached-more marks' active' bounds' pending' order' marks'' s' before now v =
       elim (now v) [
         | inl e ↦ elim (before v) [ inl f ↦ inl (e ∙ f) | inr r ↦ inr r ]

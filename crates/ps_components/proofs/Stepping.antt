@@ -5,13 +5,13 @@ use Rattle.std.proofs.lemmas.Bool.{cases_lt}
 use Rattle.ps_components.specs.declared.search.Mark.{Mark}
 use Rattle.ps_components.specs.declared.search.Pending.{Pending}
 use Rattle.ps_components.specs.Graphs.{Digraph, Link, Way}
-use Rattle.ps_components.specs.Searching.{IsSound}
+use Rattle.ps_components.specs.Searching.{IsSoundSearch}
 use Rattle.ps_components.proofs.Ways.{across}
 
 pub last_pending : {X : Type 0} (items read : List X) (e : X) → read ≡ items → Some e ≡ slice_get read (length read - 1) → slice_get items (length items - 1) ≡ Some e
 last_pending items read e same h = sym (subst (λ xs. Some e ≡ slice_get xs (length xs - 1)) same h)
 
-module _ (g : Digraph) (marks : List Mark) (active bounds : List ℕ) (pending : List Pending) (order : List ℕ) (s : IsSound g marks active bounds pending order) (e : Pending) (is_last : slice_get pending (length pending - 1) ≡ Some e) where
+module _ (g : Digraph) (marks : List Mark) (active bounds : List ℕ) (pending : List Pending) (order : List ℕ) (s : IsSoundSearch g marks active bounds pending order) (e : Pending) (is_last : slice_get pending (length pending - 1) ≡ Some e) where
   pub pending_within : e.to < length marks
   pending_within = (let l = s.pending_links _ e is_last in omega (arith, s.within l.0 e.to l.2, s.marked))
 

@@ -24,7 +24,7 @@ pub record IsPending (pending : List Pending) (p w : ℕ) : Type 0 where
 
 -- the active places stand in segments, each beginning at a bound; the items of a segment lead to one another and
 -- to those of later segments; what is closed stands in order, and leads to what was closed before or with it
-pub record IsSound (g : Digraph) (marks : List Mark) (active bounds : List ℕ) (pending : List Pending) (order : List ℕ) : Type 0 where
+pub record IsSoundSearch (g : Digraph) (marks : List Mark) (active bounds : List ℕ) (pending : List Pending) (order : List ℕ) : Type 0 where
   pub within : IsWithin g
   pub marked : length marks ≡ g.count
   pub active_marked : (p v : ℕ) → slice_get active p ≡ Some v → slice_get marks v ≡ Some (Active p)

@@ -3,7 +3,7 @@
 
 ghost use Rattle.std.specs.Prelude.{◌≡◌, ℕ, ◌<◌, ◌≤◌, ◌++◌, ◌∷◌, [], ◌-◌, All, length, slice_get, slice_set, Some, OnOk, IfOk};
 ghost use Rattle.ps_components.specs.Graphs.{Way, Link};
-ghost use Rattle.ps_components.specs.Searching.{IsSound, IsSettled, KeepsMarks, ChangesReached, turns, waits, IsCut, close_all};
+ghost use Rattle.ps_components.specs.Searching.{IsSoundSearch, IsSettled, KeepsMarks, ChangesReached, turns, waits, IsCut, close_all};
 ghost use Rattle.ps_components.specs.declared.search.Pending.{Pending};
 
 use crate::graph::Graph;
@@ -46,7 +46,7 @@ impl Search {
     ///
     /// Fails where a growth was refused.
     pub fn new<G: Graph>(alloc: Global, graph: &G) -> Result<Self, AllocError>
-        ensures sound { IfOk result (λ s. IsSound (G.graph graph.now) s.marks.items s.active.items s.bounds.items s.pending.items s.order.items) }
+        ensures sound { IfOk result (λ s. IsSoundSearch (G.graph graph.now) s.marks.items s.active.items s.bounds.items s.pending.items s.order.items) }
         ensures ended { IfOk result (λ s. length s.bounds.items ≡ 0) }
         ensures unseen { IfOk result (λ s. All (λ m. m ≡ Mark.Unseen) s.marks.items) }
     {
@@ -66,9 +66,9 @@ impl Search {
     /// Fails where a growth was refused.
     pub fn visit<G: Graph>(&mut self, graph: &G, item: usize) -> Result<(), AllocError>
         requires within { item < (G.graph graph.now).count }
-        requires sound { IsSound (G.graph graph.now) self.old.marks.items self.old.active.items self.old.bounds.items self.old.pending.items self.old.order.items }
+        requires sound { IsSoundSearch (G.graph graph.now) self.old.marks.items self.old.active.items self.old.bounds.items self.old.pending.items self.old.order.items }
         requires ended { length self.old.bounds.items ≡ 0 }
-        ensures sound { OnOk result (IsSound (G.graph graph.now) self.new.marks.items self.new.active.items self.new.bounds.items self.new.pending.items self.new.order.items) }
+        ensures sound { OnOk result (IsSoundSearch (G.graph graph.now) self.new.marks.items self.new.active.items self.new.bounds.items self.new.pending.items self.new.order.items) }
         ensures ended { OnOk result (length self.new.bounds.items ≡ 0) }
         ensures kept { OnOk result (KeepsMarks self.old.marks.items self.new.marks.items) }
         ensures seen { OnOk result (¬ (slice_get self.new.marks.items item ≡ Some Mark.Unseen)) }
@@ -83,8 +83,8 @@ impl Search {
 
     /// Looks at all links that the path leads to.
     fn run<G: Graph>(&mut self, graph: &G) -> Result<(), AllocError>
-        requires { IsSound (G.graph graph.now) self.old.marks.items self.old.active.items self.old.bounds.items self.old.pending.items self.old.order.items }
-        ensures sound { OnOk result (IsSound (G.graph graph.now) self.new.marks.items self.new.active.items self.new.bounds.items self.new.pending.items self.new.order.items) }
+        requires { IsSoundSearch (G.graph graph.now) self.old.marks.items self.old.active.items self.old.bounds.items self.old.pending.items self.old.order.items }
+        ensures sound { OnOk result (IsSoundSearch (G.graph graph.now) self.new.marks.items self.new.active.items self.new.bounds.items self.new.pending.items self.new.order.items) }
         ensures ended { OnOk result (length self.new.bounds.items ≡ 0) }
         ensures kept { OnOk result (KeepsMarks self.old.marks.items self.new.marks.items) }
         ensures reached { OnOk result (ChangesReached (G.graph graph.now) self.old.active.items self.old.marks.items self.new.marks.items) }
@@ -98,8 +98,8 @@ impl Search {
     /// Looks at the last link that waits, if it is one of the last segment, and else closes that segment.
     fn step<G: Graph>(&mut self, graph: &G, bound: usize) -> Result<(), AllocError>
         requires last { slice_get self.old.bounds.items (length self.old.bounds.items - 1) ≡ Some bound }
-        requires sound { IsSound (G.graph graph.now) self.old.marks.items self.old.active.items self.old.bounds.items self.old.pending.items self.old.order.items }
-        ensures sound { OnOk result (IsSound (G.graph graph.now) self.new.marks.items self.new.active.items self.new.bounds.items self.new.pending.items self.new.order.items) }
+        requires sound { IsSoundSearch (G.graph graph.now) self.old.marks.items self.old.active.items self.old.bounds.items self.old.pending.items self.old.order.items }
+        ensures sound { OnOk result (IsSoundSearch (G.graph graph.now) self.new.marks.items self.new.active.items self.new.bounds.items self.new.pending.items self.new.order.items) }
         ensures fewer { OnOk result (turns (G.graph graph.now) self.new.marks.items self.new.bounds.items self.new.pending.items < turns (G.graph graph.now) self.old.marks.items self.old.bounds.items self.old.pending.items) }
         ensures kept { OnOk result (KeepsMarks self.old.marks.items self.new.marks.items) }
         ensures reached { OnOk result (ChangesReached (G.graph graph.now) self.old.active.items self.old.marks.items self.new.marks.items) }
@@ -126,8 +126,8 @@ impl Search {
         requires within { item < (G.graph graph.now).count }
         requires unseen { slice_get self.old.marks.items item ≡ Some Mark.Unseen }
         requires reached { (p v : ℕ) → slice_get self.old.active.items p ≡ Some v → Way (Link (G.graph graph.now)) v item }
-        requires sound { IsSound (G.graph graph.now) self.old.marks.items self.old.active.items self.old.bounds.items self.old.pending.items self.old.order.items }
-        ensures sound { OnOk result (IsSound (G.graph graph.now) self.new.marks.items self.new.active.items self.new.bounds.items self.new.pending.items self.new.order.items) }
+        requires sound { IsSoundSearch (G.graph graph.now) self.old.marks.items self.old.active.items self.old.bounds.items self.old.pending.items self.old.order.items }
+        ensures sound { OnOk result (IsSoundSearch (G.graph graph.now) self.new.marks.items self.new.active.items self.new.bounds.items self.new.pending.items self.new.order.items) }
         ensures fewer { OnOk result (turns (G.graph graph.now) self.new.marks.items self.new.bounds.items self.new.pending.items < turns (G.graph graph.now) self.old.marks.items self.old.bounds.items self.old.pending.items) }
         ensures kept { KeepsMarks self.old.marks.items self.new.marks.items }
         ensures entered { OnOk result (self.new.marks.items ≡ slice_set self.old.marks.items item (Mark.Active (length self.old.active.items))) }
@@ -147,8 +147,8 @@ impl Search {
         requires linked { (v : ℕ) × (slice_get self.old.active.items pending.from ≡ Some v) × Link (G.graph graph.now) v pending.to }
         requires last { (k b : ℕ) → slice_get self.old.bounds.items k ≡ Some b → b ≤ pending.from }
         requires marked { slice_get self.old.marks.items pending.to ≡ Some (Mark.Active place) }
-        requires sound { IsSound (G.graph graph.now) self.old.marks.items self.old.active.items self.old.bounds.items self.old.pending.items self.old.order.items }
-        ensures sound { IsSound (G.graph graph.now) self.new.marks.items self.new.active.items self.new.bounds.items self.new.pending.items self.new.order.items }
+        requires sound { IsSoundSearch (G.graph graph.now) self.old.marks.items self.old.active.items self.old.bounds.items self.old.pending.items self.old.order.items }
+        ensures sound { IsSoundSearch (G.graph graph.now) self.new.marks.items self.new.active.items self.new.bounds.items self.new.pending.items self.new.order.items }
         ensures settled { IsSettled self.new.marks.items self.new.bounds.items pending.from pending.to }
         ensures marks { self.new.marks.items ≡ self.old.marks.items }
         ensures shorter { length self.new.bounds.items ≤ length self.old.bounds.items }
@@ -161,8 +161,8 @@ impl Search {
     fn take<G: Graph>(&mut self, graph: &G, pending: Pending)
         requires last { slice_get self.old.pending.items (length self.old.pending.items - 1) ≡ Some pending }
         requires settled { IsSettled self.old.marks.items self.old.bounds.items pending.from pending.to }
-        requires sound { IsSound (G.graph graph.now) self.old.marks.items self.old.active.items self.old.bounds.items self.old.pending.items self.old.order.items }
-        ensures sound { IsSound (G.graph graph.now) self.new.marks.items self.new.active.items self.new.bounds.items self.new.pending.items self.new.order.items }
+        requires sound { IsSoundSearch (G.graph graph.now) self.old.marks.items self.old.active.items self.old.bounds.items self.old.pending.items self.old.order.items }
+        ensures sound { IsSoundSearch (G.graph graph.now) self.new.marks.items self.new.active.items self.new.bounds.items self.new.pending.items self.new.order.items }
         ensures fewer { turns (G.graph graph.now) self.new.marks.items self.new.bounds.items self.new.pending.items < turns (G.graph graph.now) self.old.marks.items self.old.bounds.items self.old.pending.items }
         ensures marks { self.new.marks.items ≡ self.old.marks.items }
     {
@@ -173,8 +173,8 @@ impl Search {
     fn close<G: Graph>(&mut self, graph: &G, bound: usize) -> Result<(), AllocError>
         requires last { slice_get self.old.bounds.items (length self.old.bounds.items - 1) ≡ Some bound }
         requires done { (i : ℕ) (e : Pending) → slice_get self.old.pending.items i ≡ Some e → e.from < bound }
-        requires sound { IsSound (G.graph graph.now) self.old.marks.items self.old.active.items self.old.bounds.items self.old.pending.items self.old.order.items }
-        ensures sound { OnOk result (IsSound (G.graph graph.now) self.new.marks.items self.new.active.items self.new.bounds.items self.new.pending.items self.new.order.items) }
+        requires sound { IsSoundSearch (G.graph graph.now) self.old.marks.items self.old.active.items self.old.bounds.items self.old.pending.items self.old.order.items }
+        ensures sound { OnOk result (IsSoundSearch (G.graph graph.now) self.new.marks.items self.new.active.items self.new.bounds.items self.new.pending.items self.new.order.items) }
         ensures fewer { OnOk result (turns (G.graph graph.now) self.new.marks.items self.new.bounds.items self.new.pending.items < turns (G.graph graph.now) self.old.marks.items self.old.bounds.items self.old.pending.items) }
         ensures kept { OnOk result (KeepsMarks self.old.marks.items self.new.marks.items) }
         ensures reached { OnOk result (ChangesReached (G.graph graph.now) self.old.active.items self.old.marks.items self.new.marks.items) }

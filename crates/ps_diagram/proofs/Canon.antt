@@ -3,7 +3,7 @@
 use Rattle.std.proofs.Common.{◌≡◌, ℕ, ◌+◌, ◌<◌, ◌≤◌, Bool, true, false, cond, Option, Some, None, eqb, ltb, refl, ap, sym, subst, ◌∙◌, arith, inl, inr, ◌⊎◌}
 use Rattle.std.proofs.lemmas.Bool.{eq-eqb, eqb-true, eqb-false, ltb-true, ltb-false}
 use Rattle.ps_diagram.specs.Tree.{Tree, empty, final, choice, leaf_at, IsFrom, IsReduced, IsBlind, HaveSameLeaves, IsTestOf}
-use Rattle.ps_diagram.specs.Table.{Table, IsNode, IsSound, tree_of}
+use Rattle.ps_diagram.specs.Table.{Table, IsNode, IsSoundTable, tree_of}
 use Rattle.ps_diagram.proofs.Cells.{bool_cases}
 
 -- a letter changed at one proposition
@@ -129,7 +129,7 @@ pub record Ready (t : Table) (p low high : ℕ) : Type 0 where
   pub ordered : IsFrom 0 t.propositions (choice p (tree_of t low) (tree_of t high))
   pub reduced : IsReduced (choice p (tree_of t low) (tree_of t high))
 
-pub ready : (t : Table) → IsSound t → (p low high : ℕ) → p < t.propositions → IsNode t low → IsNode t high →
+pub ready : (t : Table) → IsSoundTable t → (p low high : ℕ) → p < t.propositions → IsNode t low → IsNode t high →
     IsBlind (p + 1) (tree_of t low) → IsBlind (p + 1) (tree_of t high) → eqb low high ≡ false → Ready t p low high
 ready t s p low high named hl hh bl bh ne = record {
   ordered = (omega arith, named, from-level t.propositions (tree_of t low) (p + 1) (s.ordered low hl) (s.reduced low hl) bl, from-level t.propositions (tree_of t high) (p + 1) (s.ordered high hh) (s.reduced high hh) bh);

@@ -11,7 +11,7 @@ use Rattle.ps_diagram.specs.declared.view.View.{View}
 use Rattle.ps_diagram.specs.declared.view.View.TheVariants.{Nothing, Leaf, Test}
 use Rattle.ps_diagram.specs.Tree.{Tree, empty, final, choice, IsFrom, IsReduced}
 use Rattle.ps_diagram.specs.Parts.{IsPart}
-use Rattle.ps_diagram.specs.Table.{Table, tree_by, trees_of, tree_at, tree_in, tree_of, IsNode, IsWithin, IsSound, Keeps}
+use Rattle.ps_diagram.specs.Table.{Table, tree_by, trees_of, tree_at, tree_in, tree_of, IsNode, IsWithin, IsSoundTable, Keeps}
 
 -- the table with one cell more
 abbrev pub more : Table → View → Table
@@ -78,7 +78,7 @@ kind_of empty = 0
 kind_of (final k) = 1
 kind_of (choice p low high) = 2
 
-pub same_cell : (t : Table) → IsSound t → (a b : View) → IsWithin (length t.cells) a → IsWithin (length t.cells) b → tree_in t.cells a ≡ tree_in t.cells b → a ≡ b
+pub same_cell : (t : Table) → IsSoundTable t → (a b : View) → IsWithin (length t.cells) a → IsWithin (length t.cells) b → tree_in t.cells a ≡ tree_in t.cells b → a ≡ b
 unfolding final-of name_of low_of high_of kind_of tree_of
 same_cell t s Nothing Nothing ha hb e = refl
 same_cell t s Nothing (Leaf m) ha hb e = let k : 0 ≡ 1 = ap kind_of e in absurd (omega (arith, k))
@@ -138,8 +138,8 @@ keeps_more t cell = record {
 }
 
 -- every store with one cell more is sound, where the cell is well made and new
-pub sound_more : (t : Table) (cell : View) → IsSound t → IsWithin (length t.cells) cell → IsFrom 0 t.propositions (tree_in t.cells cell) → IsReduced (tree_in t.cells cell) →
-    ((k : ℕ) → k < length t.cells → cell ≡ get_or t.cells k Nothing → ⊥) → IsSound (more t cell)
+pub sound_more : (t : Table) (cell : View) → IsSoundTable t → IsWithin (length t.cells) cell → IsFrom 0 t.propositions (tree_in t.cells cell) → IsReduced (tree_in t.cells cell) →
+    ((k : ℕ) → k < length t.cells → cell ≡ get_or t.cells k Nothing → ⊥) → IsSoundTable (more t cell)
 unfolding tree_of
 sound_more t cell s w o r new =
     let n = length t.cells in
@@ -187,13 +187,13 @@ sound_more t cell s w o r new =
 
 -- the table after a cell is interned, and its place
 pub record Interned (t u : Table) (cell : View) (place : ℕ) : Type 0 where
-  pub sound : IsSound u
+  pub sound : IsSoundTable u
   pub keeps : Keeps t u
   pub held : IsNode u place
   pub tree : tree_of u place ≡ tree_in t.cells cell
 
 -- a place of the cell in a sound table that keeps all nodes
-at_place : (t u : Table) (cell : View) (place : ℕ) → IsSound u → Keeps t u → IsWithin (length t.cells) cell →
+at_place : (t u : Table) (cell : View) (place : ℕ) → IsSoundTable u → Keeps t u → IsWithin (length t.cells) cell →
     (tree_in u.cells cell ≡ tree_in t.cells cell) → slice_get u.cells place ≡ Some cell → Interned t u cell place
 unfolding tree_of
 at_place t u cell place s keeps w stays e =
@@ -202,7 +202,7 @@ at_place t u cell place s keeps w stays e =
     record { sound = s; keeps = keeps; held = held; tree = s.built place held ∙ ap (λ c. tree_in u.cells c) is ∙ stays }
 
 pub interned : (t u : Table) (cell : View) (place : ℕ) (eq : View → View → Bool) → ((a b : View) → eq a b ≡ true → a ≡ b) → ((a : View) → eq a a ≡ true) →
-    IsSound t → IsWithin (length t.cells) cell → IsFrom 0 t.propositions (tree_in t.cells cell) → IsReduced (tree_in t.cells cell) →
+    IsSoundTable t → IsWithin (length t.cells) cell → IsFrom 0 t.propositions (tree_in t.cells cell) → IsReduced (tree_in t.cells cell) →
     u.propositions ≡ t.propositions → u.cells ≡ insert_key eq t.cells cell → ((k : View) × (slice_get u.cells place ≡ Some k) × (eq cell k ≡ true)) → Interned t u cell place
 interned t u cell place eq sound_eq refl_eq s w o r props keys stored =
     let e : slice_get u.cells place ≡ Some cell = stored.1 ∙ ap (λ k. Some k) (sym (sound_eq cell stored.0 stored.2)) in
@@ -220,7 +220,7 @@ interned t u cell place eq sound_eq refl_eq s w o r props keys stored =
           subst P (sym same) (λ at. at_place t (more t cell) cell place (sound_more t cell s w o r new) (keeps_more t cell) w (tree_in-old t.cells cell cell w) at) e
     ]
 
-pub part_of : (t : Table) (node : ℕ) (cell : View) → IsSound t → IsNode t node → get_or t.cells node Nothing ≡ cell → IsPart t node cell
+pub part_of : (t : Table) (node : ℕ) (cell : View) → IsSoundTable t → IsNode t node → get_or t.cells node Nothing ≡ cell → IsPart t node cell
 unfolding tree_of
 part_of t node Nothing s h e = s.built node h ∙ ap (λ c. tree_in t.cells c) e
 part_of t node (Leaf k) s h e = s.built node h ∙ ap (λ c. tree_in t.cells c) e

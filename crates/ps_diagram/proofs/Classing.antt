@@ -8,7 +8,7 @@ use Rattle.ps_label.specs.Truth.{is_in}
 use Rattle.ps_diagram.specs.declared.classes.Class.{Class}
 use Rattle.ps_diagram.specs.Letters.{assignment, letter_of, IsBefore, IsLeast, AgreeOn, AgreeOff}
 use Rattle.ps_diagram.specs.Tree.{Tree, leaf_at, IsFrom}
-use Rattle.ps_diagram.specs.Table.{Table, IsNode, IsSound, Keeps, tree_of, leaf_of}
+use Rattle.ps_diagram.specs.Table.{Table, IsNode, IsSoundTable, Keeps, tree_of, leaf_of}
 use Rattle.ps_diagram.specs.Reached.{AreLeaves, LeadsTo}
 use Rattle.ps_diagram.specs.Known.{IsMapped}
 use Rattle.ps_diagram.specs.Rests.{mixed, IsDivided}
@@ -78,9 +78,9 @@ record Made (s u : Table) : Type 0 where
   pub at : ℕ
   pub places : ℕ → Option ℕ
   pub list : List Class
-  pub sound : IsSound u
+  pub sound : IsSoundTable u
   pub letters : u.propositions ≡ s.propositions
-  pub node_sound : IsSound s
+  pub node_sound : IsSoundTable s
   pub node_held : IsNode s node
   pub divided_held : IsNode u divided
   pub division : IsDivided u mask (tree_of s node) (tree_of u divided)
@@ -130,7 +130,7 @@ known_at s u m f k e =
 
 -- letters that are the same at each proposition
 
-same_letters : (u : Table) → IsSound u → (node : ℕ) → IsNode u node → (f g : ℕ → Bool) → ((q : ℕ) → f q ≡ g q) → leaf_at (tree_of u node) f ≡ leaf_at (tree_of u node) g
+same_letters : (u : Table) → IsSoundTable u → (node : ℕ) → IsNode u node → (f g : ℕ → Bool) → ((q : ℕ) → f q ≡ g q) → leaf_at (tree_of u node) f ≡ leaf_at (tree_of u node) g
 same_letters u s node h f g e = blind-from 0 u.propositions (tree_of u node) (s.ordered node h) f g (λ q le. e q)
 
 mixed_first : (mask x v q : ℕ) → AgreeOn mask x v → mixed mask (assignment x) (assignment v) q ≡ is_in q v
@@ -275,7 +275,7 @@ are_classes s u m held = record {
 }
 
 -- the node stands in one table, its division in the next one, and the places in a third, which keeps that
-pub classes_of : (s v u : Table) → Keeps v u → IsSound s → IsSound u → u.propositions ≡ s.propositions →
+pub classes_of : (s v u : Table) → Keeps v u → IsSoundTable s → IsSoundTable u → u.propositions ≡ s.propositions →
     (mask node divided at : ℕ) (places : ℕ → Option ℕ) (leaves : List (ℕ × ℕ)) (list : List Class) → IsNode s node →
     IsNode v divided → IsNode u at → IsDivided v mask (tree_of s node) (tree_of v divided) →
     AreLeaves v divided leaves → AreOf leaves (length leaves) list → IsPlaced places list → IsMapped

@@ -4,7 +4,7 @@ use Rattle.std.specs.Prelude.{IsSome}
 use Rattle.std.proofs.lemmas.Bool.{eqb-true}
 use Rattle.ps_label.specs.Truth.{is_in}
 use Rattle.ps_diagram.specs.Tree.{Tree, final, leaf_at, IsBlind, IsTestOf}
-use Rattle.ps_diagram.specs.Table.{Table, IsNode, IsSound, Keeps, tree_of}
+use Rattle.ps_diagram.specs.Table.{Table, IsNode, IsSoundTable, Keeps, tree_of}
 use Rattle.ps_diagram.specs.Split.{IsSides}
 use Rattle.ps_diagram.specs.Known.{Knows}
 use Rattle.ps_diagram.specs.Rests.{mixed, IsDivided, IsPlace, LeadsToNodes, AreTested, IsTested, IsDividedTest, KnowsTests, test_eq}
@@ -39,13 +39,13 @@ tested_kept t u k test x y z h = record {
 
 -- nodes with the same leaves are one, so a tree of nodes has the same node at letters that leave the same
 
-pub divided_alike : (t : Table) → IsSound t → (mask : ℕ) (a d : Tree) → IsDivided t mask a d → (f g : ℕ → Bool) → ((w : ℕ → Bool) → leaf_at a (mixed mask f w) ≡ leaf_at a (mixed mask g w)) → leaf_at d f ≡ leaf_at d g
+pub divided_alike : (t : Table) → IsSoundTable t → (mask : ℕ) (a d : Tree) → IsDivided t mask a d → (f g : ℕ → Bool) → ((w : ℕ → Bool) → leaf_at a (mixed mask f w) ≡ leaf_at a (mixed mask g w)) → leaf_at d f ≡ leaf_at d g
 divided_alike t s mask a d h f g e =
     let x = h f in
     let y = h g in
     x.1 ∙ ap (λ k. Some k) (one_node t s x.0 y.0 x.2 y.2 (λ w. x.3 w ∙ e w ∙ sym (y.3 w))) ∙ sym y.1
 
-pub divided_blind : (t : Table) → IsSound t → (mask level : ℕ) (a d : Tree) → IsDivided t mask a d → IsBlind level a → IsBlind level d
+pub divided_blind : (t : Table) → IsSoundTable t → (mask level : ℕ) (a d : Tree) → IsDivided t mask a d → IsBlind level a → IsBlind level d
 divided_blind t s mask level a d h b f g e =
     divided_alike t s mask a d h f g (λ w. b (mixed mask f w) (mixed mask g w) (λ q le. ap (λ x. cond (is_in q mask) x (w q)) (e q le)))
 
@@ -54,7 +54,7 @@ divided_leads t mask level a d h b f =
     let x = h f in
     (x.0, x.1, x.2, (λ u v e. x.3 u ∙ b (mixed mask f u) (mixed mask f v) (λ q le. ap (λ y. cond (is_in q mask) (f q) y) (e q le)) ∙ sym (x.3 v)))
 
-tested_alike : (t : Table) → IsSound t → (p : ℕ) (a b d : Tree) → IsTested t p a b d → (f g : ℕ → Bool) → leaf_at a f ≡ leaf_at a g → leaf_at b f ≡ leaf_at b g → leaf_at d f ≡ leaf_at d g
+tested_alike : (t : Table) → IsSoundTable t → (p : ℕ) (a b d : Tree) → IsTested t p a b d → (f g : ℕ → Bool) → leaf_at a f ≡ leaf_at a g → leaf_at b f ≡ leaf_at b g → leaf_at d f ≡ leaf_at d g
 tested_alike t s p a b d h f g ea eb =
     let x = h f in
     let y = h g in
@@ -64,7 +64,7 @@ tested_alike t s p a b d h f g ea eb =
     λ w. x.leaf w ∙ ap (λ k. cond (w p) (leaf_at (tree_of t k) w) (leaf_at (tree_of t x.low) w)) high ∙ ap (λ k. cond (w p) (leaf_at (tree_of t y.high) w) (leaf_at (tree_of t k) w)) low ∙ sym (y.leaf w) in
     x.made_is ∙ ap (λ k. Some k) (one_node t s x.made y.made x.held y.held same) ∙ sym y.made_is
 
-pub tested_blind : (t : Table) → IsSound t → (p level : ℕ) (a b d : Tree) → IsTested t p a b d → IsBlind level a → IsBlind level b → IsBlind level d
+pub tested_blind : (t : Table) → IsSoundTable t → (p level : ℕ) (a b d : Tree) → IsTested t p a b d → IsBlind level a → IsBlind level b → IsBlind level d
 tested_blind t s p level a b d h ba bb f g e = tested_alike t s p a b d h f g (ba f g e) (bb f g e)
 
 -- how each is made

@@ -1,7 +1,7 @@
 -- Trees with their leaves changed by a rule.
 use Rattle.std.proofs.Common.{◌≡◌, ℕ, ◌<◌, ◌^◌, Bool, true, false, cond, Option, ap, sym, subst, ◌∙◌, inl, inr}
 use Rattle.ps_diagram.specs.Tree.{Tree, leaf_at, IsBlind, IsTestOf}
-use Rattle.ps_diagram.specs.Table.{Table, IsNode, IsSound, tree_of, leaf_of}
+use Rattle.ps_diagram.specs.Table.{Table, IsNode, IsSoundTable, tree_of, leaf_of}
 use Rattle.ps_diagram.specs.Split.{IsSides}
 use Rattle.ps_diagram.specs.Known.{IsMapped}
 use Rattle.ps_diagram.specs.Letters.{letter_of}
@@ -33,7 +33,7 @@ pub on_high : (P : Option ℕ → Type 0) (t : Table) (node p low high : ℕ) �
 on_high P t node p low high s h f = subst P (side_leaf p true (tree_of t node) (tree_of t low) (tree_of t high) s.leaf s.low_later s.high_later f) (h (changed f p true))
 
 -- what holds of the leaf at each number holds at each letter
-pub by_numbers : (P : Option ℕ → Type 0) (t : Table) (node : ℕ) → IsSound t → IsNode t node → ((letter : ℕ) → letter < 2 ^ t.propositions → P (leaf_of t node letter)) → (f : ℕ → Bool) → P (leaf_at (tree_of t node) f)
+pub by_numbers : (P : Option ℕ → Type 0) (t : Table) (node : ℕ) → IsSoundTable t → IsNode t node → ((letter : ℕ) → letter < 2 ^ t.propositions → P (leaf_of t node letter)) → (f : ℕ → Bool) → P (leaf_at (tree_of t node) f)
 by_numbers P t node s h each f =
     let n = t.propositions in
     subst P (sym (leaf_by_number n (tree_of t node) (s.ordered node h) f)) (each (letter_of n f) (letter_lt n f))

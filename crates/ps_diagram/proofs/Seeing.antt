@@ -4,13 +4,13 @@ use Rattle.ps_diagram.specs.declared.view.View.{View}
 use Rattle.ps_diagram.specs.declared.view.View.TheVariants.{Nothing, Leaf, Test}
 use Rattle.ps_diagram.specs.Letters.{assignment}
 use Rattle.ps_diagram.specs.Tree.{leaf_at}
-use Rattle.ps_diagram.specs.Table.{Table, IsSound, tree_of}
+use Rattle.ps_diagram.specs.Table.{Table, IsSoundTable, tree_of}
 use Rattle.ps_diagram.specs.Parts.{IsPart}
 use Rattle.ps_diagram.specs.Views.{Sees}
 use Rattle.ps_diagram.proofs.Canon.{blind-from, same_tree}
 use Rattle.ps_diagram.proofs.Letters.{same_by_numbers}
 
-pub sees : (t : Table) → IsSound t → (node : ℕ) (v : View) → IsPart t node v → Sees t node v
+pub sees : (t : Table) → IsSoundTable t → (node : ℕ) (v : View) → IsPart t node v → Sees t node v
 sees t s node Nothing h = λ letter. ap (λ u. leaf_at u (assignment letter)) h
 sees t s node (Leaf k) h = λ letter. ap (λ u. leaf_at u (assignment letter)) h
 sees t s node (Test p low high) h =

@@ -2,7 +2,7 @@
 use Rattle.std.proofs.Common.{◌≡◌, ℕ, ◌+◌, ◌<◌, ◌≤◌, Some, None, refl, arith, min, inl, inr, ◌⊎◌, ltb}
 use Rattle.std.proofs.lemmas.Bool.{ltb-true, ltb-false}
 use Rattle.ps_diagram.specs.Tree.{Tree, empty, final, choice, IsFrom}
-use Rattle.ps_diagram.specs.Table.{Table, IsNode, IsSound, tree_of}
+use Rattle.ps_diagram.specs.Table.{Table, IsNode, IsSoundTable, tree_of}
 use Rattle.ps_diagram.specs.Parts.{IsChoice}
 use Rattle.ps_diagram.specs.Split.{root_of, IsConstant, IsSides}
 use Rattle.ps_diagram.proofs.Cells.{bool_cases}
@@ -24,7 +24,7 @@ from_root n p empty o h = tt
 from_root n p (final k) o h = tt
 from_root n p (choice q low high) o h = (omega (arith, h), o.1, o.2, o.3)
 
-pub sides_of_later : (t : Table) (node p : ℕ) → IsSound t → IsNode t node → p < root_of t.propositions (tree_of t node) → IsSides t node p node node
+pub sides_of_later : (t : Table) (node p : ℕ) → IsSoundTable t → IsNode t node → p < root_of t.propositions (tree_of t node) → IsSides t node p node node
 sides_of_later t node p s h lt =
     let later = blind-from (p + 1) t.propositions (tree_of t node) (from_root t.propositions p (tree_of t node) (s.ordered node h) lt) in
     record {

@@ -5,7 +5,7 @@
 --     tree_of t node     its tree
 --     leaf_of t node x   its leaf at the letter x
 --     Keeps old new      each node that was held is held, with the same tree, so with the same leaf at each letter
---     IsSound            what is true of every store
+--     IsSoundTable            what is true of every store
 use Rattle.std.specs.Prelude.{◌≡◌, ℕ, ◌<◌, ◌≤◌, Option, List, [], ◌∷◌, ◌++◌, length, fold, slice_index_or}
 use Rattle.ps_diagram.specs.declared.view.View.{View}
 use Rattle.ps_diagram.specs.declared.view.View.TheVariants.{Nothing, Leaf, Test}
@@ -55,7 +55,7 @@ IsWithin count (Leaf k) = Unit {0}
 IsWithin count (Test p low high) = (low < count) × (high < count)
 
 -- Each tree is that of its cell, made of earlier ones, ordered and reduced; and equal trees are one node.
-pub record IsSound (t : Table) : Type 0 where
+pub record IsSoundTable (t : Table) : Type 0 where
   pub few : t.propositions ≤ 64
   pub built : (node : ℕ) → IsNode t node → tree_of t node ≡ tree_in t.cells (slice_index_or t.cells node Nothing)
   pub earlier : (node : ℕ) → IsNode t node → IsWithin node (slice_index_or t.cells node Nothing)

@@ -3,7 +3,7 @@
 ghost use Rattle.std.specs.Prelude.{◌≡◌, ◌≢◌, ℕ, ◌+◌, ◌<◌, Bool, AllPairs, IfOk, IsSome, Some, length, nat_eq};
 ghost use Rattle.indexmap.specs.IndexMap.{get};
 ghost use Rattle.ps_diagram.specs.Tree.{Tree, IsBlind, leaf_at};
-ghost use Rattle.ps_diagram.specs.Table.{IsNode, IsSound, Keeps, tree_of};
+ghost use Rattle.ps_diagram.specs.Table.{IsNode, IsSoundTable, Keeps, tree_of};
 ghost use Rattle.ps_diagram.specs.Known.{Knows};
 ghost use Rattle.ps_diagram.specs.Split.{IsConstant};
 ghost use Rattle.ps_diagram.specs.Classes.{AreClasses};
@@ -100,7 +100,7 @@ impl Store {
         requires held { IsNode self.old divided }
         requires leaves { AllPairs (λ a b. a.0 ≢ b.0) leaves.now }
         ensures keeps { Keeps self.old self.new }
-        ensures sound { IfOk result (λ _. IsSound self.new) }
+        ensures sound { IfOk result (λ _. IsSoundTable self.new) }
         ensures held { IfOk result (λ c. IsNode self.new c.places) }
         ensures classes { IfOk result
             (λ c. AreOfLeaves leaves.now (tree_of self.old divided) (tree_of self.new c.places) c.list.items) }

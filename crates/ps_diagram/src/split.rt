@@ -2,7 +2,7 @@
 
 ghost use Rattle.std.specs.Prelude.{◌≡◌, ℕ, ◌+◌, ◌≤◌, ◌<◌, ◌↔◌, IsTrue, MatchOption};
 ghost use Rattle.ps_diagram.specs.Tree.{empty};
-ghost use Rattle.ps_diagram.specs.Table.{IsNode, IsSound, tree_of};
+ghost use Rattle.ps_diagram.specs.Table.{IsNode, IsSoundTable, tree_of};
 
 use crate::store::Store;
 use crate::view::{Node, View};
@@ -35,7 +35,7 @@ impl Store {
         requires held { IsNode self.now node }
         ensures root { result ≡ root_of self.now.propositions (tree_of self.now node) }
         ensures within { result ≤ self.now.propositions }
-        ensures sound { IsSound self.now }
+        ensures sound { IsSoundTable self.now }
     {
         match self.cell(node) {
             View::Test { proposition, .. } => proposition,

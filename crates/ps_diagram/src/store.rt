@@ -3,7 +3,7 @@
 ghost use Rattle.std.specs.Prelude.{◌≡◌, ◌↔◌, IsTrue, ℕ, ◌+◌, ◌^◌, ◌≤◌, ◌<◌, [], IfOk, OnOk, length, slice_index_or, Option, Some, None, cond};
 ghost use Rattle.ps_diagram.specs.Tree.{IsBlind, IsFrom, IsReduced, IsTestOf};
 ghost use Rattle.ps_diagram.specs.Parts.{IsPart};
-ghost use Rattle.ps_diagram.specs.Table.{Table, IsNode, IsSound, IsWithin, Keeps, leaf_of, tree_of, tree_in};
+ghost use Rattle.ps_diagram.specs.Table.{Table, IsNode, IsSoundTable, IsWithin, Keeps, leaf_of, tree_of, tree_in};
 ghost use Rattle.ps_diagram.specs.Views.{Sees};
 ghost use Rattle.ps_diagram.specs.declared.view.View.TheVariants.{Nothing};
 
@@ -22,13 +22,13 @@ pub struct Store {
 }
 
 impl Model for Store {
-    ghost use Rattle.ps_diagram.specs.Table.{Table, IsSound};
+    ghost use Rattle.ps_diagram.specs.Table.{Table, IsSoundTable};
 
     ghost Value = { Table };
 
     ghost view = { λ s. record { propositions = s.propositions; cells = s.cells.keys } };
 
-    ghost invariant = { λ s. IsSound (record { propositions = s.propositions; cells = s.cells.keys }) };
+    ghost invariant = { λ s. IsSoundTable (record { propositions = s.propositions; cells = s.cells.keys }) };
 }
 
 impl Store {
@@ -49,7 +49,7 @@ impl Store {
     pub fn propositions(&self) -> u32
         ensures value { result ≡ self.now.propositions }
         ensures few { result ≤ 64 }
-        ensures sound { IsSound self.now }
+        ensures sound { IsSoundTable self.now }
     {
         self.propositions
     }
@@ -106,7 +106,7 @@ impl Store {
 
     /// The allocator of the store.
     pub(crate) fn allocator(&self) -> Global
-        ensures sound { IsSound self.now }
+        ensures sound { IsSoundTable self.now }
     {
         self.alloc
     }
@@ -137,7 +137,7 @@ impl Store {
     /// Fails where a growth was refused.
     pub fn copy(&self) -> Result<Self, AllocError>
         ensures same { IfOk result (λ store. store ≡ self.now) }
-        ensures sound { IsSound self.now }
+        ensures sound { IsSoundTable self.now }
     {
         let cells = self.cells.clone()?;
         Ok(Store {
@@ -150,7 +150,7 @@ impl Store {
     /// The cell of a node, its nodes being earlier ones.
     pub(crate) fn cell(&self, node: Node) -> View
         requires held { IsNode self.now node }
-        ensures sound { IsSound self.now }
+        ensures sound { IsSoundTable self.now }
         ensures part { IsPart self.now node result }
     {
         self.cells.as_slice()[node.place]

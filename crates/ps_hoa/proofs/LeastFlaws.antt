@@ -3,7 +3,7 @@ use Rattle.std.proofs.Common.{◌≡◌, ◌≤◌, true, false, Option, None, S
 use Rattle.std.specs.Option.{option_map}
 use Rattle.ps_text.proofs.Simple.{none_is_some}
 use Rattle.ps_hoa.specs.Causes.{cause_number}
-use Rattle.ps_hoa.specs.Flaws.{IsLeastFlaw, IsSound}
+use Rattle.ps_hoa.specs.Flaws.{IsLeastFlaw, IsSoundHeader}
 use Rattle.ps_hoa.specs.Header.{HeaderData, IsStartTooLarge, IsRangeBroken, IsBadHeader, no_acceptance, start_too_large, no_start, out_of_range, no_controllable}
 use Rattle.ps_hoa.specs.declared.fault.HoaCause.{HoaCause}
 use Rattle.ps_hoa.specs.declared.fault.HoaCause.TheVariants.{MissingAcceptance, Limit, Start, Range, Controllable}
@@ -64,7 +64,7 @@ module _ (h : HeaderData) where
               least _ (out_of_range e) = absurd (within e)
               least _ (no_controllable e) = omega arith
 
-          pub none_is_sound : (h.controllable ≡ None → ⊥) → IsSound h
+          pub none_is_sound : (h.controllable ≡ None → ⊥) → IsSoundHeader h
           none_is_sound controlled _ (no_acceptance e) = some e
           none_is_sound controlled _ (start_too_large e) = small e
           none_is_sound controlled _ (no_start e) = started e

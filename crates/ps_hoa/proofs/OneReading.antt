@@ -12,7 +12,7 @@ use Rattle.ps_text.proofs.Splits.{same_split}
 use Rattle.ps_hoa.specs.Causes.{cause_number, hoa_causes}
 use Rattle.ps_hoa.specs.Files.{FileData}
 use Rattle.ps_hoa.specs.Scan.{fresh, step_of}
-use Rattle.ps_hoa.specs.Texts.{IsBehindBlanks, IsVersion, is_version_byte, at_offset, file, Reads, too_long, not_hoa, other_version, by_tokens}
+use Rattle.ps_hoa.specs.Texts.{IsBehindBlanks, IsVersion, is_version_byte, at_offset, file, ReadsFile, too_long, not_hoa, other_version, by_tokens}
 use Rattle.ps_hoa.specs.Tokens.{Sign, IsBlankPart, IsBlankRun, no_blank, blank, AreTokens, marked}
 use Rattle.ps_hoa.specs.declared.fault.HoaCause.{HoaCause}
 use Rattle.ps_hoa.specs.declared.fault.HoaCause.TheVariants as causes
@@ -107,7 +107,7 @@ place bytes a b m n f g x y t u v w h k i j p q =
     let o = one_version y v w t u (subst (λ z. IsVersion z v t) r.1 p) q in
     (ap length s.0, ap length r.0, o.0, o.1)
 
-pub one_reading : (text : List ℕ) (a b : Answer) → Reads text a → Reads text b → a ≡ b
+pub one_reading : (text : List ℕ) (a b : Answer) → ReadsFile text a → ReadsFile text b → a ≡ b
 one_reading text a b (too_long l) (too_long m) = refl
 one_reading text a b (too_long l) (not_hoa m k n) = absurd (omega (arith, l, m))
 one_reading text a b (too_long l) (other_version m k n v d) = absurd (omega (arith, l, m))

@@ -13,7 +13,7 @@ use Rattle.ps_hoa.specs.Files.{FileData}
 use Rattle.ps_hoa.specs.Scan.{IsNoBlank, step_of, begins_with, fresh}
 use Rattle.ps_hoa.specs.Spans.{AreBlanks}
 use Rattle.ps_hoa.specs.Tokens.{Sign, AreTokens, marked}
-use Rattle.ps_hoa.specs.Texts.{IsBehindBlanks, IsVersion, is_version_byte, Reads, not_hoa, other_version, by_tokens, at_offset, text_limit, file}
+use Rattle.ps_hoa.specs.Texts.{IsBehindBlanks, IsVersion, is_version_byte, ReadsFile, not_hoa, other_version, by_tokens, at_offset, text_limit, file}
 use Rattle.ps_hoa.specs.declared.fault.HoaCause.{HoaCause}
 use Rattle.ps_hoa.specs.declared.fault.HoaCause.TheVariants as causes
 use Rattle.ps_hoa.proofs.Relation.{run_sound, begins_is, whole, no_blank_begins, some_tokens}
@@ -36,10 +36,10 @@ behind text from at b h = record { split = b.split; are_blanks = b.run; all = no
 
 -- `HOA:` is missing
 pub without_hoa : (text : List ℕ) (first : ℕ) → length text ≤ text_limit → AreBlanks text 0 first → IsNoBlank (step_of (drop first text)) →
-    begins_with (drop first text) (codes "HOA:") ≡ false → Reads text (at_offset causes.NotHoa first)
+    begins_with (drop first text) (codes "HOA:") ≡ false → ReadsFile text (at_offset causes.NotHoa first)
 without_hoa text first short b h none =
     let e : length b.blanks ≡ first = let end = b.end in omega arith in
-    subst (λ (k : ℕ). Reads text (at_offset causes.NotHoa k)) e (not_hoa short (behind text 0 first b h) (word_missing (drop first text) (codes "HOA:") none))
+    subst (λ (k : ℕ). ReadsFile text (at_offset causes.NotHoa k)) e (not_hoa short (behind text 0 first b h) (word_missing (drop first text) (codes "HOA:") none))
 
 -- `HOA:` stands
 pub record Opens (text : List ℕ) (first second : ℕ) : Type 0 where
@@ -69,8 +69,8 @@ module _ (text : List ℕ) (first second : ℕ) (o : Opens text first second) wh
   version_is = let r = run_sound is_version_byte (drop second text) in
       record { split = whole (prefix_len is_version_byte (drop second text)) (drop second text); run = r.0; longest = r.1 }
 
-  pub with_other_version : bytes_eq (take (prefix_len is_version_byte (drop second text)) (drop second text)) (codes "v1") ≡ false → Reads text (at_offset causes.Version second)
-  with_other_version h = subst (λ (k : ℕ). Reads text (at_offset causes.Version k)) place
+  pub with_other_version : bytes_eq (take (prefix_len is_version_byte (drop second text)) (drop second text)) (codes "v1") ≡ false → ReadsFile text (at_offset causes.Version second)
+  with_other_version h = subst (λ (k : ℕ). ReadsFile text (at_offset causes.Version k)) place
       (other_version o.short hoa_stands version_stands version_is (λ e. wrong (sym ((bytes_eq-Decides _ (codes "v1")).1 e) ∙ h)))
     where
       wrong : true ≡ false → ⊥
@@ -79,7 +79,7 @@ module _ (text : List ℕ) (first second : ℕ) (o : Opens text first second) wh
   pub with_version : (stream : Stream Sign) (stop : ℕ) → stop ≡ second + prefix_len is_version_byte (drop second text) →
       bytes_eq (take (prefix_len is_version_byte (drop second text)) (drop second text)) (codes "v1") ≡ true →
       ((pieces : List (Piece Sign)) → AreTokens stop (drop stop text) pieces → stream.pieces ≡ marked fresh pieces) → stream.end ≡ length text →
-      (answer : Result FileData (Found HoaCause)) → PartAnswers hoa_causes file stream answer → Reads text answer
+      (answer : Result FileData (Found HoaCause)) → PartAnswers hoa_causes file stream answer → ReadsFile text answer
   with_version stream stop is same pieces_are end_is answer a =
       let k = prefix_len is_version_byte (drop second text) in
       let v1 : take k (drop second text) ≡ codes "v1" = (bytes_eq-Decides (take k (drop second text)) (codes "v1")).0 same in

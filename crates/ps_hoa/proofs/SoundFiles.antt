@@ -12,8 +12,8 @@ use Rattle.ps_hoa.specs.Conditions.{Condition, Conditions}
 use Rattle.ps_hoa.specs.Conditions as conditions
 use Rattle.ps_hoa.specs.Files.{GuardData, EdgeData, RowData, FileData, stated, of_state, at_letter, greatest_target, greatest_state, count_of_states}
 use Rattle.ps_hoa.specs.Header.{HeaderData, AcceptanceData, names_of, state_limit, set_limit, IsStartBeyond, IsStartTooLarge, IsConditionBeyond, IsControlBeyond, AnIndexBeyond, NamesSetBeyond, SomeNamesSetBeyond, start_too_large, no_start, out_of_range}
-use Rattle.ps_hoa.specs.Sound.{AreDifferent, IsCondition, AreConditions, AreLabelled, IsLabelOf, IsGuard, AreBelow, IsSoundEdge, IsSoundRow, IsSound}
-use Rattle.ps_hoa.specs.Texts.{file_of, file, Reads, by_tokens}
+use Rattle.ps_hoa.specs.Sound.{AreDifferent, IsCondition, AreConditions, AreLabelled, IsLabelOf, IsGuard, AreBelow, IsSoundEdge, IsSoundRow, IsSoundFile}
+use Rattle.ps_hoa.specs.Texts.{file_of, file, ReadsFile, by_tokens}
 use Rattle.ps_hoa.specs.Tokens.{marked}
 use Rattle.ps_hoa.specs.Scan.{fresh}
 use Rattle.ps_hoa.specs.declared.edges.Labelling.TheVariants.{ByPlace}
@@ -182,7 +182,7 @@ module _ (h : HeaderData) (b : BodyData) (k : Kept h) (n : HasNoFlaw h) (d : IsB
   rows_are : AllByRecursion (IsOf h.states) b.rows
   rows_are = all_map (λ row r. (r.state, all_map (λ e s. s.target) row.edges r.edges)) b.rows d.rows
 
-  pub sound : IsSound whole
+  pub sound : IsSoundFile whole
   sound = record {
     states = count_limit h.states (unwrap_or h.start 0) b.rows k.0 start_is rows_are;
     start = start_below h.states (unwrap_or h.start 0) b.rows start_is;
@@ -198,9 +198,9 @@ module _ (h : HeaderData) (b : BodyData) (k : Kept h) (n : HasNoFlaw h) (d : IsB
     few_edges = d.few;
   }
 
-pub keeps_file : Keeps file IsSound
-keeps_file = keeps_then keeps_header (λ h k. keeps_mapped IsSound (file_of h) (body h) (λ text b i q. sound h b k.0 k.1 (keeps_body h text b i q)))
+pub keeps_file : Keeps file IsSoundFile
+keeps_file = keeps_then keeps_header (λ h k. keeps_mapped IsSoundFile (file_of h) (body h) (λ text b i q. sound h b k.0 k.1 (keeps_body h text b i q)))
 
-pub sound_file : (text : List ℕ) (f : FileData) → Reads text (Ok f) → IsSound f
+pub sound_file : (text : List ℕ) (f : FileData) → ReadsFile text (Ok f) → IsSoundFile f
 sound_file text f (by_tokens pieces short hoa version v1 tokens answer) =
     keeps_file (signs (marked fresh pieces)) f answer.0 (λ front rest t g e c. answer.1 front (t ∷ rest) g e (by_part t refl c))

@@ -12,7 +12,7 @@ use Rattle.ps_label.specs.Expression.{Expression, constant, proposition, alias, 
 use Rattle.ps_text.proofs.Simple.{none_is_some, same_some}
 use Rattle.ps_hoa.specs.Edges.{row_among, row_of}
 use Rattle.ps_hoa.specs.Files.{EdgeData, RowData, FileData, stated}
-use Rattle.ps_hoa.specs.Sound.{IsLabel, AreLabels, AreAliases, IsGuard, IsSoundEdge, IsSoundRow, IsSound}
+use Rattle.ps_hoa.specs.Sound.{IsLabel, AreLabels, AreAliases, IsGuard, IsSoundEdge, IsSoundRow, IsSoundFile}
 
 mutual
   pub label_within : (names count : ℕ) (e : Expression) → count ≤ 64 → IsLabel names count e → IsWithin names e
@@ -44,7 +44,7 @@ all_get P (y ∷ xs) a (suc k) x e = all_get P xs (λ n d l. a (suc n) d (omega 
 pub sound_edge : (file : FileData) (row : RowData) → IsSoundRow file row → (j : ℕ) (edge : EdgeData) → slice_get row.edges j ≡ Some edge → IsSoundEdge file edge
 sound_edge file row r j edge e = all_get (IsSoundEdge file) row.edges r.edges j edge e
 
-module _ (file : FileData) (s : IsSound file) where
+module _ (file : FileData) (s : IsSoundFile file) where
   pub sound_aliases_ordered : AreOrdered file.aliases
   sound_aliases_ordered = aliases_ordered 0 (length file.names) file.aliases s.few_names s.aliases
 

@@ -1,5 +1,5 @@
 -- What the code says of a header where `--BODY--` stands.
---     IsSound h      nothing is wrong with the header
+--     IsSoundHeader h      nothing is wrong with the header
 --     IsLeastFlaw h f      f is wrong with it, and nothing of a smaller number
 use Rattle.std.specs.Prelude.{◌≤◌, Option}
 use Rattle.ps_hoa.specs.Causes.{cause_number}
@@ -7,8 +7,8 @@ use Rattle.ps_hoa.specs.Header.{HeaderData, IsBadHeader, body_value}
 use Rattle.ps_hoa.specs.Tokens.{Sign}
 use Rattle.ps_hoa.specs.declared.fault.HoaCause.{HoaCause}
 
-abbrev pub IsSound : HeaderData → Type 0
-IsSound h = (f : HoaCause) → IsBadHeader h f → ⊥
+abbrev pub IsSoundHeader : HeaderData → Type 0
+IsSoundHeader h = (f : HoaCause) → IsBadHeader h f → ⊥
 
 pub record IsLeastFlaw (h : HeaderData) (f : HoaCause) : Type 0 where
   pub stands : IsBadHeader h f

@@ -1,5 +1,5 @@
 -- What the reading functions say of the parts that they read.
---     Reads view part old result new      the part was read from old, and new is left, or its first fault was found
+--     ReadsAs view part old result new      the part was read from old, and new is left, or its first fault was found
 --     Takes view take Bad piece result      what is answered to one sign, or to the end of the text: it is taken, it is bad, or
 --               it can't stand there
 use Rattle.std.specs.Prelude.{◌≡◌, ◌≤◌, ◌⊎◌, Option, None, Some, Result, Ok, Err}
@@ -13,8 +13,8 @@ use Rattle.ps_hoa.specs.declared.fault.HoaCause.{HoaCause}
 use Rattle.ps_hoa.specs.Causes.{HoaFault}
 use Rattle.ps_text.specs.declared.faults.Fault.TheVariants as faults
 
-abbrev pub Reads : {V X : Type 0} → (X → V) → Part Sign V HoaCause → Reading → Result X HoaFault → Reading → Type 0
-Reads view part old result new = Meets found_of hoa_causes view part (stream_of old) result (stream_of new)
+abbrev pub ReadsAs : {V X : Type 0} → (X → V) → Part Sign V HoaCause → Reading → Result X HoaFault → Reading → Type 0
+ReadsAs view part old result new = Meets found_of hoa_causes view part (stream_of old) result (stream_of new)
 
 -- of what is wrong with the sign, f has the smallest number
 pub record IsWorst (Bad : Sign → HoaCause → Type 0) (sign : Sign) (f : HoaCause) : Type 0 where

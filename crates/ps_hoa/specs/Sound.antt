@@ -1,6 +1,6 @@
 -- What holds of each file that was read: every number is that of a state, a proposition, a set or an earlier alias; the numbers of a
 -- list, names and rows differ; the edges of a state are labelled in one of three ways; and nothing is beyond the limits of texts.
---     IsSound file
+--     IsSoundFile file
 --     IsLabel aliases propositions e      e speaks of that many aliases and propositions alone
 use Rattle.std.specs.Prelude.{◌≡◌, ℕ, ◌+◌, ◌^◌, ◌<◌, ◌≤◌, ◌⊎◌, ◌||◌, false, List, [], ◌∷◌, length, All, sum_by, Option, None, Some, IfSome}
 use Rattle.std.specs.List.{AllByRecursion}
@@ -105,7 +105,7 @@ AreRowsOnce (row ∷ rows) = (has_row row.state rows ≡ false) × AreRowsOnce r
 abbrev pub edges_of : List RowData → ℕ
 edges_of rows = sum_by (λ row. length row.edges) rows
 
-pub record IsSound (file : FileData) : Type 0 where
+pub record IsSoundFile (file : FileData) : Type 0 where
   pub states : file.states ≤ state_limit
   pub start : file.start < file.states
   pub few_names : length file.names ≤ proposition_limit

@@ -1,9 +1,9 @@
 -- What the reader of HOA texts answers.
 --     file      header and body, as one part
 --     IsBehindBlanks bytes blanks rest      rest is what stands behind all blanks and comments
---     Reads bytes answer      the meaning of a text without a cause, and else its first cause. The stages go one behind the other:
+--     ReadsFile bytes answer      the meaning of a text without a cause, and else its first cause. The stages go one behind the other:
 --               the length, `HOA:`, the version, and what is behind it by its tokens
---     Answers view bytes result      what the reader answers
+--     IsFileAnswer view bytes result      what the reader answers
 use Rattle.std.specs.Prelude.{◌≡◌, ◌≢◌, ℕ, ◌+◌, ◌<◌, ◌≤◌, ◌||◌, Bool, true, List, [], ◌++◌, length, codes, nat_eq, None, Some, Result, Ok, Err}
 use Rattle.std.specs.Option.{unwrap_or}
 use Rattle.ps_text.specs.Answers.{Piece, Found}
@@ -64,29 +64,29 @@ pub record IsVersion (bytes version rest : List ℕ) : Type 0 where
 abbrev pub at_offset : HoaCause → ℕ → Result FileData (Found HoaCause)
 at_offset cause offset = Err (record { cause = cause; offset = offset })
 
-pub data Reads (bytes : List ℕ) : Result FileData (Found HoaCause) → Type 0 where
-  too_long : text_limit < length bytes → Reads bytes (at_offset causes.Limit text_limit)
+pub data ReadsFile (bytes : List ℕ) : Result FileData (Found HoaCause) → Type 0 where
+  too_long : text_limit < length bytes → ReadsFile bytes (at_offset causes.Limit text_limit)
   not_hoa : {blanks rest : List ℕ} → length bytes ≤ text_limit → IsBehindBlanks bytes blanks rest →
-      ((more : List ℕ) → rest ≡ codes "HOA:" ++ more → ⊥) → Reads bytes (at_offset causes.NotHoa (length blanks))
+      ((more : List ℕ) → rest ≡ codes "HOA:" ++ more → ⊥) → ReadsFile bytes (at_offset causes.NotHoa (length blanks))
   other_version : {blanks further rest version more tail : List ℕ} → length bytes ≤ text_limit → IsBehindBlanks bytes blanks (codes "HOA:" ++ more) →
       IsBehindBlanks more further rest → IsVersion rest version tail → version ≢ codes "v1" →
-      Reads bytes (at_offset causes.Version (length blanks + 4 + length further))
+      ReadsFile bytes (at_offset causes.Version (length blanks + 4 + length further))
   by_tokens : {blanks further rest more tail : List ℕ} → (pieces : List (Piece Sign)) → {answer : Result FileData (Found HoaCause)} →
       length bytes ≤ text_limit → IsBehindBlanks bytes blanks (codes "HOA:" ++ more) → IsBehindBlanks more further rest → IsVersion rest (codes "v1") tail →
       AreTokens (length blanks + 4 + length further + 2) tail pieces →
-      PartAnswers hoa_causes file (record { pieces = marked fresh pieces; end = length bytes }) answer → Reads bytes answer
+      PartAnswers hoa_causes file (record { pieces = marked fresh pieces; end = length bytes }) answer → ReadsFile bytes answer
 
 -- the error is the answer to the text
 abbrev pub IsRefusedAs : List ℕ → HoaFault → Type 0
-IsRefusedAs bytes (faults.Text cause offset) = Reads bytes (at_offset cause offset)
+IsRefusedAs bytes (faults.Text cause offset) = ReadsFile bytes (at_offset cause offset)
 IsRefusedAs bytes faults.OutOfMemory = ⊥
 
 -- the same, and nothing where memory ran out
 abbrev pub IsFaultOf : List ℕ → HoaFault → Type 0
-IsFaultOf bytes (faults.Text cause offset) = Reads bytes (at_offset cause offset)
+IsFaultOf bytes (faults.Text cause offset) = ReadsFile bytes (at_offset cause offset)
 IsFaultOf bytes faults.OutOfMemory = Unit {0}
 
 -- what the reader answers, whose value means what view says
-abbrev pub Answers : {X : Type 0} → (X → FileData) → List ℕ → Result X HoaFault → Type 0
-Answers view bytes (Ok x) = Reads bytes (Ok (view x))
-Answers view bytes (Err fault) = IsFaultOf bytes fault
+abbrev pub IsFileAnswer : {X : Type 0} → (X → FileData) → List ℕ → Result X HoaFault → Type 0
+IsFileAnswer view bytes (Ok x) = ReadsFile bytes (Ok (view x))
+IsFileAnswer view bytes (Err fault) = IsFaultOf bytes fault

@@ -8,7 +8,7 @@ ghost use Rattle.ps_hoa.specs.Body.{sets_of};
 ghost use Rattle.ps_hoa.specs.Files as files;
 ghost use Rattle.ps_hoa.specs.Header.{names_of, state_limit};
 ghost use Rattle.ps_hoa.specs.Rows.{body_data};
-ghost use Rattle.ps_hoa.specs.Sound.{IsSound};
+ghost use Rattle.ps_hoa.specs.Sound.{IsSoundFile};
 ghost use Rattle.ps_hoa.specs.Texts.{file_of};
 ghost use Rattle.ps_hoa.specs.Views.{edge_data, header_data, row_data};
 
@@ -24,7 +24,7 @@ use std::alloc::{AllocError, Global};
 
 /// The file of a header and a body.
 pub(crate) fn file(alloc: Global, header: Header, rows: Rows) -> Result<HoaFile, HoaFault>
-    requires { IsSound (file_of (header_data header) (body_data rows)) }
+    requires { IsSoundFile (file_of (header_data header) (body_data rows)) }
     ensures value { IfOk result (λ file. file ≡ file_of (header_data header.entry) (body_data rows)) }
     ensures memory { IfErr result (λ fault. fault ≡ faults.OutOfMemory) }
 {

@@ -8,7 +8,7 @@ ghost use Rattle.ps_hoa.specs.Body as parts;
 ghost use Rattle.ps_hoa.specs.Body.{BadIn, edge_limit, has_row, IsBadClose, IsBadNext, IsBadRow, IsWrongCount, is_end, last_row, no_rows, state_value, with_row};
 ghost use Rattle.ps_hoa.specs.Header.{HeaderData, int_in, names_of, name_value};
 ghost use Rattle.ps_hoa.specs.Operands.{mark_in};
-ghost use Rattle.ps_hoa.specs.Reads.{Reads, Takes};
+ghost use Rattle.ps_hoa.specs.Reads.{ReadsAs, Takes};
 ghost use Rattle.ps_hoa.specs.Rows.{body_data, IsEndWrong};
 ghost use Rattle.ps_hoa.specs.Scan.{next_of, stream_of};
 ghost use Rattle.ps_hoa.specs.Spans.{piece_of};
@@ -27,7 +27,7 @@ use std::alloc::Global;
 
 /// Reads the body: its states, and `--END--`.
 pub(crate) fn body(alloc: Global, tokens: &mut Tokens, header: &Header) -> Result<Rows, HoaFault>
-    ensures { Reads body_data (parts.body (header_data header.now)) tokens.old result tokens.new }
+    ensures { ReadsAs body_data (parts.body (header_data header.now)) tokens.old result tokens.new }
 {
     let rows = states(alloc, tokens, header)?;
     end(tokens, header, &rows)?;
@@ -36,7 +36,7 @@ pub(crate) fn body(alloc: Global, tokens: &mut Tokens, header: &Header) -> Resul
 
 /// Reads states, as many as stand here.
 fn states(alloc: Global, tokens: &mut Tokens, header: &Header) -> Result<Rows, HoaFault>
-    ensures { Reads body_data (many (parts.state (header_data header.now)) no_rows) tokens.old result tokens.new }
+    ensures { ReadsAs body_data (many (parts.state (header_data header.now)) no_rows) tokens.old result tokens.new }
 {
     let mut rows = Rows::new(alloc);
     'more: while is_at_state(tokens) {
@@ -60,7 +60,7 @@ fn state(
     header: &Header,
     rows: &mut Rows,
 ) -> Result<(), HoaFault>
-    ensures { Reads (λ _. body_data rows.new) (parts.state (header_data header.now) (body_data rows.old)) tokens.old result tokens.new }
+    ensures { ReadsAs (λ _. body_data rows.new) (parts.state (header_data header.now) (body_data rows.old)) tokens.old result tokens.new }
 {
     let row = row(alloc, tokens, header, rows)?;
     rows.push(row)?;
@@ -69,7 +69,7 @@ fn state(
 
 /// Reads the row of a state of which no other row is.
 fn row(alloc: Global, tokens: &mut Tokens, header: &Header, rows: &Rows) -> Result<Row, HoaFault>
-    ensures part { Reads (λ row. with_row (body_data rows.now) (row_data row)) (parts.state (header_data header.now) (body_data rows.now)) tokens.old result tokens.new }
+    ensures part { ReadsAs (λ row. with_row (body_data rows.now) (row_data row)) (parts.state (header_data header.now) (body_data rows.now)) tokens.old result tokens.new }
     ensures new { IfOk result (λ row. has_row row.state (body_data rows.now).rows ≡ false) }
     ensures within { IfOk result (λ row. (body_data rows.now).edges + length row.edges.items ≤ edge_limit) }
 {
@@ -91,7 +91,7 @@ fn row(alloc: Global, tokens: &mut Tokens, header: &Header, rows: &Rows) -> Resu
 
 /// Reads `State:` behind the edges of the last row.
 fn begin(tokens: &mut Tokens, header: &Header, rows: &Rows) -> Result<(), HoaFault>
-    ensures { Reads (λ u. u) (parts.state_begins (header_data header.now) (body_data rows.now)) tokens.old result tokens.new }
+    ensures { ReadsAs (λ u. u) (parts.state_begins (header_data header.now) (body_data rows.now)) tokens.old result tokens.new }
 {
     let token = tokens.advance();
     begin_of(token, header, rows)
@@ -112,7 +112,7 @@ fn begin_of(token: Token, header: &Header, rows: &Rows) -> Result<(), HoaFault>
 
 /// Reads `--END--` behind the edges of the last row.
 fn end(tokens: &mut Tokens, header: &Header, rows: &Rows) -> Result<(), HoaFault>
-    ensures { Reads (λ _. body_data rows.now) (parts.ended (header_data header.now) (body_data rows.now)) tokens.old result tokens.new }
+    ensures { ReadsAs (λ _. body_data rows.now) (parts.ended (header_data header.now) (body_data rows.now)) tokens.old result tokens.new }
 {
     let token = tokens.advance();
     end_of(token, header, rows)
@@ -160,7 +160,7 @@ fn state_label(
     tokens: &mut Tokens,
     header: &Header,
 ) -> Result<Option<Label>, HoaFault>
-    ensures { Reads (λ label. option_map expression label) (parts.state_label (header_data header.now)) tokens.old result tokens.new }
+    ensures { ReadsAs (λ label. option_map expression label) (parts.state_label (header_data header.now)) tokens.old result tokens.new }
 {
     if !tokens.is_at(Kind::LeftBracket) {
         return Ok(None);
@@ -172,7 +172,7 @@ fn state_label(
 
 /// Reads the number of a state of which no row is.
 fn state_number(tokens: &mut Tokens, header: &Header, rows: &Rows) -> Result<u32, HoaFault>
-    ensures part { Reads (λ n. n) (parts.state_number (header_data header.now) (body_data rows.now)) tokens.old result tokens.new }
+    ensures part { ReadsAs (λ n. n) (parts.state_number (header_data header.now) (body_data rows.now)) tokens.old result tokens.new }
     ensures new { IfOk result (λ n. has_row n (body_data rows.now).rows ≡ false) }
 {
     let token = tokens.advance();

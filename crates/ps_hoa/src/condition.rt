@@ -4,7 +4,7 @@ ghost use Rattle.std.specs.Prelude.{◌≡◌, map};
 ghost use Rattle.ps_text.specs.Parts.{one};
 ghost use Rattle.ps_hoa.specs.Conditions as conditions;
 ghost use Rattle.ps_hoa.specs.Operands.{between, nesting_limit, rows};
-ghost use Rattle.ps_hoa.specs.Reads.{Reads, Takes};
+ghost use Rattle.ps_hoa.specs.Reads.{ReadsAs, Takes};
 ghost use Rattle.ps_hoa.specs.Spans.{piece_of};
 ghost use Rattle.ps_hoa.specs.Values.{condition_of, set_data};
 
@@ -44,7 +44,7 @@ struct Set {
 
 /// Reads an acceptance condition.
 pub(crate) fn condition(alloc: Global, tokens: &mut Tokens) -> Result<Cond, HoaFault>
-    ensures { Reads condition_of (conditions.condition nesting_limit) tokens.old result tokens.new }
+    ensures { ReadsAs condition_of (conditions.condition nesting_limit) tokens.old result tokens.new }
 {
     row(alloc, tokens, NESTING_LIMIT, Connective::Or)
 }
@@ -57,7 +57,7 @@ fn row(
     room: usize,
     connective: Connective,
 ) -> Result<Cond, HoaFault>
-    ensures { Reads condition_of (rows conditions.together connective (conditions.operand room)) tokens.old result tokens.new }
+    ensures { ReadsAs condition_of (rows conditions.together connective (conditions.operand room)) tokens.old result tokens.new }
 {
     let first = part(alloc, tokens, room, connective)?;
     if !is_at(tokens, connective) {
@@ -80,7 +80,7 @@ fn part(
     room: usize,
     connective: Connective,
 ) -> Result<Cond, HoaFault>
-    ensures { Reads condition_of (between conditions.together connective (conditions.operand room)) tokens.old result tokens.new }
+    ensures { ReadsAs condition_of (between conditions.together connective (conditions.operand room)) tokens.old result tokens.new }
 {
     match connective {
         Connective::And => operand(alloc, tokens, room),
@@ -101,7 +101,7 @@ fn together(connective: Connective, operands: Vec<Cond>) -> Cond
 /// Reads an operand.
 #[cycle(condition)]
 fn operand(alloc: Global, tokens: &mut Tokens, room: usize) -> Result<Cond, HoaFault>
-    ensures { Reads condition_of (conditions.operand room) tokens.old result tokens.new }
+    ensures { ReadsAs condition_of (conditions.operand room) tokens.old result tokens.new }
 {
     if room > 0 && tokens.is_at(Kind::LeftParen) {
         tokens.advance();
@@ -114,7 +114,7 @@ fn operand(alloc: Global, tokens: &mut Tokens, room: usize) -> Result<Cond, HoaF
 
 /// Reads an operand that is not in parentheses.
 fn atom(tokens: &mut Tokens, room: usize) -> Result<Cond, HoaFault>
-    ensures { Reads condition_of (conditions.atom room) tokens.old result tokens.new }
+    ensures { ReadsAs condition_of (conditions.atom room) tokens.old result tokens.new }
 {
     let Some(often) = often_of(tokens.peek()) else {
         return constant(tokens, room);
@@ -150,7 +150,7 @@ fn often_of(token: Token) -> Option<bool>
 
 /// Reads `t` or `f`.
 fn constant(tokens: &mut Tokens, room: usize) -> Result<Cond, HoaFault>
-    ensures { Reads condition_of (one conditions.constant_in (conditions.BadStart room)) tokens.old result tokens.new }
+    ensures { ReadsAs condition_of (one conditions.constant_in (conditions.BadStart room)) tokens.old result tokens.new }
 {
     let token = tokens.advance();
     constant_of(token, room)
@@ -170,7 +170,7 @@ fn constant_of(token: Token, room: usize) -> Result<Cond, HoaFault>
 
 /// Reads a set, or the complement of one.
 fn any_set(tokens: &mut Tokens) -> Result<Set, HoaFault>
-    ensures { Reads set_data conditions.any_set tokens.old result tokens.new }
+    ensures { ReadsAs set_data conditions.any_set tokens.old result tokens.new }
 {
     if tokens.is_at(Kind::Not) {
         tokens.advance();
@@ -181,7 +181,7 @@ fn any_set(tokens: &mut Tokens) -> Result<Set, HoaFault>
 
 /// Reads the number of a set.
 fn one_set(tokens: &mut Tokens, complemented: bool) -> Result<Set, HoaFault>
-    ensures { Reads set_data (conditions.set complemented) tokens.old result tokens.new }
+    ensures { ReadsAs set_data (conditions.set complemented) tokens.old result tokens.new }
 {
     let token = tokens.advance();
     set_of(token, complemented)

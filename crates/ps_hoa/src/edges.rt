@@ -6,7 +6,7 @@ ghost use Rattle.ps_hoa.specs.Body as parts;
 ghost use Rattle.ps_hoa.specs.Body.{BadIn, IsBadBracket, IsBadPlainTarget, IsBadSet, IsBadState, edge_limit, is_bracket, MayHaveLabel, MayHaveNoLabel};
 ghost use Rattle.ps_hoa.specs.Files.{once};
 ghost use Rattle.ps_hoa.specs.Header.{int_in};
-ghost use Rattle.ps_hoa.specs.Reads.{Reads, Takes};
+ghost use Rattle.ps_hoa.specs.Reads.{ReadsAs, Takes};
 ghost use Rattle.ps_hoa.specs.Spans.{piece_of};
 ghost use Rattle.ps_hoa.specs.Scan.{next_of, stream_of};
 ghost use Rattle.ps_hoa.specs.Ahead.{begins_edge, StandsAlone};
@@ -70,7 +70,7 @@ pub(crate) fn edges(
     row: &mut Row,
 ) -> Result<(), HoaFault>
     requires { before + length row.old.edges.items ≤ edge_limit }
-    ensures part { Reads (λ _. row_data row.new) (parts.edges (header_data header.now) before (row_data row.old)) tokens.old result tokens.new }
+    ensures part { ReadsAs (λ _. row_data row.new) (parts.edges (header_data header.now) before (row_data row.old)) tokens.old result tokens.new }
     ensures within { IfOk result (λ _. before + length row.new.edges.items ≤ edge_limit) }
     ensures same { row.new.state ≡ row.old.state }
 {
@@ -96,7 +96,7 @@ fn edge(
     row: &mut Row,
 ) -> Result<(), HoaFault>
     requires { before + length row.old.edges.items ≤ edge_limit }
-    ensures part { Reads (λ _. row_data row.new) (parts.edge (header_data header.now) before (row_data row.old)) tokens.old result tokens.new }
+    ensures part { ReadsAs (λ _. row_data row.new) (parts.edge (header_data header.now) before (row_data row.old)) tokens.old result tokens.new }
     ensures within { IfOk result (λ _. before + length row.new.edges.items ≤ edge_limit) }
     ensures same { row.new.state ≡ row.old.state }
 {
@@ -116,7 +116,7 @@ fn labelled_edge(
     row: &mut Row,
 ) -> Result<(), HoaFault>
     requires { before + length row.old.edges.items ≤ edge_limit }
-    ensures part { Reads (λ _. row_data row.new) (parts.labelled_edge (header_data header.now) before (row_data row.old)) tokens.old result tokens.new }
+    ensures part { ReadsAs (λ _. row_data row.new) (parts.labelled_edge (header_data header.now) before (row_data row.old)) tokens.old result tokens.new }
     ensures within { IfOk result (λ _. before + length row.new.edges.items ≤ edge_limit) }
     ensures same { row.new.state ≡ row.old.state }
 {
@@ -141,7 +141,7 @@ fn plain_edge(
     row: &mut Row,
 ) -> Result<(), HoaFault>
     requires { before + length row.old.edges.items ≤ edge_limit }
-    ensures part { Reads (λ _. row_data row.new) (parts.plain_edge (header_data header.now) before (row_data row.old)) tokens.old result tokens.new }
+    ensures part { ReadsAs (λ _. row_data row.new) (parts.plain_edge (header_data header.now) before (row_data row.old)) tokens.old result tokens.new }
     ensures within { IfOk result (λ _. before + length row.new.edges.items ≤ edge_limit) }
     ensures same { row.new.state ≡ row.old.state }
 {
@@ -169,7 +169,7 @@ fn plain_guard(row: &Row) -> Guard
 /// Reads the `[` of an edge.
 fn bracket(tokens: &mut Tokens, before: usize, row: &Row) -> Result<(), HoaFault>
     requires { before ≤ edge_limit }
-    ensures part { Reads (λ u. u) (one is_bracket (IsBadBracket before (row_data row.now))) tokens.old result tokens.new }
+    ensures part { ReadsAs (λ u. u) (one is_bracket (IsBadBracket before (row_data row.now))) tokens.old result tokens.new }
     ensures room { IfOk result (λ _. before + length row.now.edges.items < edge_limit) }
 {
     let token = tokens.advance();
@@ -199,7 +199,7 @@ pub(crate) fn label_in_brackets(
     tokens: &mut Tokens,
     header: &Header,
 ) -> Result<Label, HoaFault>
-    ensures { Reads (λ label. Some (expression label)) (parts.label_in_brackets (header_data header.now)) tokens.old result tokens.new }
+    ensures { ReadsAs (λ label. Some (expression label)) (parts.label_in_brackets (header_data header.now)) tokens.old result tokens.new }
 {
     let scope = header.scope();
     let label = label(alloc, tokens, &scope)?;
@@ -209,7 +209,7 @@ pub(crate) fn label_in_brackets(
 
 /// Reads the target of an edge with a label.
 fn labelled_target(tokens: &mut Tokens, header: &Header) -> Result<u32, HoaFault>
-    ensures { Reads (λ n. n) (parts.labelled_target (header_data header.now)) tokens.old result tokens.new }
+    ensures { ReadsAs (λ n. n) (parts.labelled_target (header_data header.now)) tokens.old result tokens.new }
 {
     let token = tokens.advance();
     let target = state_of(token, header.states)?;
@@ -225,7 +225,7 @@ fn plain_target(
     row: &Row,
 ) -> Result<u32, HoaFault>
     requires { before ≤ edge_limit }
-    ensures part { Reads (λ n. n) (parts.plain_target (header_data header.now) before (row_data row.now)) tokens.old result tokens.new }
+    ensures part { ReadsAs (λ n. n) (parts.plain_target (header_data header.now) before (row_data row.now)) tokens.old result tokens.new }
     ensures room { IfOk result (λ _. before + length row.now.edges.items < edge_limit) }
 {
     let token = tokens.advance();
@@ -292,7 +292,7 @@ pub(crate) fn marks(
     tokens: &mut Tokens,
     header: &Header,
 ) -> Result<SmallVec<u32, 4>, HoaFault>
-    ensures { Reads (λ marks. marks.items) (parts.marks (header_data header.now)) tokens.old result tokens.new }
+    ensures { ReadsAs (λ marks. marks.items) (parts.marks (header_data header.now)) tokens.old result tokens.new }
 {
     if tokens.is_at(Kind::LeftBrace) {
         let count = header.sets();
@@ -304,7 +304,7 @@ pub(crate) fn marks(
 
 /// Reads sets between braces, of which there are so many.
 fn sets(alloc: Global, tokens: &mut Tokens, count: u32) -> Result<SmallVec<u32, 4>, HoaFault>
-    ensures { Reads (λ marks. marks.items) (parts.sets count) tokens.old result tokens.new }
+    ensures { ReadsAs (λ marks. marks.items) (parts.sets count) tokens.old result tokens.new }
 {
     mark(tokens, Kind::LeftBrace)?;
     let marks = set_numbers(alloc, tokens, count)?;
@@ -314,7 +314,7 @@ fn sets(alloc: Global, tokens: &mut Tokens, count: u32) -> Result<SmallVec<u32, 
 
 /// Reads sets, of which there are so many, as far as numbers stand here.
 fn set_numbers(alloc: Global, tokens: &mut Tokens, count: u32) -> Result<SmallVec<u32, 4>, HoaFault>
-    ensures { Reads (λ marks. marks.items) (many (parts.set_number count) []) tokens.old result tokens.new }
+    ensures { ReadsAs (λ marks. marks.items) (many (parts.set_number count) []) tokens.old result tokens.new }
 {
     let mut marks = SmallVec::new(alloc);
     'more: while tokens.is_at(Kind::Int) {

@@ -5,7 +5,7 @@ ghost use Rattle.ps_label.specs.Truth.{expressions};
 ghost use Rattle.ps_hoa.specs.Edges.{row_of};
 ghost use Rattle.ps_hoa.specs.Values.{condition_of};
 ghost use Rattle.ps_hoa.specs.Memory.{bytes_of};
-ghost use Rattle.ps_hoa.specs.Sound.{IsSound};
+ghost use Rattle.ps_hoa.specs.Sound.{IsSoundFile};
 ghost use Rattle.ps_hoa.specs.Views.{row_data};
 
 use crate::condition::Cond;
@@ -73,18 +73,18 @@ impl Model for HoaFile {
     ghost coded = { file_code };
 
     ghost use Rattle.ps_hoa.specs.FileViews.{file_data};
-    ghost use Rattle.ps_hoa.specs.Sound.{IsSound};
+    ghost use Rattle.ps_hoa.specs.Sound.{IsSoundFile};
 
     ghost view = { file_data };
 
-    ghost invariant = { λ f. IsSound (file_data f) };
+    ghost invariant = { λ f. IsSoundFile (file_data f) };
 }
 
 impl HoaFile {
     /// The number of states.
     pub fn states(&self) -> u32
         ensures value { result ≡ self.now.states }
-        ensures well_formed { IsSound self.now }
+        ensures well_formed { IsSoundFile self.now }
     {
         self.states
     }
@@ -92,7 +92,7 @@ impl HoaFile {
     /// The start state.
     pub fn start(&self) -> u32
         ensures value { result ≡ self.now.start }
-        ensures well_formed { IsSound self.now }
+        ensures well_formed { IsSoundFile self.now }
     {
         self.start
     }
@@ -100,7 +100,7 @@ impl HoaFile {
     /// The names of the propositions.
     pub fn names(&self) -> &[Vec<u8>]
         ensures value { map bytes_of result.now ≡ self.now.names }
-        ensures well_formed { IsSound self.now }
+        ensures well_formed { IsSoundFile self.now }
     {
         self.names.as_slice()
     }
@@ -108,7 +108,7 @@ impl HoaFile {
     /// The propositions that are controllable, each once, in the order in which the text first names them.
     pub fn controllable(&self) -> &[u32]
         ensures value { result.now ≡ self.now.controllable }
-        ensures well_formed { IsSound self.now }
+        ensures well_formed { IsSoundFile self.now }
     {
         self.controllable.as_slice()
     }
@@ -116,7 +116,7 @@ impl HoaFile {
     /// The aliases, in the order of their definitions.
     pub fn aliases(&self) -> &Labels
         ensures value { expressions result.now ≡ self.now.aliases }
-        ensures well_formed { IsSound self.now }
+        ensures well_formed { IsSoundFile self.now }
     {
         &self.aliases
     }
@@ -124,7 +124,7 @@ impl HoaFile {
     /// The number of acceptance sets.
     pub fn sets(&self) -> u32
         ensures value { result ≡ self.now.sets }
-        ensures well_formed { IsSound self.now }
+        ensures well_formed { IsSoundFile self.now }
     {
         self.sets
     }
@@ -132,7 +132,7 @@ impl HoaFile {
     /// When a run is accepted.
     pub fn condition(&self) -> &Cond
         ensures value { condition_of result.now ≡ self.now.condition }
-        ensures well_formed { IsSound self.now }
+        ensures well_formed { IsSoundFile self.now }
     {
         &self.condition
     }
@@ -140,7 +140,7 @@ impl HoaFile {
     /// The rows of the states that have one, in the order of the text.
     pub fn rows(&self) -> &[Row]
         ensures value { map row_data result.now ≡ self.now.rows }
-        ensures well_formed { IsSound self.now }
+        ensures well_formed { IsSoundFile self.now }
     {
         self.rows.as_slice()
     }
@@ -148,7 +148,7 @@ impl HoaFile {
     /// The row of a state, if it has one.
     pub fn row(&self, state: u32) -> Option<&Row>
         ensures value { option_map row_data (option_copied result) ≡ row_of self.now state }
-        ensures well_formed { IsSound self.now }
+        ensures well_formed { IsSoundFile self.now }
     {
         self.rows.of_state(state)
     }

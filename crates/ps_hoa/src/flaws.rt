@@ -4,7 +4,7 @@ ghost use Rattle.std.specs.Prelude.{◌≡◌, ◌↔◌, true, MatchOption, opt
 ghost use Rattle.ps_label.specs.Expression.{expression};
 ghost use Rattle.ps_label.specs.Truth.{expressions};
 ghost use Rattle.ps_hoa.specs.Header as parts;
-ghost use Rattle.ps_hoa.specs.Flaws.{IsLeastFlaw, IsSound};
+ghost use Rattle.ps_hoa.specs.Flaws.{IsLeastFlaw, IsSoundHeader};
 ghost use Rattle.ps_hoa.specs.Values.{condition_of};
 ghost use Rattle.ps_hoa.specs.Views.{header_data, acceptance_data};
 
@@ -19,7 +19,7 @@ const STATE_LIMIT: u32 = 65_535;
 
 /// What is wrong with a header; of several flaws that with the smallest number.
 pub(crate) fn flaw(header: &Header) -> Option<HoaCause>
-    ensures { MatchOption result (IsSound (header_data header.now)) (IsLeastFlaw (header_data header.now)) }
+    ensures { MatchOption result (IsSoundHeader (header_data header.now)) (IsLeastFlaw (header_data header.now)) }
 {
     if header.acceptance.is_none() {
         return Some(HoaCause::MissingAcceptance);

@@ -9,7 +9,7 @@ ghost use Rattle.ps_hoa.specs.Header.{header as header_part, no_items};
 ghost use Rattle.ps_hoa.specs.Items.{item_at as item_at_sign, item_name_of, start_name_in};
 ghost use Rattle.ps_hoa.specs.Labels as labels;
 ghost use Rattle.ps_hoa.specs.Operands.{nesting_limit};
-ghost use Rattle.ps_hoa.specs.Reads.{Reads, Takes};
+ghost use Rattle.ps_hoa.specs.Reads.{ReadsAs, Takes};
 ghost use Rattle.ps_hoa.specs.Spans.{piece_of};
 ghost use Rattle.ps_hoa.specs.Views.{header_data};
 
@@ -53,7 +53,7 @@ enum Item {
 
 /// Reads a header, up to `--BODY--`.
 pub(crate) fn header<'a>(alloc: Global, tokens: &mut Tokens<'a>) -> Result<Header<'a>, HoaFault>
-    ensures { Reads header_data header_part tokens.old result tokens.new }
+    ensures { ReadsAs header_data header_part tokens.old result tokens.new }
 {
     let header = items(alloc, tokens)?;
     body_mark(tokens, &header)?;
@@ -62,7 +62,7 @@ pub(crate) fn header<'a>(alloc: Global, tokens: &mut Tokens<'a>) -> Result<Heade
 
 /// Reads `--BODY--`, where nothing may be wrong with the header.
 fn body_mark(tokens: &mut Tokens, header: &Header) -> Result<(), HoaFault>
-    ensures { Reads (λ _. header_data header.now) (parts.body_mark (header_data header.now)) tokens.old result tokens.new }
+    ensures { ReadsAs (λ _. header_data header.now) (parts.body_mark (header_data header.now)) tokens.old result tokens.new }
 {
     let token = tokens.advance();
     body_mark_of(token, header)
@@ -83,7 +83,7 @@ fn body_mark_of(token: Token, header: &Header) -> Result<(), HoaFault>
 
 /// Reads all items.
 pub(crate) fn items<'a>(alloc: Global, tokens: &mut Tokens<'a>) -> Result<Header<'a>, HoaFault>
-    ensures { Reads header_data (many parts.item no_items) tokens.old result tokens.new }
+    ensures { ReadsAs header_data (many parts.item no_items) tokens.old result tokens.new }
 {
     let mut header = Header::new(alloc);
     'items: while let Some(item) = item_at(tokens.peek()) {
@@ -126,7 +126,7 @@ fn read_item<'a>(
     item: Item,
     header: &mut Header<'a>,
 ) -> Result<(), HoaFault>
-    ensures { Reads (λ _. header_data header.new) (parts.form_of (header_data header.old) (item_name_of item)) tokens.old result tokens.new }
+    ensures { ReadsAs (λ _. header_data header.new) (parts.form_of (header_data header.old) (item_name_of item)) tokens.old result tokens.new }
 {
     match item {
         Item::States => states(tokens, header),
@@ -143,7 +143,7 @@ fn read_item<'a>(
 
 /// Reads the number of states.
 fn states(tokens: &mut Tokens, header: &mut Header) -> Result<(), HoaFault>
-    ensures { Reads (λ _. header_data header.new) (parts.states_item (header_data header.old)) tokens.old result tokens.new }
+    ensures { ReadsAs (λ _. header_data header.new) (parts.states_item (header_data header.old)) tokens.old result tokens.new }
 {
     item_name(tokens, b"States:")?;
     header.states = Some(int(tokens, STATE_LIMIT)?);
@@ -152,7 +152,7 @@ fn states(tokens: &mut Tokens, header: &mut Header) -> Result<(), HoaFault>
 
 /// Reads the start state.
 fn start(tokens: &mut Tokens, header: &mut Header) -> Result<(), HoaFault>
-    ensures { Reads (λ _. header_data header.new) (parts.start_item (header_data header.old)) tokens.old result tokens.new }
+    ensures { ReadsAs (λ _. header_data header.new) (parts.start_item (header_data header.old)) tokens.old result tokens.new }
 {
     start_name(tokens, header)?;
     header.start = Some(start_state(tokens)?);
@@ -161,7 +161,7 @@ fn start(tokens: &mut Tokens, header: &mut Header) -> Result<(), HoaFault>
 
 /// Reads `Start:`, which may stand once.
 fn start_name(tokens: &mut Tokens, header: &Header) -> Result<(), HoaFault>
-    ensures { Reads (λ u. u) (one start_name_in (parts.IsSecondStart (header_data header.now))) tokens.old result tokens.new }
+    ensures { ReadsAs (λ u. u) (one start_name_in (parts.IsSecondStart (header_data header.now))) tokens.old result tokens.new }
 {
     let token = tokens.advance();
     start_name_of(token, header)
@@ -182,7 +182,7 @@ fn start_name_of(token: Token, header: &Header) -> Result<(), HoaFault>
 
 /// Reads the names of the propositions.
 fn names(alloc: Global, tokens: &mut Tokens, header: &mut Header) -> Result<(), HoaFault>
-    ensures { Reads (λ _. header_data header.new) (parts.names_item (header_data header.old)) tokens.old result tokens.new }
+    ensures { ReadsAs (λ _. header_data header.new) (parts.names_item (header_data header.old)) tokens.old result tokens.new }
 {
     item_name(tokens, b"AP:")?;
     let count = int(tokens, PROPOSITION_LIMIT)?;
@@ -196,7 +196,7 @@ fn alias<'a>(
     tokens: &mut Tokens<'a>,
     header: &mut Header<'a>,
 ) -> Result<(), HoaFault>
-    ensures { Reads (λ _. header_data header.new) (parts.alias_item (header_data header.old)) tokens.old result tokens.new }
+    ensures { ReadsAs (λ _. header_data header.new) (parts.alias_item (header_data header.old)) tokens.old result tokens.new }
 {
     item_name(tokens, b"Alias:")?;
     let name = new_alias(tokens, &header.alias_names)?;
@@ -208,7 +208,7 @@ fn alias<'a>(
 
 /// Reads a label in a header, where nothing is known of the propositions.
 fn header_label(alloc: Global, tokens: &mut Tokens, names: &Names) -> Result<Label, HoaFault>
-    ensures { Reads expression (labels.label (record { names = names.now; propositions = None }) nesting_limit) tokens.old result tokens.new }
+    ensures { ReadsAs expression (labels.label (record { names = names.now; propositions = None }) nesting_limit) tokens.old result tokens.new }
 {
     let scope = Scope {
         aliases: names,
@@ -219,7 +219,7 @@ fn header_label(alloc: Global, tokens: &mut Tokens, names: &Names) -> Result<Lab
 
 /// Reads the acceptance condition.
 fn acceptance(alloc: Global, tokens: &mut Tokens, header: &mut Header) -> Result<(), HoaFault>
-    ensures { Reads (λ _. header_data header.new) (parts.acceptance_item (header_data header.old)) tokens.old result tokens.new }
+    ensures { ReadsAs (λ _. header_data header.new) (parts.acceptance_item (header_data header.old)) tokens.old result tokens.new }
 {
     item_name(tokens, b"Acceptance:")?;
     let sets = int(tokens, SET_LIMIT)?;
@@ -230,7 +230,7 @@ fn acceptance(alloc: Global, tokens: &mut Tokens, header: &mut Header) -> Result
 
 /// Reads which propositions are controllable.
 fn controllable(alloc: Global, tokens: &mut Tokens, header: &mut Header) -> Result<(), HoaFault>
-    ensures { Reads (λ _. header_data header.new) (parts.controllable_item (header_data header.old)) tokens.old result tokens.new }
+    ensures { ReadsAs (λ _. header_data header.new) (parts.controllable_item (header_data header.old)) tokens.old result tokens.new }
 {
     item_name(tokens, b"controllable-AP:")?;
     header.controllable = Some(indices(alloc, tokens)?);
@@ -239,7 +239,7 @@ fn controllable(alloc: Global, tokens: &mut Tokens, header: &mut Header) -> Resu
 
 /// Reads numbers, as far as they are wanted.
 fn indices(alloc: Global, tokens: &mut Tokens) -> Result<Indices, HoaFault>
-    ensures { Reads (λ indices. indices) (many parts.index []) tokens.old result tokens.new }
+    ensures { ReadsAs (λ indices. indices) (many parts.index []) tokens.old result tokens.new }
 {
     let mut indices = Indices::new(alloc);
     'indices: while tokens.is_at(Kind::Int) {

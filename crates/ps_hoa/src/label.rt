@@ -5,7 +5,7 @@ ghost use Rattle.ps_label.specs.Expression.{expression};
 ghost use Rattle.ps_label.specs.Truth.{expressions};
 ghost use Rattle.ps_hoa.specs.Labels as labels;
 ghost use Rattle.ps_hoa.specs.Operands.{between, nesting_limit, rows};
-ghost use Rattle.ps_hoa.specs.Reads.{Reads, Takes};
+ghost use Rattle.ps_hoa.specs.Reads.{ReadsAs, Takes};
 ghost use Rattle.ps_hoa.specs.Spans.{piece_of};
 
 use crate::connective::{Connective, is_at};
@@ -23,7 +23,7 @@ pub(crate) const NESTING_LIMIT: usize = 256;
 
 /// Reads a label.
 pub(crate) fn label(alloc: Global, tokens: &mut Tokens, scope: &Scope) -> Result<Label, HoaFault>
-    ensures { Reads expression (labels.label scope.now nesting_limit) tokens.old result tokens.new }
+    ensures { ReadsAs expression (labels.label scope.now nesting_limit) tokens.old result tokens.new }
 {
     row(alloc, tokens, scope, NESTING_LIMIT, Connective::Or)
 }
@@ -37,7 +37,7 @@ fn row(
     room: usize,
     connective: Connective,
 ) -> Result<Label, HoaFault>
-    ensures { Reads expression (rows labels.together connective (labels.operand scope.now room)) tokens.old result tokens.new }
+    ensures { ReadsAs expression (rows labels.together connective (labels.operand scope.now room)) tokens.old result tokens.new }
 {
     let first = part(alloc, tokens, scope, room, connective)?;
     if !is_at(tokens, connective) {
@@ -61,7 +61,7 @@ fn part(
     room: usize,
     connective: Connective,
 ) -> Result<Label, HoaFault>
-    ensures { Reads expression (between labels.together connective (labels.operand scope.now room)) tokens.old result tokens.new }
+    ensures { ReadsAs expression (between labels.together connective (labels.operand scope.now room)) tokens.old result tokens.new }
 {
     match connective {
         Connective::And => operand(alloc, tokens, scope, room),
@@ -87,7 +87,7 @@ fn operand(
     scope: &Scope,
     room: usize,
 ) -> Result<Label, HoaFault>
-    ensures { Reads expression (labels.operand scope.now room) tokens.old result tokens.new }
+    ensures { ReadsAs expression (labels.operand scope.now room) tokens.old result tokens.new }
 {
     if room > 0 && tokens.is_at(Kind::Not) {
         tokens.advance();
@@ -105,7 +105,7 @@ fn operand(
 
 /// Reads an operand of one sign.
 fn leaf(tokens: &mut Tokens, scope: &Scope, room: usize) -> Result<Label, HoaFault>
-    ensures { Reads expression (labels.leaf scope.now room) tokens.old result tokens.new }
+    ensures { ReadsAs expression (labels.leaf scope.now room) tokens.old result tokens.new }
 {
     let token = tokens.advance();
     leaf_of(token, scope, room)

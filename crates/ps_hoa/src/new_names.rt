@@ -5,7 +5,7 @@ ghost use Rattle.ps_text.specs.Parts.{one, times};
 ghost use Rattle.ps_hoa.specs.Header as parts;
 ghost use Rattle.ps_hoa.specs.Items.{alias_name_in};
 ghost use Rattle.ps_hoa.specs.Labels.{alias_number};
-ghost use Rattle.ps_hoa.specs.Reads.{Reads, Takes};
+ghost use Rattle.ps_hoa.specs.Reads.{ReadsAs, Takes};
 ghost use Rattle.ps_hoa.specs.Spans.{piece_of};
 
 use crate::fault::{HoaCause, HoaFault};
@@ -25,7 +25,7 @@ pub(crate) fn propositions(
     tokens: &mut Tokens,
     count: u32,
 ) -> Result<Propositions, HoaFault>
-    ensures { Reads (λ names. names) (times count parts.proposition_name []) tokens.old result tokens.new }
+    ensures { ReadsAs (λ names. names) (times count parts.proposition_name []) tokens.old result tokens.new }
 {
     let mut names = Propositions::new(alloc);
     'names: for _ in 0..count {
@@ -36,7 +36,7 @@ pub(crate) fn propositions(
 
 /// Reads one more name of a proposition.
 fn proposition(alloc: Global, tokens: &mut Tokens, names: &mut Propositions) -> Result<(), HoaFault>
-    ensures { Reads (λ _. names.new) (parts.proposition_name names.old) tokens.old result tokens.new }
+    ensures { ReadsAs (λ _. names.new) (parts.proposition_name names.old) tokens.old result tokens.new }
 {
     let name = new_name(alloc, tokens, names)?;
     names.push(name)?;
@@ -45,7 +45,7 @@ fn proposition(alloc: Global, tokens: &mut Tokens, names: &mut Propositions) -> 
 
 /// Reads a name that no proposition has.
 fn new_name(alloc: Global, tokens: &mut Tokens, names: &Propositions) -> Result<Vec<u8>, HoaFault>
-    ensures part { Reads (λ name. name.items) (one parts.string_in (parts.IsBadName names.now)) tokens.old result tokens.new }
+    ensures part { ReadsAs (λ name. name.items) (one parts.string_in (parts.IsBadName names.now)) tokens.old result tokens.new }
     ensures new { IfOk result (λ name. parts.is_name_among name.items names.now ≡ false) }
 {
     let token = tokens.advance();
@@ -78,7 +78,7 @@ fn has_control(name: &[u8]) -> bool
 
 /// Reads a name that no alias has.
 pub(crate) fn new_alias<'a>(tokens: &mut Tokens<'a>, names: &Names) -> Result<&'a [u8], HoaFault>
-    ensures part { Reads (λ name. name.now) (one alias_name_in (parts.IsBadAlias names.now)) tokens.old result tokens.new }
+    ensures part { ReadsAs (λ name. name.now) (one alias_name_in (parts.IsBadAlias names.now)) tokens.old result tokens.new }
     ensures new { IfOk result (λ name. alias_number names.now name.now ≡ None) }
 {
     let token = tokens.advance();

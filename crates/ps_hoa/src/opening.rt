@@ -7,7 +7,7 @@ ghost use Rattle.ps_text.specs.Parts.{PartAnswers};
 ghost use Rattle.ps_hoa.specs.Causes.{hoa_causes, found_of};
 ghost use Rattle.ps_hoa.specs.Files.{FileData};
 ghost use Rattle.ps_hoa.specs.Scan.{stream_of};
-ghost use Rattle.ps_hoa.specs.Texts.{file, is_version_byte, IsRefusedAs, Reads};
+ghost use Rattle.ps_hoa.specs.Texts.{file, is_version_byte, IsRefusedAs, ReadsFile};
 ghost use Rattle.ps_hoa.specs.declared.fault.HoaCause.{HoaCause};
 
 use crate::fault::{HoaCause, HoaFault};
@@ -36,7 +36,7 @@ fn version_at(bytes: &[u8]) -> usize
 /// the version is not `v1`.
 pub(crate) fn opened(text: &[u8]) -> Result<Tokens<'_>, HoaFault>
     // What the tokens mean, or the first cause in them, is the answer to the text.
-    ensures tokens { IfOk result (λ tokens. (answer : Result FileData (Found HoaCause)) → PartAnswers hoa_causes file (stream_of tokens) answer → Reads text.now answer) }
+    ensures tokens { IfOk result (λ tokens. (answer : Result FileData (Found HoaCause)) → PartAnswers hoa_causes file (stream_of tokens) answer → ReadsFile text.now answer) }
     // A refusal is the first cause of the text.
     ensures refused { IfErr result (IsRefusedAs text.now) }
 {

@@ -2,8 +2,8 @@
 
 ghost use Rattle.std.specs.Prelude.{IfOk};
 ghost use Rattle.ps_hoa.specs.Scan.{next_of, stream_of};
-ghost use Rattle.ps_hoa.specs.Sound.{IsSound};
-ghost use Rattle.ps_hoa.specs.Texts.{Answers};
+ghost use Rattle.ps_hoa.specs.Sound.{IsSoundFile};
+ghost use Rattle.ps_hoa.specs.Texts.{IsFileAnswer};
 ghost use Rattle.ps_hoa.specs.Reader.{EndsHere};
 
 use crate::assembly::file;
@@ -23,8 +23,8 @@ use std::alloc::Global;
 /// Each cause by which a text is refused is an `HoaFault::Text`, with the offset at which it stands: the first one in
 /// the text, and of several at one place the one with the smallest number. `OutOfMemory` where a growth was refused.
 pub fn read(alloc: Global, text: &[u8]) -> Result<HoaFile, HoaFault>
-    ensures answer { Answers (λ file. file) text.now result }
-    ensures sound { IfOk result IsSound }
+    ensures answer { IsFileAnswer (λ file. file) text.now result }
+    ensures sound { IfOk result IsSoundFile }
 {
     let mut tokens = opened(text)?;
     let header = header(alloc, &mut tokens)?;

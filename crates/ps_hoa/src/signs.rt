@@ -4,7 +4,7 @@ ghost use Rattle.std.specs.Prelude.{◌≡◌, ◌≢◌, ◌≤◌, ◌↔◌, 
 ghost use Rattle.ps_text.specs.Parts.{NoBad, barred as barred_by};
 ghost use Rattle.ps_hoa.specs.Header.{int as int_part, int_in, IsAbove, IsAlternating, item_name as item_name_part, name_value, string as string_part, string_in, unescaped as meaning};
 ghost use Rattle.ps_hoa.specs.Operands.{mark as mark_part, mark_in, number_limit};
-ghost use Rattle.ps_hoa.specs.Reads.{Reads, Takes};
+ghost use Rattle.ps_hoa.specs.Reads.{ReadsAs, Takes};
 ghost use Rattle.ps_hoa.specs.Signs.{inside, IsTestOf, name_in};
 ghost use Rattle.ps_hoa.specs.Spans.{piece_of};
 ghost use Rattle.ps_hoa.specs.declared.tokens.Kind.{Kind};
@@ -18,7 +18,7 @@ use std::alloc::{AllocError, Global};
 /// Reads a sign of a kind.
 pub(crate) fn mark(tokens: &mut Tokens, kind: Kind) -> Result<(), HoaFault>
     requires { kind ≢ Kind.Finish }
-    ensures { (test : Kind → Bool) → IsTestOf test kind → Reads (λ u. u) (mark_part test) tokens.old result tokens.new }
+    ensures { (test : Kind → Bool) → IsTestOf test kind → ReadsAs (λ u. u) (mark_part test) tokens.old result tokens.new }
 {
     let token = tokens.advance();
     mark_of(token, kind)
@@ -44,7 +44,7 @@ pub(crate) fn is_kind(token: Token, kind: Kind) -> bool
 
 /// Reads the name of an item.
 pub(crate) fn item_name(tokens: &mut Tokens, name: &[u8]) -> Result<(), HoaFault>
-    ensures { Reads (λ u. u) (item_name_part name.now) tokens.old result tokens.new }
+    ensures { ReadsAs (λ u. u) (item_name_part name.now) tokens.old result tokens.new }
 {
     let token = tokens.advance();
     item_name_of(token, name)
@@ -70,7 +70,7 @@ pub(crate) fn is_item_name(token: Token, name: &[u8]) -> bool
 
 /// Reads a number up to a limit.
 pub(crate) fn int(tokens: &mut Tokens, limit: u32) -> Result<u32, HoaFault>
-    ensures part { Reads (λ n. n) (int_part limit) tokens.old result tokens.new }
+    ensures part { ReadsAs (λ n. n) (int_part limit) tokens.old result tokens.new }
     ensures within { IfOk result (λ n. n ≤ limit) }
 {
     let token = tokens.advance();
@@ -93,7 +93,7 @@ fn int_up_to(token: Token, limit: u32) -> Result<u32, HoaFault>
 
 /// Reads a state in front of which no `&` stands.
 pub(crate) fn start_state(tokens: &mut Tokens) -> Result<u32, HoaFault>
-    ensures { Reads (λ n. n) (barred_by (int_part number_limit) IsAlternating) tokens.old result tokens.new }
+    ensures { ReadsAs (λ n. n) (barred_by (int_part number_limit) IsAlternating) tokens.old result tokens.new }
 {
     let state = int(tokens, u32::MAX)?;
     if tokens.is_at(Kind::And) {
@@ -104,7 +104,7 @@ pub(crate) fn start_state(tokens: &mut Tokens) -> Result<u32, HoaFault>
 
 /// Reads a string between quotes, and gives what stands between them.
 pub(crate) fn quoted<'a>(tokens: &mut Tokens<'a>) -> Result<&'a [u8], HoaFault>
-    ensures { Reads (λ inner. meaning false inner.now) string_part tokens.old result tokens.new }
+    ensures { ReadsAs (λ inner. meaning false inner.now) string_part tokens.old result tokens.new }
 {
     let token = tokens.advance();
     quoted_of(token)

@@ -6,7 +6,7 @@ ghost use Rattle.ps_hoa.specs.Header as parts;
 ghost use Rattle.ps_hoa.specs.Header.{HeaderData};
 ghost use Rattle.ps_hoa.specs.Items.{is_value as is_value_kind, other_in, read_over_in};
 ghost use Rattle.ps_hoa.specs.Operands.{number_limit};
-ghost use Rattle.ps_hoa.specs.Reads.{Reads, Takes};
+ghost use Rattle.ps_hoa.specs.Reads.{ReadsAs, Takes};
 ghost use Rattle.ps_hoa.specs.Spans.{piece_of};
 
 use crate::fault::{HoaCause, HoaFault};
@@ -17,7 +17,7 @@ use crate::tokens::{Kind, Token, Tokens};
 
 /// Reads over the name of a tool, and its version if it stands there.
 pub(crate) fn tool(tokens: &mut Tokens) -> Result<(), HoaFault>
-    ensures { (h : HeaderData) → Reads (λ _. h) (parts.tool_item h) tokens.old result tokens.new }
+    ensures { (h : HeaderData) → ReadsAs (λ _. h) (parts.tool_item h) tokens.old result tokens.new }
 {
     item_name(tokens, b"tool:")?;
     quoted(tokens)?;
@@ -29,7 +29,7 @@ pub(crate) fn tool(tokens: &mut Tokens) -> Result<(), HoaFault>
 
 /// Reads over the name of the automaton.
 pub(crate) fn name(tokens: &mut Tokens) -> Result<(), HoaFault>
-    ensures { (h : HeaderData) → Reads (λ _. h) (parts.name_item h) tokens.old result tokens.new }
+    ensures { (h : HeaderData) → ReadsAs (λ _. h) (parts.name_item h) tokens.old result tokens.new }
 {
     item_name(tokens, b"name:")?;
     quoted(tokens)?;
@@ -38,7 +38,7 @@ pub(crate) fn name(tokens: &mut Tokens) -> Result<(), HoaFault>
 
 /// Reads over an item whose name has no meaning here.
 pub(crate) fn other(tokens: &mut Tokens) -> Result<(), HoaFault>
-    ensures { (h : HeaderData) → Reads (λ _. h) (parts.other_item h) tokens.old result tokens.new }
+    ensures { (h : HeaderData) → ReadsAs (λ _. h) (parts.other_item h) tokens.old result tokens.new }
 {
     other_name(tokens)?;
     'values: while is_value(tokens.peek()) {
@@ -49,7 +49,7 @@ pub(crate) fn other(tokens: &mut Tokens) -> Result<(), HoaFault>
 
 /// Reads a name that has no meaning here.
 fn other_name(tokens: &mut Tokens) -> Result<(), HoaFault>
-    ensures { Reads (λ u. u) (one other_in NoBad) tokens.old result tokens.new }
+    ensures { ReadsAs (λ u. u) (one other_in NoBad) tokens.old result tokens.new }
 {
     let token = tokens.advance();
     other_name_of(token)
@@ -87,7 +87,7 @@ fn is_value(token: Token) -> bool
 
 /// Reads over a number, a string or a word.
 fn read_over(tokens: &mut Tokens) -> Result<(), HoaFault>
-    ensures { (h : HeaderData) → Reads (λ _. h) (parts.read_over h) tokens.old result tokens.new }
+    ensures { (h : HeaderData) → ReadsAs (λ _. h) (parts.read_over h) tokens.old result tokens.new }
 {
     let token = tokens.advance();
     read_over_of(token)

@@ -23,7 +23,7 @@ use Rattle.ps_automaton.specs.Automata.{AutomatonData, node_of, pair_of, step_of
 use Rattle.ps_automaton.specs.declared.step.Step.{Step}
 use Rattle.ps_machine.specs.Boards.{Board, IsFirstLetter, IsSecondLetter, SameSteps, IsClass, IsMove}
 use Rattle.ps_machine.specs.BuiltBoards.{board_of}
-use Rattle.ps_machine.specs.Drawing.{CanEnter, IsAnswer, IsDrawn, IsReply, IsRow, IsRowAt, KeepsRows, LeadsToRow, NamesAnswer}
+use Rattle.ps_machine.specs.Drawing.{CanEnter, IsReplyRow, IsDrawn, IsReply, IsRow, IsRowAt, KeepsRows, LeadsToRow, NamesAnswer}
 use Rattle.ps_machine.specs.Extracting.{IsUsed, GoesTo, StandsFor}
 use Rattle.ps_machine.specs.Solving.{winner}
 use Rattle.ps_machine.specs.Keys.{mover_of}
@@ -145,7 +145,7 @@ module _ (order : Order) (a : AutomatonData) (mask : ℕ) (t : Table) (keys : Li
 
     -- the move that leads to the step is the least letter that does
     answer_by : (letter memory : ℕ) → IsClass (board_of order a) q x → IsMove (board_of order a) q x letter → step_of a q (x + letter) ≡ step →
-        ((v : ℕ) → StandsAt keys v (First step.state step.priority) → StandsFor false keys kept memory v step.state) → IsAnswer (board_of order a) keys kept certificate q x (record { memory = memory; letter = letter })
+        ((v : ℕ) → StandsAt keys v (First step.state step.priority) → StandsFor false keys kept memory v step.state) → IsReplyRow (board_of order a) keys kept certificate q x (record { memory = memory; letter = letter })
     answer_by letter memory class move is stands v =
         let goes : GoesTo keys (board_of order a) q (x + letter) reply.chosen = record { stands = subst (λ (s : Step). StandsAt keys reply.chosen (First s.state s.priority)) (sym is) reply.entered } in
         record {
@@ -171,7 +171,7 @@ module _ (order : Order) (a : AutomatonData) (mask : ℕ) (t : Table) (keys : Li
 
     pub answered : (rest : ℕ) (found : List (ℕ × ℕ)) (letter memory : ℕ) → IsFit order a mask t → IsRest order a mask t q x rest → AreLeaves t rest found → IsClass (board_of order a) q x →
         Any (λ leaf. (pair_of a leaf.0 ≡ step) × (leaf.1 ≡ letter)) found → ((v : ℕ) → StandsAt keys v (First step.state step.priority) → StandsFor false keys kept memory v step.state) →
-        IsAnswer (board_of order a) keys kept certificate q x (record { memory = memory; letter = letter })
+        IsReplyRow (board_of order a) keys kept certificate q x (record { memory = memory; letter = letter })
     answered rest found letter memory f r are class any stands =
         let k = any.0 in
         let leaf = any.1 in
@@ -185,7 +185,7 @@ module _ (order : Order) (a : AutomatonData) (mask : ℕ) (t : Table) (keys : Li
 
 -- ## Rows
 
-pub answer_row : (is_first : Bool) (board : Board) (keys : List Key) (kept : List ℕ) (certificate : CertificateData) (q x : ℕ) (row : Row) → is_first ≡ false → IsAnswer board keys kept certificate q x row → IsRow is_first board kept row
+pub answer_row : (is_first : Bool) (board : Board) (keys : List Key) (kept : List ℕ) (certificate : CertificateData) (q x : ℕ) (row : Row) → is_first ≡ false → IsReplyRow board keys kept certificate q x row → IsRow is_first board kept row
 answer_row is_first board keys kept certificate q x row turn answer =
     let at = answer 0 in
     subst (λ b. IsRow b board kept row) (sym turn) (record { memory = slice_get_within kept row.memory at.next.vertex at.next.is_kept; letter = at.played.least.here.0 })
@@ -203,11 +203,11 @@ module _ (board : Board) (keys : List Key) (kept : List ℕ) (certificate : Cert
 
   -- one more class
   pub named_next : (old new : List Row) (classes : List Class) (i : ℕ) (d : Class) (values more : List ℕ) (value : ℕ) (row : Row) → new ≡ insert_key (row_eq.eq-value).it old row → AllZip (Names old) (take i classes) values → i < length classes → d ≡ get_or classes i d →
-      (r : Row) × (slice_get new value ≡ Some r) × ((row_eq.eq-value).it row r ≡ true) → IsAnswer board keys kept certificate q d.letter row → more ≡ values ++ value ∷ [] → AllZip (Names new) (take (i + 1) classes) more
+      (r : Row) × (slice_get new value ≡ Some r) × ((row_eq.eq-value).it row r ≡ true) → IsReplyRow board keys kept certificate q d.letter row → more ≡ values ++ value ∷ [] → AllZip (Names new) (take (i + 1) classes) more
   named_next old new classes i d values more value row grown zip within is stored answer e =
       let k = keeps_rows (row_eq.eq-value).it old row new grown in
       let at : slice_get new value ≡ Some row = stored.1 ∙ ap (λ r. Some r) (sym (same_row row stored.0 stored.2)) in
-      let here = subst (λ (c : Class). IsAnswer board keys kept certificate q c.letter row) is answer in
+      let here = subst (λ (c : Class). IsReplyRow board keys kept certificate q c.letter row) is answer in
       subst (λ l. AllZip (Names new) (take (i + 1) classes) l) (sym e)
       (subst (λ l. AllZip (Names new) l (values ++ value ∷ [])) (sym (take_more classes i d within))
       (AllZip-push (Names new) (take i classes) values (get_or classes i d) value (still_named old new k (take i classes) values zip) (record { row = row; is_row = at; is_answer = here })))

@@ -5,7 +5,7 @@
 --     AreMemories is_first keys used kept marks      the vertex of each memory, and what is remembered there
 --     IsPlan ..      what the machine is made from
 --     IsDrawn .. v node      the diagram leads each letter of the other player to the row of the memory that is kept at v
---     IsReply .. q x r p, IsAnswer .. q x row      where a player who moves second goes on behind the letter x, and the row of that
+--     IsReply .. q x r p, IsReplyRow .. q x row      where a player who moves second goes on behind the letter x, and the row of that
 use Rattle.std.specs.Prelude.{◌≡◌, ◌≢◌, ℕ, ◌+◌, ◌<◌, ◌≤◌, ◌↔◌, ◌==◌, Bool, true, false, List, [], ◌∷◌, length, Some, ◌++◌, slice_get, slice_index}
 use Rattle.std.specs.List.{All, AllPairs, Contains}
 use Rattle.ps_label.specs.Truth.{is_in}
@@ -146,11 +146,11 @@ pub record IsReply (board : Board) (keys : List Key) (certificate : CertificateD
   pub priority : board.auto.priority q (x + letter) ≡ p
 
 -- at each vertex of the state q the row has what is played where the first player's letter is x
-abbrev pub IsAnswer : Board → List Key → List ℕ → CertificateData → ℕ → ℕ → Row → Type 0
-IsAnswer board keys kept certificate q x row = (v : ℕ) → IsRowAt false board keys kept certificate v q x row
+abbrev pub IsReplyRow : Board → List Key → List ℕ → CertificateData → ℕ → ℕ → Row → Type 0
+IsReplyRow board keys kept certificate q x row = (v : ℕ) → IsRowAt false board keys kept certificate v q x row
 
 -- the number names such a row
 pub record NamesAnswer (board : Board) (keys : List Key) (kept : List ℕ) (certificate : CertificateData) (rows : List Row) (q x value : ℕ) : Type 0 where
   pub row : Row
   pub is_row : slice_get rows value ≡ Some row
-  pub is_answer : IsAnswer board keys kept certificate q x row
+  pub is_answer : IsReplyRow board keys kept certificate q x row

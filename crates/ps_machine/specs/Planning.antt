@@ -10,7 +10,7 @@ use Rattle.ps_machine.specs.Assembling.{AreDrawn}
 use Rattle.ps_machine.specs.Boards.{Board}
 use Rattle.ps_machine.specs.BuiltBoards.{board_of}
 use Rattle.ps_machine.specs.Dividing.{AreDivided}
-use Rattle.ps_machine.specs.Drawing.{CanEnter, IsAnswer, IsDrawn, IsPlan, IsRow, NamesAnswer}
+use Rattle.ps_machine.specs.Drawing.{CanEnter, IsReplyRow, IsDrawn, IsPlan, IsRow, NamesAnswer}
 use Rattle.ps_machine.specs.Moving.{IsFit, IsRest}
 use Rattle.ps_machine.specs.Placing.{IsEntered, IsPlaced}
 use Rattle.ps_machine.specs.declared.drawing.Plan.{Plan}
@@ -58,7 +58,7 @@ abbrev pub AreDrawnBy : Plan → Table → List Row → List ℕ → ℕ → Typ
 AreDrawnBy p = AreDrawn p.moves_first (board_by p) p.keys.now.keys p.memories.now.kept.items p.certificate.now
 
 abbrev pub IsAnswerBy : Plan → ℕ → ℕ → Row → Type 0
-IsAnswerBy p = IsAnswer (board_by p) p.keys.now.keys p.memories.now.kept.items p.certificate.now
+IsAnswerBy p = IsReplyRow (board_by p) p.keys.now.keys p.memories.now.kept.items p.certificate.now
 
 abbrev pub NamesAnswerBy : Plan → List Row → ℕ → ℕ → ℕ → Type 0
 NamesAnswerBy p = NamesAnswer (board_by p) p.keys.now.keys p.memories.now.kept.items p.certificate.now

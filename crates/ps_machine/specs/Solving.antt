@@ -11,7 +11,7 @@ use Rattle.std.specs.Prelude.{◌≡◌, ℕ, ◌<◌, ◌≤◌, List, length, 
 use Rattle.std.specs.List.{All}
 use Rattle.ps_game.specs.Games.{ParityGame, NamedGameData, priority_of, vertex_count}
 use Rattle.ps_certificate.specs.Certificates.{CertificateData, winner_of, choice_of, counts_of, opposing_at, Fits, IsValid}
-use Rattle.ps_certificate.specs.Texts.{Reads}
+use Rattle.ps_certificate.specs.Texts.{ReadsCertificate}
 use Rattle.ps_machine.specs.declared.fault.SolveFault.{SolveFault}
 use Rattle.ps_machine.specs.declared.fault.SolveFault.TheVariants.{BadCycle, Text, OutOfMemory}
 
@@ -54,10 +54,10 @@ NamesVertices game (Err (BadCycle cycle)) = (0 < length cycle.items) × All (λ 
 NamesVertices game (Err (Text cause offset)) = Unit {0}
 
 abbrev pub ReplaysText : NamedGameData → List ℕ → Result CertificateData SolveFault → Type 0
-ReplaysText game text (Ok certificate) = Reads game text (Ok certificate)
+ReplaysText game text (Ok certificate) = ReadsCertificate game text (Ok certificate)
 ReplaysText game text (Err OutOfMemory) = Unit {0}
 ReplaysText game text (Err (BadCycle cycle)) = ⊥
-ReplaysText game text (Err (Text cause offset)) = Reads game text (Err (record { cause = cause; offset = offset }))
+ReplaysText game text (Err (Text cause offset)) = ReadsCertificate game text (Err (record { cause = cause; offset = offset }))
 
 abbrev pub Replays : NamedGameData → Option (List ℕ) → Result CertificateData SolveFault → Type 0
 Replays game None r = ⊥

@@ -14,7 +14,7 @@ use Rattle.ps_pgsolver.specs.Causes.{StandsWithin}
 use Rattle.ps_pgsolver.specs.Signs.{Sign}
 use Rattle.ps_pgsolver.specs.declared.fault.PgCause.{PgCause}
 use Rattle.ps_pgsolver.specs.Nodes.{NodeData, KnowsAll, ids_of}
-use Rattle.ps_pgsolver.specs.Reading.{Answer, Answers, HasTokens, text_limit, too_long, refused, unknown, meaning}
+use Rattle.ps_pgsolver.specs.Reading.{Answer, IsGameAnswer, HasTokens, text_limit, too_long, refused, unknown, meaning}
 use Rattle.ps_pgsolver.specs.Causes.{PgFault}
 use Rattle.ps_text.specs.declared.faults.Fault.TheVariants as faults
 use Rattle.ps_pgsolver.proofs.GameTokens.{tokens_found, only_tokens}
@@ -24,22 +24,22 @@ tokens : (text : List ℕ) → length text ≤ text_limit → HasTokens text (st
 tokens text short = record { short = short; tokens = tokens_found text }
 
 module _ (text : List ℕ) (short : length text ≤ text_limit) where
-  first_fault : (e : PgFault) → FaultAnswers None (stream_of text) (found_of e) → Answers text (Err e)
+  first_fault : (e : PgFault) → FaultAnswers None (stream_of text) (found_of e) → IsGameAnswer text (Err e)
   first_fault faults.OutOfMemory h = tt
   first_fault (faults.Text cause offset) h = refused (stream_of text) (record { cause = cause; offset = offset }) (tokens text short) h refl
 
-  pub first_exit : (e : PgFault) (r : Result NamedGameData PgFault) → FaultAnswers None (stream_of text) (found_of e) → IsErrAnd r (λ y. y ≡ e) → Answers text r
-  first_exit e r h i = let y = err_from_is_err_and r i in subst (Answers text) (sym (y.1 ∙ ap Err y.2)) (first_fault e h)
+  pub first_exit : (e : PgFault) (r : Result NamedGameData PgFault) → FaultAnswers None (stream_of text) (found_of e) → IsErrAnd r (λ y. y ≡ e) → IsGameAnswer text r
+  first_exit e r h i = let y = err_from_is_err_and r i in subst (IsGameAnswer text) (sym (y.1 ∙ ap Err y.2)) (first_fault e h)
 
   module _ (nodes : List NodeData) (first : PartAnswers pg_causes (game None) (stream_of text) (Ok nodes)) where
-    pub unknown_answer : (e : PgFault) → FaultAnswers (Some (ids_of nodes)) (stream_of text) (found_of e) → Answers text (Err e)
+    pub unknown_answer : (e : PgFault) → FaultAnswers (Some (ids_of nodes)) (stream_of text) (found_of e) → IsGameAnswer text (Err e)
     unknown_answer faults.OutOfMemory h = tt
     unknown_answer (faults.Text cause offset) h = unknown (stream_of text) nodes (record { cause = cause; offset = offset }) (tokens text short) first h refl
 
     pub answer : PartAnswers pg_causes (game (Some (ids_of nodes))) (stream_of text) (Ok nodes) →
-        (r : Result NamedGameData PgFault) → IfOk r (λ named. named ≡ named_game_of nodes) → IfErr r (λ fault. fault ≡ faults.OutOfMemory) → Answers text r
+        (r : Result NamedGameData PgFault) → IfOk r (λ named. named ≡ named_game_of nodes) → IfErr r (λ fault. fault ≡ faults.OutOfMemory) → IsGameAnswer text r
     answer second (Ok named) v m = meaning (stream_of text) nodes (tokens text short) first second (ap Ok v)
-    answer second (Err fault) v m = subst (λ f. Answers text (Err f)) (sym m) tt
+    answer second (Err fault) v m = subst (λ f. IsGameAnswer text (Err f)) (sym m) tt
 
 -- a second reading, with the ids known, stops where a successor is no id
 pub none_unknown : (text : List ℕ) (nodes other : List NodeData) → PartAnswers pg_causes (game None) (stream_of text) (Ok nodes) →
@@ -93,7 +93,7 @@ answer_within text found (refused stream f t p e) = subst (λ g. g.offset ≤ le
 answer_within text found (unknown stream nodes f t p q e) = subst (λ g. g.offset ≤ length text) (sym (same_refusal found f e)) (refused_within text stream f (Some (ids_of nodes)) t q)
 answer_within text found (meaning stream nodes t p q e) = absurd (let x : refuses found ≡ Ok (named_game_of nodes) = e in cc)
 
-pub within_text : (text : List ℕ) (r : Result NamedGameData PgFault) → Answers text r → IfErr r (StandsWithin (length text))
+pub within_text : (text : List ℕ) (r : Result NamedGameData PgFault) → IsGameAnswer text r → IfErr r (StandsWithin (length text))
 within_text text (Ok named) h = tt
 within_text text (Err faults.OutOfMemory) h = tt
 within_text text (Err (faults.Text cause offset)) h = answer_within text (record { cause = cause; offset = offset }) h

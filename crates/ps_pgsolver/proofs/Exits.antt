@@ -11,7 +11,7 @@ use Rattle.ps_text.proofs.Laws.{Joint, Laws, Apart}
 use Rattle.ps_text.proofs.Covered.{Enters, Avoids}
 use Rattle.ps_text.proofs.Meeting.{many_then, many_fails, many_ends}
 use Rattle.ps_text.proofs.Meeting.{then_meets, then_fails, exits, meets_mapped}
-use Rattle.ps_pgsolver.specs.Answered.{Reads, found_of}
+use Rattle.ps_pgsolver.specs.Answered.{ReadsAs, found_of}
 use Rattle.ps_pgsolver.specs.GameTexts.{pg_causes}
 use Rattle.ps_pgsolver.specs.Signs.{Sign}
 use Rattle.ps_pgsolver.specs.declared.fault.PgCause.{PgCause}
@@ -42,7 +42,7 @@ pub stops_mapped : {A B : Type 0} (h : A → B) (P : Part Sign A PgCause) (old :
 stops_mapped {A} {B} h P old e m = meets_mapped found_of pg_causes {X = A} (λ x. x) h P old old (Err e) m
 
 pub exit : {V X : Type 0} (view : X → V) (P : Part Sign V PgCause) (old new : Stream Sign) (e : PgFault) (r : Result X PgFault) →
-    Halts P old e → IsErrAnd r (λ y. y ≡ e) → Reads view P old r new
+    Halts P old e → IsErrAnd r (λ y. y ≡ e) → ReadsAs view P old r new
 exit view P old new e r m i = exits found_of pg_causes view P old new e r m i
 
 -- the value of a part that was read, by an equation

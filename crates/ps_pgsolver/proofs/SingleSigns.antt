@@ -8,7 +8,7 @@ use Rattle.ps_text.specs.Readers.{tail}
 use Rattle.ps_text.proofs.Simple.{same_some, none_is_some}
 use Rattle.ps_text.proofs.Meeting.{meets_next, meets_bad_next, meets_refusal}
 use Rattle.ps_ids.proofs.Members.{any-from_Contains, Contains-any}
-use Rattle.ps_pgsolver.specs.Answered.{Reads, found_of, ReadsKnown, is_known, number_answer, id_answer, owner_answer, successor_answer, first_answer, semicolon_answer, comma_answer}
+use Rattle.ps_pgsolver.specs.Answered.{ReadsAs, found_of, ReadsKnown, is_known, number_answer, id_answer, owner_answer, successor_answer, first_answer, semicolon_answer, comma_answer}
 use Rattle.ps_pgsolver.specs.Causes.{cause_number}
 use Rattle.ps_pgsolver.specs.GameTexts.{pg_causes, too_large, number_in, comma_in, semicolon_in, BadNumber, BadId, BadOwner, BadSuccessor, BadFirst, IsUnknown, number, new_id, owner, successor, first_successor, comma, semicolon}
 use Rattle.ps_pgsolver.specs.Nodes.{is_member}
@@ -27,14 +27,14 @@ pub data Fits {V : Type 0} (take : Sign → Option V) (Bad : Sign → PgCause �
 one_reads : {V : Type 0} (take : Sign → Option V) (Bad : Sign → PgCause → Type 0) (s : Sign) (w : V) → take s ≡ Some w →
     (answer : Option Sign → ℕ → Result V PgFault) → ((t : Sign) (at : ℕ) → Fits take Bad t at (answer (Some t) at)) →
     ((at : ℕ) → answer None at ≡ Err (faults.Text causes.Syntax at)) → (old new : Stream Sign) (r : Result V PgFault) →
-    new ≡ tail old → r ≡ answer (next_of old) (offset_of old.pieces old.end) → Reads (λ v. v) (one take Bad) old r new
+    new ≡ tail old → r ≡ answer (next_of old) (offset_of old.pieces old.end) → ReadsAs (λ v. v) (one take Bad) old r new
 one_reads {V} take Bad s w sw answer fits none old new r n e = go (next_of old) refl
   where
     at : ℕ
     at = offset_of old.pieces old.end
 
     Goal : Result V PgFault → Type 0
-    Goal x = Reads (λ v. v) (one take Bad) old x new
+    Goal x = ReadsAs (λ v. v) (one take Bad) old x new
 
     known : (t : Sign) → next_of old ≡ Some t → (x : Result V PgFault) → r ≡ x → Fits take Bad t at x → Goal x
     known t h x q (taken v k good y) = subst Goal (sym y) (meets_next found_of pg_causes take Bad (λ z. z) old new t v h n k good)
@@ -164,31 +164,31 @@ comma_fits Wrong at = refused refl (λ f b. b) refl
 
 -- ## What each reading function of a single sign says
 
-pub reads_number : (old new : Stream Sign) (r : Result ℕ PgFault) → new ≡ tail old → r ≡ number_answer (next_of old) (offset_of old.pieces old.end) → Reads (λ n. n) number old r new
+pub reads_number : (old new : Stream Sign) (r : Result ℕ PgFault) → new ≡ tail old → r ≡ number_answer (next_of old) (offset_of old.pieces old.end) → ReadsAs (λ n. n) number old r new
 unfolding number
 reads_number old new r = one_reads number_in BadNumber (Number 0) 0 refl number_answer number_fits (λ at. refl) old new r
 
-pub reads_id : (ids : List ℕ) (old new : Stream Sign) (r : Result ℕ PgFault) → new ≡ tail old → r ≡ id_answer ids (next_of old) (offset_of old.pieces old.end) → Reads (λ n. n) (new_id ids) old r new
+pub reads_id : (ids : List ℕ) (old new : Stream Sign) (r : Result ℕ PgFault) → new ≡ tail old → r ≡ id_answer ids (next_of old) (offset_of old.pieces old.end) → ReadsAs (λ n. n) (new_id ids) old r new
 unfolding new_id
 reads_id ids old new r = one_reads number_in (BadId ids) (Number 0) 0 refl (id_answer ids) (id_fits ids) (λ at. refl) old new r
 
-pub reads_owner : (old new : Stream Sign) (r : Result ℕ PgFault) → new ≡ tail old → r ≡ owner_answer (next_of old) (offset_of old.pieces old.end) → Reads (λ n. n) owner old r new
+pub reads_owner : (old new : Stream Sign) (r : Result ℕ PgFault) → new ≡ tail old → r ≡ owner_answer (next_of old) (offset_of old.pieces old.end) → ReadsAs (λ n. n) owner old r new
 unfolding owner
 reads_owner old new r = one_reads number_in BadOwner (Number 0) 0 refl owner_answer owner_fits (λ at. refl) old new r
 
-pub reads_successor : (known : Option (List ℕ)) (old new : Stream Sign) (r : Result ℕ PgFault) → new ≡ tail old → r ≡ successor_answer known (next_of old) (offset_of old.pieces old.end) → Reads (λ n. n) (successor known) old r new
+pub reads_successor : (known : Option (List ℕ)) (old new : Stream Sign) (r : Result ℕ PgFault) → new ≡ tail old → r ≡ successor_answer known (next_of old) (offset_of old.pieces old.end) → ReadsAs (λ n. n) (successor known) old r new
 unfolding successor
 reads_successor known old new r = one_reads number_in (BadSuccessor known) (Number 0) 0 refl (successor_answer known) (successor_fits known) (λ at. refl) old new r
 
-pub reads_first : (known : Option (List ℕ)) (old new : Stream Sign) (r : Result ℕ PgFault) → new ≡ tail old → r ≡ first_answer known (next_of old) (offset_of old.pieces old.end) → Reads (λ n. n) (first_successor known) old r new
+pub reads_first : (known : Option (List ℕ)) (old new : Stream Sign) (r : Result ℕ PgFault) → new ≡ tail old → r ≡ first_answer known (next_of old) (offset_of old.pieces old.end) → ReadsAs (λ n. n) (first_successor known) old r new
 unfolding first_successor
 reads_first known old new r = one_reads number_in (BadFirst known) (Number 0) 0 refl (first_answer known) (first_fits known) (λ at. refl) old new r
 
-pub reads_semicolon : (old new : Stream Sign) (r : Result (Unit {0}) PgFault) → new ≡ tail old → r ≡ semicolon_answer (next_of old) (offset_of old.pieces old.end) → Reads (λ u. u) semicolon old r new
+pub reads_semicolon : (old new : Stream Sign) (r : Result (Unit {0}) PgFault) → new ≡ tail old → r ≡ semicolon_answer (next_of old) (offset_of old.pieces old.end) → ReadsAs (λ u. u) semicolon old r new
 unfolding semicolon
 reads_semicolon old new r = one_reads semicolon_in NoBad Semicolon tt refl semicolon_answer semicolon_fits (λ at. refl) old new r
 
-pub reads_comma : (old new : Stream Sign) (r : Result (Unit {0}) PgFault) → new ≡ tail old → r ≡ comma_answer (next_of old) (offset_of old.pieces old.end) → Reads (λ u. u) comma old r new
+pub reads_comma : (old new : Stream Sign) (r : Result (Unit {0}) PgFault) → new ≡ tail old → r ≡ comma_answer (next_of old) (offset_of old.pieces old.end) → ReadsAs (λ u. u) comma old r new
 unfolding comma
 reads_comma old new r = one_reads comma_in NoBad Comma tt refl comma_answer comma_fits (λ at. refl) old new r
 

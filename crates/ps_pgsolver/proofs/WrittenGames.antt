@@ -17,7 +17,7 @@ use Rattle.ps_game.specs.Plays.{greatest}
 use Rattle.ps_pgsolver.specs.GameTexts.{too_large, IsUnknown}
 use Rattle.ps_pgsolver.specs.GamesOf.{place_of, draft_of, named_game_of}
 use Rattle.ps_pgsolver.specs.Nodes.{NodeData, IsDistinct, ids_of, names_of}
-use Rattle.ps_pgsolver.specs.Reading.{Answers, text_limit, meaning}
+use Rattle.ps_pgsolver.specs.Reading.{IsGameAnswer, text_limit, meaning}
 use Rattle.ps_pgsolver.specs.Written.{IsWord, game_text}
 use Rattle.ps_pgsolver.proofs.GameLemmas.{same_named}
 use Rattle.ps_pgsolver.proofs.WrittenParts.{IsKnown, AreReadable, written_answers}
@@ -163,7 +163,7 @@ module _ (named : NamedGameData) (is : IsNamedGame named) (some : 0 < vertex_cou
   unfolding nodes
   nodes_readable known knows = readable known [] nodes (subst IsDistinct (sym ids_are) is.ids_differ) (made_plain named.ids named.names small known knows 0 named.game vertices_plain vertices_kept)
 
-  pub reads_again : length (game_text named) ≤ text_limit → Answers (game_text named) (Ok named)
+  pub reads_again : length (game_text named) ≤ text_limit → IsGameAnswer (game_text named) (Ok named)
   unfolding nodes vertex_count
   reads_again short =
       let t = written_tokens named.ids named.names small plain (greatest named.ids) named.game word vertices_plain in

@@ -14,8 +14,8 @@ use Rattle.ps_pgsolver.specs.Causes.{PgFault}
 use Rattle.ps_text.specs.declared.faults.Fault.TheVariants as faults
 
 -- the part was read from old, and new is left, or its first fault was found
-abbrev pub Reads : {V X : Type 0} → (X → V) → Part Sign V PgCause → Stream Sign → Result X PgFault → Stream Sign → Type 0
-Reads view part old result new = Meets found_of pg_causes view part old result new
+abbrev pub ReadsAs : {V X : Type 0} → (X → V) → Part Sign V PgCause → Stream Sign → Result X PgFault → Stream Sign → Type 0
+ReadsAs view part old result new = Meets found_of pg_causes view part old result new
 
 -- where all ids that the value names are among some ids, the part with these known was read too
 abbrev pub ReadsKnown : {V X : Type 0} → (List ℕ → V → Type 0) → (X → V) → (Option (List ℕ) → Part Sign V PgCause) → Stream Sign → Result X PgFault → Stream Sign → Type 0

@@ -36,5 +36,5 @@ pub data Answer (text : List ℕ) (answer : Result NamedGameData (Found PgCause)
       PartAnswers pg_causes (game (Some (ids_of nodes))) stream (Ok nodes) → answer ≡ Ok (named_game_of nodes) → Answer text answer
 
 -- what a call answers is that, unless memory ran out
-abbrev pub Answers : List ℕ → Result NamedGameData PgFault → Type 0
-Answers text result = UnlessMemory (Answer text) result
+abbrev pub IsGameAnswer : List ℕ → Result NamedGameData PgFault → Type 0
+IsGameAnswer text result = UnlessMemory (Answer text) result

@@ -7,12 +7,12 @@ ghost use Rattle.smallvec.specs.SmallVec.{small_vec_len};
 ghost use Rattle.ps_text.specs.Answers.{next_of, offset_of};
 ghost use Rattle.ps_game.specs.Games.{HasNoQuote};
 ghost use Rattle.ps_game.specs.Names.{name_bytes};
-ghost use Rattle.ps_pgsolver.specs.Answered.{Reads, ReadsKnown, AddsKnown, TextAnswers, FaultAnswers, KnownAnswers, found_of, number_answer, id_answer, owner_answer, successor_answer, first_answer, comma_answer, semicolon_answer, end_answer};
+ghost use Rattle.ps_pgsolver.specs.Answered.{ReadsAs, ReadsKnown, AddsKnown, TextAnswers, FaultAnswers, KnownAnswers, found_of, number_answer, id_answer, owner_answer, successor_answer, first_answer, comma_answer, semicolon_answer, end_answer};
 ghost use Rattle.ps_pgsolver.specs.GameTexts as parts;
 ghost use Rattle.ps_pgsolver.specs.Causes.{StandsWithin};
 ghost use Rattle.ps_pgsolver.specs.Heads.{IsPlain, sign_of};
 ghost use Rattle.ps_pgsolver.specs.Lexer.{stream_of};
-ghost use Rattle.ps_pgsolver.specs.Reading.{Answers};
+ghost use Rattle.ps_pgsolver.specs.Reading.{IsGameAnswer};
 ghost use Rattle.ps_pgsolver.specs.Nodes.{IsNewNode, KnowsEach, KnowsNode, KnowsAll, ids_of};
 
 use crate::fault::{PgCause, PgFault};
@@ -35,7 +35,7 @@ const TEXT_LIMIT: usize = 16_777_216;
 ///
 /// [`PgFault::Text`] with the first cause in the text's order, at the byte of its token; else want of memory.
 pub fn read(alloc: Global, text: &[u8]) -> Result<NamedGame, PgFault>
-    ensures answer { Answers text.now result }
+    ensures answer { IsGameAnswer text.now result }
     ensures within { IfErr result (StandsWithin (length text.now)) }
 {
     if text.len() > TEXT_LIMIT {
@@ -88,7 +88,7 @@ fn game_text(alloc: Global, text: &[u8], known: Option<&Ids>) -> Result<Nodes, P
 
 /// Reads a line such as `parity 7;`, if it stands here.
 fn setting(tokens: &mut Tokens, word: &[u8]) -> Result<(), PgFault>
-    ensures { Reads (λ u. u) (parts.setting word.now) tokens.old result tokens.new }
+    ensures { ReadsAs (λ u. u) (parts.setting word.now) tokens.old result tokens.new }
 {
     if tokens.is_at_word(word) {
         tokens.next();
@@ -99,7 +99,7 @@ fn setting(tokens: &mut Tokens, word: &[u8]) -> Result<(), PgFault>
 
 /// Reads a number, which has no meaning, and a semicolon.
 fn value_line(tokens: &mut Tokens) -> Result<(), PgFault>
-    ensures { Reads (λ u. u) parts.value_line tokens.old result tokens.new }
+    ensures { ReadsAs (λ u. u) parts.value_line tokens.old result tokens.new }
 {
     number(tokens)?;
     semicolon(tokens)
@@ -107,7 +107,7 @@ fn value_line(tokens: &mut Tokens) -> Result<(), PgFault>
 
 /// Reads the nodes.
 fn entries(alloc: Global, tokens: &mut Tokens, known: Option<&Ids>) -> Result<Nodes, PgFault>
-    ensures part { Reads (λ nodes. nodes) (parts.entries (option_copied known.entry)) tokens.old result tokens.new }
+    ensures part { ReadsAs (λ nodes. nodes) (parts.entries (option_copied known.entry)) tokens.old result tokens.new }
     ensures later { ReadsKnown KnowsAll (λ nodes. nodes) parts.entries tokens.old result tokens.new }
 {
     let mut nodes = Nodes::new(alloc);
@@ -125,7 +125,7 @@ fn entry(
     known: Option<&Ids>,
     nodes: &mut Nodes,
 ) -> Result<(), PgFault>
-    ensures part { Reads (λ _. nodes.new) (parts.entry (option_copied known.entry) nodes.old) tokens.old result tokens.new }
+    ensures part { ReadsAs (λ _. nodes.new) (parts.entry (option_copied known.entry) nodes.old) tokens.old result tokens.new }
     ensures later { AddsKnown KnowsAll nodes.old nodes.new (λ ids. parts.entry ids nodes.old) tokens.old result tokens.new }
 {
     let node = node(alloc, tokens, known, nodes)?;
@@ -140,7 +140,7 @@ fn node(
     known: Option<&Ids>,
     nodes: &Nodes,
 ) -> Result<Node, PgFault>
-    ensures part { Reads (λ node. node) (parts.node (option_copied known.entry) (ids_of nodes.now)) tokens.old result tokens.new }
+    ensures part { ReadsAs (λ node. node) (parts.node (option_copied known.entry) (ids_of nodes.now)) tokens.old result tokens.new }
     ensures later { ReadsKnown KnowsNode (λ node. node) (λ ids. parts.node ids (ids_of nodes.now)) tokens.old result tokens.new }
     ensures node { IfOk result (λ node. IsNewNode (ids_of nodes.now) node) }
 {
@@ -161,7 +161,7 @@ fn node(
 
 /// Reads an id that no node has.
 fn new_id(tokens: &mut Tokens, nodes: &Nodes) -> Result<u64, PgFault>
-    ensures part { Reads (λ id. id) (parts.new_id (ids_of nodes.now)) tokens.old result tokens.new }
+    ensures part { ReadsAs (λ id. id) (parts.new_id (ids_of nodes.now)) tokens.old result tokens.new }
     ensures new { IfOk result (λ id. ¬ Contains (ids_of nodes.now) id) }
 {
     let token = tokens.next();
@@ -171,14 +171,14 @@ fn new_id(tokens: &mut Tokens, nodes: &Nodes) -> Result<u64, PgFault>
 /// Reads a number.
 #[inline(always)]
 fn number(tokens: &mut Tokens) -> Result<u64, PgFault>
-    ensures { Reads (λ n. n) parts.number tokens.old result tokens.new }
+    ensures { ReadsAs (λ n. n) parts.number tokens.old result tokens.new }
 {
     number_of(tokens.next())
 }
 
 /// Reads an owner.
 fn owner(tokens: &mut Tokens) -> Result<u8, PgFault>
-    ensures part { Reads (λ n. n) parts.owner tokens.old result tokens.new }
+    ensures part { ReadsAs (λ n. n) parts.owner tokens.old result tokens.new }
     ensures player { IfOk result (λ owner. owner < 2) }
 {
     owner_of(tokens.next())
@@ -190,7 +190,7 @@ fn successors(
     tokens: &mut Tokens,
     known: Option<&Ids>,
 ) -> Result<SmallVec<u64, 4>, PgFault>
-    ensures part { Reads (λ list. list.items) (parts.successors (option_copied known.entry)) tokens.old result tokens.new }
+    ensures part { ReadsAs (λ list. list.items) (parts.successors (option_copied known.entry)) tokens.old result tokens.new }
     ensures later { ReadsKnown KnowsEach (λ list. list.items) parts.successors tokens.old result tokens.new }
     ensures some { IfOk result (λ list. 0 < small_vec_len list) }
 {
@@ -208,7 +208,7 @@ fn more_successor(
     known: Option<&Ids>,
     list: &mut SmallVec<u64, 4>,
 ) -> Result<(), PgFault>
-    ensures part { Reads (λ _. list.new.items) (parts.more_successor (option_copied known.entry) list.old.items) tokens.old result tokens.new }
+    ensures part { ReadsAs (λ _. list.new.items) (parts.more_successor (option_copied known.entry) list.old.items) tokens.old result tokens.new }
     ensures later { AddsKnown KnowsEach list.old.items list.new.items (λ ids. parts.more_successor ids list.old.items) tokens.old result tokens.new }
     ensures longer { small_vec_len list.old ≤ small_vec_len list.new }
 {
@@ -220,7 +220,7 @@ fn more_successor(
 
 /// Reads the first successor of a node, which a node can't do without.
 fn first_successor(tokens: &mut Tokens, known: Option<&Ids>) -> Result<u64, PgFault>
-    ensures part { Reads (λ n. n) (parts.first_successor (option_copied known.entry)) tokens.old result tokens.new }
+    ensures part { ReadsAs (λ n. n) (parts.first_successor (option_copied known.entry)) tokens.old result tokens.new }
     ensures later { ReadsKnown Contains (λ n. n) parts.first_successor tokens.old result tokens.new }
 {
     first_of(tokens.next(), known)
@@ -228,7 +228,7 @@ fn first_successor(tokens: &mut Tokens, known: Option<&Ids>) -> Result<u64, PgFa
 
 /// Reads a successor.
 fn successor(tokens: &mut Tokens, known: Option<&Ids>) -> Result<u64, PgFault>
-    ensures part { Reads (λ n. n) (parts.successor (option_copied known.entry)) tokens.old result tokens.new }
+    ensures part { ReadsAs (λ n. n) (parts.successor (option_copied known.entry)) tokens.old result tokens.new }
     ensures later { ReadsKnown Contains (λ n. n) parts.successor tokens.old result tokens.new }
 {
     successor_of(tokens.next(), known)
@@ -237,7 +237,7 @@ fn successor(tokens: &mut Tokens, known: Option<&Ids>) -> Result<u64, PgFault>
 /// Reads a name, if one stands here.
 #[inline(always)]
 fn name(alloc: Global, tokens: &mut Tokens) -> Result<Option<Vec<u8>>, PgFault>
-    ensures part { Reads name_bytes parts.name tokens.old result tokens.new }
+    ensures part { ReadsAs name_bytes parts.name tokens.old result tokens.new }
     ensures plain { IfOk result (λ name. HasNoQuote (name_bytes name)) }
 {
     let Some(bytes) = tokens.next_name() else {
@@ -250,7 +250,7 @@ fn name(alloc: Global, tokens: &mut Tokens) -> Result<Option<Vec<u8>>, PgFault>
 /// Reads a comma.
 #[inline(always)]
 fn comma(tokens: &mut Tokens) -> Result<(), PgFault>
-    ensures { Reads (λ u. u) parts.comma tokens.old result tokens.new }
+    ensures { ReadsAs (λ u. u) parts.comma tokens.old result tokens.new }
 {
     comma_of(tokens.next())
 }
@@ -258,7 +258,7 @@ fn comma(tokens: &mut Tokens) -> Result<(), PgFault>
 /// Reads a semicolon.
 #[inline(always)]
 fn semicolon(tokens: &mut Tokens) -> Result<(), PgFault>
-    ensures { Reads (λ u. u) parts.semicolon tokens.old result tokens.new }
+    ensures { ReadsAs (λ u. u) parts.semicolon tokens.old result tokens.new }
 {
     semicolon_of(tokens.next())
 }

@@ -4,7 +4,7 @@ ghost use Rattle.std.specs.Prelude.{◌≡◌, ◌++◌, ◌<◌, ◌≤◌, dec
 ghost use Rattle.std.specs.List.{All};
 ghost use Rattle.ps_game.specs.Games.{IsNamedGame, vertex_count, priority_of, successors_of, no_vertex};
 ghost use Rattle.ps_game.specs.Plays.{greatest};
-ghost use Rattle.ps_pgsolver.specs.Reading.{Answers, text_limit};
+ghost use Rattle.ps_pgsolver.specs.Reading.{IsGameAnswer, text_limit};
 ghost use Rattle.ps_pgsolver.specs.Written.{IsWord, list_text, name_text, vertex_line, vertex_lines, head_text, game_text};
 
 use ps_game::{Arena, NamedGame};
@@ -19,7 +19,7 @@ use std::alloc::{AllocError, Global};
 pub fn write(alloc: Global, game: &NamedGame) -> Result<Vec<u8>, AllocError>
     requires { 0 < vertex_count game.now.game }
     ensures bytes { IfOk result (λ bytes. bytes.items ≡ game_text game.now) }
-    ensures read_again { IfOk result (λ bytes. vec_len bytes ≤ text_limit → Answers bytes.items (Ok game.now)) }
+    ensures read_again { IfOk result (λ bytes. vec_len bytes ≤ text_limit → IsGameAnswer bytes.items (Ok game.now)) }
 {
     let mut out = Vec::new(alloc);
     write_head(&mut out, greatest_id(game))?;

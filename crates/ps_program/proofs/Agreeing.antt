@@ -8,7 +8,7 @@ use Rattle.ps_certificate.specs.Written.{text_in}
 use Rattle.ps_certificate.specs.declared.fault.CertCause.{CertCause}
 use Rattle.ps_game.specs.Games.{ParityGame, NamedGameData, IsGame, owner_of, vertex_count}
 use Rattle.ps_hoa.specs.Files.{FileData}
-use Rattle.ps_hoa.specs.Texts.{Reads}
+use Rattle.ps_hoa.specs.Texts.{ReadsFile}
 use Rattle.ps_hoa.specs.declared.fault.HoaCause.{HoaCause}
 use Rattle.ps_machine.specs.FileGames.{IsGameOfFile}
 use Rattle.ps_machine.specs.Keys.{mover_of, owner_of_key}
@@ -27,7 +27,7 @@ use Rattle.ps_program.specs.Replies.{Reply, text_reply}
 
 -- the laws that are taken
 abbrev pub OneFile : Type 0
-OneFile = (text : List ℕ) (a b : Result FileData (Found HoaCause)) → Reads text a → Reads text b → a ≡ b
+OneFile = (text : List ℕ) (a b : Result FileData (Found HoaCause)) → ReadsFile text a → ReadsFile text b → a ≡ b
 
 abbrev pub OneFileGame : Type 0
 OneFileGame = (order : Order) (file : FileData) (game other : NamedGameData) → IsGameOfFile order file game → IsGameOfFile order file other → game ≡ other
@@ -37,8 +37,8 @@ OneWinner = (game : ParityGame) (one other : CertificateData) → ((v : ℕ) →
     Fits game one → IsValid game one → Fits game other → IsValid game other → (v : ℕ) → v < vertex_count game → winner_of one v ≡ winner_of other v
 
 abbrev pub OneCertificate : Type 0
-OneCertificate = (named : NamedGameData) (text : List ℕ) (a b : Result CertificateData (Found CertCause)) → certificate_text.Reads named text a
-    → certificate_text.Reads named text b → a ≡ b
+OneCertificate = (named : NamedGameData) (text : List ℕ) (a b : Result CertificateData (Found CertCause)) → certificate_text.ReadsCertificate named text a
+    → certificate_text.ReadsCertificate named text b → a ≡ b
 
 abbrev ok_of : {V E : Type 0} → V → Result V E
 ok_of v = Ok v
@@ -78,7 +78,7 @@ answered_once certificates solver replaying game one other h k = by solver.fed (
 -- what two reports are compared by
 pub record Facts (May : MayAnswer) (order : Order) (compact : Bool) (text : List ℕ) (report : Report) : Type 0 where
   pub file : FileData
-  pub reads : Reads text (Ok file)
+  pub reads : ReadsFile text (Ok file)
   pub game : NamedGameData
   pub is_game : IsGameOfFile order file game
   pub printed : report.game_text.items ≡ game_text game

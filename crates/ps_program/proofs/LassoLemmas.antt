@@ -4,7 +4,7 @@ use Rattle.ps_circuit.specs.Circuits.{CircuitData, IsCircuit}
 use Rattle.ps_automaton.specs.Automata.{AutomatonData, IsBuiltFrom}
 use Rattle.ps_automaton.specs.Chains.{Chain}
 use Rattle.ps_hoa.specs.Files.{FileData}
-use Rattle.ps_simulate.specs.LassoFaults.{IsSound, Stands}
+use Rattle.ps_simulate.specs.LassoFaults.{HasNoLassoFault, Stands}
 use Rattle.ps_simulate.specs.Lassos.{IsVerdictOf}
 use Rattle.ps_simulate.specs.Stimuli.{StimulusData}
 use Rattle.ps_simulate.specs.Symbols.{HasSymbols}
@@ -70,7 +70,7 @@ module _ (role : Role) (file : FileData) (chain : Chain) (a : AutomatonData) (c 
   some_of_lap : 0 < length lap → 0 < length s.lap
   some_of_lap some = subst (λ (ls : List (List Bool)). 0 < length ls) same_lap some
 
-  pub tells : (verdict : Verdict) (reply : Reply) → IsCircuit c → IsSound role a c stem lap → IsVerdictOf file c stem lap verdict → reply ≡ line_reply (verdict_text verdict) →
+  pub tells : (verdict : Verdict) (reply : Reply) → IsCircuit c → HasNoLassoFault role a c stem lap → IsVerdictOf file c stem lap verdict → reply ≡ line_reply (verdict_text verdict) →
       TellsVerdict role file c s (Ok reply)
   tells verdict reply is_circuit sound is_verdict is = (
     is_circuit,

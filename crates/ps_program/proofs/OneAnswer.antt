@@ -25,7 +25,7 @@ use Rattle.ps_program.specs.Determined.{Agree, AgreeAsReports, AgreeInWinners, S
 use Rattle.ps_program.specs.Games.{AnswersCert, AnswersGameText, ReadsGameOf}
 use Rattle.ps_program.specs.Lassos.{AnswersLasso}
 use Rattle.ps_program.specs.Outcomes.{printed}
-use Rattle.ps_program.specs.Program.{Answers, AnswersLine}
+use Rattle.ps_program.specs.Program.{AnswersInput, AnswersLine}
 use Rattle.ps_program.specs.Replies.{Reply, text_reply}
 use Rattle.ps_program.specs.Simulating.{AnswersSim}
 use Rattle.ps_program.specs.Solvers.{SolverData, Solvers, answers_now, feed}
@@ -43,7 +43,7 @@ use Rattle.ps_program.proofs.OneLine.{is_line_one}
 module _ (games : OneGame) (certificates : OneCertificate) (flaws : OneFlaw) (circuits : OneCircuit) (stimuli : OneStimulus) (files : OneFile) (refusals : OneRefusal) (outcomes : OneOutcome) (verdicts : OneVerdict) (values : OneValues) (file_games : OneFileGame) (winners : OneWinner) where
   certified_one : (texts : List ℕ) → IsOne (ReadsCertified texts)
   certified_one texts = then_one _ _ (cut_one texts) (λ parts. then_one _ _ (reading_one game.cause_number game.cause_name (Answer parts.0) (games parts.0))
-      (λ named. then_one _ _ (reading_one certificate.cause_number certificate.cause_name (certificate_text.Reads named parts.1) (certificates named parts.1))
+      (λ named. then_one _ _ (reading_one certificate.cause_number certificate.cause_name (certificate_text.ReadsCertificate named parts.1) (certificates named parts.1))
       (λ given. ended_one (Ok (named, given)))))
 
   tests_one : (IsGood : ParityGame → CertificateData → Type 0) (word : List ℕ) (named : NamedGameData) (given : CertificateData) → IsOne (Tests IsGood word named given)
@@ -54,8 +54,8 @@ module _ (games : OneGame) (certificates : OneCertificate) (flaws : OneFlaw) (ci
       ap (err_of {V = Reply}) (e ∙ ap (flaw_text named) (flaws named.game given flaw flaw' is_game first first') ∙ sym e')
 
   simulated_one : (texts : List ℕ) → IsOne (ReadsSimulated texts)
-  simulated_one texts = then_one _ _ (cut_one texts) (λ parts. then_one _ _ (reading_one circuit.cause_number circuit_names.cause_name (circuit_text.Reads parts.0) (circuits parts.0))
-      (λ c. then_one _ _ (reading_one stimulus.cause_number stimulus.cause_name (stimulus_text.Reads parts.1 (length c.inputs) false) (stimuli parts.1 (length c.inputs) false))
+  simulated_one texts = then_one _ _ (cut_one texts) (λ parts. then_one _ _ (reading_one circuit.cause_number circuit_names.cause_name (circuit_text.ReadsCircuit parts.0) (circuits parts.0))
+      (λ c. then_one _ _ (reading_one stimulus.cause_number stimulus.cause_name (stimulus_text.ReadsStimulus parts.1 (length c.inputs) false) (stimuli parts.1 (length c.inputs) false))
       (λ s. ended_one (Ok (c, s)))))
 
   sim_one : (texts : List ℕ) → IsOne (AnswersSim texts)
@@ -64,8 +64,8 @@ module _ (games : OneGame) (certificates : OneCertificate) (flaws : OneFlaw) (ci
 
   lasso_one : (role : Role) (texts : List ℕ) → IsOne (AnswersLasso role texts)
   lasso_one role texts = then_one _ _ (cut_three_one texts) (λ parts. then_one _ _ (automaton_one files refusals outcomes parts.0)
-      (λ file. then_one _ _ (reading_one circuit.cause_number circuit_names.cause_name (circuit_text.Reads parts.1) (circuits parts.1))
-      (λ c. then_one _ _ (reading_one stimulus.cause_number stimulus.cause_name (stimulus_text.Reads parts.2 (length c.inputs) true) (stimuli parts.2 (length c.inputs) true))
+      (λ file. then_one _ _ (reading_one circuit.cause_number circuit_names.cause_name (circuit_text.ReadsCircuit parts.1) (circuits parts.1))
+      (λ c. then_one _ _ (reading_one stimulus.cause_number stimulus.cause_name (stimulus_text.ReadsStimulus parts.2 (length c.inputs) true) (stimuli parts.2 (length c.inputs) true))
       (tells_one verdicts role file c))))
 
   game_of_one : (order : Order) (text : List ℕ) → IsOne (ReadsGameOf order text)
@@ -161,7 +161,7 @@ module _ (games : OneGame) (certificates : OneCertificate) (flaws : OneFlaw) (ci
   line_one solvers (line.Cert order compact) texts x y h k = cert_one_or solvers.built_in order compact texts x y h k
   line_one solvers (line.Synth asked) texts x y h k = synth_one_or solvers asked texts asked.cert x y h k
 
-  answers_one : (solvers : Solvers) (input : List ℕ) (a b : Reply) → Answers solvers input a → Answers solvers input b
+  answers_one : (solvers : Solvers) (input : List ℕ) (a b : Reply) → AnswersInput solvers input a → AnswersInput solvers input b
       → (a ≡ b) ⊎ ((l : Line) × IsLine (first_line input) l × IsOpen l (behind_line input) × (IsFault a ⊎ IsFault b ⊎ Agree solvers l a b))
   answers_one solvers input a b (l, is_line, (outcome, answers, e)) (l', is_line', (outcome', answers', e')) =
       by (line_one solvers l (behind_line input) outcome outcome' answers (subst (λ (k : Line). AnswersLine solvers k (behind_line input) outcome') (sym same) answers'))

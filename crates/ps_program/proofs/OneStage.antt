@@ -50,7 +50,7 @@ abbrev pub OneFlaw : Type 0
 OneFlaw = (arena : ParityGame) (given : CertificateData) (flaw other : Flaw) → IsGame arena → IsFirstFlaw arena given flaw → IsFirstFlaw arena given other → flaw ≡ other
 
 abbrev pub OneCircuit : Type 0
-OneCircuit = (text : List ℕ) (a b : Result CircuitData (Found AigCause)) → circuit_text.Reads text a → circuit_text.Reads text b → a ≡ b
+OneCircuit = (text : List ℕ) (a b : Result CircuitData (Found AigCause)) → circuit_text.ReadsCircuit text a → circuit_text.ReadsCircuit text b → a ≡ b
 
 abbrev pub OneStimulus : Type 0
 OneStimulus = (text : List ℕ) (width : ℕ) (split : Bool) → stimulus_text.HasOneAnswer text width split
@@ -88,7 +88,7 @@ builds_one refusals outcomes file (Err l) (Err m) (fault, bad, told) (fault', ba
 
 pub automaton_one : OneFile → OneRefusal → OneOutcome → (text : List ℕ) → IsOne (ReadsAutomaton text)
 automaton_one files refusals outcomes text =
-    then_one _ _ (reading_one hoa.cause_number hoa_names.cause_name (hoa_text.Reads text) (files text)) (builds_one refusals outcomes)
+    then_one _ _ (reading_one hoa.cause_number hoa_names.cause_name (hoa_text.ReadsFile text) (files text)) (builds_one refusals outcomes)
 
 -- ---- games of automata
 

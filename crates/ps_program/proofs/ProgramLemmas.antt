@@ -2,14 +2,14 @@
 use Rattle.std.proofs.Common.{◌≡◌, ◌≤◌, ◌∙◌, ℕ, Bool, true, false, List, [], ◌++◌, length, Some, inl, inr, sym, ap, ap₂, subst}
 use Rattle.std.specs.Prelude.{Option}
 use Rattle.ps_program.specs.Input.{AgreesWith, input_limit}
-use Rattle.ps_program.specs.Program.{Answers, AnswersWhole, Replies, RepliesTo, Writes}
+use Rattle.ps_program.specs.Program.{AnswersInput, AnswersWhole, Replies, RepliesTo, Writes}
 use Rattle.ps_program.specs.Replies.{Reply}
 use Rattle.ps_program.specs.Solvers.{Solvers}
 use Rattle.ps_program.specs.Streams.{Breaks}
 
 -- an answer to the whole input is a reply to the source that had it
 pub replies_answer : (solvers : Solvers) (known : Option (List ℕ)) (has_failed : Bool) (input : List ℕ) (reply : Reply) → has_failed ≡ false
-    → AgreesWith known input → length input ≤ input_limit → Answers solvers input reply → Replies solvers known has_failed reply
+    → AgreesWith known input → length input ≤ input_limit → AnswersInput solvers input reply → Replies solvers known has_failed reply
 replies_answer solvers known false input reply sound agrees small answers = inr (input, agrees, inr (small, answers))
 replies_answer solvers known true input reply sound agrees small answers = cc
 

@@ -4,7 +4,7 @@ use Rattle.std.specs.Prelude.{Option}
 use Rattle.ps_hoa.specs.Files.{FileData}
 use Rattle.ps_machine.specs.declared.key.Order.{Order}
 use Rattle.ps_synthesis.specs.Reports.{IsReport}
-use Rattle.ps_synthesis.specs.Promises.{IsAccepted, MayAnswer}
+use Rattle.ps_synthesis.specs.Promises.{IsAcceptedText, MayAnswer}
 use Rattle.ps_synthesis.specs.SynthFaults.{IsOutcome, IsSynthFault}
 use Rattle.ps_synthesis.specs.declared.fault.SynthFault.{SynthFault}
 use Rattle.ps_synthesis.specs.declared.fault.SynthFault.TheVariants.{BadCycle, Certificate, NotCertified}
@@ -24,7 +24,7 @@ use Rattle.ps_program.proofs.SolverLemmas.{unsure}
 
 -- a fault that lies with a solver is no sure solver's
 pub unsure_of : (May : MayAnswer) (order : Order) (compact : Bool) (text : List ℕ) (sure : Bool) (fault : SynthFault) → IsSynthFault May order text fault
-    → (sure ≡ true → (file : FileData) → IsAccepted text file → IsOutcome May order compact text (Err fault)) → IsOfSolver fault → sure ≡ false
+    → (sure ≡ true → (file : FileData) → IsAcceptedText text file → IsOutcome May order compact text (Err fault)) → IsOfSolver fault → sure ≡ false
 unsure_of May order compact text sure (BadCycle ids) cause surely lies = unsure sure (λ t. sure_in May order compact text (Err (BadCycle ids)) (surely t cause.file cause.accepted))
 unsure_of May order compact text sure (Certificate c offset) cause surely lies = unsure sure (λ t. sure_in May order compact text (Err (Certificate c offset)) (surely t cause.file cause.accepted))
 unsure_of May order compact text sure NotCertified cause surely lies = unsure sure (λ t. sure_in May order compact text (Err NotCertified) (surely t cause.file cause.accepted))
@@ -33,7 +33,7 @@ unsure_of May order compact text sure _ cause surely lies = absurd lies
 -- what is answered where there is no report
 pub gives_told : (solver : SolverData) (order : Order) (compact : Bool) (text : List ℕ) (fault : SynthFault) (refused : Refusal)
     → IsSynthFault (answers_now solver) order text fault
-    → (solver.is_sure ≡ true → (file : FileData) → IsAccepted text file → IsOutcome (answers_now solver) order compact text (Err fault))
+    → (solver.is_sure ≡ true → (file : FileData) → IsAcceptedText text file → IsOutcome (answers_now solver) order compact text (Err fault))
     → IsTold fault refused → Gives (λ (report : Report). report) (Synthesises solver order compact text) (Err refused)
 gives_told solver order compact text fault (refusal.Fault line) cause surely told =
     (fault, cause, unsure_of (answers_now solver) order compact text solver.is_sure fault cause surely, told)

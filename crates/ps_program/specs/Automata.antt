@@ -3,7 +3,7 @@ use Rattle.std.specs.Prelude.{◌≡◌, ⊤, ℕ, List, Some, Result, Ok, Err}
 use Rattle.ps_hoa.specs.CauseNames as hoa_names
 use Rattle.ps_hoa.specs.Causes as hoa
 use Rattle.ps_hoa.specs.Files.{FileData}
-use Rattle.ps_hoa.specs.Texts.{Reads}
+use Rattle.ps_hoa.specs.Texts.{ReadsFile}
 use Rattle.ps_automaton.specs.Answers.{IsAdmitted, IsRefused}
 use Rattle.ps_automaton.specs.Automata.{AutomatonData, IsBuiltFrom}
 use Rattle.ps_automaton.specs.Chains.{Chain}
@@ -16,7 +16,7 @@ use Rattle.ps_program.specs.StageFaults.{automaton_line}
 
 -- an HOA text
 abbrev pub ReadsHoaText : List ℕ → Result FileData (List ℕ) → Type 0
-ReadsHoaText text = Reading hoa.cause_number hoa_names.cause_name (Reads text)
+ReadsHoaText text = Reading hoa.cause_number hoa_names.cause_name (ReadsFile text)
 
 -- the file has an automaton, or it has none for the cause that the line tells
 abbrev pub Builds : FileData → Result FileData (List ℕ) → Type 0

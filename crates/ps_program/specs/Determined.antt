@@ -11,7 +11,7 @@ use Rattle.ps_game.specs.Games.{NamedGameData, IsGame, vertex_count}
 use Rattle.ps_hoa.specs.Files.{FileData}
 use Rattle.ps_machine.specs.Solving.{Replays}
 use Rattle.ps_machine.specs.declared.fault.SolveFault.{SolveFault}
-use Rattle.ps_synthesis.specs.Promises.{IsAccepted}
+use Rattle.ps_synthesis.specs.Promises.{IsAcceptedText}
 use Rattle.ps_synthesis.specs.declared.report.Report.{Report}
 use Rattle.ps_program.specs.CommandLine.{IsLine}
 use Rattle.ps_program.specs.Cut.{behind_line, first_line}
@@ -25,7 +25,7 @@ use Rattle.ps_program.specs.declared.command_line.Line.TheVariants.{Solve, Cert,
 use Rattle.ps_program.specs.declared.command_line.SynthLine.{SynthLine}
 
 abbrev pub HasAutomaton : List ℕ → Type 0
-HasAutomaton text = (file : FileData) × IsAccepted text file
+HasAutomaton text = (file : FileData) × IsAcceptedText text file
 
 -- the text that a circuit is asked for; behind it a certificate may stand
 abbrev pub AsksFor : (cert : Bool) → List ℕ → List ℕ → Type 0

@@ -31,15 +31,15 @@ AnswersLine solvers (Cert order compact) texts outcome = AnswersCert solvers.bui
 AnswersLine solvers (Synth asked) texts outcome = AnswersSynth solvers asked texts outcome
 
 -- the answer to an input
-abbrev pub Answers : Solvers → List ℕ → Reply → Type 0
-Answers solvers input reply =
+abbrev pub AnswersInput : Solvers → List ℕ → Reply → Type 0
+AnswersInput solvers input reply =
     (line : Line) × IsLine (first_line input) line
     × ((outcome : Result Reply (List ℕ)) × AnswersLine solvers line (behind_line input) outcome × (reply ≡ printed outcome))
 
 -- the same, of an input that may be too long
 abbrev pub AnswersWhole : Solvers → List ℕ → Reply → Type 0
 AnswersWhole solvers input reply = ((input_limit < length input) × (reply ≡ read_fault))
-    ⊎ ((length input ≤ input_limit) × Answers solvers input reply)
+    ⊎ ((length input ≤ input_limit) × AnswersInput solvers input reply)
 
 -- the same, where any growth may have been refused
 abbrev pub RepliesTo : Solvers → List ℕ → Reply → Type 0

@@ -7,7 +7,7 @@ use Rattle.ps_certificate.specs.declared.flaw.Flaw.{Flaw}
 use Rattle.ps_certificate.specs.declared.flaw.Flaw.TheVariants as flaw
 use Rattle.ps_certificate.specs.Certificates.{CertificateData}
 use Rattle.ps_certificate.specs.Faults as certificate
-use Rattle.ps_certificate.specs.Texts.{Reads}
+use Rattle.ps_certificate.specs.Texts.{ReadsCertificate}
 use Rattle.ps_circuit.specs.Causes as circuit
 use Rattle.ps_circuit.specs.CauseNames as circuit_names
 use Rattle.ps_circuit.specs.Circuits.{CircuitData}
@@ -44,7 +44,7 @@ ReadsGameText text = Reading game.cause_number game.cause_name (Answer text)
 
 -- the text of a certificate of that game
 abbrev pub ReadsCertificateText : NamedGameData → List ℕ → Result CertificateData (List ℕ) → Type 0
-ReadsCertificateText named text = Reading certificate.cause_number certificate.cause_name (Reads named text)
+ReadsCertificateText named text = Reading certificate.cause_number certificate.cause_name (ReadsCertificate named text)
 
 -- a game text and the text of a certificate of that game
 abbrev pub ReadsCertified : List ℕ → Result (NamedGameData × CertificateData) (List ℕ) → Type 0
@@ -56,11 +56,11 @@ ReadsCertified texts =
 
 -- the text of a circuit
 abbrev pub ReadsCircuitText : List ℕ → Result CircuitData (List ℕ) → Type 0
-ReadsCircuitText text = Reading circuit.cause_number circuit_names.cause_name (circuit_text.Reads text)
+ReadsCircuitText text = Reading circuit.cause_number circuit_names.cause_name (circuit_text.ReadsCircuit text)
 
 -- the text of a stimulus for so many inputs, with a divider or without
 abbrev pub ReadsStimulusText : ℕ → Bool → List ℕ → Result StimulusData (List ℕ) → Type 0
-ReadsStimulusText width split text = Reading stimulus.cause_number stimulus.cause_name (stimulus_text.Reads text width split)
+ReadsStimulusText width split text = Reading stimulus.cause_number stimulus.cause_name (stimulus_text.ReadsStimulus text width split)
 
 -- the text of a circuit, and that of a stimulus that is all stem
 abbrev pub ReadsSimulated : List ℕ → Result (CircuitData × StimulusData) (List ℕ) → Type 0

@@ -9,7 +9,7 @@ use Rattle.ps_components.specs.Graphs.{Way, last}
 use Rattle.ps_components.specs.Orders.{IsOrder}
 use Rattle.ps_components.proofs.Ways.{Way-join}
 use Rattle.ps_circuit.specs.declared.parts.Gate.{Gate}
-use Rattle.ps_circuit.specs.Circuits.{CircuitData, IsCircuit, Reads, variable}
+use Rattle.ps_circuit.specs.Circuits.{CircuitData, IsCircuit, ReadsGate, variable}
 use Rattle.ps_simulate.specs.Plans.{no_gate}
 use Rattle.ps_simulate.proofs.CountLemmas.{few_below}
 
@@ -169,11 +169,11 @@ module _ (R : ℕ → ℕ → Type 0) (n : ℕ) (to_within : (i j : ℕ) → R i
       ap_some a b e = cc
 
 -- the gates at two places, of which the one has a literal of the other, or hasn't
-reads_at : (gates : List Gate) (i j : ℕ) (g h : Gate) → slice_get gates i ≡ Some g → slice_get gates j ≡ Some h → Reads gates i j ⊎ (Reads gates i j → ⊥)
+reads_at : (gates : List Gate) (i j : ℕ) (g h : Gate) → slice_get gates i ≡ Some g → slice_get gates j ≡ Some h → ReadsGate gates i j ⊎ (ReadsGate gates i j → ⊥)
 reads_at gates i j g h at_i at_j = which (cases_eq (variable g.first) (variable h.literal)) (cases_eq (variable g.second) (variable h.literal))
   where
     which : (variable g.first ≡ variable h.literal) ⊎ (variable g.first ≡ variable h.literal → ⊥) → (variable g.second ≡ variable h.literal) ⊎ (variable g.second ≡ variable h.literal → ⊥)
-        → Reads gates i j ⊎ (Reads gates i j → ⊥)
+        → ReadsGate gates i j ⊎ (ReadsGate gates i j → ⊥)
     which (inl first) _ = inl (record { reader = g; read = h; at_i = at_i; at_j = at_j; side = inl first })
     which (inr isnt) (inl second) = inl (record { reader = g; read = h; at_i = at_i; at_j = at_j; side = inr second })
     which (inr isnt) (inr none) = inr (λ r.
@@ -184,7 +184,7 @@ reads_at gates i j g h at_i at_j = which (cases_eq (variable g.first) (variable 
           | inr second ↦ none (ap (λ (x : Gate). variable x.second) (sym reader) ∙ second ∙ read)
         ]))
 
-reads_or_not : (gates : List Gate) (i j : ℕ) → Reads gates i j ⊎ (Reads gates i j → ⊥)
+reads_or_not : (gates : List Gate) (i j : ℕ) → ReadsGate gates i j ⊎ (ReadsGate gates i j → ⊥)
 reads_or_not gates i j = elim (cases_lt i (length gates)) [
   | inr out ↦ inr (λ r. absurd (omega (arith, out, slice_get_within gates i r.reader r.at_i)))
   | inl i_lt ↦ elim (cases_lt j (length gates)) [
@@ -193,5 +193,5 @@ reads_or_not gates i j = elim (cases_lt i (length gates)) [
   ]
 ]
 
-pub gates_in_order : (c : CircuitData) → IsCircuit c → (order : List ℕ) × IsOrder (Reads c.gates) (length c.gates) order
-gates_in_order c is = order_exists (Reads c.gates) (length c.gates) (λ i j r. slice_get_within c.gates j r.read r.at_j) (reads_or_not c.gates) is.acyclic
+pub gates_in_order : (c : CircuitData) → IsCircuit c → (order : List ℕ) × IsOrder (ReadsGate c.gates) (length c.gates) order
+gates_in_order c is = order_exists (ReadsGate c.gates) (length c.gates) (λ i j r. slice_get_within c.gates j r.read r.at_j) (reads_or_not c.gates) is.acyclic

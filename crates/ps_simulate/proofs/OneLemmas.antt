@@ -6,14 +6,14 @@ use Rattle.std.proofs.lemmas.Bool.{cases_lt}
 use Rattle.std.proofs.lemmas.Option.{slice_get-get_or, get_or_from_slice_get, slice_get_within}
 use Rattle.ps_circuit.specs.declared.parts.Latch.{Latch}
 use Rattle.ps_components.specs.Orders.{IsOrder}
-use Rattle.ps_circuit.specs.Circuits.{CircuitData, IsCircuit, IsKnown, Reads, variable, definitions}
+use Rattle.ps_circuit.specs.Circuits.{CircuitData, IsCircuit, IsKnown, ReadsGate, variable, definitions}
 use Rattle.ps_circuit.specs.Values.{AreValues, HasOneValues, value_of, bit_of}
 use Rattle.ps_simulate.specs.Plans.{row_at, no_gate}
 use Rattle.ps_simulate.proofs.PlacesLemmas.{sides_known}
 use Rattle.ps_simulate.proofs.RowLemmas.{no_latch, length-definitions, length-variables, definitions_input, definitions_latch, definitions_gate}
 use Rattle.ps_simulate.proofs.ValueLemmas.{bit_of-definition, first_table, Holds-first_table, AreValues-work_out}
 
-module _ (c : CircuitData) (is : IsCircuit c) (order : List ℕ) (is_order : IsOrder (Reads c.gates) (length c.gates) order)
+module _ (c : CircuitData) (is : IsCircuit c) (order : List ℕ) (is_order : IsOrder (ReadsGate c.gates) (length c.gates) order)
     (inputs latches values others : List Bool) (a : AreValues c inputs latches values) (b : AreValues c inputs latches others) where
   abbrev Same : ℕ → Type 0
   Same v = value_of values v ≡ value_of others v
@@ -98,7 +98,7 @@ module _ (c : CircuitData) (is : IsCircuit c) (order : List ℕ) (is_order : IsO
           let found : get_or order there.0 0 ≡ i = get_or_from_slice_get order there.0 i 0 there.1 in
           subst Same (ap (λ m. variable (get_or c.gates m no_gate).literal) found ∙ sym e) (gates_same (suc there.0) there.0 (omega arith) (slice_get_within order there.0 i there.1)))
 
-pub HasOneValues-circuit : (c : CircuitData) → IsCircuit c → (order : List ℕ) → IsOrder (Reads c.gates) (length c.gates) order → HasOneValues c
+pub HasOneValues-circuit : (c : CircuitData) → IsCircuit c → (order : List ℕ) → IsOrder (ReadsGate c.gates) (length c.gates) order → HasOneValues c
 HasOneValues-circuit c is order is_order = record {
   some = λ inputs latches many_inputs many_latches. (
     _,

@@ -13,7 +13,7 @@ use Rattle.ps_simulate.specs.Faults.{rank}
 use Rattle.ps_simulate.specs.Faults.{StimulusFault}
 use Rattle.ps_text.specs.declared.faults.Fault.TheVariants.{Text, OutOfMemory}
 use Rattle.ps_simulate.specs.Stimuli.{StimulusData, letters_of}
-use Rattle.ps_simulate.specs.StimulusTexts.{lines_of, extent, start_of, digits_of, divider, spelled, Divides, StandsInLine, StandsInLetter, MissesDivider, Stands, IsFirst, IsStimulus, IsAnswer}
+use Rattle.ps_simulate.specs.StimulusTexts.{lines_of, extent, start_of, digits_of, divider, spelled, Divides, StandsInLine, StandsInLetter, MissesDivider, Stands, IsFirst, IsStimulus, IsStimulusAnswer}
 use Rattle.ps_simulate.specs.StimulusReading.{HasRead, ReadsLine}
 use Rattle.ps_simulate.proofs.LineLemmas.{start_of-later, in_line_from, in_line_within}
 use Rattle.ps_simulate.proofs.StimulusLemmas.{slice_get-right, no_divider, divides_at, no_cause}
@@ -188,10 +188,10 @@ pub letters_of-push : (letters : List (Vec Bool Global)) (letter : Vec Bool Glob
 letters_of-push letters letter = map_push (λ (l : Vec Bool Global). l.items) letters letter
 
 -- the fault of a line is the answer to the text
-pub IsAnswer-line : (text : List ℕ) (width : ℕ) (split in_lap : Bool) (start end : ℕ) (s : StimulusData) → HasRead text width split in_lap start s → (line : List ℕ)
+pub IsStimulusAnswer-line : (text : List ℕ) (width : ℕ) (split in_lap : Bool) (start end : ℕ) (s : StimulusData) → HasRead text width split in_lap start s → (line : List ℕ)
     → lines_of (drop start text) ≡ line ∷ lines_of (drop (end + 1) text) → start + length line ≡ end → start < length text → end ≤ length text
     → (in_lap ≡ true) ⊎ (¬ (slice_get (lines_of text) (length (spelled in_lap s)) ≡ Some divider) ⊎ (split ≡ false))
-    → (fault : StimulusFault) → ReadsLine line start width (Err fault) → IsAnswer text width split (Err fault)
-IsAnswer-line text width split in_lap start end s h line next length_is some within plain (Text cause offset) first =
+    → (fault : StimulusFault) → ReadsLine line start width (Err fault) → IsStimulusAnswer text width split (Err fault)
+IsStimulusAnswer-line text width split in_lap start end s h line next length_is some within plain (Text cause offset) first =
     IsFirst-in_line text width split in_lap start end s h line next length_is some within (not_divides text width split in_lap start s h plain) cause offset first
-IsAnswer-line text width split in_lap start end s h line next length_is some within plain OutOfMemory first = tt
+IsStimulusAnswer-line text width split in_lap start end s h line next length_is some within plain OutOfMemory first = tt

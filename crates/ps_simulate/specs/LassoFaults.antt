@@ -14,7 +14,7 @@ pub record AreWide (c : CircuitData) (stem lap : List (List Bool)) : Type 0 wher
   pub lap_is : All (λ letter. length letter ≡ length c.inputs) lap
 
 -- no fault stands
-pub record IsSound (role : Role) (a : AutomatonData) (c : CircuitData) (stem lap : List (List Bool)) : Type 0 where
+pub record HasNoLassoFault (role : Role) (a : AutomatonData) (c : CircuitData) (stem lap : List (List Bool)) : Type 0 where
   pub wide : AreWide c stem lap
   pub some : 0 < length lap
   pub symbols : HasSymbols role a.names a.controllable c

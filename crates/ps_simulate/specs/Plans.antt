@@ -3,7 +3,7 @@
 use Rattle.std.specs.Prelude.{◌≡◌, ℕ, ◌+◌, ◌<◌, ◌%◌, ◌==◌, ◌&&◌, Bool, false, not, if◌then◌else◌, List, [], ◌∷◌, map, length, slice_index_or, slice_set}
 use Rattle.std.specs.List.{position_or_len}
 use Rattle.ps_circuit.specs.declared.parts.Gate.{Gate}
-use Rattle.ps_circuit.specs.Circuits.{CircuitData, variable, definitions, Reads}
+use Rattle.ps_circuit.specs.Circuits.{CircuitData, variable, definitions, ReadsGate}
 use Rattle.ps_components.specs.Orders.{IsOrder}
 use Rattle.ps_simulate.specs.declared.plan.Wire.{Wire}
 use Rattle.ps_simulate.specs.declared.plan.Row.{Row}
@@ -32,7 +32,7 @@ row_at c i = row_of c (slice_index_or c.gates i no_gate)
 -- the rows stand in an order in which each gate comes behind those that it reads
 pub record AreRows (c : CircuitData) (rows : List Row) : Type 0 where
   pub order : List ℕ
-  pub is_order : IsOrder (Reads c.gates) (length c.gates) order
+  pub is_order : IsOrder (ReadsGate c.gates) (length c.gates) order
   pub each : rows ≡ map (row_at c) order
 
 pub record IsPlan (c : CircuitData) (p : Plan) : Type 0 where

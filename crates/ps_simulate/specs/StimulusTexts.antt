@@ -4,7 +4,7 @@
 --     IsStimulus text width split s      the lines spell the letters
 --     Stands text width split cause offset      a cause stands there
 --     IsFirst S cause offset      of the causes that S has, this one stands first; at one offset `Stimulus` goes before `Width`
---     Reads text width split answer      the stimulus of a text without a cause, and else the first cause
+--     ReadsStimulus text width split answer      the stimulus of a text without a cause, and else the first cause
 use Rattle.std.specs.Prelude.{◌≡◌, ◌≢◌, ℕ, ◌+◌, ◌<◌, ◌≤◌, ◌⊎◌, ◌==◌, Bool, true, false, if◌then◌else◌, List, [], ◌∷◌, ◌++◌, length, map, take, slice_get, sum_by, All, Some, Result, Ok, Err}
 use Rattle.ps_text.specs.Answers.{Found}
 use Rattle.ps_simulate.specs.declared.fault.StimulusCause.{StimulusCause}
@@ -100,14 +100,14 @@ pub record IsFirst (S : StimulusCause → ℕ → Type 0) (cause : StimulusCause
   pub stands : S cause offset
   pub least : (other : StimulusCause) (there : ℕ) → S other there → (offset < there) ⊎ ((offset ≡ there) × (rank cause ≤ rank other))
 
-abbrev pub Reads : List ℕ → ℕ → Bool → Result StimulusData (Found StimulusCause) → Type 0
-Reads text width split (Ok s) = IsStimulus text width split s
-Reads text width split (Err found) = IsFirst (Stands text width split) found.cause found.offset
+abbrev pub ReadsStimulus : List ℕ → ℕ → Bool → Result StimulusData (Found StimulusCause) → Type 0
+ReadsStimulus text width split (Ok s) = IsStimulus text width split s
+ReadsStimulus text width split (Err found) = IsFirst (Stands text width split) found.cause found.offset
 
 -- what the reader answers: this, unless memory runs out
-abbrev pub IsAnswer : List ℕ → ℕ → Bool → Result StimulusData StimulusFault → Type 0
-IsAnswer text width split result = UnlessMemory (Reads text width split) result
+abbrev pub IsStimulusAnswer : List ℕ → ℕ → Bool → Result StimulusData StimulusFault → Type 0
+IsStimulusAnswer text width split result = UnlessMemory (ReadsStimulus text width split) result
 
 abbrev pub HasOneAnswer : List ℕ → ℕ → Bool → Type 0
 HasOneAnswer text width split =
-    (answer other : Result StimulusData (Found StimulusCause)) → Reads text width split answer → Reads text width split other → answer ≡ other
+    (answer other : Result StimulusData (Found StimulusCause)) → ReadsStimulus text width split answer → ReadsStimulus text width split other → answer ≡ other

@@ -7,7 +7,7 @@ ghost use Rattle.ps_automaton.specs.Automata.{IsBuiltFrom};
 ghost use Rattle.ps_automaton.specs.Chains.{Chain};
 ghost use Rattle.ps_simulate.specs.Stimuli.{letters_of};
 ghost use Rattle.ps_simulate.specs.Lassos.{IsVerdictOf};
-ghost use Rattle.ps_simulate.specs.LassoFaults.{IsSound, Stands};
+ghost use Rattle.ps_simulate.specs.LassoFaults.{HasNoLassoFault, Stands};
 ghost use Rattle.ps_simulate.specs.LassoRuns.{HavePlaces, IsSeen, ReadsWord, RepeatsBy};
 ghost use Rattle.ps_simulate.specs.Namings.{IsNaming, names_of};
 ghost use Rattle.ps_simulate.specs.declared.lassos.LassoFault.TheVariants.{OutOfMemory};
@@ -103,7 +103,7 @@ pub fn lasso(
     lap: &[Vec<bool>],
 ) -> Result<Verdict, LassoFault>
     ensures verdict { IfOk result (λ verdict. (file : FileData) (chain : Chain) → IsBuiltFrom file chain automaton.now → IsVerdictOf file circuit.now (letters_of stem.now) (letters_of lap.now) verdict) }
-    ensures sound { IfOk result (λ _. IsSound role automaton.now circuit.now (letters_of stem.now) (letters_of lap.now)) }
+    ensures sound { IfOk result (λ _. HasNoLassoFault role automaton.now circuit.now (letters_of stem.now) (letters_of lap.now)) }
     ensures fault { IfErr result (Stands role automaton.now circuit.now (letters_of stem.now) (letters_of lap.now)) }
 {
     let width = circuit.inputs().len();

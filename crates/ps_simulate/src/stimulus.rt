@@ -1,7 +1,7 @@
 //! Stimuli: the letters that a circuit is given, read from their texts.
 
 ghost use Rattle.std.specs.Prelude.{◌≡◌, ◌+◌, ◌-◌, ◌^◌, ◌<◌, ◌≤◌, ◌↔◌, ◌∷◌, ℕ, Bool, List, length, take, drop, slice_index, All, IsTrue, IfOk, IfSome, IfNone};
-ghost use Rattle.ps_simulate.specs.StimulusTexts.{IsDigit, lines_of, digits_of, divider, IsAnswer, HasOneAnswer};
+ghost use Rattle.ps_simulate.specs.StimulusTexts.{IsDigit, lines_of, digits_of, divider, IsStimulusAnswer, HasOneAnswer};
 ghost use Rattle.ps_simulate.specs.StimulusReading.{ReadsLine};
 
 use crate::fault::{StimulusCause, StimulusFault};
@@ -37,7 +37,7 @@ pub fn parse_stimulus(
     width: usize,
     split: bool,
 ) -> Result<Stimulus, StimulusFault>
-    ensures { IsAnswer text.now width split result }
+    ensures { IsStimulusAnswer text.now width split result }
 {
     let mut stem = Vec::new(alloc);
     let mut lap = Vec::new(alloc);

@@ -30,7 +30,7 @@ use Rattle.ps_synthesis.specs.declared.fault.SynthFault.{SynthFault}
 use Rattle.ps_synthesis.specs.declared.fault.SynthFault.TheVariants.{Text, Automaton, BadCycle, Certificate, NotCertified, CircuitTooLarge, OutOfMemory}
 use Rattle.ps_synthesis.specs.declared.report.Report.{Report}
 use Rattle.ps_synthesis.proofs.Outcomes.{IsSureFault, outcome}
-use Rattle.ps_traces.specs.Answers.{IsAnswer}
+use Rattle.ps_traces.specs.Answers.{IsWitness}
 
 module _ (order : Order) (text : List ℕ) (a : AutomatonData) (keys : List Key) (game : NamedGameData) (of : IsAutomatonOf text a)
     (is_game : IsGameOf (board_of order a) (mover_of order) keys game.game) (are_named : AreNamed (board_of order a) keys game) where
@@ -59,7 +59,7 @@ module _ (order : Order) (text : List ℕ) (a : AutomatonData) (keys : List Key)
 
   promise_is : (May : MayAnswer) (compact : Bool) (certificate : CertificateData) (circuit : CircuitData) (report : Report) → May game (Ok certificate) → IsCertified game certificate
       → BothHold game.game certificate → NoneWinsOutside game.game certificate
-      → ((file : FileData) (chain : Chain) → IsBuiltFrom file chain a → IsAnswer order file (winner certificate) circuit)
+      → ((file : FileData) (chain : Chain) → IsBuiltFrom file chain a → IsWitness order file (winner certificate) circuit)
       → (IsTrue report.realizable ↔ (winner certificate ≡ 0)) → PrintsCircuit report.circuit_text.items circuit → PrintsGame report.game_text.items game → PrintsCertificate compact report.certificate_text.items game certificate
       → KeepsPromise May order compact text report
   promise_is May compact certificate circuit report may certified hold outside answers realizable prints_circuit prints_game prints_certificate = record {
@@ -93,7 +93,7 @@ module _ (order : Order) (text : List ℕ) (a : AutomatonData) (keys : List Key)
   reports : (May : MayAnswer) (compact : Bool) (certificate : CertificateData) (result : Result Report SynthFault) → May game (Ok certificate) → IsCertified game certificate → BothHold game.game certificate
       → NoneWinsOutside game.game certificate → IfOk result (λ report. IsTrue report.realizable ↔ (winner certificate ≡ 0))
       → IfOk result (λ report. (circuit : CircuitData) × PrintsCircuit report.circuit_text.items circuit × IsCircuitOf order a game.game certificate circuit
-      × ((file : FileData) (chain : Chain) → IsBuiltFrom file chain a → IsAnswer order file (winner certificate) circuit))
+      × ((file : FileData) (chain : Chain) → IsBuiltFrom file chain a → IsWitness order file (winner certificate) circuit))
       → IfOk result (λ report. PrintsGame report.game_text.items game) → IfOk result (λ report. PrintsCertificate compact report.certificate_text.items game certificate)
       → IfOk result (IsReport May order compact text)
   unfolding promise_is
@@ -138,7 +138,7 @@ module _ (order : Order) (text : List ℕ) (a : AutomatonData) (keys : List Key)
 pub record IsMade (p : ProblemData) (certificate : CertificateData) (compact : Bool) (result : Result Report SynthFault) : Type 0 where
   pub realizable : IfOk result (λ report. IsTrue report.realizable ↔ (winner certificate ≡ 0))
   pub circuit : IfOk result (λ report. (circuit : CircuitData) × PrintsCircuit report.circuit_text.items circuit × IsCircuitOf p.order p.automaton p.game.game certificate circuit
-      × ((file : FileData) (chain : Chain) → IsBuiltFrom file chain p.automaton → IsAnswer p.order file (winner certificate) circuit))
+      × ((file : FileData) (chain : Chain) → IsBuiltFrom file chain p.automaton → IsWitness p.order file (winner certificate) circuit))
   pub game : IfOk result (λ report. PrintsGame report.game_text.items p.game)
   pub certificate_text : IfOk result (λ report. PrintsCertificate compact report.certificate_text.items p.game certificate)
   pub refused : IfErr result (IsCircuitFault p.order p.automaton p.game.game certificate)

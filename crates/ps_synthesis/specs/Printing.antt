@@ -20,8 +20,8 @@ pub record PrintsGame (text : List ℕ) (game : NamedGameData) : Type 0 where
 
 pub record PrintsCertificate (compact : Bool) (text : List ℕ) (game : NamedGameData) (certificate : CertificateData) : Type 0 where
   pub written : text ≡ text_in compact game certificate
-  pub read_again : certificates.Reads game text (Ok certificate)
+  pub read_again : certificates.ReadsCertificate game text (Ok certificate)
 
 pub record PrintsCircuit (text : List ℕ) (circuit : CircuitData) : Type 0 where
   pub written : text ≡ text_of circuit
-  pub read_again : circuits.Reads text (Ok circuit)
+  pub read_again : circuits.ReadsCircuit text (Ok circuit)

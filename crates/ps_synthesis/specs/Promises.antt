@@ -1,5 +1,5 @@
 -- What a report promises of the text that it is made of.
---     IsAccepted text file      the text is that of a file that has an automaton
+--     IsAcceptedText text file      the text is that of a file that has an automaton
 --     MayAnswer      what a solver may answer for a game
 --     KeepsPromise May order compact text report      the printed game is the automaton's; the printed certificate parts its vertices in
 --                                                     two regions, each won by the moves that are printed; the printed circuit is the answer
@@ -11,17 +11,17 @@ use Rattle.ps_certificate.specs.Regions.{BothHold, NoneWinsOutside}
 use Rattle.ps_circuit.specs.Circuits.{CircuitData}
 use Rattle.ps_game.specs.Games.{NamedGameData}
 use Rattle.ps_hoa.specs.Files.{FileData}
-use Rattle.ps_hoa.specs.Texts.{Reads}
+use Rattle.ps_hoa.specs.Texts.{ReadsFile}
 use Rattle.ps_machine.specs.FileGames.{IsGameOfFile}
 use Rattle.ps_machine.specs.Solving.{IsCertified, winner}
 use Rattle.ps_machine.specs.declared.fault.SolveFault.{SolveFault}
 use Rattle.ps_machine.specs.declared.key.Order.{Order}
-use Rattle.ps_traces.specs.Answers.{IsAnswer}
+use Rattle.ps_traces.specs.Answers.{IsWitness}
 use Rattle.ps_synthesis.specs.Printing.{PrintsGame, PrintsCertificate, PrintsCircuit}
 use Rattle.ps_synthesis.specs.declared.report.Report.{Report}
 
-pub record IsAccepted (text : List ℕ) (file : FileData) : Type 0 where
-  pub reads : Reads text (Ok file)
+pub record IsAcceptedText (text : List ℕ) (file : FileData) : Type 0 where
+  pub reads : ReadsFile text (Ok file)
   pub admitted : IsAdmitted file
 
 abbrev pub MayAnswer : Type 1
@@ -29,7 +29,7 @@ MayAnswer = NamedGameData → Result CertificateData SolveFault → Type 0
 
 pub record KeepsPromise (May : MayAnswer) (order : Order) (compact : Bool) (text : List ℕ) (report : Report) : Type 0 where
   pub file : FileData
-  pub accepted : IsAccepted text file
+  pub accepted : IsAcceptedText text file
   -- the game that is printed
   pub game : NamedGameData
   pub is_game : IsGameOfFile order file game
@@ -46,4 +46,4 @@ pub record KeepsPromise (May : MayAnswer) (order : Order) (compact : Bool) (text
   pub realizable : IsTrue report.realizable ↔ (winner certificate ≡ 0)
   pub circuit : CircuitData
   pub circuit_text : PrintsCircuit report.circuit_text.items circuit
-  pub answers : IsAnswer order file (winner certificate) circuit
+  pub answers : IsWitness order file (winner certificate) circuit

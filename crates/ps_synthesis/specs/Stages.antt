@@ -21,7 +21,7 @@ use Rattle.ps_certificate.specs.Certificates.{CertificateData}
 use Rattle.ps_game.specs.Games.{NamedGameData, ParityGame}
 use Rattle.ps_hoa.specs.Causes.{HoaFault}
 use Rattle.ps_hoa.specs.Files.{FileData}
-use Rattle.ps_hoa.specs.Texts.{Reads}
+use Rattle.ps_hoa.specs.Texts.{ReadsFile}
 use Rattle.ps_machine.specs.Boards.{IsGameOf}
 use Rattle.ps_machine.specs.BuiltBoards.{board_of}
 use Rattle.ps_machine.specs.Extracting.{HasPropositions, IsMachineOf}
@@ -32,19 +32,19 @@ use Rattle.ps_machine.specs.declared.fault.SolveFault.TheVariants as solver
 use Rattle.ps_machine.specs.declared.key.Key.{Key}
 use Rattle.ps_machine.specs.declared.key.Order.{Order}
 use Rattle.ps_text.specs.declared.faults.Fault.TheVariants as hoa
-use Rattle.ps_synthesis.specs.Promises.{IsAccepted, MayAnswer}
+use Rattle.ps_synthesis.specs.Promises.{IsAcceptedText, MayAnswer}
 use Rattle.ps_synthesis.specs.SynthFaults.{HasNoAutomaton, IsLost, IsNotCertified}
 use Rattle.ps_synthesis.specs.declared.fault.SynthFault.{SynthFault}
 use Rattle.ps_synthesis.specs.declared.fault.SynthFault.TheVariants.{Text, Automaton, BadCycle, Certificate, NotCertified, CircuitTooLarge, OutOfMemory}
 
 pub record IsAutomatonOf (text : List ℕ) (a : AutomatonData) : Type 0 where
   pub file : FileData
-  pub accepted : IsAccepted text file
+  pub accepted : IsAcceptedText text file
   pub chain : Chain
   pub built : IsBuiltFrom file chain a
 
 abbrev pub IsTextFault : List ℕ → SynthFault → Type 0
-IsTextFault text (Text cause offset) = Reads text (Err (record { cause = cause; offset = offset }))
+IsTextFault text (Text cause offset) = ReadsFile text (Err (record { cause = cause; offset = offset }))
 IsTextFault text (Automaton fault) = HasNoAutomaton text fault
 IsTextFault text OutOfMemory = Unit {0}
 IsTextFault text fault = ⊥

@@ -16,27 +16,27 @@ use Rattle.ps_automaton.specs.declared.fault.AutomatonFault.TheVariants as autom
 use Rattle.ps_certificate.specs.Certificates.{CertificateData}
 use Rattle.ps_game.specs.Games.{NamedGameData, vertex_count}
 use Rattle.ps_hoa.specs.Files.{FileData}
-use Rattle.ps_hoa.specs.Texts.{Reads}
+use Rattle.ps_hoa.specs.Texts.{ReadsFile}
 use Rattle.ps_machine.specs.FileGames.{IsGameOfFile}
 use Rattle.ps_machine.specs.Behaviours.{Behaviour}
 use Rattle.ps_machine.specs.Solving.{IsCertified}
 use Rattle.ps_machine.specs.declared.fault.SolveFault.TheVariants as solver
 use Rattle.ps_machine.specs.declared.key.Order.{Order}
 use Rattle.ps_synthesis.specs.Reports.{IsReport, IsWinners}
-use Rattle.ps_synthesis.specs.Promises.{IsAccepted, MayAnswer}
+use Rattle.ps_synthesis.specs.Promises.{IsAcceptedText, MayAnswer}
 use Rattle.ps_synthesis.specs.declared.fault.SynthFault.{SynthFault}
 use Rattle.ps_synthesis.specs.declared.fault.SynthFault.TheVariants.{Text, Automaton, BadCycle, Certificate, NotCertified, CircuitTooLarge, OutOfMemory}
 use Rattle.ps_synthesis.specs.declared.report.Report.{Report}
 
 pub record HasNoAutomaton (text : List ℕ) (fault : AutomatonFault) : Type 0 where
   pub file : FileData
-  pub reads : Reads text (Ok file)
+  pub reads : ReadsFile text (Ok file)
   pub cause : fault ≢ automaton.OutOfMemory
   pub refused : IsRefused file fault
 
 pub record OfGame (order : Order) (text : List ℕ) (P : FileData → NamedGameData → Type 0) : Type 0 where
   pub file : FileData
-  pub accepted : IsAccepted text file
+  pub accepted : IsAcceptedText text file
   pub game : NamedGameData
   pub is_game : IsGameOfFile order file game
   pub holds : P file game
@@ -63,7 +63,7 @@ pub record IsTooLarge (May : MayAnswer) (order : Order) (file : FileData) (game 
   pub out_of_literals : IsOutOfLiterals machine
 
 abbrev pub IsSynthFault : MayAnswer → Order → List ℕ → SynthFault → Type 0
-IsSynthFault May order text (Text cause offset) = Reads text (Err (record { cause = cause; offset = offset }))
+IsSynthFault May order text (Text cause offset) = ReadsFile text (Err (record { cause = cause; offset = offset }))
 IsSynthFault May order text (Automaton fault) = HasNoAutomaton text fault
 IsSynthFault May order text (BadCycle ids) = OfGame order text (λ file game. IsLost May game ids.items)
 IsSynthFault May order text (Certificate cause offset) = OfGame order text (λ file game. May game (Err (solver.Text cause offset)))

@@ -2,7 +2,7 @@
 
 ghost use Rattle.std.specs.Prelude.{◌≡◌, IfOk, IfErr};
 ghost use Rattle.ps_hoa.specs.Files.{FileData};
-ghost use Rattle.ps_synthesis.specs.Promises.{IsAccepted};
+ghost use Rattle.ps_synthesis.specs.Promises.{IsAcceptedText};
 ghost use Rattle.ps_synthesis.specs.Stages.{IsAutomatonOf, IsTextFault};
 ghost use Rattle.ps_synthesis.specs.declared.fault.SynthFault.TheVariants.{OutOfMemory};
 
@@ -20,7 +20,7 @@ use std::alloc::Global;
 pub fn read_automaton(alloc: Global, text: &[u8]) -> Result<Automaton, SynthFault>
     ensures automaton { IfOk result (IsAutomatonOf text.now) }
     ensures refused { IfErr result (IsTextFault text.now) }
-    ensures accepted { (file : FileData) → IsAccepted text.now file → IfErr result (λ fault. fault ≡ OutOfMemory) }
+    ensures accepted { (file : FileData) → IsAcceptedText text.now file → IfErr result (λ fault. fault ≡ OutOfMemory) }
 {
     one_answer();
     refusal_is_one();

@@ -11,7 +11,7 @@ ghost use Rattle.ps_machine.specs.Solving.{winner};
 ghost use Rattle.ps_machine.specs.Keys.{mover_of};
 ghost use Rattle.ps_machine.specs.Solving.{IsCertified};
 ghost use Rattle.ps_synthesis.specs.Stages.{IsCircuitFault, IsCircuitOf};
-ghost use Rattle.ps_traces.specs.Answers.{IsAnswer};
+ghost use Rattle.ps_traces.specs.Answers.{IsWitness};
 
 use crate::fault::SynthFault;
 use ps_aiger::{Circuit, encode};
@@ -37,7 +37,7 @@ pub fn circuit_of_certificate(
     requires classes { HasClasses order automaton.now game.now }
     requires certified { IsCertified game.now.game certificate.now }
     ensures made { IfOk result (IsCircuitOf order automaton.now game.now.game.game certificate.now) }
-    ensures answers { IfOk result (λ circuit. (file : FileData) (chain : Chain) → IsBuiltFrom file chain automaton.now → IsAnswer order file (winner certificate.now) circuit) }
+    ensures answers { IfOk result (λ circuit. (file : FileData) (chain : Chain) → IsBuiltFrom file chain automaton.now → IsWitness order file (winner certificate.now) circuit) }
     ensures refused { IfErr result (IsCircuitFault order automaton.now game.now.game.game certificate.now) }
 {
     one_game();

@@ -17,11 +17,11 @@ ghost use Rattle.ps_machine.specs.declared.key.Order.{Order};
 ghost use Rattle.ps_synthesis.specs.Printing.{PrintsCertificate, PrintsCircuit, PrintsGame};
 ghost use Rattle.ps_synthesis.specs.Problems.{Gives, IsProblem, IsProblemOf, IsReportFault};
 ghost use Rattle.ps_synthesis.specs.Reports.{IsReport};
-ghost use Rattle.ps_synthesis.specs.Promises.{IsAccepted};
+ghost use Rattle.ps_synthesis.specs.Promises.{IsAcceptedText};
 ghost use Rattle.ps_synthesis.specs.Stages.{IsCircuitFault, IsCircuitOf, IsTextFault};
 ghost use Rattle.ps_synthesis.specs.SynthFaults.{IsOutcome};
 ghost use Rattle.ps_synthesis.specs.declared.fault.SynthFault.TheVariants.{NotCertified, OutOfMemory};
-ghost use Rattle.ps_traces.specs.Answers.{IsAnswer};
+ghost use Rattle.ps_traces.specs.Answers.{IsWitness};
 
 use crate::automata::read_automaton;
 use crate::circuits::circuit_of_certificate;
@@ -66,7 +66,7 @@ impl Problem {
     pub fn read(alloc: Global, text: &[u8], order: Order) -> Result<Problem, SynthFault>
         ensures problem { IfOk result (IsProblemOf order text.now) }
         ensures refused { IfErr result (IsTextFault text.now) }
-        ensures accepted { (file : FileData) → IsAccepted text.now file → IfErr result (λ fault. fault ≡ OutOfMemory) }
+        ensures accepted { (file : FileData) → IsAcceptedText text.now file → IfErr result (λ fault. fault ≡ OutOfMemory) }
     {
         let automaton = read_automaton(alloc, text)?;
         let game = AutomatonGame::build(alloc, &automaton, order)?;
@@ -162,7 +162,7 @@ fn report_of_certificate(
     ensures circuit { IfOk result (λ report. (circuit : CircuitData)
         × PrintsCircuit report.circuit_text.items circuit
         × IsCircuitOf order automaton.now game.now.game.game certificate.now circuit
-        × ((file : FileData) (chain : Chain) → IsBuiltFrom file chain automaton.now → IsAnswer order file (winner certificate.now) circuit)) }
+        × ((file : FileData) (chain : Chain) → IsBuiltFrom file chain automaton.now → IsWitness order file (winner certificate.now) circuit)) }
     ensures game { IfOk result (λ report. PrintsGame report.game_text.items game.now.game) }
     ensures certificate { IfOk result (λ report. PrintsCertificate compact report.certificate_text.items game.now.game certificate.now) }
     ensures refused { IfErr result (IsCircuitFault order automaton.now game.now.game.game certificate.now) }

@@ -10,7 +10,7 @@ use Rattle.ps_machine.specs.Behaviours.{Behaviour, IsMachine, LassosWon}
 use Rattle.ps_machine.specs.declared.key.Order.{Order}
 use Rattle.ps_simulate.specs.declared.role.Role.{Role}
 use Rattle.ps_simulate.specs.declared.role.Role.TheVariants.{Controller, Environment}
-use Rattle.ps_traces.specs.Answers.{IsAnswer, role_of}
+use Rattle.ps_traces.specs.Answers.{IsWitness, role_of}
 use Rattle.ps_traces.specs.Roles.{IsMachineFor}
 use Rattle.ps_traces.specs.Shapes.{HasShape}
 use Rattle.ps_traces.proofs.Inputs.{each_goes_on}
@@ -24,7 +24,7 @@ other_role : (player : ℕ) → player ≢ 0 → role_of player ≡ Environment
 other_role player differ = ap (λ (b : Bool). if b then Controller else Environment) (ne_eqb player 0 differ)
 
 pub is_answer : (order : Order) (file : FileData) (m : Behaviour) (c : CircuitData) → HasOneValues c → IsMachine m → IsMachineFor order (role_of m.player) file m → Encodes m c → LassosWon file m
-    → IsAnswer order file m.player c
+    → IsWitness order file m.player c
 is_answer order file m c one is is_for encodes won =
     let names : AreNames file.names = subst AreNames is_for.names is.are_names in
     let shape = has_shape order (role_of m.player) file m c is is_for encodes in

@@ -10,7 +10,7 @@ use Rattle.ps_machine.specs.declared.key.Order.{Order}
 use Rattle.ps_machine.specs.declared.key.Order.TheVariants.{Mealy, Moore}
 use Rattle.ps_simulate.specs.declared.role.Role.TheVariants.{Environment}
 use Rattle.ps_traces.specs.Shapes.{IsInTime}
-use Rattle.ps_traces.specs.Meetings.{FiniteController, IsController, IsRead, Answers, GoesJointly, IsMeeting, MeetsInLasso}
+use Rattle.ps_traces.specs.Meetings.{FiniteController, IsController, IsRead, AnswersMoments, GoesJointly, IsMeeting, MeetsInLasso}
 use Rattle.ps_traces.proofs.Returns.{comes_again, number_lt, number_same}
 use Rattle.ps_traces.proofs.Runs.{IsWide}
 
@@ -129,8 +129,8 @@ module _ (order : Order) (c : CircuitData) (k : FiniteController) (one : HasOneV
           );
           answers = (
             s.answers,
-            subst (λ memory. Answers k memory rest.moments (place (from + suc count)).memory) (sym (next_memory from))
-                (subst (λ memory. Answers k (place (suc from)).memory rest.moments memory) (ap (λ n. (place n).memory) end) rest.goes.answers),
+            subst (λ memory. AnswersMoments k memory rest.moments (place (from + suc count)).memory) (sym (next_memory from))
+                (subst (λ memory. AnswersMoments k (place (suc from)).memory rest.moments memory) (ap (λ n. (place n).memory) end) rest.goes.answers),
           );
         };
         many = ap suc rest.many;
@@ -139,7 +139,7 @@ module _ (order : Order) (c : CircuitData) (k : FiniteController) (one : HasOneV
   from_start : (moments : List Moment) (to : List Bool) (last : ℕ) → GoesJointly c k (place 0).latches (place 0).memory moments to last → GoesJointly c k (resets c) k.first moments to last
   from_start moments to last goes = record {
     goes_on = subst (λ (latches : List Bool). GoesOn c latches moments to) start_latches goes.goes_on;
-    answers = subst (λ memory. Answers k memory moments last) start_memory goes.answers;
+    answers = subst (λ memory. AnswersMoments k memory moments last) start_memory goes.answers;
   }
 
   -- ## It comes back
@@ -173,7 +173,7 @@ module _ (order : Order) (c : CircuitData) (k : FiniteController) (one : HasOneV
         goes_there = from_start first.moments (place i).latches (place i).memory (subst (λ n. GoesJointly c k (place 0).latches (place 0).memory first.moments (place n).latches (place n).memory) here first.goes);
         comes_back = record {
           goes_on = subst (λ (to : List Bool). GoesOn c (place i).latches again.moments to) to_latches again.goes.goes_on;
-          answers = subst (λ last. Answers k (place i).memory again.moments last) to_memory again.goes.answers;
+          answers = subst (λ last. AnswersMoments k (place i).memory again.moments last) to_memory again.goes.answers;
         };
       }
 

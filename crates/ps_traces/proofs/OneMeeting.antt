@@ -11,7 +11,7 @@ use Rattle.ps_machine.specs.declared.key.Order.{Order}
 use Rattle.ps_machine.specs.declared.key.Order.TheVariants.{Mealy, Moore}
 use Rattle.ps_simulate.specs.declared.role.Role.TheVariants.{Environment}
 use Rattle.ps_traces.specs.Shapes.{IsInTime}
-use Rattle.ps_traces.specs.Meetings.{FiniteController, IsController, Answers, IsOneMeeting}
+use Rattle.ps_traces.specs.Meetings.{FiniteController, IsController, AnswersMoments, IsOneMeeting}
 use Rattle.ps_traces.proofs.Meetings.{meeting_of}
 
 All-front : {X : Type 0} (P : X → Type 0) (xs ys : List X) → All P (xs ++ ys) → All P xs
@@ -64,7 +64,7 @@ module _ (c : CircuitData) (is_circuit : IsCircuit c) (one : HasOneValues c) whe
 
   module _ (order : Order) (k : FiniteController) (in_time : IsInTime order Environment c) (is : IsController order c k) where
     one_way : (latches to to' : List Bool) (memory last last' : ℕ) (ms ns : List Moment) → memory < k.size → length ms ≡ length ns
-        → GoesOn c latches ms to → Answers k memory ms last → GoesOn c latches ns to' → Answers k memory ns last' → ms ≡ ns
+        → GoesOn c latches ms to → AnswersMoments k memory ms last → GoesOn c latches ns to' → AnswersMoments k memory ns last' → ms ≡ ns
     one_way latches to to' memory last last' [] [] within size a f b g = refl
     one_way latches to to' memory last last' [] (n ∷ ns) within size a f b g = absurd (omega (arith, size))
     one_way latches to to' memory last last' (m ∷ ms) [] within size a f b g = absurd (omega (arith, size))
@@ -74,7 +74,7 @@ module _ (c : CircuitData) (is_circuit : IsCircuit c) (one : HasOneValues c) whe
         let agree = steps_agree latches m.inputs m.outputs next n.outputs next' steps there in
         let first : m ≡ n = ap₂ (λ ls is. moment ls is m.outputs) (at ∙ sym at') inputs ∙ ap (moment n.latches n.inputs) agree.0 in
         let others : ms ≡ ns = one_way next to to' (k.next memory m.outputs) last last' ms ns (is.next_within memory m.outputs within (outputs_wide latches m.inputs m.outputs next steps)) (omega (arith, size)) rest f.1
-        (subst (λ (from : List Bool). GoesOn c from ns to') (sym agree.1) rest') (subst (λ (read : List Bool). Answers k (k.next memory read) ns last') (sym agree.0) g.1) in
+        (subst (λ (from : List Bool). GoesOn c from ns to') (sym agree.1) rest') (subst (λ (read : List Bool). AnswersMoments k (k.next memory read) ns last') (sym agree.0) g.1) in
         ap₂ (λ x xs. x ∷ xs) first others
 
     pub one_meeting : (count : ℕ) → IsOneMeeting c k count

@@ -1,6 +1,6 @@
 -- What the circuit of the winner is worth: a controller's where the automaton can be realised, else an environment's.
 --     role_of player      0 is the controller
---     IsAnswer order file player c      its shape; each word of it is accepted, or none is; each input goes on in such a word; and an
+--     IsWitness order file player c      its shape; each word of it is accepted, or none is; each input goes on in such a word; and an
 --                                       environment's meeting with any finite-state controller goes on in one, which is rejected
 use Rattle.std.specs.Prelude.{◌≡◌, ◌≢◌, ℕ, List, if◌then◌else◌, nat_eq}
 use Rattle.ps_hoa.specs.Files.{FileData}
@@ -22,7 +22,7 @@ pub record LosesMeeting (file : FileData) (c : CircuitData) (k : FiniteControlle
   pub one : (count : ℕ) → IsOneMeeting c k count
   pub rejected : IsRejected file c k
 
-pub record IsAnswer (order : Order) (file : FileData) (player : ℕ) (c : CircuitData) : Type 0 where
+pub record IsWitness (order : Order) (file : FileData) (player : ℕ) (c : CircuitData) : Type 0 where
   pub is_circuit : IsCircuit c
   pub shape : HasShape order (role_of player) file c
   pub accepted : player ≡ 0 → AllAccepted file c

@@ -40,13 +40,13 @@ pub record IsController (order : Order) (c : CircuitData) (k : FiniteController)
 -- ## The meeting
 
 -- the controller answers each moment's outputs by its inputs, and its memory goes from the one to the other
-abbrev pub Answers : FiniteController → ℕ → List Moment → ℕ → Type 0
-Answers k memory [] last = memory ≡ last
-Answers k memory (m ∷ ms) last = (m.inputs ≡ k.plays memory m.outputs) × Answers k (k.next memory m.outputs) ms last
+abbrev pub AnswersMoments : FiniteController → ℕ → List Moment → ℕ → Type 0
+AnswersMoments k memory [] last = memory ≡ last
+AnswersMoments k memory (m ∷ ms) last = (m.inputs ≡ k.plays memory m.outputs) × AnswersMoments k (k.next memory m.outputs) ms last
 
 pub record GoesJointly (c : CircuitData) (k : FiniteController) (latches : List Bool) (memory : ℕ) (moments : List Moment) (to : List Bool) (last : ℕ) : Type 0 where
   pub goes_on : GoesOn c latches moments to
-  pub answers : Answers k memory moments last
+  pub answers : AnswersMoments k memory moments last
 
 -- the first moments of the meeting
 pub record IsMeeting (c : CircuitData) (k : FiniteController) (moments : List Moment) : Type 0 where

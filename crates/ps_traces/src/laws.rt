@@ -2,7 +2,7 @@
 
 ghost use Rattle.std.specs.Prelude.{◌≡◌, ◌≢◌, ℕ, ◌<◌, Bool, List, length};
 ghost use Rattle.ps_hoa.specs.Files.{FileData};
-ghost use Rattle.ps_hoa.specs.Sound.{AreNames, IsSound};
+ghost use Rattle.ps_hoa.specs.Sound.{AreNames, IsSoundFile};
 ghost use Rattle.ps_automaton.specs.Answers.{IsAdmitted};
 ghost use Rattle.ps_automaton.specs.Automata.{AutomatonData, IsBuiltFrom};
 ghost use Rattle.ps_automaton.specs.Chains.{Chain};
@@ -25,7 +25,7 @@ ghost use Rattle.ps_simulate.specs.Symbols.{HasSymbols};
 ghost use Rattle.ps_simulate.specs.declared.lassos.Verdict.{Verdict};
 ghost use Rattle.ps_simulate.specs.declared.role.Role.{Role};
 ghost use Rattle.ps_simulate.specs.declared.role.Role.TheVariants.{Environment};
-ghost use Rattle.ps_traces.specs.Answers.{IsAnswer, role_of};
+ghost use Rattle.ps_traces.specs.Answers.{IsWitness, role_of};
 ghost use Rattle.ps_traces.specs.Traces.{IsLassoWord, AllAccepted, NoneAccepted};
 ghost use Rattle.ps_traces.specs.Roles.{IsMachineFor};
 ghost use Rattle.ps_traces.specs.Shapes.{HasShape, IsInTime};
@@ -51,7 +51,7 @@ pub fn every_trace_has_letters()
 /// A file that was read and is admitted, and a circuit with the inputs and outputs of a role, have a verdict on each
 /// stem and each lap, not empty, of letters of the circuit's width.
 pub fn verdict_is_there()
-    ensures { (role : Role) (file : FileData) (c : CircuitData) (stem lap : List (List Bool)) → IsSound file → IsAdmitted file → IsCircuit c →
+    ensures { (role : Role) (file : FileData) (c : CircuitData) (stem lap : List (List Bool)) → IsSoundFile file → IsAdmitted file → IsCircuit c →
         HasSymbols role file.names file.controllable c → AreWide c stem lap → 0 < length lap → (verdict : Verdict) × IsVerdictOf file c stem lap verdict }
 {
     automaton_is_there();
@@ -93,7 +93,7 @@ pub fn circuit_has_shape()
 
 /// All of this together: what the circuit of the winner's machine is worth.
 pub fn circuit_answers()
-    ensures { (order : Order) (file : FileData) (m : Behaviour) (c : CircuitData) → IsMachine m → IsMachineFor order (role_of m.player) file m → Encodes m c → LassosWon file m → IsAnswer order file m.player c }
+    ensures { (order : Order) (file : FileData) (m : Behaviour) (c : CircuitData) → IsMachine m → IsMachineFor order (role_of m.player) file m → Encodes m c → LassosWon file m → IsWitness order file m.player c }
 {
     circuit_has_one_values();
 }
@@ -104,7 +104,7 @@ pub fn certified_circuit_answers()
     ensures { (file : FileData) (chain : Chain) (a : AutomatonData) (order : Order) (keys : List Key) (game : ParityGame) (certificate : CertificateData) (m : Behaviour) (c : CircuitData) →
         IsBuiltFrom file chain a → IsGameOf (board_of order a) (mover_of order) keys game → Fits game certificate → IsValid game certificate →
         IsMachine m → HasPropositions a.names (board_of order a) m → IsMachineOf (board_of order a) (mover_of order) keys game certificate m →
-        Encodes m c → IsAnswer order file (winner certificate) c }
+        Encodes m c → IsWitness order file (winner certificate) c }
 {
     lassos_won();
     circuit_has_one_values();

@@ -2,7 +2,7 @@
 
 ghost use Rattle.std.specs.Prelude.{IfOk};
 ghost use Rattle.ps_program.specs.Outcomes.{Gives};
-ghost use Rattle.ps_program.specs.Program.{Answers, AnswersLine};
+ghost use Rattle.ps_program.specs.Program.{AnswersInput, AnswersLine};
 ghost use Rattle.ps_program.specs.Replies.{reply_of};
 ghost use Rattle.ps_program.specs.Solvers.{solver_of, solvers_of};
 
@@ -27,7 +27,7 @@ pub fn answer_to(
     built_in: &mut Box<dyn Solver>,
     replay: &mut Box<dyn Solver>,
 ) -> Result<Answer, AllocError>
-    ensures { IfOk result (λ answer. Answers (solvers_of
+    ensures { IfOk result (λ answer. AnswersInput (solvers_of
         (solver_of (is_sure built_in.old) (fed built_in.old) (may_answer built_in.old))
         (solver_of (is_sure replay.old) (fed replay.old) (may_answer replay.old))) input.now (reply_of answer)) }
 {

@@ -6,7 +6,7 @@ ghost use Rattle.ps_game.specs.Games.{NamedGameData};
 ghost use Rattle.ps_hoa.specs.Files.{FileData};
 ghost use Rattle.ps_machine.specs.declared.fault.SolveFault.{SolveFault};
 ghost use Rattle.ps_synthesis.specs.Asking.{Answered};
-ghost use Rattle.ps_synthesis.specs.Promises.{IsAccepted};
+ghost use Rattle.ps_synthesis.specs.Promises.{IsAcceptedText};
 ghost use Rattle.ps_synthesis.specs.Reports.{IsReport};
 ghost use Rattle.ps_synthesis.specs.SynthFaults.{IsOutcome, IsSynthFault};
 
@@ -33,7 +33,7 @@ pub fn synthesise(
     ensures report { IfOk result (IsReport (Answered (may_answer solver.old (fed solver.old)) (gave solver.new)) order compact text.now) }
     ensures refused { IfErr result (IsSynthFault (Answered (may_answer solver.old (fed solver.old)) (gave solver.new)) order text.now) }
     // With a sure solver, a text that is accepted gets a report; or memory ran out, or the circuit is too large.
-    ensures sure { is_sure solver.old ≡ true → (file : FileData) → IsAccepted text.now file → IsOutcome (Answered (may_answer solver.old (fed solver.old)) (gave solver.new)) order compact text.now result }
+    ensures sure { is_sure solver.old ≡ true → (file : FileData) → IsAcceptedText text.now file → IsOutcome (Answered (may_answer solver.old (fed solver.old)) (gave solver.new)) order compact text.now result }
     // The solver stays as it was.
     ensures steady { is_sure solver.new ≡ is_sure solver.old }
     ensures kept { fed solver.new ≡ fed solver.old }

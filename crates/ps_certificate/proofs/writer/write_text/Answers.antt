@@ -1,7 +1,7 @@
 use Rattle.std.proofs.Common.{rules, arith, ap, subst, sym, ◌≡◌, ◌∙◌, Ok}
 use Rattle.std.specs.List.{All}
 use Rattle.ps_game.specs.Games.{vertex_count}
-use Rattle.ps_certificate.specs.Texts.{Reads}
+use Rattle.ps_certificate.specs.Texts.{ReadsCertificate}
 use Rattle.ps_certificate.specs.Written.{IsWord, IsWritable, HasWords, text_in}
 use Rattle.ps_certificate.specs.Certificates.{EntryData, CertificateData}
 use Rattle.ps_certificate.proofs.Writing.{writable, reads_again}
@@ -31,4 +31,4 @@ returns-clause-read_again c =
       even = c.in_ok-write_head.ensures.words.2;
       counts = subst (All (λ (e : EntryData). All IsWord e.counts)) entries c.in_ok-write_entries.ensures.counts;
     } in
-    subst (λ t. Reads c.args.game.now t (Ok c.args.certificate.now)) (sym bytes) (reads_again c.args.compact c.args.game.now c.args.certificate.now c.game.ensures.well_formed c.requires words)
+    subst (λ t. ReadsCertificate c.args.game.now t (Ok c.args.certificate.now)) (sym bytes) (reads_again c.args.compact c.args.game.now c.args.certificate.now c.game.ensures.well_formed c.requires words)

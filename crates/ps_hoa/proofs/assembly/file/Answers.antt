@@ -12,7 +12,7 @@ use Rattle.ps_hoa.specs.declared.condition.Cond.{Always}
 use Rattle.ps_hoa.specs.Body.{BodyData}
 use Rattle.ps_hoa.specs.FileViews.{file_data}
 use Rattle.ps_hoa.specs.Rows.{body_data}
-use Rattle.ps_hoa.specs.Sound.{IsSound}
+use Rattle.ps_hoa.specs.Sound.{IsSoundFile}
 use Rattle.ps_hoa.specs.Texts.{file_of}
 use Rattle.ps_hoa.specs.declared.file.HoaFile.TheInside.{Inside}
 use Rattle.ps_hoa.specs.declared.header.Acceptance.{Acceptance}
@@ -62,7 +62,7 @@ pub invariant_of-result : goal.invariant_of-result
 invariant_of-result c =
     let rows = c.as_slice.ensures in
     let start = c.unwrap_or-start.ensures in
-    subst IsSound (sym (file_is c.args.header (body_data c.args.rows) (record {
+    subst IsSoundFile (sym (file_is c.args.header (body_data c.args.rows) (record {
       states = c.count_of_states-states.result;
       start = c.unwrap_or-start.result;
       names = c.unwrap_or.result;

@@ -3,7 +3,7 @@ use Rattle.ps_text.proofs.Exits.{reads_give}
 use Rattle.ps_text.proofs.Branches.{meets_as, reads_as}
 use Rattle.ps_hoa.specs.Body.{is_left_brace, sets}
 use Rattle.ps_hoa.specs.Causes.{found_of, hoa_causes}
-use Rattle.ps_hoa.specs.Reads.{Reads}
+use Rattle.ps_hoa.specs.Reads.{ReadsAs}
 use Rattle.ps_hoa.specs.Scan.{stream_of}
 use Rattle.ps_hoa.specs.Views.{header_data}
 use Rattle.ps_hoa.specs.declared.tokens.Kind.TheVariants.{LeftBrace}
@@ -14,7 +14,7 @@ pub returns-then-is_at : goal.returns-then-is_at
 returns-then-is_at c =
     meets_as found_of hoa_causes (λ ns. ns.items) _ _ c.sets.result
     (at_brace (header_data c.args.header.now) (stream_of c.args.tokens.now) (c.is_at.ensures.0 c.if-is_at.true))
-    (subst (λ count. Reads (λ ns. ns.items) (sets count) c.args.tokens.now c.sets.result c.sets.new.tokens) c.sets-count.ensures c.sets.ensures)
+    (subst (λ count. ReadsAs (λ ns. ns.items) (sets count) c.args.tokens.now c.sets.result c.sets.new.tokens) c.sets-count.ensures c.sets.ensures)
 
 pub returns-else-is_at : goal.returns-else-is_at
 returns-else-is_at c =

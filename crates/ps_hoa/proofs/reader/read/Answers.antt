@@ -7,8 +7,8 @@ use Rattle.ps_hoa.specs.Files.{FileData}
 use Rattle.ps_hoa.specs.Header.{HeaderData, header}
 use Rattle.ps_hoa.specs.Rows.{body_data}
 use Rattle.ps_hoa.specs.Scan.{next_of, stream_of}
-use Rattle.ps_hoa.specs.Sound.{IsSound}
-use Rattle.ps_hoa.specs.Texts.{file_of, file, Answers, IsFaultOf}
+use Rattle.ps_hoa.specs.Sound.{IsSoundFile}
+use Rattle.ps_hoa.specs.Texts.{file_of, file, IsFileAnswer, IsFaultOf}
 use Rattle.ps_hoa.specs.Causes.{HoaFault}
 use Rattle.ps_text.specs.declared.faults.Fault.TheVariants.{OutOfMemory}
 use Rattle.ps_hoa.specs.declared.file.HoaFile.{HoaFile}
@@ -21,7 +21,7 @@ use Rattle.ps_hoa.proofs.SoundFiles.{keeps_file}
 use Rattle.ps_hoa.proofs.reader.read.Goals as goal
 
 -- what a header and a body that were read say together is sound
-sound : (old mid new : Stream Sign) (h : HeaderData) (b : BodyData) → Reads header old h mid → Reads (body h) mid b new → IsSound (file_of h b)
+sound : (old mid new : Stream Sign) (h : HeaderData) (b : BodyData) → Reads header old h mid → Reads (body h) mid b new → IsSoundFile (file_of h b)
 sound old mid new h b m n = keeps_read file keeps_file (signs old.pieces) (signs new.pieces) (file_of h b) (reads_then joint_file m (reads_mapped (file_of h) n)).1
 
 pub returns-in_err-tokens-clause-answer : goal.returns-in_err-tokens-clause-answer
@@ -46,8 +46,8 @@ file-requires c = sound (stream_of c.in_ok-tokens.tokens) (stream_of c.header.ne
     (header_data c.in_ok-header.header) (body_data c.in_ok-rows.rows) c.in_ok-header.ensures c.in_ok-rows.ensures
 
 -- what holds of the file where it was made, and of the fault that there was no memory for it
-made : (text : List ℕ) (v : FileData) (r : Result HoaFile HoaFault) → ((x : HoaFile) → (λ (x : FileData). x) x ≡ v → Answers (λ (x : FileData). x) text (Ok x)) →
-    IfOk r (λ x. (λ (x : FileData). x) x ≡ v) → IfErr r (λ e. e ≡ OutOfMemory) → Answers (λ (x : FileData). x) text r
+made : (text : List ℕ) (v : FileData) (r : Result HoaFile HoaFault) → ((x : HoaFile) → (λ (x : FileData). x) x ≡ v → IsFileAnswer (λ (x : FileData). x) text (Ok x)) →
+    IfOk r (λ x. (λ (x : FileData). x) x ≡ v) → IfErr r (λ e. e ≡ OutOfMemory) → IsFileAnswer (λ (x : FileData). x) text r
 made text v (Ok x) h o m = h x o
 made text v (Err e) h o m = subst (IsFaultOf text) (sym m) tt
 
@@ -58,8 +58,8 @@ returns-clause-answer c = made c.args.text.now (file_of (header_data c.in_ok-hea
     x v c.in_ok-finish.ensures)
     c.file.ensures.value c.file.ensures.memory
 
-made_sound : (v : FileData) (r : Result HoaFile HoaFault) → IsSound v → IfOk r (λ x. (λ (x : FileData). x) x ≡ v) → IfOk r IsSound
-made_sound v (Ok x) s e = subst IsSound (sym e) s
+made_sound : (v : FileData) (r : Result HoaFile HoaFault) → IsSoundFile v → IfOk r (λ x. (λ (x : FileData). x) x ≡ v) → IfOk r IsSoundFile
+made_sound v (Ok x) s e = subst IsSoundFile (sym e) s
 made_sound v (Err e) s o = tt
 
 pub returns-clause-sound : goal.returns-clause-sound

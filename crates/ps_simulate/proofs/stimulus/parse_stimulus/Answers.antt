@@ -3,7 +3,7 @@ use Rattle.std.specs.Global.{Global}
 use Rattle.std.proofs.lemmas.Result.{err_from_is_err_and}
 use Rattle.ps_simulate.specs.Stimuli.{StimulusData, letters_of}
 use Rattle.ps_simulate.specs.Faults.{StimulusFault}
-use Rattle.ps_simulate.specs.StimulusTexts.{lines_of, spelled, divider, IsAnswer}
+use Rattle.ps_simulate.specs.StimulusTexts.{lines_of, spelled, divider, IsStimulusAnswer}
 use Rattle.ps_simulate.proofs.StimulusSteps.{HasRead-letter, HasRead-divider, HasRead-same, IsFirst-end, IsAnswer-line, at_line, letters_of-push}
 use Rattle.ps_simulate.proofs.stimulus.parse_stimulus.Goals as goal
 use Rattle.ps_simulate.proofs.stimulus.parse_stimulus.Goals.{After-line_end-end, then-split+then-not-in_lap+then-is_divider, else-split+in_ok-letter+then-in_lap+in_ok-push, else-split-via-then-split+then-not-in_lap+else-is_divider, else-split-via-then-split+else-not-in_lap, else-split-via-else-split, else-split+in_ok-letter+else-in_lap+in_ok-push-2}
@@ -14,7 +14,7 @@ length_is text start end from within = omega (arith, length-take (end - start) (
 
 pub returns-then-not-in_lap-2 : goal.returns-then-not-in_lap-2
 returns-then-not-in_lap-2 c =
-    subst (λ (fault : StimulusFault). IsAnswer c.args.text.now c.args.width c.args.split (Err fault)) (sym c.at.ensures)
+    subst (λ (fault : StimulusFault). IsStimulusAnswer c.args.text.now c.args.width c.args.split (Err fault)) (sym c.at.ensures)
     (IsFirst-end c.args.text.now c.args.width c.args.split c.loop-start.start _
     (HasRead-same c.args.text.now c.args.width c.args.split c.loop-start.in_lap false c.loop-start.start _ _ _ _ c.if-not-in_lap-2.true refl refl c.loop-start.invariant)
     (omega arith) c.if-split-2.true)
@@ -69,5 +69,5 @@ returns-in_err-letter c =
     ] in
     let p = err_from_is_err_and c.from_residual.result c.from_residual.ensures.1 in
     rw (p.1, p.2)
-    (IsAnswer-line text c.args.width c.args.split c.loop-start.in_lap start end s c.loop-start.invariant line c.line_end-end.ensures.lines ends c.loop-start-test.true c.line_end-end.ensures.within plain
+    (IsStimulusAnswer-line text c.args.width c.args.split c.loop-start.in_lap start end s c.loop-start.invariant line c.line_end-end.ensures.lines ends c.loop-start-test.true c.line_end-end.ensures.within plain
     c.in_err-letter.field-0.0 c.in_err-letter.ensures)

@@ -1,5 +1,5 @@
 use Rattle.std.proofs.Common.{subst, ℕ, List}
-use Rattle.ps_program.specs.Program.{Answers, Writes}
+use Rattle.ps_program.specs.Program.{AnswersInput, Writes}
 use Rattle.ps_program.specs.Replies.{reply_of}
 use Rattle.ps_program.specs.Solvers.{Solvers, solver_of, solvers_of}
 use Rattle.ps_program.specs.Streams.{sink_state}
@@ -18,7 +18,7 @@ returns-in-Ok-answer_to-clause-answered g c =
     let read = c.in-Ok.ensures.read in (
       reply_of answer,
       replies_answer solvers _ _ c.in-Ok.input.items _ read.0 read.1 read.2
-          (subst (λ (input : List ℕ). Answers solvers input (reply_of answer)) c.as_slice.ensures.value c.in-Ok-answer_to.ensures),
+          (subst (λ (input : List ℕ). AnswersInput solvers input (reply_of answer)) c.as_slice.ensures.value c.in-Ok-answer_to.ensures),
       subst (λ (text : List ℕ). Writes (state c.args.writer.now) (state c.write_reply.new.writer) (record { text = text; status = answer.status }) c.write_reply.result)
           c.as_slice-in-Ok-answer_to.ensures.value c.write_reply.ensures,
     )

@@ -1,6 +1,6 @@
 use Rattle.std.proofs.Common.{◌≡◌, ◌∙◌, ℕ, ◌<◌, length, sym, subst}
 use Rattle.std.proofs.lemmas.Option.{slice_get_within}
-use Rattle.ps_circuit.specs.Circuits.{Reads}
+use Rattle.ps_circuit.specs.Circuits.{ReadsGate}
 use Rattle.ps_circuit.proofs.Ordered.{acyclic, order-of_places}
 use Rattle.ps_circuit.proofs.circuit.Circuit.in_order.Goals as goal
 
@@ -8,12 +8,12 @@ pub invariant_of-result : goal.invariant_of-result
 invariant_of-result c =
     let gates = c.args.parts.gates.items in
     let n : c.len.result ≡ length gates = c.len.ensures ∙ c.args.parts.gates.ok.0 in
-    let within : (i j : ℕ) → Reads gates i j → i < length gates = λ i j r. slice_get_within gates i _ r.at_i in (
-      record { draft = c.requires.draft; acyclic = acyclic (Reads gates) (length gates) c.requires.ordered within },
-      order-of_places (Reads gates) (length gates) c.requires.ordered within c.in_ok-order.order.items (c.in_ok-order.ensures.count ∙ n) (λ k lt. c.in_ok-order.ensures.each k (subst (λ m. k < m) (sym n) lt)),
+    let within : (i j : ℕ) → ReadsGate gates i j → i < length gates = λ i j r. slice_get_within gates i _ r.at_i in (
+      record { draft = c.requires.draft; acyclic = acyclic (ReadsGate gates) (length gates) c.requires.ordered within },
+      order-of_places (ReadsGate gates) (length gates) c.requires.ordered within c.in_ok-order.order.items (c.in_ok-order.ensures.count ∙ n) (λ k lt. c.in_ok-order.ensures.each k (subst (λ m. k < m) (sym n) lt)),
     )
 
 pub returns-clause-well_formed : goal.returns-clause-well_formed
 returns-clause-well_formed c =
     let gates = c.args.parts.gates.items in
-    record { draft = c.requires.draft; acyclic = acyclic (Reads gates) (length gates) c.requires.ordered (λ i j r. slice_get_within gates i _ r.at_i) }
+    record { draft = c.requires.draft; acyclic = acyclic (ReadsGate gates) (length gates) c.requires.ordered (λ i j r. slice_get_within gates i _ r.at_i) }

@@ -1,6 +1,6 @@
 use Rattle.std.proofs.Common.{◌≡◌, ◌≢◌, AllPairs, sym, subst}
 use Rattle.ps_components.specs.Orders.{IsFirstOnCycle, IsArrangement}
-use Rattle.ps_circuit.specs.Circuits.{variable, Reads}
+use Rattle.ps_circuit.specs.Circuits.{variable, ReadsGate}
 use Rattle.ps_circuit.specs.Drafts.{data_of}
 use Rattle.ps_circuit.specs.GateGraphs.{graph_of, AreLinksOf}
 use Rattle.ps_circuit.proofs.LinksLemmas.{gates_once, links_within, order-of_links, acyclic-of_links, cyclic-of_links}
@@ -32,4 +32,4 @@ returns-in-Cyclic-clause-cyclic c =
     let links = subst (λ gs. AreLinksOf gs c.in_ok-links.links.items) c.deref.ensures.value c.in_ok-links.ensures in
     let arranged = subst (λ a. IsArrangement (graph_of c.in_ok-links.links.items) a) c.in-Cyclic.is c.in_ok-arrangement.ensures in
     let first = cyclic-of_links _ _ links c.in-Cyclic.gate arranged in
-    λ i e. (let same : c.in-Cyclic.gate ≡ i = cc in subst (λ x. IsFirstOnCycle (Reads c.args.parts.gates.items) x) same first)
+    λ i e. (let same : c.in-Cyclic.gate ≡ i = cc in subst (λ x. IsFirstOnCycle (ReadsGate c.args.parts.gates.items) x) same first)

@@ -1,6 +1,6 @@
 use Rattle.std.proofs.Common.{◌≡◌, ◌∙◌, ◌-◌, ◌++◌, length, take, drop, ap, sym, subst, ◌<◌, slice_get, Some}
 use Rattle.std.proofs.lemmas.List.{take_rest}
-use Rattle.ps_components.specs.Searching.{IsSound, ChangesReached, close_all, turns}
+use Rattle.ps_components.specs.Searching.{IsSoundSearch, ChangesReached, close_all, turns}
 use Rattle.ps_components.proofs.Places.{last_split}
 use Rattle.ps_components.proofs.Reaching.{reached-closed}
 use Rattle.ps_components.proofs.Closing.{sound-closed, fewer-closed, kept-closed, in_range}
@@ -12,7 +12,7 @@ close_items-requires g c =
     let s = c.args.self.now in
     let front = take (length s.bounds.items - 1) s.bounds.items in
     let split = last_split s.bounds.items c.args.bound c.requires.last in
-    let sound = subst (λ bs. IsSound gr s.marks.items s.active.items bs s.pending.items s.order.items) split c.requires.sound in
+    let sound = subst (λ bs. IsSoundSearch gr s.marks.items s.active.items bs s.pending.items s.order.items) split c.requires.sound in
     λ k v h. in_range gr s.marks.items s.active.items front c.args.bound s.pending.items s.order.items sound c.requires.done k v
     (subst (λ d. slice_get (drop c.args.bound d) k ≡ Some v) c.deref.ensures.value (subst (λ xs. slice_get xs k ≡ Some v) (take_rest c.deref.result.now c.args.bound) h))
 
@@ -22,7 +22,7 @@ returns-clause-sound g c =
     let s = c.args.self.now in
     let front = take (length s.bounds.items - 1) s.bounds.items in
     let split = last_split s.bounds.items c.args.bound c.requires.last in
-    let sound = subst (λ bs. IsSound gr s.marks.items s.active.items bs s.pending.items s.order.items) split c.requires.sound in
+    let sound = subst (λ bs. IsSoundSearch gr s.marks.items s.active.items bs s.pending.items s.order.items) split c.requires.sound in
     let segment = take_rest c.deref.result.now c.args.bound ∙ ap (λ d. drop c.args.bound d) c.deref.ensures.value in
     let marks = c.close_items.ensures ∙ ap (λ vs. close_all s.marks.items vs c.len-number.result) segment ∙ ap (λ n. close_all s.marks.items (drop c.args.bound s.active.items) n) (c.len-number.ensures ∙ s.order.ok.0) in
     let bounds = c.pop.ensures.rest ∙ ap (λ n. take (n - 1) s.bounds.items) s.bounds.ok.0 in
@@ -35,7 +35,7 @@ returns-clause-fewer g c =
     let s = c.args.self.now in
     let front = take (length s.bounds.items - 1) s.bounds.items in
     let split = last_split s.bounds.items c.args.bound c.requires.last in
-    let sound = subst (λ bs. IsSound gr s.marks.items s.active.items bs s.pending.items s.order.items) split c.requires.sound in
+    let sound = subst (λ bs. IsSoundSearch gr s.marks.items s.active.items bs s.pending.items s.order.items) split c.requires.sound in
     let segment = take_rest c.deref.result.now c.args.bound ∙ ap (λ d. drop c.args.bound d) c.deref.ensures.value in
     let marks = c.close_items.ensures ∙ ap (λ vs. close_all s.marks.items vs c.len-number.result) segment ∙ ap (λ n. close_all s.marks.items (drop c.args.bound s.active.items) n) (c.len-number.ensures ∙ s.order.ok.0) in
     let bounds = c.pop.ensures.rest ∙ ap (λ n. take (n - 1) s.bounds.items) s.bounds.ok.0 in
@@ -47,7 +47,7 @@ returns-clause-kept g c =
     let s = c.args.self.now in
     let front = take (length s.bounds.items - 1) s.bounds.items in
     let split = last_split s.bounds.items c.args.bound c.requires.last in
-    let sound = subst (λ bs. IsSound gr s.marks.items s.active.items bs s.pending.items s.order.items) split c.requires.sound in
+    let sound = subst (λ bs. IsSoundSearch gr s.marks.items s.active.items bs s.pending.items s.order.items) split c.requires.sound in
     let segment = take_rest c.deref.result.now c.args.bound ∙ ap (λ d. drop c.args.bound d) c.deref.ensures.value in
     let marks = c.close_items.ensures ∙ ap (λ vs. close_all s.marks.items vs c.len-number.result) segment ∙ ap (λ n. close_all s.marks.items (drop c.args.bound s.active.items) n) (c.len-number.ensures ∙ s.order.ok.0) in
     rw marks (kept-closed gr s.marks.items s.active.items front c.args.bound s.pending.items s.order.items sound c.requires.done)
