@@ -8,7 +8,7 @@ use Rattle.ps_game.specs.Games.{ParityGame, vertex_count, priority_of}
 use Rattle.ps_attractor.specs.declared.aim.Aim.{Aim}
 use Rattle.ps_attractor.specs.Tables.{TablesData, FitsGame, level_of, moves_of}
 use Rattle.ps_attractor.specs.Aims.{StandsFrom, IsPosed, IsTaken, IsAttracted, IsPlaced, IsGrown, rank_of}
-use Rattle.ps_zielonka.specs.declared.board.TheConstants.{UNPLACED}
+use Rattle.ps_zielonka.specs.declared.level.TheConstants.{UNPLACED}
 use Rattle.ps_zielonka.specs.declared.frame.Frame.{Frame}
 use Rattle.ps_zielonka.specs.Turns.{IsWithout, IsTurned}
 use Rattle.ps_zielonka.specs.Nests.{from, size_from, winner_of, frame_at, steps_left, IsSegment, Waits, Searches, IsSoundBoard, IsNest, ArePlaced, IsGiven}
@@ -226,7 +226,8 @@ tops_placed b v top =
           let first : priority_of b.game (get_or b.order b.behind 0) ≤ greatest b = b.sound.is_order.falls b.cursor b.behind b.placed.after (omega arith) in
           absurd (b.ends (omega arith) (omega arith)))
     ] in
-    let taken : level_of b.mid (get_or b.order there.place 0) ≢ UNPLACED = b.placed.all there.place there.after before in
+    let taken : level_of b.mid (get_or b.order there.place 0) ≢ UNPLACED =
+    λ is. b.placed.all there.place there.after before (is ∙ sym b.free) in
     elim (b.placed.grown.each v) [
       | inl still ↦ absurd (taken (ap (λ x. level_of b.mid x) there.is ∙ still.level ∙ was_open b v inside))
       | inr placed ↦ placed
@@ -435,7 +436,7 @@ searches_next b a next =
               elim (cases_lt j b.cursor) [
                 | inl early ↦ absurd (b.first j early was)
                 | inr late ↦ elim (b.grown.each (get_or b.order j 0)) [
-                  | inl same ↦ absurd (b.placed.all j late before (sym same.level ∙ still))
+                  | inl same ↦ absurd (b.placed.all j late before (sym same.level ∙ still ∙ sym b.free))
                   | inr placed ↦ absurd (differ b (sym placed.level ∙ still ∙ sym b.free))
                 ]
               ])

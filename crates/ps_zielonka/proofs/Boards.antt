@@ -7,7 +7,7 @@ use Rattle.ps_game.specs.Games.{ParityGame, HasEdge}
 use Rattle.ps_attractor.specs.Tables.{TablesData, level_of}
 use Rattle.ps_attractor.specs.Aims.{StandsFrom}
 use Rattle.ps_attractor.specs.Steps.{with_placed}
-use Rattle.ps_zielonka.specs.declared.board.TheConstants.{UNPLACED}
+use Rattle.ps_zielonka.specs.declared.level.TheConstants.{UNPLACED}
 use Rattle.ps_zielonka.specs.Nests.{StandsBetween, StandsBefore, IsKeptAt, IsMoved, IsTakenOff, IsReopened}
 
 -- ## What is kept

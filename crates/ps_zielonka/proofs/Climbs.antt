@@ -7,7 +7,7 @@ use Rattle.ps_game.specs.Subgames.{IsWithin}
 use Rattle.ps_attractor.specs.declared.aim.Aim.{Aim}
 use Rattle.ps_attractor.specs.Tables.{TablesData, level_of, moves_of}
 use Rattle.ps_attractor.specs.Aims.{StandsFrom, IsPosed, IsTaken, IsAttracted, IsGrown, rank_of}
-use Rattle.ps_zielonka.specs.declared.board.TheConstants.{UNPLACED}
+use Rattle.ps_zielonka.specs.declared.level.TheConstants.{UNPLACED}
 use Rattle.ps_zielonka.specs.declared.frame.Frame.{Frame}
 use Rattle.ps_zielonka.specs.Turns.{IsWithout, Progress, Solved}
 use Rattle.ps_zielonka.specs.Nests.{from, size_from, winner_of, StandsBetween, Waits, Searches, IsGiven, IsLostAt, IsReopened}

@@ -3,7 +3,7 @@ use Rattle.std.proofs.Common.{◌≡◌, ◌≢◌, ℕ, ◌+◌, ◌*◌, ◌<�
 use Rattle.std.proofs.lemmas.Bool.{cases_lt, false≢true}
 use Rattle.ps_game.specs.Games.{ParityGame, vertex_count}
 use Rattle.ps_attractor.specs.Tables.{TablesData, level_of, moves_of}
-use Rattle.ps_zielonka.specs.declared.board.TheConstants.{UNPLACED}
+use Rattle.ps_zielonka.specs.declared.level.TheConstants.{UNPLACED}
 use Rattle.ps_zielonka.specs.declared.frame.Frame.{Frame}
 use Rattle.ps_zielonka.specs.Nests.{from, size_from, winner_of, Searches, HasAnswer, IsSoundBoard, IsNest}
 use Rattle.ps_zielonka.specs.Stacks.{IsSolvedBy}

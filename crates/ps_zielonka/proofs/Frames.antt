@@ -7,9 +7,10 @@ use Rattle.std.proofs.lemmas.List.{get_or_append_left, get_or_push, length_push,
 use Rattle.std.proofs.lemmas.List.Elements.{All-get_or, All-from_get_or}
 use Rattle.ps_game.specs.Games.{ParityGame, IsGame, vertex_count, successors_of}
 use Rattle.ps_game.proofs.SubgameFacts.{first_edge}
+use Rattle.ps_attractor.specs.declared.aim.Aim.{Aim}
 use Rattle.ps_attractor.specs.Tables.{TablesData, FitsGame, level_of, moves_of}
 use Rattle.ps_attractor.specs.Aims.{StandsFrom, IsPosed, IsTaken, IsAttracted, IsGrown, rank_of}
-use Rattle.ps_zielonka.specs.declared.board.TheConstants.{UNPLACED}
+use Rattle.ps_zielonka.specs.declared.level.TheConstants.{UNPLACED}
 use Rattle.ps_zielonka.specs.declared.frame.Frame.{Frame}
 use Rattle.ps_zielonka.specs.Turns.{nothing, Solved}
 use Rattle.ps_zielonka.specs.Nests.{from, size_from, winner_of, frame_at, StandsBetween, IsSegment, IsOrder, Waits, IsNest, IsMoved, IsKeptAt, IsLostAt, IsReopened, IsGiven, steps_left}
@@ -17,7 +18,8 @@ use Rattle.ps_zielonka.proofs.Turning.{in_part_or_rest}
 use Rattle.ps_zielonka.proofs.Measure.{falls_on}
 use Rattle.ps_zielonka.proofs.Sets.{from_at, to_from, size_from-same}
 use Rattle.ps_zielonka.proofs.Below.{Agrees, agrees_at, IsTurned-on, waits_below}
-use Rattle.ps_zielonka.proofs.Climbs.{Going, was_open, stands_open, going_still, going_open, going_agrees, going_searches, going_fewer}
+use Rattle.ps_zielonka.proofs.Climbs.{on_aim, Going, was_open, stands_open, going_still, going_open}
+use Rattle.ps_zielonka.proofs.Climbs.{going_agrees, going_searches, going_fewer}
 use Rattle.ps_zielonka.proofs.Forms.{progress_start, progress_same, frame_kept}
 
 abbrev no_frame : Frame
@@ -382,18 +384,26 @@ on_nest game old mid new winner winner_now order frames frame cursor nest going 
       done = λ solved_now. absurd (false≢true solved_now);
     }
 
--- what the steps leave, where the level of what is decided is told by a number
-pub record Reached (game : ParityGame) (level : ℕ) (frame : Frame) (old mid new : TablesData) (winner winner_now : List ℕ) : Type 0 where
+-- what the steps leave, where the level of what is decided is told by its mark
+pub record Reached (game : ParityGame) (level : ℕ) (aim : Aim) (frame : Frame) (old mid new : TablesData)
+    (winner winner_now : List ℕ) : Type 0 where
   pub reopened : IsReopened winner frame.player level frame.turn (StandsFrom old frame.turn) old mid
-  pub grown : IsGrown (record { player = 1 - frame.player; begin = frame.turn; mark = level; free = UNPLACED }) mid new
-  pub given : IsGiven (record { player = 1 - frame.player; begin = frame.turn; mark = level; free = UNPLACED }) new winner winner_now
-  pub attracted : (subgame target set : ℕ → Bool) → IsPosed game (record { player = 1 - frame.player; begin = frame.turn; mark = level; free = UNPLACED }) mid subgame target → IsTaken (record { player = 1 - frame.player; begin = frame.turn; mark = level; free = UNPLACED }) new subgame set
-      → IsAttracted game subgame (1 - frame.player) target set (moves_of new) (rank_of (record { player = 1 - frame.player; begin = frame.turn; mark = level; free = UNPLACED }) new)
+  pub grown : IsGrown aim mid new
+  pub given : IsGiven aim new winner winner_now
+  pub attracted : (subgame target set : ℕ → Bool) → IsPosed game aim mid subgame target → IsTaken aim new subgame set →
+      IsAttracted game subgame aim.player target set (moves_of new) (rank_of aim new)
 
-pub going_on : (game : ParityGame) (level : ℕ) (old mid new : TablesData) (winner winner_now order : List ℕ) (frames : List Frame) (frame : Frame) (cursor : ℕ) → IsNest game old winner order (frames ++ frame ∷ []) cursor true → level ≡ 2 * length frames + 1 → FitsGame game mid → FitsGame game new → Reached game level frame old mid new winner winner_now → Going game (2 * length frames) frame old mid new winner winner_now order
-going_on game level old mid new winner winner_now order frames frame cursor nest same fits_mid fits_new reached =
-    let At : ℕ → Type 0 = λ l. Reached game l frame old mid new winner winner_now in
-    let here = subst At same reached in
+pub going_on : (game : ParityGame) (level : ℕ) (aim : Aim) (old mid new : TablesData)
+    (winner winner_now order : List ℕ) (frames : List Frame) (frame : Frame) (cursor : ℕ)
+    → IsNest game old winner order (frames ++ frame ∷ []) cursor true → level ≡ 2 * length frames + 1
+    → aim ≡ on_aim (2 * length frames) frame → FitsGame game mid → FitsGame game new
+    → Reached game level aim frame old mid new winner winner_now
+    → Going game (2 * length frames) frame old mid new winner winner_now order
+going_on game level aim old mid new winner winner_now order frames frame cursor nest same aims fits_mid fits_new
+    reached =
+    let At : ℕ → Type 0 = λ l. Reached game l aim frame old mid new winner winner_now in
+    let Aimed : Aim → Type 0 = λ a. Reached game (2 * length frames + 1) a frame old mid new winner winner_now in
+    let here = subst Aimed aims (subst At same reached) in
     record {
       is_game = nest.sound.is_game;
       low = last_low game old winner order frames frame cursor true nest;

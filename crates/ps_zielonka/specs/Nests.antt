@@ -1,14 +1,15 @@
--- The calls of the solver that wait, told by one number for each vertex. A call of depth k, counted from 0, is about the vertices
--- of level 2k + 1 or more. Those of level 2k + 1 are decided in it; those of level 2k + 2 were attracted in its present turn; the
--- others are left to the next call. Vertices that are not placed have the greatest level of all.
-use Rattle.std.specs.Prelude.{◌≡◌, ◌≢◌, ℕ, zero, suc, ◌+◌, ◌*◌, ◌<◌, ◌≤◌, ◌⊎◌, Bool, true, false, IsTrue, cond, List, [], ◌∷◌, length, slice_index, slice_index_or, nat_le}
+-- The calls of the solver that wait, told by one number for each vertex, the mark of its level (`mark_of`). A call of
+-- depth k, counted from 0, is about the vertices of mark 2k + 1 or more. Those of mark 2k + 1 are decided in it; those
+-- of mark 2k + 2 were attracted in its present turn; the others are left to the next call. Vertices that are not placed
+-- have the greatest mark of all.
+use Rattle.std.specs.Prelude.{◌≡◌, ◌≢◌, ℕ, zero, suc, ◌+◌, ◌*◌, ◌^◌, ◌<◌, ◌≤◌, ◌⊎◌, Bool, true, false, IsTrue, cond, List, [], ◌∷◌, length, slice_index, slice_index_or, nat_le}
 use Rattle.std.specs.List.{All, Contains}
 use Rattle.ps_game.specs.Games.{ParityGame, IsGame, vertex_count, owner_of, priority_of, HasEdge}
 use Rattle.ps_game.specs.Subgames.{IsSubgame}
 use Rattle.ps_attractor.specs.declared.aim.Aim.{Aim}
 use Rattle.ps_attractor.specs.Tables.{TablesData, FitsGame, level_of, moves_of}
 use Rattle.ps_attractor.specs.Aims.{StandsFrom, IsGrown, IsPlaced}
-use Rattle.ps_zielonka.specs.declared.board.TheConstants.{UNPLACED}
+use Rattle.ps_zielonka.specs.declared.level.TheConstants.{UNPLACED}
 use Rattle.ps_zielonka.specs.declared.frame.Frame.{Frame}
 use Rattle.ps_zielonka.specs.Turns.{Progress, Solved, IsTurned}
 
@@ -117,13 +118,13 @@ steps_left levels k solved = waiting_steps levels k + cond solved 0 (steps (size
 
 -- ## The parts of a step
 
--- the vertices of the greatest priority that are not placed yet are placed; they stand in the order from a place up to another
+-- the vertices of the greatest priority that are free are placed; they stand in the order from a place up to another
 pub record ArePlaced (game : ParityGame) (aim : Aim) (old new : TablesData) (order : List ℕ) (cursor behind : ℕ) : Type 0 where
   pub grown : IsGrown aim old new
   pub after : cursor ≤ behind
   pub within : behind ≤ length order
   pub tops : (v : ℕ) → IsPlaced aim old new v → priority_of game v ≡ priority_of game (slice_index order cursor)
-  pub all : (j : ℕ) → cursor ≤ j → j < behind → level_of new (slice_index order j) ≢ UNPLACED
+  pub all : (j : ℕ) → cursor ≤ j → j < behind → level_of new (slice_index order j) ≢ aim.free
 
 -- the player wins all that stand in the trail from a place on, and each other vertex is as it was
 pub record IsGiven (aim : Aim) (tables : TablesData) (old new : List ℕ) : Type 0 where
@@ -178,5 +179,5 @@ pub record IsReopened (winner : List ℕ) (player level turn : ℕ) (Off : ℕ �
 
 -- the vertices before n, each behind a number that falls with its priority
 pub record AreRanked (game : ParityGame) (n : ℕ) (ranked : List (ℕ × ℕ)) : Type 0 where
-  pub each : All (λ pair. (pair.1 < n) × (pair.0 + priority_of game pair.1 ≡ UNPLACED)) ranked
+  pub each : All (λ pair. (pair.1 < n) × (pair.0 + priority_of game pair.1 + 1 ≡ 2 ^ 64)) ranked
   pub stands : (v : ℕ) → v < n → (rank : ℕ) × Contains ranked (rank, v)

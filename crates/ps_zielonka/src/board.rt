@@ -5,15 +5,14 @@ ghost use Rattle.ps_game.specs.Games.{IsGame, vertex_count, HasEdge};
 ghost use Rattle.ps_attractor.specs.Sources.{IsSourcesOf};
 ghost use Rattle.ps_attractor.specs.Tables.{FitsGame, level_of, moves_of};
 ghost use Rattle.ps_attractor.specs.Aims.{IsPosed, IsTaken, IsAttracted, IsGrown, StandsFrom, rank_of};
+ghost use Rattle.ps_zielonka.specs.Levels.{mark_of};
 ghost use Rattle.ps_zielonka.specs.Nests.{IsGiven, IsWonStep, IsKeptAt, IsLostAt, IsMoved, StandsBetween, IsTakenOff, IsReopened};
 
 use crate::frame::Frame;
+use crate::level::Level;
 use ps_attractor::{Aim, Sources, Tables};
 use ps_game::Arena;
 use std::alloc::AllocError;
-
-/// The level of the vertices that are not placed.
-pub const UNPLACED: usize = usize::MAX;
 
 /// What is decided of each vertex.
 #[derive(Drop)]
@@ -73,19 +72,22 @@ impl Board {
 
     /// Whether the player keeps all that the other one did not win, at each vertex of the greatest priority too. Writes
     /// the moves there.
-    pub fn is_kept<A: Arena>(&mut self, arena: &A, frame: Frame, level: usize) -> bool
+    pub fn is_kept<A: Arena>(&mut self, arena: &A, frame: Frame, level: Level) -> bool
         requires game { IsGame (A.game arena.now) }
         requires fits { FitsGame (A.game arena.now) self.old.tables }
         requires winners { length self.old.winner.items ≡ vertex_count (A.game arena.now) }
         requires player { frame.player < 2 }
         requires end { frame.top ≤ length self.old.tables.trail }
+        requires placed { mark_of level < mark_of Level.Unplaced }
         ensures moved { IsMoved self.old.tables self.new.tables (StandsBetween self.old.tables frame.turn frame.top) }
         ensures winner { self.new.winner.items ≡ self.old.winner.items }
         ensures fits { FitsGame (A.game arena.now) self.new.tables }
         ensures kept { IsTrue result → (v : ℕ) → StandsBetween self.old.tables frame.turn frame.top v →
-            IsKeptAt (A.game arena.now) self.new.tables self.old.winner.items level frame.player (1 - frame.player) v }
+            IsKeptAt (A.game arena.now) self.new.tables self.old.winner.items (mark_of level) frame.player
+            (1 - frame.player) v }
         ensures lost { result ≡ false → (v : ℕ) × StandsBetween self.old.tables frame.turn frame.top v ×
-            IsLostAt (A.game arena.now) self.old.tables self.old.winner.items level frame.player (1 - frame.player) v }
+            IsLostAt (A.game arena.now) self.old.tables self.old.winner.items (mark_of level) frame.player
+            (1 - frame.player) v }
     {
         for place in frame.turn..frame.top {
             let vertex = self.tables.vertex_at(place);
@@ -97,17 +99,20 @@ impl Board {
     }
 
     /// Whether a vertex of the greatest priority stays with the player. Writes its move.
-    fn keeps<A: Arena>(&mut self, arena: &A, player: u8, level: usize, vertex: usize) -> bool
+    fn keeps<A: Arena>(&mut self, arena: &A, player: u8, level: Level, vertex: usize) -> bool
         requires game { IsGame (A.game arena.now) }
         requires fits { FitsGame (A.game arena.now) self.old.tables }
         requires winners { length self.old.winner.items ≡ vertex_count (A.game arena.now) }
         requires player { player < 2 }
         requires vertex { vertex < vertex_count (A.game arena.now) }
+        requires placed { mark_of level < mark_of Level.Unplaced }
         ensures moved { IsMoved self.old.tables self.new.tables (λ v. v ≡ vertex) }
         ensures winner { self.new.winner.items ≡ self.old.winner.items }
         ensures fits { FitsGame (A.game arena.now) self.new.tables }
-        ensures kept { IsTrue result → IsKeptAt (A.game arena.now) self.new.tables self.old.winner.items level player (1 - player) vertex }
-        ensures lost { result ≡ false → IsLostAt (A.game arena.now) self.old.tables self.old.winner.items level player (1 - player) vertex }
+        ensures kept { IsTrue result → IsKeptAt (A.game arena.now) self.new.tables self.old.winner.items (mark_of level)
+            player (1 - player) vertex }
+        ensures lost { result ≡ false → IsLostAt (A.game arena.now) self.old.tables self.old.winner.items
+            (mark_of level) player (1 - player) vertex }
     {
         if arena.owner(vertex) != player {
             return self
@@ -128,20 +133,22 @@ impl Board {
         &self,
         arena: &A,
         vertex: usize,
-        level: usize,
+        level: Level,
         player: u8,
     ) -> Option<usize>
         requires game { IsGame (A.game arena.now) }
         requires fits { FitsGame (A.game arena.now) self.now.tables }
         requires winners { length self.now.winner.items ≡ vertex_count (A.game arena.now) }
         requires vertex { vertex < vertex_count (A.game arena.now) }
-        ensures some { IfSome result (IsWonStep (A.game arena.now) self.now.tables self.now.winner.items level player vertex) }
+        requires placed { mark_of level < mark_of Level.Unplaced }
+        ensures some { IfSome result (IsWonStep (A.game arena.now) self.now.tables self.now.winner.items (mark_of level)
+            player vertex) }
         ensures none { IfNone result ((w : ℕ) → HasEdge (A.game arena.now) vertex w →
-            level < level_of self.now.tables w → slice_index self.now.winner.items w ≢ player) }
+            mark_of level < level_of self.now.tables w → slice_index self.now.winner.items w ≢ player) }
     {
         for number in 0..arena.degree(vertex) {
             let successor = arena.successor(vertex, number);
-            if self.tables.level(successor) > level && self.winner[successor] == player {
+            if self.tables.level(successor) > level.mark() && self.winner[successor] == player {
                 return Some(successor);
             }
         }
@@ -154,22 +161,22 @@ impl Board {
     /// # Errors
     ///
     /// Fails where a growth was refused.
-    pub fn reopen(&mut self, frame: Frame, level: usize) -> Result<(), AllocError>
+    pub fn reopen(&mut self, frame: Frame, level: Level) -> Result<(), AllocError>
         requires vertices { (j : ℕ) → j < length self.old.tables.trail → slice_index self.old.tables.trail j < length self.old.tables.level }
         requires winners { length self.old.winner.items ≡ length self.old.tables.level }
         requires turn { frame.turn ≤ length self.old.tables.trail }
-        requires level { level ≢ UNPLACED }
+        requires placed { mark_of level < mark_of Level.Unplaced }
         ensures winner { self.new.winner.items ≡ self.old.winner.items }
-        ensures reopened { OnOk result (IsReopened self.old.winner.items frame.player level frame.turn
+        ensures reopened { OnOk result (IsReopened self.old.winner.items frame.player (mark_of level) frame.turn
             (StandsFrom self.old.tables frame.turn) self.old.tables self.new.tables) }
     {
         self.take_off(frame.turn)?;
         for place in 0..self.spare.len() {
             let vertex = self.spare[place];
             if self.winner[vertex] == frame.player {
-                self.tables.set_level(vertex, UNPLACED);
+                self.tables.set_level(vertex, Level::Unplaced.mark());
             } else {
-                self.tables.place(vertex, level)?;
+                self.tables.place(vertex, level.mark())?;
             }
         }
         Ok(())

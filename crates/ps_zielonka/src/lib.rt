@@ -18,6 +18,7 @@
 mod answer;
 mod board;
 mod frame;
+mod level;
 mod nest;
 mod order;
 mod solver;

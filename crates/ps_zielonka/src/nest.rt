@@ -5,11 +5,13 @@ ghost use Rattle.ps_game.specs.Games.{IsGame, vertex_count};
 ghost use Rattle.ps_attractor.specs.Sources.{IsSourcesOf};
 ghost use Rattle.ps_attractor.specs.Tables.{FitsGame, level_of, moves_of};
 ghost use Rattle.ps_zielonka.specs.Depths.{IsDepth};
+ghost use Rattle.ps_zielonka.specs.Levels.{mark_of};
 ghost use Rattle.ps_zielonka.specs.Stacks.{IsStack, IsDeep, IsSolvedBy, steps_of};
 ghost use Rattle.ps_zielonka.specs.Nests.{IsNest, IsLostAt, StandsBetween, steps_left};
 
-use crate::board::{Board, UNPLACED};
+use crate::board::Board;
 use crate::frame::Frame;
+use crate::level::Level;
 use crate::order::{falling_order, first_unplaced, place_tops};
 use ps_attractor::{Aim, Sources, Tables};
 use ps_game::Arena;
@@ -44,7 +46,7 @@ impl Nest {
     {
         let count = arena.count();
         let order = falling_order(alloc, arena)?;
-        let tables = Tables::new(alloc, count, UNPLACED)?;
+        let tables = Tables::new(alloc, count, Level::Unplaced.mark())?;
         let winner = vec![in alloc; 0; count]?;
         let board = Board {
             tables,
@@ -113,19 +115,22 @@ impl Nest {
         requires stack { IsStack (A.game arena.now) self.old }
         requires searches { self.old.solved ≡ false }
         requires within { cursor < length self.old.order.items }
-        requires unplaced { level_of self.old.board.tables (slice_index self.old.order.items cursor) ≡ UNPLACED }
-        requires first { (j : ℕ) → j < cursor → level_of self.old.board.tables (slice_index self.old.order.items j) ≢ UNPLACED }
+        requires unplaced { level_of self.old.board.tables (slice_index self.old.order.items cursor) ≡
+            mark_of Level.Unplaced }
+        requires first { (j : ℕ) → j < cursor → level_of self.old.board.tables (slice_index self.old.order.items j) ≢
+            mark_of Level.Unplaced }
         ensures stack { OnOk result (IsStack (A.game arena.now) self.new) }
         ensures falls { OnOk result (steps_of self.new < steps_of self.old) }
         ensures deep { OnOk result (IsDeep (A.game arena.now) self.old → IsDeep (A.game arena.now) self.new) }
     {
         let player = (arena.priority(self.order[cursor]) % 2) as u8;
+        let depth = self.frames.len();
         let turn = self.board.tables.placed();
         let aim = Aim {
             player,
             begin: turn,
-            mark: 2 * self.frames.len() + 2,
-            free: UNPLACED,
+            mark: Level::Attracted { depth }.mark(),
+            free: Level::Unplaced.mark(),
         };
         let behind = place_tops(arena, &mut self.board.tables, &self.order, aim, cursor)?;
         let top = self.board.tables.placed();
@@ -154,7 +159,8 @@ impl Nest {
         let Some(frame) = self.frames.pop() else {
             return Ok(());
         };
-        let level = 2 * self.frames.len() + 1;
+        let depth = self.frames.len();
+        let level = Level::Decided { depth };
         if self.board.is_kept(arena, frame, level) {
             Ok(())
         } else {
@@ -168,14 +174,15 @@ impl Nest {
         arena: &A,
         sources: &Sources,
         frame: Frame,
-        level: usize,
+        level: Level,
     ) -> Result<(), AllocError>
         requires sources { IsSourcesOf (A.game arena.now) sources.now }
         requires nest { IsNest (A.game arena.now) self.old.board.tables self.old.board.winner.items self.old.order.items
             (self.old.frames.items ++ frame ∷ []) self.old.cursor true }
-        requires level { level ≡ 2 * length self.old.frames.items + 1 }
+        requires level { level ≡ Level.Decided (length self.old.frames.items) }
         requires lost { (v : ℕ) × StandsBetween self.old.board.tables frame.turn frame.top v ×
-            IsLostAt (A.game arena.now) self.old.board.tables self.old.board.winner.items level frame.player (1 - frame.player) v }
+            IsLostAt (A.game arena.now) self.old.board.tables self.old.board.winner.items (mark_of level) frame.player
+            (1 - frame.player) v }
         ensures stack { OnOk result (IsStack (A.game arena.now) self.new) }
         ensures falls { OnOk result (steps_of self.new <
             steps_left self.old.board.tables.level (length self.old.frames.items + 1) true) }
@@ -185,8 +192,8 @@ impl Nest {
         let aim = Aim {
             player: 1 - frame.player,
             begin: frame.turn,
-            mark: level,
-            free: UNPLACED,
+            mark: level.mark(),
+            free: Level::Unplaced.mark(),
         };
         self.board.attract(arena, sources, aim)?;
         self.cursor = frame.cursor;

@@ -1,4 +1,5 @@
 use Rattle.std.proofs.Common.{◌≡◌}
+use Rattle.ps_zielonka.specs.Levels.{mark_of}
 use Rattle.ps_zielonka.specs.Nests.{StandsBefore, IsReopened}
 use Rattle.ps_zielonka.proofs.board.Board.reopen.Given as goal
 
@@ -6,5 +7,6 @@ abbrev pub invariant-loop-place : goal.invariant-loop-place
 invariant-loop-place l = record {
   spare : l.self.spare.items ≡ l.initial.self.spare.items;
   winner : l.self.winner.items ≡ l.initial.self.winner.items;
-  reopened : IsReopened l.initial.self.winner.items l.frame.player l.level l.frame.turn (StandsBefore l.initial.self.spare.items l.place) l.initial.self.tables l.self.tables;
+  reopened : IsReopened l.initial.self.winner.items l.frame.player (mark_of l.level) l.frame.turn
+      (StandsBefore l.initial.self.spare.items l.place) l.initial.self.tables l.self.tables;
 }

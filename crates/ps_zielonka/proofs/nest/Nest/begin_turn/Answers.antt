@@ -4,58 +4,20 @@ use Rattle.ps_game.specs.Games.{priority_of}
 use Rattle.ps_attractor.specs.declared.aim.Aim.{Aim}
 use Rattle.ps_zielonka.specs.declared.frame.Frame.{Frame}
 use Rattle.ps_zielonka.specs.Nests.{IsNest, ArePlaced, steps_left}
-use Rattle.ps_zielonka.specs.declared.board.TheConstants.{UNPLACED}
 use Rattle.ps_zielonka.proofs.Begins.{Begun, frame_of, begun_nest, begun_falls}
 use Rattle.ps_zielonka.proofs.Deep.{depth_begun}
 use Rattle.ps_zielonka.proofs.nest.Nest.begin_turn.Goals as goal
 
-pub returns-clause-stack : goal.returns-clause-stack
-returns-clause-stack g c =
+pub returns : goal.returns
+returns g c =
     let game = g.A.Arena.game c.args.arena.now in
-    let aim : Aim = record { player = c.priority.result % 2; begin = c.placed-turn.result; mark = 2 * c.len.result + 2; free = UNPLACED } in
-    let order : List ℕ = c.args.self.now.order.items in
-    let frames : List Frame = c.args.self.now.frames.items in
-    let Placed : List ℕ → Type 0 = λ order. ArePlaced game aim c.args.self.now.board.tables c.place_tops.new.tables order c.args.cursor c.in_ok-behind.behind in
-    let Ends : List ℕ → Type 0 = λ order. c.in_ok-behind.behind < length order → priority_of game (get_or order c.in_ok-behind.behind 0) ≢ priority_of game (get_or order c.args.cursor 0) in
-    let first : c.index.result.now ≡ get_or order c.args.cursor 0 = c.index.ensures ∙ get_or_default order c.args.cursor c.index.result.now 0 c.requires.within in
-    let b : Begun = record {
-      game = game;
-      aim = aim;
-      order = order;
-      start = c.args.self.now.cursor;
-      cursor = c.args.cursor;
-      behind = c.in_ok-behind.behind;
-      depth = length frames;
-      old = c.args.self.now.board.tables;
-      mid = c.place_tops.new.tables;
-      new = c.attract.new.self.tables;
-      winner = c.args.self.now.board.winner.items;
-      winner_now = c.attract.new.self.winner.items;
-      sound = c.requires.stack.sound;
-      searches = c.requires.stack.searches c.requires.searches;
-      player = ap (λ n. n % 2) (c.priority.ensures ∙ ap (priority_of game) first);
-      begin = c.placed-turn.ensures;
-      mark = omega (arith, c.len.ensures);
-      free = refl;
-      within = c.requires.within;
-      unplaced = c.requires.unplaced;
-      first = c.requires.first;
-      placed = subst Placed c.deref.ensures.value c.in_ok-behind.ensures.placed;
-      ends = subst Ends c.deref.ensures.value c.in_ok-behind.ensures.ends;
-      fits = c.in_ok-attract.ensures.fits;
-      winners = c.in_ok-attract.ensures.winners;
-      grown = c.in_ok-attract.ensures.grown;
-      attracted = c.in_ok-attract.ensures.attracted;
-      given = c.in_ok-attract.ensures.given;
+    let aim : Aim = record {
+      player = c.priority.result % 2;
+      begin = c.placed-turn.result;
+      mark = c.mark.result;
+      free = c.mark-2.result;
     } in
-    let pushed : c.push.new.self.items ≡ frames ++ frame_of b ∷ [] = cc (c.in_ok-push.ensures.items, c.placed-turn.ensures, c.placed-top.ensures) in
-    let Nest : List Frame → Type 0 = λ more. IsNest game c.attract.new.self.tables c.attract.new.self.winner.items order more c.in_ok-behind.behind c.args.self.now.solved in
-    subst Nest (sym pushed) (begun_nest b frames c.args.self.now.solved refl c.requires.searches c.requires.stack.waits c.requires.stack.rises)
-
-pub returns-clause-falls : goal.returns-clause-falls
-returns-clause-falls g c =
-    let game = g.A.Arena.game c.args.arena.now in
-    let aim : Aim = record { player = c.priority.result % 2; begin = c.placed-turn.result; mark = 2 * c.len.result + 2; free = UNPLACED } in
+    let mark : c.mark.result ≡ 2 * c.len-depth.result + 2 = c.mark.ensures in
     let order : List ℕ = c.args.self.now.order.items in
     let frames : List Frame = c.args.self.now.frames.items in
     let Placed : List ℕ → Type 0 = λ order. ArePlaced game aim c.args.self.now.board.tables c.place_tops.new.tables order c.args.cursor c.in_ok-behind.behind in
@@ -78,8 +40,8 @@ returns-clause-falls g c =
       searches = c.requires.stack.searches c.requires.searches;
       player = ap (λ n. n % 2) (c.priority.ensures ∙ ap (priority_of game) first);
       begin = c.placed-turn.ensures;
-      mark = omega (arith, c.len.ensures);
-      free = refl;
+      mark = omega (arith, c.len-depth.ensures);
+      free = c.mark-2.ensures;
       within = c.requires.within;
       unplaced = c.requires.unplaced;
       first = c.requires.first;
@@ -94,49 +56,12 @@ returns-clause-falls g c =
     let pushed : c.push.new.self.items ≡ frames ++ frame_of b ∷ [] = cc (c.in_ok-push.ensures.items, c.placed-turn.ensures, c.placed-top.ensures) in
     let size : length c.push.new.self.items ≡ length frames + 1 = ap length pushed ∙ length_push frames (frame_of b) in
     let Falls : Bool → Type 0 = λ solved. steps_left c.attract.new.self.tables.level (length c.push.new.self.items) solved < steps_left c.args.self.now.board.tables.level (length frames) solved in
-    subst Falls (sym c.requires.searches) (begun_falls b frames c.push.new.self.items refl size)
-
-pub returns-clause-deep : goal.returns-clause-deep
-returns-clause-deep g c so_far =
-    let game = g.A.Arena.game c.args.arena.now in
-    let aim : Aim = record { player = c.priority.result % 2; begin = c.placed-turn.result; mark = 2 * c.len.result + 2; free = UNPLACED } in
-    let order : List ℕ = c.args.self.now.order.items in
-    let frames : List Frame = c.args.self.now.frames.items in
-    let Placed : List ℕ → Type 0 = λ order. ArePlaced game aim c.args.self.now.board.tables c.place_tops.new.tables order c.args.cursor c.in_ok-behind.behind in
-    let Ends : List ℕ → Type 0 = λ order. c.in_ok-behind.behind < length order → priority_of game (get_or order c.in_ok-behind.behind 0) ≢ priority_of game (get_or order c.args.cursor 0) in
-    let first : c.index.result.now ≡ get_or order c.args.cursor 0 = c.index.ensures ∙ get_or_default order c.args.cursor c.index.result.now 0 c.requires.within in
-    let b : Begun = record {
-      game = game;
-      aim = aim;
-      order = order;
-      start = c.args.self.now.cursor;
-      cursor = c.args.cursor;
-      behind = c.in_ok-behind.behind;
-      depth = length frames;
-      old = c.args.self.now.board.tables;
-      mid = c.place_tops.new.tables;
-      new = c.attract.new.self.tables;
-      winner = c.args.self.now.board.winner.items;
-      winner_now = c.attract.new.self.winner.items;
-      sound = c.requires.stack.sound;
-      searches = c.requires.stack.searches c.requires.searches;
-      player = ap (λ n. n % 2) (c.priority.ensures ∙ ap (priority_of game) first);
-      begin = c.placed-turn.ensures;
-      mark = omega (arith, c.len.ensures);
-      free = refl;
-      within = c.requires.within;
-      unplaced = c.requires.unplaced;
-      first = c.requires.first;
-      placed = subst Placed c.deref.ensures.value c.in_ok-behind.ensures.placed;
-      ends = subst Ends c.deref.ensures.value c.in_ok-behind.ensures.ends;
-      fits = c.in_ok-attract.ensures.fits;
-      winners = c.in_ok-attract.ensures.winners;
-      grown = c.in_ok-attract.ensures.grown;
-      attracted = c.in_ok-attract.ensures.attracted;
-      given = c.in_ok-attract.ensures.given;
-    } in
-    let pushed : c.push.new.self.items ≡ frames ++ frame_of b ∷ [] = cc (c.in_ok-push.ensures.items, c.placed-turn.ensures, c.placed-top.ensures) in
-    let size : length c.push.new.self.items ≡ length frames + 1 = ap length pushed ∙ length_push frames (frame_of b) in
     let Nest : List Frame → Type 0 = λ more. IsNest game c.attract.new.self.tables c.attract.new.self.winner.items order more c.in_ok-behind.behind c.args.self.now.solved in
     let nest = subst Nest (sym pushed) (begun_nest b frames c.args.self.now.solved refl c.requires.searches c.requires.stack.waits c.requires.stack.rises) in
-    depth_begun b c.push.new.self.items c.in_ok-behind.behind c.args.self.now.solved c.args.self.now.depth c.max-self.result size c.requires.searches (omega (arith, c.max-self.ensures, c.len-2.ensures, c.push.new.self.ok.0)) nest so_far
+    record {
+      stack = nest;
+      falls = subst Falls (sym c.requires.searches) (begun_falls b frames c.push.new.self.items refl size);
+      deep = depth_begun b c.push.new.self.items c.in_ok-behind.behind c.args.self.now.solved c.args.self.now.depth
+          c.max-self.result size c.requires.searches
+          (omega (arith, c.max-self.ensures, c.len.ensures, c.push.new.self.ok.0)) nest;
+    }

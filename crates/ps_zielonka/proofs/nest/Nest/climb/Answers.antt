@@ -34,7 +34,8 @@ returns-then-is_kept-clause-stack g c =
     let Framed : List Frame → Type 0 = λ all. IsNest game old winner order all cursor true in
     let Won : List ℕ → Type 0 = λ won. IsNest game new won order frames cursor true in
     let Done : Bool → Type 0 = λ solved. IsNest game new c.is_kept.new.self.winner.items order frames cursor solved in
-    let depth : 2 * c.len.result + 1 ≡ 2 * length frames + 1 = omega (arith, c.len.ensures, c.pop.new.self.ok.0) in
+    let depth : 2 * c.len-depth.result + 1 ≡ 2 * length frames + 1 =
+    omega (arith, c.len-depth.ensures, c.pop.new.self.ok.0) in
     let Kept : ℕ → Type 0 = λ level. (v : ℕ) → StandsBetween old frame.turn frame.top v → IsKeptAt game new winner level frame.player (1 - frame.player) v in
     subst Done (sym c.requires.done) (subst Won (sym c.is_kept.ensures.winner) (kept_nest game old new winner order frames frame cursor (subst Framed c.in-Some.ensures.items (subst Flag c.requires.done c.requires.stack)) c.is_kept.ensures.moved c.is_kept.ensures.fits (subst Kept depth (c.if-is_kept.ensures.kept refl))))
 

@@ -1,7 +1,7 @@
 use Rattle.std.proofs.Common.{◌≢◌, ◌<◌, ◌≤◌, ℕ, List, Bool, true, length, get_or, subst, sym, arith}
 use Rattle.ps_attractor.specs.Tables.{level_of}
 use Rattle.ps_zielonka.specs.Nests.{steps_left}
-use Rattle.ps_zielonka.specs.declared.board.TheConstants.{UNPLACED}
+use Rattle.ps_zielonka.specs.declared.level.TheConstants.{UNPLACED}
 use Rattle.ps_zielonka.proofs.Done.{done_nest}
 use Rattle.ps_zielonka.proofs.Measure.{falls_done}
 use Rattle.ps_zielonka.proofs.Deep.{depth_done}

@@ -1,7 +1,10 @@
-use Rattle.std.proofs.Common.{◌≡◌, ℕ, ◌+◌, ◌-◌, ◌*◌, ◌%◌, ◌<◌, List, true, length, subst, arith}
+use Rattle.std.proofs.Common.{◌≡◌, ℕ, ◌+◌, ◌-◌, ◌*◌, ◌%◌, ◌<◌, List, true, length, refl, subst, ap, ◌∙◌, arith}
+use Rattle.ps_attractor.specs.declared.aim.Aim.{Aim}
 use Rattle.ps_attractor.specs.Tables.{FitsGame}
-use Rattle.ps_zielonka.specs.declared.board.TheConstants.{UNPLACED}
+use Rattle.ps_zielonka.specs.declared.level.TheConstants.{UNPLACED}
+use Rattle.ps_zielonka.specs.Levels.{mark_of}
 use Rattle.ps_zielonka.specs.Nests.{IsGiven}
+use Rattle.ps_zielonka.proofs.Climbs.{on_aim}
 use Rattle.ps_zielonka.proofs.Frames.{Reached, going_on, fits_reopened, last_waits, last_low, on_nest, on_falls}
 use Rattle.ps_zielonka.proofs.nest.Nest.go_on.Goals as goal
 
@@ -15,15 +18,20 @@ pub attract-requires-clause-fits : goal.attract-requires-clause-fits
 attract-requires-clause-fits g c =
     let game = g.A.Arena.game c.args.arena.now in
     let waits = last_waits game c.args.self.now.board.tables c.args.self.now.board.winner.items c.args.self.now.order.items c.args.self.now.frames.items c.args.frame c.args.self.now.cursor true c.requires.nest in
-    fits_reopened game c.args.self.now.board.winner.items c.args.frame.player c.args.level c.args.frame.turn c.args.self.now.board.tables c.reopen.new.self.tables waits.segment.within c.requires.nest.sound.fits c.in_ok-reopen.ensures.reopened
+    fits_reopened game c.args.self.now.board.winner.items c.args.frame.player (mark_of c.args.level) c.args.frame.turn
+    c.args.self.now.board.tables c.reopen.new.self.tables waits.segment.within c.requires.nest.sound.fits
+    c.in_ok-reopen.ensures.reopened
 
 pub attract-requires-clause-differ : goal.attract-requires-clause-differ
 attract-requires-clause-differ g c same =
     let low : 2 * length c.args.self.now.frames.items + 2 < UNPLACED = last_low (g.A.Arena.game c.args.arena.now) c.args.self.now.board.tables c.args.self.now.board.winner.items c.args.self.now.order.items c.args.self.now.frames.items c.args.frame c.args.self.now.cursor true c.requires.nest in
-    omega (arith, c.requires.level)
+    let mark : c.mark.result ≡ 2 * length c.args.self.now.frames.items + 1 =
+    c.mark.ensures ∙ ap mark_of c.requires.level in
+    let free : c.mark-2.result ≡ UNPLACED = c.mark-2.ensures in
+    omega arith
 
-pub returns-clause-stack : goal.returns-clause-stack
-returns-clause-stack g c =
+pub returns : goal.returns
+returns g c =
     let game = g.A.Arena.game c.args.arena.now in
     let frame = c.args.frame in
     let frames = c.args.self.now.frames.items in
@@ -34,38 +42,33 @@ returns-clause-stack g c =
     let new = c.attract.new.self.tables in
     let winner = c.args.self.now.board.winner.items in
     let winner_now = c.attract.new.self.winner.items in
-    let Given : List ℕ → Type 0 = λ won. IsGiven (record { player = 1 - frame.player; begin = frame.turn; mark = c.args.level; free = UNPLACED }) new won winner_now in
+    let level : ℕ = mark_of c.args.level in
+    let aim : Aim = record {
+      player = 1 - frame.player;
+      begin = frame.turn;
+      mark = c.mark.result;
+      free = c.mark-2.result;
+    } in
+    let is_level : level ≡ 2 * length frames + 1 = ap mark_of c.requires.level in
+    let is_mark : c.mark.result ≡ 2 * length frames + 1 = c.mark.ensures ∙ is_level in
+    let is_free : c.mark-2.result ≡ UNPLACED = c.mark-2.ensures in
+    let is_aim : aim ≡ on_aim (2 * length frames) frame = cc (is_mark, is_free) in
+    let Given : List ℕ → Type 0 = λ won. IsGiven aim new won winner_now in
     let waits = last_waits game old winner order frames frame cursor true c.requires.nest in
-    let fits_mid : FitsGame game mid = fits_reopened game winner frame.player c.args.level frame.turn old mid waits.segment.within c.requires.nest.sound.fits c.in_ok-reopen.ensures.reopened in
-    let reached : Reached game c.args.level frame old mid new winner winner_now = record {
+    let fits_mid : FitsGame game mid = fits_reopened game winner frame.player level frame.turn old mid
+    waits.segment.within c.requires.nest.sound.fits c.in_ok-reopen.ensures.reopened in
+    let reached : Reached game level aim frame old mid new winner winner_now = record {
       reopened = c.in_ok-reopen.ensures.reopened;
       grown = c.in_ok-attract.ensures.grown;
       given = subst Given c.reopen.ensures.winner c.in_ok-attract.ensures.given;
       attracted = c.in_ok-attract.ensures.attracted;
     } in
-    let going = going_on game c.args.level old mid new winner winner_now order frames frame cursor c.requires.nest c.requires.level fits_mid c.in_ok-attract.ensures.fits reached in
-    on_nest game old mid new winner winner_now order frames frame cursor c.requires.nest going c.in_ok-attract.ensures.fits c.in_ok-attract.ensures.winners
-
-pub returns-clause-falls : goal.returns-clause-falls
-returns-clause-falls g c =
-    let game = g.A.Arena.game c.args.arena.now in
-    let frame = c.args.frame in
-    let frames = c.args.self.now.frames.items in
-    let cursor = c.args.self.now.cursor in
-    let order = c.args.self.now.order.items in
-    let old = c.args.self.now.board.tables in
-    let mid = c.reopen.new.self.tables in
-    let new = c.attract.new.self.tables in
-    let winner = c.args.self.now.board.winner.items in
-    let winner_now = c.attract.new.self.winner.items in
-    let Given : List ℕ → Type 0 = λ won. IsGiven (record { player = 1 - frame.player; begin = frame.turn; mark = c.args.level; free = UNPLACED }) new won winner_now in
-    let waits = last_waits game old winner order frames frame cursor true c.requires.nest in
-    let fits_mid : FitsGame game mid = fits_reopened game winner frame.player c.args.level frame.turn old mid waits.segment.within c.requires.nest.sound.fits c.in_ok-reopen.ensures.reopened in
-    let reached : Reached game c.args.level frame old mid new winner winner_now = record {
-      reopened = c.in_ok-reopen.ensures.reopened;
-      grown = c.in_ok-attract.ensures.grown;
-      given = subst Given c.reopen.ensures.winner c.in_ok-attract.ensures.given;
-      attracted = c.in_ok-attract.ensures.attracted;
-    } in
-    let going = going_on game c.args.level old mid new winner winner_now order frames frame cursor c.requires.nest c.requires.level fits_mid c.in_ok-attract.ensures.fits reached in
-    on_falls game c.args.level c.requires.lost.0 old mid new winner winner_now order frames frame cursor c.requires.nest c.requires.level going c.requires.lost.1 c.requires.lost.2
+    let going = going_on game level aim old mid new winner winner_now order frames frame cursor c.requires.nest is_level
+    is_aim fits_mid c.in_ok-attract.ensures.fits reached in
+    record {
+      stack = on_nest game old mid new winner winner_now order frames frame cursor c.requires.nest going
+          c.in_ok-attract.ensures.fits c.in_ok-attract.ensures.winners;
+      falls = on_falls game level c.requires.lost.0 old mid new winner winner_now order frames frame cursor
+          c.requires.nest is_level going c.requires.lost.1 c.requires.lost.2;
+      depth = refl;
+    }

@@ -2,7 +2,7 @@ use Rattle.std.proofs.Common.{◌≡◌, ℕ, ◌+◌, ◌*◌, ◌<◌, ◌≤�
 use Rattle.std.proofs.lemmas.List.{get_or-replicate, length-replicate}
 use Rattle.ps_game.specs.Games.{vertex_count}
 use Rattle.ps_attractor.specs.Tables.{TablesData}
-use Rattle.ps_zielonka.specs.declared.board.TheConstants.{UNPLACED}
+use Rattle.ps_zielonka.specs.declared.level.TheConstants.{UNPLACED}
 use Rattle.ps_zielonka.specs.declared.frame.Frame.{Frame}
 use Rattle.ps_zielonka.specs.Nests.{IsNest}
 use Rattle.ps_zielonka.specs.Depths.{IsDepthSoFar}
@@ -18,14 +18,25 @@ returns g c =
     let order = c.in_ok-order.order.items in
     let count = c.count-count.ensures.vertices in
     let Nest : List Frame → Type 0 = λ frames. IsNest game tables winner order frames 0 false in
+    let Marked : ℕ → Type 0 = λ mark. tables.level ≡ replicate c.count-count.result mark in
+    let levels : tables.level ≡ replicate c.count-count.result UNPLACED =
+    subst Marked c.mark.ensures c.in_ok-tables.ensures.levels in
     let Levels : ℕ → Type 0 = λ n. tables.level ≡ replicate n UNPLACED in
     let Moves : ℕ → Type 0 = λ n. tables.moves ≡ replicate n 0 in
     let winners : length winner ≡ vertex_count game = omega (arith, c.in_ok-winner.ensures.len, c.in_ok-winner.winner.ok.0, count) in
     let few : c.tables.inside.level.cap * 8 < 9223372036854775808 = c.tables.ranges.0.1.0 in
     let inside : length c.tables.inside.level.items ≡ length tables.level = ap (λ (t : TablesData). length t.level) c.tables.view_is in
-    let size : length tables.level ≡ c.count-count.result = ap length c.in_ok-tables.ensures.levels ∙ length-replicate c.count-count.result UNPLACED in
+    let size : length tables.level ≡ c.count-count.result =
+    ap length levels ∙ length-replicate c.count-count.result UNPLACED in
     let high : 2 * vertex_count game + 4 ≤ UNPLACED = omega (arith, c.tables.inside.level.ok.0, c.tables.inside.level.ok.1, count) in
     let places = λ (v : ℕ) (is_vertex : v < vertex_count game). (
-    let same : get_or tables.level v 0 ≡ UNPLACED = ap (λ xs. get_or xs v 0) c.in_ok-tables.ensures.levels ∙ get_or-replicate c.count-count.result v UNPLACED 0 (omega arith) in same) in
+    let same : get_or tables.level v 0 ≡ UNPLACED =
+    ap (λ xs. get_or xs v 0) levels ∙ get_or-replicate c.count-count.result v UNPLACED 0 (omega arith) in same) in
     let Calls : List Frame → Type 0 = λ frames. IsDepthSoFar game tables.level (length frames) false 0 in
-    record { deep = subst Calls (sym c.new-3.ensures.items) (depth_start game tables.level places); stack = subst Nest (sym c.new-3.ensures.items) (nest_start game tables winner order c.count-count.ensures.well_formed (subst Levels count c.in_ok-tables.ensures.levels) (subst Moves count c.in_ok-tables.ensures.moves) c.in_ok-tables.ensures.trail winners c.in_ok-order.ensures high) }
+    let start = nest_start game tables winner order c.count-count.ensures.well_formed (subst Levels count levels)
+    (subst Moves count c.in_ok-tables.ensures.moves) c.in_ok-tables.ensures.trail winners c.in_ok-order.ensures
+    high in
+    record {
+      deep = subst Calls (sym c.new-3.ensures.items) (depth_start game tables.level places);
+      stack = subst Nest (sym c.new-3.ensures.items) start;
+    }

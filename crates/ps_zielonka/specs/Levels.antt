@@ -1,0 +1,11 @@
+-- The number by which the tables keep a level. It rises with the depth of the call, and in one call what is decided
+-- has the smaller number. A vertex that is not placed has the greatest of all.
+use Rattle.std.specs.Prelude.{ℕ, ◌+◌, ◌*◌}
+use Rattle.ps_zielonka.specs.declared.level.Level.{Level}
+use Rattle.ps_zielonka.specs.declared.level.Level.TheVariants.{Decided, Attracted, Unplaced}
+use Rattle.ps_zielonka.specs.declared.level.TheConstants.{UNPLACED}
+
+abbrev pub mark_of : Level → ℕ
+mark_of (Decided depth) = 2 * depth + 1
+mark_of (Attracted depth) = 2 * depth + 2
+mark_of Unplaced = UNPLACED
