@@ -18,5 +18,5 @@ pub mod Building
 pub mod ChainSets
 pub mod OneRefusal
 pub mod Deciding
-mod Existing
+pub mod Existing
 pub mod LetterRows

@@ -24,7 +24,7 @@ bit_more : (b : Bool) (n r : ℕ) → r < 2 ^ n → cond b (2 ^ n) 0 + r < 2 ^ s
 bit_more true n r h = omega (arith, twice n, h)
 bit_more false n r h = omega (arith, twice n, h)
 
-rank_lt : (from n y : ℕ) → rank from n y < 2 ^ n
+pub rank_lt : (from n y : ℕ) → rank from n y < 2 ^ n
 unfolding rank
 rank_lt from zero y = omega arith
 rank_lt from (suc n) y = bit_more (is_in from y) n (rank (from + 1) n y) (rank_lt (from + 1) n y)

@@ -3,6 +3,7 @@ mod BoardLetters
 mod BoardSteps
 mod BuildingEntries
 mod Certified
+mod Choosing
 mod ClassTables
 mod DrawingLemmas
 mod Exploring
@@ -10,6 +11,7 @@ mod Extracted
 mod Following
 mod EndlessRuns
 mod FirstDrawing
+mod GameThere
 mod FileBoards
 mod KeptMemories
 mod KeyTests

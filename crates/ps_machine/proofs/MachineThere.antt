@@ -25,6 +25,7 @@ use Rattle.ps_machine.specs.Solving.{winner}
 use Rattle.ps_machine.specs.declared.key.Key.{Key}
 use Rattle.ps_machine.specs.declared.key.Key.TheVariants.{First, Second}
 use Rattle.ps_machine.specs.declared.machine.Row.{Row}
+use Rattle.ps_machine.proofs.Choosing.{class_there, first_over, move_there, over_first, over_second, part, part_itself, part_over, part_same, same_priorities, same_states, second_over, IsOver}
 use Rattle.ps_machine.proofs.DrawingLemmas.{class_at, move_at, move_to, not_both, to_class_of, to_pair_of, used_more}
 use Rattle.ps_machine.proofs.Following.{IsSearched, adds_all, adds_move, adds_next, adds_no_move, adds_none, search_bounded, search_done, search_first, search_next, used_at, used_first, used_within}
 use Rattle.ps_machine.proofs.KeptMemories.{all_kept, each_kept, memory_of, some_kept}
@@ -34,155 +35,6 @@ use Rattle.ps_machine.proofs.MachineLemmas.{back, one_letter, own_none, own_with
 use Rattle.ps_machine.proofs.MemorySteps.{AreMemoriesBelow, all_below, below_more, below_skip, none_below}
 use Rattle.ps_machine.proofs.Rounds.{Setting, first_owner, second_owner, within_game}
 use Rattle.ps_machine.proofs.Standing.{one_state, same_some, stand-within}
-
--- ## Letters of one player
-
--- a letter in which other propositions than these are false
-record IsOver (n : ℕ) (mine : ℕ → Bool) (y : ℕ) : Type 0 where
-  within : y < 2 ^ n
-  own : (p : ℕ) → mine p ≡ false → is_in p y ≡ false
-
-module _ (n : ℕ) (mine : ℕ → Bool) where
-  -- what a letter has of these propositions
-  part : ℕ → ℕ
-  part x = letter_of n (λ p. mine p && is_in p x)
-
-  part_over : (x : ℕ) → IsOver n mine (part x)
-  unfolding part
-  part_over x = record {
-    within = letter_lt n (λ p. mine p && is_in p x);
-    own = λ p not_mine. elim (cases_lt p n) [
-      | inl less ↦ letter_is n (λ q. mine q && is_in q x) p less ∙ ap (λ b. b && is_in p x) not_mine
-      | inr more ↦ no_bit n (part x) p (letter_lt n (λ q. mine q && is_in q x)) more
-    ];
-  }
-
-  part_same : (x y : ℕ) → ((p : ℕ) → p < n → mine p ≡ true → is_in p x ≡ is_in p y) → part x ≡ part y
-  unfolding part
-  part_same x y same = same_letter n (part x) (part y) (part_over x).within (part_over y).within
-      (λ p less. letter_is n (λ q. mine q && is_in q x) p less ∙ bit (mine p) (is_in p x) (is_in p y) (same p less) ∙ sym (letter_is n (λ q. mine q && is_in q y) p less))
-    where
-      bit : (m a b : Bool) → (m ≡ true → a ≡ b) → (m && a) ≡ (m && b)
-      bit true a b e = e refl
-      bit false a b e = refl
-
-  part_itself : (y : ℕ) → IsOver n mine y → part y ≡ y
-  unfolding part
-  part_itself y over = same_letter n (part y) y (part_over y).within over.within
-      (λ p less. letter_is n (λ q. mine q && is_in q y) p less ∙ bit (mine p) (is_in p y) (over.own p))
-    where
-      bit : (m a : Bool) → (m ≡ false → a ≡ false) → (m && a) ≡ a
-      bit true a e = refl
-      bit false a e = sym (e refl)
-
-  over_or_not : (y : ℕ) → IsOver n mine y ⊎ (IsOver n mine y → ⊥)
-  over_or_not y = elim (cases_eq (part y) y) [
-    | inl same ↦ inl (subst (IsOver n mine) same (part_over y))
-    | inr other ↦ inr (λ over. other (part_itself y over))
-  ]
-
-not_true : (b : Bool) → b ≡ true → not b ≡ false
-not_true b e = ap not e
-
-not_false : (b : Bool) → not b ≡ false → b ≡ true
-not_false true e = refl
-not_false false e = sym e
-
-module _ (board : Board) where
-  n : ℕ
-  n = board.propositions
-
-  first_over : (x : ℕ) → IsFirstLetter board x → IsOver board.propositions board.is_first x
-  first_over x first = record { within = first.within; own = first.own }
-
-  over_first : (x : ℕ) → IsOver board.propositions board.is_first x → IsFirstLetter board x
-  over_first x over = record { within = over.within; own = over.own }
-
-  second_over : (y : ℕ) → IsSecondLetter board y → IsOver board.propositions (λ p. not (board.is_first p)) y
-  second_over y second = record { within = second.within; own = λ p e. second.own p (not_false (board.is_first p) e) }
-
-  over_second : (y : ℕ) → IsOver board.propositions (λ p. not (board.is_first p)) y → IsSecondLetter board y
-  over_second y over = record { within = over.within; own = λ p e. over.own p (ap not e) }
-
-  first_or_not : (x : ℕ) → IsFirstLetter board x ⊎ (IsFirstLetter board x → ⊥)
-  first_or_not x = elim (over_or_not board.propositions board.is_first x) [
-    | inl over ↦ inl (over_first x over)
-    | inr none ↦ inr (λ first. none (first_over x first))
-  ]
-
-  second_or_not : (y : ℕ) → IsSecondLetter board y ⊎ (IsSecondLetter board y → ⊥)
-  second_or_not y = elim (over_or_not board.propositions (λ p. not (board.is_first p)) y) [
-    | inl over ↦ inl (over_second y over)
-    | inr none ↦ inr (λ second. none (second_over y second))
-  ]
-
-  -- ## Steps that are the same
-
-  step_or_not : (q one other : ℕ) → SameStep board q one other ⊎ (SameStep board q one other → ⊥)
-  step_or_not q one other = elim (cases_eq (board.auto.next q one) (board.auto.next q other)) [
-    | inr apart ↦ inr (λ s. apart s.state)
-    | inl state ↦ elim (cases_eq (board.auto.priority q one) (board.auto.priority q other)) [
-      | inr apart ↦ inr (λ s. apart s.priority)
-      | inl priority ↦ inl (record { state = state; priority = priority })
-    ]
-  ]
-
-  steps_or_not : (q one other : ℕ) → SameSteps board q one other ⊎ (SameSteps board q one other → ⊥)
-  steps_or_not q one other = elim (some_or_none Differ differ_or_not (2 ^ board.propositions) (λ y d. d.0.within)) [
-    | inl differ ↦ inr (λ same. differ.1.1 (same differ.0 differ.1.0))
-    | inr none ↦ inl (λ y second. elim (step_or_not q (one + y) (other + y)) [ inl same ↦ same | inr apart ↦ absurd (none (y, (second, apart))) ])
-  ]
-    where
-      Differ : ℕ → Type 0
-      Differ y = IsSecondLetter board y × (SameStep board q (one + y) (other + y) → ⊥)
-
-      differ_or_not : (y : ℕ) → Differ y ⊎ (Differ y → ⊥)
-      differ_or_not y = elim (second_or_not y) [
-        | inr not_second ↦ inr (λ d. not_second d.0)
-        | inl second ↦ elim (step_or_not q (one + y) (other + y)) [ inl same ↦ inr (λ d. d.1 same) | inr apart ↦ inl (second, apart) ]
-      ]
-
-  both_or_not : (P Q : Type 0) → P ⊎ (P → ⊥) → Q ⊎ (Q → ⊥) → (P × Q) ⊎ (P × Q → ⊥)
-  both_or_not P Q (inr never) q = inr (λ b. never b.0)
-  both_or_not P Q (inl p) (inr never) = inr (λ b. never b.1)
-  both_or_not P Q (inl p) (inl q) = inl (p, q)
-
-  steps_trans : (q a b c : ℕ) → SameSteps board q a b → SameSteps board q b c → SameSteps board q a c
-  steps_trans q a b c one other y second = record { state = (one y second).state ∙ (other y second).state; priority = (one y second).priority ∙ (other y second).priority }
-
-  steps_sym : (q a b : ℕ) → SameSteps board q a b → SameSteps board q b a
-  steps_sym q a b same y second = record { state = sym (same y second).state; priority = sym (same y second).priority }
-
-  -- the class of a letter of the first player
-  class_there : (q x : ℕ) → IsFirstLetter board x → (class : ℕ) × IsClass board q class × SameSteps board q x class
-  class_there q x first =
-      let P : ℕ → Type 0 = λ other. IsFirstLetter board other × SameSteps board q other x in
-      let l = least_there board.propositions P (λ y. both_or_not (IsFirstLetter board y) (SameSteps board q y x) (first_or_not y) (steps_or_not q y x)) (λ y is. is.0.within) x (first, λ y second. record { state = refl; priority = refl }) in
-      let class = l.0 in
-      let here = l.1.here in
-      (
-        class,
-        record {
-          here = (here.0, λ y second. record { state = refl; priority = refl });
-          none_before = λ other is before. l.1.none_before other (is.0, steps_trans q other class x is.1 here.1) before;
-        },
-        steps_sym q class x here.1,
-      )
-
-  -- the move behind a class that leads where a letter of the second player leads
-  move_there : (q class y : ℕ) → IsSecondLetter board y → (move : ℕ) × IsMove board q class move × SameStep board q (class + move) (class + y)
-  move_there q class y second =
-      let P : ℕ → Type 0 = λ other. IsSecondLetter board other × SameStep board q (class + other) (class + y) in
-      let l = least_there board.propositions P (λ z. both_or_not (IsSecondLetter board z) (SameStep board q (class + z) (class + y)) (second_or_not z) (step_or_not q (class + z) (class + y))) (λ z is. is.0.within) y (second, record { state = refl; priority = refl }) in
-      let here = l.1.here in
-      (
-        l.0,
-        record {
-          here = (here.0, record { state = refl; priority = refl });
-          none_before = λ other is before. l.1.none_before other (is.0, record { state = is.1.state ∙ here.1.state; priority = is.1.priority ∙ here.1.priority }) before;
-        },
-        here.1,
-      )
 
 -- ## Used vertices
 
@@ -245,22 +97,6 @@ module _ (is_first : Bool) (keys : List Key) (used : List ℕ) where
   memories_there = (let m = memories_below (length keys) (omega arith) in (m.0, m.1, all_below is_first keys used m.0 m.1 (length keys) (omega arith) m.2))
 
 -- ## Rows
-
-state_in : Key → ℕ
-state_in (First q p) = q
-state_in (Second q x) = q
-
-priority_in : Key → ℕ
-priority_in (First q p) = p
-priority_in (Second q x) = 0
-
-same_states : (q p r o : ℕ) → First q p ≡ First r o → q ≡ r
-unfolding state_in
-same_states q p r o e = ap state_in e
-
-same_priorities : (q p r o : ℕ) → First q p ≡ First r o → p ≡ o
-unfolding priority_in
-same_priorities q p r o e = ap priority_in e
 
 module _ (board : Board) (mover : ℕ) (keys : List Key) (game : ParityGame) (certificate : CertificateData) (s : Setting board mover keys game certificate) where
   edge_within : (v w : ℕ) → HasEdge game v w → w < vertex_count game

@@ -2,7 +2,8 @@
 
 ghost use Rattle.std.specs.Prelude.{◌≡◌, ℕ, ◌<◌, ◌≤◌, List, length};
 ghost use Rattle.ps_hoa.specs.Files.{FileData};
-ghost use Rattle.ps_hoa.specs.Sound.{AreNames};
+ghost use Rattle.ps_hoa.specs.Sound.{AreNames, IsSoundFile};
+ghost use Rattle.ps_automaton.specs.Answers.{IsAdmitted};
 ghost use Rattle.ps_automaton.specs.Automata.{AutomatonData, IsBuiltFrom};
 ghost use Rattle.ps_automaton.specs.Chains.{Chain};
 ghost use Rattle.ps_game.specs.Games.{NamedGameData, ParityGame};
@@ -34,6 +35,11 @@ pub fn one_game()
 /// comes.
 pub fn one_game_of_file()
     ensures { (order : Order) (file : FileData) (game other : NamedGameData) → IsGameOfFile order file game → IsGameOfFile order file other → game ≡ other }
+{}
+
+/// Each file that was read and is admitted has a game, in each order of moves.
+pub fn game_is_there()
+    ensures { (order : Order) (file : FileData) → IsSoundFile file → IsAdmitted file → (game : NamedGameData) × IsGameOfFile order file game }
 {}
 
 /// Each valid certificate of a board's game has a machine, with names for the board's propositions.

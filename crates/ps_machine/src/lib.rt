@@ -46,7 +46,7 @@ pub use extracting::{extract, machine_of_certificate};
 pub use fault::SolveFault;
 pub use game::{AutomatonGame, game_of};
 pub use key::{Key, Order};
-pub use laws::{lassos_won, machine_is_there, one_game, one_game_of_file};
+pub use laws::{game_is_there, lassos_won, machine_is_there, one_game, one_game_of_file};
 pub use machine::{Machine, Row};
 pub use numbering::{KeyedGame, Successors, game_by_keys};
 pub use replay::Replay;

@@ -1,0 +1,5 @@
+use Rattle.ps_machine.proofs.GameThere.{game_there}
+use Rattle.ps_machine.proofs.laws.game_is_there.Goals as goal
+
+pub returns : goal.returns
+returns c = game_there
