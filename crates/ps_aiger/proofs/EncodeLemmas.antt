@@ -16,7 +16,8 @@ use Rattle.ps_label.specs.Truth.{is_in}
 use Rattle.ps_hoa.specs.Files.{is_among}
 use Rattle.ps_machine.specs.Behaviours.{IsMachine}
 use Rattle.ps_machine.specs.Machines.{MachineData, behaviour, step_of}
-use Rattle.ps_circuit.specs.Circuits.{CircuitData, IsDraft, IsCircuit, IsDefinition, IsKnown, IsName, ReadsGate, variable, definitions}
+use Rattle.ps_circuit.specs.Circuits.{CircuitData, IsDraft, IsCircuit, IsDefinition, IsKnown, IsName, ReadsGate, definitions}
+use Rattle.ps_circuit.specs.Literals.{variable}
 use Rattle.ps_circuit.specs.Building.{Drafted, Extends, AreSides, IsSoundDraft, Meets, bit}
 use Rattle.ps_aiger.specs.Built.{AreLiterals, IsBuilt}
 use Rattle.ps_aiger.specs.Encoded.{Encodes, IsTidy, IsTidyGate, StepsAs, number_of, memory_at, memory_of, letter_over, bits_over, symbols_of}

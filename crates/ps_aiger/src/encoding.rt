@@ -14,7 +14,7 @@ ghost use Rattle.ps_aiger.specs.Functions.{IsLiteralAt, bits_wired, wanted_place
 ghost use Rattle.ps_aiger.specs.declared.functions.Wanted.TheVariants.{Next, Output};
 
 use crate::functions::{Wanted, literal_of};
-use ps_circuit::{Builder, Circuit, EncodeFault, Gate, Latch, Parts, Sides};
+use ps_circuit::{Builder, Circuit, EncodeFault, Gate, Latch, Literal, Parts, Sides};
 use ps_machine::Machine;
 use std::alloc::{AllocError, Global};
 
@@ -45,7 +45,7 @@ fn next_literals(
     builder: &mut Builder,
     machine: &Machine,
     latches: u32,
-) -> Result<Vec<u32>, EncodeFault>
+) -> Result<Vec<Literal>, EncodeFault>
     requires few { latches ≤ 64 }
     requires given { builder.old.given ≡ length machine.now.inputs + latches }
     requires empty { builder.old.gates ≡ [] }
@@ -66,7 +66,7 @@ fn output_literals(
     builder: &mut Builder,
     machine: &Machine,
     latches: u32,
-) -> Result<Vec<u32>, EncodeFault>
+) -> Result<Vec<Literal>, EncodeFault>
     requires few { latches ≤ 64 }
     requires given { builder.old.given ≡ length machine.now.inputs + latches }
     requires behind { builder.old ≡ (next_wires (behaviour machine.now) latches).draft }
@@ -86,8 +86,8 @@ fn circuit_of(
     builder: &Builder,
     machine: &Machine,
     latches: u32,
-    next: &[u32],
-    outputs: Vec<u32>,
+    next: &[Literal],
+    outputs: Vec<Literal>,
 ) -> Result<Circuit, AllocError>
     requires given { builder.now.given ≡ length machine.now.inputs + latches }
     requires small { length machine.now.inputs ≤ 64 }
@@ -151,7 +151,7 @@ fn literals_of(
     machine: &Machine,
     latches: u32,
     wanted: &[Wanted],
-) -> Result<Vec<u32>, EncodeFault>
+) -> Result<Vec<Literal>, EncodeFault>
     requires within { All (λ bit. wanted_place bit < 64) wanted.now }
     requires few { latches ≤ 64 }
     requires given { builder.old.given ≡ length machine.now.inputs + latches }
@@ -174,8 +174,8 @@ fn parts_of(
     alloc: Global,
     builder: &Builder,
     machine: &Machine,
-    next: &[u32],
-    outputs: Vec<u32>,
+    next: &[Literal],
+    outputs: Vec<Literal>,
 ) -> Result<Parts, AllocError>
     requires given { builder.now.given ≡ length machine.now.inputs + length next.now }
     requires small { length machine.now.inputs ≤ 64 }
@@ -198,26 +198,26 @@ fn parts_of(
 }
 
 /// The literals of that many variables from one on.
-fn literals_from(alloc: Global, first: u32, count: u32) -> Result<Vec<u32>, AllocError>
+fn literals_from(alloc: Global, first: u32, count: u32) -> Result<Vec<Literal>, AllocError>
     requires { first + count ≤ 2 ^ 31 }
     ensures { IfOk result (λ literals. literals.items ≡ map (λ v. 2 * v) (range_with_len first count)) }
 {
     let mut literals = Vec::new(alloc);
     for place in 0..count {
-        literals.push(2 * (first + place))?;
+        literals.push(Literal::positive(first + place))?;
     }
     Ok(literals)
 }
 
 /// The latches from that variable on, with these next literals.
-fn latches_of(alloc: Global, first: u32, next: &[u32]) -> Result<Vec<Latch>, AllocError>
+fn latches_of(alloc: Global, first: u32, next: &[Literal]) -> Result<Vec<Latch>, AllocError>
     requires { first + length next.now ≤ 2 ^ 31 }
     ensures { IfOk result (λ latches. AreLatches first next.now latches.items) }
 {
     let mut latches = Vec::new(alloc);
     for (place, next) in next.iter().enumerate() {
         latches.push(Latch {
-            literal: 2 * (first + place as u32),
+            literal: Literal::positive(first + place as u32),
             next: *next,
             reset: false,
         })?;
@@ -233,7 +233,7 @@ fn gates_of(alloc: Global, builder: &Builder) -> Result<Vec<Gate>, AllocError>
     let mut gates = Vec::new(alloc);
     for (place, sides) in builder.gates().iter().enumerate() {
         gates.push(Gate {
-            literal: 2 * (first + place as u32),
+            literal: Literal::positive(first + place as u32),
             first: sides.first,
             second: sides.second,
         })?;

@@ -10,7 +10,7 @@ ghost use Rattle.ps_aiger.specs.Encoded.{memory_at};
 ghost use Rattle.ps_aiger.specs.Functions.{IsLiteralAt, IsLiteralOf, KnowsLiterals, KnowsMade, code_wanted, node_made, wanted_bit, wanted_place};
 
 use indexmap::IndexMap;
-use ps_circuit::{Builder, EncodeFault};
+use ps_circuit::{Builder, EncodeFault, Literal};
 use ps_diagram::{Node, View};
 use ps_machine::{Machine, Row};
 use std::alloc::Global;
@@ -32,7 +32,7 @@ pub(crate) fn literal_of(
     machine: &Machine,
     wanted: Wanted,
     latches: u32,
-) -> Result<u32, EncodeFault>
+) -> Result<Literal, EncodeFault>
     requires within { wanted_place wanted < 64 }
     requires few { latches ≤ 64 }
     requires given { builder.old.given ≡ length machine.now.inputs + latches }
@@ -52,10 +52,10 @@ fn over_latches(
     builder: &mut Builder,
     machine: &Machine,
     wanted: Wanted,
-    known: &mut IndexMap<Node, u32>,
+    known: &mut IndexMap<Node, Literal>,
     latches: u32,
     code: usize,
-) -> Result<u32, EncodeFault>
+) -> Result<Literal, EncodeFault>
     requires within { wanted_place wanted < 64 }
     requires few { latches ≤ 64 }
     requires fits { code + 2 ^ latches ≤ 2 ^ 64 }
@@ -77,7 +77,7 @@ fn over_latches(
     let where_true = over_latches(builder, machine, wanted, known, latch, code + (1 << latch))?;
     let where_false = over_latches(builder, machine, wanted, known, latch, code)?;
     let variable = machine.inputs().len() as u32 + 1 + latch;
-    builder.mux(2 * variable, where_true, where_false)
+    builder.mux(Literal::positive(variable), where_true, where_false)
 }
 
 /// The diagram of the memory with that code; a code of no memory stands for memory 0.
@@ -97,9 +97,9 @@ fn over_inputs(
     builder: &mut Builder,
     machine: &Machine,
     wanted: Wanted,
-    known: &mut IndexMap<Node, u32>,
+    known: &mut IndexMap<Node, Literal>,
     node: Node,
-) -> Result<u32, EncodeFault>
+) -> Result<Literal, EncodeFault>
     requires within { wanted_place wanted < 64 }
     requires held { IsNode machine.now.store node }
     requires given { length machine.now.inputs ≤ builder.old.given }
@@ -114,7 +114,7 @@ fn over_inputs(
     ensures known_made { IfOk result (λ literal. KnowsMade machine.now wanted builder.new (get nat_eq known.new)) }
 {
     match machine.store().view(node) {
-        View::Nothing => Ok(0),
+        View::Nothing => Ok(Literal::FALSE),
         View::Leaf(leaf) => Ok(constant(machine, wanted, leaf)),
         View::Test {
             proposition,
@@ -129,7 +129,8 @@ fn over_inputs(
             }
             let where_true = over_inputs(builder, machine, wanted, known, high)?;
             let where_false = over_inputs(builder, machine, wanted, known, low)?;
-            let literal = builder.mux(2 * (place as u32 + 1), where_true, where_false)?;
+            let input = Literal::positive(place as u32 + 1);
+            let literal = builder.mux(input, where_true, where_false)?;
             known.insert(node, literal)?;
             Ok(literal)
         }
@@ -137,13 +138,13 @@ fn over_inputs(
 }
 
 /// The literal of the wanted bit of the row that a leaf names.
-fn constant(machine: &Machine, wanted: Wanted, leaf: u64) -> u32
+fn constant(machine: &Machine, wanted: Wanted, leaf: u64) -> Literal
     requires { wanted_place wanted < 64 }
     ensures { result ≡ (if wanted_bit wanted (row_of machine.now leaf) then 1 else 0) }
 {
     match machine.rows().get(leaf as usize) {
-        Some(row) => u32::from(bit_of_row(wanted, *row)),
-        None => 0,
+        Some(row) => Literal::constant(bit_of_row(wanted, *row)),
+        None => Literal::FALSE,
     }
 }
 

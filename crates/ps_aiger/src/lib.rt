@@ -3,7 +3,7 @@
 //! | Call | What it gives |
 //! |---|---|
 //! | `encode(machine)` | the circuit whose step is the machine's, with the names of the propositions as symbols |
-//! | those of `ps_circuit` | `read`, `write`, `Builder`, `Circuit`: its head has a table |
+//! | those of `ps_circuit` | `read`, `write`, `Builder`, `Circuit`, `Literal`: its head has a table |
 //!
 //! Memories are numbered in binary in the latches. Each output and each latch is a literal that is made from the
 //! machine's decision diagrams node by node, as a choice by the proposition that the node tests; a gate that is there
@@ -15,5 +15,6 @@ mod functions;
 
 pub use encoding::encode;
 pub use ps_circuit::{
-    AigCause, AigFault, Builder, Circuit, EncodeFault, Gate, Latch, Sides, one_answer, read, write,
+    AigCause, AigFault, Builder, Circuit, EncodeFault, Gate, Latch, Literal, Sides, one_answer,
+    read, write,
 };

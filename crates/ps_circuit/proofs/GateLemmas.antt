@@ -9,8 +9,9 @@ use Rattle.indexmap.specs.IndexSet.{insert_key}
 use Rattle.ps_components.proofs.Places.{slice_get-append_left, slice_get-push_cases}
 use Rattle.ps_circuit.specs.declared.builder.Sides.{Sides}
 use Rattle.ps_circuit.specs.contracts.builder.SidesPartialEq.TheImpl as sides_eq
-use Rattle.ps_circuit.specs.Circuits.{variable}
-use Rattle.ps_circuit.specs.Building.{Drafted, AreSides, Extends, IsFull, IsHeld, IsNew, IsSoundDraft, Meets, NeedsGate, bit, negated, variables_of}
+use Rattle.ps_circuit.specs.Literals.{variable}
+use Rattle.ps_circuit.specs.Building.{Drafted, AreSides, Extends, IsFull, IsHeld, IsNew, IsSoundDraft, Meets, NeedsGate, bit, variables_of}
+use Rattle.ps_circuit.specs.Literals.{negated}
 
 pub bool_cases : (b : Bool) → (b ≡ true) ⊎ (b ≡ false)
 bool_cases true = inl refl

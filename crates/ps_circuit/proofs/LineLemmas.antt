@@ -17,7 +17,8 @@ use Rattle.ps_circuit.specs.declared.fault.AigCause.TheVariants.{Literal, Define
 use Rattle.ps_circuit.specs.Causes.{AigFault}
 use Rattle.ps_text.specs.declared.faults.Fault.TheVariants.{Text}
 use Rattle.ps_circuit.specs.Causes.{cause_number}
-use Rattle.ps_circuit.specs.Circuits.{variable, IsDefinition}
+use Rattle.ps_circuit.specs.Circuits.{IsDefinition}
+use Rattle.ps_circuit.specs.Literals.{variable}
 use Rattle.ps_circuit.specs.Signs.{Seen, Field, aig_causes, number, line_end, more, by_more}
 use Rattle.ps_circuit.specs.Cursors.{found_of, saturated, NumberIs}
 use Rattle.ps_circuit.specs.Texts.{WrongLiteral, WrongDefinition, WrongReset, field, Lines, add_input, add_latch, add_output, add_gate, input_line, reset, latch_line, output_line, gate_line}

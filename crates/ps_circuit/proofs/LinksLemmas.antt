@@ -8,7 +8,8 @@ use Rattle.ps_circuit.specs.declared.links.Links.{Links}
 use Rattle.ps_circuit.specs.declared.parts.Gate.{Gate}
 use Rattle.ps_components.specs.Graphs.{Way, Link, IsWithin}
 use Rattle.ps_components.specs.Orders.{IsOrder, IsFirstOnCycle}
-use Rattle.ps_circuit.specs.Circuits.{CircuitData, variable, definitions, ReadsGate}
+use Rattle.ps_circuit.specs.Circuits.{CircuitData, definitions, ReadsGate}
+use Rattle.ps_circuit.specs.Literals.{variable}
 use Rattle.ps_circuit.specs.Drafts.{links_by, place_in}
 use Rattle.ps_ids.specs.Ids.{AreDistinct}
 use Rattle.ps_ids.proofs.IdPlaces.{position_here}

@@ -9,7 +9,8 @@ use Rattle.indexmap.specs.IndexSet.{insert_key}
 use Rattle.ps_components.proofs.Places.{slice_get-push}
 use Rattle.ps_circuit.specs.contracts.builder.SidesPartialEq.TheImpl as sides_eq
 use Rattle.ps_circuit.specs.declared.builder.Sides.{Sides}
-use Rattle.ps_circuit.specs.Building.{Drafted, Extends, negated, variables_of}
+use Rattle.ps_circuit.specs.Building.{Drafted, Extends, variables_of}
+use Rattle.ps_circuit.specs.Literals.{negated}
 use Rattle.ps_circuit.specs.Gates.{Made, has_sides, gate_of, and_of, inverted, or_of, chosen_of, mux_of}
 use Rattle.ps_circuit.proofs.GateLemmas.{bool_cases, true_is_not_false, extends-refl, extends-trans, extends-more, same_sides, sides_same, drafted_are, Placed}
 

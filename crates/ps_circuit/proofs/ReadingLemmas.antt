@@ -8,7 +8,8 @@ use Rattle.std.proofs.lemmas.List.Quantifiers.{all_pairs_push}
 use Rattle.std.specs.Global.{Global}
 use Rattle.ps_circuit.specs.declared.parts.Gate.{Gate}
 use Rattle.ps_components.specs.Graphs.{Way, last, next}
-use Rattle.ps_circuit.specs.Circuits.{CircuitData, variable, definitions, readings, IsDefinition, IsName, IsDraft, ReadsGate}
+use Rattle.ps_circuit.specs.Circuits.{CircuitData, definitions, readings, IsDefinition, IsName, IsDraft, ReadsGate}
+use Rattle.ps_circuit.specs.Literals.{variable}
 use Rattle.ps_circuit.specs.Drafts.{name_bytes}
 use Rattle.ps_components.specs.Orders.{IsFirstOnCycle}
 use Rattle.ps_circuit.specs.Causes.{AigFault}

@@ -12,7 +12,8 @@ use Rattle.ps_circuit.specs.declared.cursor.Number.{Number}
 use Rattle.ps_circuit.specs.declared.fault.AigCause.{AigCause}
 use Rattle.ps_circuit.specs.declared.parts.Latch.{Latch}
 use Rattle.ps_circuit.specs.declared.parts.Gate.{Gate}
-use Rattle.ps_circuit.specs.Circuits.{CircuitData, variable, definitions, readings, IsDefinition, IsKnown, IsDraft}
+use Rattle.ps_circuit.specs.Circuits.{CircuitData, definitions, readings, IsDefinition, IsKnown, IsDraft}
+use Rattle.ps_circuit.specs.Literals.{variable}
 use Rattle.ps_circuit.specs.Texts.{WrongLiteral, WrongDefinition, Lines, no_lines, next_lines, add_input, add_latch, add_output, add_gate, input_line, latch_line, output_line, gate_line}
 use Rattle.ps_circuit.specs.Written as written
 use Rattle.ps_circuit.specs.Written.{line, literal_lines, latch_lines, gate_lines}

@@ -11,7 +11,8 @@ use Rattle.ps_text.proofs.Whole.{answers_ok}
 use Rattle.ps_circuit.specs.declared.cursor.Number.{Number}
 use Rattle.ps_circuit.specs.declared.parts.Latch.{Latch}
 use Rattle.ps_circuit.specs.declared.parts.Gate.{Gate}
-use Rattle.ps_circuit.specs.Circuits.{CircuitData, variable, definitions, readings, IsCircuit, ReadsGate}
+use Rattle.ps_circuit.specs.Circuits.{CircuitData, definitions, readings, IsCircuit, ReadsGate}
+use Rattle.ps_circuit.specs.Literals.{variable}
 use Rattle.ps_components.specs.Graphs.{Way}
 use Rattle.ps_circuit.specs.Signs.{stream_of, ends_line, closed, aig_causes, pieces_at}
 use Rattle.ps_circuit.specs.Texts.{Lines, no_lines, next_lines, OfInput, OfLatch, OfOutput, NamesData, no_names, symbol_line, DraftData, draft_of, symbols, body, circuit_text, IsDefined, ReadsCircuit, meaning}

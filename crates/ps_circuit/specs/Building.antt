@@ -4,9 +4,9 @@
 --     Meets d v      variable 0 is false, and each gate is the conjunction of its two literals
 --     Extends old new      the gates that were there are there, at their variables
 --     IsSoundDraft d      what is true of the gates of a builder
-use Rattle.std.specs.Prelude.{◌≡◌, ◌≢◌, ℕ, ◌+◌, ◌-◌, ◌%◌, ◌^◌, ◌<◌, ◌≤◌, ◌==◌, ◌&&◌, Bool, false, not, if◌then◌else◌, List, length, slice_get, Some}
+use Rattle.std.specs.Prelude.{◌≡◌, ◌≢◌, ℕ, ◌+◌, ◌^◌, ◌<◌, ◌≤◌, ◌&&◌, Bool, false, not, if◌then◌else◌, List, length, slice_get, Some}
 use Rattle.ps_circuit.specs.declared.builder.Sides.{Sides}
-use Rattle.ps_circuit.specs.Circuits.{variable}
+use Rattle.ps_circuit.specs.Literals.{is_negated, variable}
 
 pub record Drafted : Type 0 where
   pub given : ℕ
@@ -20,11 +20,8 @@ variables_of d = d.given + length d.gates
 abbrev pub IsHeld : Drafted → ℕ → Type 0
 IsHeld d literal = variable literal ≤ variables_of d
 
-abbrev pub negated : ℕ → ℕ
-negated literal = if literal % 2 == 1 then literal - 1 else literal + 1
-
 abbrev pub bit : (ℕ → Bool) → ℕ → Bool
-bit v literal = if literal % 2 == 1 then not (v (variable literal)) else v (variable literal)
+bit v literal = if is_negated literal then not (v (variable literal)) else v (variable literal)
 
 pub record Meets (d : Drafted) (v : ℕ → Bool) : Type 0 where
   pub constant : v 0 ≡ false

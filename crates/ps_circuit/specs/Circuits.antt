@@ -1,12 +1,13 @@
--- What a circuit is. A literal is twice its variable, and one more where it is negated; variable 0 is false.
+-- What a circuit is.
 --     CircuitData      the value of a circuit: its greatest variable, its literals, and a name or none for each input, latch and output
 --     definitions, readings      the literals that define a variable, and those that are read
 --     ReadsGate gates i j, Way      one gate reads another; it depends on it
 --     IsDraft, IsCircuit      all but that no gate depends on itself; the whole
-use Rattle.std.specs.Prelude.{◌≡◌, ◌≢◌, ℕ, ◌+◌, ◌*◌, ◌/◌, ◌%◌, ◌<◌, ◌≤◌, ◌⊎◌, ◌^◌, List, [], ◌∷◌, ◌++◌, length, map, slice_get, Option, None, Some, All, AllPairs, Contains}
+use Rattle.std.specs.Prelude.{◌≡◌, ◌≢◌, ℕ, ◌+◌, ◌*◌, ◌%◌, ◌<◌, ◌≤◌, ◌⊎◌, ◌^◌, List, [], ◌∷◌, ◌++◌, length, map, slice_get, Option, None, Some, All, AllPairs, Contains}
 use Rattle.std.specs.List.{flat_map}
 use Rattle.ps_circuit.specs.declared.parts.Latch.{Latch}
 use Rattle.ps_circuit.specs.declared.parts.Gate.{Gate}
+use Rattle.ps_circuit.specs.Literals.{variable}
 use Rattle.ps_components.specs.Graphs.{Way}
 
 pub record CircuitData : Type 0 where
@@ -18,9 +19,6 @@ pub record CircuitData : Type 0 where
   pub input_names : List (Option (List ℕ))
   pub latch_names : List (Option (List ℕ))
   pub output_names : List (Option (List ℕ))
-
-abbrev pub variable : ℕ → ℕ
-variable literal = literal / 2
 
 -- the literals of the inputs, latches and gates
 abbrev pub definitions : CircuitData → List ℕ

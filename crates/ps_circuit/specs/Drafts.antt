@@ -5,7 +5,8 @@ use Rattle.std.specs.Global.{Global}
 use Rattle.ps_circuit.specs.declared.parts.Gate.{Gate}
 use Rattle.ps_circuit.specs.declared.parts.Parts.{Parts}
 use Rattle.ps_circuit.specs.declared.links.Links.{Links}
-use Rattle.ps_circuit.specs.Circuits.{CircuitData, variable}
+use Rattle.ps_circuit.specs.Circuits.{CircuitData}
+use Rattle.ps_circuit.specs.Literals.{variable}
 
 abbrev pub name_bytes : Option (Vec ℕ Global) → Option (List ℕ)
 name_bytes name = option_map (λ bytes. bytes.items) name

@@ -5,7 +5,8 @@
 use Rattle.std.specs.Prelude.{ℕ, ◌+◌, ◌*◌, ◌==◌, ◌&&◌, ◌||◌, nat_lt, Bool, if◌then◌else◌, [], ◌∷◌, ◌++◌}
 use Rattle.std.specs.List.{list_any, position_or_len}
 use Rattle.ps_circuit.specs.declared.builder.Sides.{Sides}
-use Rattle.ps_circuit.specs.Building.{Drafted, negated}
+use Rattle.ps_circuit.specs.Building.{Drafted}
+use Rattle.ps_circuit.specs.Literals.{negated}
 
 pub record Made : Type 0 where
   pub draft : Drafted

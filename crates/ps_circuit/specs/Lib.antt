@@ -1,3 +1,4 @@
+pub mod Literals
 pub mod Circuits
 pub mod Values
 pub mod GateGraphs

@@ -8,7 +8,8 @@ use Rattle.ps_text.specs.Answers.{Stream, Found}
 use Rattle.ps_text.specs.Parts.{PartAnswers, times}
 use Rattle.ps_text.specs.Readers.{Reads as ReadsPart, Stops, Goes}
 use Rattle.ps_components.specs.Orders.{IsFirstOnCycle}
-use Rattle.ps_circuit.specs.Circuits.{variable, IsDefinition, IsDraft, ReadsGate}
+use Rattle.ps_circuit.specs.Circuits.{IsDefinition, IsDraft, ReadsGate}
+use Rattle.ps_circuit.specs.Literals.{variable}
 use Rattle.ps_circuit.specs.Drafts.{data_of}
 use Rattle.ps_circuit.specs.Signs.{Seen, Field, aig_causes, gap, stream_of}
 use Rattle.ps_circuit.specs.Cursors.{found_of, saturated, NumberIs, TellsNumber}

@@ -25,7 +25,8 @@ use Rattle.ps_text.specs.Parts.{PartAnswers, NoBad, give, one, then_by, either, 
 use Rattle.ps_text.specs.Digits.{decimal_value}
 use Rattle.ps_components.specs.Graphs.{Way}
 use Rattle.ps_components.specs.Orders.{IsFirstOnCycle}
-use Rattle.ps_circuit.specs.Circuits.{CircuitData, IsDefinition, variable, ReadsGate}
+use Rattle.ps_circuit.specs.Circuits.{CircuitData, IsDefinition, ReadsGate}
+use Rattle.ps_circuit.specs.Literals.{variable}
 use Rattle.ps_circuit.specs.Signs.{Seen, stream_of, aig_causes, Field, BeginsRun, is_digit, byte, word, number, gap, rest_of_line, newline, line_end, more, by_more}
 use Rattle.ps_circuit.specs.declared.cursor.Number.{Number}
 use Rattle.ps_circuit.specs.declared.fault.AigCause.{AigCause}

@@ -5,16 +5,17 @@
 --     Steps c latches inputs outputs next      what a step answers, and the latches behind it
 --     IsTrace c moments      latches begin with their resets, and go on by their next literals
 -- A variable that nothing defines may have either bit: no literal of a circuit reads it.
-use Rattle.std.specs.Prelude.{◌≡◌, ℕ, ◌+◌, ◌%◌, ◌==◌, ◌&&◌, Bool, false, not, if◌then◌else◌, List, [], ◌∷◌, map, length, slice_index_or, All}
+use Rattle.std.specs.Prelude.{◌≡◌, ℕ, ◌+◌, ◌&&◌, Bool, false, not, if◌then◌else◌, List, [], ◌∷◌, map, length, slice_index_or, All}
 use Rattle.ps_circuit.specs.declared.parts.Gate.{Gate}
-use Rattle.ps_circuit.specs.Circuits.{CircuitData, variable, definitions, IsKnown}
+use Rattle.ps_circuit.specs.Circuits.{CircuitData, definitions, IsKnown}
+use Rattle.ps_circuit.specs.Literals.{is_negated, variable}
 
 abbrev pub value_of : List Bool → ℕ → Bool
 value_of values v = slice_index_or values v false
 
 abbrev pub bit_of : List Bool → ℕ → Bool
 bit_of values literal =
-    if literal % 2 == 1 then not (value_of values (variable literal)) else value_of values (variable literal)
+    if is_negated literal then not (value_of values (variable literal)) else value_of values (variable literal)
 
 -- the gate is the conjunction of the two literals that it reads
 abbrev pub MeetsGate : List Bool → Gate → Type 0

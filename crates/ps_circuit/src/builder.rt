@@ -1,10 +1,12 @@
 //! And-gates made one after another, each once.
 
 ghost use Rattle.std.specs.Prelude.{◌≡◌, ℕ, ◌+◌, ◌*◌, ◌^◌, ◌<◌, ◌≤◌, ◌&&◌, ◌||◌, Bool, not, cond, [], length, slice_get, Some, IfOk};
-ghost use Rattle.ps_circuit.specs.Building.{Drafted, AreSides, Extends, IsFull, IsHeld, IsNew, IsSoundDraft, Meets, NeedsGate, bit, negated, variables_of};
+ghost use Rattle.ps_circuit.specs.Building.{Drafted, AreSides, Extends, IsFull, IsHeld, IsNew, IsSoundDraft, Meets, NeedsGate, bit, variables_of};
+ghost use Rattle.ps_circuit.specs.Literals.{negated};
 ghost use Rattle.ps_circuit.specs.Gates.{and_of, chosen_of, gate_of, mux_of, or_of};
 
 use crate::encode_fault::EncodeFault;
+use crate::literal::Literal;
 use indexmap::IndexSet;
 use std::alloc::Global;
 use std::marker::Model;
@@ -16,13 +18,13 @@ const MOST_VARIABLES: u32 = 2147483647;
 #[derive(Debug, Clone, Copy, PartialEq, Eq, Hash)]
 pub struct Sides {
     /// The greater literal.
-    pub first: u32,
+    pub first: Literal,
     /// The smaller one.
-    pub second: u32,
+    pub second: Literal,
 }
 
-/// Makes and-gates over some given variables. A literal is twice its variable, and one more where it is negated; 0 is
-/// false, 1 is true. A gate that is there is used again, and a new one takes the next variable.
+/// Makes and-gates over some given variables. A gate that is there is used again, and a new one takes the next
+/// variable.
 ///
 /// Through each call, refused ones too, the gates that are there stay.
 #[derive(Drop)]
@@ -82,7 +84,7 @@ impl Builder {
     ///
     /// Fails where 2147483647 variables are there and one more is needed, or a growth was refused.
     #[tactic(auto, unfolding(crate::specs::Gates::and_of))]
-    pub fn and(&mut self, x: u32, y: u32) -> Result<u32, EncodeFault>
+    pub fn and(&mut self, x: Literal, y: Literal) -> Result<Literal, EncodeFault>
         requires first { IsHeld self.old x }
         requires second { IsHeld self.old y }
         ensures extends { Extends self.old self.new }
@@ -93,13 +95,13 @@ impl Builder {
         ensures made { IfOk result (λ literal. and_of self.old x y ≡ record { draft = self.new; literal = literal }) }
         ensures above { result ≡ Err EncodeFault.CircuitTooLarge → 2147483647 < variables_of (and_of self.old x y).draft }
     {
-        if x == 0 || y == 0 || x == negation(y) {
-            return Ok(0);
+        if x == Literal::FALSE || y == Literal::FALSE || x == y.negated() {
+            return Ok(Literal::FALSE);
         }
-        if x == 1 || x == y {
+        if x == Literal::TRUE || x == y {
             return Ok(y);
         }
-        if y == 1 {
+        if y == Literal::TRUE {
             return Ok(x);
         }
         if x > y {
@@ -121,7 +123,7 @@ impl Builder {
     ///
     /// As for `and`.
     #[tactic(auto, unfolding(crate::specs::Gates::or_of))]
-    pub fn or(&mut self, x: u32, y: u32) -> Result<u32, EncodeFault>
+    pub fn or(&mut self, x: Literal, y: Literal) -> Result<Literal, EncodeFault>
         requires first { IsHeld self.old x }
         requires second { IsHeld self.old y }
         ensures extends { Extends self.old self.new }
@@ -132,8 +134,8 @@ impl Builder {
         ensures made { IfOk result (λ literal. or_of self.old x y ≡ record { draft = self.new; literal = literal }) }
         ensures above { result ≡ Err EncodeFault.CircuitTooLarge → 2147483647 < variables_of (or_of self.old x y).draft }
     {
-        let neither = self.and(negation(x), negation(y))?;
-        Ok(negation(neither))
+        let neither = self.and(x.negated(), y.negated())?;
+        Ok(neither.negated())
     }
 
     /// The literal that is `high` where `s` is true, and `low` where it is false.
@@ -142,7 +144,7 @@ impl Builder {
     ///
     /// As for `and`.
     #[tactic(auto, unfolding(crate::specs::Gates::mux_of))]
-    pub fn mux(&mut self, s: u32, high: u32, low: u32) -> Result<u32, EncodeFault>
+    pub fn mux(&mut self, s: Literal, high: Literal, low: Literal) -> Result<Literal, EncodeFault>
         requires chooses { IsHeld self.old s }
         requires high { IsHeld self.old high }
         requires low { IsHeld self.old low }
@@ -156,30 +158,30 @@ impl Builder {
         if high == low {
             return Ok(high);
         }
-        if high == 1 && low == 0 {
+        if high == Literal::TRUE && low == Literal::FALSE {
             return Ok(s);
         }
-        if high == 0 && low == 1 {
-            return Ok(negation(s));
+        if high == Literal::FALSE && low == Literal::TRUE {
+            return Ok(s.negated());
         }
-        if high == 1 {
+        if high == Literal::TRUE {
             return self.or(s, low);
         }
-        if high == 0 {
-            return self.and(negation(s), low);
+        if high == Literal::FALSE {
+            return self.and(s.negated(), low);
         }
-        if low == 0 {
+        if low == Literal::FALSE {
             return self.and(s, high);
         }
-        if low == 1 {
-            return self.or(negation(s), high);
+        if low == Literal::TRUE {
+            return self.or(s.negated(), high);
         }
         self.chosen(s, high, low)
     }
 
     /// The same, where neither of the two is constant.
     #[tactic(auto, unfolding(crate::specs::Gates::chosen_of))]
-    fn chosen(&mut self, s: u32, high: u32, low: u32) -> Result<u32, EncodeFault>
+    fn chosen(&mut self, s: Literal, high: Literal, low: Literal) -> Result<Literal, EncodeFault>
         requires chooses { IsHeld self.old s }
         requires high { IsHeld self.old high }
         requires low { IsHeld self.old low }
@@ -191,12 +193,12 @@ impl Builder {
         ensures above { result ≡ Err EncodeFault.CircuitTooLarge → 2147483647 < variables_of (chosen_of self.old s high low).draft }
     {
         let where_true = self.and(s, high)?;
-        let where_false = self.and(negation(s), low)?;
+        let where_false = self.and(s.negated(), low)?;
         self.or(where_true, where_false)
     }
 
     /// The literal of the gate with these sides.
-    fn gate(&mut self, sides: Sides) -> Result<u32, EncodeFault>
+    fn gate(&mut self, sides: Sides) -> Result<Literal, EncodeFault>
         requires { AreSides (variables_of self.old + 1) sides }
         ensures extends { Extends self.old self.new }
         ensures held { IfOk result (λ literal. IsHeld self.new literal) }
@@ -211,17 +213,6 @@ impl Builder {
             return Err(EncodeFault::CircuitTooLarge);
         }
         let (place, _) = self.gates.insert_full(sides)?;
-        Ok(2 * (self.given + 1 + place as u32))
-    }
-}
-
-/// The literal of the same variable with the other bit.
-fn negation(literal: u32) -> u32
-    ensures { result ≡ negated literal }
-{
-    if literal % 2 == 1 {
-        literal - 1
-    } else {
-        literal + 1
+        Ok(Literal::positive(self.given + 1 + place as u32))
     }
 }

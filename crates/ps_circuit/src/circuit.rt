@@ -10,6 +10,7 @@ use crate::encode_fault::EncodeFault;
 use crate::fault::AigCause;
 use crate::gate_graph::GateGraph;
 use crate::links::links_of;
+use crate::literal::Literal;
 use crate::parts::{Gate, Latch, Parts};
 use ps_components::{Arrangement, arrange};
 use ps_text::faults::Cause;
@@ -123,7 +124,7 @@ impl Circuit {
     }
 
     /// The literals of the inputs.
-    pub fn inputs(&self) -> &[u32]
+    pub fn inputs(&self) -> &[Literal]
         ensures inputs { result.now ≡ self.now.inputs }
         ensures well_formed { IsCircuit self.now }
     {
@@ -139,7 +140,7 @@ impl Circuit {
     }
 
     /// The literals of the outputs.
-    pub fn outputs(&self) -> &[u32]
+    pub fn outputs(&self) -> &[Literal]
         ensures outputs { result.now ≡ self.now.outputs }
         ensures well_formed { IsCircuit self.now }
     {

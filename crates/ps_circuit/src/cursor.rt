@@ -5,12 +5,14 @@ ghost use Rattle.ps_text.specs.declared.faults.Fault.TheVariants as faults;
 ghost use Rattle.std.specs.List.{prefix_len};
 ghost use Rattle.ps_text.specs.Readers.{tail};
 ghost use Rattle.ps_text.specs.Digits.{decimal_value};
+ghost use Rattle.ps_circuit.specs.Literals.{variable};
 ghost use Rattle.ps_circuit.specs.Signs as parts;
 ghost use Rattle.ps_circuit.specs.Signs.{stream_of, ends_line, is_digit, word, AllOf};
 ghost use Rattle.ps_circuit.specs.Cursors.{next_byte, place_of, in_class, IsAhead, Passes, Tells, TellsNumber, saturated};
 ghost use Rattle.ps_circuit.specs.declared.fault.AigCause.TheVariants.{Syntax};
 
 use crate::fault::{AigCause, AigFault};
+use crate::literal::Literal;
 use std::marker::Model;
 
 /// A number of the text, and the offset of its first digit. A number beyond 64 bits counts as the greatest of 64 bits.
@@ -23,6 +25,21 @@ pub struct Number {
 }
 
 impl Number {
+    /// The literal with that number.
+    pub fn literal(self) -> Literal
+        requires { self.value < 2 ^ 32 }
+        ensures { result ≡ self.value }
+    {
+        Literal::new(self.value as u32)
+    }
+
+    /// The variable of the literal with that number.
+    pub fn variable(self) -> u64
+        ensures { result ≡ variable self.value }
+    {
+        self.value / 2
+    }
+
     /// The refusal for this cause, at the number.
     pub fn refused(self, cause: AigCause) -> AigFault
         ensures { result ≡ faults.Text cause self.offset }

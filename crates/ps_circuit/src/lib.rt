@@ -1,12 +1,14 @@
 //! Circuits of and-gates and latches: made gate by gate, read from the ASCII form of AIGER 1.9 and written to it.
 //!
-//! A literal is twice its variable, and one more where it is negated; 0 is false and 1 is true, as in AIGER. There are
-//! at most 2,147,483,647 variables.
+//! The number of a literal is twice its variable, and one more where it is negated; 0 is false and 1 is true, as in
+//! AIGER. There are at most 2,147,483,647 variables.
 //!
 //! | Call | What it gives |
 //! |---|---|
 //! | `read(text)` | the circuit of a text (AIGER 1.9: header, resets, symbols, comments), or the first `AigFault` |
 //! | `write(circuit)` | a text, which `read` reads as that circuit again |
+//! | `Literal::positive(variable)`, `constant(bit)`, `new(number)` | a literal |
+//! | `Literal::negated`, `variable`, `is_negated`, `number` | its negation; its parts, and its number in a text |
 //! | `Builder::new(given)`, `and`, `or`, `mux` | literals over given variables; a gate that is there is used again |
 //! | `Circuit::in_order(parts)` | a circuit of parts whose gates each stand behind those that they read |
 //! | `Circuit::inputs`, `latches`, `outputs`, `gates` | its parts |
@@ -30,6 +32,7 @@ mod header;
 mod laws;
 mod lines;
 mod links;
+mod literal;
 mod names;
 mod parts;
 mod reader;
@@ -40,6 +43,7 @@ pub use circuit::Circuit;
 pub use encode_fault::EncodeFault;
 pub use fault::{AigCause, AigFault};
 pub use laws::one_answer;
+pub use literal::Literal;
 pub use parts::{Gate, Latch, Parts};
 pub use reader::read;
 pub use writer::write;

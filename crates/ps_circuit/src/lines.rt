@@ -15,6 +15,7 @@ ghost use Rattle.ps_circuit.specs.Signs.{Field};
 use crate::cursor::{Cursor, Number};
 use crate::fault::{AigCause, AigFault};
 use crate::header::field;
+use crate::literal::Literal;
 use crate::parts::{Gate, Latch};
 use ps_ids::Ids;
 use std::alloc::Global;
@@ -122,7 +123,7 @@ fn definition(cursor: &mut Cursor, variables: &mut Ids, most: u32) -> Result<Num
     if !can_define(number.value, most) {
         return Err(number.refused(AigCause::Literal));
     }
-    if !adds(variables, number.value / 2)? {
+    if !adds(variables, number.variable())? {
         return Err(number.refused(AigCause::DefinedTwice));
     }
     Ok(number)
@@ -147,7 +148,7 @@ fn reading(cursor: &mut Cursor, readings: &mut Vec<Number>, most: u32) -> Result
 pub struct InputLine;
 
 impl Line for InputLine {
-    type Item = u32;
+    type Item = Literal;
 
     ghost part = { parts.input_line };
 
@@ -157,11 +158,11 @@ impl Line for InputLine {
         cursor: &mut Cursor,
         noted: &mut Noted,
         most: u32,
-        items: &mut Vec<u32>,
+        items: &mut Vec<Literal>,
     ) -> Result<(), AigFault> {
-        let literal = definition(cursor, &mut noted.variables, most)?;
+        let input = definition(cursor, &mut noted.variables, most)?;
         cursor.line_end()?;
-        items.push(literal.value as u32)?;
+        items.push(input.literal())?;
         Ok(())
     }
 }
@@ -201,12 +202,12 @@ impl Line for LatchLine {
         most: u32,
         items: &mut Vec<Latch>,
     ) -> Result<(), AigFault> {
-        let literal = definition(cursor, &mut noted.variables, most)?;
+        let own = definition(cursor, &mut noted.variables, most)?;
         let next = reading(cursor, &mut noted.readings, most)?;
-        let reset = reset(cursor, literal.value)?;
+        let reset = reset(cursor, own.value)?;
         items.push(Latch {
-            literal: literal.value as u32,
-            next: next.value as u32,
+            literal: own.literal(),
+            next: next.literal(),
             reset,
         })?;
         Ok(())
@@ -217,7 +218,7 @@ impl Line for LatchLine {
 pub struct OutputLine;
 
 impl Line for OutputLine {
-    type Item = u32;
+    type Item = Literal;
 
     ghost part = { parts.output_line };
 
@@ -227,15 +228,15 @@ impl Line for OutputLine {
         cursor: &mut Cursor,
         noted: &mut Noted,
         most: u32,
-        items: &mut Vec<u32>,
+        items: &mut Vec<Literal>,
     ) -> Result<(), AigFault> {
-        let literal = cursor.number()?;
-        if literal.value > 2 * u64::from(most) + 1 {
-            return Err(literal.refused(AigCause::Literal));
+        let output = cursor.number()?;
+        if output.value > 2 * u64::from(most) + 1 {
+            return Err(output.refused(AigCause::Literal));
         }
         cursor.line_end()?;
-        noted.readings.push(literal)?;
-        items.push(literal.value as u32)?;
+        noted.readings.push(output)?;
+        items.push(output.literal())?;
         Ok(())
     }
 }
@@ -256,15 +257,15 @@ impl Line for GateLine {
         most: u32,
         items: &mut Vec<Gate>,
     ) -> Result<(), AigFault> {
-        let literal = definition(cursor, &mut noted.variables, most)?;
+        let own = definition(cursor, &mut noted.variables, most)?;
         let first = reading(cursor, &mut noted.readings, most)?;
         let second = reading(cursor, &mut noted.readings, most)?;
         cursor.line_end()?;
-        noted.starts.push(literal.offset)?;
+        noted.starts.push(own.offset)?;
         items.push(Gate {
-            literal: literal.value as u32,
-            first: first.value as u32,
-            second: second.value as u32,
+            literal: own.literal(),
+            first: first.literal(),
+            second: second.literal(),
         })?;
         Ok(())
     }

@@ -1,7 +1,7 @@
 //! Which gates read which.
 
 ghost use Rattle.std.specs.Prelude.{◌≡◌, ◌≢◌, IfOk, AllPairs, map};
-ghost use Rattle.ps_circuit.specs.Circuits.{variable};
+ghost use Rattle.ps_circuit.specs.Literals.{variable};
 ghost use Rattle.ps_circuit.specs.Drafts.{links_by, place_in};
 ghost use Rattle.ps_circuit.specs.GateGraphs.{AreLinksOf};
 
@@ -37,10 +37,10 @@ fn variables_of(alloc: Global, gates: &[Gate]) -> Result<Ids, AllocError>
     requires once { AllPairs (λ g h. variable g.literal ≢ variable h.literal) gates.now }
     ensures { IfOk result (λ variables. variables ≡ map (λ g. variable g.literal) gates.now) }
 {
-    let first = gates.first().map_or(0, |gate| gate.literal / 2);
+    let first = gates.first().map_or(0, |gate| gate.literal.variable());
     let mut variables = Ids::starting_at(alloc, u64::from(first));
     for gate in gates {
-        variables.push(u64::from(gate.literal / 2))?;
+        variables.push(u64::from(gate.literal.variable()))?;
     }
     Ok(variables)
 }
@@ -52,8 +52,8 @@ fn links_to(alloc: Global, gates: &[Gate], variables: &Ids) -> Result<Vec<Links>
     let mut links = Vec::new(alloc);
     for gate in gates {
         links.push(Links {
-            first: variables.place(u64::from(gate.first / 2)),
-            second: variables.place(u64::from(gate.second / 2)),
+            first: variables.place(u64::from(gate.first.variable())),
+            second: variables.place(u64::from(gate.second.variable())),
         })?;
     }
     Ok(links)

@@ -1,12 +1,14 @@
-//! The parts of a circuit. A literal is twice its variable, and one more where it is negated.
+//! The parts of a circuit.
+
+use crate::literal::Literal;
 
 /// A latch: its own literal, the literal of its next value, and its first value (AIGER 1.9, reset logic).
 #[derive(Clone, Copy, Debug, PartialEq, Eq)]
 pub struct Latch {
-    /// Its own literal, which is even and at least 2.
-    pub literal: u32,
+    /// Its own literal, which is not negated and not constant.
+    pub literal: Literal,
     /// The literal of its value in the next step.
-    pub next: u32,
+    pub next: Literal,
     /// Its value in the first step.
     pub reset: bool,
 }
@@ -14,12 +16,12 @@ pub struct Latch {
 /// An and-gate: its own literal, and the two that it reads.
 #[derive(Clone, Copy, Debug, PartialEq, Eq)]
 pub struct Gate {
-    /// Its own literal, which is even and at least 2.
-    pub literal: u32,
+    /// Its own literal, which is not negated and not constant.
+    pub literal: Literal,
     /// The first literal that it reads.
-    pub first: u32,
+    pub first: Literal,
     /// The second one.
-    pub second: u32,
+    pub second: Literal,
 }
 
 /// What a circuit is made of: the greatest variable, the literals, and for each input, latch and output a name or none.
@@ -28,11 +30,11 @@ pub struct Parts {
     /// The greatest variable that the circuit may use: M of the header.
     pub most: u32,
     /// The literals of the inputs.
-    pub inputs: Vec<u32>,
+    pub inputs: Vec<Literal>,
     /// The latches.
     pub latches: Vec<Latch>,
     /// The literals of the outputs.
-    pub outputs: Vec<u32>,
+    pub outputs: Vec<Literal>,
     /// The gates.
     pub gates: Vec<Gate>,
     /// A name or none for each input.

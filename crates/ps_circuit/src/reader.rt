@@ -76,7 +76,7 @@ fn all_defined(noted: &Noted) -> Result<(), AigFault>
     ensures { TellsDefined noted.now.variables noted.now.readings.items result }
 {
     for &number in &noted.readings {
-        if !is_defined(&noted.variables, number.value / 2) {
+        if !is_defined(&noted.variables, number.variable()) {
             return Err(number.refused(AigCause::Undefined));
         }
     }

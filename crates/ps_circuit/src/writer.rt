@@ -6,6 +6,7 @@ ghost use Rattle.ps_circuit.specs.Drafts.{name_bytes};
 ghost use Rattle.ps_circuit.specs.Written.{fields, line, latch_line, literal_lines, latch_lines, gate_lines, symbol_line, symbol_lines, header_line, text_of};
 
 use crate::circuit::Circuit;
+use crate::literal::Literal;
 use crate::parts::{Gate, Latch};
 use itoa::Buffer;
 use std::alloc::{AllocError, Global};
@@ -48,7 +49,7 @@ fn write_header(out: &mut Vec<u8>, circuit: &Circuit) -> Result<(), AllocError>
     Ok(())
 }
 
-fn write_literals(out: &mut Vec<u8>, literals: &[u32]) -> Result<(), AllocError>
+fn write_literals(out: &mut Vec<u8>, literals: &[Literal]) -> Result<(), AllocError>
     ensures { OnOk result (out.new.items ≡ out.old.items ++ literal_lines literals.now) }
 {
     for &literal in literals {
@@ -70,9 +71,9 @@ fn write_latch(out: &mut Vec<u8>, latch: Latch) -> Result<(), AllocError>
     ensures { OnOk result (out.new.items ≡ out.old.items ++ latch_line latch) }
 {
     if latch.reset {
-        write_line(out, latch.literal, &[u64::from(latch.next), 1])
+        write_line(out, latch.literal, &[u64::from(latch.next.number()), 1])
     } else {
-        write_line(out, latch.literal, &[u64::from(latch.next)])
+        write_line(out, latch.literal, &[u64::from(latch.next.number())])
     }
 }
 
@@ -83,7 +84,10 @@ fn write_gates(out: &mut Vec<u8>, gates: &[Gate]) -> Result<(), AllocError>
         write_line(
             out,
             gate.literal,
-            &[u64::from(gate.first), u64::from(gate.second)],
+            &[
+                u64::from(gate.first.number()),
+                u64::from(gate.second.number()),
+            ],
         )?;
     }
     Ok(())
@@ -118,10 +122,10 @@ fn write_symbol(
 }
 
 /// Writes a line of numbers, with one space between two of them.
-fn write_line(out: &mut Vec<u8>, first: u32, others: &[u64]) -> Result<(), AllocError>
+fn write_line(out: &mut Vec<u8>, first: Literal, others: &[u64]) -> Result<(), AllocError>
     ensures { OnOk result (out.new.items ≡ out.old.items ++ line first others.now) }
 {
-    write_number(out, u64::from(first))?;
+    write_number(out, u64::from(first.number()))?;
     write_fields(out, others)?;
     out.push(b'\n')?;
     Ok(())

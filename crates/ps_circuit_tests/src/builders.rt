@@ -1,15 +1,17 @@
 //! The gates that the builder makes, row by row of its table.
 
-use ps_aiger::{Builder, EncodeFault};
+use ps_aiger::{Builder, EncodeFault, Literal};
 use std::alloc::Global;
 
-/// The literal of a choice, where the literals that it is made of are there.
+/// The number of the literal of a choice, where the literals that it is made of are there.
 fn mux(builder: &mut Builder, s: u32, high: u32, low: u32) -> Option<u32> {
+    let (s, high, low) = (Literal::new(s), Literal::new(high), Literal::new(low));
     let most = builder.variables();
-    if s / 2 > most || high / 2 > most || low / 2 > most {
+    if s.variable() > most || high.variable() > most || low.variable() > most {
         return None;
     }
-    builder.mux(s, high, low).ok()
+    let literal = builder.mux(s, high, low).ok()?;
+    Some(literal.number())
 }
 
 /// Whether each choice of the table is made of such a literal, with so many variables behind it.
@@ -37,22 +39,24 @@ fn each_row_of_the_table_of_choices(rt: HostRuntime) {
     assert!(rt; choices_are_right(rt.alloc()));
 }
 
-/// The literal that is true where both are, where they are there.
+/// The number of the literal that is true where both are, where they are there.
 fn and(builder: &mut Builder, x: u32, y: u32) -> Option<Result<u32, EncodeFault>> {
+    let (x, y) = (Literal::new(x), Literal::new(y));
     let most = builder.variables();
-    if x / 2 > most || y / 2 > most {
+    if x.variable() > most || y.variable() > most {
         return None;
     }
-    Some(builder.and(x, y))
+    Some(builder.and(x, y).map(Literal::number))
 }
 
-/// The literal that is true where one is, where they are there.
+/// The number of the literal that is true where one is, where they are there.
 fn or(builder: &mut Builder, x: u32, y: u32) -> Option<Result<u32, EncodeFault>> {
+    let (x, y) = (Literal::new(x), Literal::new(y));
     let most = builder.variables();
-    if x / 2 > most || y / 2 > most {
+    if x.variable() > most || y.variable() > most {
         return None;
     }
-    Some(builder.or(x, y))
+    Some(builder.or(x, y).map(Literal::number))
 }
 
 /// Whether gates over two variables have such literals, and one gate is made in all.

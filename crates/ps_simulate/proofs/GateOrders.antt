@@ -9,7 +9,8 @@ use Rattle.ps_components.specs.Graphs.{Way, last}
 use Rattle.ps_components.specs.Orders.{IsOrder}
 use Rattle.ps_components.proofs.Ways.{Way-join}
 use Rattle.ps_circuit.specs.declared.parts.Gate.{Gate}
-use Rattle.ps_circuit.specs.Circuits.{CircuitData, IsCircuit, ReadsGate, variable}
+use Rattle.ps_circuit.specs.Circuits.{CircuitData, IsCircuit, ReadsGate}
+use Rattle.ps_circuit.specs.Literals.{variable}
 use Rattle.ps_simulate.specs.Plans.{no_gate}
 use Rattle.ps_simulate.proofs.CountLemmas.{few_below}
 

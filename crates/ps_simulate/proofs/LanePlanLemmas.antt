@@ -7,7 +7,8 @@ use Rattle.std.proofs.lemmas.List.{length-map, length-take-le, map-append, get_o
 use Rattle.std.proofs.lemmas.List.Elements.{All-from_get_or}
 use Rattle.std.proofs.lemmas.Bool.{cases_lt}
 use Rattle.std.proofs.lemmas.Option.{slice_get-get_or}
-use Rattle.ps_circuit.specs.Circuits.{CircuitData, IsCircuit, IsDefinition, variable, definitions}
+use Rattle.ps_circuit.specs.Circuits.{CircuitData, IsCircuit, IsDefinition, definitions}
+use Rattle.ps_circuit.specs.Literals.{variable}
 use Rattle.ps_simulate.specs.declared.plan.Wire.{Wire}
 use Rattle.ps_simulate.specs.declared.plan.Row.{Row}
 use Rattle.ps_simulate.specs.declared.lane_plan.Operands.{Operands}

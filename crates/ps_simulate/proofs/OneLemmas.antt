@@ -6,7 +6,8 @@ use Rattle.std.proofs.lemmas.Bool.{cases_lt}
 use Rattle.std.proofs.lemmas.Option.{slice_get-get_or, get_or_from_slice_get, slice_get_within}
 use Rattle.ps_circuit.specs.declared.parts.Latch.{Latch}
 use Rattle.ps_components.specs.Orders.{IsOrder}
-use Rattle.ps_circuit.specs.Circuits.{CircuitData, IsCircuit, IsKnown, ReadsGate, variable, definitions}
+use Rattle.ps_circuit.specs.Circuits.{CircuitData, IsCircuit, IsKnown, ReadsGate, definitions}
+use Rattle.ps_circuit.specs.Literals.{variable}
 use Rattle.ps_circuit.specs.Values.{AreValues, HasOneValues, value_of, bit_of}
 use Rattle.ps_simulate.specs.Plans.{row_at, no_gate}
 use Rattle.ps_simulate.proofs.PlacesLemmas.{sides_known}

@@ -3,7 +3,8 @@ use Rattle.std.proofs.Common.{◌≡◌, ◌≢◌, ℕ, zero, suc, ◌+◌, ◌
 use Rattle.std.proofs.lemmas.List.{length-map, get_or-map, get_or_append_left, get_or-append-add}
 use Rattle.std.proofs.lemmas.Option.{slice_get-get_or, get_or_from_slice_get, slice_get_within}
 use Rattle.ps_circuit.specs.declared.parts.Latch.{Latch}
-use Rattle.ps_circuit.specs.Circuits.{CircuitData, IsCircuit, IsKnown, variable, definitions}
+use Rattle.ps_circuit.specs.Circuits.{CircuitData, IsCircuit, IsKnown, definitions}
+use Rattle.ps_circuit.specs.Literals.{variable}
 use Rattle.ps_simulate.specs.declared.plan.Row.{Row}
 use Rattle.ps_simulate.specs.Plans.{variables, place_of, row_at, no_gate, AreRows, IsWithin}
 use Rattle.ps_simulate.proofs.PlacesLemmas.{variables_at, place_of-at, place_known, gate_known, sides_known}

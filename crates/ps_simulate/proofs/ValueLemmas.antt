@@ -7,7 +7,8 @@ use Rattle.std.proofs.lemmas.List.FromFn.{get_or-map-range_with_len, length-map-
 use Rattle.std.proofs.lemmas.List.Elements.{All-from_get_or}
 use Rattle.std.proofs.lemmas.Bool.{ne_eqb}
 use Rattle.ps_circuit.specs.declared.parts.Latch.{Latch}
-use Rattle.ps_circuit.specs.Circuits.{CircuitData, IsCircuit, IsDefinition, IsKnown, variable, definitions}
+use Rattle.ps_circuit.specs.Circuits.{CircuitData, IsCircuit, IsDefinition, IsKnown, definitions}
+use Rattle.ps_circuit.specs.Literals.{variable}
 use Rattle.ps_simulate.specs.declared.plan.Row.{Row}
 use Rattle.ps_circuit.specs.Values.{AreValues, MeetsGate, value_of, bit_of}
 use Rattle.ps_simulate.specs.Plans.{variables, place_of, wire_of, row_at, no_gate, AreRows, Holds, read, work_out}

@@ -1,7 +1,8 @@
 -- The table that 256 runs at once work through: a plain run's, whose places are moved so that the gates stand in the order in
 -- which they are worked out.
-use Rattle.std.specs.Prelude.{◌≡◌, ◌≢◌, ℕ, ◌+◌, ◌/◌, ◌%◌, ◌<◌, ◌≤◌, ◌==◌, Bool, false, List, [], ◌∷◌, map, length, slice_index_or}
+use Rattle.std.specs.Prelude.{◌≡◌, ◌≢◌, ℕ, ◌+◌, ◌<◌, ◌≤◌, Bool, false, List, [], ◌∷◌, map, length, slice_index_or}
 use Rattle.ps_circuit.specs.Circuits.{CircuitData}
+use Rattle.ps_circuit.specs.Literals.{is_negated, variable}
 use Rattle.ps_simulate.specs.declared.plan.Wire.{Wire}
 use Rattle.ps_simulate.specs.declared.plan.Row.{Row}
 use Rattle.ps_simulate.specs.declared.plan.Plan.{Plan}
@@ -9,9 +10,9 @@ use Rattle.ps_simulate.specs.declared.lane_plan.Operands.{Operands}
 use Rattle.ps_simulate.specs.declared.lane_plan.LanePlan.{LanePlan}
 use Rattle.ps_simulate.specs.Plans.{IsPlan}
 
--- a literal is twice a place, and one more where it is negated
+-- the literal's variable is a place
 abbrev pub wire_in : ℕ → Wire
-wire_in literal = record { place = literal / 2; is_negated = literal % 2 == 1 }
+wire_in literal = record { place = variable literal; is_negated = is_negated literal }
 
 -- gates that stand one behind another from that place on
 abbrev pub rows_from : ℕ → List Operands → List Row

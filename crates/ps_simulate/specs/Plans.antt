@@ -1,9 +1,10 @@
 -- The table of gates that a simulator works through. A place is that of a variable in a list: 0, and then the variables of
 -- the inputs, the latches and the gates.
-use Rattle.std.specs.Prelude.{◌≡◌, ℕ, ◌+◌, ◌<◌, ◌%◌, ◌==◌, ◌&&◌, Bool, false, not, if◌then◌else◌, List, [], ◌∷◌, map, length, slice_index_or, slice_set}
+use Rattle.std.specs.Prelude.{◌≡◌, ℕ, ◌+◌, ◌<◌, ◌==◌, ◌&&◌, Bool, false, not, if◌then◌else◌, List, [], ◌∷◌, map, length, slice_index_or, slice_set}
 use Rattle.std.specs.List.{position_or_len}
 use Rattle.ps_circuit.specs.declared.parts.Gate.{Gate}
-use Rattle.ps_circuit.specs.Circuits.{CircuitData, variable, definitions, ReadsGate}
+use Rattle.ps_circuit.specs.Circuits.{CircuitData, definitions, ReadsGate}
+use Rattle.ps_circuit.specs.Literals.{is_negated, variable}
 use Rattle.ps_components.specs.Orders.{IsOrder}
 use Rattle.ps_simulate.specs.declared.plan.Wire.{Wire}
 use Rattle.ps_simulate.specs.declared.plan.Row.{Row}
@@ -17,7 +18,7 @@ abbrev pub place_of : CircuitData → ℕ → ℕ
 place_of c v = position_or_len (λ w. w == v) (variables c)
 
 abbrev pub wire_of : CircuitData → ℕ → Wire
-wire_of c literal = record { place = place_of c (variable literal); is_negated = literal % 2 == 1 }
+wire_of c literal = record { place = place_of c (variable literal); is_negated = is_negated literal }
 
 abbrev pub row_of : CircuitData → Gate → Row
 row_of c g = record { target = place_of c (variable g.literal); first = wire_of c g.first; second = wire_of c g.second }

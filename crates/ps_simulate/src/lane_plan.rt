@@ -5,17 +5,16 @@ ghost use Rattle.ps_simulate.specs.LanePlans.{AreInOrder, AreKept, AreOnce, IsGa
 ghost use Rattle.ps_simulate.specs.Plans.{IsWithin};
 
 use crate::plan::{Plan, Row, Wire};
-use ps_circuit::Circuit;
+use ps_circuit::{Circuit, Literal};
 use std::alloc::{AllocError, Global};
 
-/// The two literals that a gate reads. A literal is twice a place in the table of values, and one more where it is
-/// negated.
+/// The two literals that a gate reads. Their variables are places in the table of values.
 #[derive(Clone, Copy)]
 pub struct Operands {
     /// The first literal.
-    pub first: u32,
+    pub first: Literal,
     /// The second one.
-    pub second: u32,
+    pub second: Literal,
 }
 
 /// What a step works out in all lanes. The gates' values stand behind one another in the order in which they are worked
@@ -30,9 +29,9 @@ pub struct LanePlan {
     /// The operands of each gate, in the order in which they are worked out.
     pub gates: Vec<Operands>,
     /// Literals, as in `Operands`.
-    pub outputs: Vec<u32>,
+    pub outputs: Vec<Literal>,
     /// Literals of the latches' next values.
-    pub nexts: Vec<u32>,
+    pub nexts: Vec<Literal>,
 }
 
 impl LanePlan {
@@ -99,16 +98,21 @@ fn places_up_to(alloc: Global, count: usize) -> Result<Vec<usize>, AllocError>
 }
 
 /// The literal of a wire that was moved.
-fn literal(places: &[usize], wire: Wire) -> u32
+fn literal(places: &[usize], wire: Wire) -> Literal
     requires places { All (λ p. p < 2 ^ 31) places.now }
     requires within { wire.place < length places.now }
     ensures { wire_in result ≡ move_wire places.now wire }
 {
-    2 * (places[wire.place] as u32) + u32::from(wire.is_negated)
+    let literal = Literal::positive(places[wire.place] as u32);
+    if wire.is_negated {
+        literal.negated()
+    } else {
+        literal
+    }
 }
 
 /// The literals of wires that were moved.
-fn literals(alloc: Global, places: &[usize], wires: &[Wire]) -> Result<Vec<u32>, AllocError>
+fn literals(alloc: Global, places: &[usize], wires: &[Wire]) -> Result<Vec<Literal>, AllocError>
     requires places { All (λ p. p < 2 ^ 31) places.now }
     requires within { All (λ w. w.place < length places.now) wires.now }
     ensures { IfOk result (λ literals. map wire_in literals.items ≡ map (move_wire places.now) wires.now) }

@@ -1,14 +1,15 @@
 //! A circuit that is run on 256 stimuli at once.
 
-ghost use Rattle.std.specs.Prelude.{◌≡◌, ℕ, ◌+◌, ◌/◌, ◌<◌, ◌≤◌, ◌⊎◌, [], length, map, slice_get, slice_index_or, All, IfOk, Some, false};
+ghost use Rattle.std.specs.Prelude.{◌≡◌, ℕ, ◌+◌, ◌<◌, ◌≤◌, ◌⊎◌, [], length, map, slice_get, slice_index_or, All, IfOk, Some, false};
 ghost use Rattle.ps_circuit.specs.Circuits.{IsCircuit};
+ghost use Rattle.ps_circuit.specs.Literals.{variable};
 ghost use Rattle.ps_circuit.specs.Values.{resets};
 ghost use Rattle.ps_simulate.specs.Lanes.{all_or_none, bit_in, lane_of};
 ghost use Rattle.ps_simulate.specs.LanePlans.{rows_from, wire_in};
 ghost use Rattle.ps_simulate.specs.Plans.{IsWithin, IsWorkedOut, read, work_out};
 
 use crate::lane_plan::{LanePlan, Operands};
-use ps_circuit::Circuit;
+use ps_circuit::{Circuit, Literal};
 use std::alloc::{AllocError, Global};
 use std::marker::Model;
 use std::simd::prelude::*;
@@ -115,11 +116,12 @@ fn put_words(values: &mut [[u64; 4]], start: usize, words: &[[u64; 4]])
 }
 
 /// The bits of a literal.
-fn bits(values: &[[u64; 4]], literal: u32) -> u64x4
-    requires { literal / 2 < length values.now }
+fn bits(values: &[[u64; 4]], literal: Literal) -> u64x4
+    requires { variable literal < length values.now }
     ensures { (lane : ℕ) → lane < 256 → bit_in result lane ≡ read (lane_of values.now lane) (wire_in literal) }
 {
-    u64x4::from_array(values[(literal / 2) as usize]) ^ u64x4::splat(mask(literal % 2 == 1))
+    let words = u64x4::from_array(values[literal.variable() as usize]);
+    words ^ u64x4::splat(mask(literal.is_negated()))
 }
 
 /// Works out the gates, each once. They stand in the table from `front` on.
@@ -154,8 +156,8 @@ fn fill_words(
 }
 
 /// Reads literals, each into its own words.
-fn read_words(literals: &[u32], values: &[[u64; 4]], words: &mut [[u64; 4]])
-    requires within { All (λ literal. literal / 2 < length values.now) literals.now }
+fn read_words(literals: &[Literal], values: &[[u64; 4]], words: &mut [[u64; 4]])
+    requires within { All (λ literal. variable literal < length values.now) literals.now }
     requires fit { length words.old ≡ length literals.now }
     ensures { (lane : ℕ) → lane < 256 → lane_of words.new lane ≡ map (λ literal. read (lane_of values.now lane) (wire_in literal)) literals.now }
 {

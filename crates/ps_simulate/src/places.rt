@@ -5,7 +5,7 @@ ghost use Rattle.ps_circuit.specs.Circuits.{IsCircuit};
 ghost use Rattle.ps_simulate.specs.Plans.{variables};
 
 use crate::plan::Wire;
-use ps_circuit::Circuit;
+use ps_circuit::{Circuit, Literal};
 use ps_ids::Ids;
 use std::alloc::{AllocError, Global};
 use std::iter::once;
@@ -56,14 +56,14 @@ impl<'a> Places<'a> {
     }
 
     /// The place of a literal's variable, with the literal's sign.
-    pub fn wire(&self, literal: u32) -> Wire
+    pub fn wire(&self, literal: Literal) -> Wire
         requires { IsKnown (definitions self.now) literal }
         ensures { result ≡ wire_of self.now literal }
     {
-        let place = self.ids.place(u64::from(literal / 2)).unwrap();
+        let place = self.ids.place(u64::from(literal.variable())).unwrap();
         Wire {
             place,
-            is_negated: literal % 2 == 1,
+            is_negated: literal.is_negated(),
         }
     }
 }
@@ -78,7 +78,7 @@ fn variables_of(alloc: Global, circuit: &Circuit) -> Result<Vec<u32>, AllocError
     let gates = circuit.gates().iter().map(|gate| gate.literal);
     let defined = inputs.chain(latches).chain(gates);
     once(0)
-        .chain(defined.map(|literal| literal / 2))
+        .chain(defined.map(|literal| literal.variable()))
         .collect(alloc)
 }
 

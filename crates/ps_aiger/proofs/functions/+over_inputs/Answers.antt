@@ -23,15 +23,15 @@ overflow_cast-place t c = let lt : c.in-Some.place < length c.args.machine.now.i
 pub overflow_add-place : goal.overflow_add-place
 overflow_add-place t c = let lt : c.in-Some.place < length c.args.machine.now.inputs = place_small c.args.machine.now.inputs c.inputs.result.now c.in-Some.place c.in-Test.proposition c.inputs.ensures.inputs c.in-Some.ensures.found in let few = c.requires.small in omega arith
 
-pub overflow_mul-place : goal.overflow_mul-place
-overflow_mul-place t c = let lt : c.in-Some.place < length c.args.machine.now.inputs = place_small c.args.machine.now.inputs c.inputs.result.now c.in-Some.place c.in-Test.proposition c.inputs.ensures.inputs c.in-Some.ensures.found in let few = c.requires.small in omega arith
+pub positive-input-requires : goal.positive-input-requires
+positive-input-requires t c = let lt : c.in-Some.place < length c.args.machine.now.inputs = place_small c.args.machine.now.inputs c.inputs.result.now c.in-Some.place c.in-Test.proposition c.inputs.ensures.inputs c.in-Some.ensures.found in let few = c.requires.small in omega arith
 
 pub mux-requires-clause-chooses : goal.mux-requires-clause-chooses
 mux-requires-clause-chooses t c =
     let given = c.over_inputs-in-Test-2.ensures.extends.given ∙ c.over_inputs-in-Test.ensures.extends.given in
-    held_place c.over_inputs-in-Test-2.new.builder (length c.args.machine.now.inputs) c.in-Some.place
+    rw c.positive-input.ensures (held_place c.over_inputs-in-Test-2.new.builder (length c.args.machine.now.inputs) c.in-Some.place
     (place_small c.args.machine.now.inputs c.inputs.result.now c.in-Some.place c.in-Test.proposition c.inputs.ensures.inputs c.in-Some.ensures.found)
-    (subst (λ n. length c.args.machine.now.inputs ≤ n) (sym given) c.requires.given)
+    (subst (λ n. length c.args.machine.now.inputs ≤ n) (sym given) c.requires.given))
 
 pub returns-in_err-literal-in-Test-clause-known : goal.returns-in_err-literal-in-Test-clause-known
 returns-in_err-literal-in-Test-clause-known t c = knows-kept c.args.machine.now c.args.wanted c.over_inputs-in-Test-2.new.builder c.mux.new.self (get nat_eq c.over_inputs-in-Test-2.new.known) c.mux.ensures.extends c.over_inputs-in-Test-2.ensures.known
@@ -48,7 +48,7 @@ returns-in_ok-insert-in-Test-clause-literal t c =
     (subst (λ (xs : List ℕ). slice_get xs c.in-Some.place ≡ Some c.in-Test.proposition) c.inputs.ensures.inputs c.in-Some.ensures.found)
     (literal-kept c.args.machine.now c.args.wanted c.over_inputs-in-Test.new.builder c.mux.new.self c.in-Test.high c.in_ok-where_true-in-Test.where_true (extends-trans _ _ _ c.over_inputs-in-Test-2.ensures.extends c.mux.ensures.extends) c.in_ok-where_true-in-Test.ensures.literal)
     (literal-kept c.args.machine.now c.args.wanted c.over_inputs-in-Test-2.new.builder c.mux.new.self c.in-Test.low c.in_ok-where_false-in-Test.where_false c.mux.ensures.extends c.in_ok-where_false-in-Test.ensures.literal)
-    c.in_ok-literal-in-Test.ensures.held c.in_ok-literal-in-Test.ensures.bit
+    c.in_ok-literal-in-Test.ensures.held (rw c.positive-input.ensures at c.in_ok-literal-in-Test.ensures.bit)
 
 pub returns-in_ok-insert-in-Test-clause-known : goal.returns-in_ok-insert-in-Test-clause-known
 returns-in_ok-insert-in-Test-clause-known t c =
@@ -59,7 +59,7 @@ returns-in_ok-insert-in-Test-clause-known t c =
     (subst (λ (xs : List ℕ). slice_get xs c.in-Some.place ≡ Some c.in-Test.proposition) c.inputs.ensures.inputs c.in-Some.ensures.found)
     (literal-kept c.args.machine.now c.args.wanted c.over_inputs-in-Test.new.builder c.mux.new.self c.in-Test.high c.in_ok-where_true-in-Test.where_true (extends-trans _ _ _ c.over_inputs-in-Test-2.ensures.extends c.mux.ensures.extends) c.in_ok-where_true-in-Test.ensures.literal)
     (literal-kept c.args.machine.now c.args.wanted c.over_inputs-in-Test-2.new.builder c.mux.new.self c.in-Test.low c.in_ok-where_false-in-Test.where_false c.mux.ensures.extends c.in_ok-where_false-in-Test.ensures.literal)
-    c.in_ok-literal-in-Test.ensures.held c.in_ok-literal-in-Test.ensures.bit)
+    c.in_ok-literal-in-Test.ensures.held (rw c.positive-input.ensures at c.in_ok-literal-in-Test.ensures.bit))
 
 pub returns-in-Nothing-clause-made : goal.returns-in-Nothing-clause-made
 returns-in-Nothing-clause-made t c =
@@ -116,7 +116,7 @@ returns-in_err-literal-in-Test-clause-too_large t c e =
     (subst (λ (t : Table). SeesTest t c.args.node c.in-Test.proposition c.in-Test.low c.in-Test.high) c.store.ensures.store c.in-Test.ensures)
     (subst (λ (xs : List ℕ). slice_get xs c.in-Some.place ≡ Some c.in-Test.proposition) c.inputs.ensures.inputs c.in-Some.ensures.found) in
     subst (λ (n : Made). 2147483647 < variables_of n.draft) (sym (choice-made _ _ (node_made m w c.in-Test.low) c.over_inputs-in-Test.new.builder c.over_inputs-in-Test-2.new.builder s c.in_ok-where_true-in-Test.where_true c.in_ok-where_false-in-Test.where_false whole c.in_ok-where_true-in-Test.ensures.made c.in_ok-where_false-in-Test.ensures.made))
-    (c.mux.ensures.above (c.in_err-literal-in-Test.was ∙ ap (λ f. Err f) (passed c.from_residual-in_err-literal-in-Test.result c.in_err-literal-in-Test.field-0.0 _ c.from_residual-in_err-literal-in-Test.ensures.1 e)))
+    (rw c.positive-input.ensures at (c.mux.ensures.above (c.in_err-literal-in-Test.was ∙ ap (λ f. Err f) (passed c.from_residual-in_err-literal-in-Test.result c.in_err-literal-in-Test.field-0.0 _ c.from_residual-in_err-literal-in-Test.ensures.1 e))))
 
 pub returns-in_ok-insert-in-Test-clause-made : goal.returns-in_ok-insert-in-Test-clause-made
 returns-in_ok-insert-in-Test-clause-made t c =
@@ -127,7 +127,7 @@ returns-in_ok-insert-in-Test-clause-made t c =
     (subst (λ (t : Table). SeesTest t c.args.node c.in-Test.proposition c.in-Test.low c.in-Test.high) c.store.ensures.store c.in-Test.ensures)
     (subst (λ (xs : List ℕ). slice_get xs c.in-Some.place ≡ Some c.in-Test.proposition) c.inputs.ensures.inputs c.in-Some.ensures.found) in
     choice-made _ _ (node_made m w c.in-Test.low) c.over_inputs-in-Test.new.builder c.over_inputs-in-Test-2.new.builder s c.in_ok-where_true-in-Test.where_true c.in_ok-where_false-in-Test.where_false whole c.in_ok-where_true-in-Test.ensures.made c.in_ok-where_false-in-Test.ensures.made
-    ∙ c.in_ok-literal-in-Test.ensures.made
+    ∙ (rw c.positive-input.ensures at c.in_ok-literal-in-Test.ensures.made)
 
 pub returns-in_ok-insert-in-Test-clause-known_made : goal.returns-in_ok-insert-in-Test-clause-known_made
 returns-in_ok-insert-in-Test-clause-known_made t c =
@@ -140,4 +140,4 @@ returns-in_ok-insert-in-Test-clause-known_made t c =
     made-more m w c.args.builder.now c.mux.new.self (get nat_eq c.over_inputs-in-Test-2.new.known) (get nat_eq c.insert.new.self) c.args.node c.in_ok-literal-in-Test.literal c.in_ok-insert-in-Test.ensures.updates.0
     (made-kept m w c.over_inputs-in-Test-2.new.builder c.mux.new.self (get nat_eq c.over_inputs-in-Test-2.new.known) c.mux.ensures.extends c.in_ok-where_false-in-Test.ensures.known_made)
     (choice-made _ _ (node_made m w c.in-Test.low) c.over_inputs-in-Test.new.builder c.over_inputs-in-Test-2.new.builder s c.in_ok-where_true-in-Test.where_true c.in_ok-where_false-in-Test.where_false whole c.in_ok-where_true-in-Test.ensures.made c.in_ok-where_false-in-Test.ensures.made
-    ∙ c.in_ok-literal-in-Test.ensures.made)
+    ∙ (rw c.positive-input.ensures at c.in_ok-literal-in-Test.ensures.made))

@@ -50,7 +50,7 @@ returns-clause-literal t c =
     let few = c.requires.few in
     ok_both c.mux.result _ _ _ (λ literal held bit.
     at-suc m w c.mux.new.self c.args.latches latch c.args.code upper c.in_ok-where_true.where_true c.in_ok-where_false.where_false _ literal
-    (omega arith) (ap (λ n. c.args.code + n) (shl_is latch (omega arith))) (ap (λ xs. 2 * (length xs + 1 + latch)) c.inputs.ensures.inputs)
+    (omega arith) (ap (λ n. c.args.code + n) (shl_is latch (omega arith))) (c.positive.ensures ∙ ap (λ xs. 2 * (length xs + 1 + latch)) c.inputs.ensures.inputs)
     (at-kept m w c.over_latches.new.builder c.mux.new.self latch upper c.in_ok-where_true.where_true (extends-trans _ _ _ c.over_latches-2.ensures.extends c.mux.ensures.extends) c.in_ok-where_true.ensures.literal)
     (at-kept m w c.over_latches-2.new.builder c.mux.new.self latch c.args.code c.in_ok-where_false.where_false c.mux.ensures.extends c.in_ok-where_false.ensures.literal)
     held bit) c.mux.ensures.held c.mux.ensures.bit
@@ -105,7 +105,7 @@ returns-clause-made t c =
     let is : c.args.latches ≡ suc latch = omega arith in
     let up : upper ≡ c.args.code + 2 ^ latch = ap (λ n. c.args.code + n) (shl_is latch (omega arith)) in
     let whole = code-suc m w c.args.latches latch c.args.code upper s c.args.builder.now is up refl in
-    let variable = ap (λ xs. 2 * (length xs + 1 + latch)) c.inputs.ensures.inputs in
+    let variable = c.positive.ensures ∙ ap (λ xs. 2 * (length xs + 1 + latch)) c.inputs.ensures.inputs in
     IfOk-weaker c.mux.result _ _ (λ literal made. choice-made _ _ (code_wanted m w latch c.args.code) c.over_latches.new.builder c.over_latches-2.new.builder s c.in_ok-where_true.where_true c.in_ok-where_false.where_false whole c.in_ok-where_true.ensures.made c.in_ok-where_false.ensures.made
     ∙ ap (λ x. mux_of c.over_latches-2.new.builder x c.in_ok-where_true.where_true c.in_ok-where_false.where_false) (sym variable) ∙ made) c.mux.ensures.made
 
@@ -121,7 +121,7 @@ returns-clause-too_large t c e =
     let is : c.args.latches ≡ suc latch = omega arith in
     let up : upper ≡ c.args.code + 2 ^ latch = ap (λ n. c.args.code + n) (shl_is latch (omega arith)) in
     let whole = code-suc m w c.args.latches latch c.args.code upper s c.args.builder.now is up refl in
-    let variable = ap (λ xs. 2 * (length xs + 1 + latch)) c.inputs.ensures.inputs in
+    let variable = c.positive.ensures ∙ ap (λ xs. 2 * (length xs + 1 + latch)) c.inputs.ensures.inputs in
     subst (λ (n : Made). 2147483647 < variables_of n.draft) (sym (choice-made _ _ (code_wanted m w latch c.args.code) c.over_latches.new.builder c.over_latches-2.new.builder s c.in_ok-where_true.where_true c.in_ok-where_false.where_false whole c.in_ok-where_true.ensures.made c.in_ok-where_false.ensures.made
     ∙ ap (λ x. mux_of c.over_latches-2.new.builder x c.in_ok-where_true.where_true c.in_ok-where_false.where_false) (sym variable))) (c.mux.ensures.above e)
 

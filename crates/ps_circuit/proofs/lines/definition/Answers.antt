@@ -1,4 +1,5 @@
-use Rattle.std.proofs.Common.{◌≡◌, ◌∙◌, ◌/◌, true, false, Ok, sym, ap}
+use Rattle.std.proofs.Common.{◌≡◌, ◌∙◌, true, false, Ok, sym, ap}
+use Rattle.ps_circuit.specs.Literals.{variable}
 use Rattle.ps_circuit.specs.Signs.{number}
 use Rattle.ps_circuit.specs.Texts.{WrongDefinition}
 use Rattle.ps_circuit.specs.Reading.{AddsVariable}
@@ -24,14 +25,14 @@ returns-in_err-adds-clause-exact c = memory_exit (λ n. n) (number (WrongDefinit
 pub returns-then-not-branch-clause-exact : goal.returns-then-not-branch-clause-exact
 returns-then-not-branch-clause-exact c =
     definition_twice c.args.most c.args.variables.now c.args.cursor.now c.number.new.self c.in_ok-number.number c.refused-then-not-branch.result c.requires c.in_ok-number.ensures
-    (c.can_define.ensures.0 c.if-not-can_define.false) (c.adds.ensures.twice (c.in_ok-adds.was ∙ ap Ok c.if-not-branch.true)) c.refused-then-not-branch.ensures
+    (c.can_define.ensures.0 c.if-not-can_define.false) (rw c.variable.ensures at (c.adds.ensures.twice (c.in_ok-adds.was ∙ ap Ok c.if-not-branch.true))) c.refused-then-not-branch.ensures
 
 pub returns-clause-exact : goal.returns-clause-exact
 returns-clause-exact c =
-    let adds = at_true c.in_ok-adds.field-0 (AddsVariable c.args.variables.now (c.in_ok-number.number.value / 2) c.adds.new.variables) c.if-not-branch.false c.in_ok-adds.ensures.new in
+    let adds = at_true c.in_ok-adds.field-0 (AddsVariable c.args.variables.now (variable c.in_ok-number.number.value) c.adds.new.variables) c.if-not-branch.false (rw c.variable.ensures at c.in_ok-adds.ensures.new) in
     definition_reads c.args.most c.args.variables.now c.adds.new.variables c.args.cursor.now c.number.new.self c.in_ok-number.number c.requires c.in_ok-number.ensures (c.can_define.ensures.0 c.if-not-can_define.false) adds
 
 pub returns-clause-defined : goal.returns-clause-defined
 returns-clause-defined c =
-    let adds = at_true c.in_ok-adds.field-0 (AddsVariable c.args.variables.now (c.in_ok-number.number.value / 2) c.adds.new.variables) c.if-not-branch.false c.in_ok-adds.ensures.new in
+    let adds = at_true c.in_ok-adds.field-0 (AddsVariable c.args.variables.now (variable c.in_ok-number.number.value) c.adds.new.variables) c.if-not-branch.false (rw c.variable.ensures at c.in_ok-adds.ensures.new) in
     defines_one c.args.most c.in_ok-number.number.value _ _ (c.can_define.ensures.0 c.if-not-can_define.false) adds

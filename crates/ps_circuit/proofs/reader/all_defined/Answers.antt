@@ -12,7 +12,8 @@ origin = record { value = 0; offset = 0 }
 pub loop-number-preserved : goal.loop-number-preserved
 loop-number-preserved c =
     let same = c.deref-number-items.ensures.value in
-    let here : IsDefined c.args.noted.now.variables (get_or c.deref-number-items.result.now c.loop-number.number-index origin) = c.is_defined.ensures.defined c.if-not-is_defined.false in
+    let here : IsDefined c.args.noted.now.variables (get_or c.deref-number-items.result.now c.loop-number.number-index origin) =
+    rw c.variable.ensures at (c.is_defined.ensures.defined c.if-not-is_defined.false) in
     known_more c.args.noted.now.variables c.args.noted.now.readings.items c.loop-number.number-index origin (omega (arith, c.loop-number-test.true, ap length same)) c.loop-number.invariant
     (subst (λ (fs : List Number). IsDefined c.args.noted.now.variables (get_or fs c.loop-number.number-index origin)) same here)
 
@@ -25,7 +26,7 @@ returns-then-not-is_defined c =
     subst (λ (fs : List Number). (x : Number) × (c.refused.result ≡ Text Undefined x.offset) × IsFirstUndefined keys fs x) same (
       get_or now c.loop-number.number-index origin,
       c.refused.ensures,
-      first_undefined keys now c.loop-number.number-index origin c.loop-number-test.true inv (c.is_defined.ensures.not_defined c.if-not-is_defined.true),
+      first_undefined keys now c.loop-number.number-index origin c.loop-number-test.true inv (rw c.variable.ensures at (c.is_defined.ensures.not_defined c.if-not-is_defined.true)),
     )
 
 pub returns : goal.returns

@@ -2,7 +2,7 @@ use Rattle.std.proofs.Common.{rules, Some}
 use Rattle.std.proofs.lemmas.Iterator.{items_from_collect, YieldsList-from_slice, YieldsList-from_map}
 use Rattle.std.proofs.lemmas.Iterator.Consumers.{YieldsList-at, YieldsList-from_copied, YieldsList-from_chain}
 use Rattle.std.proofs.lemmas.Iterator.Adapters.{YieldsList-from_once}
-use Rattle.ps_circuit.specs.Circuits.{variable}
+use Rattle.ps_circuit.specs.Literals.{variable}
 use Rattle.ps_simulate.proofs.places.variables_of.Goals as goal
 
 pub returns-clause-variables : goal.returns-clause-variables

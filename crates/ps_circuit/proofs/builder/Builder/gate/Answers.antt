@@ -6,12 +6,12 @@ use Rattle.ps_circuit.specs.Gates.{gate_of}
 use Rattle.ps_circuit.proofs.GateLemmas.{Placed, placed, placed-bit, needs, new-absent, true_is_not_false}
 use Rattle.ps_circuit.proofs.MadeLemmas.{made-placed, above-new}
 use Rattle.ps_circuit.proofs.builder.Builder.gate.Goals as goal
-use Rattle.ps_circuit.proofs.builder.Builder.gate.Goals.{else-variables-eq-MOST_VARIABLES-via-then-variables-eq-MOST_VARIABLES+else-not-contains, else-variables-eq-MOST_VARIABLES-via-else-variables-eq-MOST_VARIABLES}
+use Rattle.ps_circuit.proofs.builder.Builder.gate.Goals.{In_ok-place, else-variables-eq-MOST_VARIABLES-via-then-variables-eq-MOST_VARIABLES+else-not-contains, else-variables-eq-MOST_VARIABLES-via-else-variables-eq-MOST_VARIABLES}
 
-abbrev before : goal.In_ok-place → Drafted
+abbrev before : In_ok-place → Drafted
 before c = record { given = c.self.inside.given; gates = c.self.inside.gates.keys }
 
-abbrev after : goal.In_ok-place → Drafted
+abbrev after : In_ok-place → Drafted
 after c = record { given = c.self.inside.given; gates = c.insert_full.new.self.keys }
 
 pub returns-then-not-contains-clause-needed : goal.returns-then-not-contains-clause-needed
@@ -21,26 +21,31 @@ returns-then-not-contains-clause-needed c e =
     let Q : Drafted → Type 0 = λ t. NeedsGate t c.args.sides.first c.args.sides.second in
     subst Q c.self.view_is (needs d _ c.args.sides c.self.invariant (subst P (sym c.self.view_is) c.requires) (new-absent d c.args.sides (sym c.contains.ensures ∙ c.if-not-contains.true)))
 
-room : (c : goal.In_ok-place) → list_any ((sides_eq.eq-value).it c.args.sides) c.self.inside.gates.keys ≡ false → IsFull (before c) → ⊥
+room : (c : In_ok-place) → list_any ((sides_eq.eq-value).it c.args.sides) c.self.inside.gates.keys ≡ false → IsFull (before c) → ⊥
 room c none full =
     elim c.else-variables-eq-MOST_VARIABLES.branch [
       | else-variables-eq-MOST_VARIABLES-via-then-variables-eq-MOST_VARIABLES+else-not-contains w ↦ true_is_not_false (sym w.if-not-contains.false ∙ w.contains.ensures ∙ none)
       | else-variables-eq-MOST_VARIABLES-via-else-variables-eq-MOST_VARIABLES w ↦ w.if-variables-eq-MOST_VARIABLES.false (ap (λ n. c.self.inside.given + n) c.len.ensures.len ∙ full)
     ]
 
-done : (c : goal.In_ok-place) → Placed (before c) (after c) c.args.sides c.in_ok-place.place
+done : (c : In_ok-place) → Placed (before c) (after c) c.args.sides c.in_ok-place.place
 done c =
     let P : Drafted → Type 0 = λ d. AreSides (variables_of d + 1) c.args.sides in
     placed (before c) (after c) c.args.sides c.in_ok-place.place c.self.invariant (subst P (sym c.self.view_is) c.requires) (room c) refl c.in_ok-place.ensures.keys c.in_ok-place.ensures.stored
 
 pub invariant_of-self-2 : goal.invariant_of-self-2
-invariant_of-self-2 c = (done c).sound
+invariant_of-self-2 c = (done (goal.at.invariant_of-self-2 c).In_ok-place).sound
 
 pub returns-clause-extends : goal.returns-clause-extends
-returns-clause-extends c = let P : Drafted → Type 0 = λ t. Extends t (after c) in subst P c.self.view_is (done c).extends
+returns-clause-extends c =
+    let at = (goal.at.returns-clause-extends c).In_ok-place in
+    let P : Drafted → Type 0 = λ t. Extends t (after at) in
+    subst P c.self.view_is (done at).extends
 
 pub returns-clause-bit : goal.returns-clause-bit
-returns-clause-bit c = placed-bit (after c) c.args.sides c.in_ok-place.place (done c).at
+returns-clause-bit c =
+    let at = (goal.at.returns-clause-bit c).In_ok-place in
+    rw c.positive.ensures (placed-bit (after at) c.args.sides c.in_ok-place.place (done at).at)
 
 pub returns-then-not-contains-clause-above : goal.returns-then-not-contains-clause-above
 returns-then-not-contains-clause-above c e =
@@ -50,5 +55,6 @@ returns-then-not-contains-clause-above c e =
 
 pub returns-clause-made : goal.returns-clause-made
 returns-clause-made c =
-    subst (λ t. gate_of t c.args.sides ≡ record { draft = after c; literal = 2 * (c.self.inside.given + 1 + c.in_ok-place.place) }) c.self.view_is
-    (made-placed (before c) (after c) c.args.sides c.in_ok-place.place (done c) refl c.in_ok-place.ensures.keys)
+    let at = (goal.at.returns-clause-made c).In_ok-place in
+    rw c.positive.ensures (subst (λ t. gate_of t c.args.sides ≡ record { draft = after at; literal = 2 * (c.self.inside.given + 1 + c.in_ok-place.place) }) c.self.view_is
+    (made-placed (before at) (after at) c.args.sides c.in_ok-place.place (done at) refl c.in_ok-place.ensures.keys))

@@ -1,6 +1,7 @@
 use Rattle.std.proofs.Common.{◌≡◌, ◌≢◌, AllPairs, sym, subst}
 use Rattle.ps_components.specs.Orders.{IsFirstOnCycle, IsArrangement}
-use Rattle.ps_circuit.specs.Circuits.{variable, ReadsGate}
+use Rattle.ps_circuit.specs.Circuits.{ReadsGate}
+use Rattle.ps_circuit.specs.Literals.{variable}
 use Rattle.ps_circuit.specs.Drafts.{data_of}
 use Rattle.ps_circuit.specs.GateGraphs.{graph_of, AreLinksOf}
 use Rattle.ps_circuit.proofs.LinksLemmas.{gates_once, links_within, order-of_links, acyclic-of_links, cyclic-of_links}

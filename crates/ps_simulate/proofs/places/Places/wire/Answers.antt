@@ -1,6 +1,7 @@
-use Rattle.std.proofs.Common.{◌≡◌, ◌∙◌, ◌==◌, ◌%◌, ap, refl, subst, sym, position, List, Some, ℕ}
+use Rattle.std.proofs.Common.{◌≡◌, ◌∙◌, ◌==◌, ap, refl, subst, sym, position, List, Some, ℕ}
 use Rattle.std.specs.Prelude.{IsSome, Option}
-use Rattle.ps_circuit.specs.Circuits.{CircuitData, IsKnown, definitions, variable}
+use Rattle.ps_circuit.specs.Circuits.{CircuitData, IsKnown, definitions}
+use Rattle.ps_circuit.specs.Literals.{is_negated, variable}
 use Rattle.ps_ids.proofs.IdPlaces.{position_here}
 use Rattle.ps_simulate.specs.declared.plan.Wire.{Wire}
 use Rattle.ps_simulate.specs.Plans.{place_of, variables}
@@ -16,7 +17,7 @@ found c =
     let same : circuit ≡ c.args.self.now = c.self.view_is in
     let known : IsKnown (definitions circuit) c.args.literal = subst (λ (d : CircuitData). IsKnown (definitions d) c.args.literal) (sym same) c.requires in
     let at = place_known circuit c.self.invariant.1 c.args.literal known in
-    c.place.ensures.place ∙ ap (λ (id : ℕ). position (λ other. id == other) c.self.inside.ids) c.from.ensures
+    c.place.ensures.place ∙ ap (λ (id : ℕ). position (λ other. id == other) c.self.inside.ids) (c.from.ensures ∙ c.variable.ensures)
     ∙ ap (λ (vs : List ℕ). position (λ other. v == other) vs) c.self.invariant.0
     ∙ position_here (variables circuit) v (place_of circuit v) (variables_once circuit c.self.invariant.1) at.0 at.1
     ∙ ap (λ (d : CircuitData). Some (place_of d v)) same
@@ -28,5 +29,5 @@ pub returns : goal.returns
 returns c =
     let same : c.unwrap-place.result ≡ place_of c.args.self.now (variable c.args.literal) =
     (let e = found (goal.at.returns c).After-place in let f = c.unwrap-place.ensures in cc) in
-    let wire : ℕ → Wire = λ p. record { place = p; is_negated = c.args.literal % 2 == 1 } in
-    ap wire same
+    let wire : ℕ → Wire = λ p. record { place = p; is_negated = is_negated c.args.literal } in
+    rw c.is_negated.ensures (ap wire same)
