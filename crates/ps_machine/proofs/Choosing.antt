@@ -1,39 +1,16 @@
 -- What can be told of letters and steps by definition: the class of a letter of the first player, and the move of one of the second.
-use Rattle.std.proofs.Common.{◌≡◌, ◌≢◌, ◌⊎◌, inl, inr, ℕ, zero, suc, ◌+◌, ◌-◌, ◌^◌, ◌<◌, ◌≤◌, Bool, true, false, not, List, [], ◌∷◌, ◌++◌, length, take, get_or, nat_eq, Option, None, Some, refl, ap, ap₂, sym, subst, ◌∙◌, arith, add-one}
-use Rattle.std.specs.Prelude.{◌&&◌, ◌==◌, slice_get}
-use Rattle.std.specs.List.{AllPairs, AllZip, Contains}
-use Rattle.std.proofs.lemmas.Bool.{cases_Bool, cases_eq, cases_lt, eqb-true, eqb-false}
-use Rattle.std.proofs.lemmas.List.Elements.{All-contains}
-use Rattle.std.proofs.lemmas.Option.{slice_get-get_or}
-use Rattle.indexmap.specs.IndexSet.{insert_key}
+use Rattle.std.proofs.Common.{◌≡◌, ◌⊎◌, inl, inr, ℕ, ◌+◌, ◌^◌, ◌<◌, Bool, true, false, not, refl, ap, sym, subst, ◌∙◌}
+use Rattle.std.specs.Prelude.{◌&&◌}
+use Rattle.std.proofs.lemmas.Bool.{cases_eq, cases_lt}
 use Rattle.ps_label.specs.Truth.{is_in}
-use Rattle.ps_game.specs.Games.{ParityGame, HasEdge, vertex_count, owner_of, successors_of}
-use Rattle.ps_certificate.specs.Certificates.{CertificateData, Fits, IsValid, choice_of}
-use Rattle.ps_diagram.specs.Letters.{IsBefore, IsLeast, letter_of}
+use Rattle.ps_diagram.specs.Letters.{letter_of}
 use Rattle.ps_diagram.proofs.Alone.{same_letter}
 use Rattle.ps_diagram.proofs.Letters.{letter_lt, letter_is, no_bit}
-use Rattle.ps_hoa.specs.Files.{is_among}
-use Rattle.ps_hoa.specs.Sound.{AreNames}
 use Rattle.ps_automaton.proofs.Deciding.{some_or_none}
-use Rattle.ps_machine.specs.Assembling.{AreListedBelow}
-use Rattle.ps_machine.specs.Behaviours.{Behaviour, IsMachine, IsOutput, AreSameOn}
-use Rattle.ps_machine.specs.Boards.{Board, IsFirstLetter, IsSecondLetter, SameStep, SameSteps, IsClass, IsMove, IsGameOf}
-use Rattle.ps_machine.specs.Drawing.{Adds, AreMemories, AreUsed, GoesOn, IsOwn, IsRowAt, Stays, Grows, mark_of}
-use Rattle.ps_machine.specs.Extracting.{GoesTo, HasPropositions, IsMachineOf, IsOther, IsPlayed, IsStep, IsUsed, StandsFor, is_others}
-use Rattle.ps_machine.specs.Numbering.{StandsAt}
-use Rattle.ps_machine.specs.Solving.{winner}
+use Rattle.ps_machine.specs.Boards.{Board, IsFirstLetter, IsSecondLetter, SameStep, SameSteps, IsClass, IsMove}
 use Rattle.ps_machine.specs.declared.key.Key.{Key}
 use Rattle.ps_machine.specs.declared.key.Key.TheVariants.{First, Second}
-use Rattle.ps_machine.specs.declared.machine.Row.{Row}
-use Rattle.ps_machine.proofs.DrawingLemmas.{class_at, move_at, move_to, not_both, to_class_of, to_pair_of, used_more}
-use Rattle.ps_machine.proofs.Following.{IsSearched, adds_all, adds_move, adds_next, adds_no_move, adds_none, search_bounded, search_done, search_first, search_next, used_at, used_first, used_within}
-use Rattle.ps_machine.proofs.KeptMemories.{all_kept, each_kept, memory_of, some_kept}
-use Rattle.ps_machine.proofs.LeastLetters.{contained_or_not, least_there}
-use Rattle.ps_machine.proofs.Listing.{listed_none, listed_with, listed_without}
-use Rattle.ps_machine.proofs.MachineLemmas.{back, one_letter, own_none, own_within}
-use Rattle.ps_machine.proofs.MemorySteps.{AreMemoriesBelow, all_below, below_more, below_skip, none_below}
-use Rattle.ps_machine.proofs.Rounds.{Setting, first_owner, second_owner, within_game}
-use Rattle.ps_machine.proofs.Standing.{one_state, same_some, stand-within}
+use Rattle.ps_machine.proofs.LeastLetters.{least_there}
 
 -- ## Letters of one player
 
@@ -157,8 +134,7 @@ module _ (board : Board) where
       let P : ℕ → Type 0 = λ other. IsFirstLetter board other × SameSteps board q other x in
       let l = least_there board.propositions P (λ y. both_or_not (IsFirstLetter board y) (SameSteps board q y x) (first_or_not y) (steps_or_not q y x)) (λ y is. is.0.within) x (first, λ y second. record { state = refl; priority = refl }) in
       let class = l.0 in
-      let here = l.1.here in
-      (
+      let here = l.1.here in (
         class,
         record {
           here = (here.0, λ y second. record { state = refl; priority = refl });
@@ -172,8 +148,7 @@ module _ (board : Board) where
   move_there q class y second =
       let P : ℕ → Type 0 = λ other. IsSecondLetter board other × SameStep board q (class + other) (class + y) in
       let l = least_there board.propositions P (λ z. both_or_not (IsSecondLetter board z) (SameStep board q (class + z) (class + y)) (second_or_not z) (step_or_not q (class + z) (class + y))) (λ z is. is.0.within) y (second, record { state = refl; priority = refl }) in
-      let here = l.1.here in
-      (
+      let here = l.1.here in (
         l.0,
         record {
           here = (here.0, record { state = refl; priority = refl });

@@ -1,13 +1,12 @@
 -- A game is there for each admitted file: keys are visited by definition, and there are only so many.
-use Rattle.std.proofs.Common.{◌≡◌, ◌≢◌, ◌⊎◌, inl, inr, ℕ, zero, suc, ◌+◌, ◌^◌, ◌<◌, ◌≤◌, Bool, true, false, not, List, [], ◌∷◌, ◌++◌, length, map, take, get_or, None, Some, refl, ap, sym, subst, ◌∙◌, arith, add-one}
-use Rattle.std.specs.Prelude.{slice_get}
+use Rattle.std.proofs.Common.{◌≡◌, ◌≢◌, ◌⊎◌, inl, inr, ℕ, zero, suc, ◌+◌, ◌^◌, ◌<◌, ◌≤◌, Bool, true, false, not, List, [], ◌∷◌, ◌++◌, length, map, take, get_or, Some, refl, ap, sym, subst, ◌∙◌, arith, add-one}
 use Rattle.std.specs.Bool.{Decides}
 use Rattle.std.specs.Cmp.{IsEquivalence}
 use Rattle.std.specs.Set.{is_member}
 use Rattle.std.specs.List.{All, AllPairs, Contains, range_with_len}
 use Rattle.std.proofs.lemmas.Bool.{cases_Bool, cases_eq, cases_lt}
 use Rattle.std.proofs.lemmas.List.{length-map, take_all}
-use Rattle.std.proofs.lemmas.List.Elements.{All-contains, All-map, All-push, All-nil, Contains-append_left, Contains-append_right, Contains-push, Contains-push_cases}
+use Rattle.std.proofs.lemmas.List.Elements.{All-contains, All-map, All-push, All-nil, Contains-append_left, Contains-append_right, Contains-push}
 use Rattle.std.proofs.lemmas.List.Quantifiers.{all_pairs_push}
 use Rattle.std.proofs.lemmas.Map.Made.{IsDistinct-from_AllPairs, is_member-Decides, length-le_from_is_member}
 use Rattle.std.proofs.lemmas.Option.{slice_get-get_or, slice_get_past}
@@ -23,7 +22,6 @@ use Rattle.ps_machine.specs.Boards.{AreListed, Board, IsClass, IsFirstLetter, Is
 use Rattle.ps_machine.specs.FileGames.{IsGameOfFile, board_of_file}
 use Rattle.ps_machine.specs.KeyNames.{key_names}
 use Rattle.ps_machine.specs.Keys.{mover_of, owner_of_key, priority_of_key}
-use Rattle.ps_machine.specs.Numbering.{IsGameByKeys, IsNumbered}
 use Rattle.ps_machine.specs.Visits.{Came, Comes, DraftData, IsExplored, IsNumberOf, Visits}
 use Rattle.ps_machine.specs.declared.key.Key.{Key}
 use Rattle.ps_machine.specs.declared.key.Key.TheVariants.{First, Second}
@@ -62,31 +60,40 @@ module _ (n : ℕ) (P : ℕ → Type 0) (tell : (y : ℕ) → P y ⊎ (P y → �
   ]
 
   list_below : (count : ℕ) → (letters : List ℕ) × ListedBelow letters count
-  list_below zero = ([], record {
-    each = All-nil P;
-    low = All-nil (λ y. rank 0 n y < 0);
-    complete = λ y is low. absurd (omega (arith, low));
-    rising = λ i j d less inside. absurd (omega (arith, inside));
-  })
+  list_below zero = (
+    [],
+    record {
+      each = All-nil P;
+      low = All-nil (λ y. rank 0 n y < 0);
+      complete = λ y is low. absurd (omega (arith, low));
+      rising = λ i j d less inside. absurd (omega (arith, inside));
+    },
+  )
   list_below (suc count) = (let l = list_below count in elim (some_or_none Here here_or_not (2 ^ n) (λ y h. within y h.0)) [
-    | inl found ↦ (l.0 ++ found.0 ∷ [], record {
-      each = All-push P l.0 found.0 l.1.each found.1.0;
-      low = All-push (λ y. rank 0 n y < suc count) l.0 found.0 (raised l.0 l.1.low) (omega (arith, found.1.1));
-      complete = λ y is low. elim (cases_eq (rank 0 n y) count) [
-        | inl here ↦ subst (Contains (l.0 ++ found.0 ∷ [])) (same_rank found.0 y found.1.0 is (found.1.1 ∙ sym here)) (Contains-push l.0 found.0)
-        | inr other ↦ Contains-append_left l.0 (found.0 ∷ []) y (l.1.complete y is (omega (arith, low, other)))
-      ];
-      rising = all_pairs_push IsBefore l.0 found.0 l.1.rising (λ k d inside. lower_before (get_or l.0 k d) found.0 (l.1.each k d inside) found.1.0 (let low = l.1.low k d inside in omega (arith, low, found.1.1)));
-    })
-    | inr none ↦ (l.0, record {
-      each = l.1.each;
-      low = raised l.0 l.1.low;
-      complete = λ y is low. elim (cases_eq (rank 0 n y) count) [
-        | inl here ↦ absurd (none (y, (is, here)))
-        | inr other ↦ l.1.complete y is (omega (arith, low, other))
-      ];
-      rising = l.1.rising;
-    })
+    | inl found ↦ (
+      l.0 ++ found.0 ∷ [],
+      record {
+        each = All-push P l.0 found.0 l.1.each found.1.0;
+        low = All-push (λ y. rank 0 n y < suc count) l.0 found.0 (raised l.0 l.1.low) (omega (arith, found.1.1));
+        complete = λ y is low. elim (cases_eq (rank 0 n y) count) [
+          | inl here ↦ subst (Contains (l.0 ++ found.0 ∷ [])) (same_rank found.0 y found.1.0 is (found.1.1 ∙ sym here)) (Contains-push l.0 found.0)
+          | inr other ↦ Contains-append_left l.0 (found.0 ∷ []) y (l.1.complete y is (omega (arith, low, other)))
+        ];
+        rising = all_pairs_push IsBefore l.0 found.0 l.1.rising (λ k d inside. lower_before (get_or l.0 k d) found.0 (l.1.each k d inside) found.1.0 (let low = l.1.low k d inside in omega (arith, low, found.1.1)));
+      },
+    )
+    | inr none ↦ (
+      l.0,
+      record {
+        each = l.1.each;
+        low = raised l.0 l.1.low;
+        complete = λ y is low. elim (cases_eq (rank 0 n y) count) [
+          | inl here ↦ absurd (none (y, (is, here)))
+          | inr other ↦ l.1.complete y is (omega (arith, low, other))
+        ];
+        rising = l.1.rising;
+      },
+    )
   ])
     where
       Here : ℕ → Type 0
@@ -241,7 +248,7 @@ module _ (board : Board) (mover : ℕ) (start : board.auto.start ≤ board.state
   next_there : (key : Key) → Known key → Next key
   next_there (First q p) known =
       let is : (x : ℕ) → IsClass board q x ⊎ (IsClass board q x → ⊥) = λ x. least_or_not board.propositions (λ other. IsFirstLetter board other × SameSteps board q other x)
-          (λ y. both_or_not (IsFirstLetter board y) (SameSteps board q y x) (first_or_not board y) (steps_or_not board q y x)) (λ y is. is.0.within) x in
+      (λ y. both_or_not (IsFirstLetter board y) (SameSteps board q y x) (first_or_not board y) (steps_or_not board q y x)) (λ y is. is.0.within) x in
       let l = letters_there board.propositions (IsClass board q) is (λ y is. is.here.0.within) in
       let key : ℕ → Key = λ x. Second q x in
       let class = class_there board q (part board.propositions board.is_first 0) (over_first board (part board.propositions board.is_first 0) (part_over board.propositions board.is_first 0)) in
@@ -256,7 +263,7 @@ module _ (board : Board) (mover : ℕ) (start : board.auto.start ≤ board.state
       }
   next_there (Second q x) known =
       let is : (y : ℕ) → IsMove board q x y ⊎ (IsMove board q x y → ⊥) = λ y. least_or_not board.propositions (λ other. IsSecondLetter board other × SameStep board q (x + other) (x + y))
-          (λ z. both_or_not (IsSecondLetter board z) (SameStep board q (x + z) (x + y)) (second_or_not board z) (step_or_not board q (x + z) (x + y))) (λ z is. is.0.within) y in
+      (λ z. both_or_not (IsSecondLetter board z) (SameStep board q (x + z) (x + y)) (second_or_not board z) (step_or_not board q (x + z) (x + y))) (λ z is. is.0.within) y in
       let l = letters_there board.propositions (IsMove board q x) is (λ y is. is.here.0.within) in
       let key : ℕ → Key = λ y. First (board.auto.next q (x + y)) (board.auto.priority q (x + y)) in
       let seconds : ℕ → Bool = λ p. not (board.is_first p) in
@@ -308,8 +315,7 @@ pub game_there : (order : Order) (file : FileData) → IsSoundFile file → IsAd
 game_there order file sound admitted =
     let a = auto_there file sound admitted in
     let board = board_of_file order file a.1 in
-    let made = board_game_there board (mover_of order) (subst (λ q. q ≤ file.states) refl a.3.start_within) a.3.within in
-    (
+    let made = board_game_there board (mover_of order) (subst (λ q. q ≤ file.states) refl a.3.start_within) a.3.within in (
       record { game = made.1; ids = range_with_len 0 (length made.0); names = key_names board made.0 },
       record { chain = a.0; is_chain = a.2; auto = a.1; is_auto = a.3; keys = made.0; is_game = made.2; are_named = record { ids = refl; names = refl } },
     )

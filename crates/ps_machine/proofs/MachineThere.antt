@@ -1,23 +1,18 @@
 -- A machine is there for each valid certificate of a board's game: its vertices, its memories and its steps are found by definition.
 use Rattle.std.proofs.Common.{◌≡◌, ◌≢◌, ◌⊎◌, inl, inr, ℕ, zero, suc, ◌+◌, ◌-◌, ◌^◌, ◌<◌, ◌≤◌, Bool, true, false, not, List, [], ◌∷◌, ◌++◌, length, take, get_or, nat_eq, Option, None, Some, refl, ap, ap₂, sym, subst, ◌∙◌, arith, add-one}
-use Rattle.std.specs.Prelude.{◌&&◌, ◌==◌, slice_get}
-use Rattle.std.specs.List.{AllPairs, AllZip, Contains}
+use Rattle.std.specs.Prelude.{◌==◌, slice_get}
+use Rattle.std.specs.List.{Contains}
 use Rattle.std.proofs.lemmas.Bool.{cases_Bool, cases_eq, cases_lt, eqb-true, eqb-false}
 use Rattle.std.proofs.lemmas.List.Elements.{All-contains}
 use Rattle.std.proofs.lemmas.Option.{slice_get-get_or}
 use Rattle.indexmap.specs.IndexSet.{insert_key}
-use Rattle.ps_label.specs.Truth.{is_in}
 use Rattle.ps_game.specs.Games.{ParityGame, HasEdge, vertex_count, owner_of, successors_of}
 use Rattle.ps_certificate.specs.Certificates.{CertificateData, Fits, IsValid, choice_of}
-use Rattle.ps_diagram.specs.Letters.{IsBefore, IsLeast, letter_of}
-use Rattle.ps_diagram.proofs.Alone.{same_letter}
-use Rattle.ps_diagram.proofs.Letters.{letter_lt, letter_is, no_bit}
-use Rattle.ps_hoa.specs.Files.{is_among}
+use Rattle.ps_diagram.proofs.Letters.{no_bit}
 use Rattle.ps_hoa.specs.Sound.{AreNames}
-use Rattle.ps_automaton.proofs.Deciding.{some_or_none}
 use Rattle.ps_machine.specs.Assembling.{AreListedBelow}
 use Rattle.ps_machine.specs.Behaviours.{Behaviour, IsMachine, IsOutput, AreSameOn}
-use Rattle.ps_machine.specs.Boards.{Board, IsFirstLetter, IsSecondLetter, SameStep, SameSteps, IsClass, IsMove, IsGameOf}
+use Rattle.ps_machine.specs.Boards.{Board, IsFirstLetter, IsSecondLetter, SameStep, IsGameOf}
 use Rattle.ps_machine.specs.Drawing.{Adds, AreMemories, AreUsed, GoesOn, IsOwn, IsRowAt, Stays, Grows, mark_of}
 use Rattle.ps_machine.specs.Extracting.{GoesTo, HasPropositions, IsMachineOf, IsOther, IsPlayed, IsStep, IsUsed, StandsFor, is_others}
 use Rattle.ps_machine.specs.Numbering.{StandsAt}
@@ -29,7 +24,7 @@ use Rattle.ps_machine.proofs.Choosing.{class_there, first_over, move_there, over
 use Rattle.ps_machine.proofs.DrawingLemmas.{class_at, move_at, move_to, not_both, to_class_of, to_pair_of, used_more}
 use Rattle.ps_machine.proofs.Following.{IsSearched, adds_all, adds_move, adds_next, adds_no_move, adds_none, search_bounded, search_done, search_first, search_next, used_at, used_first, used_within}
 use Rattle.ps_machine.proofs.KeptMemories.{all_kept, each_kept, memory_of, some_kept}
-use Rattle.ps_machine.proofs.LeastLetters.{contained_or_not, least_there}
+use Rattle.ps_machine.proofs.LeastLetters.{contained_or_not}
 use Rattle.ps_machine.proofs.Listing.{listed_none, listed_with, listed_without}
 use Rattle.ps_machine.proofs.MachineLemmas.{back, one_letter, own_none, own_within}
 use Rattle.ps_machine.proofs.MemorySteps.{AreMemoriesBelow, all_below, below_more, below_skip, none_below}
@@ -128,7 +123,7 @@ module _ (board : Board) (mover : ℕ) (keys : List Key) (game : ParityGame) (ce
         let there : StandsAt keys to.vertex (First (board.auto.next q (x + c.letter)) (board.auto.priority q (x + c.letter))) = subst (StandsAt keys to.vertex) (ap₂ (λ a b. First a b) state priority) to.stands in
         let other : owner_of game chosen.chosen ≡ 1 - mover = second_owner board mover keys game certificate s chosen.chosen q c.letter c.stands in
         let next_used : IsUsed game certificate to.vertex = used_more game certificate chosen.chosen to.vertex chosen.used to.edge (edge_within chosen.chosen to.vertex to.edge)
-            (λ own. absurd (let mine : 1 - mover ≡ mover = sym other ∙ own ∙ sym wins in omega (arith, mine, s.is_mover))) in
+        (λ own. absurd (let mine : 1 - mover ≡ mover = sym other ∙ own ∙ sym wins in omega (arith, mine, s.is_mover))) in
         let next = memory_of true keys used kept marks m to.vertex (board.auto.next q (x + c.letter)) (board.auto.priority q (x + c.letter)) s.by_keys.different ((are_used to.vertex).1 next_used) there in
         record {
           row = record { memory = next.0; letter = c.letter };
@@ -148,7 +143,7 @@ module _ (board : Board) (mover : ℕ) (keys : List Key) (game : ParityGame) (ce
         let class = class_there board q x first in
         let to = to_class_of board mover keys game certificate s v q p class.0 stands class.1 in
         let to_used : IsUsed game certificate to.vertex = used_more game certificate v to.vertex is_used to.edge (edge_within v to.vertex to.edge)
-            (λ own. absurd (loses (sym (first_owner board mover keys game certificate s v q p stands) ∙ own))) in
+        (λ own. absurd (loses (sym (first_owner board mover keys game certificate s v q p stands) ∙ own))) in
         let owner = second_owner board mover keys game certificate s to.vertex q class.0 to.stands in
         let chosen = move_at board mover keys game certificate s to.vertex (Second q class.0) to.stands to_used (omega (arith, owner, loses, small_winner, s.is_mover)) in
         let move = move_to board mover keys game certificate s to.vertex chosen.chosen q class.0 to.stands chosen.edge in
@@ -156,7 +151,7 @@ module _ (board : Board) (mover : ℕ) (keys : List Key) (game : ParityGame) (ce
         let own : IsSecondLetter board letter = move.is_move.here.0 in
         let same : SameStep board q (x + letter) (class.0 + letter) = class.2 letter own in
         let there : StandsAt keys chosen.chosen (First (board.auto.next q (x + letter)) (board.auto.priority q (x + letter))) =
-            subst (StandsAt keys chosen.chosen) (ap₂ (λ a b. First a b) (sym same.state) (sym same.priority)) move.goes.stands in
+        subst (StandsAt keys chosen.chosen) (ap₂ (λ a b. First a b) (sym same.state) (sym same.priority)) move.goes.stands in
         let next = memory_of false keys used kept marks m chosen.chosen (board.auto.next q (x + letter)) (board.auto.priority q (x + letter)) s.by_keys.different ((are_used chosen.chosen).1 chosen.used) there in
         record {
           row = record { memory = next.0; letter = letter };

@@ -39,12 +39,14 @@ pub fn one_game_of_file()
 
 /// Each file that was read and is admitted has a game, in each order of moves.
 pub fn game_is_there()
-    ensures { (order : Order) (file : FileData) → IsSoundFile file → IsAdmitted file → (game : NamedGameData) × IsGameOfFile order file game }
+    ensures { (order : Order) (file : FileData) → IsSoundFile file → IsAdmitted file →
+        (game : NamedGameData) × IsGameOfFile order file game }
 {}
 
 /// Each valid certificate of a board's game has a machine, with names for the board's propositions.
 pub fn machine_is_there()
-    ensures { (names : List (List ℕ)) (board : Board) (mover : ℕ) (keys : List Key) (game : ParityGame) (certificate : CertificateData) →
+    ensures { (names : List (List ℕ)) (board : Board) (mover : ℕ) (keys : List Key) (game : ParityGame)
+        (certificate : CertificateData) →
         length names ≤ 64 → AreNames names → length names ≡ board.propositions → mover < 2 →
         IsGameOf board mover keys game → Fits game certificate → IsValid game certificate →
         (m : Behaviour) × IsMachine m × HasPropositions names board m × IsMachineOf board mover keys game certificate m }

@@ -21,7 +21,9 @@
 //! | Law | What it says |
 //! |---|---|
 //! | `lassos_won` | each word of the machine of a valid certificate is won by the winner of vertex 0 |
-//! | `one_game`, `one_game_of_file` | an automaton, and a file, have one game in each order of moves |
+//! | `one_game`, `one_game_of_file` | an automaton, and a file, have one game at most in each order of moves |
+//! | `game_is_there` | a file that is admitted has one |
+//! | `machine_is_there` | a valid certificate of an automaton's game has a machine |
 #![tactic(auto)]
 
 mod built_in;

@@ -1,20 +1,20 @@
 -- Least counts are there, or a cycle that is lost: counts are raised along the edges that remain until none has to be.
-use Rattle.std.proofs.Common.{◌≡◌, ℕ, zero, suc, ◌+◌, ◌-◌, ◌*◌, ◌%◌, ◌<◌, ◌≤◌, ◌⊎◌, ◌∙◌, List, [], ◌∷◌, ◌++◌, length, map, max, get_or, inl, inr, refl, sym, ap, subst, arith, add-one, Option, None, Some, Bool, true, false, cond, not, nat_le, nat_eq, ◌&&◌, ◌||◌, filter}
-use Rattle.std.specs.Prelude.{slice_index, slice_get, ◌==◌}
+use Rattle.std.proofs.Common.{◌≡◌, ℕ, zero, suc, ◌+◌, ◌-◌, ◌*◌, ◌%◌, ◌<◌, ◌≤◌, ◌⊎◌, ◌∙◌, List, [], ◌∷◌, ◌++◌, length, map, max, get_or, inl, inr, refl, sym, ap, subst, arith, add-one, Option, Some, Bool, true, false, cond, not, nat_le, nat_eq, ◌&&◌, ◌||◌, filter}
+use Rattle.std.specs.Prelude.{slice_get, ◌==◌}
 use Rattle.std.specs.Cmp.{nat_eq_equiv}
 use Rattle.std.specs.List.{All, Contains, list_any, range_with_len}
 use Rattle.std.specs.List.Sorted.{IsStrictlyIncreasing}
 use Rattle.std.proofs.Math.Nat.{le-max_left, le-max_right}
-use Rattle.std.proofs.lemmas.Bool.{cases_Bool, cases_eq, cases_lt, eqb-true, eq-eqb, ne_eqb, and_parts, and_from, or_cases, or_left, or_right, leb-true, le-leb, not-true, not_from_false}
-use Rattle.std.proofs.lemmas.List.{get_or_default, get_or_past, length-map}
-use Rattle.std.proofs.lemmas.List.Elements.{Contains-push, filter_passes}
+use Rattle.std.proofs.lemmas.Bool.{cases_Bool, cases_eq, cases_lt, eqb-true, eq-eqb, ne_eqb, and_parts, and_from, or_cases, or_left, or_right, leb-true, le-leb, not-true}
+use Rattle.std.proofs.lemmas.List.{get_or_past}
+use Rattle.std.proofs.lemmas.List.Elements.{filter_passes}
 use Rattle.std.proofs.lemmas.List.FromFn.{get_or-map-range_with_len, get_or-range_with_len, length-map-range_with_len, length-range_with_len}
 use Rattle.std.proofs.lemmas.List.Kept.{IsStrictlyIncreasing-filter}
 use Rattle.std.proofs.lemmas.Map.Views.{Contains-from_any, list_any-from_Contains}
 use Rattle.std.proofs.lemmas.Option.{slice_get-get_or, slice_get_past}
 use Rattle.ps_game.specs.Games.{ParityGame, HasEdge, vertex_count, owner_of, priority_of, successors_of, no_vertex}
 use Rattle.ps_game.specs.Plays.{Holds, greatest, other_player}
-use Rattle.ps_game.specs.Ranking.{RemainsWithin, KeepRuleWithin, ListsPriorities, HasPriority}
+use Rattle.ps_game.specs.Ranking.{RemainsWithin, KeepRuleWithin, ListsPriorities}
 use Rattle.ps_measure.specs.Ranks.{AreLeastFor, AreRanks, IsLostCycle, count_in, count_of, count_with, width_in}
 use Rattle.ps_measure.specs.Remaining.{is_move}
 use Rattle.ps_measure.specs.Sums.{sum_below, count_below, counted}
@@ -95,8 +95,7 @@ module _ (game : ParityGame) (player : ℕ) (set : ℕ → Bool) (table : ℕ �
       let parts = and_parts (set v && set w) ((not (owner_of game v == player) || is_move (table v) w) && (nat_le (priority_of game v) p && nat_le (priority_of game w) p)) is in
       let ends = and_parts (set v) (set w) parts.0 in
       let more = and_parts (not (owner_of game v == player) || is_move (table v) w) (nat_le (priority_of game v) p && nat_le (priority_of game w) p) parts.1 in
-      let low = and_parts (nat_le (priority_of game v) p) (nat_le (priority_of game w) p) more.1 in
-      (
+      let low = and_parts (nat_le (priority_of game v) p) (nat_le (priority_of game w) p) more.1 in (
         record {
           from = ends.0;
           to = ends.1;
@@ -208,13 +207,16 @@ module _ (game : ParityGame) (player : ℕ) (set : ℕ → Bool) (table : ℕ �
 
   lost_cycle : p % 2 ≡ other_player player → Lost → (cycle : List ℕ) × IsLostCycle game player set table cycle
   unfolding heavy
-  lost_cycle parity l = (cycle, record {
-    some = omega arith;
-    vertices = λ k within. (at k within).1.0.remains.edge.0;
-    edges = λ k within. subst (λ j. RemainsWithin game player set table (get_or cycle k 0) (get_or cycle j 0)) (sym (add-one k)) (run_edges l.0 l.1 l.0 k l.3 (omega (arith, within))).0;
-    closes = subst (λ k. RemainsWithin game player set table (get_or cycle k 0) l.0) (let e : length l.1 ≡ length cycle - 1 = omega arith in e) (run_ends l.0 l.1 l.0 l.3).0;
-    lost = ap (λ n. n % 2) top ∙ parity;
-  })
+  lost_cycle parity l = (
+    cycle,
+    record {
+      some = omega arith;
+      vertices = λ k within. (at k within).1.0.remains.edge.0;
+      edges = λ k within. subst (λ j. RemainsWithin game player set table (get_or cycle k 0) (get_or cycle j 0)) (sym (add-one k)) (run_edges l.0 l.1 l.0 k l.3 (omega (arith, within))).0;
+      closes = subst (λ k. RemainsWithin game player set table (get_or cycle k 0) l.0) (let e : length l.1 ≡ length cycle - 1 = omega arith in e) (run_ends l.0 l.1 l.0 l.3).0;
+      lost = ap (λ n. n % 2) top ∙ parity;
+    },
+  )
     where
       cycle : List ℕ
       cycle = l.0 ∷ l.1
@@ -460,13 +462,16 @@ term_within f (suc n) v below = elim (cases_eq v n) [
 ]
 
 priorities_there : (game : ParityGame) (parity : ℕ) → (list : List ℕ) × ListsPriorities game parity list
-priorities_there game parity = (filter test all, record {
-  rising = IsStrictlyIncreasing-filter test all range_rises;
-  complete = λ v below right. in_filter test all (priority_of game v) (priority_of game v) (low v below) (omega (arith, get_or-range_with_len 0 many (priority_of game v) (priority_of game v) (lower v below)))
-      (and_from (has_priority game (vertex_count game) (priority_of game v)) (priority_of game v % 2 == parity) (priority_there game (vertex_count game) (priority_of game v) v below refl) (eq-eqb (priority_of game v % 2) parity right));
-  right_parity = λ k d within. eqb-true (get_or (filter test all) k d % 2) parity (passed k d within).1;
-  present = λ k d within. there_priority game (vertex_count game) (get_or (filter test all) k d) (passed k d within).0;
-})
+priorities_there game parity = (
+  filter test all,
+  record {
+    rising = IsStrictlyIncreasing-filter test all range_rises;
+    complete = λ v below right. in_filter test all (priority_of game v) (priority_of game v) (low v below) (omega (arith, get_or-range_with_len 0 many (priority_of game v) (priority_of game v) (lower v below)))
+        (and_from (has_priority game (vertex_count game) (priority_of game v)) (priority_of game v % 2 == parity) (priority_there game (vertex_count game) (priority_of game v) v below refl) (eq-eqb (priority_of game v % 2) parity right));
+    right_parity = λ k d within. eqb-true (get_or (filter test all) k d % 2) parity (passed k d within).1;
+    present = λ k d within. there_priority game (vertex_count game) (get_or (filter test all) k d) (passed k d within).0;
+  },
+)
   where
     many : ℕ
     many = sum_below (priority_of game) (vertex_count game) + 1
