@@ -1,9 +1,9 @@
 -- Entries that are kept by winners, lines and one list of counts.
-use Rattle.std.proofs.Common.{◌≡◌, ℕ, ◌+◌, ◌<◌, ◌≤◌, min, None, List, [], ◌∷◌, ◌++◌, length, map, get_or, refl, ap, sym, subst, ◌∙◌, arith}
+use Rattle.std.proofs.Common.{◌≡◌, ℕ, ◌+◌, ◌<◌, ◌≤◌, min, None, List, [], ◌∷◌, ◌++◌, length, map, get_or, take, drop, refl, ap, sym, subst, ◌∙◌, arith}
 use Rattle.std.specs.List.{All, slice_range, zip}
 use Rattle.std.proofs.lemmas.Grind.{common_steps}
 use Rattle.std.proofs.lemmas.List.{map-append, get_or-map, length-map}
-use Rattle.std.proofs.lemmas.List.Elements.{All-head, All-tail, All-get_or}
+use Rattle.std.proofs.lemmas.List.Elements.{All-nil, All-cons, All-append, All-head, All-tail, All-get_or}
 use Rattle.std.proofs.lemmas.Slice.Zip.{length-zip, get_or-zip}
 use Rattle.ps_certificate.specs.Certificates.{EntryData, no_entry}
 use Rattle.ps_certificate.specs.Lines.{entry_in, entries_in, IsWithin, AreLines}
@@ -12,9 +12,6 @@ use Rattle.ps_certificate.specs.declared.entries.Line.{Line}
 -- a part of a list stays where more is appended
 range_kept : (xs ys : List ℕ) (i j : ℕ) → j ≤ length xs → slice_range (xs ++ ys) i j ≡ slice_range xs i j
 range_kept xs ys i j h = grind (arith, common_steps)
-
-range_last : (xs ys : List ℕ) → slice_range (xs ++ ys) (length xs) (length xs + length ys) ≡ ys
-range_last xs ys = grind (arith, common_steps)
 
 zip_push : (ws : List ℕ) (ls : List Line) (w : ℕ) (l : Line) → length ws ≡ length ls
     → zip (ws ++ w ∷ []) (ls ++ l ∷ []) ≡ zip ws ls ++ (w, l) ∷ []
@@ -36,19 +33,43 @@ entries_kept (a ∷ ws) (b ∷ ls) cs more h =
     ap (λ (counts : List ℕ). record { winner = a; choice = b.choice; counts = counts } ∷ entries_in ws ls (cs ++ more)) same
     ∙ ap (λ (rest : List EntryData). record { winner = a; choice = b.choice; counts = slice_range cs b.start b.end } ∷ rest) others
 
-pub entries_push : (ws : List ℕ) (ls : List Line) (cs : List ℕ) (w : ℕ) (line : Line) (row : List ℕ) → AreLines ws ls cs
-    → line.start ≡ length cs → line.end ≡ length cs + length row
-    → entries_in (ws ++ w ∷ []) (ls ++ line ∷ []) (cs ++ row)
+-- one list begins with another
+begins : (xs ys : List ℕ) → take (length xs) ys ≡ xs → (more : List ℕ) × (ys ≡ xs ++ more)
+begins xs ys h = (drop (length xs) ys, grind (arith, common_steps))
+
+length_begins : (xs ys : List ℕ) → take (length xs) ys ≡ xs → length xs ≤ length ys
+length_begins xs ys h = grind (arith, common_steps)
+
+pub entries_push : (ws : List ℕ) (ls : List Line) (cs new : List ℕ) (w : ℕ) (line : Line) (row : List ℕ) → AreLines ws ls cs
+    → take (length cs) new ≡ cs → slice_range new line.start line.end ≡ row
+    → entries_in (ws ++ w ∷ []) (ls ++ line ∷ []) new
     ≡ entries_in ws ls cs ++ record { winner = w; choice = line.choice; counts = row } ∷ []
-entries_push ws ls cs w line row are start end =
-    let more : List ℕ = cs ++ row in
-    let split : entries_in (ws ++ w ∷ []) (ls ++ line ∷ []) more ≡ entries_in ws ls more ++ entry_in more (w, line) ∷ [] =
-    ap (map (entry_in more)) (zip_push ws ls w line are.each) ∙ map-append (entry_in more) (zip ws ls) ((w, line) ∷ []) in
-    let part : slice_range more line.start line.end ≡ row =
-    ap (λ (n : ℕ). slice_range more n line.end) start ∙ ap (λ (n : ℕ). slice_range more (length cs) n) end ∙ range_last cs row in
+entries_push ws ls cs new w line row are kept part =
+    let more = begins cs new kept in
+    let split : entries_in (ws ++ w ∷ []) (ls ++ line ∷ []) new ≡ entries_in ws ls new ++ entry_in new (w, line) ∷ [] =
+    ap (map (entry_in new)) (zip_push ws ls w line are.each) ∙ map-append (entry_in new) (zip ws ls) ((w, line) ∷ []) in
+    let front : entries_in ws ls new ≡ entries_in ws ls cs =
+    ap (λ (all : List ℕ). entries_in ws ls all) more.1 ∙ entries_kept ws ls cs more.0 are.within in
     split
-    ∙ ap (λ (front : List EntryData). front ++ entry_in more (w, line) ∷ []) (entries_kept ws ls cs row are.within)
+    ∙ ap (λ (earlier : List EntryData). earlier ++ entry_in new (w, line) ∷ []) front
     ∙ ap (λ (counts : List ℕ). entries_in ws ls cs ++ record { winner = w; choice = line.choice; counts = counts } ∷ []) part
+
+-- one line more, whose counts are there
+pub lines_push : (ws : List ℕ) (ls : List Line) (cs new : List ℕ) (w : ℕ) (line : Line) → AreLines ws ls cs
+    → take (length cs) new ≡ cs → line.start ≤ line.end → line.end ≤ length new → AreLines (ws ++ w ∷ []) (ls ++ line ∷ []) new
+lines_push ws ls cs new w line are kept rises ends = record {
+  each = grind (arith, common_steps, are.each);
+  within = All-append (IsWithin (length new)) ls (line ∷ [])
+      (all_wider ls (length cs) (length new) (length_begins cs new kept) are.within)
+      (All-cons (IsWithin (length new)) line [] (record { rises = rises; ends = ends }) (All-nil (IsWithin (length new))));
+}
+  where
+    all_wider : (ls : List Line) (m n : ℕ) → m ≤ n → All (IsWithin m) ls → All (IsWithin n) ls
+    all_wider [] m n h all = All-nil (IsWithin n)
+    all_wider (a ∷ ls) m n h all =
+        let first : IsWithin m a = All-head (IsWithin m) a ls all in
+        All-cons (IsWithin n) a ls (record { rises = first.rises; ends = omega (arith, first.ends) })
+        (all_wider ls m n h (All-tail (IsWithin m) a ls all))
 
 pub length-entries : (ws : List ℕ) (ls : List Line) (cs : List ℕ) → AreLines ws ls cs
     → length (entries_in ws ls cs) ≡ length ls

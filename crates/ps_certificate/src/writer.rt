@@ -13,6 +13,9 @@ use ps_game::{Arena, NamedGame};
 use ps_text::numbers::write_number;
 use std::alloc::{AllocError, Global};
 
+/// How many bytes a line has beside its counts, where ids have six digits.
+const LINE: usize = 18;
+
 /// Writes a certificate of a game: the first line, the number of vertices, the odd and the even priorities, and a line
 /// for each vertex, with all its counts.
 ///
@@ -59,11 +62,27 @@ fn write_text(
     ensures bytes { IfOk result (λ bytes. bytes.items ≡ text_in compact game.now certificate.now) }
     ensures read_again { IfOk result (λ bytes. ReadsCertificate game.now bytes.items (Ok certificate.now)) }
 {
-    let mut out = Vec::new(alloc);
-    write_head(&mut out, game.game().count(), certificate, compact)?;
     let Certificate { odd, even, entries } = certificate;
+    let mut out = Vec::with_capacity(alloc, room_for(entries, compact))?;
+    write_head(&mut out, game.game().count(), certificate, compact)?;
     write_entries(&mut out, game, entries, odd, even, compact)?;
     Ok(out)
+}
+
+/// How many bytes most texts need, so that they are written where they stay.
+fn room_for(entries: &Entries, compact: bool) -> usize {
+    let mut room: usize = 0;
+    for vertex in 0..entries.len() {
+        let counts = if compact {
+            0
+        } else {
+            entries.counts(vertex).len()
+        };
+        room = room
+            .saturating_add(LINE)
+            .saturating_add(counts.saturating_mul(2));
+    }
+    room
 }
 
 /// Writes the lines that stand before those of the vertices.

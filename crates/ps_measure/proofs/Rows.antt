@@ -1,7 +1,6 @@
 -- Columns of counts: one filled, all of them, and the rows that they make.
-use Rattle.std.proofs.Common.{◌≡◌, ◌≢◌, ℕ, zero, suc, ◌+◌, ◌*◌, ◌<◌, ◌≤◌, ◌∙◌, ◌++◌, ◌∷◌, [], List, length, map, get_or, inl, inr, refl, sym, ap, subst, arith, Option, Some, Bool, true, false, nat_lt, Vec}
+use Rattle.std.proofs.Common.{◌≡◌, ◌≢◌, ℕ, zero, suc, ◌+◌, ◌*◌, ◌<◌, ◌≤◌, ◌∙◌, ◌++◌, ◌∷◌, [], List, length, map, get_or, inl, inr, refl, sym, ap, subst, arith, Option, Some, Bool, true, false, nat_lt}
 use Rattle.std.specs.Prelude.{slice_get, slice_index}
-use Rattle.std.specs.Global.{Global}
 use Rattle.std.specs.List.{range_with_len}
 use Rattle.std.proofs.Math.Nat.{mul-le-mul_left}
 use Rattle.std.proofs.lemmas.Bool.{cases_eq, cases_lt, cases_order, lt-ltb, le-ltb}
@@ -24,7 +23,7 @@ abbrev pub Row : Type 0
 Row = List ℕ
 
 abbrev pub Column : Type 0
-Column = Vec ℕ Global
+Column = List ℕ
 
 -- ---- a column
 
@@ -117,7 +116,7 @@ least_same game player set table p counts other same least = record {
 
 -- one column more
 pub ranked_more : (game : ParityGame) (player : ℕ) (set : ℕ → Bool) (table : ℕ → Option ℕ) (priorities : List ℕ) (columns : List Column) (column : Column) (place raises raised : ℕ) (counts : ℕ → ℕ) → AreLeastFor game player set table (slice_index priorities place) counts → ((v : ℕ) → vertex_count game ≤ v → counts v ≡ 0)
-    → AreWritten counts column.items (vertex_count game) raised → AreRanked game player set table priorities columns place raises → AreRanked game player set table priorities (columns ++ column ∷ []) (place + 1) (raises + raised)
+    → AreWritten counts column (vertex_count game) raised → AreRanked game player set table priorities columns place raises → AreRanked game player set table priorities (columns ++ column ∷ []) (place + 1) (raises + raised)
 ranked_more game player set table priorities columns column place raises raised counts least past written so_far = record {
   each = omega (arith, length_push columns column, so_far.each);
   least = λ k below. elim (cases_eq k place) [
@@ -190,7 +189,7 @@ ranked_empty game player set table priorities columns nobody empty = record {
 pub empty_none : AreEmpty [] 0
 empty_none = record { each = refl; none = λ k v. refl }
 
-pub empty_more : (columns : List Column) (column : Column) (n : ℕ) → column.items ≡ [] → AreEmpty columns n → AreEmpty (columns ++ column ∷ []) (n + 1)
+pub empty_more : (columns : List Column) (column : Column) (n : ℕ) → column ≡ [] → AreEmpty columns n → AreEmpty (columns ++ column ∷ []) (n + 1)
 empty_more columns column n nothing empty = record {
   each = omega (arith, length_push columns column, empty.each);
   none = λ k v. elim (cases_order k (length columns)) [
@@ -256,7 +255,7 @@ module _ (columns : List Column) (n : ℕ) where
       ∙ ap Some (get_or-map-range_with_len (row_in columns) 0 n v v [] below (omega arith))
 
   pub rows_wide : (v : ℕ) → v < n → width_of (rows_in n columns) v ≡ length columns
-  rows_wide v below = ap width_in (row_at v below) ∙ length-map columns (λ (column : Column). slice_index column.items v)
+  rows_wide v below = ap width_in (row_at v below) ∙ length-map columns (λ (column : Column). slice_index column v)
 
   pub rows_count : (v k : ℕ) → v < n → count_of (rows_in n columns) v k ≡ count_at columns k v
   rows_count v k below = ap (λ o. count_in o k) (row_at v below) ∙ in_row columns v k

@@ -27,13 +27,13 @@ pub record IsAtPlace (r : RemainingData) (low : LowData) (priorities : List ℕ)
   pub within : place < length priorities
   pub priority : low.priority ≡ slice_index priorities place
 
-pub column_done : (r : RemainingData) (low : LowData) (priorities : List ℕ) (columns : List Column) (column : Column) (place raises raised : ℕ) → IsAtPlace r low priorities place → IsFilled (low_graph low) (low_weight low) column.items raised
+pub column_done : (r : RemainingData) (low : LowData) (priorities : List ℕ) (columns : List Column) (column : Column) (place raises raised : ℕ) → IsAtPlace r low priorities place → IsFilled (low_graph low) (low_weight low) column raised
     → AreRanked r.game r.player (has r.region) (move_at r.strategy) priorities columns place raises → AreRanked r.game r.player (has r.region) (move_at r.strategy) priorities (columns ++ column ∷ []) (place + 1) (raises + raised)
 column_done r low priorities columns column place raises raised at filled so_far =
     ranked_more r.game r.player (has r.region) (move_at r.strategy) priorities columns column place raises raised filled.counts
     (subst (λ p. AreLeastFor r.game r.player (has r.region) (move_at r.strategy) p filled.counts) at.priority (least_for r low at.is_game at.levels at.reverse at.regions filled.counts filled.least))
     (zero_past r low at.is_game at.levels at.reverse at.regions filled.counts filled.least)
-    (subst (λ n. AreWritten filled.counts column.items n raised) at.reverse.count filled.written)
+    (subst (λ n. AreWritten filled.counts column n raised) at.reverse.count filled.written)
     so_far
 
 pub refused : (r : RemainingData) (low : LowData) (priorities : List ℕ) (place : ℕ) (fault : MeasureFault) → IsAtPlace r low priorities place → ListsPriorities r.game (other_player r.player) priorities → IsLowRefusal low fault → IsRefusal r.game r.player (has r.region) (move_at r.strategy) fault

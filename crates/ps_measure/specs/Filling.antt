@@ -1,6 +1,5 @@
 -- Columns of counts, and cycles in a graph of low vertices.
-use Rattle.std.specs.Prelude.{◌≡◌, ℕ, ◌<◌, ◌≤◌, Bool, List, length, Option, Vec, nat_lt, slice_index}
-use Rattle.std.specs.Global.{Global}
+use Rattle.std.specs.Prelude.{◌≡◌, ℕ, ◌<◌, ◌≤◌, Bool, List, length, Option, nat_lt, slice_index}
 use Rattle.ps_components.specs.Graphs.{Digraph}
 use Rattle.ps_components.specs.Trails.{IsTrail}
 use Rattle.ps_game.specs.Games.{ParityGame, vertex_count, priority_of}
@@ -42,13 +41,13 @@ pub record AreLevels (game : ParityGame) (levels : List ℕ) : Type 0 where
   pub is : (v : ℕ) → v < vertex_count game → slice_index levels v ≡ priority_of game v
 
 -- so many columns of least counts, and so many counts are not 0
-pub record AreRanked (game : ParityGame) (player : ℕ) (set : ℕ → Bool) (table : ℕ → Option ℕ) (priorities : List ℕ) (columns : List (Vec ℕ Global)) (place raises : ℕ) : Type 0 where
+pub record AreRanked (game : ParityGame) (player : ℕ) (set : ℕ → Bool) (table : ℕ → Option ℕ) (priorities : List ℕ) (columns : List (List ℕ)) (place raises : ℕ) : Type 0 where
   pub each : length columns ≡ place
   pub least : (k : ℕ) → k < place → AreLeastFor game player set table (slice_index priorities k) (count_at columns k)
   pub behind : (k v : ℕ) → vertex_count game ≤ v → count_at columns k v ≡ 0
   pub raises_is : raises ≡ sum_below (λ k. count_below (λ v. nat_lt 0 (count_at columns k v)) (vertex_count game)) place
 
 -- so many columns without a count but 0
-pub record AreEmpty (columns : List (Vec ℕ Global)) (count : ℕ) : Type 0 where
+pub record AreEmpty (columns : List (List ℕ)) (count : ℕ) : Type 0 where
   pub each : length columns ≡ count
   pub none : (k v : ℕ) → count_at columns k v ≡ 0

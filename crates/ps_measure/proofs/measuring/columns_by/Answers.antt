@@ -1,5 +1,4 @@
-use Rattle.std.proofs.Common.{arith, refl, sym, subst, ◌≡◌, ◌<◌, ◌+◌, get_or, length, List, Vec, ℕ}
-use Rattle.std.specs.Global.{Global}
+use Rattle.std.proofs.Common.{arith, refl, sym, subst, ◌≡◌, ◌<◌, ◌+◌, get_or, length, List, ℕ}
 use Rattle.std.proofs.lemmas.Result.{err_from_is_err_and}
 use Rattle.ps_game.specs.Regions.{has, move_at}
 use Rattle.ps_measure.specs.Remaining.{RemainingData, LowData}

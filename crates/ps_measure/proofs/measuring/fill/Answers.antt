@@ -10,4 +10,4 @@ returns-then-is_empty-clause-filled g c =
     let roots = c.in_ok-roots.roots.items in
     let empty = eqb-true (vec_len c.in_ok-roots.roots) 0 (sym c.is_empty.ensures ∙ c.if-is_empty.true) in
     let none : length roots ≡ 0 = omega (arith, empty, c.in_ok-roots.roots.ok.0) in
-    subst (λ (column : List ℕ). IsFilled (low_graph c.args.low.now) (low_weight c.args.low.now) column 0) (sym c.new.ensures.items) (filled_none c.args.low.now roots none c.in_ok-roots.ensures)
+    subst (λ (column : List ℕ). IsFilled (low_graph c.args.low.now) (low_weight c.args.low.now) column 0) (sym c.empty.ensures) (filled_none c.args.low.now roots none c.in_ok-roots.ensures)
