@@ -4,7 +4,7 @@ use Rattle.std.proofs.lemmas.Result.{err_from_is_err_and}
 use Rattle.ps_simulate.specs.Stimuli.{StimulusData, letters_of}
 use Rattle.ps_simulate.specs.Faults.{StimulusFault}
 use Rattle.ps_simulate.specs.StimulusTexts.{lines_of, spelled, divider, IsStimulusAnswer}
-use Rattle.ps_simulate.proofs.StimulusSteps.{HasRead-letter, HasRead-divider, HasRead-same, IsFirst-end, IsAnswer-line, at_line, letters_of-push}
+use Rattle.ps_simulate.proofs.StimulusSteps.{HasRead-letter, HasRead-divider, HasRead-same, IsFirst-end, IsStimulusAnswer-line, at_line, letters_of-push}
 use Rattle.ps_simulate.proofs.stimulus.parse_stimulus.Goals as goal
 use Rattle.ps_simulate.proofs.stimulus.parse_stimulus.Goals.{After-line_end-end, then-split+then-not-in_lap+then-is_divider, else-split+in_ok-letter+then-in_lap+in_ok-push, else-split-via-then-split+then-not-in_lap+else-is_divider, else-split-via-then-split+else-not-in_lap, else-split-via-else-split, else-split+in_ok-letter+else-in_lap+in_ok-push-2}
 
