@@ -43,7 +43,7 @@ fn row(
     if !is_at(tokens, connective) {
         return Ok(first);
     }
-    let mut operands = Vec::new(alloc);
+    let mut operands = Vec::with_capacity(alloc, 2)?;
     operands.push(first)?;
     'more: while is_at(tokens, connective) {
         tokens.advance();

@@ -5,6 +5,7 @@ pub mod CircuitLemmas
 pub mod CommandLemmas
 pub mod KindLemmas
 pub mod LassoLemmas
+pub mod LongWords
 pub mod OneAnswer
 pub mod OneCut
 pub mod OneLine

@@ -1,10 +1,9 @@
 -- Traces that are printed, letter by letter.
-use Rattle.std.proofs.Common.{◌≡◌, ◌∙◌, ◌+◌, ◌<◌, ℕ, Bool, List, [], ◌∷◌, ◌++◌, Vec, All, length, take, get_or, refl, sym, ap, subst, arith}
-use Rattle.std.specs.Global.{Global}
-use Rattle.std.proofs.lemmas.List.{map_push, flat_map_more, take_more, get_or-map, length-map}
+use Rattle.std.proofs.Common.{◌≡◌, ◌∙◌, ◌+◌, ℕ, Bool, List, [], ◌∷◌, ◌++◌, All, length, take, Some, slice_get, refl, sym, ap, subst}
+use Rattle.std.proofs.lemmas.Option.{get_or_from_slice_get, slice_get_within}
+use Rattle.std.proofs.lemmas.List.{map_push, flat_map_more, take_more}
 use Rattle.ps_circuit.specs.Circuits.{CircuitData}
 use Rattle.ps_simulate.specs.Simulations.{Simulation}
-use Rattle.ps_simulate.specs.Stimuli.{letters_of}
 use Rattle.ps_circuit.specs.Values.{Moment, Steps, GoesOn, resets}
 use Rattle.ps_program.specs.Simulating.{moment_line, HasPrinted, PrintsStep, PrintsTrace}
 
@@ -33,22 +32,19 @@ HasPrinted-step c letters text text' before after letter same h step =
 pub PrintsTrace-end : (c : CircuitData) (letters : List (List Bool)) (text : List ℕ) (latches : List Bool) → HasPrinted c letters text latches → PrintsTrace c letters text
 PrintsTrace-end c letters text latches h = record { moments = h.moments; is_trace = (latches, h.goes_on); inputs_are = h.inputs_are; text_is = h.text_is }
 
--- ---- letters that the code keeps
+-- ---- one letter of many
 
-pub HasPrinted-letter : (c : CircuitData) (items : List (Vec Bool Global)) (i : ℕ) (item : Vec Bool Global) (text text' : List ℕ) (before after : Simulation) (letter : List Bool)
-    → i < length items → item ≡ get_or items i item → letter ≡ item.items → before.circuit ≡ c → HasPrinted c (letters_of (take i items)) text before.latches
-    → PrintsStep before after letter text text' → HasPrinted c (letters_of (take (i + 1) items)) text' after.latches
-HasPrinted-letter c items i item text text' before after letter lt is same_letter same h step =
-    let more : letters_of (take i items) ++ letter ∷ [] ≡ letters_of (take (i + 1) items) =
-    ap (λ (l : List Bool). letters_of (take i items) ++ l ∷ []) same_letter
-    ∙ sym (map_push (λ (l : Vec Bool Global). l.items) (take i items) item)
-    ∙ ap (λ (l : Vec Bool Global). letters_of (take i items ++ l ∷ [])) is ∙ ap letters_of (sym (take_more items i item lt)) in
-    subst (λ (letters : List (List Bool)). HasPrinted c letters text' after.latches) more
-    (HasPrinted-step c (letters_of (take i items)) text text' before after letter same h step)
+pub HasPrinted-letter : (c : CircuitData) (letters : List (List Bool)) (i : ℕ) (text text' : List ℕ) (before after : Simulation) (letter : List Bool)
+    → slice_get letters i ≡ Some letter → before.circuit ≡ c → HasPrinted c (take i letters) text before.latches
+    → PrintsStep before after letter text text' → HasPrinted c (take (i + 1) letters) text' after.latches
+HasPrinted-letter c letters i text text' before after letter there same h step =
+    let more : take i letters ++ letter ∷ [] ≡ take (i + 1) letters =
+    ap (λ (l : List Bool). take i letters ++ l ∷ []) (sym (get_or_from_slice_get letters i letter [] there))
+    ∙ sym (take_more letters i [] (slice_get_within letters i letter there)) in
+    subst (λ (some : List (List Bool)). HasPrinted c some text' after.latches) more
+    (HasPrinted-step c (take i letters) text text' before after letter same h step)
 
-pub letter_fits : (items : List (Vec Bool Global)) (letters : List (List Bool)) (i width : ℕ) (item : Vec Bool Global) → letters_of items ≡ letters
-    → All (λ letter. length letter ≡ width) letters → i < length items → item ≡ get_or items i item → length item.items ≡ width
-letter_fits items letters i width item same fits lt is =
-    let fit : All (λ letter. length letter ≡ width) (letters_of items) = subst (λ (ls : List (List Bool)). All (λ letter. length letter ≡ width) ls) (sym same) fits in
-    ap (λ (l : Vec Bool Global). length l.items) is ∙ ap length (sym (get_or-map (λ (l : Vec Bool Global). l.items) items i item [] lt))
-    ∙ fit i [] (omega (arith, length-map items (λ (l : Vec Bool Global). l.items)))
+pub letter_fits : (letters : List (List Bool)) (i width : ℕ) (letter : List Bool) → All (λ letter. length letter ≡ width) letters
+    → slice_get letters i ≡ Some letter → length letter ≡ width
+letter_fits letters i width letter fits there =
+    ap length (sym (get_or_from_slice_get letters i letter [] there)) ∙ fits i [] (slice_get_within letters i letter there)

@@ -1,5 +1,5 @@
 -- What the input's first line asks for.
-use Rattle.std.specs.Prelude.{◌≡◌, ◌⊎◌, ◌==◌, ℕ, Bool, true, false, List, [], length, Option, None, Some, codes, filter, not, IsUtf8, if◌then◌else◌, ◌∷◌, ◌++◌, map, flat_map}
+use Rattle.std.specs.Prelude.{◌≡◌, ◌≢◌, ◌<◌, ◌⊎◌, ◌==◌, ℕ, Bool, true, false, List, [], length, slice_index, Option, None, Some, codes, filter, not, IsUtf8, if◌then◌else◌, ◌∷◌, ◌++◌, map, flat_map}
 use Rattle.std.specs.List.{slice_split, AllByRecursion}
 use Rattle.std.specs.Option.{option_map_or}
 use Rattle.std.specs.Str.{bytes_eq}
@@ -105,6 +105,10 @@ line_refused _ = Refused
 abbrev pub Says : List Text → Line → Type 0
 Says words line = ((fault_of table words ≡ []) × (line ≡ line_said (subcommand_of table words)))
     ⊎ ((kind : ErrorKind) × IsAmong kind (fault_of table words) × (line ≡ line_refused kind))
+
+-- the word is longer than each command, and begins with no hyphen (45)
+abbrev pub NamesNothing : Text → Type 0
+NamesNothing word = (6 < length word) × (slice_index word 0 ≢ 45)
 
 -- the input's first line says the line
 abbrev pub IsLine : List ℕ → Line → Type 0

@@ -1,6 +1,6 @@
 //! The command line: the input's first line.
 
-ghost use Rattle.std.specs.Prelude.{◌≡◌, false, List, IfOk, map};
+ghost use Rattle.std.specs.Prelude.{◌≡◌, false, List, IfOk, IsTrue, map};
 ghost use Rattle.clap.specs.Matches.{found_of};
 ghost use Rattle.clap.specs.Words.{app_of, rows_of, rule_of, subcommand_rows_of, with_subcommand};
 ghost use Rattle.ps_program.specs.CommandLine as words;
@@ -88,8 +88,30 @@ fn split_words(alloc: Global, text: &str) -> Result<Vec<&str>, AllocError>
         .collect(alloc)
 }
 
-/// Reads the words of a line.
+/// The length of the longest name of a command.
+const LONGEST: usize = 6;
+
+/// Whether a first word is too long for a command, and no flag.
+fn names_nothing(word: &str) -> bool
+    ensures { IsTrue result → words.NamesNothing word.now }
+{
+    word.len() > LONGEST && word.as_bytes()[0] != b'-'
+}
+
+/// Reads the words of a line. A first word that names nothing is not sought among names like it.
 fn read_words(alloc: Global, words: &[&str]) -> Result<Line, AllocError>
+    ensures { IfOk result (Says (map (λ word. word.now) words.now)) }
+{
+    if let [word, ..] = words
+        && names_nothing(word)
+    {
+        return Ok(Line::Refused);
+    }
+    parse_words(alloc, words)
+}
+
+/// Reads the words of a line by the table of commands.
+fn parse_words(alloc: Global, words: &[&str]) -> Result<Line, AllocError>
     ensures { IfOk result (Says (map (λ word. word.now) words.now)) }
 {
     match commands(alloc)?.try_get_matches_from(words) {

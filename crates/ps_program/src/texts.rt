@@ -1,9 +1,10 @@
 //! The texts of the commands, read, and the lines of what is wrong with them.
 
-ghost use Rattle.std.specs.Prelude.{◌≡◌, ◌<◌, length, All, IfOk};
+ghost use Rattle.std.specs.Prelude.{◌≡◌, ◌<◌, false, length, All, IfOk};
 ghost use Rattle.ps_circuit.specs.Circuits.{IsCircuit};
 ghost use Rattle.ps_certificate.specs.Certificates.{Fits};
 ghost use Rattle.ps_game.specs.Games.{vertex_count};
+ghost use Rattle.ps_simulate.specs.Stimuli.{stem_of};
 ghost use Rattle.ps_program.specs.Faults.{fault_text};
 ghost use Rattle.ps_program.specs.Outcomes.{Gives};
 ghost use Rattle.ps_program.specs.Texts.{CutsInTwo, CutsInThree, ReadsGameText, ReadsCertificateText, ReadsCertified, ReadsCircuitText, ReadsStimulusText, ReadsSimulated, NamesVertices, flaw_text, missing_text};
@@ -14,7 +15,7 @@ use crate::fault::{FaultLine, Place};
 use ps_certificate::{Certificate, Flaw};
 use ps_circuit::Circuit;
 use ps_game::NamedGame;
-use ps_simulate::Stimulus;
+use ps_simulate::{Letters, Stimulus};
 use std::alloc::Global;
 
 /// The line of a text that is missing.
@@ -132,22 +133,32 @@ pub fn read_stimulus(
     }
 }
 
+/// A stimulus for so many inputs, of a stem alone.
+fn read_letters(alloc: Global, text: &[u8], width: usize) -> Result<Letters, Refusal>
+    ensures { Gives stem_of (ReadsStimulusText width false text.now) result }
+{
+    match ps_simulate::parse_letters(alloc, text, width) {
+        Ok(letters) => Ok(letters),
+        Err(fault) => Err(Refusal::from(fault)),
+    }
+}
+
 /// A circuit, and a stimulus for it.
 ///
 /// # Errors
 ///
 /// Fails where a text is missing, else with the first cause in the circuit, else in the stimulus; and where a growth
 /// was refused.
-pub fn read_simulated(alloc: Global, texts: &[u8]) -> Result<(Circuit, Stimulus), Refusal>
-    ensures read { Gives (λ both. (both.0, both.1)) (ReadsSimulated texts.now) result }
-    ensures fits { IfOk result (λ both. All (λ letter. length letter ≡ length both.0.inputs) both.1.stem) }
+pub fn read_simulated(alloc: Global, texts: &[u8]) -> Result<(Circuit, Letters), Refusal>
+    ensures read { Gives (λ both. (both.0, stem_of both.1)) (ReadsSimulated texts.now) result }
+    ensures fits { IfOk result (λ both. All (λ letter. length letter ≡ length both.0.inputs) both.1) }
     ensures circuit { IfOk result (λ both. IsCircuit both.0) }
 {
-    let (text, letters) = two_texts(texts)?;
+    let (text, stimulus) = two_texts(texts)?;
     let circuit = read_circuit(alloc, text)?;
     let width = circuit.inputs().len();
-    let stimulus = read_stimulus(alloc, letters, width, false)?;
-    Ok((circuit, stimulus))
+    let letters = read_letters(alloc, stimulus, width)?;
+    Ok((circuit, letters))
 }
 
 /// The line of a flaw, which names vertices by their ids.

@@ -10,6 +10,7 @@ pub mod ValueLemmas
 pub mod OneLemmas
 pub mod StepLemmas
 pub mod LineLemmas
+pub mod LetterLists
 pub mod StimulusLemmas
 pub mod StimulusSteps
 pub mod OneStimulus

@@ -1,5 +1,5 @@
 -- What a contract sees of a stimulus.
-use Rattle.std.specs.Prelude.{Bool, List, map, Vec}
+use Rattle.std.specs.Prelude.{ℕ, zero, suc, Bool, List, [], ◌∷◌, map, take, drop, Vec}
 use Rattle.std.specs.Global.{Global}
 
 -- letters, each with a bit for each input: those of the stem, and those of the lap
@@ -9,3 +9,12 @@ pub record StimulusData : Type 0 where
 
 abbrev pub letters_of : List (Vec Bool Global) → List (List Bool)
 letters_of letters = map (λ letter. letter.items) letters
+
+-- letters of that width, so many, whose bits stand one behind another
+abbrev pub letters_in : ℕ → ℕ → List Bool → List (List Bool)
+letters_in width zero bits = []
+letters_in width (suc count) bits = take width bits ∷ letters_in width count (drop width bits)
+
+-- a stimulus of a stem alone
+abbrev pub stem_of : List (List Bool) → StimulusData
+stem_of letters = record { stem = letters; lap = [] }

@@ -12,7 +12,7 @@ use Rattle.ps_simulate.specs.declared.fault.StimulusCause.TheVariants.{Width, St
 use Rattle.ps_simulate.specs.Faults.{StimulusFault}
 use Rattle.ps_text.specs.Faults.{UnlessMemory}
 use Rattle.ps_simulate.specs.Faults.{rank}
-use Rattle.ps_simulate.specs.Stimuli.{StimulusData}
+use Rattle.ps_simulate.specs.Stimuli.{StimulusData, stem_of}
 
 -- ## Lines
 
@@ -107,6 +107,14 @@ ReadsStimulus text width split (Err found) = IsFirst (Stands text width split) f
 -- what the reader answers: this, unless memory runs out
 abbrev pub IsStimulusAnswer : List ℕ → ℕ → Bool → Result StimulusData StimulusFault → Type 0
 IsStimulusAnswer text width split result = UnlessMemory (ReadsStimulus text width split) result
+
+-- the same of a text whose letters are a stem alone
+abbrev pub ReadsLetters : List ℕ → ℕ → Result (List (List Bool)) (Found StimulusCause) → Type 0
+ReadsLetters text width (Ok letters) = ReadsStimulus text width false (Ok (stem_of letters))
+ReadsLetters text width (Err found) = ReadsStimulus text width false (Err found)
+
+abbrev pub IsLettersAnswer : List ℕ → ℕ → Result (List (List Bool)) StimulusFault → Type 0
+IsLettersAnswer text width result = UnlessMemory (ReadsLetters text width) result
 
 abbrev pub HasOneAnswer : List ℕ → ℕ → Bool → Type 0
 HasOneAnswer text width split =

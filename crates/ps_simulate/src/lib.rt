@@ -6,6 +6,7 @@
 //! | `Simulator::new(circuit)`, `step`, `latches`, `latch` | one run: a step takes a letter and gives the outputs |
 //! | `LaneSimulator::new(circuit)`, `step_lanes`, `latch` | 256 runs at once: bit b of word w is run 64·w + b |
 //! | `parse_stimulus(text, width, split)` | the letters of a text, a line of digits each, or the first fault |
+//! | `parse_letters(text, width)` | the same of a text that has no lap; the bits stand in one list |
 //! | `lasso(circuit, automaton, role, stem, lap)` | the automaton's `Verdict`, or a `LassoFault` |
 //! | `Role` | whether the circuit is a controller's or an environment's |
 //! | `LassoFault::number`, `StimulusCause::number`, `name` | a fault or a cause as psyn's list of faults has it |
@@ -26,6 +27,7 @@ mod lane_plan;
 mod lanes;
 mod lassos;
 mod laws;
+mod letters;
 mod naming;
 mod places;
 mod plan;
@@ -37,6 +39,7 @@ pub use fault::{StimulusCause, StimulusFault};
 pub use lanes::LaneSimulator;
 pub use lassos::{LassoFault, Verdict, lasso};
 pub use laws::{circuit_has_one_values, lanes_are_plain_runs, verdict_is_one};
+pub use letters::{Letters, parse_letters};
 pub use role::Role;
 pub use simulator::Simulator;
 pub use stimulus::{Stimulus, parse_stimulus, stimulus_text_has_one_answer};

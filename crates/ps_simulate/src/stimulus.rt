@@ -70,7 +70,7 @@ pub fn stimulus_text_has_one_answer()
 {}
 
 /// Where the line that begins at `start` ends: at a newline, or at the end of the text.
-fn line_end(text: &[u8], start: usize) -> usize
+pub(crate) fn line_end(text: &[u8], start: usize) -> usize
     requires { start < length text.now }
     ensures from { start ≤ result }
     ensures within { result ≤ length text.now }
@@ -118,7 +118,7 @@ fn bits_of(alloc: Global, line: &[u8]) -> Result<Vec<bool>, AllocError>
 }
 
 /// Reads the line of a letter, which begins at this offset.
-fn read_letter(
+pub(crate) fn read_letter(
     alloc: Global,
     line: &[u8],
     start: usize,

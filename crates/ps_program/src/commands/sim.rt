@@ -9,7 +9,7 @@ ghost use Rattle.ps_program.specs.Simulating.{AnswersSim, PrintsTrace, PrintsSte
 use crate::answer::{Answer, Refusal};
 use crate::texts::read_simulated;
 use ps_circuit::Circuit;
-use ps_simulate::{Simulator, Stimulus};
+use ps_simulate::{Letters, Simulator};
 use std::alloc::{AllocError, Global};
 
 /// What a circuit does, letter by letter.
@@ -21,20 +21,21 @@ use std::alloc::{AllocError, Global};
 pub fn sim(alloc: Global, texts: &[u8]) -> Result<Answer, Refusal>
     ensures { Gives reply_of (AnswersSim texts.now) result }
 {
-    let (circuit, stimulus) = read_simulated(alloc, texts)?;
-    let text = trace_text(alloc, &circuit, &stimulus)?;
+    let (circuit, letters) = read_simulated(alloc, texts)?;
+    let text = trace_text(alloc, &circuit, &letters)?;
     Ok(Answer::text(text))
 }
 
-/// A line for each letter of the stem.
-fn trace_text(alloc: Global, circuit: &Circuit, stimulus: &Stimulus) -> Result<Vec<u8>, AllocError>
-    requires { All (λ letter. length letter ≡ length circuit.now.inputs) stimulus.now.stem }
-    ensures { IfOk result (λ text. PrintsTrace circuit.now stimulus.now.stem text.items) }
+/// A line for each letter.
+fn trace_text(alloc: Global, circuit: &Circuit, letters: &Letters) -> Result<Vec<u8>, AllocError>
+    requires { All (λ letter. length letter ≡ length circuit.now.inputs) letters.now }
+    ensures { IfOk result (λ text. PrintsTrace circuit.now letters.now text.items) }
 {
     let mut simulator = Simulator::new(alloc, circuit)?;
     let mut outputs = vec![in alloc; false; circuit.outputs().len()]?;
     let mut text = Vec::new(alloc);
-    for letter in &stimulus.stem {
+    for place in 0..letters.len() {
+        let letter = letters.letter(place);
         write_step(&mut text, &mut simulator, letter, &mut outputs)?;
     }
     Ok(text)

@@ -28,7 +28,7 @@ pub row-more-init : goal.row-more-init
 row-more-init t c =
     let row = operand_row (label_operands c.args.scope.now) c.args.room c.args.connective in
     row_starts row c.is_at.result c.in_ok-first.ensures c.is_at.ensures c.if-not-is_at.false
-    (first_value expression c.in_ok-first.first _ _ c.in_ok-push.ensures.items c.new-operands.ensures.items)
+    (first_value expression c.in_ok-first.first _ _ c.in_ok-push.ensures.items c.in_ok-operands.ensures.items)
 
 pub row-returns-in_err-part : goal.row-returns-in_err-part
 row-returns-in_err-part t c =
