@@ -10,6 +10,7 @@
 //! | `NamedGame::new`, `game`, `id`, `name` | the game with an id, and a name or none, for each vertex |
 //! | `Arena::count`, `owner`, `priority`, `degree`, `successor` | what every form of a game answers, without memory |
 //! | `FlatGame::of`, `fits_narrow` | the same game in four arrays, with numbers of 4 or 8 bytes; whether 4 do |
+//! | `Player::EVEN`, `ODD`, `of_priority`, `opponent`, `owns`, `number` | one of the two players |
 //! | `Region::empty`, `full`, `insert`, `remove`, `contains`, .. | a set of vertices, one bit each |
 //! | `Strategy::empty`, `set`, `get` | a move, or none, for each vertex |
 //! | `Subgame::whole`, `find`, `known`, `region` | a region in which each vertex has a successor |
@@ -38,6 +39,7 @@ mod games;
 mod laws;
 mod named;
 mod numbers;
+mod player;
 mod ranking;
 mod regions;
 mod strategy;
@@ -57,6 +59,7 @@ pub use laws::{
 };
 pub use named::NamedGame;
 pub use numbers::Numbers;
+pub use player::Player;
 pub use ranking::priorities_of;
 pub use regions::Region;
 pub use strategy::Strategy;

@@ -99,7 +99,7 @@ pub record Begun : Type 0 where
   pub winners : length winner_now ≡ vertex_count game
   pub grown : IsGrown aim mid new
   pub attracted : (subgame target set : ℕ → Bool) → IsPosed game aim mid subgame target → IsTaken aim new subgame set → IsAttracted game subgame aim.player target set (moves_of new) (rank_of aim new)
-  pub given : IsGiven aim new winner winner_now
+  pub given : IsGiven aim.player aim.begin new winner winner_now
 
 abbrev undecided : Begun → ℕ → Bool
 undecided b = from b.new.level (2 * b.depth + 2)

@@ -29,7 +29,7 @@ pub record Going (game : ParityGame) (a : ℕ) (frame : Frame) (old mid new : Ta
   pub reopened : IsReopened winner frame.player (a + 1) frame.turn (StandsFrom old frame.turn) old mid
   pub sizes : length new.level ≡ length mid.level
   pub grown : IsGrown (on_aim a frame) mid new
-  pub given : IsGiven (on_aim a frame) new winner winner_now
+  pub given : IsGiven (1 - frame.player) frame.turn new winner winner_now
   pub attracted : (subgame target set : ℕ → Bool) → IsPosed game (on_aim a frame) mid subgame target → IsTaken (on_aim a frame) new subgame set → IsAttracted game subgame (1 - frame.player) target set (moves_of new) (rank_of (on_aim a frame) new)
 
 -- what stood in the trail from the turn on was open, and what was open stood there

@@ -389,7 +389,7 @@ pub record Reached (game : ParityGame) (level : ℕ) (aim : Aim) (frame : Frame)
     (winner winner_now : List ℕ) : Type 0 where
   pub reopened : IsReopened winner frame.player level frame.turn (StandsFrom old frame.turn) old mid
   pub grown : IsGrown aim mid new
-  pub given : IsGiven aim new winner winner_now
+  pub given : IsGiven aim.player aim.begin new winner winner_now
   pub attracted : (subgame target set : ℕ → Bool) → IsPosed game aim mid subgame target → IsTaken aim new subgame set →
       IsAttracted game subgame aim.player target set (moves_of new) (rank_of aim new)
 

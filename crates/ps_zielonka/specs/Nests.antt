@@ -127,9 +127,9 @@ pub record ArePlaced (game : ParityGame) (aim : Aim) (old new : TablesData) (ord
   pub all : (j : ℕ) → cursor ≤ j → j < behind → level_of new (slice_index order j) ≢ aim.free
 
 -- the player wins all that stand in the trail from a place on, and each other vertex is as it was
-pub record IsGiven (aim : Aim) (tables : TablesData) (old new : List ℕ) : Type 0 where
-  pub given : (v : ℕ) → StandsFrom tables aim.begin v → slice_index new v ≡ aim.player
-  pub kept : (v : ℕ) → (slice_index new v ≡ slice_index old v) ⊎ StandsFrom tables aim.begin v
+pub record IsGiven (player begin : ℕ) (tables : TablesData) (old new : List ℕ) : Type 0 where
+  pub given : (v : ℕ) → StandsFrom tables begin v → slice_index new v ≡ player
+  pub kept : (v : ℕ) → (slice_index new v ≡ slice_index old v) ⊎ StandsFrom tables begin v
 
 -- an edge leads from v to w, which is above a level and won by the player
 pub record IsWonStep (game : ParityGame) (tables : TablesData) (winner : List ℕ) (level player v w : ℕ) : Type 0 where

@@ -5,7 +5,7 @@ ghost use Rattle.ps_game.specs.Games.{vertex_count};
 ghost use Rattle.ps_zielonka.specs.Answers.{IsRegionTo, AreMovesTo};
 
 use ps_attractor::Tables;
-use ps_game::{Arena, Region, Strategy};
+use ps_game::{Arena, Player, Region, Strategy};
 use std::alloc::{AllocError, Global};
 
 /// The vertices that player 0 wins.
@@ -13,13 +13,13 @@ use std::alloc::{AllocError, Global};
 /// # Errors
 ///
 /// Fails where a growth was refused.
-pub fn region_of(alloc: Global, winner: &[u8]) -> Result<Region, AllocError>
+pub fn region_of(alloc: Global, winner: &[Player]) -> Result<Region, AllocError>
     ensures places { IfOk result (λ region. length region ≡ length winner.now) }
     ensures won { IfOk result (IsRegionTo winner.now (length winner.now)) }
 {
     let mut region = Region::empty(alloc, winner.len())?;
     for (vertex, player) in winner.iter().enumerate() {
-        if *player == 0 {
+        if *player == Player::EVEN {
             region.insert(vertex);
         }
     }
@@ -35,8 +35,8 @@ pub fn strategy_of<A: Arena>(
     alloc: Global,
     arena: &A,
     tables: &Tables,
-    winner: &[u8],
-    player: u8,
+    winner: &[Player],
+    player: Player,
 ) -> Result<Strategy, AllocError>
     requires moves { length tables.now.moves ≡ vertex_count (A.game arena.now) }
     requires winners { length winner.now ≡ vertex_count (A.game arena.now) }
@@ -46,7 +46,7 @@ pub fn strategy_of<A: Arena>(
     let count = arena.count();
     let mut strategy = Strategy::empty(alloc, count)?;
     for vertex in 0..count {
-        if winner[vertex] == player && arena.owner(vertex) == player {
+        if winner[vertex] == player && player.owns(arena, vertex) {
             strategy.set(vertex, tables.chosen(vertex));
         }
     }

@@ -5,13 +5,14 @@ ghost use Rattle.ps_game.specs.Games.{IsGame, vertex_count, HasEdge};
 ghost use Rattle.ps_attractor.specs.Sources.{IsSourcesOf};
 ghost use Rattle.ps_attractor.specs.Tables.{FitsGame, level_of, moves_of};
 ghost use Rattle.ps_attractor.specs.Aims.{IsPosed, IsTaken, IsAttracted, IsGrown, StandsFrom, rank_of};
-ghost use Rattle.ps_zielonka.specs.Levels.{mark_of};
+ghost use Rattle.ps_zielonka.specs.Levels.{mark_of, aim_of};
 ghost use Rattle.ps_zielonka.specs.Nests.{IsGiven, IsWonStep, IsKeptAt, IsLostAt, IsMoved, StandsBetween, IsTakenOff, IsReopened};
 
+use crate::attraction::Attraction;
 use crate::frame::Frame;
 use crate::level::Level;
-use ps_attractor::{Aim, Sources, Tables};
-use ps_game::Arena;
+use ps_attractor::{Sources, Tables};
+use ps_game::{Arena, Player};
 use std::alloc::AllocError;
 
 /// What is decided of each vertex.
@@ -20,7 +21,7 @@ pub struct Board {
     /// The level of each vertex, its move, and the vertices that were placed.
     pub tables: Tables,
     /// Who wins each vertex that was placed.
-    pub winner: Vec<u8>,
+    pub winner: Vec<Player>,
     /// Vertices that are taken off the trail.
     pub spare: Vec<usize>,
 }
@@ -36,58 +37,61 @@ impl Board {
         &mut self,
         arena: &A,
         sources: &Sources,
-        aim: Aim,
+        attraction: &Attraction,
     ) -> Result<(), AllocError>
         requires game { IsGame (A.game arena.now) }
         requires sources { IsSourcesOf (A.game arena.now) sources.now }
         requires fits { FitsGame (A.game arena.now) self.old.tables }
         requires winners { length self.old.winner.items ≡ vertex_count (A.game arena.now) }
-        requires differ { aim.mark ≢ aim.free }
-        requires begin { aim.begin ≤ length self.old.tables.trail }
+        requires placed { mark_of attraction.now.level < mark_of Level.Unplaced }
+        requires begin { attraction.now.begin ≤ length self.old.tables.trail }
         ensures fits { OnOk result (FitsGame (A.game arena.now) self.new.tables) }
         ensures winners { OnOk result (length self.new.winner.items ≡ vertex_count (A.game arena.now)) }
-        ensures grown { OnOk result (IsGrown aim self.old.tables self.new.tables) }
+        ensures grown { OnOk result (IsGrown (aim_of attraction.now) self.old.tables self.new.tables) }
         ensures attracted { OnOk result ((subgame target set : ℕ → Bool) →
-            IsPosed (A.game arena.now) aim self.old.tables subgame target → IsTaken aim self.new.tables subgame set →
-            IsAttracted (A.game arena.now) subgame aim.player target set (moves_of self.new.tables) (rank_of aim self.new.tables)) }
-        ensures given { OnOk result (IsGiven aim self.new.tables self.old.winner.items self.new.winner.items) }
+            IsPosed (A.game arena.now) (aim_of attraction.now) self.old.tables subgame target →
+            IsTaken (aim_of attraction.now) self.new.tables subgame set →
+            IsAttracted (A.game arena.now) subgame attraction.now.player target set (moves_of self.new.tables)
+            (rank_of (aim_of attraction.now) self.new.tables)) }
+        ensures given { OnOk result (IsGiven attraction.now.player attraction.now.begin self.new.tables
+            self.old.winner.items self.new.winner.items) }
     {
-        self.tables.attract(arena, sources, aim)?;
-        self.give(aim);
+        self.tables.attract(arena, sources, attraction.aim())?;
+        self.give(attraction.player, attraction.begin);
         Ok(())
     }
 
     /// Gives all that stand in the trail from a place on to the player.
-    fn give(&mut self, aim: Aim)
-        requires begin { aim.begin ≤ length self.old.tables.trail }
+    fn give(&mut self, player: Player, begin: usize)
+        requires begin { begin ≤ length self.old.tables.trail }
         requires winners { (j : ℕ) → j < length self.old.tables.trail → slice_index self.old.tables.trail j < length self.old.winner.items }
         ensures tables { self.new.tables ≡ self.old.tables }
         ensures winners { length self.new.winner.items ≡ length self.old.winner.items }
-        ensures given { IsGiven aim self.new.tables self.old.winner.items self.new.winner.items }
+        ensures given { IsGiven player begin self.new.tables self.old.winner.items self.new.winner.items }
     {
-        for place in aim.begin..self.tables.placed() {
-            self.winner[self.tables.vertex_at(place)] = aim.player;
+        for place in begin..self.tables.placed() {
+            self.winner[self.tables.vertex_at(place)] = player;
         }
     }
 
     /// Whether the player keeps all that the other one did not win, at each vertex of the greatest priority too. Writes
     /// the moves there.
-    pub fn is_kept<A: Arena>(&mut self, arena: &A, frame: Frame, level: Level) -> bool
+    pub fn is_kept<A: Arena>(&mut self, arena: &A, frame: &Frame, level: Level) -> bool
         requires game { IsGame (A.game arena.now) }
         requires fits { FitsGame (A.game arena.now) self.old.tables }
         requires winners { length self.old.winner.items ≡ vertex_count (A.game arena.now) }
-        requires player { frame.player < 2 }
-        requires end { frame.top ≤ length self.old.tables.trail }
+        requires end { frame.now.top ≤ length self.old.tables.trail }
         requires placed { mark_of level < mark_of Level.Unplaced }
-        ensures moved { IsMoved self.old.tables self.new.tables (StandsBetween self.old.tables frame.turn frame.top) }
+        ensures moved { IsMoved self.old.tables self.new.tables
+            (StandsBetween self.old.tables frame.now.turn frame.now.top) }
         ensures winner { self.new.winner.items ≡ self.old.winner.items }
         ensures fits { FitsGame (A.game arena.now) self.new.tables }
-        ensures kept { IsTrue result → (v : ℕ) → StandsBetween self.old.tables frame.turn frame.top v →
-            IsKeptAt (A.game arena.now) self.new.tables self.old.winner.items (mark_of level) frame.player
-            (1 - frame.player) v }
-        ensures lost { result ≡ false → (v : ℕ) × StandsBetween self.old.tables frame.turn frame.top v ×
-            IsLostAt (A.game arena.now) self.old.tables self.old.winner.items (mark_of level) frame.player
-            (1 - frame.player) v }
+        ensures kept { IsTrue result → (v : ℕ) → StandsBetween self.old.tables frame.now.turn frame.now.top v →
+            IsKeptAt (A.game arena.now) self.new.tables self.old.winner.items (mark_of level) frame.now.player
+            (1 - frame.now.player) v }
+        ensures lost { result ≡ false → (v : ℕ) × StandsBetween self.old.tables frame.now.turn frame.now.top v ×
+            IsLostAt (A.game arena.now) self.old.tables self.old.winner.items (mark_of level) frame.now.player
+            (1 - frame.now.player) v }
     {
         for place in frame.turn..frame.top {
             let vertex = self.tables.vertex_at(place);
@@ -99,11 +103,10 @@ impl Board {
     }
 
     /// Whether a vertex of the greatest priority stays with the player. Writes its move.
-    fn keeps<A: Arena>(&mut self, arena: &A, player: u8, level: Level, vertex: usize) -> bool
+    fn keeps<A: Arena>(&mut self, arena: &A, player: Player, level: Level, vertex: usize) -> bool
         requires game { IsGame (A.game arena.now) }
         requires fits { FitsGame (A.game arena.now) self.old.tables }
         requires winners { length self.old.winner.items ≡ vertex_count (A.game arena.now) }
-        requires player { player < 2 }
         requires vertex { vertex < vertex_count (A.game arena.now) }
         requires placed { mark_of level < mark_of Level.Unplaced }
         ensures moved { IsMoved self.old.tables self.new.tables (λ v. v ≡ vertex) }
@@ -114,9 +117,9 @@ impl Board {
         ensures lost { result ≡ false → IsLostAt (A.game arena.now) self.old.tables self.old.winner.items
             (mark_of level) player (1 - player) vertex }
     {
-        if arena.owner(vertex) != player {
+        if !player.owns(arena, vertex) {
             return self
-                .won_successor(arena, vertex, level, 1 - player)
+                .won_successor(arena, vertex, level, player.opponent())
                 .is_none();
         }
         match self.won_successor(arena, vertex, level, player) {
@@ -134,7 +137,7 @@ impl Board {
         arena: &A,
         vertex: usize,
         level: Level,
-        player: u8,
+        player: Player,
     ) -> Option<usize>
         requires game { IsGame (A.game arena.now) }
         requires fits { FitsGame (A.game arena.now) self.now.tables }
@@ -161,14 +164,14 @@ impl Board {
     /// # Errors
     ///
     /// Fails where a growth was refused.
-    pub fn reopen(&mut self, frame: Frame, level: Level) -> Result<(), AllocError>
+    pub fn reopen(&mut self, frame: &Frame, level: Level) -> Result<(), AllocError>
         requires vertices { (j : ℕ) → j < length self.old.tables.trail → slice_index self.old.tables.trail j < length self.old.tables.level }
         requires winners { length self.old.winner.items ≡ length self.old.tables.level }
-        requires turn { frame.turn ≤ length self.old.tables.trail }
+        requires turn { frame.now.turn ≤ length self.old.tables.trail }
         requires placed { mark_of level < mark_of Level.Unplaced }
         ensures winner { self.new.winner.items ≡ self.old.winner.items }
-        ensures reopened { OnOk result (IsReopened self.old.winner.items frame.player (mark_of level) frame.turn
-            (StandsFrom self.old.tables frame.turn) self.old.tables self.new.tables) }
+        ensures reopened { OnOk result (IsReopened self.old.winner.items frame.now.player (mark_of level) frame.now.turn
+            (StandsFrom self.old.tables frame.now.turn) self.old.tables self.new.tables) }
     {
         self.take_off(frame.turn)?;
         for place in 0..self.spare.len() {

@@ -1,12 +1,14 @@
 //! A call that waits.
 
+use ps_game::Player;
+
 /// A call that waits for the part of its subgame that is left by the attractor of its present turn.
-#[derive(Clone, Copy)]
+#[derive(Drop)]
 pub struct Frame {
     /// How many vertices at the front of the order are closed for this call.
     pub cursor: usize,
     /// Who wins the greatest priority of the open part.
-    pub player: u8,
+    pub player: Player,
     /// Where the vertices of that priority begin in the trail, and behind them those that were attracted.
     pub turn: usize,
     /// Where the vertices of that priority end.

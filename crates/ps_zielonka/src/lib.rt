@@ -16,6 +16,7 @@
 #![tactic(auto)]
 
 mod answer;
+mod attraction;
 mod board;
 mod frame;
 mod level;

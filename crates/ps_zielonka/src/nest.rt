@@ -9,12 +9,13 @@ ghost use Rattle.ps_zielonka.specs.Levels.{mark_of};
 ghost use Rattle.ps_zielonka.specs.Stacks.{IsStack, IsDeep, IsSolvedBy, steps_of};
 ghost use Rattle.ps_zielonka.specs.Nests.{IsNest, IsLostAt, StandsBetween, steps_left};
 
+use crate::attraction::Attraction;
 use crate::board::Board;
 use crate::frame::Frame;
 use crate::level::Level;
 use crate::order::{falling_order, first_unplaced, place_tops};
-use ps_attractor::{Aim, Sources, Tables};
-use ps_game::Arena;
+use ps_attractor::{Sources, Tables};
+use ps_game::{Arena, Player};
 use std::alloc::{AllocError, Global};
 
 /// The calls that wait, what is decided, and where the search for the next turn stands.
@@ -47,7 +48,7 @@ impl Nest {
         let count = arena.count();
         let order = falling_order(alloc, arena)?;
         let tables = Tables::new(alloc, count, Level::Unplaced.mark())?;
-        let winner = vec![in alloc; 0; count]?;
+        let winner = vec![in alloc; Player::EVEN; count]?;
         let board = Board {
             tables,
             winner,
@@ -123,18 +124,23 @@ impl Nest {
         ensures falls { OnOk result (steps_of self.new < steps_of self.old) }
         ensures deep { OnOk result (IsDeep (A.game arena.now) self.old → IsDeep (A.game arena.now) self.new) }
     {
-        let player = (arena.priority(self.order[cursor]) % 2) as u8;
+        let player = Player::of_priority(arena.priority(self.order[cursor]));
         let depth = self.frames.len();
         let turn = self.board.tables.placed();
-        let aim = Aim {
+        let attraction = Attraction {
             player,
             begin: turn,
-            mark: Level::Attracted { depth }.mark(),
-            free: Level::Unplaced.mark(),
+            level: Level::Attracted { depth },
         };
-        let behind = place_tops(arena, &mut self.board.tables, &self.order, aim, cursor)?;
+        let behind = place_tops(
+            arena,
+            &mut self.board.tables,
+            &self.order,
+            &attraction,
+            cursor,
+        )?;
         let top = self.board.tables.placed();
-        self.board.attract(arena, sources, aim)?;
+        self.board.attract(arena, sources, &attraction)?;
         self.frames.push(Frame {
             cursor,
             player,
@@ -161,7 +167,7 @@ impl Nest {
         };
         let depth = self.frames.len();
         let level = Level::Decided { depth };
-        if self.board.is_kept(arena, frame, level) {
+        if self.board.is_kept(arena, &frame, level) {
             Ok(())
         } else {
             self.go_on(arena, sources, frame, level)
@@ -188,14 +194,13 @@ impl Nest {
             steps_left self.old.board.tables.level (length self.old.frames.items + 1) true) }
         ensures depth { OnOk result (self.new.depth ≡ self.old.depth) }
     {
-        self.board.reopen(frame, level)?;
-        let aim = Aim {
-            player: 1 - frame.player,
+        self.board.reopen(&frame, level)?;
+        let attraction = Attraction {
+            player: frame.player.opponent(),
             begin: frame.turn,
-            mark: level.mark(),
-            free: Level::Unplaced.mark(),
+            level,
         };
-        self.board.attract(arena, sources, aim)?;
+        self.board.attract(arena, sources, &attraction)?;
         self.cursor = frame.cursor;
         self.solved = false;
         Ok(())

@@ -12,7 +12,7 @@ use crate::answer::{region_of, strategy_of};
 use crate::board::Board;
 use crate::nest::Nest;
 use ps_attractor::Sources;
-use ps_game::{Arena, Counts, Region, Strategy};
+use ps_game::{Arena, Counts, Player, Region, Strategy};
 use std::alloc::{AllocError, Global};
 
 /// Which vertices player 0 wins, the moves by which it does, and those by which player 1 wins the others.
@@ -67,7 +67,7 @@ fn answer_of<A: Arena>(
     ensures second_moves { IfOk result (λ answer. MovesWithin (A.game arena.now) 1 (others answer.0) answer.2) }
 {
     let region = region_of(alloc, &board.winner)?;
-    let first = strategy_of(alloc, arena, &board.tables, &board.winner, 0)?;
-    let second = strategy_of(alloc, arena, &board.tables, &board.winner, 1)?;
+    let first = strategy_of(alloc, arena, &board.tables, &board.winner, Player::EVEN)?;
+    let second = strategy_of(alloc, arena, &board.tables, &board.winner, Player::ODD)?;
     Ok((region, first, second))
 }

@@ -1,10 +1,21 @@
 use Rattle.std.proofs.Common.{subst, sym}
+use Rattle.ps_attractor.specs.declared.aim.Aim.{Aim}
 use Rattle.ps_attractor.specs.Tables.{TablesData, moves_of}
-use Rattle.ps_attractor.specs.Aims.{IsTaken, IsAttracted, rank_of}
+use Rattle.ps_attractor.specs.Aims.{IsPosed, IsTaken, IsAttracted, IsGrown, rank_of}
 use Rattle.ps_zielonka.proofs.board.Board.attract.Goals as goal
 
+pub returns-clause-grown : goal.returns-clause-grown
+returns-clause-grown g c =
+    let Grown : Aim → TablesData → Type 0 = λ aim t. IsGrown aim c.args.self.now.tables t in
+    let aimed = λ (aim : Aim). Grown aim c.give.new.self.tables in
+    subst aimed c.aim.ensures (subst (Grown c.aim.result) (sym c.give.ensures.tables) c.in_ok-attract.ensures.grown)
+
 pub returns-clause-attracted : goal.returns-clause-attracted
-returns-clause-attracted g c subgame target set posed =
+returns-clause-attracted g c subgame target set =
     let game = g.A.Arena.game c.args.arena.now in
-    let Attracts : TablesData → Type 0 = λ t. IsTaken c.args.aim t subgame set → IsAttracted game subgame c.args.aim.player target set (moves_of t) (rank_of c.args.aim t) in
-    subst Attracts (sym c.give.ensures.tables) (c.in_ok-attract.ensures.attracted subgame target set posed)
+    let Attracts : Aim → TablesData → Type 0 = λ aim t. IsPosed game aim c.args.self.now.tables subgame target
+    → IsTaken aim t subgame set
+    → IsAttracted game subgame aim.player target set (moves_of t) (rank_of aim t) in
+    let aimed = λ (aim : Aim). Attracts aim c.give.new.self.tables in
+    subst aimed c.aim.ensures
+    (subst (Attracts c.aim.result) (sym c.give.ensures.tables) (c.in_ok-attract.ensures.attracted subgame target set))

@@ -7,6 +7,8 @@ abbrev pub invariant-loop-place : goal.invariant-loop-place
 invariant-loop-place l = record {
   tables : l.self.tables ≡ l.initial.self.tables;
   winners : length l.self.winner.items ≡ length l.initial.self.winner.items;
-  given : (j : ℕ) → l.aim.begin ≤ j → j < l.place → slice_index l.self.winner.items (slice_index l.self.tables.trail j) ≡ l.aim.player;
-  kept : (v : ℕ) → (slice_index l.self.winner.items v ≡ slice_index l.initial.self.winner.items v) ⊎ StandsBetween l.self.tables l.aim.begin l.place v;
+  given : (j : ℕ) → l.begin ≤ j → j < l.place → slice_index l.self.winner.items (slice_index l.self.tables.trail j) ≡
+      l.player;
+  kept : (v : ℕ) → (slice_index l.self.winner.items v ≡ slice_index l.initial.self.winner.items v) ⊎ StandsBetween
+      l.self.tables l.begin l.place v;
 }

@@ -14,13 +14,15 @@ loop-place-preserved g c =
     let place = c.loop-place.place in
     let u = c.vertex_at-vertex.result in
     let at : get_or old.trail place 0 ≡ u = ap (λ xs. get_or xs place 0) (sym so_far.moved.trail) ∙ sym c.vertex_at-vertex.ensures in
-    let Kept : List ℕ → Type 0 = λ ws. IsKeptAt game new ws (mark_of c.args.level) c.args.frame.player
-    (1 - c.args.frame.player) u in
+    let Kept : List ℕ → Type 0 = λ ws. IsKeptAt game new ws (mark_of c.args.level) c.args.frame.now.player
+    (1 - c.args.frame.now.player) u in
     record {
       fits = c.keeps.ensures.fits;
       winner = c.keeps.ensures.winner ∙ so_far.winner;
-      moved = moved_more old mid new c.args.frame.turn c.args.frame.top place u (omega (arith, c.loop-place.auto.place)) (omega (arith, c.loop-place-test.true)) at so_far.moved c.keeps.ensures.moved;
-      kept = kept_more game old mid new c.args.self.now.winner.items (mark_of c.args.level) c.args.frame.player
-          (1 - c.args.frame.player) c.args.frame.turn place u at c.keeps.ensures.moved
+      moved = moved_more old mid new c.args.frame.now.turn c.args.frame.now.top place u
+          (omega (arith, c.loop-place.auto.place)) (omega (arith, c.loop-place-test.true)) at so_far.moved
+          c.keeps.ensures.moved;
+      kept = kept_more game old mid new c.args.self.now.winner.items (mark_of c.args.level) c.args.frame.now.player
+          (1 - c.args.frame.now.player) c.args.frame.now.turn place u at c.keeps.ensures.moved
           (subst Kept so_far.winner (c.if-not-keeps.ensures.kept (search rules))) so_far.kept;
     }

@@ -1,4 +1,5 @@
 use Rattle.std.proofs.Common.{◌≡◌, ℕ, ◌+◌, ◌<◌, List, length, get_or, subst, sym, ap, ◌∙◌, arith, rules}
+use Rattle.std.proofs.lemmas.Bool.{eqb-true, eq-eqb, false≢true}
 use Rattle.std.proofs.lemmas.List.{get_or_read}
 use Rattle.std.specs.Prelude.{slice_set}
 use Rattle.ps_attractor.specs.Steps.{with_placed}
@@ -7,7 +8,7 @@ use Rattle.ps_zielonka.specs.Levels.{mark_of}
 use Rattle.ps_zielonka.specs.Nests.{StandsBefore, IsReopened}
 use Rattle.ps_zielonka.proofs.Boards.{reopened_free, reopened_lost, reopened_end}
 use Rattle.ps_zielonka.proofs.board.Board.reopen.Goals as goal
-use Rattle.ps_zielonka.proofs.board.Board.reopen.Goals.{then-index-frame, else-index-frame+in_ok-place}
+use Rattle.ps_zielonka.proofs.board.Board.reopen.Goals.{then-eq, else-eq+in_ok-place}
 
 pub loop-place-preserved : goal.loop-place-preserved
 loop-place-preserved c =
@@ -18,7 +19,7 @@ loop-place-preserved c =
     let spare = c.take_off.new.self.spare.items in
     let so_far = c.loop-place.invariant in
     let place = c.loop-place.place in
-    let turn = c.args.frame.turn in
+    let turn = c.args.frame.now.turn in
     let u = c.index-vertex.result.now in
     let taken = c.in_ok-take_off.ensures.spare in
     let below : place < length spare = omega (arith, c.loop-place-test.true, c.len-place-end.ensures) in
@@ -29,23 +30,26 @@ loop-place-preserved c =
     let same_level : length mid.level ≡ length old.level = so_far.reopened.sizes ∙ ap length c.take_off.ensures.level in
     let within : u < length mid.level = omega (arith, at, taken.same place below) in
     let who : get_or winner u 0 ≡ c.index.result.now = ap (λ xs. get_or xs u 0) (sym so_far.winner) ∙ sym (get_or_read c.loop-place.self.winner.items u c.index.result.now (search rules) c.index.ensures 0) in
-    let Put : Board → Type 0 = λ b. IsReopened winner c.args.frame.player (mark_of c.args.level) turn
+    let Put : Board → Type 0 = λ b. IsReopened winner c.args.frame.now.player (mark_of c.args.level) turn
     (StandsBefore spare (place + 1)) cut b.tables in
-    elim c.if-index-frame.branch [
-      | then-index-frame w ↦ record {
+    elim c.if-eq.branch [
+      | then-eq w ↦ record {
         spare = ap (λ (b : Board). b.spare.items) w.self-is ∙ so_far.spare;
         winner = ap (λ (b : Board). b.winner.items) w.self-is ∙ so_far.winner;
-        reopened = subst Put (sym w.self-is) (reopened_free winner c.args.frame.player (mark_of c.args.level) turn spare
-            place u cut mid w.set_level.new.self at within (who ∙ w.if-index-frame.true)
+        reopened = subst Put (sym w.self-is) (reopened_free winner c.args.frame.now.player (mark_of c.args.level) turn
+            spare
+            place u cut mid w.set_level.new.self at within (who ∙ eqb-true _ _ (sym c.eq.ensures ∙ w.if-eq.true))
             (w.set_level.ensures.level ∙ ap (slice_set mid.level u) w.mark.ensures) w.set_level.ensures.moves
             w.set_level.ensures.trail so_far.reopened);
       }
-      | else-index-frame+in_ok-place w ↦ record {
+      | else-eq+in_ok-place w ↦ record {
         spare = ap (λ (b : Board). b.spare.items) w.self-is ∙ so_far.spare;
         winner = ap (λ (b : Board). b.winner.items) w.self-is ∙ so_far.winner;
-        reopened = subst Put (sym w.self-is) (reopened_lost winner c.args.frame.player (mark_of c.args.level) turn spare
-            place u cut mid w.place.new.self at within (λ won. w.if-index-frame.false (sym who ∙ won))
-            (w.in_ok-place.ensures.ok ∙ ap (with_placed mid u) w.mark-else-index-frame.ensures) so_far.reopened);
+        reopened = subst Put (sym w.self-is) (reopened_lost winner c.args.frame.now.player (mark_of c.args.level) turn
+            spare
+            place u cut mid w.place.new.self at within (λ won. false≢true
+            (sym w.if-eq.false ∙ c.eq.ensures ∙ eq-eqb _ _ (sym who ∙ won)))
+            (w.in_ok-place.ensures.ok ∙ ap (with_placed mid u) w.mark-else-eq.ensures) so_far.reopened);
       }
     ]
 
@@ -53,9 +57,10 @@ pub returns-clause-reopened : goal.returns-clause-reopened
 returns-clause-reopened c =
     let spare = c.take_off.new.self.spare.items in
     let at_end : c.loop-place.place ≡ length spare = omega (arith, c.loop-place-test.false, c.len-place-end.ensures, c.loop-place.auto.place-end) in
-    let Reopened : List ℕ → Type 0 = λ ws. IsReopened ws c.args.frame.player (mark_of c.args.level) c.args.frame.turn
+    let Reopened : List ℕ → Type 0 = λ ws. IsReopened ws c.args.frame.now.player (mark_of c.args.level)
+    c.args.frame.now.turn
     (StandsBefore spare c.loop-place.place) c.take_off.new.self.tables c.loop-place.self.tables in
-    reopened_end c.args.self.now.winner.items c.args.frame.player (mark_of c.args.level) c.args.frame.turn
+    reopened_end c.args.self.now.winner.items c.args.frame.now.player (mark_of c.args.level) c.args.frame.now.turn
     c.loop-place.place spare c.args.self.now.tables c.take_off.new.self.tables c.loop-place.self.tables
     c.requires.turn c.take_off.ensures.level c.take_off.ensures.moves c.in_ok-take_off.ensures.trail
     c.in_ok-take_off.ensures.spare at_end (subst Reopened c.take_off.ensures.winner c.loop-place.invariant.reopened)

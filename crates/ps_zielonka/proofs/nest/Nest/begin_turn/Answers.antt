@@ -1,9 +1,11 @@
-use Rattle.std.proofs.Common.{◌≡◌, ◌≢◌, ◌+◌, ◌*◌, ◌%◌, ◌<◌, ℕ, List, [], ◌∷◌, ◌++◌, Bool, length, get_or, refl, subst, sym, ap, ◌∙◌, arith}
+use Rattle.std.proofs.Common.{◌≡◌, ◌≢◌, ◌+◌, ◌%◌, ◌<◌, ℕ, List, [], ◌∷◌, ◌++◌, Bool, length, get_or, refl, subst, sym, ap, ◌∙◌, arith}
 use Rattle.std.proofs.lemmas.List.{get_or_default, length_push}
 use Rattle.ps_game.specs.Games.{priority_of}
 use Rattle.ps_attractor.specs.declared.aim.Aim.{Aim}
 use Rattle.ps_zielonka.specs.declared.frame.Frame.{Frame}
 use Rattle.ps_zielonka.specs.Nests.{IsNest, ArePlaced, steps_left}
+use Rattle.ps_zielonka.specs.Levels.{aim_of}
+use Rattle.ps_zielonka.specs.declared.level.Level.TheVariants.{Attracted}
 use Rattle.ps_zielonka.proofs.Begins.{Begun, frame_of, begun_nest, begun_falls}
 use Rattle.ps_zielonka.proofs.Deep.{depth_begun}
 use Rattle.ps_zielonka.proofs.nest.Nest.begin_turn.Goals as goal
@@ -11,13 +13,11 @@ use Rattle.ps_zielonka.proofs.nest.Nest.begin_turn.Goals as goal
 pub returns : goal.returns
 returns g c =
     let game = g.A.Arena.game c.args.arena.now in
-    let aim : Aim = record {
-      player = c.priority.result % 2;
+    let aim : Aim = aim_of (record {
+      player = c.of_priority-player.result;
       begin = c.placed-turn.result;
-      mark = c.mark.result;
-      free = c.mark-2.result;
-    } in
-    let mark : c.mark.result ≡ 2 * c.len-depth.result + 2 = c.mark.ensures in
+      level = Attracted c.len-depth.result;
+    }) in
     let order : List ℕ = c.args.self.now.order.items in
     let frames : List Frame = c.args.self.now.frames.items in
     let Placed : List ℕ → Type 0 = λ order. ArePlaced game aim c.args.self.now.board.tables c.place_tops.new.tables order c.args.cursor c.in_ok-behind.behind in
@@ -38,10 +38,10 @@ returns g c =
       winner_now = c.attract.new.self.winner.items;
       sound = c.requires.stack.sound;
       searches = c.requires.stack.searches c.requires.searches;
-      player = ap (λ n. n % 2) (c.priority.ensures ∙ ap (priority_of game) first);
+      player = c.of_priority-player.ensures ∙ ap (λ n. n % 2) (c.priority.ensures ∙ ap (priority_of game) first);
       begin = c.placed-turn.ensures;
       mark = omega (arith, c.len-depth.ensures);
-      free = c.mark-2.ensures;
+      free = refl;
       within = c.requires.within;
       unplaced = c.requires.unplaced;
       first = c.requires.first;

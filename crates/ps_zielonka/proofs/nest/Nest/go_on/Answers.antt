@@ -1,18 +1,11 @@
-use Rattle.std.proofs.Common.{◌≡◌, ℕ, ◌+◌, ◌-◌, ◌*◌, ◌%◌, ◌<◌, List, true, length, refl, subst, ap, ◌∙◌, arith}
+use Rattle.std.proofs.Common.{◌≡◌, ℕ, ◌+◌, ◌*◌, List, true, length, refl, subst, ap}
 use Rattle.ps_attractor.specs.declared.aim.Aim.{Aim}
 use Rattle.ps_attractor.specs.Tables.{FitsGame}
-use Rattle.ps_zielonka.specs.declared.level.TheConstants.{UNPLACED}
-use Rattle.ps_zielonka.specs.Levels.{mark_of}
+use Rattle.ps_zielonka.specs.Levels.{mark_of, aim_of}
 use Rattle.ps_zielonka.specs.Nests.{IsGiven}
 use Rattle.ps_zielonka.proofs.Climbs.{on_aim}
-use Rattle.ps_zielonka.proofs.Frames.{Reached, going_on, fits_reopened, last_waits, last_low, on_nest, on_falls}
+use Rattle.ps_zielonka.proofs.Frames.{Reached, going_on, fits_reopened, last_waits, on_nest, on_falls}
 use Rattle.ps_zielonka.proofs.nest.Nest.go_on.Goals as goal
-
-pub overflow_sub-aim : goal.overflow_sub-aim
-overflow_sub-aim g c =
-    let turned = (last_waits (g.A.Arena.game c.args.arena.now) c.args.self.now.board.tables c.args.self.now.board.winner.items c.args.self.now.order.items c.args.self.now.frames.items c.args.frame c.args.self.now.cursor true c.requires.nest).prepared in
-    let parity : turned.greatest % 2 ≡ c.args.frame.player = turned.parity in
-    omega arith
 
 pub attract-requires-clause-fits : goal.attract-requires-clause-fits
 attract-requires-clause-fits g c =
@@ -21,14 +14,6 @@ attract-requires-clause-fits g c =
     fits_reopened game c.args.self.now.board.winner.items c.args.frame.player (mark_of c.args.level) c.args.frame.turn
     c.args.self.now.board.tables c.reopen.new.self.tables waits.segment.within c.requires.nest.sound.fits
     c.in_ok-reopen.ensures.reopened
-
-pub attract-requires-clause-differ : goal.attract-requires-clause-differ
-attract-requires-clause-differ g c same =
-    let low : 2 * length c.args.self.now.frames.items + 2 < UNPLACED = last_low (g.A.Arena.game c.args.arena.now) c.args.self.now.board.tables c.args.self.now.board.winner.items c.args.self.now.order.items c.args.self.now.frames.items c.args.frame c.args.self.now.cursor true c.requires.nest in
-    let mark : c.mark.result ≡ 2 * length c.args.self.now.frames.items + 1 =
-    c.mark.ensures ∙ ap mark_of c.requires.level in
-    let free : c.mark-2.result ≡ UNPLACED = c.mark-2.ensures in
-    omega arith
 
 pub returns : goal.returns
 returns g c =
@@ -43,17 +28,10 @@ returns g c =
     let winner = c.args.self.now.board.winner.items in
     let winner_now = c.attract.new.self.winner.items in
     let level : ℕ = mark_of c.args.level in
-    let aim : Aim = record {
-      player = 1 - frame.player;
-      begin = frame.turn;
-      mark = c.mark.result;
-      free = c.mark-2.result;
-    } in
+    let aim : Aim = aim_of (record { player = c.opponent.result; begin = frame.turn; level = c.args.level }) in
     let is_level : level ≡ 2 * length frames + 1 = ap mark_of c.requires.level in
-    let is_mark : c.mark.result ≡ 2 * length frames + 1 = c.mark.ensures ∙ is_level in
-    let is_free : c.mark-2.result ≡ UNPLACED = c.mark-2.ensures in
-    let is_aim : aim ≡ on_aim (2 * length frames) frame = cc (is_mark, is_free) in
-    let Given : List ℕ → Type 0 = λ won. IsGiven aim new won winner_now in
+    let is_aim : aim ≡ on_aim (2 * length frames) frame = cc (c.opponent.ensures, is_level) in
+    let Given : List ℕ → Type 0 = λ won. IsGiven aim.player aim.begin new won winner_now in
     let waits = last_waits game old winner order frames frame cursor true c.requires.nest in
     let fits_mid : FitsGame game mid = fits_reopened game winner frame.player level frame.turn old mid
     waits.segment.within c.requires.nest.sound.fits c.in_ok-reopen.ensures.reopened in

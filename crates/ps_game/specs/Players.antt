@@ -1,0 +1,23 @@
+-- The players as numbers: 0 wins the even loops, 1 the odd ones.
+use Rattle.std.specs.Prelude.{◌≡◌, ℕ, zero, suc, refl}
+use Rattle.std.proofs.Common.{ap}
+use Rattle.ps_game.specs.declared.player.Parity.{Parity}
+use Rattle.ps_game.specs.declared.player.Parity.TheVariants.{Even, Odd}
+use Rattle.ps_game.specs.declared.player.Player.TheInside.{Inside}
+
+abbrev pub number_of : Parity → ℕ
+number_of Even = 0
+number_of Odd = 1
+
+abbrev pub parity_of : ℕ → Parity
+parity_of zero = Even
+parity_of (suc n) = Odd
+
+parity_of-number : (parity : Parity) → parity_of (number_of parity) ≡ parity
+parity_of-number Even = refl
+parity_of-number Odd = refl
+
+-- the number tells which player it is
+pub player_of-number : (player : Inside) → (record { wins = parity_of (number_of player.wins) }) ≡ player
+player_of-number player = ap (λ (parity : Parity). let is : Inside = record { wins = parity } in is)
+    (parity_of-number player.wins)
