@@ -4,3 +4,6 @@ pub mod LetterLemmas
 pub mod OverLemmas
 pub mod EncodeLemmas
 pub mod WiredLemmas
+mod OneCircuit
+mod SameWires
+pub mod WireLemmas

@@ -4,7 +4,8 @@
 --     memory_of b latches      the memory whose code the latches hold
 --     Encodes b c      the circuit begins at memory 0, and its step is the machine's
 --     IsTidy c      how its variables are numbered, and which gates it has
-use Rattle.std.specs.Prelude.{◌≡◌, ◌≢◌, ℕ, ◌+◌, ◌*◌, ◌^◌, ◌<◌, ◌≤◌, Bool, false, cond, List, [], ◌∷◌, length, map, Option, Some, None, All, AllPairs, nat_lt, if◌then◌else◌, slice_index_or}
+use Rattle.std.specs.Prelude.{◌≡◌, ◌≢◌, ℕ, ◌+◌, ◌*◌, ◌^◌, ◌<◌, ◌≤◌, Bool, false, cond, List, [], ◌∷◌, length, map}
+use Rattle.std.specs.Prelude.{Option, Some, None, All, AllPairs, nat_lt, if◌then◌else◌, slice_index_or}
 use Rattle.std.specs.List.{range_with_len}
 use Rattle.ps_label.specs.Truth.{is_in}
 use Rattle.ps_circuit.specs.declared.parts.Gate.{Gate}
@@ -52,7 +53,8 @@ pub record Encodes (b : Behaviour) (c : CircuitData) : Type 0 where
   pub room : b.memories ≤ 2 ^ length c.latches
   -- no latch more than needed
   pub needed : (n : ℕ) → b.memories ≤ 2 ^ n → length c.latches ≤ n
-  pub steps : (latches inputs outputs next : List Bool) → Steps c latches inputs outputs next → StepsAs b latches inputs outputs next
+  pub steps : (latches inputs outputs next : List Bool) → Steps c latches inputs outputs next →
+      StepsAs b latches inputs outputs next
 
 -- two literals of different variables, none constant, the greater first and below the gate's own
 pub record IsTidyGate (g : Gate) : Type 0 where
@@ -61,7 +63,8 @@ pub record IsTidyGate (g : Gate) : Type 0 where
   pub different : variable g.second ≢ variable g.first
   pub not_constant : 0 < variable g.second
 
--- variables 1 to the greatest are the inputs, the latches and the gates, in this order; no two gates have the same two literals
+-- variables 1 to the greatest are the inputs, the latches and the gates, in this order; no two gates have the same two
+-- literals
 pub record IsTidy (c : CircuitData) : Type 0 where
   pub numbered : definitions c ≡ map (λ v. 2 * v) (range_with_len 1 c.most)
   pub gates : All IsTidyGate c.gates

@@ -1,9 +1,13 @@
--- The bits of a machine's step as functions of latches and inputs, and the literals that stand for them. (Of private functions.)
+-- The bits of a machine's step as functions of latches and inputs, and the literals that stand for them. (Of private
+-- functions.)
 --     Wanted, wanted_bit w row      one bit of a row: of the next memory, or of the letter
 --     HasInputs m v x      the letter has the bits of the inputs' variables, and no other
---     IsLiteralOf m w d node literal      the literal has, at each input letter, the bit of the row that the node leads to
---     IsLiteralAt m w d latches code literal      the same of the memory whose code is `code` with the bits of the first latches
---     node_made m w node d, code_wanted m w latches code d      the literal of the wanted bit as it is made, of a node and of such memories
+--     IsLiteralOf m w d node literal      the literal has, at each input letter, the bit of the row that the node leads
+--               to
+--     IsLiteralAt m w d latches code literal      the same of the memory whose code is `code` with the bits of the
+--               first latches
+--     node_made m w node d, code_wanted m w latches code d      the literal of the wanted bit as it is made, of a node
+--               and of such memories
 --     bits_wired m latches ws d      the literals of these bits, one after another
 use Rattle.std.specs.Prelude.{◌≡◌, ℕ, ◌+◌, Bool, false, List, length, map, slice_get, Option, Some}
 use Rattle.std.specs.List.{range_with_len}
@@ -54,17 +58,21 @@ latches_before m latches v = letter_of latches (λ j. v (length m.inputs + 1 + j
 
 pub record IsLiteralAt (m : MachineData) (wanted : Wanted) (d : Drafted) (latches code literal : ℕ) : Type 0 where
   pub held : IsHeld d literal
-  pub is : (v : ℕ → Bool) → Meets d v → (x : ℕ) → HasInputs m v x → bit v literal ≡ wanted_bit wanted (step_of m (memory_at (behaviour m) (code + latches_before m latches v)) x)
+  pub is : (v : ℕ → Bool) → Meets d v → (x : ℕ) → HasInputs m v x →
+      bit v literal ≡ wanted_bit wanted (step_of m (memory_at (behaviour m) (code + latches_before m latches v)) x)
 
 -- ## As they are made
 
 -- the bit that is wanted of the row that the node leads to, at each input letter
 unfoldable pub node_made : MachineData → Wanted → ℕ → Drafted → Made
-node_made m w node d = over_variables (range_with_len 1 (length m.inputs)) (λ bits. wanted_bit w (row_by m node (letter_over m.inputs bits))) d
+node_made m w node d =
+    over_variables (range_with_len 1 (length m.inputs)) (λ bits.
+    wanted_bit w (row_by m node (letter_over m.inputs bits))) d
 
 -- each node's literal that is known is there
 abbrev pub KnowsMade : MachineData → Wanted → Drafted → (ℕ → Option ℕ) → Type 0
-KnowsMade m w d known = (node literal : ℕ) → known node ≡ Some literal → node_made m w node d ≡ record { draft = d; literal = literal }
+KnowsMade m w d known =
+    (node literal : ℕ) → known node ≡ Some literal → node_made m w node d ≡ record { draft = d; literal = literal }
 
 -- the wanted bit of a step
 abbrev pub bit_wanted : Behaviour → Wanted → StepBit

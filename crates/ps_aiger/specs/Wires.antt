@@ -5,7 +5,8 @@
 --     next_wires, output_wires b latches      the literals of all: the next values of the latches, and then the outputs
 --     IsWired b c      the circuit's literals and gates are these, in their order
 --     IsOutOfLiterals b      where no circuit is made: the gates need too many variables
-use Rattle.std.specs.Prelude.{◌≡◌, ℕ, zero, suc, ◌+◌, ◌*◌, ◌^◌, ◌<◌, ◌≤◌, Bool, true, false, if◌then◌else◌, List, [], ◌∷◌, length, map, slice_get, Some}
+use Rattle.std.specs.Prelude.{◌≡◌, ℕ, zero, suc, ◌+◌, ◌*◌, ◌^◌, ◌<◌, ◌≤◌, Bool, true, false, if◌then◌else◌, List, []}
+use Rattle.std.specs.Prelude.{◌∷◌, length, map, slice_get, Some}
 use Rattle.std.specs.List.{range_with_len}
 use Rattle.ps_label.specs.Truth.{is_in}
 use Rattle.ps_circuit.specs.declared.builder.Sides.{Sides}
@@ -18,8 +19,8 @@ use Rattle.ps_aiger.specs.Encoded.{letter_over, memory_at}
 
 -- ## Functions
 
--- A function of the bits of these variables: what it is where the first variable is true, then where it is false, then the
--- choice. Where it does not depend on that variable the two are one literal, and the choice needs no gate.
+-- A function of the bits of these variables: what it is where the first variable is true, then where it is false, then
+-- the choice. Where it does not depend on that variable the two are one literal, and the choice needs no gate.
 unfoldable pub over_variables : List ℕ → (List Bool → Bool) → Drafted → Made
 over_variables [] f d = record { draft = d; literal = if f [] then 1 else 0 }
 over_variables (v ∷ vs) f d =
@@ -40,10 +41,11 @@ next_bit b j memory x = is_in j (b.next memory x)
 abbrev pub output_bit : Behaviour → ℕ → StepBit
 output_bit b p memory x = is_in p (b.plays memory x)
 
--- That bit at each memory whose code begins so, where that many latches are free: the last of them goes first. At one memory it
--- is a function of the inputs.
+-- That bit at each memory whose code begins so, where that many latches are free: the last of them goes first. At one
+-- memory it is a function of the inputs.
 unfoldable pub code_made : Behaviour → StepBit → ℕ → ℕ → Drafted → Made
-code_made b f zero code d = over_variables (range_with_len 1 (length b.inputs)) (λ bits. f (memory_at b code) (letter_over b.inputs bits)) d
+code_made b f zero code d =
+    over_variables (range_with_len 1 (length b.inputs)) (λ bits. f (memory_at b code) (letter_over b.inputs bits)) d
 code_made b f (suc latch) code d =
     let high = code_made b f latch (code + 2 ^ latch) d in
     let low = code_made b f latch code high.draft in
@@ -64,7 +66,9 @@ wired b latches (f ∷ fs) d =
     record { draft = rest.draft; literals = first.literal ∷ rest.literals }
 
 abbrev pub next_wires : Behaviour → ℕ → Wired
-next_wires b latches = wired b latches (map (next_bit b) (range_with_len 0 latches)) (record { given = length b.inputs + latches; gates = [] })
+next_wires b latches =
+    wired b latches (map (next_bit b) (range_with_len 0 latches))
+    (record { given = length b.inputs + latches; gates = [] })
 
 abbrev pub output_wires : Behaviour → ℕ → Wired
 output_wires b latches = wired b latches (map (output_bit b) b.outputs) (next_wires b latches).draft
@@ -72,7 +76,8 @@ output_wires b latches = wired b latches (map (output_bit b) b.outputs) (next_wi
 -- the gates with these sides, from that variable on
 pub record AreGates (from : ℕ) (sides : List Sides) (gates : List Gate) : Type 0 where
   pub many : length gates ≡ length sides
-  pub each : (k : ℕ) (s : Sides) → slice_get sides k ≡ Some s → slice_get gates k ≡ Some (record { literal = 2 * (from + k); first = s.first; second = s.second })
+  pub each : (k : ℕ) (s : Sides) → slice_get sides k ≡ Some s →
+      slice_get gates k ≡ Some (record { literal = 2 * (from + k); first = s.first; second = s.second })
 
 -- the next values of the latches, the outputs and the gates are those that are made for as many latches
 pub record IsWiredBy (b : Behaviour) (c : CircuitData) (latches : ℕ) : Type 0 where

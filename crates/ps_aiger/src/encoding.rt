@@ -1,6 +1,7 @@
 //! The circuit of a machine.
 
-ghost use Rattle.std.specs.Prelude.{◌≡◌, ◌≢◌, ℕ, ◌+◌, ◌*◌, ◌^◌, ◌<◌, ◌≤◌, All, IfOk, IsTrue, Some, None, [], length, map, replicate, slice_get, slice_index};
+ghost use Rattle.std.specs.Prelude.{◌≡◌, ◌≢◌, ℕ, ◌+◌, ◌*◌, ◌^◌, ◌<◌, ◌≤◌, All, IfOk, IsTrue, Some, None, [], length};
+ghost use Rattle.std.specs.Prelude.{map, replicate, slice_get, slice_index};
 ghost use Rattle.std.specs.List.{range_with_len};
 ghost use Rattle.ps_machine.specs.Behaviours.{IsMachine};
 ghost use Rattle.ps_machine.specs.Machines.{behaviour};
@@ -52,9 +53,12 @@ fn next_literals(
     requires small { length machine.now.inputs ≤ 64 }
     ensures extends { Extends builder.old builder.new }
     ensures many { IfOk result (λ next. length next.items ≡ latches) }
-    ensures each { IfOk result (λ next. (j : ℕ) → j < latches → IsLiteralAt machine.now (Next j) builder.new latches 0 (slice_index next.items j)) }
-    ensures made { IfOk result (λ next. next_wires (behaviour machine.now) latches ≡ record { draft = builder.new; literals = next.items }) }
-    ensures too_large { result ≡ Err EncodeFault.CircuitTooLarge → 2147483647 < variables_of (next_wires (behaviour machine.now) latches).draft }
+    ensures each { IfOk result (λ next. (j : ℕ) → j < latches →
+        IsLiteralAt machine.now (Next j) builder.new latches 0 (slice_index next.items j)) }
+    ensures made { IfOk result (λ next. next_wires (behaviour machine.now) latches ≡ record
+        { draft = builder.new; literals = next.items }) }
+    ensures too_large { result ≡ Err EncodeFault.CircuitTooLarge →
+        2147483647 < variables_of (next_wires (behaviour machine.now) latches).draft }
 {
     let next_bits = next_bits(alloc, latches)?;
     literals_of(alloc, builder, machine, latches, &next_bits)
@@ -72,9 +76,12 @@ fn output_literals(
     requires behind { builder.old ≡ (next_wires (behaviour machine.now) latches).draft }
     requires machine { IsMachine (behaviour machine.now) }
     ensures extends { Extends builder.old builder.new }
-    ensures literals { IfOk result (λ outputs. AreLiterals machine.now builder.new latches (map Output machine.now.outputs) outputs.items) }
-    ensures made { IfOk result (λ outputs. output_wires (behaviour machine.now) latches ≡ record { draft = builder.new; literals = outputs.items }) }
-    ensures too_large { result ≡ Err EncodeFault.CircuitTooLarge → 2147483647 < variables_of (output_wires (behaviour machine.now) latches).draft }
+    ensures literals { IfOk result (λ outputs. AreLiterals machine.now builder.new latches
+        (map Output machine.now.outputs) outputs.items) }
+    ensures made { IfOk result (λ outputs. output_wires (behaviour machine.now) latches ≡ record
+        { draft = builder.new; literals = outputs.items }) }
+    ensures too_large { result ≡ Err EncodeFault.CircuitTooLarge →
+        2147483647 < variables_of (output_wires (behaviour machine.now) latches).draft }
 {
     let output_bits = output_bits(alloc, machine)?;
     literals_of(alloc, builder, machine, latches, &output_bits)
@@ -94,10 +101,12 @@ fn circuit_of(
     requires enough { length machine.now.nodes ≤ 2 ^ latches }
     requires least { (n : ℕ) → length machine.now.nodes ≤ 2 ^ n → latches ≤ n }
     requires many { length next.now ≡ latches }
-    requires next { (j : ℕ) → j < latches → IsLiteralAt machine.now (Next j) builder.now latches 0 (slice_index next.now j) }
+    requires next { (j : ℕ) → j < latches → IsLiteralAt machine.now (Next j) builder.now latches 0
+        (slice_index next.now j) }
     requires outputs { AreLiterals machine.now builder.now latches (map Output machine.now.outputs) outputs.items }
     requires next_wired { next.now ≡ (next_wires (behaviour machine.now) latches).literals }
-    requires output_wired { output_wires (behaviour machine.now) latches ≡ record { draft = builder.now; literals = outputs.items } }
+    requires output_wired { output_wires (behaviour machine.now) latches ≡ record
+        { draft = builder.now; literals = outputs.items } }
     ensures encodes { IfOk result (λ circuit. Encodes (behaviour machine.now) circuit) }
     ensures tidy { IfOk result (λ circuit. IsTidy circuit) }
     ensures wired { IfOk result (λ circuit. IsWired (behaviour machine.now) circuit) }
@@ -158,8 +167,10 @@ fn literals_of(
     requires small { length machine.now.inputs ≤ 64 }
     ensures extends { Extends builder.old builder.new }
     ensures literals { IfOk result (λ literals. AreLiterals machine.now builder.new latches wanted.now literals.items) }
-    ensures made { IfOk result (λ literals. bits_wired machine.now latches wanted.now builder.old ≡ record { draft = builder.new; literals = literals.items }) }
-    ensures too_large { result ≡ Err EncodeFault.CircuitTooLarge → 2147483647 < variables_of (bits_wired machine.now latches wanted.now builder.old).draft }
+    ensures made { IfOk result (λ literals. bits_wired machine.now latches wanted.now builder.old ≡ record
+        { draft = builder.new; literals = literals.items }) }
+    ensures too_large { result ≡ Err EncodeFault.CircuitTooLarge →
+        2147483647 < variables_of (bits_wired machine.now latches wanted.now builder.old).draft }
 {
     let mut literals = Vec::new(alloc);
     for bit in wanted {

@@ -1,13 +1,15 @@
 //! The bits of a machine's step, as literals over inputs and latches.
 
-ghost use Rattle.std.specs.Prelude.{◌≡◌, ℕ, ◌+◌, ◌^◌, ◌<◌, ◌≤◌, IfOk, IfSome, IfNone, false, length, nat_eq, slice_get, slice_index, if◌then◌else◌};
+ghost use Rattle.std.specs.Prelude.{◌≡◌, ℕ, ◌+◌, ◌^◌, ◌<◌, ◌≤◌, IfOk, IfSome, IfNone, false, length, nat_eq, slice_get};
+ghost use Rattle.std.specs.Prelude.{slice_index, if◌then◌else◌};
 ghost use Rattle.ps_hoa.specs.Files.{is_among};
 ghost use Rattle.indexmap.specs.IndexMap.{get};
 ghost use Rattle.ps_diagram.specs.Table.{IsNode};
 ghost use Rattle.ps_machine.specs.Machines.{behaviour, row_of};
 ghost use Rattle.ps_circuit.specs.Building.{Extends, variables_of};
 ghost use Rattle.ps_aiger.specs.Encoded.{memory_at};
-ghost use Rattle.ps_aiger.specs.Functions.{IsLiteralAt, IsLiteralOf, KnowsLiterals, KnowsMade, code_wanted, node_made, wanted_bit, wanted_place};
+ghost use Rattle.ps_aiger.specs.Functions.{IsLiteralAt, IsLiteralOf, KnowsLiterals, KnowsMade, code_wanted, node_made};
+ghost use Rattle.ps_aiger.specs.Functions.{wanted_bit, wanted_place};
 
 use indexmap::IndexMap;
 use ps_circuit::{Builder, EncodeFault, Literal};
@@ -39,8 +41,10 @@ pub(crate) fn literal_of(
     requires small { length machine.now.inputs ≤ 64 }
     ensures extends { Extends builder.old builder.new }
     ensures literal { IfOk result (λ literal. IsLiteralAt machine.now wanted builder.new latches 0 literal) }
-    ensures made { IfOk result (λ literal. code_wanted machine.now wanted latches 0 builder.old ≡ record { draft = builder.new; literal = literal }) }
-    ensures too_large { result ≡ Err EncodeFault.CircuitTooLarge → 2147483647 < variables_of (code_wanted machine.now wanted latches 0 builder.old).draft }
+    ensures made { IfOk result (λ literal. code_wanted machine.now wanted latches 0 builder.old ≡ record
+        { draft = builder.new; literal = literal }) }
+    ensures too_large { result ≡ Err EncodeFault.CircuitTooLarge →
+        2147483647 < variables_of (code_wanted machine.now wanted latches 0 builder.old).draft }
 {
     let mut known = IndexMap::new(alloc);
     over_latches(builder, machine, wanted, &mut known, latches, 0)
@@ -66,8 +70,10 @@ fn over_latches(
     ensures extends { Extends builder.old builder.new }
     ensures known { KnowsLiterals machine.now wanted builder.new (get nat_eq known.new) }
     ensures literal { IfOk result (λ literal. IsLiteralAt machine.now wanted builder.new latches code literal) }
-    ensures made { IfOk result (λ literal. code_wanted machine.now wanted latches code builder.old ≡ record { draft = builder.new; literal = literal }) }
-    ensures too_large { result ≡ Err EncodeFault.CircuitTooLarge → 2147483647 < variables_of (code_wanted machine.now wanted latches code builder.old).draft }
+    ensures made { IfOk result (λ literal. code_wanted machine.now wanted latches code builder.old ≡ record
+        { draft = builder.new; literal = literal }) }
+    ensures too_large { result ≡ Err EncodeFault.CircuitTooLarge →
+        2147483647 < variables_of (code_wanted machine.now wanted latches code builder.old).draft }
     ensures known_made { IfOk result (λ literal. KnowsMade machine.now wanted builder.new (get nat_eq known.new)) }
 {
     if latches == 0 {
@@ -109,8 +115,10 @@ fn over_inputs(
     ensures extends { Extends builder.old builder.new }
     ensures known { KnowsLiterals machine.now wanted builder.new (get nat_eq known.new) }
     ensures literal { IfOk result (λ literal. IsLiteralOf machine.now wanted builder.new node literal) }
-    ensures made { IfOk result (λ literal. node_made machine.now wanted node builder.old ≡ record { draft = builder.new; literal = literal }) }
-    ensures too_large { result ≡ Err EncodeFault.CircuitTooLarge → 2147483647 < variables_of (node_made machine.now wanted node builder.old).draft }
+    ensures made { IfOk result (λ literal. node_made machine.now wanted node builder.old ≡ record
+        { draft = builder.new; literal = literal }) }
+    ensures too_large { result ≡ Err EncodeFault.CircuitTooLarge →
+        2147483647 < variables_of (node_made machine.now wanted node builder.old).draft }
     ensures known_made { IfOk result (λ literal. KnowsMade machine.now wanted builder.new (get nat_eq known.new)) }
 {
     match machine.store().view(node) {

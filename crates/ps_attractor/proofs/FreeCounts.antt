@@ -1,5 +1,6 @@
 -- What one look does to the number of free vertices and to the trail.
-use Rattle.std.proofs.Common.{◌≡◌, ◌≢◌, ℕ, ◌+◌, ◌<◌, ◌≤◌, Bool, true, false, cond, eqb, List, [], ◌∷◌, ◌++◌, length, get_or, refl, subst, sym, ap, arith}
+use Rattle.std.proofs.Common.{◌≡◌, ◌≢◌, ℕ, ◌+◌, ◌<◌, ◌≤◌, Bool, true, false, cond, eqb, List, [], ◌∷◌, ◌++◌, length}
+use Rattle.std.proofs.Common.{get_or, refl, subst, sym, ap, arith}
 use Rattle.std.specs.Prelude.{slice_set}
 use Rattle.std.specs.List.{sum_by}
 use Rattle.std.proofs.lemmas.Bool.{eq-eqb, eqb-true}
@@ -30,12 +31,21 @@ weight_other free level differ = by_test (eqb level free) refl
     by_test true same = absurd (differ (eqb-true level free same))
     by_test false other = refl
 
-keeps_placed : (aim : Aim) (old : TablesData) (moves : List ℕ) (u : ℕ) → aim.mark ≢ aim.free → u < length old.level → level_of old u ≡ aim.free → Keeps aim old (record { level = slice_set old.level u aim.mark; moves = moves; trail = old.trail ++ u ∷ [] })
+keeps_placed : (aim : Aim) (old : TablesData) (moves : List ℕ) (u : ℕ) → aim.mark ≢ aim.free → u < length old.level →
+    level_of old u ≡ aim.free → Keeps aim old (record {
+      level = slice_set old.level u aim.mark;
+      moves = moves;
+      trail = old.trail ++ u ∷ [];
+    })
 keeps_placed aim old moves u marks within is_free =
-    let one : weight aim.free (get_or old.level u 0) ≡ 1 = ap (λ b. cond b 1 0) (eq-eqb (get_or old.level u 0) aim.free is_free) in
+    let one : weight aim.free (get_or old.level u 0) ≡ 1 =
+    ap (λ b. cond b 1 0) (eq-eqb (get_or old.level u 0) aim.free is_free) in
     let none : weight aim.free aim.mark ≡ 0 = weight_other aim.free aim.mark marks in
-    let sums : sum_by (weight aim.free) (slice_set old.level u aim.mark) + weight aim.free (get_or old.level u 0) ≡ sum_by (weight aim.free) old.level + weight aim.free aim.mark = sum_by-set (weight aim.free) old.level u aim.mark 0 within in
-    let fewer : sum_by (weight aim.free) (slice_set old.level u aim.mark) + 1 ≡ sum_by (weight aim.free) old.level = omega arith in
+    let sums : sum_by (weight aim.free) (slice_set old.level u aim.mark) + weight aim.free (get_or old.level u 0) ≡
+    sum_by (weight aim.free) old.level + weight aim.free aim.mark =
+    sum_by-set (weight aim.free) old.level u aim.mark 0 within in
+    let fewer : sum_by (weight aim.free) (slice_set old.level u aim.mark) + 1 ≡ sum_by (weight aim.free) old.level =
+    omega arith in
     let size : length (old.trail ++ u ∷ []) ≡ length old.trail + 1 = length_push old.trail u in
     record {
       frees = omega (arith, fewer, size);
@@ -43,11 +53,16 @@ keeps_placed aim old moves u marks within is_free =
       front = λ j below. get_or_append_left old.trail (u ∷ []) 0 j below;
     }
 
-pub keeps_look : (game : ParityGame) (aim : Aim) (old new : TablesData) (u w : ℕ) → aim.mark ≢ aim.free → u < length old.level → Look game aim old new u w → Keeps aim old new
+pub keeps_look : (game : ParityGame) (aim : Aim) (old new : TablesData) (u w : ℕ) → aim.mark ≢ aim.free →
+    u < length old.level → Look game aim old new u w → Keeps aim old new
 keeps_look game aim old new u w marks within look = by_look look
   where
     by_look : Look game aim old new u w → Keeps aim old new
-    by_look (NotFree not_free same) = let Kept : TablesData → Type 0 = λ t. Keeps aim old t in subst Kept (sym same) (keeps_same aim old)
-    by_look (Escapes others has_free same) = let Kept : TablesData → Type 0 = λ t. Keeps aim old t in subst Kept (sym same) (keeps_same aim old)
-    by_look (Own is_free owns same) = let Kept : TablesData → Type 0 = λ t. Keeps aim old t in subst Kept (sym same) (keeps_placed aim old (slice_set old.moves u w) u marks within is_free)
-    by_look (Others is_free others none same) = let Kept : TablesData → Type 0 = λ t. Keeps aim old t in subst Kept (sym same) (keeps_placed aim old old.moves u marks within is_free)
+    by_look (NotFree not_free same) =
+        let Kept : TablesData → Type 0 = λ t. Keeps aim old t in subst Kept (sym same) (keeps_same aim old)
+    by_look (Escapes others has_free same) =
+        let Kept : TablesData → Type 0 = λ t. Keeps aim old t in subst Kept (sym same) (keeps_same aim old)
+    by_look (Own is_free owns same) = let Kept : TablesData → Type 0 = λ t. Keeps aim old t in
+        subst Kept (sym same) (keeps_placed aim old (slice_set old.moves u w) u marks within is_free)
+    by_look (Others is_free others none same) = let Kept : TablesData → Type 0 = λ t. Keeps aim old t in
+        subst Kept (sym same) (keeps_placed aim old old.moves u marks within is_free)

@@ -1,9 +1,12 @@
 -- The levels and the trail that the public function begins with, and what is read off at the end.
-use Rattle.std.proofs.Common.{◌≡◌, ◌≢◌, ℕ, ◌+◌, ◌<◌, ◌≤◌, ◌⊎◌, inl, inr, List, [], ◌∷◌, ◌++◌, Bool, true, false, cond, eqb, IsTrue, Option, Some, None, IsSome, IsSomeAnd, length, get_or, drop, refl, subst, sym, ap, ◌∙◌, arith}
+use Rattle.std.proofs.Common.{◌≡◌, ◌≢◌, ℕ, ◌+◌, ◌<◌, ◌≤◌, ◌⊎◌, inl, inr, List, [], ◌∷◌, ◌++◌, Bool, true, false, cond}
+use Rattle.std.proofs.Common.{eqb, IsTrue, Option, Some, None, IsSome, IsSomeAnd, length, get_or, drop, refl, subst}
+use Rattle.std.proofs.Common.{sym, ap, ◌∙◌, arith}
 use Rattle.std.specs.Prelude.{slice_set}
 use Rattle.std.proofs.lemmas.Bool.{cases_eq, cases_lt, false≢true, eq-eqb}
 use Rattle.std.proofs.lemmas.Bool.Decides.{nat_tests}
-use Rattle.std.proofs.lemmas.List.{get_or_append_left, get_or_push, length_push, get_or-set_same, get_or-set_other, get_or_past, drop_more}
+use Rattle.std.proofs.lemmas.List.{get_or_append_left, get_or_push, length_push, get_or-set_same, get_or-set_other}
+use Rattle.std.proofs.lemmas.List.{get_or_past, drop_more}
 use Rattle.ps_game.specs.Games.{ParityGame, vertex_count, owner_of}
 use Rattle.ps_game.specs.Subgames.{IsWithin, IsSubgame}
 use Rattle.ps_game.specs.Attractors.{LeadsDown, Falls}
@@ -14,7 +17,9 @@ use Rattle.ps_attractor.specs.Aims.{StandsFrom, IsPosed, IsTaken, IsGrown, rank_
 use Rattle.ps_attractor.specs.Steps.{with_placed}
 use Rattle.ps_attractor.specs.Results.{AreLaidOut, IsRegionTo, AreMovesTo, aim_of, rank_at}
 
-pub laid_placed : (subgame target : List Bool) (n : ℕ) (old : TablesData) → n < length old.level → IsTrue (has target n) → AreLaidOut subgame target n old → AreLaidOut subgame target (n + 1) (with_placed old n PLACED)
+pub laid_placed : (subgame target : List Bool) (n : ℕ) (old : TablesData) → n < length old.level →
+    IsTrue (has target n) → AreLaidOut subgame target n old → AreLaidOut subgame target (n + 1)
+    (with_placed old n PLACED)
 laid_placed subgame target n old within there laid =
     let new : TablesData = with_placed old n PLACED in
     let size : length (old.trail ++ n ∷ []) ≡ length old.trail + 1 = length_push old.trail n in
@@ -35,24 +40,38 @@ laid_placed subgame target n old within there laid =
       ];
       later = λ v past. kept v (omega arith) ∙ laid.later v (omega arith);
       stands = λ v below inside. elim (cases_eq v n) [
-        | inl same ↦ record { place = length old.trail; after = omega arith; within = omega arith; is = get_or_push old.trail n 0 (length old.trail) refl ∙ sym same }
+        | inl same ↦ record {
+          place = length old.trail;
+          after = omega arith;
+          within = omega arith;
+          is = get_or_push old.trail n 0 (length old.trail) refl ∙ sym same;
+        }
         | inr differ ↦ (
             let stands = laid.stands v (omega arith) inside in
             let low : stands.place < length old.trail = stands.within in
-            record { place = stands.place; after = stands.after; within = omega arith; is = get_or_append_left old.trail (n ∷ []) 0 stands.place low ∙ stands.is })
+            record {
+              place = stands.place;
+              after = stands.after;
+              within = omega arith;
+              is = get_or_append_left old.trail (n ∷ []) 0 stands.place low ∙ stands.is;
+            })
       ];
       only = λ j low. elim (cases_lt j (length old.trail)) [
         | inl less ↦ ap (has target) (get_or_append_left old.trail (n ∷ []) 0 j less) ∙ laid.only j less
         | inr more ↦ ap (has target) (get_or_push old.trail n 0 j (omega arith)) ∙ there
       ];
       before = λ j low. elim (cases_lt j (length old.trail)) [
-        | inl less ↦ (let small : get_or old.trail j 0 < n = laid.before j less in omega (arith, get_or_append_left old.trail (n ∷ []) 0 j less))
+        | inl less ↦ (let small : get_or old.trail j 0 < n = laid.before j less in
+            omega (arith, get_or_append_left old.trail (n ∷ []) 0 j less))
         | inr more ↦ omega (arith, get_or_push old.trail n 0 j (omega arith))
       ];
     }
 
 -- the vertex is not of the target, and gets its level or keeps it
-pub laid_kept : (subgame target : List Bool) (n : ℕ) (old new : TablesData) → has target n ≡ false → new.trail ≡ old.trail → ((v : ℕ) → v ≢ n → level_of new v ≡ level_of old v) → (IsTrue (has subgame n) → level_of new n ≡ FREE) → (has subgame n ≡ false → level_of new n ≡ OUTSIDE) → AreLaidOut subgame target n old → AreLaidOut subgame target (n + 1) new
+pub laid_kept : (subgame target : List Bool) (n : ℕ) (old new : TablesData) → has target n ≡ false →
+    new.trail ≡ old.trail → ((v : ℕ) → v ≢ n → level_of new v ≡ level_of old v) →
+    (IsTrue (has subgame n) → level_of new n ≡ FREE) → (has subgame n ≡ false → level_of new n ≡ OUTSIDE) →
+    AreLaidOut subgame target n old → AreLaidOut subgame target (n + 1) new
 laid_kept subgame target n old new not_there trail kept free outside laid = record {
   targets = λ v below inside. elim (cases_eq v n) [
     | inl same ↦ absurd (false≢true (sym not_there ∙ ap (has target) (sym same) ∙ inside))
@@ -72,26 +91,41 @@ laid_kept subgame target n old new not_there trail kept free outside laid = reco
     | inr differ ↦ (
         let stands = laid.stands v (omega arith) inside in
         let low : stands.place < length old.trail = stands.within in
-        record { place = stands.place; after = stands.after; within = omega (arith, ap length trail); is = ap (λ xs. get_or xs stands.place 0) trail ∙ stands.is })
+        record {
+          place = stands.place;
+          after = stands.after;
+          within = omega (arith, ap length trail);
+          is = ap (λ xs. get_or xs stands.place 0) trail ∙ stands.is;
+        })
   ];
   only = λ j low. ap (λ xs. has target (get_or xs j 0)) trail ∙ laid.only j (omega (arith, ap length trail));
-  before = λ j low. (let small : get_or old.trail j 0 < n = laid.before j (omega (arith, ap length trail)) in omega (arith, ap (λ xs. get_or xs j 0) trail));
+  before =
+      λ j low. (let small : get_or old.trail j 0 < n = laid.before j (omega (arith, ap length trail)) in
+      omega (arith, ap (λ xs. get_or xs j 0) trail));
 }
 
 -- the first place, one place further to the front
-pub first_place_more : (trail places : List ℕ) (count k : ℕ) → k < length trail → length places ≡ count → get_or trail k 0 < count → ((v i : ℕ) → k + 1 ≤ i → i < length trail → get_or trail i 0 ≡ v → get_or places v 0 ≡ k + 1 + place_in (drop (k + 1) trail) v) → (v i : ℕ) → k ≤ i → i < length trail → get_or trail i 0 ≡ v → get_or (slice_set places (get_or trail k 0) k) v 0 ≡ k + place_in (drop k trail) v
+pub first_place_more : (trail places : List ℕ) (count k : ℕ) → k < length trail → length places ≡ count →
+    get_or trail k 0 < count → ((v i : ℕ) → k + 1 ≤ i → i < length trail → get_or trail i 0 ≡ v →
+    get_or places v 0 ≡ k + 1 + place_in (drop (k + 1) trail) v) → (v i : ℕ) → k ≤ i → i < length trail →
+    get_or trail i 0 ≡ v → get_or (slice_set places (get_or trail k 0) k) v 0 ≡ k + place_in (drop k trail) v
 first_place_more trail places count k within size low so_far v i after inside is =
     let u : ℕ = get_or trail k 0 in
     let split : drop k trail ≡ u ∷ drop (k + 1) trail = drop_more trail k 0 within in
-    let first : place_in (drop k trail) v ≡ cond (eqb u v) 0 (place_in (drop (k + 1) trail) v + 1) = ap (λ xs. place_in xs v) split in
+    let first : place_in (drop k trail) v ≡ cond (eqb u v) 0 (place_in (drop (k + 1) trail) v + 1) =
+    ap (λ xs. place_in xs v) split in
     elim (cases_eq u v) [
       | inl same ↦ (
-          let here : cond (eqb u v) 0 (place_in (drop (k + 1) trail) v + 1) ≡ 0 = ap (λ b. cond b 0 (place_in (drop (k + 1) trail) v + 1)) (eq-eqb u v same) in
-          ap (λ x. get_or (slice_set places u k) x 0) (sym same) ∙ get_or-set_same places u k 0 (omega arith) ∙ omega arith)
+          let here : cond (eqb u v) 0 (place_in (drop (k + 1) trail) v + 1) ≡ 0 =
+          ap (λ b. cond b 0 (place_in (drop (k + 1) trail) v + 1)) (eq-eqb u v same) in
+          ap (λ x. get_or (slice_set places u k) x 0) (sym same) ∙ get_or-set_same places u k 0 (omega arith)
+          ∙ omega arith)
       | inr differ ↦ (
           let not_here : i ≢ k = λ same. differ (sym (ap (λ j. get_or trail j 0) same) ∙ is) in
-          let found : get_or places v 0 ≡ k + 1 + place_in (drop (k + 1) trail) v = so_far v i (omega arith) inside is in
-          let skipped : cond (eqb u v) 0 (place_in (drop (k + 1) trail) v + 1) ≡ place_in (drop (k + 1) trail) v + 1 = grind (arith, nat_tests) in
+          let found : get_or places v 0 ≡ k + 1 + place_in (drop (k + 1) trail) v =
+          so_far v i (omega arith) inside is in
+          let skipped : cond (eqb u v) 0 (place_in (drop (k + 1) trail) v + 1) ≡ place_in (drop (k + 1) trail) v + 1 =
+          grind (arith, nat_tests) in
           get_or-set_other places u v k 0 (λ same. differ (sym same)) ∙ omega arith)
     ]
 
@@ -112,7 +146,8 @@ in_or_not region v = by_test (has region v) refl
     by_test true is = inl is
     by_test false is = inr is
 
-pub record Answer (game : ParityGame) (player : ℕ) (subgame target : List Bool) (old new : TablesData) (region : List Bool) : Type 0 where
+pub record Answer (game : ParityGame) (player : ℕ) (subgame target : List Bool) (old new : TablesData)
+    (region : List Bool) : Type 0 where
   pub is_subgame : IsSubgame game (has subgame)
   pub target_within : IsWithin (has target) (has subgame)
   pub subgame_places : length subgame ≡ vertex_count game
@@ -122,16 +157,21 @@ pub record Answer (game : ParityGame) (player : ℕ) (subgame target : List Bool
   pub placed : IsRegionTo new (vertex_count game) region
 
 -- a vertex that is free at first is in the subgame, and not of the target
-free_inside : (game : ParityGame) (subgame target : List Bool) (old : TablesData) (v : ℕ) → AreLaidOut subgame target (vertex_count game) old → v < vertex_count game → level_of old v ≡ FREE → IsTrue (has subgame v)
+free_inside : (game : ParityGame) (subgame target : List Bool) (old : TablesData) (v : ℕ) →
+    AreLaidOut subgame target (vertex_count game) old → v < vertex_count game → level_of old v ≡ FREE →
+    IsTrue (has subgame v)
 free_inside game subgame target old v laid is_vertex free = elim (in_or_not target v) [
   | inl there ↦ (let level : level_of old v ≡ PLACED = laid.targets v is_vertex there in absurd (omega arith))
   | inr not_there ↦ elim (in_or_not subgame v) [
     | inl inside ↦ inside
-    | inr outside ↦ (let level : level_of old v ≡ OUTSIDE = laid.outside v is_vertex not_there outside in absurd (omega arith))
+    | inr outside ↦ (let level : level_of old v ≡ OUTSIDE = laid.outside v is_vertex not_there outside in
+        absurd (omega arith))
   ]
 ]
 
-pub laid_posed : (game : ParityGame) (player : ℕ) (subgame target : List Bool) (old : TablesData) → IsSubgame game (has subgame) → IsWithin (has target) (has subgame) → AreLaidOut subgame target (vertex_count game) old → IsPosed game (aim_of player) old (has subgame) (has target)
+pub laid_posed : (game : ParityGame) (player : ℕ) (subgame target : List Bool) (old : TablesData) →
+    IsSubgame game (has subgame) → IsWithin (has target) (has subgame) →
+    AreLaidOut subgame target (vertex_count game) old → IsPosed game (aim_of player) old (has subgame) (has target)
 laid_posed game player subgame target old is_subgame target_within laid = record {
   is_subgame = is_subgame;
   split = λ v inside. elim (in_or_not target v) [
@@ -149,29 +189,37 @@ laid_posed game player subgame target old is_subgame target_within laid = record
 }
 
 -- a vertex that is placed at first is of the target
-placed_target : (game : ParityGame) (subgame target : List Bool) (old : TablesData) (v : ℕ) → AreLaidOut subgame target (vertex_count game) old → v < vertex_count game → level_of old v ≡ PLACED → IsTrue (has target v)
+placed_target : (game : ParityGame) (subgame target : List Bool) (old : TablesData) (v : ℕ) →
+    AreLaidOut subgame target (vertex_count game) old → v < vertex_count game → level_of old v ≡ PLACED →
+    IsTrue (has target v)
 placed_target game subgame target old v laid is_vertex placed = elim (in_or_not target v) [
   | inl there ↦ there
   | inr not_there ↦ elim (in_or_not subgame v) [
     | inl inside ↦ (let level : level_of old v ≡ FREE = laid.frees v is_vertex not_there inside in absurd (omega arith))
-    | inr outside ↦ (let level : level_of old v ≡ OUTSIDE = laid.outside v is_vertex not_there outside in absurd (omega arith))
+    | inr outside ↦ (let level : level_of old v ≡ OUTSIDE = laid.outside v is_vertex not_there outside in
+        absurd (omega arith))
   ]
 ]
 
 -- what is in the region is a vertex
-region_vertex : (game : ParityGame) (player : ℕ) (subgame target : List Bool) (old new : TablesData) (region : List Bool) (v : ℕ) → Answer game player subgame target old new region → IsTrue (has region v) → v < vertex_count game
+region_vertex : (game : ParityGame) (player : ℕ) (subgame target : List Bool) (old new : TablesData)
+    (region : List Bool) (v : ℕ) → Answer game player subgame target old new region → IsTrue (has region v) →
+    v < vertex_count game
 region_vertex game player subgame target old new region v answer inside = elim (cases_lt v (vertex_count game)) [
   | inl less ↦ less
   | inr past ↦ absurd (false≢true (sym (answer.placed.later v past) ∙ inside))
 ]
 
-pub answer_taken : (game : ParityGame) (player : ℕ) (subgame target : List Bool) (old new : TablesData) (region : List Bool) → Answer game player subgame target old new region → IsTaken (aim_of player) new (has subgame) (has region)
+pub answer_taken : (game : ParityGame) (player : ℕ) (subgame target : List Bool) (old new : TablesData)
+    (region : List Bool) → Answer game player subgame target old new region →
+    IsTaken (aim_of player) new (has subgame) (has region)
 answer_taken game player subgame target old new region answer = record {
   within = λ v inside. (
       let is_vertex = region_vertex game player subgame target old new region v answer inside in
       let level : level_of new v ≡ PLACED = answer.placed.placed v is_vertex inside in
       elim (answer.grown.each v) [
-        | inl same ↦ answer.target_within v (placed_target game subgame target old v answer.laid is_vertex (sym same.level ∙ level))
+        | inl same ↦ answer.target_within v (placed_target game subgame target old v answer.laid is_vertex
+            (sym same.level ∙ level))
         | inr placed ↦ free_inside game subgame target old v answer.laid is_vertex placed.was_free
       ]);
   placed = λ v inside free. (
@@ -190,39 +238,78 @@ answer_taken game player subgame target old new region answer = record {
 }
 
 -- what is in the region stands in the trail
-pub answer_stands : (game : ParityGame) (player : ℕ) (subgame target : List Bool) (old new : TablesData) (region : List Bool) (v : ℕ) → Answer game player subgame target old new region → IsTrue (has region v) → StandsFrom new 0 v
+pub answer_stands : (game : ParityGame) (player : ℕ) (subgame target : List Bool) (old new : TablesData)
+    (region : List Bool) (v : ℕ) → Answer game player subgame target old new region → IsTrue (has region v) →
+    StandsFrom new 0 v
 answer_stands game player subgame target old new region v answer inside =
     let is_vertex = region_vertex game player subgame target old new region v answer inside in
     let level : level_of new v ≡ PLACED = answer.placed.placed v is_vertex inside in
     let longer : length old.trail ≤ length new.trail = answer.grown.longer in
     elim (answer.grown.each v) [
       | inl same ↦ (
-          let stands = answer.laid.stands v is_vertex (placed_target game subgame target old v answer.laid is_vertex (sym same.level ∙ level)) in
+          let stands =
+          answer.laid.stands v is_vertex (placed_target game subgame target old v answer.laid is_vertex
+          (sym same.level ∙ level)) in
           let low : stands.place < length old.trail = stands.within in
-          record { place = stands.place; after = stands.after; within = omega arith; is = answer.grown.front stands.place low ∙ stands.is })
-      | inr placed ↦ record { place = placed.stands.place; after = omega arith; within = placed.stands.within; is = placed.stands.is }
+          record {
+            place = stands.place;
+            after = stands.after;
+            within = omega arith;
+            is = answer.grown.front stands.place low ∙ stands.is;
+          })
+      | inr placed ↦ record {
+        place = placed.stands.place;
+        after = omega arith;
+        within = placed.stands.within;
+        is = placed.stands.is;
+      }
     ]
 
 -- the fall in the tables is that by the moves and the ranks that are read off
-pub answer_falls : (game : ParityGame) (player : ℕ) (subgame target : List Bool) (old new : TablesData) (region : List Bool) (moves : List (Option ℕ)) (rank : List ℕ) → Answer game player subgame target old new region → AreMovesTo game new player target (vertex_count game) moves → ((v : ℕ) → StandsFrom new 0 v → get_or rank v 0 ≡ place_in new.trail v) → Falls game (has subgame) player (has target) (has region) (moves_of new) (rank_of (aim_of player) new) → Falls game (has subgame) player (has target) (has region) (move_at moves) (rank_at rank)
+pub answer_falls : (game : ParityGame) (player : ℕ) (subgame target : List Bool) (old new : TablesData)
+    (region : List Bool) (moves : List (Option ℕ)) (rank : List ℕ) → Answer game player subgame target old new region →
+    AreMovesTo game new player target (vertex_count game) moves →
+    ((v : ℕ) → StandsFrom new 0 v → get_or rank v 0 ≡ place_in new.trail v) →
+    Falls game (has subgame) player (has target) (has region) (moves_of new) (rank_of (aim_of player) new) →
+    Falls game (has subgame) player (has target) (has region) (move_at moves) (rank_at rank)
 answer_falls game player subgame target old new region moves rank answer given places falls =
-    let same_rank = λ (v : ℕ) (inside : IsTrue (has region v)). places v (answer_stands game player subgame target old new region v answer inside) in
-    let down = λ (v w : ℕ) (inside : IsTrue (has region v)) (leads : LeadsDown game (has subgame) (has region) (rank_of (aim_of player) new) v w). (
+    let same_rank =
+    λ (v : ℕ) (inside : IsTrue (has region v)). places v (answer_stands game player subgame target old new region v
+    answer inside) in
+    let down =
+    λ (v w : ℕ) (inside : IsTrue (has region v)) (leads : LeadsDown game (has subgame) (has region)
+    (rank_of (aim_of player) new) v w). (
     let low : place_in new.trail w < place_in new.trail v = leads.falls in
-    let down : LeadsDown game (has subgame) (has region) (rank_at rank) v w = record { leads = leads.leads; inside = leads.inside; falls = omega (arith, same_rank v inside, same_rank w leads.inside) } in
+    let down : LeadsDown game (has subgame) (has region) (rank_at rank) v w =
+    record {
+      leads = leads.leads;
+      inside = leads.inside;
+      falls = omega
+          (arith, same_rank v inside, same_rank w leads.inside);
+    } in
     down) in
     record {
       own = λ v inside outside owns. (
           let is_vertex = region_vertex game player subgame target old new region v answer inside in
-          let not_there : has target v ≡ false = elim (in_or_not target v) [ inl there ↦ absurd (outside there) | inr not_there ↦ not_there ] in
-          let move : move_at moves v ≡ Some (get_or new.moves v 0) = given.given v is_vertex (record { placed = answer.placed.placed v is_vertex inside; owns = owns; outside = not_there }) in
-          let Down : Option ℕ → Type 0 = λ o. IsSomeAnd o (LeadsDown game (has subgame) (has region) (rank_at rank) v) in
+          let not_there : has target v ≡ false =
+          elim (in_or_not target v) [ inl there ↦ absurd (outside there) | inr not_there ↦ not_there ] in
+          let move : move_at moves v ≡ Some (get_or new.moves v 0) =
+          given.given v is_vertex (record {
+            placed = answer.placed.placed v is_vertex inside;
+            owns = owns;
+            outside = not_there;
+          }) in
+          let Down : Option ℕ → Type 0 =
+          λ o. IsSomeAnd o (LeadsDown game (has subgame) (has region) (rank_at rank) v) in
           subst Down (sym move) (down v (get_or new.moves v 0) inside (falls.own v inside outside owns)));
       other = λ v w inside outside others leads. down v w inside (falls.other v w inside outside others leads);
     }
 
 -- only the player's vertices of the region outside the target have a move
-pub only_moves : (game : ParityGame) (player : ℕ) (subgame target : List Bool) (old new : TablesData) (region : List Bool) (moves : List (Option ℕ)) → Answer game player subgame target old new region → AreMovesTo game new player target (vertex_count game) moves → (v : ℕ) → IsSome (move_at moves v) → IsTrue (has region v) × (owner_of game v ≡ player) × (has target v ≡ false)
+pub only_moves : (game : ParityGame) (player : ℕ) (subgame target : List Bool) (old new : TablesData)
+    (region : List Bool) (moves : List (Option ℕ)) → Answer game player subgame target old new region →
+    AreMovesTo game new player target (vertex_count game) moves → (v : ℕ) → IsSome (move_at moves v) →
+    IsTrue (has region v) × (owner_of game v ≡ player) × (has target v ≡ false)
 only_moves game player subgame target old new region moves answer given v some = elim (cases_lt v (vertex_count game)) [
   | inr past ↦ absurd (none_some (given.later v past))
   | inl is_vertex ↦ elim (cases_eq (level_of new v) PLACED) [

@@ -1,5 +1,6 @@
 -- A set in which ranks fall to the target lies in each closed set.
-use Rattle.std.proofs.Common.{◌≡◌, ℕ, zero, suc, ◌<◌, inl, inr, Bool, true, false, Option, Some, None, IsSomeAnd, IsTrue, refl, sym, ◌∙◌, arith}
+use Rattle.std.proofs.Common.{◌≡◌, ℕ, zero, suc, ◌<◌, inl, inr, Bool, true, false, Option, Some, None, IsSomeAnd}
+use Rattle.std.proofs.Common.{IsTrue, refl, sym, ◌∙◌, arith}
 use Rattle.std.proofs.lemmas.Bool.{cases_eq, false≢true}
 use Rattle.ps_game.specs.Games.{ParityGame, owner_of}
 use Rattle.ps_game.specs.Subgames.{IsWithin}
@@ -10,12 +11,16 @@ some_move : (P : ℕ → Type 0) (o : Option ℕ) → IsSomeAnd o P → (w : ℕ
 some_move P (Some w) there = (w, there)
 some_move P None there = absurd there
 
-below : (game : ParityGame) (subgame : ℕ → Bool) (player : ℕ) (target set : ℕ → Bool) (table : ℕ → Option ℕ) (rank : ℕ → ℕ) → IsWithin set subgame → Falls game subgame player target set table rank → (closed : ℕ → Bool) → IsClosed game subgame player target closed → (n v : ℕ) → rank v < n → IsTrue (set v) → IsTrue (closed v)
+below : (game : ParityGame) (subgame : ℕ → Bool) (player : ℕ) (target set : ℕ → Bool) (table : ℕ → Option ℕ)
+    (rank : ℕ → ℕ) → IsWithin set subgame → Falls game subgame player target set table rank → (closed : ℕ → Bool) →
+    IsClosed game subgame player target closed → (n v : ℕ) → rank v < n → IsTrue (set v) → IsTrue (closed v)
 below game subgame player target set table rank within falls closed is_closed zero v low inside = absurd (omega arith)
 below game subgame player target set table rank within falls closed is_closed (suc n) v low inside =
-    by_target (λ w leads. below game subgame player target set table rank within falls closed is_closed n w (omega (arith, leads.falls)) leads.inside) (target v) refl
+    by_target (λ w leads. below game subgame player target set table rank within falls closed is_closed n w
+    (omega (arith, leads.falls)) leads.inside) (target v) refl
   where
-    by_target : ((w : ℕ) → LeadsDown game subgame set rank v w → IsTrue (closed w)) → (b : Bool) → target v ≡ b → IsTrue (closed v)
+    by_target : ((w : ℕ) → LeadsDown game subgame set rank v w → IsTrue (closed w)) → (b : Bool) → target v ≡ b →
+        IsTrue (closed v)
     by_target deeper true there = is_closed.holds v there
     by_target deeper false not_there =
         let outside : ¬ IsTrue (target v) = λ there. false≢true (sym not_there ∙ there) in
@@ -23,9 +28,12 @@ below game subgame player target set table rank within falls closed is_closed (s
           | inl owns ↦ (
               let move = some_move (LeadsDown game subgame set rank v) (table v) (falls.own v inside outside owns) in
               is_closed.own v move.0 (within v inside) owns move.1.leads (deeper move.0 move.1))
-          | inr other ↦ is_closed.other v (within v inside) other (λ w leads. deeper w (falls.other v w inside outside other leads))
+          | inr other ↦ is_closed.other v (within v inside) other
+              (λ w leads. deeper w (falls.other v w inside outside other leads))
         ]
 
-pub falls_least : (game : ParityGame) (subgame : ℕ → Bool) (player : ℕ) (target set : ℕ → Bool) (table : ℕ → Option ℕ) (rank : ℕ → ℕ) → IsWithin set subgame → Falls game subgame player target set table rank → IsLeast game subgame player target set
+pub falls_least : (game : ParityGame) (subgame : ℕ → Bool) (player : ℕ) (target set : ℕ → Bool) (table : ℕ → Option ℕ)
+    (rank : ℕ → ℕ) → IsWithin set subgame → Falls game subgame player target set table rank →
+    IsLeast game subgame player target set
 falls_least game subgame player target set table rank within falls closed is_closed v inside =
     below game subgame player target set table rank within falls closed is_closed (suc (rank v)) v (omega arith) inside

@@ -3,6 +3,7 @@ pub mod Edges
 pub mod Ends
 pub mod FreeCounts
 pub mod Grouping
+pub mod Kept
 pub mod LaidOut
 pub mod Least
 pub mod NumberPlaces

@@ -1,5 +1,5 @@
--- What a player aims at within the tables, and what was reached: the attractor to the vertices that stand in the trail from
--- a place on. A vertex is free where its level is a stated one: it is in the subgame and not in the set yet.
+-- What a player aims at within the tables, and what was reached: the attractor to the vertices that stand in the trail
+-- from a place on. A vertex is free where its level is a stated one: it is in the subgame and not in the set yet.
 use Rattle.std.specs.Prelude.{◌≡◌, ◌≢◌, ℕ, ◌<◌, ◌≤◌, ◌⊎◌, length, drop, Option, Bool, IsTrue, slice_index}
 use Rattle.ps_game.specs.Games.{ParityGame, vertex_count}
 use Rattle.ps_game.specs.Subgames.{IsWithin, LeadsInto, IsSubgame}
@@ -37,7 +37,8 @@ pub record StaysOut (game : ParityGame) (subgame set : ℕ → Bool) (v : ℕ) :
   pub outside : ¬ IsTrue (set to)
 
 -- the set is the attractor: closed, falling by the table, and so the least; what is left is a subgame
-pub record IsAttracted (game : ParityGame) (subgame : ℕ → Bool) (player : ℕ) (target set : ℕ → Bool) (table : ℕ → Option ℕ) (rank : ℕ → ℕ) : Type 0 where
+pub record IsAttracted (game : ParityGame) (subgame : ℕ → Bool) (player : ℕ) (target set : ℕ → Bool)
+    (table : ℕ → Option ℕ) (rank : ℕ → ℕ) : Type 0 where
   pub closed : IsClosed game subgame player target set
   pub falls : Falls game subgame player target set table rank
   pub least : IsLeast game subgame player target set

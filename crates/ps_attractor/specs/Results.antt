@@ -22,12 +22,13 @@ abbrev pub aim_of : ℕ → Aim
 aim_of player = record { player = player; begin = 0; mark = PLACED; free = FREE }
 
 -- the tables grew from those in which just the target is placed, to the attractor
-pub record AreAttracted (game : ParityGame) (player : ℕ) (subgame target : List Bool) (tables : TablesData) : Type 0 where
-  pub old : TablesData
-  pub laid : AreLaidOut subgame target (vertex_count game) old
-  pub grown : IsGrown (aim_of player) old tables
-  pub attracted : (set : ℕ → Bool) → IsTaken (aim_of player) tables (has subgame) set
-      → IsAttracted game (has subgame) player (has target) set (moves_of tables) (rank_of (aim_of player) tables)
+pub record AreAttracted (game : ParityGame) (player : ℕ) (subgame target : List Bool) (tables : TablesData) : Type 0
+  where
+    pub old : TablesData
+    pub laid : AreLaidOut subgame target (vertex_count game) old
+    pub grown : IsGrown (aim_of player) old tables
+    pub attracted : (set : ℕ → Bool) → IsTaken (aim_of player) tables (has subgame) set
+        → IsAttracted game (has subgame) player (has target) set (moves_of tables) (rank_of (aim_of player) tables)
 
 -- of the vertices before n the region has just those that were placed
 pub record IsRegionTo (tables : TablesData) (n : ℕ) (region : List Bool) : Type 0 where
@@ -42,7 +43,8 @@ pub record Moves (game : ParityGame) (tables : TablesData) (player : ℕ) (targe
   pub outside : has target v ≡ false
 
 -- of the vertices before n just those have a move, the one of the tables
-pub record AreMovesTo (game : ParityGame) (tables : TablesData) (player : ℕ) (target : List Bool) (n : ℕ) (moves : List (Option ℕ)) : Type 0 where
+pub record AreMovesTo (game : ParityGame) (tables : TablesData) (player : ℕ) (target : List Bool) (n : ℕ)
+    (moves : List (Option ℕ)) : Type 0 where
   pub given : (v : ℕ) → v < n → Moves game tables player target v → move_at moves v ≡ Some (slice_index tables.moves v)
   pub only : (v : ℕ) → v < n → ¬ Moves game tables player target v → move_at moves v ≡ None
   pub later : (v : ℕ) → n ≤ v → move_at moves v ≡ None

@@ -1,6 +1,7 @@
--- The steps of the worklist: what is known while the trail is walked from the target on. These are the facts on the way; the
--- public contracts speak of `IsGrown` and `IsAttracted`.
-use Rattle.std.specs.Prelude.{◌≡◌, ◌≢◌, ℕ, ◌<◌, ◌≤◌, ◌⊎◌, List, ◌∷◌, [], ◌++◌, length, slice_index, slice_set, ◌==◌, count_by}
+-- The steps of the worklist: what is known while the trail is walked from the target on. These are the facts on the
+-- way; the public contracts speak of `IsGrown` and `IsAttracted`.
+use Rattle.std.specs.Prelude.{◌≡◌, ◌≢◌, ℕ, ◌<◌, ◌≤◌, ◌⊎◌, List, ◌∷◌, [], ◌++◌, length, slice_index, slice_set, ◌==◌}
+use Rattle.std.specs.Prelude.{count_by}
 use Rattle.ps_game.specs.Games.{ParityGame, owner_of, HasEdge}
 use Rattle.ps_attractor.specs.declared.aim.Aim.{Aim}
 use Rattle.ps_attractor.specs.Tables.{TablesData, level_of}
@@ -8,7 +9,8 @@ use Rattle.ps_attractor.specs.Aims.{StandsFrom, IsGrown}
 
 -- the tables with one more vertex placed
 abbrev pub with_placed : TablesData → ℕ → ℕ → TablesData
-with_placed tables v level = record { level = slice_set tables.level v level; moves = tables.moves; trail = tables.trail ++ v ∷ [] }
+with_placed tables v level =
+    record { level = slice_set tables.level v level; moves = tables.moves; trail = tables.trail ++ v ∷ [] }
 
 abbrev pub with_move : TablesData → ℕ → ℕ → TablesData
 with_move tables v w = record { level = tables.level; moves = slice_set tables.moves v w; trail = tables.trail }
@@ -19,13 +21,16 @@ pub record HasFree (game : ParityGame) (free : ℕ) (tables : TablesData) (v : �
   pub edge : HasEdge game v to
   pub is_free : level_of tables to ≡ free
 
--- what comes of an edge from v to w, which is in the set: nothing where v is in it too, or is the other player's and can
--- stay out; else v is placed, and has w as its move where it is the player's
+-- what comes of an edge from v to w, which is in the set: nothing where v is in it too, or is the other player's and
+-- can stay out; else v is placed, and has w as its move where it is the player's
 pub data Look (game : ParityGame) (aim : Aim) (old new : TablesData) (v w : ℕ) : Type 0 where
   NotFree : level_of old v ≢ aim.free → new ≡ old → Look game aim old new v w
   Escapes : owner_of game v ≢ aim.player → HasFree game aim.free old v → new ≡ old → Look game aim old new v w
-  Own : level_of old v ≡ aim.free → owner_of game v ≡ aim.player → new ≡ with_placed (with_move old v w) v aim.mark → Look game aim old new v w
-  Others : level_of old v ≡ aim.free → owner_of game v ≢ aim.player → ((x : ℕ) → HasEdge game v x → level_of old x ≢ aim.free) → new ≡ with_placed old v aim.mark → Look game aim old new v w
+  Own : level_of old v ≡ aim.free → owner_of game v ≡ aim.player → new ≡ with_placed (with_move old v w) v aim.mark →
+      Look game aim old new v w
+  Others : level_of old v ≡ aim.free → owner_of game v ≢ aim.player →
+      ((x : ℕ) → HasEdge game v x → level_of old x ≢ aim.free) → new ≡ with_placed old v aim.mark →
+      Look game aim old new v w
 
 -- a successor that is free, or stands in the trail from where the target begins
 pub record GoesOn (game : ParityGame) (aim : Aim) (tables : TablesData) (v : ℕ) : Type 0 where
@@ -56,15 +61,20 @@ pub record StandsBefore (aim : Aim) (tables : TablesData) (end v : ℕ) : Type 0
 
 -- a placed vertex leads to earlier places: by its move if it is the player's, and else by each edge that matters
 pub record LeadsBack (game : ParityGame) (aim : Aim) (old new : TablesData) (place v : ℕ) : Type 0 where
-  pub own : owner_of game v ≡ aim.player → HasEdge game v (slice_index new.moves v) × StandsBefore aim new place (slice_index new.moves v)
-  pub other : owner_of game v ≢ aim.player → (w : ℕ) → HasEdge game v w → (level_of old w ≡ aim.free) ⊎ StandsFrom old aim.begin w → StandsBefore aim new place w
+  pub own : owner_of game v ≡ aim.player → HasEdge game v (slice_index new.moves v) ×
+      StandsBefore aim new place (slice_index new.moves v)
+  pub other : owner_of game v ≢ aim.player → (w : ℕ) → HasEdge game v w →
+      (level_of old w ≡ aim.free) ⊎ StandsFrom old aim.begin w → StandsBefore aim new place w
 
 -- how far the walk has come: P says which edges to places of the trail are still to be looked at
 pub record Reaching (game : ParityGame) (aim : Aim) (old new : TablesData) (P : ℕ → ℕ → Type 0) : Type 0 where
   pub grown : IsGrown aim old new
-  pub own : (v j : ℕ) → level_of new v ≡ aim.free → owner_of game v ≡ aim.player → aim.begin ≤ j → j < length new.trail → HasEdge game v (slice_index new.trail j) → P v j
-  pub other : (v : ℕ) → level_of new v ≡ aim.free → owner_of game v ≢ aim.player → GoesOn game aim old v → CanGoOn game aim new P v
-  pub back : (j : ℕ) → length old.trail ≤ j → j < length new.trail → LeadsBack game aim old new j (slice_index new.trail j)
+  pub own : (v j : ℕ) → level_of new v ≡ aim.free → owner_of game v ≡ aim.player → aim.begin ≤ j →
+      j < length new.trail → HasEdge game v (slice_index new.trail j) → P v j
+  pub other : (v : ℕ) → level_of new v ≡ aim.free → owner_of game v ≢ aim.player → GoesOn game aim old v →
+      CanGoOn game aim new P v
+  pub back : (j : ℕ) → length old.trail ≤ j → j < length new.trail →
+      LeadsBack game aim old new j (slice_index new.trail j)
 
 -- all edges to the places from k on
 abbrev pub From : ℕ → ℕ → ℕ → Type 0

@@ -1,4 +1,5 @@
--- The tables of an attractor: a level and a move for each vertex, and the trail of the vertices that were placed, in order.
+-- The tables of an attractor: a level and a move for each vertex, and the trail of the vertices that were placed, in
+-- order.
 use Rattle.std.specs.Prelude.{◌≡◌, ℕ, ◌+◌, ◌<◌, List, [], ◌∷◌, length, Option, Some, slice_index, if◌then◌else◌, ◌==◌}
 use Rattle.std.specs.List.{All}
 use Rattle.ps_game.specs.Games.{ParityGame, vertex_count}

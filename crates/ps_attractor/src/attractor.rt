@@ -1,18 +1,21 @@
 //! The attractor within a subgame, by tables of its own.
 
-ghost use Rattle.std.specs.Prelude.{◌≡◌, ◌≢◌, ◌+◌, ◌<◌, ◌≤◌, ℕ, List, [], Bool, false, IfOk, OnOk, IsSome, IsTrue, length, slice_index};
+ghost use Rattle.std.specs.Prelude.{◌≡◌, ◌≢◌, ◌+◌, ◌<◌, ◌≤◌, ℕ, List, [], Bool, false, IfOk, OnOk, IsSome, IsTrue};
+ghost use Rattle.std.specs.Prelude.{length, slice_index};
 ghost use Rattle.ps_game.specs.Games.{IsGame, vertex_count, owner_of};
 ghost use Rattle.ps_game.specs.Subgames.{IsWithin, IsSubgame};
 ghost use Rattle.ps_game.specs.Attractors.{IsClosed, Falls, IsLeast};
 ghost use Rattle.ps_game.specs.Regions.{has, move_at};
 ghost use Rattle.ps_attractor.specs.Tables.{FitsGame, level_of, place_in};
 ghost use Rattle.ps_attractor.specs.Aims.{StandsFrom};
+ghost use Rattle.ps_attractor.specs.Room.{HasRoom};
 ghost use Rattle.ps_attractor.specs.Results.{AreAttracted, AreLaidOut, IsRegionTo, AreMovesTo, rank_at};
 
 use crate::aim::Aim;
+use crate::room::{has_room, no_room};
 use crate::sources::Sources;
 use crate::tables::Tables;
-use ps_game::{Arena, Region, Strategy, Subgame};
+use ps_game::{Arena, Region, Strategy, Subgame, Width};
 use std::alloc::{AllocError, Global};
 
 /// The level of the vertices outside the subgame.
@@ -40,7 +43,7 @@ pub struct Attracted {
 ///
 /// # Errors
 ///
-/// Fails where a growth was refused.
+/// Fails where a growth was refused, as that of a table for 2^63 - 2 vertices or 2^64 edges is.
 pub fn attract<A: Arena>(
     alloc: Global,
     arena: &A,
@@ -65,7 +68,42 @@ pub fn attract<A: Arena>(
     ensures falls { IfOk result (λ attracted. Falls (A.game arena.now) (has subgame.now) player (has target.now)
         (has attracted.region) (move_at attracted.moves) (rank_at attracted.rank.items)) }
 {
-    let tables = attracted_tables(alloc, arena, subgame, player, target)?;
+    if has_room::<A, u32>(arena) {
+        attract_in::<A, u32>(alloc, arena, subgame, player, target)
+    } else if has_room::<A, usize>(arena) {
+        attract_in::<A, usize>(alloc, arena, subgame, player, target)
+    } else {
+        Err(no_room(alloc))
+    }
+}
+
+/// The attractor, found by tables of a stated width.
+fn attract_in<A: Arena, W: Width>(
+    alloc: Global,
+    arena: &A,
+    subgame: &Subgame,
+    player: u8,
+    target: &Region,
+) -> Result<Attracted, AllocError>
+    requires room { HasRoom (A.game arena.now) W.LIMIT }
+    requires subgame { IsSubgame (A.game arena.now) (has subgame.now) }
+    requires target { IsWithin (has target.now) (has subgame.now) }
+    requires subgame_places { length subgame.now ≡ vertex_count (A.game arena.now) }
+    requires target_places { length target.now ≡ vertex_count (A.game arena.now) }
+    ensures places { IfOk result (λ attracted. length attracted.region ≡ vertex_count (A.game arena.now)) }
+    ensures move_places { IfOk result (λ attracted. length attracted.moves ≡ vertex_count (A.game arena.now)) }
+    ensures rank_places { IfOk result (λ attracted. length attracted.rank.items ≡ vertex_count (A.game arena.now)) }
+    ensures within { IfOk result (λ attracted. IsWithin (has attracted.region) (has subgame.now)) }
+    ensures closed { IfOk result (λ attracted.
+        IsClosed (A.game arena.now) (has subgame.now) player (has target.now) (has attracted.region)) }
+    ensures least { IfOk result (λ attracted.
+        IsLeast (A.game arena.now) (has subgame.now) player (has target.now) (has attracted.region)) }
+    ensures moves { IfOk result (λ attracted. (v : ℕ) → IsSome (move_at attracted.moves v) →
+        IsTrue (has attracted.region v) × (owner_of (A.game arena.now) v ≡ player) × (has target.now v ≡ false)) }
+    ensures falls { IfOk result (λ attracted. Falls (A.game arena.now) (has subgame.now) player (has target.now)
+        (has attracted.region) (move_at attracted.moves) (rank_at attracted.rank.items)) }
+{
+    let tables = attracted_tables::<A, W>(alloc, arena, subgame, player, target)?;
     let region = placed_region(alloc, &tables, arena.count())?;
     let moves = placed_moves(alloc, arena, &tables, player, target)?;
     let rank = first_places(alloc, &tables, arena.count())?;
@@ -77,13 +115,14 @@ pub fn attract<A: Arena>(
 }
 
 /// Tables in which the target and all that is attracted to it are placed.
-fn attracted_tables<A: Arena>(
+fn attracted_tables<A: Arena, W: Width>(
     alloc: Global,
     arena: &A,
     subgame: &Subgame,
     player: u8,
     target: &Region,
-) -> Result<Tables, AllocError>
+) -> Result<Tables<W>, AllocError>
+    requires room { HasRoom (A.game arena.now) W.LIMIT }
     requires subgame { IsSubgame (A.game arena.now) (has subgame.now) }
     requires target { IsWithin (has target.now) (has subgame.now) }
     requires subgame_places { length subgame.now ≡ vertex_count (A.game arena.now) }
@@ -104,12 +143,13 @@ fn attracted_tables<A: Arena>(
 }
 
 /// Tables in which just the vertices of the target are placed.
-fn laid_out(
+fn laid_out<W: Width>(
     alloc: Global,
     count: usize,
     subgame: &Region,
     target: &Region,
-) -> Result<Tables, AllocError>
+) -> Result<Tables<W>, AllocError>
+    requires room { count + 2 < W.LIMIT }
     requires subgame { length subgame.now ≡ count }
     requires target { length target.now ≡ count }
     ensures levels { IfOk result (λ tables. length tables.level ≡ count) }
@@ -122,12 +162,13 @@ fn laid_out(
 }
 
 /// Gives each vertex its level, and puts those of the target on the trail.
-fn lay_out(
-    tables: &mut Tables,
+fn lay_out<W: Width>(
+    tables: &mut Tables<W>,
     count: usize,
     subgame: &Region,
     target: &Region,
 ) -> Result<(), AllocError>
+    requires room { count + 2 < W.LIMIT }
     requires levels { length tables.old.level ≡ count }
     requires moves { length tables.old.moves ≡ count }
     requires subgame { length subgame.now ≡ count }
@@ -149,7 +190,11 @@ fn lay_out(
 }
 
 /// The vertices that were placed.
-fn placed_region(alloc: Global, tables: &Tables, count: usize) -> Result<Region, AllocError>
+fn placed_region<W: Width>(
+    alloc: Global,
+    tables: &Tables<W>,
+    count: usize,
+) -> Result<Region, AllocError>
     requires { length tables.now.level ≡ count }
     ensures places { IfOk result (λ region. length region ≡ count) }
     ensures placed { IfOk result (IsRegionTo tables.now count) }
@@ -164,10 +209,10 @@ fn placed_region(alloc: Global, tables: &Tables, count: usize) -> Result<Region,
 }
 
 /// The moves of the player's vertices that were placed, outside the target.
-fn placed_moves<A: Arena>(
+fn placed_moves<A: Arena, W: Width>(
     alloc: Global,
     arena: &A,
-    tables: &Tables,
+    tables: &Tables<W>,
     player: u8,
     target: &Region,
 ) -> Result<Strategy, AllocError>
@@ -175,7 +220,8 @@ fn placed_moves<A: Arena>(
     requires moves { length tables.now.moves ≡ vertex_count (A.game arena.now) }
     requires target { length target.now ≡ vertex_count (A.game arena.now) }
     ensures places { IfOk result (λ moves. length moves ≡ vertex_count (A.game arena.now)) }
-    ensures given { IfOk result (AreMovesTo (A.game arena.now) tables.now player target.now (vertex_count (A.game arena.now))) }
+    ensures given { IfOk result (AreMovesTo (A.game arena.now) tables.now player target.now
+        (vertex_count (A.game arena.now))) }
 {
     let count = arena.count();
     let mut moves = Strategy::empty(alloc, count)?;
@@ -189,7 +235,11 @@ fn placed_moves<A: Arena>(
 }
 
 /// The first place of each vertex that stands in the trail.
-fn first_places(alloc: Global, tables: &Tables, count: usize) -> Result<Vec<usize>, AllocError>
+fn first_places<W: Width>(
+    alloc: Global,
+    tables: &Tables<W>,
+    count: usize,
+) -> Result<Vec<usize>, AllocError>
     requires { (j : ℕ) → j < length tables.now.trail → slice_index tables.now.trail j < count }
     ensures places { IfOk result (λ places. length places.items ≡ count) }
     ensures first { IfOk result (λ places. (v : ℕ) → StandsFrom tables.now 0 v →

@@ -9,6 +9,8 @@
 //! | Call | What it gives |
 //! |---|---|
 //! | `attract` | the attractor to a region within a subgame, a move and a falling rank at each vertex of it |
+//! | `has_room` | whether numbers of 4 or of 8 bytes are great enough for a game |
+//! | `no_room` | the want of memory of a table that no width is enough for |
 //! | `Sources::of`, `at` | for each vertex the vertices with an edge to it, rising |
 //! | `Tables::new`, `place`, `attract`, .. | levels, moves and the trail, for a solver that attracts again and again |
 //! | `Aim` | whose attractor it is, and by which levels it is marked in the tables |
@@ -20,7 +22,9 @@
 
 mod aim;
 mod attractor;
+mod levels;
 mod numbers;
+mod room;
 mod sources;
 mod tables;
 mod worklist;
@@ -28,5 +32,6 @@ mod worklist;
 pub use aim::Aim;
 pub use attractor::{Attracted, attract};
 pub use numbers::places_by_number;
+pub use room::{has_room, no_room};
 pub use sources::Sources;
 pub use tables::Tables;

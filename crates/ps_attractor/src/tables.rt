@@ -1,47 +1,54 @@
 //! Levels, moves and the trail. For each vertex of the other player the tables also keep which successor was found free
 //! last; the view of the tables leaves that out, since no answer depends on it.
 
-ghost use Rattle.std.specs.Prelude.{◌≡◌, ◌<◌, ◌≤◌, [], IfOk, OnOk, OnErr, length, replicate, take, slice_index, slice_set};
+ghost use Rattle.std.specs.Prelude.{◌≡◌, ◌<◌, ◌≤◌, [], IfOk, OnOk, OnErr, length, replicate, take, slice_index};
+ghost use Rattle.std.specs.Prelude.{slice_set};
+ghost use Rattle.ps_attractor.specs.Levels.{IsLevel};
 ghost use Rattle.ps_attractor.specs.Steps.{with_placed, with_move};
 
+use crate::levels::Levels;
+use ps_game::{Numbers, Width};
 use std::alloc::{AllocError, Global};
 use std::marker::Model;
 
-/// A level and a move for each vertex, and the trail: the vertices that were placed, in order.
+/// A level and a move for each vertex, and the trail: the vertices that were placed, in order. All are kept at a stated
+/// width.
 #[derive(Drop)]
-pub struct Tables {
-    level: Vec<usize>,
-    moves: Vec<usize>,
+pub struct Tables<W: Width> {
+    level: Levels<W>,
+    moves: Numbers<W>,
     watch: Vec<u32>,
-    trail: Vec<usize>,
+    trail: Numbers<W>,
 }
 
-impl Model for Tables {
-    ghost use Rattle.std.specs.Prelude.{◌≡◌, length};
+impl<W: Width> Model for Tables<W> {
+    ghost use Rattle.std.specs.Prelude.{◌≡◌, ◌≤◌, length};
     ghost use Rattle.ps_attractor.specs.Tables.{TablesData};
 
     ghost Value = { TablesData };
 
-    ghost view = { λ t. record { level = t.level.items; moves = t.moves.items; trail = t.trail.items } };
+    ghost view = { λ t. record { level = t.level; moves = t.moves; trail = t.trail } };
 
-    ghost invariant = { λ t. length t.watch.items ≡ length t.level.items };
+    ghost invariant = { λ t. (length t.watch.items ≡ length t.level) × (length t.level ≤ W.LIMIT) };
 }
 
-impl Tables {
+impl<W: Width> Tables<W> {
     /// Each vertex at one level, and none placed. There is room for each vertex in the trail.
     ///
     /// # Errors
     ///
     /// Fails where a growth was refused.
-    pub fn new(alloc: Global, count: usize, level: usize) -> Result<Tables, AllocError>
+    pub fn new(alloc: Global, count: usize, level: usize) -> Result<Tables<W>, AllocError>
+        requires room { count ≤ W.LIMIT }
+        requires fits { IsLevel W.LIMIT level }
         ensures levels { IfOk result (λ tables. tables.level ≡ replicate count level) }
         ensures moves { IfOk result (λ tables. tables.moves ≡ replicate count 0) }
         ensures trail { IfOk result (λ tables. tables.trail ≡ []) }
     {
-        let level = vec![in alloc; level; count]?;
-        let moves = vec![in alloc; 0; count]?;
+        let level = Levels::filled(alloc, level, count)?;
+        let moves = Numbers::filled(alloc, 0, count)?;
         let watch = vec![in alloc; 0; count]?;
-        let trail = Vec::with_capacity(alloc, count)?;
+        let trail = Numbers::with_capacity(alloc, count)?;
         Ok(Tables {
             level,
             moves,
@@ -55,7 +62,7 @@ impl Tables {
         requires { vertex < length self.now.level }
         ensures { result ≡ slice_index self.now.level vertex }
     {
-        self.level[vertex]
+        self.level.at(vertex)
     }
 
     /// The move of a vertex.
@@ -63,7 +70,7 @@ impl Tables {
         requires { vertex < length self.now.moves }
         ensures { result ≡ slice_index self.now.moves vertex }
     {
-        self.moves[vertex]
+        self.moves.at(vertex)
     }
 
     /// How many vertices stand in the trail.
@@ -78,25 +85,27 @@ impl Tables {
         requires { place < length self.now.trail }
         ensures { result ≡ slice_index self.now.trail place }
     {
-        self.trail[place]
+        self.trail.at(place)
     }
 
     /// Gives a vertex a level.
     pub fn set_level(&mut self, vertex: usize, level: usize)
-        requires { vertex < length self.old.level }
+        requires vertex { vertex < length self.old.level }
+        requires fits { IsLevel W.LIMIT level }
         ensures level { self.new.level ≡ slice_set self.old.level vertex level }
         ensures moves { self.new.moves ≡ self.old.moves }
         ensures trail { self.new.trail ≡ self.old.trail }
     {
-        self.level[vertex] = level;
+        self.level.set(vertex, level);
     }
 
     /// Gives a vertex a move.
     pub fn choose(&mut self, vertex: usize, successor: usize)
-        requires { vertex < length self.old.moves }
+        requires vertex { vertex < length self.old.moves }
+        requires successor { successor < length self.old.level }
         ensures { self.new ≡ with_move self.old vertex successor }
     {
-        self.moves[vertex] = successor;
+        self.moves.set(vertex, successor);
     }
 
     /// Puts a vertex at the end of the trail, and gives it a level. For want of memory nothing changes.
@@ -105,12 +114,13 @@ impl Tables {
     ///
     /// Fails where a growth was refused.
     pub fn place(&mut self, vertex: usize, level: usize) -> Result<(), AllocError>
-        requires { vertex < length self.old.level }
+        requires vertex { vertex < length self.old.level }
+        requires fits { IsLevel W.LIMIT level }
         ensures ok { OnOk result (self.new ≡ with_placed self.old vertex level) }
         ensures err { OnErr result (self.new ≡ self.old) }
     {
         self.trail.push(vertex)?;
-        self.level[vertex] = level;
+        self.level.set(vertex, level);
         Ok(())
     }
 

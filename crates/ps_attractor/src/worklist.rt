@@ -1,19 +1,21 @@
 //! The search: the trail is the worklist, and what is reached is put at its end.
 
-ghost use Rattle.std.specs.Prelude.{◌≡◌, ◌≢◌, ◌+◌, ◌<◌, ◌≤◌, ℕ, Bool, IfSome, IfNone, OnOk, OnErr, IsTrue, false, length, slice_index};
+ghost use Rattle.std.specs.Prelude.{◌≡◌, ◌≢◌, ◌+◌, ◌<◌, ◌≤◌, ℕ, Bool, IfSome, IfNone, OnOk, OnErr, IsTrue, false};
+ghost use Rattle.std.specs.Prelude.{length, slice_index};
 ghost use Rattle.ps_game.specs.Games.{IsGame, HasEdge, vertex_count, successors_of};
 ghost use Rattle.ps_attractor.specs.Sources.{IsSourcesOf};
 ghost use Rattle.ps_attractor.specs.Tables.{TablesData, FitsGame, level_of, moves_of};
+ghost use Rattle.ps_attractor.specs.Levels.{IsLevel};
 ghost use Rattle.ps_attractor.specs.Aims.{IsPosed, IsTaken, IsAttracted, IsGrown, rank_of};
 ghost use Rattle.ps_attractor.specs.Steps.{HasFree, Look, Reaching, From, free_count};
 
 use crate::aim::Aim;
 use crate::sources::Sources;
 use crate::tables::Tables;
-use ps_game::Arena;
+use ps_game::{Arena, Width};
 use std::alloc::AllocError;
 
-impl Tables {
+impl<W: Width> Tables<W> {
     /// Attracts to the vertices that stand in the trail from a place on: the trail is walked to its end, and each free
     /// vertex from which the player can lead every play there is put behind it. Takes time in proportion to the edges
     /// into the vertices that stand there, and those of the other player's vertices among their sources.
@@ -24,13 +26,14 @@ impl Tables {
     pub fn attract<A: Arena>(
         &mut self,
         arena: &A,
-        sources: &Sources,
+        sources: &Sources<W>,
         aim: Aim,
     ) -> Result<(), AllocError>
         requires game { IsGame (A.game arena.now) }
         requires sources { IsSourcesOf (A.game arena.now) sources.now }
         requires fits { FitsGame (A.game arena.now) self.old }
         requires differ { aim.mark ≢ aim.free }
+        requires fits_width { IsLevel W.LIMIT aim.mark }
         requires begin { aim.begin ≤ length self.old.trail }
         ensures fits { FitsGame (A.game arena.now) self.new }
         ensures grown { OnOk result (IsGrown aim self.old self.new) }
@@ -50,7 +53,7 @@ impl Tables {
     fn spread<A: Arena>(
         &mut self,
         arena: &A,
-        sources: &Sources,
+        sources: &Sources<W>,
         aim: Aim,
         place: usize,
     ) -> Result<(), AllocError>
@@ -58,17 +61,20 @@ impl Tables {
         requires sources { IsSourcesOf (A.game arena.now) sources.now }
         requires fits { FitsGame (A.game arena.now) self.old }
         requires differ { aim.mark ≢ aim.free }
+        requires fits_width { IsLevel W.LIMIT aim.mark }
         requires after { aim.begin ≤ place }
         requires within { place < length self.old.trail }
         ensures fits { FitsGame (A.game arena.now) self.new }
         ensures longer { OnOk result (length self.old.trail ≤ length self.new.trail) }
-        ensures frees { OnOk result (free_count aim self.new + length self.new.trail ≡ free_count aim self.old + length self.old.trail) }
+        ensures frees { OnOk result (free_count aim self.new + length self.new.trail ≡ free_count aim self.old + length
+            self.old.trail) }
         ensures reaching { OnOk result ((start : TablesData) → aim.begin ≤ length start.trail →
-            Reaching (A.game arena.now) aim start self.old (From place) → Reaching (A.game arena.now) aim start self.new (From (place + 1))) }
+            Reaching (A.game arena.now) aim start self.old (From place) →
+            Reaching (A.game arena.now) aim start self.new (From (place + 1))) }
     {
         let reached = self.vertex_at(place);
         for source in sources.at(reached) {
-            self.look(arena, aim, *source, reached)?;
+            self.look(arena, aim, source.number(), reached)?;
         }
         Ok(())
     }
@@ -83,7 +89,9 @@ impl Tables {
     ) -> Result<(), AllocError>
         requires game { IsGame (A.game arena.now) }
         requires fits { FitsGame (A.game arena.now) self.old }
+        requires fits_width { IsLevel W.LIMIT aim.mark }
         requires vertex { source < vertex_count (A.game arena.now) }
+        requires reached { reached < vertex_count (A.game arena.now) }
         ensures fits { FitsGame (A.game arena.now) self.new }
         ensures looked { OnOk result (Look (A.game arena.now) aim self.old self.new source reached) }
     {
@@ -137,8 +145,10 @@ impl Tables {
         requires order { from ≤ to }
         requires within { to ≤ length (successors_of (A.game arena.now) vertex) }
         ensures below { IfSome result (λ number. number < to) }
-        ensures some { IfSome result (λ number. level_of self.now (slice_index (successors_of (A.game arena.now) vertex) number) ≡ free) }
-        ensures none { IfNone result ((k : ℕ) → from ≤ k → k < to → level_of self.now (slice_index (successors_of (A.game arena.now) vertex) k) ≢ free) }
+        ensures some { IfSome result (λ number. level_of self.now
+            (slice_index (successors_of (A.game arena.now) vertex) number) ≡ free) }
+        ensures none { IfNone result ((k : ℕ) → from ≤ k → k < to →
+            level_of self.now (slice_index (successors_of (A.game arena.now) vertex) k) ≢ free) }
     {
         for number in from..to {
             if self.level(arena.successor(vertex, number)) == free {

@@ -1,10 +1,13 @@
 -- The links of a chain are to sets of its condition.
-use Rattle.std.proofs.Common.{◌≡◌, ℕ, ◌<◌, ◌≤◌, Bool, true, false, cond, List, [], ◌∷◌, ◌++◌, Option, Some, None, subst, arith}
+use Rattle.std.proofs.Common.{◌≡◌, ℕ, ◌<◌, ◌≤◌, Bool, true, false, cond, List, [], ◌∷◌, ◌++◌, Option, Some, None, subst}
+use Rattle.std.proofs.Common.{arith}
 use Rattle.std.specs.List.{AllByRecursion}
-use Rattle.ps_hoa.specs.Conditions.{SetData, Condition, Conditions, constant, infinitely, finitely, all_hold, any_holds, last, more}
+use Rattle.ps_hoa.specs.Conditions.{SetData, Condition, Conditions, constant, infinitely, finitely, all_hold, any_holds}
+use Rattle.ps_hoa.specs.Conditions.{last, more}
 use Rattle.ps_hoa.specs.Sound.{AreConditions, IsCondition}
 use Rattle.ps_hoa.proofs.SoundLaws.{all_at}
-use Rattle.ps_automaton.specs.Chains.{Chain, Link, chain_of, chain_of_all, in_front, link_of, link_to, links_of, one_link}
+use Rattle.ps_automaton.specs.Chains.{Chain, Link, chain_of, chain_of_all, in_front, link_of, link_to, links_of}
+use Rattle.ps_automaton.specs.Chains.{one_link}
 use Rattle.ps_automaton.specs.Numbering.{AreSetsBelow}
 
 module _ (n : ℕ) where
@@ -23,7 +26,8 @@ module _ (n : ℕ) where
   ChainUnder None = Unit {0}
   ChainUnder (Some c) = AllByRecursion LinkUnder c.links
 
-  both_under : (xs ys : List Link) → AllByRecursion LinkUnder xs → AllByRecursion LinkUnder ys → AllByRecursion LinkUnder (xs ++ ys)
+  both_under : (xs ys : List Link) → AllByRecursion LinkUnder xs → AllByRecursion LinkUnder ys →
+      AllByRecursion LinkUnder (xs ++ ys)
   both_under [] ys a b = b
   both_under (x ∷ xs) ys a b = (a.0, both_under xs ys a.1 b)
 
@@ -63,9 +67,11 @@ module _ (n : ℕ) where
 
   links_under : (accepts : Bool) (cs : Conditions) → AreConditions n cs → LinksUnder (links_of accepts cs)
   links_under accepts last i = tt
-  links_under accepts (more c cs) i = joined_under (link_of accepts c) (links_of accepts cs) (link_under accepts c i.0) (links_under accepts cs i.1)
+  links_under accepts (more c cs) i =
+      joined_under (link_of accepts c) (links_of accepts cs) (link_under accepts c i.0) (links_under accepts cs i.1)
 
-  chosen_under : (l : Option Link) (ls : Option (List Link)) (rest whole : Option Chain) → MaybeUnder l → LinksUnder ls → ChainUnder rest → ChainUnder whole →
+  chosen_under : (l : Option Link) (ls : Option (List Link)) (rest whole : Option Chain) → MaybeUnder l →
+      LinksUnder ls → ChainUnder rest → ChainUnder whole →
       ChainUnder (elim l [ Some link ↦ in_front (Some (link ∷ [])) rest | None ↦ in_front ls whole ])
   chosen_under None ls rest whole a b c d = front_under ls whole b d
   chosen_under (Some l) ls rest whole a b c d = front_under (Some (l ∷ [])) rest (a, tt) c
@@ -73,21 +79,29 @@ module _ (n : ℕ) where
   mutual
     chain_under : (c : Condition) → IsCondition n c → ChainUnder (chain_of c)
     chain_under (constant b) i = tt
-    chain_under (infinitely set) i = front_under (one_link (link_to true set)) (Some (record { links = []; base = false })) (one_under (link_to true set) (link_to_under true set i)) tt
-    chain_under (finitely set) i = front_under (one_link (link_to false set)) (Some (record { links = []; base = true })) (one_under (link_to false set) (link_to_under false set i)) tt
+    chain_under (infinitely set) i =
+        front_under (one_link (link_to true set)) (Some (record { links = []; base = false }))
+        (one_under (link_to true set) (link_to_under true set i)) tt
+    chain_under (finitely set) i =
+        front_under (one_link (link_to false set)) (Some (record { links = []; base = true }))
+        (one_under (link_to false set) (link_to_under false set i)) tt
     chain_under (any_holds cs) i = chains_under true cs i
     chain_under (all_hold cs) i = chains_under false cs i
 
     chains_under : (accepts : Bool) (cs : Conditions) → AreConditions n cs → ChainUnder (chain_of_all accepts cs)
     chains_under accepts last i = tt
     chains_under accepts (more c cs) i =
-        chosen_under (link_of accepts c) (links_of accepts cs) (chain_of_all accepts cs) (chain_of c) (link_under accepts c i.0) (links_under accepts cs i.1) (chains_under accepts cs i.1) (chain_under c i.0)
+        chosen_under (link_of accepts c) (links_of accepts cs) (chain_of_all accepts cs) (chain_of c)
+        (link_under accepts c i.0) (links_under accepts cs i.1) (chains_under accepts cs i.1) (chain_under c i.0)
 
   under_some : (o : Option Chain) (chain : Chain) → o ≡ Some chain → ChainUnder o → AllByRecursion LinkUnder chain.links
   under_some o chain e h = subst ChainUnder e h
 
-pub chain_sets_below : (sets : ℕ) (c : Condition) (chain : Chain) → sets ≤ 64 → IsCondition sets c → chain_of c ≡ Some chain → AreSetsBelow 64 chain.links
+pub chain_sets_below : (sets : ℕ) (c : Condition) (chain : Chain) → sets ≤ 64 → IsCondition sets c →
+    chain_of c ≡ Some chain → AreSetsBelow 64 chain.links
 chain_sets_below sets c chain few is e = λ k d within.
-    let all = all_at (λ (l : Link). l.colour < sets) chain.links (under_some sets (chain_of c) chain e (chain_under sets c is)) in
+    let all =
+    all_at (λ (l : Link). l.colour < sets) chain.links (under_some sets (chain_of c) chain e
+    (chain_under sets c is)) in
     let low = all k d within in
     omega (arith, low, few)

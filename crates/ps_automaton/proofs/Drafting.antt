@@ -1,5 +1,6 @@
 -- The states one by one.
-use Rattle.std.proofs.Common.{◌≡◌, ℕ, ◌+◌, ◌<◌, ◌≤◌, ◌⊎◌, inl, inr, List, [], ◌∷◌, ◌++◌, length, get_or, Option, Some, None, sym, ap, subst, ◌∙◌, arith}
+use Rattle.std.proofs.Common.{◌≡◌, ℕ, ◌+◌, ◌<◌, ◌≤◌, ◌⊎◌, inl, inr, List, [], ◌∷◌, ◌++◌, length, get_or, Option, Some}
+use Rattle.std.proofs.Common.{None, sym, ap, subst, ◌∙◌, arith}
 use Rattle.std.specs.Option.{IsSomeAnd}
 use Rattle.std.specs.Result.{IsErrAnd, IfErr}
 use Rattle.std.specs.Prelude.{Result, Ok, Err}
@@ -12,7 +13,8 @@ use Rattle.ps_automaton.specs.Answers.{Clash}
 use Rattle.ps_automaton.specs.Chains.{Chain}
 use Rattle.ps_automaton.specs.Drafts.{Extends, IsDraftFault, IsStateFault, IsStepsOf, Moves, Names, Stops}
 use Rattle.ps_automaton.specs.declared.fault.AutomatonFault.{AutomatonFault}
-use Rattle.ps_automaton.specs.declared.fault.AutomatonFault.TheVariants.{ComplementedSet, NonParity, Nondeterministic, OutOfMemory}
+use Rattle.ps_automaton.specs.declared.fault.AutomatonFault.TheVariants.{ComplementedSet, NonParity, Nondeterministic}
+use Rattle.ps_automaton.specs.declared.fault.AutomatonFault.TheVariants.{OutOfMemory}
 use Rattle.ps_automaton.specs.declared.step.Step.{Step}
 use Rattle.ps_automaton.proofs.Meeting.{kept_leaf}
 
@@ -21,19 +23,24 @@ extended_within old new extends k within =
     let d : Step = record { state = 0; priority = 0 } in
     slice_get_within new k (get_or old k d) (extends k (get_or old k d) (slice_get-get_or old k d within))
 
-named_kept : (old new : List Step) → Extends old new → (step : Step) (o : Option ℕ) → Names old o step → Names new o step
+named_kept : (old new : List Step) → Extends old new → (step : Step) (o : Option ℕ) → Names old o step →
+    Names new o step
 named_kept old new extends step None h = h
 named_kept old new extends step (Some k) h = extends k step h
 
-within_kept : (old new : List Step) → Extends old new → (o : Option ℕ) → IsSomeAnd o (λ k. k < length old) → IsSomeAnd o (λ k. k < length new)
+within_kept : (old new : List Step) → Extends old new → (o : Option ℕ) → IsSomeAnd o (λ k. k < length old) →
+    IsSomeAnd o (λ k. k < length new)
 within_kept old new extends None h = h
 within_kept old new extends (Some k) h = extended_within old new extends k h
 
 -- a state's steps stay where a store and the steps grow
-pub steps_kept : (file : FileData) (chain : Chain) (q : ℕ) (old new : List Step) (t u : Table) (node : ℕ) → Extends old new → Keeps t u → IsStepsOf file chain q old t node → IsStepsOf file chain q new u node
+pub steps_kept : (file : FileData) (chain : Chain) (q : ℕ) (old new : List Step) (t u : Table) (node : ℕ) →
+    Extends old new → Keeps t u → IsStepsOf file chain q old t node → IsStepsOf file chain q new u node
 steps_kept file chain q old new t u node extends keeps s = record {
   held = keeps.held node s.held;
-  leaves = λ letter. subst (λ o. IsSomeAnd o (λ k. k < length new)) (sym (leaf letter)) (within_kept old new extends (leaf_of t node letter) (s.leaves letter));
+  leaves =
+      λ letter. subst (λ o. IsSomeAnd o (λ k. k < length new)) (sym (leaf letter))
+      (within_kept old new extends (leaf_of t node letter) (s.leaves letter));
   steps_of = λ letter small. by_kind letter (s.steps_of letter small);
   by_edge = λ letter sets next g. names letter _ (s.by_edge letter sets next g);
   clear = s.clear;
@@ -43,10 +50,14 @@ steps_kept file chain q old new t u node extends keeps s = record {
     leaf letter = kept_leaf t u keeps node letter s.held
 
     names : (letter : ℕ) (step : Step) → Names old (leaf_of t node letter) step → Names new (leaf_of u node letter) step
-    names letter step h = subst (λ o. Names new o step) (sym (leaf letter)) (named_kept old new extends step (leaf_of t node letter) h)
+    names letter step h =
+        subst (λ o. Names new o step) (sym (leaf letter)) (named_kept old new extends step (leaf_of t node letter) h)
 
-    by_kind : (letter : ℕ) → Moves file chain q letter old (leaf_of t node letter) ⊎ Stops file q letter old (leaf_of t node letter) → Moves file chain q letter new (leaf_of u node letter) ⊎ Stops file q letter new (leaf_of u node letter)
-    by_kind letter (inl m) = inl (record { next = m.next; sets = m.sets; goes = m.goes; named = names letter _ m.named })
+    by_kind : (letter : ℕ) → Moves file chain q letter old (leaf_of t node letter) ⊎
+        Stops file q letter old (leaf_of t node letter) → Moves file chain q letter new (leaf_of u node letter) ⊎
+        Stops file q letter new (leaf_of u node letter)
+    by_kind letter (inl m) =
+        inl (record { next = m.next; sets = m.sets; goes = m.goes; named = names letter _ m.named })
     by_kind letter (inr m) = inr (record { none = m.none; named = names letter _ m.named })
 
 module _ (file : FileData) (chain : Chain) (steps : List Step) (t : Table) (nodes : List ℕ) where
@@ -54,20 +65,25 @@ module _ (file : FileData) (chain : Chain) (steps : List Step) (t : Table) (node
   AreStepsOf count = (q : ℕ) → q < count → IsStepsOf file chain q steps t (get_or nodes q 0)
 
   -- one state more
-  pub one_more : (count node : ℕ) (more : List ℕ) → length nodes ≡ count → more ≡ nodes ++ node ∷ [] → AreStepsOf count → IsStepsOf file chain count steps t node →
+  pub one_more : (count node : ℕ) (more : List ℕ) → length nodes ≡ count → more ≡ nodes ++ node ∷ [] →
+      AreStepsOf count → IsStepsOf file chain count steps t node →
       (q : ℕ) → q < count + 1 → IsStepsOf file chain q steps t (get_or more q 0)
   one_more count node more size is each last q within = elim (cases_lt q count) [
     | inl low ↦ (
-        let same : get_or more q 0 ≡ get_or nodes q 0 = ap (λ (ns : List ℕ). get_or ns q 0) is ∙ get_or_append_left nodes (node ∷ []) 0 q (omega (arith, low, size)) in
+        let same : get_or more q 0 ≡ get_or nodes q 0 = ap (λ (ns : List ℕ). get_or ns q 0) is
+        ∙ get_or_append_left nodes (node ∷ []) 0 q (omega (arith, low, size)) in
         subst (IsStepsOf file chain q steps t) (sym same) (each q low))
     | inr high ↦ (
         let here : count ≡ q = omega arith in
-        let same : get_or more q 0 ≡ node = ap (λ (ns : List ℕ). get_or ns q 0) is ∙ get_or_push nodes node 0 q (size ∙ here) in
-        subst (λ p. IsStepsOf file chain p steps t (get_or more q 0)) here (subst (IsStepsOf file chain count steps t) (sym same) last))
+        let same : get_or more q 0 ≡ node = ap (λ (ns : List ℕ). get_or ns q 0) is
+        ∙ get_or_push nodes node 0 q (size ∙ here) in
+        subst (λ p. IsStepsOf file chain p steps t (get_or more q 0)) here
+        (subst (IsStepsOf file chain count steps t) (sym same) last))
   ]
 
   -- the first fault of a state is that of the file, where no earlier state has a clash
-  pub first_fault : (count : ℕ) → AreStepsOf count → (f : AutomatonFault) → IsStateFault file count f → IsDraftFault file f
+  pub first_fault : (count : ℕ) → AreStepsOf count → (f : AutomatonFault) → IsStateFault file count f →
+      IsDraftFault file f
   first_fault count each ComplementedSet h = h
   first_fault count each NonParity h = h
   first_fault count each (Nondeterministic p first second) h = record {
@@ -82,8 +98,10 @@ module _ (file : FileData) (chain : Chain) (steps : List Step) (t : Table) (node
       by_size q a b k (inr high) = let same = h.0 in omega (arith, same, high)
   first_fault count each OutOfMemory h = tt
 
-pub steps_stay : (file : FileData) (chain : Chain) (old new : List Step) (t u : Table) (nodes : List ℕ) (count : ℕ) → Extends old new → Keeps t u → AreStepsOf file chain old t nodes count → AreStepsOf file chain new u nodes count
-steps_stay file chain old new t u nodes count extends keeps each = λ q low. steps_kept file chain q old new t u (get_or nodes q 0) extends keeps (each q low)
+pub steps_stay : (file : FileData) (chain : Chain) (old new : List Step) (t u : Table) (nodes : List ℕ) (count : ℕ) →
+    Extends old new → Keeps t u → AreStepsOf file chain old t nodes count → AreStepsOf file chain new u nodes count
+steps_stay file chain old new t u nodes count extends keeps each =
+    λ q low. steps_kept file chain q old new t u (get_or nodes q 0) extends keeps (each q low)
 
 pub err_told : {T E : Type 0} (P : E → Type 0) (r : Result T E) (e : E) → IsErrAnd r (λ y. y ≡ e) → P e → IfErr r P
 err_told P (Ok x) e h p = tt

@@ -1,5 +1,7 @@
 -- What is known of the edges of a sound row.
-use Rattle.std.proofs.Common.{◌≡◌, ℕ, zero, suc, ◌+◌, ◌^◌, ◌<◌, ◌≤◌, ◌⊎◌, inl, inr, Bool, true, false, cond, List, [], ◌∷◌, length, map, get_or, Option, Some, None, refl, sym, ap, subst, ◌∙◌, arith, nat_eq, eqb, ◌&&◌}
+use Rattle.std.proofs.Common.{◌≡◌, ℕ, zero, suc, ◌+◌, ◌^◌, ◌<◌, ◌≤◌, ◌⊎◌, inl, inr, Bool, true, false, cond, List, []}
+use Rattle.std.proofs.Common.{◌∷◌, length, map, get_or, Option, Some, None, refl, sym, ap, subst, ◌∙◌, arith, nat_eq}
+use Rattle.std.proofs.Common.{eqb, ◌&&◌}
 use Rattle.std.specs.List.{All, slice_get}
 use Rattle.std.specs.Prelude.{◌||◌}
 use Rattle.std.specs.Int.{bit_at}
@@ -8,11 +10,13 @@ use Rattle.std.proofs.lemmas.Bool.{eqb-true, eq-eqb, cases_lt}
 use Rattle.std.proofs.lemmas.Option.{slice_get-map, slice_get_read, slice_get_within}
 use Rattle.std.proofs.lemmas.Nat.Bits.{same_from_bits_below, bit_at-lt}
 use Rattle.ps_text.proofs.Simple.{none_is_some, same_some}
-use Rattle.ps_label.specs.Expression.{Expression, constant, proposition, alias, not_of, all_of, any_of, Operands, last, more}
+use Rattle.ps_label.specs.Expression.{Expression, constant, proposition, alias, not_of, all_of, any_of, Operands, last}
+use Rattle.ps_label.specs.Expression.{more}
 use Rattle.ps_diagram.specs.Labels.{IsOver, AreOver, AreOverFrom}
 use Rattle.ps_hoa.specs.Edges.{is_marked}
 use Rattle.ps_hoa.specs.Files.{GuardData, EdgeData, RowData, FileData, stated, of_state, at_letter, is_among}
-use Rattle.ps_hoa.specs.Sound.{AreAliases, AreAtLetters, AreBelow, AreLabelled, AreLabels, IsGuard, IsLabel, IsOfState, IsSoundFile, IsSoundRow, IsStated}
+use Rattle.ps_hoa.specs.Sound.{AreAliases, AreAtLetters, AreBelow, AreLabelled, AreLabels, IsGuard, IsLabel, IsOfState}
+use Rattle.ps_hoa.specs.Sound.{IsSoundFile, IsSoundRow, IsStated}
 use Rattle.ps_hoa.specs.Views.{edge_data}
 use Rattle.ps_hoa.specs.declared.file.Edge.{Edge}
 use Rattle.ps_hoa.proofs.SoundLaws.{all_at, all_get, sound_edge}
@@ -42,10 +46,13 @@ aliases_over k count (e ∷ es) a = (label_over k count e a.0, aliases_over (k +
 
 -- ## Guards
 
-pub by_letter : (k : ℕ) (es : List EdgeData) → AreAtLetters k es → (j : ℕ) (e : EdgeData) → slice_get es j ≡ Some e → e.guard ≡ at_letter (k + j)
+pub by_letter : (k : ℕ) (es : List EdgeData) → AreAtLetters k es → (j : ℕ) (e : EdgeData) → slice_get es j ≡ Some e →
+    e.guard ≡ at_letter (k + j)
 by_letter k [] a j e at = absurd (none_is_some e at)
-by_letter k (d ∷ es) a zero e at = let n : k ≡ k + 0 = omega arith in ap (λ (x : EdgeData). x.guard) (sym (same_some d e at)) ∙ a.0 ∙ ap at_letter n
-by_letter k (d ∷ es) a (suc j) e at = let n : k + 1 + j ≡ k + suc j = omega arith in by_letter (k + 1) es a.1 j e at ∙ ap at_letter n
+by_letter k (d ∷ es) a zero e at =
+    let n : k ≡ k + 0 = omega arith in ap (λ (x : EdgeData). x.guard) (sym (same_some d e at)) ∙ a.0 ∙ ap at_letter n
+by_letter k (d ∷ es) a (suc j) e at =
+    let n : k + 1 + j ≡ k + suc j = omega arith in by_letter (k + 1) es a.1 j e at ∙ ap at_letter n
 
 letter_of : GuardData → ℕ
 letter_of (stated e) = 0
@@ -61,9 +68,11 @@ no_letter : (k : ℕ) (g : GuardData) → g ≡ at_letter k → is_letter g ≡ 
 unfolding is_letter
 no_letter k g e f = let b : true ≡ false = sym (ap is_letter e) ∙ f in cc
 
-labelled_letter : (count : ℕ) (label : Option Expression) (es : List EdgeData) → AreLabelled count label es → (j : ℕ) (e : EdgeData) → slice_get es j ≡ Some e → (k : ℕ) → e.guard ≡ at_letter k → k < 2 ^ count
+labelled_letter : (count : ℕ) (label : Option Expression) (es : List EdgeData) → AreLabelled count label es →
+    (j : ℕ) (e : EdgeData) → slice_get es j ≡ Some e → (k : ℕ) → e.guard ≡ at_letter k → k < 2 ^ count
 unfolding is_letter letter_of
-labelled_letter count (Some l) es a j e at k is = absurd (no_letter k e.guard is (ap is_letter (all_get IsOfState es (all_at IsOfState es a) j e at)))
+labelled_letter count (Some l) es a j e at k is =
+    absurd (no_letter k e.guard is (ap is_letter (all_get IsOfState es (all_at IsOfState es a) j e at)))
 labelled_letter count None es (inl a) j e at k is =
     let s = all_get IsStated es (all_at IsStated es a) j e at in
     absurd (no_letter k e.guard is (ap is_letter s.1))
@@ -74,12 +83,15 @@ labelled_letter count None es (inr a) j e at k is =
     omega (arith, same, within, count_is)
 
 -- a row with one edge that is taken at a letter alone has one for each letter
-pub by_letters_of : (file : FileData) (row : RowData) → IsSoundRow file row → (e : EdgeData) (k : ℕ) → slice_get row.edges 0 ≡ Some e → e.guard ≡ at_letter k → IsByLetters file row
+pub by_letters_of : (file : FileData) (row : RowData) → IsSoundRow file row → (e : EdgeData) (k : ℕ) →
+    slice_get row.edges 0 ≡ Some e → e.guard ≡ at_letter k → IsByLetters file row
 unfolding is_letter
 by_letters_of file row s e k at is = by_label row.label s.labelled
   where
     by_label : (label : Option Expression) → AreLabelled (length file.names) label row.edges → IsByLetters file row
-    by_label (Some l) a = absurd (no_letter k e.guard is (ap is_letter (all_get IsOfState row.edges (all_at IsOfState row.edges a) 0 e at)))
+    by_label (Some l) a =
+        absurd (no_letter k e.guard is (ap is_letter (all_get IsOfState row.edges
+        (all_at IsOfState row.edges a) 0 e at)))
     by_label None (inl a) =
         let s = all_get IsStated row.edges (all_at IsStated row.edges a) 0 e at in
         absurd (no_letter k e.guard is (ap is_letter s.1))
@@ -107,7 +119,8 @@ module _ (file : FileData) (sound : IsSoundFile file) (row : RowData) (row_sound
 
   not_among : (set : ℕ) (ns : List ℕ) → All (λ n. n < 64) ns → 64 ≤ set → is_among set ns ≡ false
   not_among set [] few high = refl
-  not_among set (n ∷ ns) few high = go (nat_eq set n) refl (not_among set ns (λ k d l. few (suc k) d (omega (arith, l))) high)
+  not_among set (n ∷ ns) few high =
+      go (nat_eq set n) refl (not_among set ns (λ k d l. few (suc k) d (omega (arith, l))) high)
     where
       go : (b : Bool) → nat_eq set n ≡ b → is_among set ns ≡ false → cond b true (is_among set ns) ≡ false
       go true is rest = let e = eqb-true set n is in let l = few 0 n (omega arith) in absurd (omega (arith, e, l, high))
@@ -115,9 +128,11 @@ module _ (file : FileData) (sound : IsSoundFile file) (row : RowData) (row_sound
 
   unmarked : (set j : ℕ) (e : EdgeData) → slice_get row.edges j ≡ Some e → 64 ≤ set → is_marked row e set ≡ false
   unmarked set j e at high =
-      ap (λ (b : Bool). b || is_among set e.marks) (not_among set row.marks row_marks_few high) ∙ not_among set e.marks (edge_marks_few j e at) high
+      ap (λ (b : Bool). b || is_among set e.marks) (not_among set row.marks row_marks_few high)
+      ∙ not_among set e.marks (edge_marks_few j e at) high
 
-  pub alike_of_target : (j k : ℕ) (one other : EdgeData) (target : Target) → slice_get row.edges j ≡ Some one → slice_get row.edges k ≡ Some other →
+  pub alike_of_target : (j k : ℕ) (one other : EdgeData) (target : Target) → slice_get row.edges j ≡ Some one →
+      slice_get row.edges k ≡ Some other →
       IsTargetOf row one target → IsTargetOf row other target → AreAlike row one other
   alike_of_target j k one other target at_j at_k a b = (sym a.state ∙ b.state, λ set. by_size set (cases_lt set 64))
     where
@@ -134,17 +149,21 @@ same_bit (suc (suc x)) y a b e = absurd (omega arith)
 same_bit zero (suc (suc y)) a b e = absurd (omega arith)
 same_bit (suc zero) (suc (suc y)) a b e = absurd (omega arith)
 
-pub target_of_alike : (row : RowData) (one other : EdgeData) (s t : Target) → IsTargetOf row one s → IsTargetOf row other t → AreAlike row one other → s ≡ t
+pub target_of_alike : (row : RowData) (one other : EdgeData) (s t : Target) → IsTargetOf row one s →
+    IsTargetOf row other t → AreAlike row one other → s ≡ t
 target_of_alike row one other s t a b alike =
     let state : s.state ≡ t.state = a.state ∙ alike.0 ∙ sym b.state in
     let bits : (i : ℕ) → i < 64 → bit_at s.sets i ≡ bit_at t.sets i = λ i small.
-    same_bit (bit_at s.sets i) (bit_at t.sets i) (bit_at-lt s.sets i) (bit_at-lt t.sets i) (a.sets i small ∙ alike.1 i ∙ sym (b.sets i small)) in
+    same_bit (bit_at s.sets i) (bit_at t.sets i) (bit_at-lt s.sets i) (bit_at-lt t.sets i)
+    (a.sets i small ∙ alike.1 i ∙ sym (b.sets i small)) in
     let sets : s.sets ≡ t.sets = same_from_bits_below 64 s.sets t.sets a.few b.few bits in
     let made : ℕ → ℕ → Target = λ n m. record { state = n; sets = m } in
     ap (λ n. made n s.sets) state ∙ ap (made t.state) sets
 
-pub edge_at : (items : List Edge) (k : ℕ) (e : Edge) → k < length items → e ≡ get_or items k e → slice_get (map edge_data items) k ≡ Some (edge_data e)
-edge_at items k e within is = slice_get-map edge_data items k ∙ ap (option_map edge_data) (slice_get_read items (length items) k e refl within is)
+pub edge_at : (items : List Edge) (k : ℕ) (e : Edge) → k < length items → e ≡ get_or items k e →
+    slice_get (map edge_data items) k ≡ Some (edge_data e)
+edge_at items k e within is = slice_get-map edge_data items k
+    ∙ ap (option_map edge_data) (slice_get_read items (length items) k e refl within is)
 
 and_true : (a b : Bool) → (a && b) ≡ true → (a ≡ true) × (b ≡ true)
 and_true true b e = (refl, e)

@@ -1,5 +1,6 @@
 -- Rows whose edges are taken at a letter each.
-use Rattle.std.proofs.Common.{◌≡◌, ℕ, ◌+◌, ◌%◌, ◌^◌, ◌<◌, ◌≤◌, ◌⊎◌, inl, inr, List, [], ◌∷◌, ◌++◌, length, get_or, Some, refl, sym, ap, subst, ◌∙◌, arith}
+use Rattle.std.proofs.Common.{◌≡◌, ℕ, ◌+◌, ◌%◌, ◌^◌, ◌<◌, ◌≤◌, ◌⊎◌, inl, inr, List, [], ◌∷◌, ◌++◌, length, get_or, Some}
+use Rattle.std.proofs.Common.{refl, sym, ap, subst, ◌∙◌, arith}
 use Rattle.std.specs.List.{slice_get}
 use Rattle.std.proofs.lemmas.Bool.{cases_lt}
 use Rattle.std.proofs.lemmas.Option.{slice_get_within, slice_get-get_or}
@@ -23,10 +24,13 @@ pushed (y ∷ xs) x = pushed xs x
 
 -- the first so many edges have their targets
 abbrev pub HaveTargets : RowData → ℕ → List Target → Type 0
-HaveTargets row count targets = (k : ℕ) (edge : EdgeData) → k < count → slice_get row.edges k ≡ Some edge → IsTargetAt row edge targets k
+HaveTargets row count targets =
+    (k : ℕ) (edge : EdgeData) → k < count → slice_get row.edges k ≡ Some edge → IsTargetAt row edge targets k
 
-pub targets_more : (row : RowData) (targets more : List Target) (count : ℕ) (edge : EdgeData) (target : Target) → length targets ≡ count → more ≡ targets ++ target ∷ [] →
-    slice_get row.edges count ≡ Some edge → IsTargetOf row edge target → HaveTargets row count targets → HaveTargets row (count + 1) more
+pub targets_more : (row : RowData) (targets more : List Target) (count : ℕ) (edge : EdgeData) (target : Target) →
+    length targets ≡ count → more ≡ targets ++ target ∷ [] →
+    slice_get row.edges count ≡ Some edge → IsTargetOf row edge target → HaveTargets row count targets →
+    HaveTargets row (count + 1) more
 targets_more row targets more count edge target size is at is_target have k e within there = by_size (cases_lt k count)
   where
     by_size : (k < count) ⊎ (count ≤ k) → IsTargetAt row e more k
@@ -36,21 +40,26 @@ targets_more row targets more count edge target size is at is_target have k e wi
     by_size (inr high) =
         let here : count ≡ k = omega (arith, within, high) in
         let same : edge ≡ e = same_some edge e (sym at ∙ ap (slice_get row.edges) here ∙ there) in
-        let last : slice_get more k ≡ Some target = ap (λ (ts : List Target). slice_get ts k) is ∙ ap (slice_get (targets ++ target ∷ [])) (sym here ∙ sym size) ∙ pushed targets target in
+        let last : slice_get more k ≡ Some target = ap (λ (ts : List Target). slice_get ts k) is
+        ∙ ap (slice_get (targets ++ target ∷ [])) (sym here ∙ sym size) ∙ pushed targets target in
         (target, last, subst (λ d. IsTargetOf row d target) same is_target)
 
 -- ## The row
 
 module _ (file : FileData) (row : RowData) (row_sound : IsSoundRow file row) (by : IsByLetters file row) where
-  letter_of_place : (place letter : ℕ) (edge : EdgeData) → slice_get row.edges place ≡ Some edge → IsOpen file.aliases row.label edge.guard letter → letter ≡ place
+  letter_of_place : (place letter : ℕ) (edge : EdgeData) → slice_get row.edges place ≡ Some edge →
+      IsOpen file.aliases row.label edge.guard letter → letter ≡ place
   letter_of_place place letter edge at open_at =
       let n : 0 + place ≡ place = omega arith in
-      subst (λ (g : GuardData). IsOpen file.aliases row.label g letter) (by_letter 0 row.edges by.0 place edge at ∙ ap at_letter n) open_at
+      subst (λ (g : GuardData). IsOpen file.aliases row.label g letter)
+      (by_letter 0 row.edges by.0 place edge at ∙ ap at_letter n) open_at
 
-  open_at_place : (place : ℕ) (edge : EdgeData) → slice_get row.edges place ≡ Some edge → IsOpen file.aliases row.label edge.guard place
+  open_at_place : (place : ℕ) (edge : EdgeData) → slice_get row.edges place ≡ Some edge →
+      IsOpen file.aliases row.label edge.guard place
   open_at_place place edge at =
       let n : 0 + place ≡ place = omega arith in
-      subst (λ (g : GuardData). IsOpen file.aliases row.label g place) (sym (by_letter 0 row.edges by.0 place edge at ∙ ap at_letter n)) refl
+      subst (λ (g : GuardData). IsOpen file.aliases row.label g place)
+      (sym (by_letter 0 row.edges by.0 place edge at ∙ ap at_letter n)) refl
 
   -- the edge at a place
   edge_there : (place : ℕ) → place < length row.edges → (edge : EdgeData) × (slice_get row.edges place ≡ Some edge)
@@ -58,15 +67,23 @@ module _ (file : FileData) (row : RowData) (row_sound : IsSoundRow file row) (by
       let d : EdgeData = record { guard = of_state; target = 0; marks = [] } in
       (get_or row.edges place d, slice_get-get_or row.edges place d within)
 
-  pub joined_by_letters : (targets : List Target) → AreTargets row targets → AreJoined file row (length row.edges) targets (λ letter. Some (letter % 2 ^ length file.names))
+  pub joined_by_letters : (targets : List Target) → AreTargets row targets →
+      AreJoined file row (length row.edges) targets (λ letter. Some (letter % 2 ^ length file.names))
   joined_by_letters targets a = record {
     there = λ letter small e.
-        let here : e.place ≡ letter % 2 ^ length file.names = sym (letter_of_place e.place letter e.edge e.at_place e.taken) ∙ sym (mod-eq_of_lt small) in
+        let here : e.place ≡ letter % 2 ^ length file.names =
+        sym (letter_of_place e.place letter e.edge e.at_place e.taken) ∙ sym (mod-eq_of_lt small) in
         subst (IsTargetAt row e.edge targets) here (a.each e.place e.edge e.at_place);
     from = λ letter place small _.
         let size = by.1 in
         let edge = edge_there letter (omega (arith, small, size)) in
-        record { place = letter; within = omega (arith, small, size); edge = edge.0; at_place = edge.1; taken = open_at_place letter edge.0 edge.1 };
+        record {
+          place = letter;
+          within = omega (arith, small, size);
+          edge = edge.0;
+          at_place = edge.1;
+          taken = open_at_place letter edge.0 edge.1;
+        };
     within = λ place target e.
         let size = a.one_each in
         let low = slice_get_within targets place target e in

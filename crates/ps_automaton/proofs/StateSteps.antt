@@ -6,12 +6,16 @@ use Rattle.ps_hoa.specs.Files.{RowData, FileData}
 use Rattle.ps_automaton.specs.Answers.{AreClashing, Clash}
 use Rattle.ps_automaton.specs.Drafts.{IsRowFault, IsStateFault}
 use Rattle.ps_automaton.specs.declared.fault.AutomatonFault.{AutomatonFault}
-use Rattle.ps_automaton.specs.declared.fault.AutomatonFault.TheVariants.{ComplementedSet, NonParity, Nondeterministic, OutOfMemory}
+use Rattle.ps_automaton.specs.declared.fault.AutomatonFault.TheVariants.{ComplementedSet, NonParity, Nondeterministic}
+use Rattle.ps_automaton.specs.declared.fault.AutomatonFault.TheVariants.{OutOfMemory}
 
-pub clash_in_row : (file : FileData) (q : ℕ) (row : RowData) → row_of file q ≡ Some row → (a b : ℕ) → Clash file q a b → AreClashing file row a b
-clash_in_row file q row of_state a b k = subst (λ r. AreClashing file r a b) (same_some k.row row (sym k.of_state ∙ of_state)) k.clashing
+pub clash_in_row : (file : FileData) (q : ℕ) (row : RowData) → row_of file q ≡ Some row → (a b : ℕ) → Clash file q a b →
+    AreClashing file row a b
+clash_in_row file q row of_state a b k =
+    subst (λ r. AreClashing file r a b) (same_some k.row row (sym k.of_state ∙ of_state)) k.clashing
 
-pub fault_of_state : (file : FileData) (q : ℕ) (row : RowData) → row_of file q ≡ Some row → row.state ≡ q → (f : AutomatonFault) → IsRowFault file row f → IsStateFault file q f
+pub fault_of_state : (file : FileData) (q : ℕ) (row : RowData) → row_of file q ≡ Some row → row.state ≡ q →
+    (f : AutomatonFault) → IsRowFault file row f → IsStateFault file q f
 fault_of_state file q row of_state state ComplementedSet h = h
 fault_of_state file q row of_state state NonParity h = h
 fault_of_state file q row of_state state (Nondeterministic p first second) h = (

@@ -1,5 +1,6 @@
 -- The edges of a row joined, one by one.
-use Rattle.std.proofs.Common.{◌≡◌, ◌≢◌, ℕ, ◌+◌, ◌^◌, ◌<◌, ◌≤◌, ◌⊎◌, inl, inr, List, length, Option, Some, None, sym, ap, subst, ◌∙◌, arith}
+use Rattle.std.proofs.Common.{◌≡◌, ◌≢◌, ℕ, ◌+◌, ◌^◌, ◌<◌, ◌≤◌, ◌⊎◌, inl, inr, List, length, Option, Some, None, sym, ap}
+use Rattle.std.proofs.Common.{subst, ◌∙◌, arith}
 use Rattle.std.specs.List.{slice_get}
 use Rattle.std.specs.Option.{option_map, IsSomeAnd}
 use Rattle.std.proofs.lemmas.Bool.{cases_lt}
@@ -18,21 +19,26 @@ use Rattle.ps_automaton.specs.declared.targets.Target.{Target}
 use Rattle.ps_automaton.proofs.Fitting.{alike_of_target, target_of_alike}
 use Rattle.ps_automaton.proofs.Meeting.{kept_leaf, shown_is_taken, taken_is_shown}
 
-where_marked : {P : Type 0} (leaf : Option ℕ) (value : ℕ) → IsWhere leaf 1 P → IsWhere (option_map (λ _. value) leaf) value P
+where_marked : {P : Type 0} (leaf : Option ℕ) (value : ℕ) → IsWhere leaf 1 P →
+    IsWhere (option_map (λ _. value) leaf) value P
 where_marked leaf value (inl a) = inl (ap (option_map (λ _. value)) a.0, a.1)
 where_marked leaf value (inr a) = inr (ap (option_map (λ _. value)) a.0, a.1)
 
 -- a guarded diagram shows its edge by that leaf
-pub marked_shows : (file : FileData) (row : RowData) (edge : EdgeData) (t u : Table) (node marked value : ℕ) → ShowsEdge file row edge t node 1 →
-    ((letter : ℕ) → leaf_of u marked letter ≡ option_map (λ _. value) (leaf_of t node letter)) → ShowsEdge file row edge u marked value
+pub marked_shows : (file : FileData) (row : RowData) (edge : EdgeData) (t u : Table) (node marked value : ℕ) →
+    ShowsEdge file row edge t node 1 →
+    ((letter : ℕ) → leaf_of u marked letter ≡ option_map (λ _. value) (leaf_of t node letter)) →
+    ShowsEdge file row edge u marked value
 marked_shows file row edge t u node marked value shows is letter small =
-    subst (λ leaf. IsWhere leaf value (IsTaken file row edge letter)) (sym (is letter)) (where_marked (leaf_of t node letter) value (shows letter small))
+    subst (λ leaf. IsWhere leaf value (IsTaken file row edge letter)) (sym (is letter))
+    (where_marked (leaf_of t node letter) value (shows letter small))
 
 joined_first : (P Q : ℕ → Type 0) (o m : Option ℕ) → IsSomeAnd o P → ((x : ℕ) → P x → Q x) → IsSomeAnd (joined o m) Q
 joined_first P Q None m h f = absurd h
 joined_first P Q (Some x) m h f = f x h
 
-joined_second : (Q : ℕ → Type 0) (o : Option ℕ) (p : ℕ) → AgreeingLeaves o (Some p) → Q p → IsSomeAnd (joined o (Some p)) Q
+joined_second : (Q : ℕ → Type 0) (o : Option ℕ) (p : ℕ) → AgreeingLeaves o (Some p) → Q p →
+    IsSomeAnd (joined o (Some p)) Q
 joined_second Q None p a q = q
 joined_second Q (Some x) p a q = subst Q (sym a) q
 
@@ -44,39 +50,61 @@ pub at_leaf : (P : ℕ → Type 0) (o : Option ℕ) (x : ℕ) → o ≡ Some x �
 at_leaf P None x e h = absurd h
 at_leaf P (Some y) x e h = subst P (same_some y x e) h
 
-pub wider : (file : FileData) (row : RowData) (count letter : ℕ) → TakenEdge file row count letter → TakenEdge file row (count + 1) letter
-wider file row count letter e = record { place = e.place; within = (let h = e.within in omega (arith, h)); edge = e.edge; at_place = e.at_place; taken = e.taken }
+pub wider : (file : FileData) (row : RowData) (count letter : ℕ) → TakenEdge file row count letter →
+    TakenEdge file row (count + 1) letter
+wider file row count letter e =
+    record {
+      place = e.place;
+      within = (let h = e.within in omega (arith, h));
+      edge = e.edge;
+      at_place = e.at_place;
+      taken = e.taken;
+    }
 
 module _ (file : FileData) (sound : IsSoundFile file) (row : RowData) (row_sound : IsSoundRow file row) where
   -- edges that were joined do not clash
-  pub union_clear : (count : ℕ) (targets : List Target) (place_at : ℕ → Option ℕ) → AreJoined file row count targets place_at → (a b : ℕ) → b < count → AreClashing file row a b → ⊥
+  pub union_clear : (count : ℕ) (targets : List Target) (place_at : ℕ → Option ℕ) →
+      AreJoined file row count targets place_at → (a b : ℕ) → b < count → AreClashing file row a b → ⊥
   union_clear count targets place_at u a b within k =
       let before : a < count = (let e = k.earlier in omega (arith, e, within)) in
-      let one : TakenEdge file row count k.letter = record { place = a; within = before; edge = k.one; at_place = k.at_first; taken = k.one_taken } in
-      let other : TakenEdge file row count k.letter = record { place = b; within = within; edge = k.other; at_place = k.at_second; taken = k.other_taken } in
+      let one : TakenEdge file row count k.letter =
+      record { place = a; within = before; edge = k.one; at_place = k.at_first; taken = k.one_taken } in
+      let other : TakenEdge file row count k.letter =
+      record { place = b; within = within; edge = k.other; at_place = k.at_second; taken = k.other_taken } in
       k.differ (by_leaf (place_at k.letter) (u.there k.letter k.is_letter one) (u.there k.letter k.is_letter other))
     where
-      by_leaf : (o : Option ℕ) → IsSomeAnd o (IsTargetAt row k.one targets) → IsSomeAnd o (IsTargetAt row k.other targets) → AreAlike row k.one k.other
+      by_leaf : (o : Option ℕ) → IsSomeAnd o (IsTargetAt row k.one targets) →
+          IsSomeAnd o (IsTargetAt row k.other targets) → AreAlike row k.one k.other
       by_leaf None h g = absurd h
       by_leaf (Some p) h g =
           let same : g.0 ≡ h.0 = same_some g.0 h.0 (sym g.1 ∙ h.1) in
-          alike_of_target file sound row row_sound a b k.one k.other h.0 k.at_first k.at_second h.2 (subst (IsTargetOf row k.other) same g.2)
+          alike_of_target file sound row row_sound a b k.one k.other h.0 k.at_first k.at_second h.2
+          (subst (IsTargetOf row k.other) same g.2)
 
   -- one edge more
-  module _ (count : ℕ) (edge : EdgeData) (at : slice_get row.edges count ≡ Some edge) (target : Target) (is : IsTargetOf row edge target) (old new : List Target) (place : ℕ)
-      (grows : (i : ℕ) (x : Target) → slice_get old i ≡ Some x → slice_get new i ≡ Some x) (stored : slice_get new place ≡ Some target)
+  module _ (count : ℕ) (edge : EdgeData) (at : slice_get row.edges count ≡ Some edge) (target : Target)
+      (is : IsTargetOf row edge target) (old new : List Target) (place : ℕ)
+      (grows : (i : ℕ) (x : Target) → slice_get old i ≡ Some x → slice_get new i ≡ Some x)
+      (stored : slice_get new place ≡ Some target)
       (back : (i : ℕ) (x : Target) → slice_get new i ≡ Some x → (slice_get old i ≡ Some x) ⊎ (x ≡ target))
-      (before t : Table) (keeps : Keeps before t) (node marked : ℕ) (union : IsUnion file row count old before node) (shows : ShowsEdge file row edge t marked place) where
+      (before t : Table) (keeps : Keeps before t) (node marked : ℕ) (union : IsUnion file row count old before node)
+      (shows : ShowsEdge file row edge t marked place) where
     node_leaf : (letter : ℕ) → leaf_of t node letter ≡ leaf_of before node letter
     node_leaf letter = kept_leaf before t keeps node letter union.held
 
-    pub union_grown : (after : Table) (made : ℕ) → IsNode after made → ((letter : ℕ) → leaf_of after made letter ≡ joined (leaf_of t node letter) (leaf_of t marked letter)) →
-        ((letter : ℕ) → AgreeingLeaves (leaf_of t node letter) (leaf_of t marked letter)) → IsUnion file row (count + 1) new after made
+    pub union_grown : (after : Table) (made : ℕ) → IsNode after made →
+        ((letter : ℕ) → leaf_of after made letter ≡ joined (leaf_of t node letter) (leaf_of t marked letter)) →
+        ((letter : ℕ) → AgreeingLeaves (leaf_of t node letter) (leaf_of t marked letter)) →
+        IsUnion file row (count + 1) new after made
     union_grown after made held leaf agree = record {
       held = held;
       joined = record {
-        there = λ letter small e. subst (λ o. IsSomeAnd o (IsTargetAt row e.edge new)) (sym (leaf letter)) (by_place letter small e (cases_lt e.place count));
-        from = λ letter x small is_leaf. by_side letter x small (joined_from (leaf_of t node letter) (leaf_of t marked letter) x (sym (leaf letter) ∙ is_leaf));
+        there =
+            λ letter small e. subst (λ o. IsSomeAnd o (IsTargetAt row e.edge new)) (sym (leaf letter))
+            (by_place letter small e (cases_lt e.place count));
+        from =
+            λ letter x small is_leaf. by_side letter x small (joined_from (leaf_of t node letter)
+            (leaf_of t marked letter) x (sym (leaf letter) ∙ is_leaf));
         within = λ i x e. by_target i x (back i x e);
       };
     }
@@ -88,34 +116,58 @@ module _ (file : FileData) (sound : IsSoundFile file) (row : RowData) (row_sound
             let low = (sound_edge file row row_sound count edge at).target in
             omega (arith, state, low)
 
-        by_place : (letter : ℕ) → letter < 2 ^ length file.names → (e : TakenEdge file row (count + 1) letter) → (e.place < count) ⊎ (count ≤ e.place) →
+        by_place : (letter : ℕ) → letter < 2 ^ length file.names → (e : TakenEdge file row (count + 1) letter) →
+            (e.place < count) ⊎ (count ≤ e.place) →
             IsSomeAnd (joined (leaf_of t node letter) (leaf_of t marked letter)) (IsTargetAt row e.edge new)
         by_place letter small e (inl low) =
-            let first : TakenEdge file row count letter = record { place = e.place; within = low; edge = e.edge; at_place = e.at_place; taken = e.taken } in
-            let was = subst (λ o. IsSomeAnd o (IsTargetAt row e.edge old)) (sym (node_leaf letter)) (union.joined.there letter small first) in
-            joined_first (IsTargetAt row e.edge old) (IsTargetAt row e.edge new) (leaf_of t node letter) (leaf_of t marked letter) was (λ x h. (h.0, grows x h.0 h.1, h.2))
+            let first : TakenEdge file row count letter =
+            record { place = e.place; within = low; edge = e.edge; at_place = e.at_place; taken = e.taken } in
+            let was =
+            subst (λ o. IsSomeAnd o (IsTargetAt row e.edge old)) (sym (node_leaf letter))
+            (union.joined.there letter small first) in
+            joined_first (IsTargetAt row e.edge old) (IsTargetAt row e.edge new) (leaf_of t node letter)
+            (leaf_of t marked letter) was (λ x h. (h.0, grows x h.0 h.1, h.2))
         by_place letter small e (inr high) =
             let here : e.place ≡ count = (let h = e.within in omega (arith, h, high)) in
-            let same : edge ≡ e.edge = same_some edge e.edge (sym at ∙ ap (slice_get row.edges) (sym here) ∙ e.at_place) in
+            let same : edge ≡ e.edge =
+            same_some edge e.edge (sym at ∙ ap (slice_get row.edges) (sym here) ∙ e.at_place) in
             let taken = subst (λ d. IsTaken file row d letter) (sym same) e.taken in
-            let shown : leaf_of t marked letter ≡ Some place = taken_is_shown (leaf_of t marked letter) place (shows letter small) taken in
+            let shown : leaf_of t marked letter ≡ Some place =
+            taken_is_shown (leaf_of t marked letter) place (shows letter small) taken in
             let agrees = subst (AgreeingLeaves (leaf_of t node letter)) shown (agree letter) in
-            let target_at : IsTargetAt row e.edge new place = (target, stored, subst (λ d. IsTargetOf row d target) same is) in
-            subst (λ o. IsSomeAnd (joined (leaf_of t node letter) o) (IsTargetAt row e.edge new)) (sym shown) (joined_second (IsTargetAt row e.edge new) (leaf_of t node letter) place agrees target_at)
+            let target_at : IsTargetAt row e.edge new place =
+            (target, stored, subst (λ d. IsTargetOf row d target) same is) in
+            subst (λ o. IsSomeAnd (joined (leaf_of t node letter) o) (IsTargetAt row e.edge new)) (sym shown)
+            (joined_second (IsTargetAt row e.edge new) (leaf_of t node letter) place agrees target_at)
 
-        by_side : (letter x : ℕ) → letter < 2 ^ length file.names → (leaf_of t node letter ≡ Some x) ⊎ (leaf_of t marked letter ≡ Some x) → TakenEdge file row (count + 1) letter
-        by_side letter x small (inl e) = wider file row count letter (union.joined.from letter x small (sym (node_leaf letter) ∙ e))
-        by_side letter x small (inr e) = record { place = count; within = omega arith; edge = edge; at_place = at; taken = shown_is_taken (leaf_of t marked letter) place x (shows letter small) e }
+        by_side : (letter x : ℕ) → letter < 2 ^ length file.names →
+            (leaf_of t node letter ≡ Some x) ⊎ (leaf_of t marked letter ≡ Some x) →
+            TakenEdge file row (count + 1) letter
+        by_side letter x small (inl e) =
+            wider file row count letter (union.joined.from letter x small (sym (node_leaf letter) ∙ e))
+        by_side letter x small (inr e) =
+            record {
+              place = count;
+              within = omega arith;
+              edge = edge;
+              at_place = at;
+              taken = shown_is_taken (leaf_of t marked letter) place x (shows letter small) e;
+            }
 
     -- a clash of the diagrams is one of edges
     pub union_clash : AreDistinct new → (letter x y : ℕ) → letter < 2 ^ length file.names →
-        leaf_of t node letter ≡ Some x → leaf_of t marked letter ≡ Some y → x ≢ y → (first : ℕ) × AreClashing file row first count
+        leaf_of t node letter ≡ Some x → leaf_of t marked letter ≡ Some y → x ≢ y →
+        (first : ℕ) × AreClashing file row first count
     union_clash distinct letter x y small first second differ =
         let was : leaf_of before node letter ≡ Some x = sym (node_leaf letter) ∙ first in
         let e = union.joined.from letter x small was in
-        let there : IsTargetAt row e.edge old x = at_leaf (IsTargetAt row e.edge old) (leaf_of before node letter) x was (union.joined.there letter small e) in
+        let there : IsTargetAt row e.edge old x =
+        at_leaf (IsTargetAt row e.edge old) (leaf_of before node letter) x was
+        (union.joined.there letter small e) in
         let taken = shown_is_taken (leaf_of t marked letter) place y (shows letter small) second in
-        let mark : place ≡ y = same_some place y (sym (taken_is_shown (leaf_of t marked letter) place (shows letter small) taken) ∙ second) in (
+        let mark : place ≡ y =
+        same_some place y (sym (taken_is_shown (leaf_of t marked letter) place (shows letter small) taken) ∙ second)
+        in (
           e.place,
           record {
             earlier = e.within;
@@ -135,7 +187,9 @@ module _ (file : FileData) (sound : IsSoundFile file) (row : RowData) (row_sound
         )
 
   -- the first clash of the row
-  pub first_of_row : (count : ℕ) (targets : List Target) (t : Table) (node : ℕ) → IsUnion file row count targets t node → (first : ℕ) → AreClashing file row first count → ((a : ℕ) → AreClashing file row a count → first ≤ a) →
+  pub first_of_row : (count : ℕ) (targets : List Target) (t : Table) (node : ℕ) →
+      IsUnion file row count targets t node → (first : ℕ) → AreClashing file row first count →
+      ((a : ℕ) → AreClashing file row a count → first ≤ a) →
       IsFirstOfRow file row first count
   first_of_row count targets t node u first k least = record {
     clashing = k;

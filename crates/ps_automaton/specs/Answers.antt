@@ -1,6 +1,7 @@
 -- Which answer of `build` is right: the automaton of a file, or the first of three causes for which there is none.
 --     AreAlike row one other      two edges of a row have the same target and the same joined sets
---     Clash file q first second      these edges of the state q, by their places, are both taken at some letter and not alike
+--     Clash file q first second      these edges of the state q, by their places, are both taken at some letter and not
+--               alike
 --     IsDeterministic file      no edges clash
 --     IsAdmitted file      none of the three causes stands
 --     IsRefused file fault      that one stands, and none before it
@@ -9,7 +10,8 @@ use Rattle.ps_hoa.specs.Files.{EdgeData, RowData, FileData}
 use Rattle.ps_hoa.specs.Edges.{row_of, IsTaken, is_marked}
 use Rattle.ps_automaton.specs.Chains.{Chain, chain_of, has_complement}
 use Rattle.ps_automaton.specs.declared.fault.AutomatonFault.{AutomatonFault}
-use Rattle.ps_automaton.specs.declared.fault.AutomatonFault.TheVariants.{ComplementedSet, NonParity, Nondeterministic, OutOfMemory}
+use Rattle.ps_automaton.specs.declared.fault.AutomatonFault.TheVariants.{ComplementedSet, NonParity, Nondeterministic}
+use Rattle.ps_automaton.specs.declared.fault.AutomatonFault.TheVariants.{OutOfMemory}
 
 -- sets are compared as sets, so the order in which they are written makes no difference
 abbrev pub AreAlike : RowData → EdgeData → EdgeData → Type 0
@@ -54,5 +56,6 @@ abbrev pub IsRefused : FileData → AutomatonFault → Type 0
 IsRefused file ComplementedSet = has_complement file.condition ≡ true
 IsRefused file NonParity = (has_complement file.condition ≡ false) × (chain_of file.condition ≡ None)
 IsRefused file (Nondeterministic q first second) =
-    (has_complement file.condition ≡ false) × (chain : Chain) × (chain_of file.condition ≡ Some chain) × IsFirstClash file q first second
+    (has_complement file.condition ≡ false) × (chain : Chain) × (chain_of file.condition ≡ Some chain) ×
+    IsFirstClash file q first second
 IsRefused file OutOfMemory = Unit {0}

@@ -32,7 +32,12 @@ abbrev pub step_of : AutomatonData → ℕ → ℕ → Step
 step_of a q letter = pair_of a (unwrap_or (leaf_of a.store (node_of a q) letter) (length a.steps))
 
 abbrev pub auto_of : AutomatonData → Auto
-auto_of a = record { start = a.start; next = λ q letter. (step_of a q letter).state; priority = λ q letter. (step_of a q letter).priority }
+auto_of a =
+    record {
+      start = a.start;
+      next = λ q letter. (step_of a q letter).state;
+      priority = λ q letter. (step_of a q letter).priority;
+    }
 
 -- names are few, and differ; each letter leads to a leaf that names a step, and no two leaves name the same one
 pub record IsWhole (a : AutomatonData) : Type 0 where
@@ -43,9 +48,11 @@ pub record IsWhole (a : AutomatonData) : Type 0 where
   pub start : a.start < a.states
   pub nodes : length a.nodes ≡ a.states + 1
   pub held : (q : ℕ) → q ≤ a.states → IsNode a.store (node_of a q)
-  pub leaves : (q letter : ℕ) → q ≤ a.states → IsSomeAnd (leaf_of a.store (node_of a q) letter) (λ leaf. leaf < length a.steps)
+  pub leaves : (q letter : ℕ) → q ≤ a.states → IsSomeAnd (leaf_of a.store (node_of a q) letter)
+      (λ leaf. leaf < length a.steps)
   pub targets : (leaf : ℕ) → leaf < length a.steps → (pair_of a leaf).state ≤ a.states
-  pub once : (one other : ℕ) → one < length a.steps → other < length a.steps → pair_of a one ≡ pair_of a other → one ≡ other
+  pub once : (one other : ℕ) → one < length a.steps → other < length a.steps →
+      pair_of a one ≡ pair_of a other → one ≡ other
 
 pub record IsBuiltFrom (file : FileData) (chain : Chain) (a : AutomatonData) : Type 0 where
   pub names : a.names ≡ file.names

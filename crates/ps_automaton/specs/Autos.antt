@@ -27,11 +27,14 @@ pub record IsAutoOf (file : FileData) (chain : Chain) (a : Auto) : Type 0 where
   pub start : a.start ≡ file.start
   pub start_within : a.start ≤ file.states
   pub within : (q letter : ℕ) → q ≤ file.states → letter < 2 ^ length file.names → a.next q letter ≤ file.states
-  pub steps : (q letter : ℕ) → q < file.states → letter < 2 ^ length file.names → TakesEdge file chain a q letter ⊎ TakesNone file a q letter
+  pub steps : (q letter : ℕ) → q < file.states → letter < 2 ^ length file.names →
+      TakesEdge file chain a q letter ⊎ TakesNone file a q letter
   -- each edge is the step's
-  pub by_edge : (q letter : ℕ) (sets : ℕ → Bool) (next : ℕ) → Goes file q letter sets next → (a.next q letter ≡ next) × (a.priority q letter ≡ level chain sets)
+  pub by_edge : (q letter : ℕ) (sets : ℕ → Bool) (next : ℕ) → Goes file q letter sets next →
+      (a.next q letter ≡ next) × (a.priority q letter ≡ level chain sets)
   -- every letter leads the sink to itself
-  pub sink_stays : (letter : ℕ) → letter < 2 ^ length file.names → (a.next file.states letter ≡ file.states) × (a.priority file.states letter ≡ 1)
+  pub sink_stays : (letter : ℕ) → letter < 2 ^ length file.names →
+      (a.next file.states letter ≡ file.states) × (a.priority file.states letter ≡ 1)
 
 -- ## Runs
 
@@ -65,4 +68,5 @@ state_after a q lap (suc laps) = state_behind a (state_after a q lap laps) lap
 
 abbrev pub greatest_of_laps : Auto → ℕ → List ℕ → ℕ → ℕ
 greatest_of_laps a q lap zero = 0
-greatest_of_laps a q lap (suc laps) = max (greatest_of_laps a q lap laps) (greatest_along a (state_after a q lap laps) lap)
+greatest_of_laps a q lap (suc laps) =
+    max (greatest_of_laps a q lap laps) (greatest_along a (state_after a q lap laps) lap)

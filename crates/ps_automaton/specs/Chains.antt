@@ -1,10 +1,12 @@
 -- Conditions that are chains, and the numbers that a chain gives to edges.
--- A chain is a list of links, each a set and whether meeting that set accepts, and a base. Of a part of a run, the first link whose set
--- is met decides; where none is, the base does.
+-- A chain is a list of links, each a set and whether meeting that set accepts, and a base. Of a part of a run, the
+-- first link whose set is met decides; where none is, the base does.
 --     chain_of condition      the chain that the condition is, if it is one
 --     level chain has      the number of an edge: of the first link whose set it has, or of the base
-use Rattle.std.specs.Prelude.{ℕ, ◌+◌, ◌%◌, max, Bool, true, false, not, List, [], ◌∷◌, ◌++◌, Option, None, Some, if◌then◌else◌, nat_eq}
-use Rattle.ps_hoa.specs.Conditions.{SetData, Condition, Conditions, constant, infinitely, finitely, all_hold, any_holds, last, more}
+use Rattle.std.specs.Prelude.{ℕ, ◌+◌, ◌%◌, max, Bool, true, false, not, List, [], ◌∷◌, ◌++◌, Option, None, Some}
+use Rattle.std.specs.Prelude.{if◌then◌else◌, nat_eq}
+use Rattle.ps_hoa.specs.Conditions.{SetData, Condition, Conditions, constant, infinitely, finitely, all_hold, any_holds}
+use Rattle.ps_hoa.specs.Conditions.{last, more}
 
 -- a set, and whether meeting it accepts
 pub record Link : Type 0 where
@@ -47,9 +49,9 @@ abbrev pub one_link : Option Link → Option (List Link)
 one_link None = None
 one_link (Some link) = Some (link ∷ [])
 
--- `t` and `f` are a base alone. `Inf` of a set is one link with the base f, `Fin` one link with the base t. In a disjunction all operands
--- but at most one are `Inf`: their links in order, then the chain of the remaining operand, or else the base f. A conjunction is the
--- same with `Fin` and t.
+-- `t` and `f` are a base alone. `Inf` of a set is one link with the base f, `Fin` one link with the base t. In a
+-- disjunction all operands but at most one are `Inf`: their links in order, then the chain of the remaining operand, or
+-- else the base f. A conjunction is the same with `Fin` and t.
 abbrev mutual
   pub chain_of : Condition → Option Chain
   chain_of (constant base) = base_alone base

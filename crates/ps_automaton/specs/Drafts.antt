@@ -3,7 +3,8 @@
 --     IsWhere leaf value P      the leaf is that value where P is true, and none where it is not
 --     IsUnion file row count targets t node      a node leads each letter to the target of the edge that is taken there
 --     IsStepsOf file chain q steps t node      a node leads each letter to the step of the state q
-use Rattle.std.specs.Prelude.{◌≡◌, ℕ, ◌^◌, ◌<◌, ◌≤◌, ◌⊎◌, Bool, List, length, None, Some, Option, IsSomeAnd, slice_get, slice_index, ◌+◌}
+use Rattle.std.specs.Prelude.{◌≡◌, ℕ, ◌^◌, ◌<◌, ◌≤◌, ◌⊎◌, Bool, List, length, None, Some, Option, IsSomeAnd, slice_get}
+use Rattle.std.specs.Prelude.{slice_index, ◌+◌}
 use Rattle.ps_label.specs.Expression.{Expression}
 use Rattle.ps_label.specs.Truth.{is_in, label_truth}
 use Rattle.ps_diagram.specs.Labels.{AreNodesOf, one_where}
@@ -18,7 +19,8 @@ use Rattle.ps_automaton.specs.Numbering.{AreSetsBelow, IsTable}
 use Rattle.ps_automaton.specs.Targets.{IsTargetOf}
 use Rattle.ps_automaton.specs.Views.{chain_data}
 use Rattle.ps_automaton.specs.declared.fault.AutomatonFault.{AutomatonFault}
-use Rattle.ps_automaton.specs.declared.fault.AutomatonFault.TheVariants.{ComplementedSet, NonParity, Nondeterministic, OutOfMemory}
+use Rattle.ps_automaton.specs.declared.fault.AutomatonFault.TheVariants.{ComplementedSet, NonParity, Nondeterministic}
+use Rattle.ps_automaton.specs.declared.fault.AutomatonFault.TheVariants.{OutOfMemory}
 use Rattle.ps_automaton.specs.declared.guards.Guards.{Guards}
 use Rattle.ps_automaton.specs.declared.levels.Levels.{Levels}
 use Rattle.ps_automaton.specs.declared.pairs.Pairs.{Pairs}
@@ -31,7 +33,8 @@ abbrev pub IsLabelNode : Table → FileData → Option Expression → Option ℕ
 IsLabelNode t file None None = Unit {0}
 IsLabelNode t file None (Some node) = ⊥
 IsLabelNode t file (Some e) None = ⊥
-IsLabelNode t file (Some e) (Some node) = IsNode t node × ((letter : ℕ) → leaf_of t node letter ≡ one_where (label_truth file.aliases letter e))
+IsLabelNode t file (Some e) (Some node) =
+    IsNode t node × ((letter : ℕ) → leaf_of t node letter ≡ one_where (label_truth file.aliases letter e))
 
 pub record IsReady (t : Table) (g : Guards) : Type 0 where
   pub sound : IsSoundFile g.file.now
@@ -51,16 +54,20 @@ IsWhere leaf value P = ((leaf ≡ Some value) × P) ⊎ ((leaf ≡ None) × (P �
 
 -- a node has that leaf at the letters at which the edge is taken, and none at the others
 abbrev pub ShowsEdge : FileData → RowData → EdgeData → Table → ℕ → ℕ → Type 0
-ShowsEdge file row edge t node value = (letter : ℕ) → letter < 2 ^ length file.names → IsWhere (leaf_of t node letter) value (IsTaken file row edge letter)
+ShowsEdge file row edge t node value = (letter : ℕ) → letter < 2 ^ length file.names →
+    IsWhere (leaf_of t node letter) value (IsTaken file row edge letter)
 
 -- some letter has a leaf in both
 abbrev pub Meet : Table → ℕ → ℕ → Type 0
-Meet t one other = (letter : ℕ) × (letter < 2 ^ t.propositions) × (x : ℕ) × (y : ℕ) × (leaf_of t one letter ≡ Some x) × (leaf_of t other letter ≡ Some y)
+Meet t one other =
+    (letter : ℕ) × (letter < 2 ^ t.propositions) × (x : ℕ) × (y : ℕ) × (leaf_of t one letter ≡ Some x) ×
+    (leaf_of t other letter ≡ Some y)
 
 -- ## Unions
 
 abbrev pub IsTargetAt : RowData → EdgeData → List Target → ℕ → Type 0
-IsTargetAt row edge targets place = (target : Target) × (slice_get targets place ≡ Some target) × IsTargetOf row edge target
+IsTargetAt row edge targets place =
+    (target : Target) × (slice_get targets place ≡ Some target) × IsTargetOf row edge target
 
 -- an edge of a row, among so many, that is taken at a letter
 pub record TakenEdge (file : FileData) (row : RowData) (count letter : ℕ) : Type 0 where
@@ -71,15 +78,19 @@ pub record TakenEdge (file : FileData) (row : RowData) (count letter : ℕ) : Ty
   pub taken : IsTaken file row edge letter
 
 -- the first so many edges, letter by letter: the place of the target of the edge that is taken there, or none
-pub record AreJoined (file : FileData) (row : RowData) (count : ℕ) (targets : List Target) (place_at : ℕ → Option ℕ) : Type 0 where
-  pub there : (letter : ℕ) → letter < 2 ^ length file.names → (e : TakenEdge file row count letter) → IsSomeAnd (place_at letter) (IsTargetAt row e.edge targets)
-  pub from : (letter place : ℕ) → letter < 2 ^ length file.names → place_at letter ≡ Some place → TakenEdge file row count letter
+pub record AreJoined (file : FileData) (row : RowData) (count : ℕ) (targets : List Target)
+    (place_at : ℕ → Option ℕ) : Type 0 where
+  pub there : (letter : ℕ) → letter < 2 ^ length file.names → (e : TakenEdge file row count letter) →
+      IsSomeAnd (place_at letter) (IsTargetAt row e.edge targets)
+  pub from : (letter place : ℕ) → letter < 2 ^ length file.names → place_at letter ≡ Some place →
+      TakenEdge file row count letter
   pub within : (place : ℕ) (target : Target) → slice_get targets place ≡ Some target → target.state < file.states
 
 -- the same by a node
-pub record IsUnion (file : FileData) (row : RowData) (count : ℕ) (targets : List Target) (t : Table) (node : ℕ) : Type 0 where
-  pub held : IsNode t node
-  pub joined : AreJoined file row count targets (leaf_of t node)
+pub record IsUnion (file : FileData) (row : RowData) (count : ℕ) (targets : List Target) (t : Table) (node : ℕ) : Type 0
+  where
+    pub held : IsNode t node
+    pub joined : AreJoined file row count targets (leaf_of t node)
 
 -- each edge of a row is taken at one letter, that of its place
 abbrev pub IsByLetters : FileData → RowData → Type 0
@@ -123,7 +134,8 @@ step_of_target chain target = record { state = target.state; priority = level ch
 -- the places of the steps to these targets
 pub record ArePlaces (chain : Chain) (targets : List Target) (steps : List Step) (places : List ℕ) : Type 0 where
   pub one_each : length places ≡ length targets
-  pub each : (k place : ℕ) (target : Target) → slice_get targets k ≡ Some target → slice_get places k ≡ Some place → slice_get steps place ≡ Some (step_of_target chain target)
+  pub each : (k place : ℕ) (target : Target) → slice_get targets k ≡ Some target → slice_get places k ≡ Some place →
+      slice_get steps place ≡ Some (step_of_target chain target)
 
 -- the leaf names that step
 abbrev pub Names : List Step → Option ℕ → Step → Type 0
@@ -142,15 +154,18 @@ pub record Stops (file : FileData) (q letter : ℕ) (steps : List Step) (leaf : 
 pub record IsStepsOf (file : FileData) (chain : Chain) (q : ℕ) (steps : List Step) (t : Table) (node : ℕ) : Type 0 where
   pub held : IsNode t node
   pub leaves : (letter : ℕ) → IsSomeAnd (leaf_of t node letter) (λ leaf. leaf < length steps)
-  pub steps_of : (letter : ℕ) → letter < 2 ^ length file.names → Moves file chain q letter steps (leaf_of t node letter) ⊎ Stops file q letter steps (leaf_of t node letter)
-  pub by_edge : (letter : ℕ) (sets : ℕ → Bool) (next : ℕ) → Goes file q letter sets next → Names steps (leaf_of t node letter) (record { state = next; priority = level chain sets })
+  pub steps_of : (letter : ℕ) → letter < 2 ^ length file.names →
+      Moves file chain q letter steps (leaf_of t node letter) ⊎ Stops file q letter steps (leaf_of t node letter)
+  pub by_edge : (letter : ℕ) (sets : ℕ → Bool) (next : ℕ) → Goes file q letter sets next →
+      Names steps (leaf_of t node letter) (record { state = next; priority = level chain sets })
   pub clear : (first second : ℕ) → Clash file q first second → ⊥
 
 abbrev pub IsStateFault : FileData → ℕ → AutomatonFault → Type 0
 IsStateFault file q ComplementedSet = ⊥
 IsStateFault file q NonParity = ⊥
 IsStateFault file q (Nondeterministic p first second) =
-    (p ≡ q) × Clash file q first second × ((a b : ℕ) → Clash file q a b → second ≤ b) × ((a : ℕ) → Clash file q a second → first ≤ a)
+    (p ≡ q) × Clash file q first second × ((a b : ℕ) → Clash file q a b → second ≤ b) ×
+    ((a : ℕ) → Clash file q a second → first ≤ a)
 IsStateFault file q OutOfMemory = Unit {0}
 
 -- the steps of states in the making grow

@@ -14,10 +14,12 @@ with_base links base = option_map (λ b. record { links = map link_data links; b
 
 -- the chain of operands behind some links
 abbrev pub whole : Bool → List Cond → List Link → Option Chain
-whole accepts operands before = in_front (Some (map link_data before)) (chain_of_all accepts (row_of (map condition_of operands)))
+whole accepts operands before =
+    in_front (Some (map link_data before)) (chain_of_all accepts (row_of (map condition_of operands)))
 
 abbrev pub IsGathered : Bool → List Cond → List Link → List Link → Gathered → Type 0
 IsGathered accepts operands before after All = whole accepts operands before ≡ with_base after (Some (not accepts))
 IsGathered accepts operands before after (AllBut k) =
-    (k < length operands) × HoldsAt (λ c. whole accepts operands before ≡ in_front (Some (map link_data after)) (chain_of (condition_of c))) operands k
+    (k < length operands) × HoldsAt (λ c. whole accepts operands before ≡ in_front (Some (map link_data after))
+    (chain_of (condition_of c))) operands k
 IsGathered accepts operands before after TooFew = whole accepts operands before ≡ None

@@ -10,12 +10,15 @@ pair_cmp p q = ordering_then (nat_cmp p.0 q.0) (nat_cmp p.1 q.1)
 
 -- each target stands at one place
 abbrev pub AreDistinct : List Target → Type 0
-AreDistinct targets = (i j : ℕ) (target : Target) → slice_get targets i ≡ Some target → slice_get targets j ≡ Some target → i ≡ j
+AreDistinct targets =
+    (i j : ℕ) (target : Target) → slice_get targets i ≡ Some target → slice_get targets j ≡ Some target → i ≡ j
 
 -- the table has the place of each target, and of nothing else
 pub record IsTableOf (targets : List Target) (table : ℕ → ℕ → Option ℕ) : Type 0 where
-  pub sound : (target : Target) (place : ℕ) → table target.state target.sets ≡ Some place → slice_get targets place ≡ Some target
-  pub whole : (target : Target) (place : ℕ) → slice_get targets place ≡ Some target → table target.state target.sets ≡ Some place
+  pub sound : (target : Target) (place : ℕ) → table target.state target.sets ≡ Some place →
+      slice_get targets place ≡ Some target
+  pub whole : (target : Target) (place : ℕ) → slice_get targets place ≡ Some target →
+      table target.state target.sets ≡ Some place
 
 -- a target stands at that place; a new one goes behind the others
 pub record IsPlaced (old new : List Target) (target : Target) (place : ℕ) : Type 0 where

@@ -2,7 +2,8 @@
 use Rattle.std.specs.Prelude.{◌≡◌, ℕ, ◌+◌, ◌-◌, ◌%◌, ◌≤◌, List, length, nat_lt, if◌then◌else◌, slice_index}
 
 abbrev pub word : List ℕ → List ℕ → ℕ → ℕ
-word stem lap t = if nat_lt t (length stem) then slice_index stem t else slice_index lap ((t - length stem) % length lap)
+word stem lap t =
+    if nat_lt t (length stem) then slice_index stem t else slice_index lap ((t - length stem) % length lap)
 
 -- from that place on, each value comes again after so many places
 abbrev pub Repeats : (ℕ → ℕ) → ℕ → ℕ → Type 0

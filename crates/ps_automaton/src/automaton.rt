@@ -48,9 +48,25 @@ impl Model for Automaton {
 
     ghost Value = { AutomatonData };
 
-    ghost view = { λ a. record { names = map bytes_of a.names.items; controllable = a.controllable.items; states = a.states; start = a.start; store = a.store; nodes = a.nodes.items; steps = a.steps.keys } };
+    ghost view = { λ a. record {
+      names = map bytes_of a.names.items;
+      controllable = a.controllable.items;
+      states = a.states;
+      start = a.start;
+      store = a.store;
+      nodes = a.nodes.items;
+      steps = a.steps.keys;
+    } };
 
-    ghost invariant = { λ a. IsWhole (record { names = map bytes_of a.names.items; controllable = a.controllable.items; states = a.states; start = a.start; store = a.store; nodes = a.nodes.items; steps = a.steps.keys }) };
+    ghost invariant = { λ a. IsWhole (record {
+      names = map bytes_of a.names.items;
+      controllable = a.controllable.items;
+      states = a.states;
+      start = a.start;
+      store = a.store;
+      nodes = a.nodes.items;
+      steps = a.steps.keys;
+    }) };
 }
 
 impl Automaton {
@@ -71,7 +87,8 @@ impl Automaton {
 
     /// The automaton of a file whose diagrams are made.
     fn from_draft(alloc: Global, file: &HoaFile, draft: Draft) -> Result<Automaton, AllocError>
-        requires { (chain : Chain) × (chain_of file.now.condition ≡ Some chain) × IsDraft file.now chain draft.pairs.steps.keys draft.pairs.store draft.nodes.items }
+        requires { (chain : Chain) × (chain_of file.now.condition ≡ Some chain) ×
+            IsDraft file.now chain draft.pairs.steps.keys draft.pairs.store draft.nodes.items }
         ensures { IfOk result (λ automaton. (chain : Chain) × IsBuiltFrom file.now chain automaton) }
     {
         let names = copied(alloc, file.names())?;
@@ -172,7 +189,8 @@ impl Automaton {
         requires some { 0 < length lap.now }
         requires stem { All (λ letter. letter < 2 ^ length self.now.names) stem.now }
         requires lap { All (λ letter. letter < 2 ^ length self.now.names) lap.now }
-        ensures { IfOk result (λ accepted. (file : FileData) (chain : Chain) → IsBuiltFrom file chain self.now → (IsTrue accepted ↔ IsAccepted file stem.now lap.now)) }
+        ensures { IfOk result (λ accepted. (file : FileData) (chain : Chain) → IsBuiltFrom file chain self.now →
+            (IsTrue accepted ↔ IsAccepted file stem.now lap.now)) }
     {
         let first = self.read(self.start(), stem).state;
         let orbit = self.returning(first, lap)?;
@@ -237,7 +255,8 @@ impl Automaton {
 
 /// The diagrams of a file whose condition is a chain without complements.
 fn draft_of(alloc: Global, file: &HoaFile) -> Result<Draft, AutomatonFault>
-    ensures draft { IfOk result (λ draft. (chain : Chain) × (chain_of file.now.condition ≡ Some chain) × IsDraft file.now chain draft.pairs.steps.keys draft.pairs.store draft.nodes.items) }
+    ensures draft { IfOk result (λ draft. (chain : Chain) × (chain_of file.now.condition ≡ Some chain) ×
+        IsDraft file.now chain draft.pairs.steps.keys draft.pairs.store draft.nodes.items) }
     ensures admitted { OnOk result (IsAdmitted file.now) }
     ensures refused { IfErr result (IsRefused file.now) }
 {

@@ -67,7 +67,8 @@ pub(crate) fn chain_of(alloc: Global, condition: &Cond) -> Result<Option<Chain>,
 
 /// Puts the links of a condition behind others, and gives its base, if it is a chain.
 fn base_behind(condition: &Cond, links: &mut Vec<Link>) -> Result<Option<bool>, AllocError>
-    ensures { IfOk result (λ base. with_base links.new.items base ≡ in_front (Some (map link_data links.old.items)) (chains.chain_of (condition_of condition.now))) }
+    ensures { IfOk result (λ base. with_base links.new.items base ≡ in_front (Some (map link_data links.old.items))
+        (chains.chain_of (condition_of condition.now))) }
 {
     match condition {
         Cond::Always => Ok(Some(true)),
@@ -134,7 +135,9 @@ fn one_link(
     accepts: bool,
     links: &mut Vec<Link>,
 ) -> Result<Option<bool>, AllocError>
-    ensures { IfOk result (λ base. with_base links.new.items base ≡ in_front (Some (map link_data links.old.items)) (in_front (chains.one_link (link_to accepts (record { number = set; complemented = complemented }))) (base_alone (not accepts)))) }
+    ensures { IfOk result (λ base. with_base links.new.items base ≡ in_front (Some (map link_data links.old.items))
+        (in_front (chains.one_link (link_to accepts (record { number = set; complemented = complemented })))
+        (base_alone (not accepts)))) }
 {
     if complemented {
         return Ok(None);

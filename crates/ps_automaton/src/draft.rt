@@ -1,13 +1,16 @@
 //! The steps of all states, as diagrams.
 
-ghost use Rattle.std.specs.Prelude.{◌≡◌, ℕ, ◌+◌, ◌^◌, ◌<◌, ◌≤◌, List, IfErr, IfOk, IfSome, IsTrue, OnOk, Some, length, option_map, slice_get, slice_index, unwrap_or};
+ghost use Rattle.std.specs.Prelude.{◌≡◌, ℕ, ◌+◌, ◌^◌, ◌<◌, ◌≤◌, List, IfErr, IfOk, IfSome, IsTrue, OnOk, Some, length};
+ghost use Rattle.std.specs.Prelude.{option_map, slice_get, slice_index, unwrap_or};
 ghost use Rattle.ps_diagram.specs.Labels.{AreNodesOf};
 ghost use Rattle.ps_diagram.specs.Table.{IsNode, Keeps, leaf_of};
 ghost use Rattle.ps_hoa.specs.Files.{FileData};
 ghost use Rattle.ps_hoa.specs.Sound.{IsSoundFile, IsSoundRow};
 ghost use Rattle.ps_hoa.specs.Views.{row_data};
 ghost use Rattle.ps_hoa.specs.Edges.{row_of};
-ghost use Rattle.ps_automaton.specs.Drafts.{AreLevels, ArePlaces, AreSteps, AreTargets, Extends, Grows, IsByLetters, IsDraft, IsDraftFault, IsLabelNode, IsReady, IsRowFault, IsStateFault, IsStepsOf};
+ghost use Rattle.ps_automaton.specs.Drafts.{AreLevels, ArePlaces, AreSteps, AreTargets, Extends, Grows, IsByLetters};
+ghost use Rattle.ps_automaton.specs.Drafts.{IsDraft, IsDraftFault, IsLabelNode, IsReady, IsRowFault, IsStateFault};
+ghost use Rattle.ps_automaton.specs.Drafts.{IsStepsOf};
 ghost use Rattle.ps_automaton.specs.Views.{chain_data};
 ghost use Rattle.ps_automaton.specs.declared.targets.Target.{Target};
 
@@ -39,7 +42,8 @@ pub(crate) fn drafted(
     levels: &Levels,
 ) -> Result<Draft, AutomatonFault>
     requires levels { AreLevels levels.now }
-    ensures draft { IfOk result (λ draft. IsDraft file.now (chain_data levels.now.chain) draft.pairs.steps.keys draft.pairs.store draft.nodes.items) }
+    ensures draft { IfOk result (λ draft. IsDraft file.now (chain_data levels.now.chain) draft.pairs.steps.keys
+        draft.pairs.store draft.nodes.items) }
     ensures refused { IfErr result (IsDraftFault file.now) }
 {
     let mut pairs = opened(alloc, file)?;
@@ -69,7 +73,8 @@ fn nodes_of(pairs: &mut Pairs, file: &HoaFile, levels: &Levels) -> Result<Vec<No
     requires levels { AreLevels levels.now }
     requires letters { pairs.old.store.propositions ≡ length file.now.names }
     requires steps { AreSteps file.now.states pairs.old.steps.keys }
-    ensures draft { IfOk result (λ nodes. IsDraft file.now (chain_data levels.now.chain) pairs.new.steps.keys pairs.new.store nodes.items) }
+    ensures draft { IfOk result (λ nodes. IsDraft file.now (chain_data levels.now.chain) pairs.new.steps.keys
+        pairs.new.store nodes.items) }
     ensures refused { IfErr result (IsDraftFault file.now) }
 {
     let aliases = pairs.store.of_aliases(file.aliases())?;
@@ -93,7 +98,8 @@ fn nodes_of_states(pairs: &mut Pairs, source: &Source) -> Result<Vec<Node>, Auto
     ensures steps { OnOk result (AreSteps source.now.file.now.states pairs.new.steps.keys) }
     ensures one_each { IfOk result (λ nodes. length nodes.items ≡ source.now.file.now.states) }
     ensures states { IfOk result (λ nodes. (q : ℕ) → q < source.now.file.now.states
-        → IsStepsOf source.now.file.now (chain_data source.now.levels.now.chain) q pairs.new.steps.keys pairs.new.store (slice_index nodes.items q)) }
+        → IsStepsOf source.now.file.now (chain_data source.now.levels.now.chain) q pairs.new.steps.keys pairs.new.store
+        (slice_index nodes.items q)) }
     ensures refused { IfErr result (IsDraftFault source.now.file.now) }
 {
     let mut nodes = Vec::new(pairs.alloc);
@@ -110,7 +116,8 @@ fn state_node(pairs: &mut Pairs, source: &Source, state: u32) -> Result<Node, Au
     requires aliases { AreNodesOf pairs.old.store source.now.file.now.aliases source.now.aliases.now }
     requires steps { AreSteps source.now.file.now.states pairs.old.steps.keys }
     ensures grows { OnOk result (Grows source.now.file.now.states pairs.old pairs.new) }
-    ensures node { IfOk result (IsStepsOf source.now.file.now (chain_data source.now.levels.now.chain) state pairs.new.steps.keys pairs.new.store) }
+    ensures node { IfOk result (IsStepsOf source.now.file.now (chain_data source.now.levels.now.chain) state
+        pairs.new.steps.keys pairs.new.store) }
     ensures refused { IfErr result (IsStateFault source.now.file.now state) }
 {
     let Some(row) = source.file.row(state) else {
@@ -160,7 +167,8 @@ fn row_node(pairs: &mut Pairs, levels: &Levels, guards: &Guards) -> Result<Node,
 
 /// Whether each edge of a row is taken at a letter of its own.
 fn is_by_letters(row: &Row) -> bool
-    ensures { IsTrue result → (file : FileData) → IsSoundRow file (row_data row.now) → IsByLetters file (row_data row.now) }
+    ensures { IsTrue result → (file : FileData) → IsSoundRow file (row_data row.now) →
+        IsByLetters file (row_data row.now) }
 {
     match row.edges.first() {
         Some(edge) => matches!(&edge.guard, Guard::Letter(_)),
@@ -219,14 +227,18 @@ fn node_by_labels(
 fn node_of_union(pairs: &mut Pairs, levels: &Levels, union: &Union) -> Result<Node, AllocError>
     requires levels { AreLevels levels.now }
     requires held { IsNode pairs.old.store union.now.node }
-    requires within { (letter : ℕ) → letter < 2 ^ pairs.old.store.propositions → IfSome (leaf_of pairs.old.store union.now.node letter) (λ k. k < length union.now.targets) }
+    requires within { (letter : ℕ) → letter < 2 ^ pairs.old.store.propositions →
+        IfSome (leaf_of pairs.old.store union.now.node letter) (λ k. k < length union.now.targets) }
     ensures keeps { OnOk result (Keeps pairs.old.store pairs.new.store) }
     ensures extends { OnOk result (Extends pairs.old.steps.keys pairs.new.steps.keys) }
-    ensures within { OnOk result ((states : ℕ) → ((k : ℕ) (target : Target) → slice_get union.now.targets k ≡ Some target → target.state ≤ states)
+    ensures within { OnOk result ((states : ℕ) → ((k : ℕ) (target : Target) →
+        slice_get union.now.targets k ≡ Some target → target.state ≤ states)
         → AreSteps states pairs.old.steps.keys → AreSteps states pairs.new.steps.keys) }
     ensures held { IfOk result (λ node. IsNode pairs.new.store node) }
-    ensures leaf { IfOk result (λ node. (places : List ℕ) × ArePlaces (chain_data levels.now.chain) union.now.targets pairs.new.steps.keys places
-        × ((letter : ℕ) → leaf_of pairs.new.store node letter ≡ Some (unwrap_or (option_map (λ k. slice_index places k) (leaf_of pairs.old.store union.now.node letter)) 0))) }
+    ensures leaf { IfOk result (λ node. (places : List ℕ) × ArePlaces (chain_data levels.now.chain) union.now.targets
+        pairs.new.steps.keys places
+        × ((letter : ℕ) → leaf_of pairs.new.store node letter ≡ Some
+        (unwrap_or (option_map (λ k. slice_index places k) (leaf_of pairs.old.store union.now.node letter)) 0))) }
 {
     let places = places_of(pairs.alloc, &mut pairs.steps, levels, union.targets.list())?;
     let named = pairs.store.relabel(union.node, &places)?;
@@ -243,9 +255,11 @@ fn places_of(
 ) -> Result<Vec<u64>, AllocError>
     requires levels { AreLevels levels.now }
     ensures extends { OnOk result (Extends steps.old.keys steps.new.keys) }
-    ensures within { OnOk result ((states : ℕ) → ((k : ℕ) (target : Target) → slice_get targets.now k ≡ Some target → target.state ≤ states)
+    ensures within { OnOk result ((states : ℕ) → ((k : ℕ) (target : Target) → slice_get targets.now k ≡ Some target →
+        target.state ≤ states)
         → AreSteps states steps.old.keys → AreSteps states steps.new.keys) }
-    ensures places { IfOk result (λ places. ArePlaces (chain_data levels.now.chain) targets.now steps.new.keys places.items) }
+    ensures places { IfOk result (λ places. ArePlaces (chain_data levels.now.chain) targets.now steps.new.keys
+        places.items) }
 {
     let mut places = Vec::new(alloc);
     for target in targets {

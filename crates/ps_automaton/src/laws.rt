@@ -13,17 +13,22 @@ ghost use Rattle.ps_automaton.specs.declared.fault.AutomatonFault.TheVariants.{O
 /// Of edges that a part of a run takes, at least one, the greatest number is even exactly where the condition is
 /// true of the sets that are met.
 pub fn greatest_level_decides()
-    ensures { (condition : Condition) (chain : Chain) (edges : List (ℕ → Bool)) → chain_of condition ≡ Some chain → 0 < length edges → is_even (greatest_level chain edges) ≡ holds (is_met edges) condition }
+    ensures { (condition : Condition) (chain : Chain) (edges : List (ℕ → Bool)) → chain_of condition ≡ Some chain →
+        0 < length edges → is_even (greatest_level chain edges) ≡ holds (is_met edges) condition }
 {}
 
 /// A file that was read and is admitted has an automaton: a step for each state and letter.
 pub fn automaton_is_there()
-    ensures { (file : FileData) → IsSoundFile file → IsAdmitted file → (chain : Chain) × (auto : Auto) × (chain_of file.condition ≡ Some chain) × IsAutoOf file chain auto }
+    ensures { (file : FileData) → IsSoundFile file → IsAdmitted file →
+        (chain : Chain) × (auto : Auto) × (chain_of file.condition ≡ Some chain) × IsAutoOf file chain auto }
 {}
 
 /// A file has one answer: it is admitted, or refused for one cause. Memory may be wanting for any.
 pub fn refusal_is_one()
-    ensures some { (file : FileData) → IsAdmitted file ⊎ ((fault : AutomatonFault) × (fault ≢ OutOfMemory) × IsRefused file fault) }
-    ensures apart { (file : FileData) (fault : AutomatonFault) → fault ≢ OutOfMemory → IsAdmitted file → ¬ IsRefused file fault }
-    ensures one { (file : FileData) (fault other : AutomatonFault) → fault ≢ OutOfMemory → other ≢ OutOfMemory → IsRefused file fault → IsRefused file other → fault ≡ other }
+    ensures some { (file : FileData) → IsAdmitted file ⊎ ((fault : AutomatonFault) × (fault ≢ OutOfMemory) ×
+        IsRefused file fault) }
+    ensures apart { (file : FileData) (fault : AutomatonFault) → fault ≢ OutOfMemory → IsAdmitted file →
+        ¬ IsRefused file fault }
+    ensures one { (file : FileData) (fault other : AutomatonFault) → fault ≢ OutOfMemory → other ≢ OutOfMemory →
+        IsRefused file fault → IsRefused file other → fault ≡ other }
 {}

@@ -67,7 +67,8 @@ fn raised_number(accepts: bool, next: u64) -> u64
 impl Numbers {
     /// The number of an edge with the sets of a mask.
     pub(crate) fn level(&self, sets: u64) -> u64
-        ensures { (chain : chains.Chain) → AreSetsBelow 64 chain.links → IsTable chain self.now.base self.now.by_set → result ≡ level chain (λ set. labels.is_in set sets) }
+        ensures { (chain : chains.Chain) → AreSetsBelow 64 chain.links → IsTable chain self.now.base self.now.by_set →
+            result ≡ level chain (λ set. labels.is_in set sets) }
     {
         let mut greatest = self.base;
         for (set, number) in self.by_set.iter().enumerate() {

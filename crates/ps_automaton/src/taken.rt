@@ -19,7 +19,8 @@ pub(crate) fn taken(store: &mut Store, guards: &Guards, edge: &Edge) -> Result<N
     requires fit { IsFit guards.now.file.now (edge_data edge.now).guard }
     ensures keeps { OnOk result (Keeps store.old store.new) }
     ensures held { IfOk result (λ node. IsNode store.new node) }
-    ensures shows { IfOk result (λ node. ShowsEdge guards.now.file.now (row_data guards.now.row.now) (edge_data edge.now) store.new node 1) }
+    ensures shows { IfOk result (λ node. ShowsEdge guards.now.file.now (row_data guards.now.row.now)
+        (edge_data edge.now) store.new node 1) }
 {
     match &edge.guard {
         Guard::Stated(label) => store.of_label_by(guards.aliases, label),
@@ -57,7 +58,8 @@ pub(crate) fn first_clash(
     requires within { second < length guards.now.row.now.edges.items }
     requires clash { (first : ℕ) × AreClashing guards.now.file.now (row_data guards.now.row.now) first second }
     ensures clashing { IfOk result (λ first. AreClashing guards.now.file.now (row_data guards.now.row.now) first second) }
-    ensures least { IfOk result (λ first. (a : ℕ) → AreClashing guards.now.file.now (row_data guards.now.row.now) a second → first ≤ a) }
+    ensures least { IfOk result (λ first. (a : ℕ) → AreClashing guards.now.file.now (row_data guards.now.row.now) a
+        second → first ≤ a) }
 {
     let later = taken(store, guards, &guards.row.edges[second])?;
     for first in 0..second {
@@ -80,9 +82,11 @@ fn clashes(
     requires earlier { first < second }
     requires within { second < length guards.now.row.now.edges.items }
     requires held { IsNode store.old later }
-    requires shows { (edge : EdgeData) → slice_get (row_data guards.now.row.now).edges second ≡ Some edge → ShowsEdge guards.now.file.now (row_data guards.now.row.now) edge store.old later 1 }
+    requires shows { (edge : EdgeData) → slice_get (row_data guards.now.row.now).edges second ≡ Some edge →
+        ShowsEdge guards.now.file.now (row_data guards.now.row.now) edge store.old later 1 }
     ensures keeps { OnOk result (Keeps store.old store.new) }
-    ensures clashing { IfOk result (λ both. IsTrue both ↔ AreClashing guards.now.file.now (row_data guards.now.row.now) first second) }
+    ensures clashing { IfOk result (λ both. IsTrue both ↔ AreClashing guards.now.file.now (row_data guards.now.row.now)
+        first second) }
 {
     let row = guards.row;
     let edge = &row.edges[first];

@@ -30,7 +30,8 @@ pub(crate) fn joined(
 ) -> Result<Union, AutomatonFault>
     requires ready { IsReady store.old guards.now }
     ensures keeps { OnOk result (Keeps store.old store.new) }
-    ensures union { IfOk result (λ union. IsUnion guards.now.file.now (row_data guards.now.row.now) (length guards.now.row.now.edges.items) union.targets store.new union.node) }
+    ensures union { IfOk result (λ union. IsUnion guards.now.file.now (row_data guards.now.row.now)
+        (length guards.now.row.now.edges.items) union.targets store.new union.node) }
     ensures refused { IfErr result (IsRowFault guards.now.file.now (row_data guards.now.row.now)) }
 {
     let mut union = Union {
@@ -44,9 +45,11 @@ pub(crate) fn joined(
 /// Joins all edges of the row, one after the other.
 fn add_all(store: &mut Store, guards: &Guards, union: &mut Union) -> Result<(), AutomatonFault>
     requires ready { IsReady store.old guards.now }
-    requires union { IsUnion guards.now.file.now (row_data guards.now.row.now) 0 union.old.targets store.old union.old.node }
+    requires union { IsUnion guards.now.file.now (row_data guards.now.row.now) 0 union.old.targets store.old
+        union.old.node }
     ensures keeps { OnOk result (Keeps store.old store.new) }
-    ensures union { OnOk result (IsUnion guards.now.file.now (row_data guards.now.row.now) (length guards.now.row.now.edges.items) union.new.targets store.new union.new.node) }
+    ensures union { OnOk result (IsUnion guards.now.file.now (row_data guards.now.row.now)
+        (length guards.now.row.now.edges.items) union.new.targets store.new union.new.node) }
     ensures refused { IfErr result (IsRowFault guards.now.file.now (row_data guards.now.row.now)) }
 {
     for place in 0..guards.row.edges.len() {
@@ -64,9 +67,11 @@ fn add(
 ) -> Result<(), AutomatonFault>
     requires ready { IsReady store.old guards.now }
     requires within { place < length guards.now.row.now.edges.items }
-    requires union { IsUnion guards.now.file.now (row_data guards.now.row.now) place union.old.targets store.old union.old.node }
+    requires union { IsUnion guards.now.file.now (row_data guards.now.row.now) place union.old.targets store.old
+        union.old.node }
     ensures keeps { OnOk result (Keeps store.old store.new) }
-    ensures union { OnOk result (IsUnion guards.now.file.now (row_data guards.now.row.now) (place + 1) union.new.targets store.new union.new.node) }
+    ensures union { OnOk result (IsUnion guards.now.file.now (row_data guards.now.row.now) (place + 1) union.new.targets
+        store.new union.new.node) }
     ensures refused { IfErr result (IsRowFault guards.now.file.now (row_data guards.now.row.now)) }
 {
     let edge = &guards.row.edges[place];

@@ -1,11 +1,13 @@
 -- Edges by their places in the lists of successors.
-use Rattle.std.proofs.Common.{◌≡◌, ◌≢◌, ℕ, ◌<◌, ◌∙◌, List, length, get_or, inl, inr, sym, ap, arith, Option, Some, None, subst, refl}
+use Rattle.std.proofs.Common.{◌≡◌, ◌≢◌, ℕ, ◌<◌, ◌∙◌, List, length, get_or, inl, inr, sym, ap, arith, Option, Some, None}
+use Rattle.std.proofs.Common.{subst, refl}
 use Rattle.std.specs.Prelude.{slice_index, IsSomeAnd, IsSome}
 use Rattle.std.specs.List.{Contains}
 use Rattle.std.proofs.lemmas.List.{get_or_default}
 use Rattle.std.proofs.lemmas.Bool.{cases_order, cases_eq}
 use Rattle.ps_game.specs.Games.{ParityGame, IsGame, vertex_count, owner_of, successors_of, HasEdge}
-use Rattle.ps_certificate.specs.Certificates.{CertificateData, Fits, Remains, HasRightMove, HasWrongMove, winner_of, choice_of}
+use Rattle.ps_certificate.specs.Certificates.{CertificateData, Fits, Remains, HasRightMove, HasWrongMove, winner_of}
+use Rattle.ps_certificate.specs.Certificates.{choice_of}
 use Rattle.ps_certificate.specs.Prefixes.{StaysInside, IsFirstEscape}
 
 pub Contains-at : (xs : List ℕ) (k x : ℕ) → k < length xs → x ≡ slice_index xs k → Contains xs x
@@ -15,21 +17,26 @@ pub place_of : (xs : List ℕ) (x : ℕ) → Contains xs x → (k : ℕ) × (k <
 place_of xs x (k, within, is) = (k, within, get_or_default xs k 0 x within ∙ is)
 
 -- an edge by its place
-pub HasEdge-at : (game : ParityGame) (v k w : ℕ) → v < vertex_count game → k < length (successors_of game v) → w ≡ slice_index (successors_of game v) k → HasEdge game v w
+pub HasEdge-at : (game : ParityGame) (v k w : ℕ) → v < vertex_count game → k < length (successors_of game v) →
+    w ≡ slice_index (successors_of game v) k → HasEdge game v w
 HasEdge-at game v k w in_range within is = (in_range, Contains-at (successors_of game v) k w within is)
 
 -- a successor is a vertex that has an entry
-pub has_entry : (game : ParityGame) (certificate : CertificateData) → IsGame game → Fits game certificate → (v k w : ℕ) → v < vertex_count game → k < length (successors_of game v) → w ≡ slice_index (successors_of game v) k → w < length certificate.entries
+pub has_entry : (game : ParityGame) (certificate : CertificateData) → IsGame game → Fits game certificate →
+    (v k w : ℕ) → v < vertex_count game → k < length (successors_of game v) → w ≡ slice_index (successors_of game v) k →
+    w < length certificate.entries
 has_entry game certificate well fits v k w in_range within is =
     let below : w < vertex_count game = well.within v w (HasEdge-at game v k w in_range within is) in
     omega (arith, fits.entry_each)
 
 -- each edge of a vertex of the loser remains
-pub Remains-other : (game : ParityGame) (certificate : CertificateData) (v w : ℕ) → owner_of game v ≢ winner_of certificate v → HasEdge game v w → Remains game certificate v w
+pub Remains-other : (game : ParityGame) (certificate : CertificateData) (v w : ℕ) →
+    owner_of game v ≢ winner_of certificate v → HasEdge game v w → Remains game certificate v w
 Remains-other game certificate v w other edge = record { edge = edge; chosen = λ own. absurd (other own) }
 
 -- the winner's move remains
-pub Remains-own : (game : ParityGame) (certificate : CertificateData) (v w : ℕ) → choice_of certificate v ≡ Some w → HasEdge game v w → Remains game certificate v w
+pub Remains-own : (game : ParityGame) (certificate : CertificateData) (v w : ℕ) → choice_of certificate v ≡ Some w →
+    HasEdge game v w → Remains game certificate v w
 Remains-own game certificate v w is edge = record { edge = edge; chosen = λ _. is }
 
 pub IsSomeAnd-at : {A : Type 0} (o : Option A) (P : A → Type 0) (x : A) → o ≡ Some x → IsSomeAnd o P → P x
@@ -44,14 +51,20 @@ some_of None P holds = elim holds [ ]
 some_of (Some x) P holds = (x, refl, holds)
 
 -- the winner's move, where the winner owns the vertex
-pub own_move : (game : ParityGame) (certificate : CertificateData) (v : ℕ) → HasRightMove game certificate v → owner_of game v ≡ winner_of certificate v → (w : ℕ) × (choice_of certificate v ≡ Some w) × HasEdge game v w
+pub own_move : (game : ParityGame) (certificate : CertificateData) (v : ℕ) → HasRightMove game certificate v →
+    owner_of game v ≡ winner_of certificate v → (w : ℕ) × (choice_of certificate v ≡ Some w) × HasEdge game v w
 own_move game certificate v right own = some_of (choice_of certificate v) (HasEdge game v) (right.own own)
 
 -- a move that is not right is wrong
-pub HasWrongMove-from_not_right : (game : ParityGame) (certificate : CertificateData) (v : ℕ) → ¬ HasRightMove game certificate v → HasWrongMove game certificate v
+pub HasWrongMove-from_not_right : (game : ParityGame) (certificate : CertificateData) (v : ℕ) →
+    ¬ HasRightMove game certificate v → HasWrongMove game certificate v
 HasWrongMove-from_not_right game certificate v not_right = elim (cases_eq (owner_of game v) (winner_of certificate v)) [
   | inl own ↦ inl (own, λ holds. not_right (record { own = λ _. holds; other = λ other. absurd (other own) }))
-  | inr other ↦ inr (other, is_some_unless (choice_of certificate v) (λ none. not_right (record { own = λ own. absurd (other own); other = λ _. none })))
+  | inr other ↦ inr (
+    other,
+    is_some_unless (choice_of certificate v)
+        (λ none. not_right (record { own = λ own. absurd (other own); other = λ _. none })),
+  )
 ]
   where
     is_some_unless : (o : Option ℕ) → (o ≡ None → ⊥) → IsSome o
@@ -59,25 +72,37 @@ HasWrongMove-from_not_right game certificate v not_right = elim (cases_eq (owner
     is_some_unless (Some x) _ = refl
 
 -- and a right one is not
-pub not_wrong_when_right : (game : ParityGame) (certificate : CertificateData) (v : ℕ) → HasRightMove game certificate v → HasWrongMove game certificate v → ⊥
+pub not_wrong_when_right : (game : ParityGame) (certificate : CertificateData) (v : ℕ) →
+    HasRightMove game certificate v → HasWrongMove game certificate v → ⊥
 not_wrong_when_right game certificate v right (inl (own, not_move)) = not_move (right.own own)
 not_wrong_when_right game certificate v right (inr (other, is_some)) = absurd (cc (right.other other, is_some))
 
 -- the first successor with the other winner is the first escape
-pub IsFirstEscape-at : (game : ParityGame) (certificate : CertificateData) (v k w : ℕ) → v < vertex_count game → owner_of game v ≢ winner_of certificate v → k < length (successors_of game v) → w ≡ slice_index (successors_of game v) k → ((j : ℕ) → j < k → winner_of certificate (get_or (successors_of game v) j 0) ≡ winner_of certificate v) → winner_of certificate w ≢ winner_of certificate v → IsFirstEscape game certificate v w
+pub IsFirstEscape-at : (game : ParityGame) (certificate : CertificateData) (v k w : ℕ) → v < vertex_count game →
+    owner_of game v ≢ winner_of certificate v → k < length (successors_of game v) →
+    w ≡ slice_index (successors_of game v) k → ((j : ℕ) → j < k →
+    winner_of certificate (get_or (successors_of game v) j 0) ≡ winner_of certificate v) →
+    winner_of certificate w ≢ winner_of certificate v → IsFirstEscape game certificate v w
 IsFirstEscape-at game certificate v k w in_range other_owner within is before leaves = record {
-  leaves = record { remains = Remains-other game certificate v w other_owner (HasEdge-at game v k w in_range within is); other_winner = leaves };
+  leaves =
+      record {
+        remains = Remains-other game certificate v w other_owner (HasEdge-at game v k w in_range within is);
+        other_winner = leaves;
+      };
   first = λ other other_leaves.
       let (j, j_within, j_is) = place_of (successors_of game v) other other_leaves.remains.edge.1 in
       elim (cases_order j k) [
         | inl same ↦ inl (is ∙ ap (λ n. slice_index (successors_of game v) n) (sym same) ∙ j_is)
-        | inr (inl below) ↦ absurd (other_leaves.other_winner (ap (λ n. winner_of certificate n) (sym j_is) ∙ before j below))
+        | inr (inl below) ↦ absurd (other_leaves.other_winner (ap (λ n. winner_of certificate n) (sym j_is)
+            ∙ before j below))
         | inr (inr above) ↦ inr (k, j, above, j_within, sym is, j_is)
       ];
 }
 
 -- where no successor has the other winner, what remains stays inside
-pub StaysInside-from_all : (game : ParityGame) (certificate : CertificateData) (v : ℕ) → ((j : ℕ) → j < length (successors_of game v) → winner_of certificate (get_or (successors_of game v) j 0) ≡ winner_of certificate v) → StaysInside game certificate v
+pub StaysInside-from_all : (game : ParityGame) (certificate : CertificateData) (v : ℕ) →
+    ((j : ℕ) → j < length (successors_of game v) → winner_of certificate (get_or (successors_of game v) j 0) ≡ winner_of
+    certificate v) → StaysInside game certificate v
 StaysInside-from_all game certificate v each w remains =
     let (j, j_within, j_is) = place_of (successors_of game v) w remains.edge.1 in
     ap (λ n. winner_of certificate n) (sym j_is) ∙ each j j_within

@@ -3,7 +3,8 @@
 --     at_id, at_first_space, at_winner, at_second_space, at_choice, at_counts, entry_reads      the line of a vertex
 --     at_first_word, .., at_even, head_read      what stands before these lines
 --     text_fails, text_reads, text_trails      the text
-use Rattle.std.proofs.Common.{◌≡◌, ◌≢◌, ℕ, ◌+◌, Bool, true, false, not, cond, eqb, ltb, List, [], ◌∷◌, length, Option, Some, None, Result, Ok, Err, IsErrAnd, refl, sym, ap, ap₂, subst, ◌∙◌, arith}
+use Rattle.std.proofs.Common.{◌≡◌, ◌≢◌, ℕ, ◌+◌, Bool, true, false, not, cond, eqb, ltb, List, [], ◌∷◌, length, Option}
+use Rattle.std.proofs.Common.{Some, None, Result, Ok, Err, IsErrAnd, refl, sym, ap, ap₂, subst, ◌∙◌, arith}
 use Rattle.std.specs.Prelude.{codes, position}
 use Rattle.std.specs.List.{Contains, prefix_len}
 use Rattle.std.proofs.lemmas.Bool.{eqb-true}
@@ -17,7 +18,8 @@ use Rattle.ps_text.specs.declared.faults.Fault.TheVariants.{Text, OutOfMemory}
 use Rattle.ps_text.proofs.Laws.{Joint}
 use Rattle.ps_text.proofs.Simple.{same_some, none_is_some}
 use Rattle.ps_text.proofs.Covered.{Avoids}
-use Rattle.ps_text.proofs.Exits.{reads_mapped, reads_then, stops_mapped, stops_first, stops_behind, carries_start, carries_then}
+use Rattle.ps_text.proofs.Exits.{reads_mapped, reads_then, stops_mapped, stops_first, stops_behind, carries_start}
+use Rattle.ps_text.proofs.Exits.{carries_then}
 use Rattle.ps_text.proofs.Branches.{Stands, left_otherwise, right_otherwise, reads_as, stops_as_well}
 use Rattle.ps_text.proofs.Whole.{answers_ok, answers_fault, answers_trailing}
 use Rattle.ps_certificate.specs.declared.fault.CertCause.{CertCause}
@@ -27,9 +29,16 @@ use Rattle.ps_certificate.specs.Certificates.{EntryData, CertificateData}
 use Rattle.ps_certificate.specs.Places.{Place}
 use Rattle.ps_certificate.specs.Words.{first_word, vertices_word, odd_word, even_word}
 use Rattle.ps_certificate.specs.Reading.{at_place, comes, step_of, all_entries, TellsHead, TellsEntries}
-use Rattle.ps_certificate.specs.Texts.{Seen, Field, pieces_at, stream_at, causes, byte, word, number, priorities, winner, vertex_of, choice, counts_in, lost_by, entry, entries, version, certificate}
+use Rattle.ps_certificate.specs.Texts.{Seen, Field, pieces_at, stream_at, causes, byte, word, number, priorities}
+use Rattle.ps_certificate.specs.Texts.{winner, vertex_of, choice, counts_in, lost_by, entry, entries, version}
+use Rattle.ps_certificate.specs.Texts.{certificate}
 use Rattle.ps_certificate.proofs.NumberPart.{AtDigit, laws_number}
-use Rattle.ps_certificate.proofs.TextLaws.{tight_joint, loose_joint, laws_byte, laws_word_from, laws_priorities, dash, chosen, laws_dash, laws_chosen, laws_choice, laws_space, laws_winner, entry_counts, laws_entry_counts, laws_entry_choice, laws_entry_winner, laws_entry_rest, laws_all_entries, laws_even, laws_even_word, laws_odd, behind_count, laws_behind_count, laws_count, laws_vertices_word, laws_version, behind_version, laws_from_version, laws_certificate}
+use Rattle.ps_certificate.proofs.TextLaws.{tight_joint, loose_joint, laws_byte, laws_word_from, laws_priorities, dash}
+use Rattle.ps_certificate.proofs.TextLaws.{chosen, laws_dash, laws_chosen, laws_choice, laws_space, laws_winner}
+use Rattle.ps_certificate.proofs.TextLaws.{entry_counts, laws_entry_counts, laws_entry_choice, laws_entry_winner}
+use Rattle.ps_certificate.proofs.TextLaws.{laws_entry_rest, laws_all_entries, laws_even, laws_even_word, laws_odd}
+use Rattle.ps_certificate.proofs.TextLaws.{behind_count, laws_behind_count, laws_count, laws_vertices_word}
+use Rattle.ps_certificate.proofs.TextLaws.{laws_version, behind_version, laws_from_version, laws_certificate}
 use Rattle.ps_certificate.proofs.Steps.{avoids, byte_reads}
 
 -- ## Moves

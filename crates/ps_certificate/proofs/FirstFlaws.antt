@@ -4,12 +4,14 @@ use Rattle.std.proofs.lemmas.Bool.{cases_order}
 use Rattle.ps_game.specs.Games.{ParityGame, vertex_count}
 use Rattle.ps_certificate.specs.declared.flaw.Flaw.{Flaw}
 use Rattle.ps_certificate.specs.declared.flaw.Flaw.TheVariants.{Move, Escape, Rank}
-use Rattle.ps_certificate.specs.Certificates.{CertificateData, HasRightMove, IsClosed, IsFlaw, Precedes, IsFirstFlaw, choice_of}
+use Rattle.ps_certificate.specs.Certificates.{CertificateData, HasRightMove, IsClosed, IsFlaw, Precedes, IsFirstFlaw}
+use Rattle.ps_certificate.specs.Certificates.{choice_of}
 use Rattle.ps_certificate.specs.Prefixes.{IsSoundAt, IsFirstFlawAt, stage_of, vertex_of}
 use Rattle.ps_certificate.proofs.Edges.{HasWrongMove-from_not_right, not_wrong_when_right}
 
 -- a flaw of the same stage at a later vertex comes behind
-later_vertex : (game : ParityGame) (flaw other : Flaw) → stage_of flaw ≡ stage_of other → vertex_of flaw < vertex_of other → Precedes game flaw other
+later_vertex : (game : ParityGame) (flaw other : Flaw) → stage_of flaw ≡ stage_of other →
+    vertex_of flaw < vertex_of other → Precedes game flaw other
 later_vertex game (Move v _) (Move v' _) same less = less
 later_vertex game (Move v _) (Escape v' _) same less = omega arith
 later_vertex game (Escape v _) (Move v' _) same less = less
@@ -33,7 +35,10 @@ earlier_stage game (Rank _ _ _) (Move _ _) less = omega arith
 earlier_stage game (Rank _ _ _) (Escape _ _) less = omega arith
 
 -- the first flaw of its stage
-pub first_of_stage : (game : ParityGame) (certificate : CertificateData) (stage v : ℕ) (flaw : Flaw) → IsFirstFlawAt game certificate stage v flaw → ((other : Flaw) → IsFlaw game certificate other → stage_of other ≡ stage → vertex_of other < v → ⊥) → (other : Flaw) → IsFlaw game certificate other → stage_of other ≡ stage → (flaw ≡ other) ⊎ Precedes game flaw other
+pub first_of_stage : (game : ParityGame) (certificate : CertificateData) (stage v : ℕ) (flaw : Flaw) →
+    IsFirstFlawAt game certificate stage v flaw → ((other : Flaw) → IsFlaw game certificate other →
+    stage_of other ≡ stage → vertex_of other < v → ⊥) → (other : Flaw) → IsFlaw game certificate other →
+    stage_of other ≡ stage → (flaw ≡ other) ⊎ Precedes game flaw other
 first_of_stage game certificate stage v flaw at none_before other is_flaw at_stage =
     elim (cases_order (vertex_of other) v) [
       | inl same ↦ at.first other is_flaw at_stage same
@@ -47,7 +52,8 @@ stage_cases (Escape _ _) = inl refl
 stage_cases (Rank _ _ _) = inr refl
 
 -- a sound vertex has no flaw in its move or in what remains
-pub sound_has_no_flaw : (game : ParityGame) (certificate : CertificateData) (v : ℕ) → IsSoundAt game certificate v → (flaw : Flaw) → IsFlaw game certificate flaw → stage_of flaw ≡ 0 → vertex_of flaw ≡ v → ⊥
+pub sound_has_no_flaw : (game : ParityGame) (certificate : CertificateData) (v : ℕ) → IsSoundAt game certificate v →
+    (flaw : Flaw) → IsFlaw game certificate flaw → stage_of flaw ≡ 0 → vertex_of flaw ≡ v → ⊥
 sound_has_no_flaw game certificate v sound (Move u m) is_flaw at_stage same =
     not_wrong_when_right game certificate u (rw same sound.right_move) is_flaw.2
 sound_has_no_flaw game certificate v sound (Escape u w) is_flaw at_stage same =
@@ -55,29 +61,38 @@ sound_has_no_flaw game certificate v sound (Escape u w) is_flaw at_stage same =
 sound_has_no_flaw game certificate v sound (Rank _ _ _) is_flaw at_stage same = omega arith
 
 -- the first flaw at a vertex behind sound ones is the first of all
-pub first_unsound : (game : ParityGame) (certificate : CertificateData) (v : ℕ) (flaw : Flaw) → ((u : ℕ) → u < v → IsSoundAt game certificate u) → IsFirstFlawAt game certificate 0 v flaw → IsFirstFlaw game certificate flaw
+pub first_unsound : (game : ParityGame) (certificate : CertificateData) (v : ℕ) (flaw : Flaw) →
+    ((u : ℕ) → u < v → IsSoundAt game certificate u) → IsFirstFlawAt game certificate 0 v flaw →
+    IsFirstFlaw game certificate flaw
 first_unsound game certificate v flaw sound at = record {
   is_flaw = at.is_flaw;
   first = λ other is_flaw. elim (stage_cases other) [
-    | inl early ↦ first_of_stage game certificate 0 v flaw at (λ o o_flaw o_stage o_below. sound_has_no_flaw game certificate (vertex_of o) (sound (vertex_of o) o_below) o o_flaw o_stage refl) other is_flaw early
+    | inl early ↦ first_of_stage game certificate 0 v flaw at (λ o o_flaw o_stage o_below.
+        sound_has_no_flaw game certificate (vertex_of o) (sound (vertex_of o) o_below) o o_flaw o_stage refl)
+        other is_flaw early
     | inr late ↦ inr (earlier_stage game flaw other (omega (arith, at.at_stage)))
   ];
 }
 
-pub IsClosed-from_sound : (game : ParityGame) (certificate : CertificateData) → ((v : ℕ) → v < vertex_count game → IsSoundAt game certificate v) → IsClosed game certificate
+pub IsClosed-from_sound : (game : ParityGame) (certificate : CertificateData) →
+    ((v : ℕ) → v < vertex_count game → IsSoundAt game certificate v) → IsClosed game certificate
 IsClosed-from_sound game certificate sound = record {
   moves = λ v below. (sound v below).right_move;
   stays = λ v w remains. (sound v remains.edge.0).inside w remains;
 }
 
 -- a closed certificate has no flaw in a move or in what remains
-pub closed_has_no_flaw : (game : ParityGame) (certificate : CertificateData) → IsClosed game certificate → (flaw : Flaw) → IsFlaw game certificate flaw → stage_of flaw ≡ 0 → ⊥
-closed_has_no_flaw game certificate closed (Move v m) is_flaw at_stage = not_wrong_when_right game certificate v (closed.moves v is_flaw.0) is_flaw.2
+pub closed_has_no_flaw : (game : ParityGame) (certificate : CertificateData) → IsClosed game certificate →
+    (flaw : Flaw) → IsFlaw game certificate flaw → stage_of flaw ≡ 0 → ⊥
+closed_has_no_flaw game certificate closed (Move v m) is_flaw at_stage =
+    not_wrong_when_right game certificate v (closed.moves v is_flaw.0) is_flaw.2
 closed_has_no_flaw game certificate closed (Escape v w) is_flaw at_stage = is_flaw.1 (closed.stays v w is_flaw.0)
 closed_has_no_flaw game certificate closed (Rank _ _ _) is_flaw at_stage = omega arith
 
 -- the wrong move of a vertex is its first flaw
-pub first_move : (game : ParityGame) (certificate : CertificateData) (v : ℕ) (choice : Option ℕ) → v < vertex_count game → choice ≡ choice_of certificate v → ¬ HasRightMove game certificate v → IsFirstFlawAt game certificate 0 v (Move v choice)
+pub first_move : (game : ParityGame) (certificate : CertificateData) (v : ℕ) (choice : Option ℕ) →
+    v < vertex_count game → choice ≡ choice_of certificate v → ¬ HasRightMove game certificate v →
+    IsFirstFlawAt game certificate 0 v (Move v choice)
 first_move game certificate v choice in_range is not_right = record {
   is_flaw = (in_range, sym is, HasWrongMove-from_not_right game certificate v not_right);
   at_stage = refl;
@@ -85,7 +100,8 @@ first_move game certificate v choice in_range is not_right = record {
   first = others;
 }
   where
-    others : (other : Flaw) → IsFlaw game certificate other → stage_of other ≡ 0 → vertex_of other ≡ v → (Move v choice ≡ other) ⊎ Precedes game (Move v choice) other
+    others : (other : Flaw) → IsFlaw game certificate other → stage_of other ≡ 0 → vertex_of other ≡ v →
+        (Move v choice ≡ other) ⊎ Precedes game (Move v choice) other
     others (Move u m) is_flaw _ same = inl (cc (is_flaw.1, same, is))
     others (Escape u w) is_flaw _ same = inr (omega arith)
     others (Rank _ _ _) is_flaw late _ = absurd (omega arith)

@@ -1,13 +1,16 @@
 -- What is read fits the game.
-use Rattle.std.proofs.Common.{◌≡◌, ℕ, zero, suc, ◌<◌, Bool, true, false, cond, eqb, List, [], ◌∷◌, length, get_or, Option, None, Some, ap, ◌∙◌, inl, inr, sym, subst, arith}
+use Rattle.std.proofs.Common.{◌≡◌, ℕ, zero, suc, ◌<◌, Bool, true, false, cond, eqb, List, [], ◌∷◌, length, get_or}
+use Rattle.std.proofs.Common.{Option, None, Some, ap, ◌∙◌, inl, inr, sym, subst, arith}
 use Rattle.std.specs.Prelude.{IfSome, All}
 use Rattle.std.proofs.lemmas.List.{length-map}
 use Rattle.std.proofs.lemmas.List.Elements.{All-nil, All-cons, All-get_or}
 use Rattle.std.proofs.lemmas.List.Quantifiers.{position-Some}
 use Rattle.ps_game.specs.Games.{ParityGame, vertex_count}
 use Rattle.ps_game.specs.Ranking.{ListsPriorities}
-use Rattle.ps_certificate.specs.Certificates.{EntryData, CertificateData, Fits, no_entry, winner_of, choice_of, counts_of, opposing}
-use Rattle.ps_certificate.specs.Texts.{Seen, winner, vertex_of, choice, counts, counts_in, lost_by, entry, entries, certificate}
+use Rattle.ps_certificate.specs.Certificates.{EntryData, CertificateData, Fits, no_entry, winner_of, choice_of}
+use Rattle.ps_certificate.specs.Certificates.{counts_of, opposing}
+use Rattle.ps_certificate.specs.Texts.{Seen, winner, vertex_of, choice, counts, counts_in, lost_by, entry, entries}
+use Rattle.ps_certificate.specs.Texts.{certificate}
 
 pub record EntryFits (odd even : List ℕ) (n : ℕ) (entry : EntryData) : Type 0 where
   pub winner : entry.winner < 2

@@ -1,6 +1,7 @@
 -- A valid certificate's moves win each loop: along the edges that remain the count for the loop's
 -- priority never rises, and where the loop meets that priority it falls; but both ends are one vertex.
-use Rattle.std.proofs.Common.{◌≡◌, ◌≢◌, ℕ, ◌+◌, ◌-◌, ◌%◌, ◌<◌, ◌≤◌, ◌∙◌, List, length, inl, inr, sym, ap, arith, zero, suc}
+use Rattle.std.proofs.Common.{◌≡◌, ◌≢◌, ℕ, ◌+◌, ◌-◌, ◌%◌, ◌<◌, ◌≤◌, ◌∙◌, List, length, inl, inr, sym, ap, arith, zero}
+use Rattle.std.proofs.Common.{suc}
 use Rattle.std.specs.Prelude.{slice_index, IsTrue}
 use Rattle.std.proofs.lemmas.Bool.{cases_eq, eqb-true, eq-eqb}
 use Rattle.ps_game.specs.Games.{ParityGame, IsGame, vertex_count, priority_of}
@@ -8,7 +9,8 @@ use Rattle.ps_game.specs.Plays.{IsPath, IsLoop, Follows, WinsLoop, loop_priority
 use Rattle.ps_game.proofs.LoopPriorities.{le-loop_priority, loop_priority_stands}
 use Rattle.ps_game.proofs.Beaten.{histories_beaten}
 use Rattle.ps_game.proofs.Memory.{WinsByNoMemory-AllHistoriesBeaten}
-use Rattle.ps_certificate.specs.Certificates.{CertificateData, Fits, IsValid, KeepsCount, winner_of, choice_of, counts_of, opposing, opposing_at}
+use Rattle.ps_certificate.specs.Certificates.{CertificateData, Fits, IsValid, KeepsCount, winner_of, choice_of}
+use Rattle.ps_certificate.specs.Certificates.{counts_of, opposing, opposing_at}
 use Rattle.ps_certificate.specs.Regions.{region_of, BothHold, NoneWinsOutside}
 use Rattle.ps_certificate.proofs.Edges.{place_of}
 use Rattle.ps_certificate.proofs.Counts.{opposing_complete}
@@ -24,16 +26,20 @@ never_rises_along f i (suc d) step =
     omega arith
 
 -- and fall once, end lower
-falls_in_the_end : (f : ℕ → ℕ) (i j m : ℕ) → i ≤ m → m < j → ((k : ℕ) → i ≤ k → k < j → f (k + 1) ≤ f k) → f (m + 1) < f m → f j < f i
+falls_in_the_end : (f : ℕ → ℕ) (i j m : ℕ) → i ≤ m → m < j → ((k : ℕ) → i ≤ k → k < j → f (k + 1) ≤ f k) →
+    f (m + 1) < f m → f j < f i
 falls_in_the_end f i j m after below step falls =
-    let to_fall : f (i + (m - i)) ≤ f i = never_rises_along f i (m - i) (λ k k_after k_below. step k k_after (omega arith)) in
-    let from_fall : f (m + 1 + (j - (m + 1))) ≤ f (m + 1) = never_rises_along f (m + 1) (j - (m + 1)) (λ k k_after k_below. step k (omega arith) (omega arith)) in
+    let to_fall : f (i + (m - i)) ≤ f i =
+    never_rises_along f i (m - i) (λ k k_after k_below. step k k_after (omega arith)) in
+    let from_fall : f (m + 1 + (j - (m + 1))) ≤ f (m + 1) =
+    never_rises_along f (m + 1) (j - (m + 1)) (λ k k_after k_below. step k (omega arith) (omega arith)) in
     let at_fall : f (i + (m - i)) ≡ f m = ap f (omega arith) in
     let at_end : f (m + 1 + (j - (m + 1))) ≡ f j = ap f (omega arith) in
     omega arith
 
 -- a loop that the player loses, and the place of its priority among those by which the player loses
-record LostLoop (game : ParityGame) (certificate : CertificateData) (player : ℕ) (path : List ℕ) (i j place : ℕ) : Type 0 where
+record LostLoop (game : ParityGame) (certificate : CertificateData) (player : ℕ) (path : List ℕ)
+    (i j place : ℕ) : Type 0 where
   pub fits : Fits game certificate
   pub valid : IsValid game certificate
   pub is_path : IsPath game path
@@ -44,73 +50,128 @@ record LostLoop (game : ParityGame) (certificate : CertificateData) (player : �
   pub is : slice_index (opposing certificate player) place ≡ loop_priority game path i j
 
 -- no vertex of the loop has a greater priority, its end included
-bounded : (game : ParityGame) (certificate : CertificateData) (player : ℕ) (path : List ℕ) (i j place : ℕ) → LostLoop game certificate player path i j place → (k : ℕ) → i ≤ k → k ≤ j → priority_of game (slice_index path k) ≤ loop_priority game path i j
+bounded : (game : ParityGame) (certificate : CertificateData) (player : ℕ) (path : List ℕ) (i j place : ℕ) →
+    LostLoop game certificate player path i j place → (k : ℕ) → i ≤ k → k ≤ j →
+    priority_of game (slice_index path k) ≤ loop_priority game path i j
 bounded game certificate player path i j place lost k after before = elim (cases_eq k j) [
   | inl last ↦
-      let at_begin : priority_of game (slice_index path i) ≤ loop_priority game path i j = le-loop_priority game path i j i (omega arith) lost.loop.rises (omega (arith, lost.loop.within)) in
-      let same : priority_of game (slice_index path k) ≡ priority_of game (slice_index path i) = ap (λ n. priority_of game (slice_index path n)) last ∙ ap (priority_of game) (sym lost.loop.same) in
+      let at_begin : priority_of game (slice_index path i) ≤ loop_priority game path i j =
+      le-loop_priority game path i j i (omega arith) lost.loop.rises (omega (arith, lost.loop.within)) in
+      let same : priority_of game (slice_index path k) ≡ priority_of game (slice_index path i) =
+      ap (λ n. priority_of game (slice_index path n)) last ∙ ap (priority_of game) (sym lost.loop.same) in
       omega arith
   | inr earlier ↦ le-loop_priority game path i j k after (omega arith) (omega (arith, lost.loop.within))
 ]
 
-winner_along : (game : ParityGame) (certificate : CertificateData) (player : ℕ) (path : List ℕ) (i j place : ℕ) → LostLoop game certificate player path i j place → (k : ℕ) → k ≤ j → winner_of certificate (slice_index path k) ≡ player
+winner_along : (game : ParityGame) (certificate : CertificateData) (player : ℕ) (path : List ℕ) (i j place : ℕ) →
+    LostLoop game certificate player path i j place → (k : ℕ) → k ≤ j →
+    winner_of certificate (slice_index path k) ≡ player
 winner_along game certificate player path i j place lost k before =
-    path_stays game certificate player path lost.valid.closed lost.is_path lost.follows lost.begins k (omega (arith, lost.loop.within))
+    path_stays game certificate player path lost.valid.closed lost.is_path lost.follows lost.begins k
+    (omega (arith, lost.loop.within))
 
 -- the opposing priority at the place, at each vertex of the loop
-at_place : (game : ParityGame) (certificate : CertificateData) (player : ℕ) (path : List ℕ) (i j place : ℕ) → LostLoop game certificate player path i j place → (k : ℕ) → k ≤ j → opposing_at certificate (slice_index path k) place ≡ loop_priority game path i j
+at_place : (game : ParityGame) (certificate : CertificateData) (player : ℕ) (path : List ℕ) (i j place : ℕ) →
+    LostLoop game certificate player path i j place → (k : ℕ) → k ≤ j →
+    opposing_at certificate (slice_index path k) place ≡ loop_priority game path i j
 at_place game certificate player path i j place lost k before =
-    ap (λ q. slice_index (opposing certificate q) place) (winner_along game certificate player path i j place lost k before) ∙ lost.is
+    ap (λ q. slice_index (opposing certificate q) place) (winner_along game certificate player path i j place lost k
+    before) ∙ lost.is
 
 -- each step of the loop keeps the rule for its priority
-step_keeps : (game : ParityGame) (certificate : CertificateData) (player : ℕ) (path : List ℕ) (i j place : ℕ) → LostLoop game certificate player path i j place → (k : ℕ) → i ≤ k → k < j → KeepsCount game certificate (slice_index path k) (slice_index path (k + 1)) place
+step_keeps : (game : ParityGame) (certificate : CertificateData) (player : ℕ) (path : List ℕ) (i j place : ℕ) →
+    LostLoop game certificate player path i j place → (k : ℕ) → i ≤ k → k < j →
+    KeepsCount game certificate (slice_index path k) (slice_index path (k + 1)) place
 step_keeps game certificate player path i j place lost k after below =
-    let here : winner_of certificate (slice_index path k) ≡ player = winner_along game certificate player path i j place lost k (omega arith) in
-    let next : winner_of certificate (slice_index path (k + 1)) ≡ player = winner_along game certificate player path i j place lost (k + 1) (omega arith) in
-    let long : length (opposing certificate (winner_of certificate (slice_index path k))) ≡ length (opposing certificate player) = ap (λ q. length (opposing certificate q)) here in
-    lost.valid.counts (slice_index path k) (slice_index path (k + 1)) place (path_remains game certificate player path k lost.is_path lost.follows (omega (arith, lost.loop.within)) here) (next ∙ sym here) (omega (arith, lost.within))
+    let here : winner_of certificate (slice_index path k) ≡ player =
+    winner_along game certificate player path i j place lost k (omega arith) in
+    let next : winner_of certificate (slice_index path (k + 1)) ≡ player =
+    winner_along game certificate player path i j place lost (k + 1) (omega arith) in
+    let long : length (opposing certificate (winner_of certificate (slice_index path k))) ≡ length
+    (opposing certificate player) = ap (λ q. length (opposing certificate q)) here in
+    lost.valid.counts (slice_index path k) (slice_index path (k + 1)) place
+    (path_remains game certificate player path k lost.is_path lost.follows (omega (arith, lost.loop.within)) here)
+    (next ∙ sym here) (omega (arith, lost.within))
 
-step_at_most : (game : ParityGame) (certificate : CertificateData) (player : ℕ) (path : List ℕ) (i j place : ℕ) → LostLoop game certificate player path i j place → (k : ℕ) → i ≤ k → k < j → slice_index (counts_of certificate (slice_index path (k + 1))) place ≤ slice_index (counts_of certificate (slice_index path k)) place
+step_at_most : (game : ParityGame) (certificate : CertificateData) (player : ℕ) (path : List ℕ) (i j place : ℕ) →
+    LostLoop game certificate player path i j place → (k : ℕ) → i ≤ k → k < j →
+    slice_index (counts_of certificate (slice_index path (k + 1))) place ≤ slice_index
+    (counts_of certificate (slice_index path k)) place
 step_at_most game certificate player path i j place lost k after below =
-    let is : opposing_at certificate (slice_index path k) place ≡ loop_priority game path i j = at_place game certificate player path i j place lost k (omega arith) in
-    let here : priority_of game (slice_index path k) ≤ loop_priority game path i j = bounded game certificate player path i j place lost k after (omega arith) in
-    let next : priority_of game (slice_index path (k + 1)) ≤ loop_priority game path i j = bounded game certificate player path i j place lost (k + 1) (omega arith) (omega arith) in
+    let is : opposing_at certificate (slice_index path k) place ≡ loop_priority game path i j =
+    at_place game certificate player path i j place lost k (omega arith) in
+    let here : priority_of game (slice_index path k) ≤ loop_priority game path i j =
+    bounded game certificate player path i j place lost k after (omega arith) in
+    let next : priority_of game (slice_index path (k + 1)) ≤ loop_priority game path i j =
+    bounded game certificate player path i j place lost (k + 1) (omega arith) (omega arith) in
     (step_keeps game certificate player path i j place lost k after below).never_rises (omega arith) (omega arith)
 
 -- so there is no such loop
-no_lost_loop : (game : ParityGame) (certificate : CertificateData) (player : ℕ) (path : List ℕ) (i j place : ℕ) → LostLoop game certificate player path i j place → ⊥
+no_lost_loop : (game : ParityGame) (certificate : CertificateData) (player : ℕ) (path : List ℕ) (i j place : ℕ) →
+    LostLoop game certificate player path i j place → ⊥
 no_lost_loop game certificate player path i j place lost =
     let (m, after, below, has) = loop_priority_stands game path i j lost.loop.rises (omega (arith, lost.loop.within)) in
     let count : ℕ → ℕ = λ k. slice_index (counts_of certificate (slice_index path k)) place in
-    let is : opposing_at certificate (slice_index path m) place ≡ loop_priority game path i j = at_place game certificate player path i j place lost m (omega arith) in
-    let next : priority_of game (slice_index path (m + 1)) ≤ loop_priority game path i j = bounded game certificate player path i j place lost (m + 1) (omega arith) (omega arith) in
-    let falls : slice_index (counts_of certificate (slice_index path (m + 1))) place < slice_index (counts_of certificate (slice_index path m)) place = (step_keeps game certificate player path i j place lost m after below).falls (has ∙ sym is) (omega arith) in
-    let lower : slice_index (counts_of certificate (slice_index path j)) place < slice_index (counts_of certificate (slice_index path i)) place = falls_in_the_end count i j m after below (step_at_most game certificate player path i j place lost) falls in
-    let same : slice_index (counts_of certificate (slice_index path i)) place ≡ slice_index (counts_of certificate (slice_index path j)) place = ap (λ v. slice_index (counts_of certificate v) place) lost.loop.same in
+    let is : opposing_at certificate (slice_index path m) place ≡ loop_priority game path i j =
+    at_place game certificate player path i j place lost m (omega arith) in
+    let next : priority_of game (slice_index path (m + 1)) ≤ loop_priority game path i j =
+    bounded game certificate player path i j place lost (m + 1) (omega arith) (omega arith) in
+    let falls : slice_index (counts_of certificate (slice_index path (m + 1))) place < slice_index
+    (counts_of certificate (slice_index path m)) place =
+    (step_keeps game certificate player path i j place lost m after below).falls (has ∙ sym is) (omega arith) in
+    let lower : slice_index (counts_of certificate (slice_index path j)) place < slice_index
+    (counts_of certificate (slice_index path i)) place =
+    falls_in_the_end count i j m after below (step_at_most game certificate player path i j place lost) falls in
+    let same : slice_index (counts_of certificate (slice_index path i)) place ≡ slice_index
+    (counts_of certificate (slice_index path j)) place =
+    ap (λ v. slice_index (counts_of certificate v) place) lost.loop.same in
     omega arith
 
-wins_each_loop : (game : ParityGame) (certificate : CertificateData) (player : ℕ) → player < 2 → Fits game certificate → IsValid game certificate → (path : List ℕ) (i j : ℕ) → IsPath game path → winner_of certificate (slice_index path 0) ≡ player → Follows game player (choice_of certificate) path → IsLoop path i j → WinsLoop game player path i j
-wins_each_loop game certificate player is_player fits valid path i j is_path begins follows loop = elim (cases_eq (loop_priority game path i j % 2) player) [
-  | inl wins ↦ wins
-  | inr loses ↦
-      let (m, after, below, has) = loop_priority_stands game path i j loop.rises (omega (arith, loop.within)) in
-      let in_range : slice_index path m < vertex_count game = is_path.vertices m (omega (arith, loop.within)) in
-      let lost : priority_of game (slice_index path m) % 2 ≢ player = λ e. loses (ap (λ p. p % 2) (sym has) ∙ e) in
-      let (place, within, is) = place_of (opposing certificate player) (priority_of game (slice_index path m)) (opposing_complete game certificate player fits is_player (slice_index path m) in_range lost) in
-      absurd (no_lost_loop game certificate player path i j place (record { fits = fits; valid = valid; is_path = is_path; follows = follows; begins = begins; loop = loop; within = within; is = is ∙ has }))
-]
+wins_each_loop : (game : ParityGame) (certificate : CertificateData) (player : ℕ) → player < 2 → Fits game certificate →
+    IsValid game certificate → (path : List ℕ) (i j : ℕ) → IsPath game path →
+    winner_of certificate (slice_index path 0) ≡ player → Follows game player (choice_of certificate) path →
+    IsLoop path i j → WinsLoop game player path i j
+wins_each_loop game certificate player is_player fits valid path i j is_path begins follows loop =
+    elim (cases_eq (loop_priority game path i j % 2) player) [
+      | inl wins ↦ wins
+      | inr loses ↦
+          let (m, after, below, has) = loop_priority_stands game path i j loop.rises (omega (arith, loop.within)) in
+          let in_range : slice_index path m < vertex_count game = is_path.vertices m (omega (arith, loop.within)) in
+          let lost : priority_of game (slice_index path m) % 2 ≢ player = λ e. loses (ap (λ p. p % 2) (sym has) ∙ e) in
+          let (place, within, is) =
+          place_of (opposing certificate player) (priority_of game (slice_index path m))
+          (opposing_complete game certificate player fits is_player (slice_index path m) in_range lost) in
+          absurd (no_lost_loop game certificate player path i j place
+          (record {
+            fits = fits;
+            valid = valid;
+            is_path = is_path;
+            follows = follows;
+            begins = begins;
+            loop = loop;
+            within = within;
+            is = is ∙ has;
+          }))
+    ]
 
-pub BothHold-from_valid : (game : ParityGame) (certificate : CertificateData) → Fits game certificate → IsValid game certificate → BothHold game certificate
+pub BothHold-from_valid : (game : ParityGame) (certificate : CertificateData) → Fits game certificate →
+    IsValid game certificate → BothHold game certificate
 BothHold-from_valid game certificate fits valid player is_player = record {
   keeps = BothKeep-from_closed game certificate valid.closed player is_player;
-  wins = λ path i j is_path begins follows loop. wins_each_loop game certificate player is_player fits valid path i j is_path (eqb-true (winner_of certificate (slice_index path 0)) player begins) follows loop;
+  wins =
+      λ path i j is_path begins follows loop. wins_each_loop game certificate player is_player fits valid path i j
+      is_path (eqb-true (winner_of certificate (slice_index path 0)) player begins) follows loop;
 }
 
-pub NoneWinsOutside-from_valid : (game : ParityGame) (certificate : CertificateData) → IsGame game → Fits game certificate → IsValid game certificate → NoneWinsOutside game certificate
+pub NoneWinsOutside-from_valid : (game : ParityGame) (certificate : CertificateData) → IsGame game →
+    Fits game certificate → IsValid game certificate → NoneWinsOutside game certificate
 NoneWinsOutside-from_valid game certificate is_game fits valid player is_player v below other =
     let winner_below : winner_of certificate v < 2 = fits.winners v below in
     let is_other : winner_of certificate v ≡ other_player player = omega (arith, other) in
     let holds = BothHold-from_valid game certificate fits valid (other_player player) (omega arith) in
-    let inside : IsTrue (region_of certificate (other_player player) v) = eq-eqb (winner_of certificate v) (other_player player) is_other in
-    let beaten = histories_beaten game player (region_of certificate (other_player player)) (choice_of certificate) is_game is_player holds v below inside in
+    let inside : IsTrue (region_of certificate (other_player player) v) =
+    eq-eqb (winner_of certificate v) (other_player player) is_other in
+    let beaten =
+    histories_beaten game player (region_of certificate (other_player player)) (choice_of certificate) is_game
+    is_player holds v below inside in
     record { by_memory = WinsByNoMemory-AllHistoriesBeaten game player v is_player beaten; by_histories = beaten }

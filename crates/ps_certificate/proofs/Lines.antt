@@ -1,5 +1,6 @@
 -- Entries that are kept by winners, lines and one list of counts.
-use Rattle.std.proofs.Common.{◌≡◌, ℕ, ◌+◌, ◌<◌, ◌≤◌, min, None, List, [], ◌∷◌, ◌++◌, length, map, get_or, take, drop, refl, ap, sym, subst, ◌∙◌, arith}
+use Rattle.std.proofs.Common.{◌≡◌, ℕ, ◌+◌, ◌<◌, ◌≤◌, min, None, List, [], ◌∷◌, ◌++◌, length, map, get_or, take, drop}
+use Rattle.std.proofs.Common.{refl, ap, sym, subst, ◌∙◌, arith}
 use Rattle.std.specs.List.{All, slice_range, zip}
 use Rattle.std.proofs.lemmas.Grind.{common_steps}
 use Rattle.std.proofs.lemmas.List.{map-append, get_or-map, length-map}
@@ -30,8 +31,10 @@ entries_kept (a ∷ ws) (b ∷ ls) cs more h =
     range_kept cs more b.start b.end first.ends in
     let others : entries_in ws ls (cs ++ more) ≡ entries_in ws ls cs =
     entries_kept ws ls cs more (All-tail (IsWithin (length cs)) b ls h) in
-    ap (λ (counts : List ℕ). record { winner = a; choice = b.choice; counts = counts } ∷ entries_in ws ls (cs ++ more)) same
-    ∙ ap (λ (rest : List EntryData). record { winner = a; choice = b.choice; counts = slice_range cs b.start b.end } ∷ rest) others
+    ap (λ (counts : List ℕ). record { winner = a; choice = b.choice; counts = counts } ∷ entries_in ws ls (cs ++ more))
+    same
+    ∙ ap (λ (rest : List EntryData). record { winner = a; choice = b.choice; counts = slice_range cs b.start b.end } ∷
+    rest) others
 
 -- one list begins with another
 begins : (xs ys : List ℕ) → take (length xs) ys ≡ xs → (more : List ℕ) × (ys ≡ xs ++ more)
@@ -40,7 +43,8 @@ begins xs ys h = (drop (length xs) ys, grind (arith, common_steps))
 length_begins : (xs ys : List ℕ) → take (length xs) ys ≡ xs → length xs ≤ length ys
 length_begins xs ys h = grind (arith, common_steps)
 
-pub entries_push : (ws : List ℕ) (ls : List Line) (cs new : List ℕ) (w : ℕ) (line : Line) (row : List ℕ) → AreLines ws ls cs
+pub entries_push : (ws : List ℕ) (ls : List Line) (cs new : List ℕ) (w : ℕ) (line : Line) (row : List ℕ) →
+    AreLines ws ls cs
     → take (length cs) new ≡ cs → slice_range new line.start line.end ≡ row
     → entries_in (ws ++ w ∷ []) (ls ++ line ∷ []) new
     ≡ entries_in ws ls cs ++ record { winner = w; choice = line.choice; counts = row } ∷ []
@@ -52,16 +56,19 @@ entries_push ws ls cs new w line row are kept part =
     ap (λ (all : List ℕ). entries_in ws ls all) more.1 ∙ entries_kept ws ls cs more.0 are.within in
     split
     ∙ ap (λ (earlier : List EntryData). earlier ++ entry_in new (w, line) ∷ []) front
-    ∙ ap (λ (counts : List ℕ). entries_in ws ls cs ++ record { winner = w; choice = line.choice; counts = counts } ∷ []) part
+    ∙ ap (λ (counts : List ℕ). entries_in ws ls cs ++ record { winner = w; choice = line.choice; counts = counts } ∷ [])
+    part
 
 -- one line more, whose counts are there
 pub lines_push : (ws : List ℕ) (ls : List Line) (cs new : List ℕ) (w : ℕ) (line : Line) → AreLines ws ls cs
-    → take (length cs) new ≡ cs → line.start ≤ line.end → line.end ≤ length new → AreLines (ws ++ w ∷ []) (ls ++ line ∷ []) new
+    → take (length cs) new ≡ cs → line.start ≤ line.end → line.end ≤ length new →
+    AreLines (ws ++ w ∷ []) (ls ++ line ∷ []) new
 lines_push ws ls cs new w line are kept rises ends = record {
   each = grind (arith, common_steps, are.each);
   within = All-append (IsWithin (length new)) ls (line ∷ [])
       (all_wider ls (length cs) (length new) (length_begins cs new kept) are.within)
-      (All-cons (IsWithin (length new)) line [] (record { rises = rises; ends = ends }) (All-nil (IsWithin (length new))));
+      (All-cons (IsWithin (length new)) line [] (record { rises = rises; ends = ends })
+      (All-nil (IsWithin (length new))));
 }
   where
     all_wider : (ls : List Line) (m n : ℕ) → m ≤ n → All (IsWithin m) ls → All (IsWithin n) ls
@@ -73,12 +80,14 @@ lines_push ws ls cs new w line are kept rises ends = record {
 
 pub length-entries : (ws : List ℕ) (ls : List Line) (cs : List ℕ) → AreLines ws ls cs
     → length (entries_in ws ls cs) ≡ length ls
-length-entries ws ls cs are = length-map (zip ws ls) (entry_in cs) ∙ length-zip ws ls ∙ shorter (length ws) (length ls) are.each
+length-entries ws ls cs are =
+    length-map (zip ws ls) (entry_in cs) ∙ length-zip ws ls ∙ shorter (length ws) (length ls) are.each
   where
     shorter : (m n : ℕ) → m ≡ n → min m n ≡ n
     shorter m n h = omega arith
 
-module _ (ws : List ℕ) (ls : List Line) (cs : List ℕ) (v : ℕ) (are : AreLines ws ls cs) (within : v < length (entries_in ws ls cs)) where
+module _ (ws : List ℕ) (ls : List Line) (cs : List ℕ) (v : ℕ) (are : AreLines ws ls cs)
+    (within : v < length (entries_in ws ls cs)) where
   pub has_line : v < length ls
   has_line = omega (arith, length-entries ws ls cs are)
 
@@ -101,4 +110,5 @@ module _ (ws : List ℕ) (ls : List Line) (cs : List ℕ) (v : ℕ) (are : AreLi
     counts_at = ap (λ (l : Line). slice_range cs l.start l.end) is ∙ sym (ap (λ (e : EntryData). e.counts) (at 0 line))
 
     pub line_within : IsWithin (length cs) line
-    line_within = subst (IsWithin (length cs)) (sym is) (All-get_or (IsWithin (length cs)) ls v line has_line are.within)
+    line_within =
+        subst (IsWithin (length cs)) (sym is) (All-get_or (IsWithin (length cs)) ls v line has_line are.within)

@@ -1,5 +1,6 @@
 -- Rising lists, searches in them, and parts of lists.
-use Rattle.std.proofs.Common.{◌≡◌, ℕ, ◌<◌, ◌≤◌, ◌∙◌, List, length, get_or, inl, inr, ap, arith, zero, suc, Result, true, false, replicate}
+use Rattle.std.proofs.Common.{◌≡◌, ℕ, ◌<◌, ◌≤◌, ◌∙◌, List, length, get_or, inl, inr, ap, arith, zero, suc, Result, true}
+use Rattle.std.proofs.Common.{false, replicate}
 use Rattle.std.specs.Prelude.{slice_index}
 use Rattle.std.specs.List.{Contains}
 use Rattle.std.specs.List.Sorted.{IsStrictlyIncreasing, IsBinarySearchResult}
@@ -11,21 +12,28 @@ use Rattle.std.proofs.lemmas.List.Sorted.{searched}
 use Rattle.std.proofs.lemmas.Bool.{cases_lt, cases_eq}
 
 -- of a rising list each number is below each later one
-pub rising_far : (xs : List ℕ) → IsStrictlyIncreasing xs → (i j : ℕ) → i < j → j < length xs → slice_index xs i < slice_index xs j
+pub rising_far : (xs : List ℕ) → IsStrictlyIncreasing xs → (i j : ℕ) → i < j → j < length xs →
+    slice_index xs i < slice_index xs j
 rising_far xs rising i j less within = AllPairs-from_increasing xs rising i j 0 less within
 
-pub rising_near : (xs : List ℕ) → IsStrictlyIncreasing xs → (i j : ℕ) → i ≤ j → j < length xs → slice_index xs i ≤ slice_index xs j
+pub rising_near : (xs : List ℕ) → IsStrictlyIncreasing xs → (i j : ℕ) → i ≤ j → j < length xs →
+    slice_index xs i ≤ slice_index xs j
 rising_near xs rising i j at_most within = elim (cases_eq i j) [
   | inl same ↦ (let e : slice_index xs i ≡ slice_index xs j = ap (λ k. slice_index xs k) same in omega arith)
-  | inr differ ↦ (let less : slice_index xs i < slice_index xs j = rising_far xs rising i j (omega arith) within in omega arith)
+  | inr differ ↦ (let less : slice_index xs i < slice_index xs j = rising_far xs rising i j (omega arith) within in
+      omega arith)
 ]
 
 -- what a binary search of a rising list answers
-pub search_result : (xs : List ℕ) (x : ℕ) (r : Result ℕ ℕ) → IsStrictlyIncreasing xs → IsBinarySearchResult (λ y. nat_cmp y x) xs r → MatchResult r (λ i. (i < length xs) × (get_or xs i 0 ≡ x)) (λ i. (i ≤ length xs) × ((k : ℕ) → k < i → get_or xs k 0 < x) × ((k : ℕ) → i ≤ k → k < length xs → x < get_or xs k 0))
+pub search_result : (xs : List ℕ) (x : ℕ) (r : Result ℕ ℕ) → IsStrictlyIncreasing xs →
+    IsBinarySearchResult (λ y. nat_cmp y x) xs r → MatchResult r (λ i. (i < length xs) × (get_or xs i 0 ≡ x))
+    (λ i. (i ≤ length xs) × ((k : ℕ) → k < i → get_or xs k 0 < x) ×
+    ((k : ℕ) → i ≤ k → k < length xs → x < get_or xs k 0))
 search_result xs x r rising answer = searched xs x r answer (rising_near xs rising)
 
 -- where a search ends between smaller and greater numbers, the number is not in the list
-pub not_between : (xs : List ℕ) (x i : ℕ) → ((k : ℕ) → k < i → get_or xs k 0 < x) → ((k : ℕ) → i ≤ k → k < length xs → x < get_or xs k 0) → Contains xs x → ⊥
+pub not_between : (xs : List ℕ) (x i : ℕ) → ((k : ℕ) → k < i → get_or xs k 0 < x) →
+    ((k : ℕ) → i ≤ k → k < length xs → x < get_or xs k 0) → Contains xs x → ⊥
 not_between xs x i below above (k, within, is) =
     let at : get_or xs k 0 ≡ x = get_or_default xs k 0 x within ∙ is in
     elim (cases_lt k i) [

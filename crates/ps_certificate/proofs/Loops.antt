@@ -3,7 +3,9 @@
 --     word_next, word_fails, word_ends      a word, byte by byte
 --     priorities_next, priorities_fail, priorities_end      the numbers of a line of priorities
 --     Listing      what is left is read, behind a front of a list
-use Rattle.std.proofs.Common.{◌≡◌, ℕ, suc, ◌+◌, ◌-◌, ◌<◌, ◌≤◌, Bool, true, false, not, eqb, List, [], ◌∷◌, ◌++◌, length, get_or, drop, Option, Some, None, Result, Ok, Err, IsErrAnd, refl, sym, ap, subst, ◌∙◌, append_assoc, arith}
+use Rattle.std.proofs.Common.{◌≡◌, ℕ, suc, ◌+◌, ◌-◌, ◌<◌, ◌≤◌, Bool, true, false, not, eqb, List, [], ◌∷◌, ◌++◌, length}
+use Rattle.std.proofs.Common.{get_or, drop, Option, Some, None, Result, Ok, Err, IsErrAnd, refl, sym, ap, subst, ◌∙◌}
+use Rattle.std.proofs.Common.{append_assoc, arith}
 use Rattle.std.specs.Prelude.{slice_get}
 use Rattle.std.specs.Option.{option_eq}
 use Rattle.std.proofs.lemmas.Bool.{eq-eqb, eqb-true}
@@ -15,16 +17,20 @@ use Rattle.ps_text.specs.Faults.{found_of}
 use Rattle.ps_text.proofs.Laws.{Joint}
 use Rattle.ps_text.proofs.Simple.{laws_mapped}
 use Rattle.ps_text.proofs.Covered.{enters_then}
-use Rattle.ps_text.proofs.Exits.{exits, reads_give, reads_mapped, reads_then, stops_mapped, stops_first, stops_behind, carries_then, carries_stops}
+use Rattle.ps_text.proofs.Exits.{exits, reads_give, reads_mapped, reads_then, stops_mapped, stops_first, stops_behind}
+use Rattle.ps_text.proofs.Exits.{carries_then, carries_stops}
 use Rattle.ps_text.proofs.Branches.{many_ends, many_fails, reads_shrinks}
 use Rattle.ps_certificate.specs.declared.fault.CertCause.{CertCause}
 use Rattle.ps_certificate.specs.Faults.{CertFault}
 use Rattle.ps_certificate.specs.Certificates.{EntryData}
 use Rattle.ps_certificate.specs.Places.{Place}
 use Rattle.ps_certificate.specs.Reading.{at_place, Tells, comes}
-use Rattle.ps_certificate.specs.Texts.{Seen, Field, pieces_at, causes, byte, word, number, Never, NotNext, priority, priorities, counts, entry, entries}
+use Rattle.ps_certificate.specs.Texts.{Seen, Field, pieces_at, causes, byte, word, number, Never, NotNext, priority}
+use Rattle.ps_certificate.specs.Texts.{priorities, counts, entry, entries}
 use Rattle.ps_certificate.proofs.NumberPart.{laws_number}
-use Rattle.ps_certificate.proofs.TextLaws.{tight_joint, loose_joint, digit_no_space, laws_byte, laws_word, laws_priority, joint_priorities, laws_counts, loose_then, laws_entry, laws_entries}
+use Rattle.ps_certificate.proofs.TextLaws.{tight_joint, loose_joint, digit_no_space, laws_byte, laws_word}
+use Rattle.ps_certificate.proofs.TextLaws.{laws_priority, joint_priorities, laws_counts, loose_then, laws_entry}
+use Rattle.ps_certificate.proofs.TextLaws.{laws_entries}
 use Rattle.ps_certificate.proofs.Steps.{avoids, enters_byte}
 
 pub fails : {V X : Type 0} (view : X → V) (P : Field V) (old new : Place) (e : CertFault) (r : Result X CertFault)

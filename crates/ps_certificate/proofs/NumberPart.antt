@@ -1,5 +1,6 @@
 -- A number as a part of the text: how it is read, and how reading it fails.
-use Rattle.std.proofs.Common.{◌≡◌, ℕ, zero, suc, ◌+◌, ◌^◌, ◌<◌, ◌≤◌, ◌⊎◌, List, [], ◌∷◌, ◌++◌, length, take, drop, Err, refl, sym, ap, subst, inl, inr, ◌∙◌, append_assoc, arith, length-append, length-drop}
+use Rattle.std.proofs.Common.{◌≡◌, ℕ, zero, suc, ◌+◌, ◌^◌, ◌<◌, ◌≤◌, ◌⊎◌, List, [], ◌∷◌, ◌++◌, length, take, drop, Err}
+use Rattle.std.proofs.Common.{refl, sym, ap, subst, inl, inr, ◌∙◌, append_assoc, arith, length-append, length-drop}
 use Rattle.std.proofs.Math.Seq.{take-append_seam, drop-append_seam}
 use Rattle.ps_text.specs.Answers.{Begins, signs, first_of}
 use Rattle.ps_text.specs.Parts.{IsRead, IsFaultAt, is_cause, is_refusal, StopsAt, CleanUpTo}
@@ -19,8 +20,10 @@ use Rattle.ps_certificate.specs.declared.fault.CertCause.TheVariants.{Syntax, Ot
 use Rattle.ps_certificate.specs.Faults.{CertFault, cause_number}
 use Rattle.ps_certificate.specs.Places.{Place}
 use Rattle.ps_certificate.specs.Reading.{at_place, numeral, HasNoNumber, IsNumberRead, TellsNumber}
-use Rattle.ps_certificate.specs.Texts.{Seen, pieces_at, stream_at, bytes_of, causes, EndsField, Verdict, IsBadNumber, judged, OfOtherGame, number}
-use Rattle.ps_certificate.proofs.Numerals.{value_grows, numeral_split, numeral_plain, numeral_longest, plain_front, numeral_ended, numeral_zero}
+use Rattle.ps_certificate.specs.Texts.{Seen, pieces_at, stream_at, bytes_of, causes, EndsField, Verdict, IsBadNumber}
+use Rattle.ps_certificate.specs.Texts.{judged, OfOtherGame, number}
+use Rattle.ps_certificate.proofs.Numerals.{value_grows, numeral_split, numeral_plain, numeral_longest, plain_front}
+use Rattle.ps_certificate.proofs.Numerals.{numeral_ended, numeral_zero}
 
 -- ## Places and streams
 
@@ -68,7 +71,7 @@ IsWrongRun Wrong bytes f =
     ((f ≡ Syntax) × (2 ^ 64 ≤ decimal_value (numeral bytes)))
     ⊎ Wrong (drop (run_length bytes) bytes) (decimal_value (numeral bytes)) f
 
-run_long : (bytes digits more : List ℕ) → bytes ≡ digits ++ more → IsPlainNumber digits → 0 < run_length bytes
+pub run_long : (bytes digits more : List ℕ) → bytes ≡ digits ++ more → IsPlainNumber digits → 0 < run_length bytes
 run_long bytes digits more e h =
     let long = numeral_longest digits more h in
     let l : run_length bytes ≡ length digits + length long.0 = ap run_length e ∙ ap length long.1 ∙ length-append
@@ -246,7 +249,7 @@ fault_here Wrong at (b ∷ bytes) f h = record {
 }
 
 -- no number begins there
-nothing_there : (Wrong : Verdict) (at : ℕ) (bytes : List ℕ) → numeral bytes ≡ []
+pub nothing_there : (Wrong : Verdict) (at : ℕ) (bytes : List ℕ) → numeral bytes ≡ []
     → IsFaultAt causes (judged Wrong) [] (first_of (signs (pieces_at at bytes))) Syntax
 nothing_there Wrong at [] e = is_refusal (record {
   before = judged_begins Wrong;
@@ -264,11 +267,11 @@ nothing_there Wrong at (b ∷ bytes) e = is_refusal (record {
       omega (arith, l, ap length e);
 }) refl
 
-syntax_least : (g : CertCause) → cause_number Syntax ≤ cause_number g
+pub syntax_least : (g : CertCause) → cause_number Syntax ≤ cause_number g
 syntax_least Syntax = omega arith
 syntax_least OtherGame = omega arith
 
-too_large : (Wrong : Verdict) (at : ℕ) (bytes : List ℕ) → 0 < run_length bytes
+pub too_large : (Wrong : Verdict) (at : ℕ) (bytes : List ℕ) → 0 < run_length bytes
     → 2 ^ 64 ≤ decimal_value (numeral bytes) → IsFaultAt causes (judged Wrong) []
     (first_of (signs (pieces_at at bytes))) Syntax
 too_large Wrong at [] l h = absurd (omega arith)
@@ -277,7 +280,7 @@ too_large Wrong at (b ∷ bytes) l h =
     is_cause sign refl (refl, wrong_run_is Wrong (b ∷ bytes) sign Syntax refl l (inl (refl, h))) (λ g c. syntax_least g)
 
 -- a number of which the verdict speaks
-wrong_number : (Wrong : Verdict) → Settled Wrong → (at : ℕ) (bytes : List ℕ) (f : CertCause) → 0 < run_length bytes
+pub wrong_number : (Wrong : Verdict) → Settled Wrong → (at : ℕ) (bytes : List ℕ) (f : CertCause) → 0 < run_length bytes
     → decimal_value (numeral bytes) < 2 ^ 64
     → Wrong (drop (run_length bytes) bytes) (decimal_value (numeral bytes)) f
     → ((g : CertCause) → Wrong (drop (run_length bytes) bytes) (decimal_value (numeral bytes)) g

@@ -1,5 +1,6 @@
 -- A text has one answer for a game.
-use Rattle.std.proofs.Common.{◌≡◌, ℕ, zero, suc, ◌%◌, ◌<◌, ◌≤◌, List, [], ◌∷◌, length, get_or, Result, refl, ap, ap₂, subst, ◌∙◌, arith}
+use Rattle.std.proofs.Common.{◌≡◌, ℕ, zero, suc, ◌%◌, ◌<◌, ◌≤◌, List, [], ◌∷◌, length, get_or, Result, refl, ap, ap₂}
+use Rattle.std.proofs.Common.{subst, ◌∙◌, arith}
 use Rattle.std.specs.List.{All, AllPairs, Contains}
 use Rattle.std.proofs.lemmas.List.Elements.{All-contains}
 use Rattle.std.proofs.lemmas.List.Kept.{AllPairs-from_increasing}
@@ -23,7 +24,10 @@ Rises (x ∷ xs) = All (λ y. x < y) xs × Rises xs
 
 pub rises : (xs : List ℕ) → AllPairs (λ x y. x < y) xs → Rises xs
 rises [] h = tt
-rises (x ∷ xs) h = (λ k d lt. h 0 (suc k) d (omega arith) (omega (arith, lt)), rises xs (λ i j d a b. h (suc i) (suc j) d (omega (arith, a)) (omega (arith, b))))
+rises (x ∷ xs) h = (
+  λ k d lt. h 0 (suc k) d (omega arith) (omega (arith, lt)),
+  rises xs (λ i j d a b. h (suc i) (suc j) d (omega (arith, a)) (omega (arith, b))),
+)
 
 least_first : (x : ℕ) (xs : List ℕ) (p : ℕ) → Rises (x ∷ xs) → Contains (x ∷ xs) p → x ≤ p
 least_first x xs p r c = go c.0 c.1 c.2
@@ -60,15 +64,18 @@ same_list (x ∷ xs) (y ∷ ys) r s a b = ap₂ (λ z zs. z ∷ zs) same (same_l
     right : Within ys xs
     right p c = Contains-tail x xs p (λ e. omega (arith, above y ys p s c, e, same)) (b p (later_in y ys p c))
 
-within : (game : ParityGame) (parity : ℕ) (xs ys : List ℕ) → ListsPriorities game parity xs → ListsPriorities game parity ys → Within xs ys
+within : (game : ParityGame) (parity : ℕ) (xs ys : List ℕ) → ListsPriorities game parity xs →
+    ListsPriorities game parity ys → Within xs ys
 within game parity xs ys l m p c =
     let right : p % 2 ≡ parity = All-contains (λ q. q % 2 ≡ parity) xs p l.right_parity c in
     let there : HasPriority game p = All-contains (HasPriority game) xs p l.present c in
     subst (Contains ys) there.2 (m.complete there.0 there.1 (ap (λ q. q % 2) there.2 ∙ right))
 
-one_list : (game : ParityGame) (parity : ℕ) (xs ys : List ℕ) → ListsPriorities game parity xs → ListsPriorities game parity ys → xs ≡ ys
+one_list : (game : ParityGame) (parity : ℕ) (xs ys : List ℕ) → ListsPriorities game parity xs →
+    ListsPriorities game parity ys → xs ≡ ys
 one_list game parity xs ys l m =
-    same_list xs ys (rises xs (AllPairs-from_increasing xs l.rising)) (rises ys (AllPairs-from_increasing ys m.rising)) (within game parity xs ys l m) (within game parity ys xs m l)
+    same_list xs ys (rises xs (AllPairs-from_increasing xs l.rising)) (rises ys (AllPairs-from_increasing ys m.rising))
+    (within game parity xs ys l m) (within game parity ys xs m l)
 
 numbered : AreNumbered cause_number
 numbered Syntax Syntax e = refl
@@ -76,9 +83,13 @@ numbered Syntax OtherGame e = absurd (omega (arith, e))
 numbered OtherGame Syntax e = absurd (omega (arith, e))
 numbered OtherGame OtherGame e = refl
 
-pub one_reading : (game : NamedGameData) (text : List ℕ) (answer other : Result CertificateData (Found CertCause)) → ReadsCertificate game text answer → ReadsCertificate game text other → answer ≡ other
+pub one_reading : (game : NamedGameData) (text : List ℕ) (answer other : Result CertificateData (Found CertCause)) →
+    ReadsCertificate game text answer → ReadsCertificate game text other → answer ≡ other
 one_reading game text answer other a b =
-    has_one_answer (certificate a.odd a.even game.ids).IsText (IsWrong causes (certificate a.odd a.even game.ids)) cause_number (laws_certificate a.odd a.even game.ids).one_value numbered (stream_at 0 text) answer other
+    has_one_answer (certificate a.odd a.even game.ids).IsText (IsWrong causes (certificate a.odd a.even game.ids))
+    cause_number (laws_certificate a.odd a.even game.ids).one_value numbered (stream_at 0 text) answer other
     a.answers
-    (subst (λ odd. PartAnswers causes (certificate odd a.even game.ids) (stream_at 0 text) other) (one_list game.game 1 b.odd a.odd b.odd_listed a.odd_listed)
-    (subst (λ even. PartAnswers causes (certificate b.odd even game.ids) (stream_at 0 text) other) (one_list game.game 0 b.even a.even b.even_listed a.even_listed) b.answers))
+    (subst (λ odd. PartAnswers causes (certificate odd a.even game.ids) (stream_at 0 text) other)
+    (one_list game.game 1 b.odd a.odd b.odd_listed a.odd_listed)
+    (subst (λ even. PartAnswers causes (certificate b.odd even game.ids) (stream_at 0 text) other)
+    (one_list game.game 0 b.even a.even b.even_listed a.even_listed) b.answers))

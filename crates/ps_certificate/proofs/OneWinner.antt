@@ -1,6 +1,7 @@
--- Valid certificates of one game have the same winners: else a play by the moves of both, from a vertex that one player wins by
--- the one and the other player by the other, would have a loop that both win.
-use Rattle.std.proofs.Common.{◌≡◌, ◌≢◌, ◌∙◌, ℕ, zero, suc, ◌+◌, ◌%◌, ◌<◌, inl, inr, Bool, true, false, List, [], ◌∷◌, length, Option, Some, None, refl, sym, ap, subst, arith, eqb}
+-- Valid certificates of one game have the same winners: else a play by the moves of both, from a vertex that one player
+-- wins by the one and the other player by the other, would have a loop that both win.
+use Rattle.std.proofs.Common.{◌≡◌, ◌≢◌, ◌∙◌, ℕ, zero, suc, ◌+◌, ◌%◌, ◌<◌, inl, inr, Bool, true, false, List, [], ◌∷◌}
+use Rattle.std.proofs.Common.{length, Option, Some, None, refl, sym, ap, subst, arith, eqb}
 use Rattle.std.specs.Prelude.{IsSomeAnd, IfSome, slice_index, unwrap_or}
 use Rattle.std.proofs.lemmas.Bool.{cases_eq, eq-eqb, ne_eqb}
 use Rattle.ps_game.specs.Games.{ParityGame, vertex_count, owner_of, HasEdge}
@@ -14,10 +15,12 @@ some_and P Q None h k = absurd h
 some_and P Q (Some w) h k = (w, refl, h, k)
 
 -- where the winner moves, the winner's move
-given : (game : ParityGame) (certificate : CertificateData) → Fits game certificate → IsValid game certificate → (v : ℕ) → v < vertex_count game → owner_of game v ≡ winner_of certificate v
+given : (game : ParityGame) (certificate : CertificateData) → Fits game certificate → IsValid game certificate →
+    (v : ℕ) → v < vertex_count game → owner_of game v ≡ winner_of certificate v
     → (w : ℕ) × (choice_of certificate v ≡ Some w) × HasEdge game v w × (w < vertex_count game)
 given game certificate fits valid v within own =
-    some_and (HasEdge game v) (λ w. w < vertex_count game) (choice_of certificate v) ((valid.closed.moves v within).own own) (fits.choices v within)
+    some_and (HasEdge game v) (λ w. w < vertex_count game) (choice_of certificate v)
+    ((valid.closed.moves v within).own own) (fits.choices v within)
 
 -- steps from a vertex
 steps : (ℕ → ℕ) → ℕ → ℕ → List ℕ
@@ -33,20 +36,23 @@ steps-first : (next : ℕ → ℕ) (v n : ℕ) → slice_index (steps next v (su
 unfolding steps
 steps-first next v n = refl
 
-steps-next : (next : ℕ → ℕ) (v n k : ℕ) → suc k < n → slice_index (steps next v n) (suc k) ≡ next (slice_index (steps next v n) k)
+steps-next : (next : ℕ → ℕ) (v n k : ℕ) → suc k < n → slice_index (steps next v n) (suc k) ≡ next
+    (slice_index (steps next v n) k)
 unfolding steps
 steps-next next v zero k lt = absurd (omega arith)
 steps-next next v (suc zero) k lt = absurd (omega arith)
 steps-next next v (suc (suc n)) zero lt = refl
 steps-next next v (suc (suc n)) (suc k) lt = steps-next next (next v) (suc n) k (omega arith)
 
-steps-all : (next : ℕ → ℕ) (P : ℕ → Type 0) → ((w : ℕ) → P w → P (next w)) → (v n k : ℕ) → P v → k < n → P (slice_index (steps next v n) k)
+steps-all : (next : ℕ → ℕ) (P : ℕ → Type 0) → ((w : ℕ) → P w → P (next w)) → (v n k : ℕ) → P v → k < n →
+    P (slice_index (steps next v n) k)
 unfolding steps
 steps-all next P keep v zero k h lt = absurd (omega arith)
 steps-all next P keep v (suc n) zero h lt = h
 steps-all next P keep v (suc n) (suc k) h lt = steps-all next P keep (next v) n k (keep v h) (omega arith)
 
-module _ (game : ParityGame) (one other : CertificateData) (owners : (v : ℕ) → v < vertex_count game → owner_of game v < 2)
+module _ (game : ParityGame) (one other : CertificateData) (owners : (v : ℕ) → v < vertex_count game →
+    owner_of game v < 2)
     (fits : Fits game one) (valid : IsValid game one) (fits' : Fits game other) (valid' : IsValid game other)
     (p q : ℕ) (first : p < 2) (second : q < 2) (differ : p ≢ q) where
   next_if : Bool → ℕ → ℕ
@@ -104,8 +110,12 @@ module _ (game : ParityGame) (one other : CertificateData) (owners : (v : ℕ) �
       let s = step v b in
       record {
         within = s.within;
-        by_one = valid.closed.stays v (next v) (record { edge = s.edge; chosen = λ own. s.of_one (own ∙ b.by_one) }) ∙ b.by_one;
-        by_other = valid'.closed.stays v (next v) (record { edge = s.edge; chosen = λ own. s.of_other (own ∙ b.by_other) }) ∙ b.by_other;
+        by_one =
+            valid.closed.stays v (next v) (record { edge = s.edge; chosen = λ own. s.of_one (own ∙ b.by_one) })
+            ∙ b.by_one;
+        by_other =
+            valid'.closed.stays v (next v) (record { edge = s.edge; chosen = λ own. s.of_other (own ∙ b.by_other) })
+            ∙ b.by_other;
       }
 
   module _ (v : ℕ) (b : IsBoth v) where
@@ -152,13 +162,21 @@ module _ (game : ParityGame) (one other : CertificateData) (owners : (v : ℕ) �
         let loop = HasLoop-IsPath game path is_path (omega (arith, path-length)) in
         let by_one : winner_of one (slice_index path 0) ≡ p = ap (winner_of one) path-first ∙ b.by_one in
         let by_other : winner_of other (slice_index path 0) ≡ q = ap (winner_of other) path-first ∙ b.by_other in
-        let wins : loop_priority game path loop.0 loop.1 % 2 ≡ p = (BothHold-from_valid game one fits valid p first).wins path loop.0 loop.1 is_path (eq-eqb (winner_of one (slice_index path 0)) p by_one) follows_one loop.2 in
-        let wins' : loop_priority game path loop.0 loop.1 % 2 ≡ q = (BothHold-from_valid game other fits' valid' q second).wins path loop.0 loop.1 is_path (eq-eqb (winner_of other (slice_index path 0)) q by_other) follows_other loop.2 in
+        let wins : loop_priority game path loop.0 loop.1 % 2 ≡ p =
+        (BothHold-from_valid game one fits valid p first).wins path loop.0 loop.1 is_path
+        (eq-eqb (winner_of one (slice_index path 0)) p by_one) follows_one loop.2 in
+        let wins' : loop_priority game path loop.0 loop.1 % 2 ≡ q =
+        (BothHold-from_valid game other fits' valid' q second).wins path loop.0 loop.1 is_path
+        (eq-eqb (winner_of other (slice_index path 0)) q by_other) follows_other loop.2 in
         differ (sym wins ∙ wins')
 
-pub one_winner : (game : ParityGame) (one other : CertificateData) → ((v : ℕ) → v < vertex_count game → owner_of game v < 2) → Fits game one → IsValid game one → Fits game other → IsValid game other → (v : ℕ) → v < vertex_count game → winner_of one v ≡ winner_of other v
+pub one_winner : (game : ParityGame) (one other : CertificateData) →
+    ((v : ℕ) → v < vertex_count game → owner_of game v < 2) → Fits game one → IsValid game one → Fits game other →
+    IsValid game other → (v : ℕ) → v < vertex_count game → winner_of one v ≡ winner_of other v
 one_winner game one other owners fits valid fits' valid' v within =
     elim (cases_eq (winner_of one v) (winner_of other v)) [
       | inl same ↦ same
-      | inr differ ↦ absurd (never_both game one other owners fits valid fits' valid' (winner_of one v) (winner_of other v) (fits.winners v within) (fits'.winners v within) differ v (record { within = within; by_one = refl; by_other = refl }))
+      | inr differ ↦ absurd (never_both game one other owners fits valid fits' valid' (winner_of one v)
+          (winner_of other v) (fits.winners v within) (fits'.winners v within) differ v
+          (record { within = within; by_one = refl; by_other = refl }))
     ]

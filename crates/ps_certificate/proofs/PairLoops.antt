@@ -1,5 +1,6 @@
 -- What the loop over the pairs of a line has read, and what it still reads.
-use Rattle.std.proofs.Common.{◌≡◌, ℕ, zero, suc, ◌<◌, Bool, true, false, cond, eqb, List, [], ◌∷◌, length, get_or, Option, Some, None, Ok, refl, sym, ap, ap₂, subst, ◌∙◌, arith}
+use Rattle.std.proofs.Common.{◌≡◌, ℕ, zero, suc, ◌<◌, Bool, true, false, cond, eqb, List, [], ◌∷◌, length, get_or}
+use Rattle.std.proofs.Common.{Option, Some, None, Ok, refl, sym, ap, ap₂, subst, ◌∙◌, arith}
 use Rattle.std.specs.Prelude.{map, set, slice_index, replicate}
 use Rattle.std.specs.List.{All}
 use Rattle.std.specs.List.Sorted.{IsStrictlyIncreasing}
@@ -11,7 +12,8 @@ use Rattle.ps_text.specs.Answers.{Stream, Found}
 use Rattle.ps_text.specs.Parts.{many}
 use Rattle.ps_text.specs.Readers.{Reads, Stops, Carries}
 use Rattle.ps_text.proofs.Covered.{enters_then}
-use Rattle.ps_text.proofs.Exits.{reads_mapped, reads_then, stops_mapped, stops_first, stops_behind, carries_start, carries_stops}
+use Rattle.ps_text.proofs.Exits.{reads_mapped, reads_then, stops_mapped, stops_first, stops_behind, carries_start}
+use Rattle.ps_text.proofs.Exits.{carries_stops}
 use Rattle.ps_text.proofs.Branches.{many_ends, many_fails, carries_many}
 use Rattle.ps_certificate.specs.declared.fault.CertCause.{CertCause}
 use Rattle.ps_certificate.specs.Pairs.{Pairs, no_pairs, with_pair}
@@ -19,7 +21,8 @@ use Rattle.ps_certificate.specs.Places.{Place}
 use Rattle.ps_certificate.specs.Reading.{at_place, comes}
 use Rattle.ps_certificate.specs.Texts.{Seen, causes, byte, pair, counts_in}
 use Rattle.ps_certificate.proofs.OneReading.{Rises, rises}
-use Rattle.ps_certificate.proofs.TextLaws.{tight_joint, digit_no_space, laws_byte, behind_space, laws_behind_space, laws_pair, joint_pairs}
+use Rattle.ps_certificate.proofs.TextLaws.{tight_joint, digit_no_space, laws_byte, behind_space, laws_behind_space}
+use Rattle.ps_certificate.proofs.TextLaws.{laws_pair, joint_pairs}
 use Rattle.ps_certificate.proofs.Steps.{avoids, enters_byte}
 use Rattle.ps_certificate.proofs.Loops.{fewer}
 

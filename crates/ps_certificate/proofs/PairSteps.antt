@@ -2,7 +2,8 @@
 --     zero_fails, positive_reads      a count, which is not 0
 --     priority_fails, priority_open, priority_low, priority_unknown, priority_reads      its priority
 --     pair_space, pair_priority, pair_colon, pair_count, pair_reads      the pair
-use Rattle.std.proofs.Common.{◌≡◌, ℕ, ◌+◌, ◌≤◌, ◌⊎◌, ◌++◌, true, false, List, [], ◌∷◌, length, drop, Option, Some, None, Result, Ok, Err, IsErrAnd, refl, sym, ap, subst, inl, inr, ◌∙◌, arith}
+use Rattle.std.proofs.Common.{◌≡◌, ℕ, ◌+◌, ◌≤◌, ◌⊎◌, ◌++◌, true, false, List, [], ◌∷◌, length, drop, Option, Some, None}
+use Rattle.std.proofs.Common.{Result, Ok, Err, IsErrAnd, refl, sym, ap, subst, inl, inr, ◌∙◌, arith}
 use Rattle.std.specs.Prelude.{slice_index}
 use Rattle.std.specs.List.{Contains}
 use Rattle.std.proofs.lemmas.Bool.{ltb-true, ltb-false}
@@ -23,7 +24,8 @@ use Rattle.ps_certificate.specs.Faults.{CertFault, cause_number}
 use Rattle.ps_certificate.specs.Pairs.{Pairs, with_pair, DoesNotRise}
 use Rattle.ps_certificate.specs.Places.{Place}
 use Rattle.ps_certificate.specs.Prefixes.{IsAt}
-use Rattle.ps_certificate.specs.Reading.{at_place, comes, ends, numeral, rises, IsNumberRead, Tells, TellsNumber, TellsPriority}
+use Rattle.ps_certificate.specs.Reading.{at_place, comes, ends, numeral, rises, IsNumberRead, Tells, TellsNumber}
+use Rattle.ps_certificate.specs.Reading.{TellsPriority}
 use Rattle.ps_certificate.specs.Texts.{causes, byte, judged, WrongPriority, IsZero, pair}
 use Rattle.ps_certificate.proofs.Numerals.{zero_is, numeral_split, numeral_plain}
 use Rattle.ps_certificate.proofs.NumberPart.{Settled, judged_reads, judged_fails, judged_wrong, laws_judged}

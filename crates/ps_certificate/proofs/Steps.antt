@@ -4,7 +4,8 @@
 --     byte_reads, byte_fails, two_first, two_second, two_fails      one byte
 --     end_reads, end_missing, end_fails      the end of a line of priorities, where some of these are left
 --     ends_true, ends_false      what the test of a field's end says
-use Rattle.std.proofs.Common.{◌≡◌, ℕ, ◌+◌, ◌<◌, ◌≤◌, Bool, true, false, cond, eqb, ◌||◌, List, [], ◌∷◌, length, Option, Some, None, refl, sym, ap, subst, inl, inr, ◌∙◌, arith}
+use Rattle.std.proofs.Common.{◌≡◌, ℕ, ◌+◌, ◌<◌, ◌≤◌, Bool, true, false, cond, eqb, ◌||◌, List, [], ◌∷◌, length, Option}
+use Rattle.std.proofs.Common.{Some, None, refl, sym, ap, subst, inl, inr, ◌∙◌, arith}
 use Rattle.std.proofs.lemmas.Bool.{eq-eqb, ne_eqb, eqb-true, eqb-false}
 use Rattle.ps_text.specs.Answers.{signs, first_of, next_of}
 use Rattle.ps_text.specs.Parts.{NoBad, one, is_cause, is_refusal}
@@ -19,7 +20,8 @@ use Rattle.ps_certificate.specs.declared.fault.CertCause.TheVariants.{Syntax, Ot
 use Rattle.ps_certificate.specs.Faults.{CertFault, cause_number}
 use Rattle.ps_certificate.specs.Places.{Place}
 use Rattle.ps_certificate.specs.Reading.{at_place, comes, ends, step_on, step_of}
-use Rattle.ps_certificate.specs.Texts.{Seen, Field, pieces_at, stream_at, causes, EndsField, take_byte, take_two, byte, two, IsMissing}
+use Rattle.ps_certificate.specs.Texts.{Seen, Field, pieces_at, stream_at, causes, EndsField, take_byte, take_two, byte}
+use Rattle.ps_certificate.specs.Texts.{two, IsMissing}
 use Rattle.ps_certificate.proofs.NumberPart.{Odd}
 use Rattle.ps_certificate.proofs.TextLaws.{At, byte_taken, laws_byte, laws_newline, first_taken}
 

@@ -1,5 +1,7 @@
 -- Which numbers of a list are priorities of a game, found by marks.
-use Rattle.std.proofs.Common.{◌≡◌, ℕ, ◌%◌, below_more, ◌+◌, ◌-◌, ◌<◌, ◌≤◌, ◌∙◌, List, length, get_or, set, inl, inr, sym, ap, arith, Bool, true, false, Option, None, Some, take, drop, get_or-set_other, get_or-set_same, subst, length-take, length-drop, length-set}
+use Rattle.std.proofs.Common.{◌≡◌, ℕ, ◌%◌, below_more, ◌+◌, ◌-◌, ◌<◌, ◌≤◌, ◌∙◌, List, length, get_or, set, inl, inr}
+use Rattle.std.proofs.Common.{sym, ap, arith, Bool, true, false, Option, None, Some, take, drop, get_or-set_other}
+use Rattle.std.proofs.Common.{get_or-set_same, subst, length-take, length-drop, length-set}
 use Rattle.std.specs.Prelude.{slice_index, IfSome, is_some}
 use Rattle.std.specs.List.{All, Contains}
 use Rattle.std.specs.List.Sorted.{IsStrictlyIncreasing}
@@ -13,26 +15,34 @@ use Rattle.ps_certificate.proofs.Lists.{rising_far}
 use Rattle.ps_certificate.proofs.Edges.{Contains-at}
 
 -- what is found is in the list
-pub Contains-found : (list : List ℕ) (number : ℕ) (found : Option ℕ) → IfSome found (IsAt list number) → is_some found ≡ true → Contains list number
+pub Contains-found : (list : List ℕ) (number : ℕ) (found : Option ℕ) → IfSome found (IsAt list number) →
+    is_some found ≡ true → Contains list number
 Contains-found list number None at some = absurd (cc)
 Contains-found list number (Some k) at some = Contains-at list k number at.within (sym at.is)
 
 -- two places of one number in a rising list
-pub same_place : (list : List ℕ) → IsStrictlyIncreasing list → (i j : ℕ) → i < length list → j < length list → slice_index list i ≡ slice_index list j → i ≡ j
+pub same_place : (list : List ℕ) → IsStrictlyIncreasing list → (i j : ℕ) → i < length list → j < length list →
+    slice_index list i ≡ slice_index list j → i ≡ j
 same_place list rising i j i_within j_within same = elim (cases_order i j) [
   | inl equal ↦ equal
-  | inr (inl below) ↦ (let less : slice_index list i < slice_index list j = rising_far list rising i j below j_within in omega arith)
-  | inr (inr above) ↦ (let less : slice_index list j < slice_index list i = rising_far list rising j i above i_within in omega arith)
+  | inr (inl below) ↦ (let less : slice_index list i < slice_index list j = rising_far list rising i j below j_within in
+      omega arith)
+  | inr (inr above) ↦ (let less : slice_index list j < slice_index list i = rising_far list rising j i above i_within in
+      omega arith)
 ]
 
 -- marks stand only at priorities of the game
 pub record AreMarks (game : ParityGame) (window : List ℕ) (seen : List Bool) (vertex : ℕ) : Type 0 where
   pub room : length window ≤ length seen
   pub marked : (k : ℕ) → k < length window → get_or seen k false ≡ true → HasPriority game (get_or window k 0)
-  pub passed : (k v : ℕ) → k < length window → v < vertex → priority_of game v ≡ get_or window k 0 → get_or seen k false ≡ true
+  pub passed : (k v : ℕ) → k < length window → v < vertex → priority_of game v ≡ get_or window k 0 →
+      get_or seen k false ≡ true
 
 -- one more vertex whose priority is in the window
-pub AreMarks-found : (game : ParityGame) (window : List ℕ) (seen : List Bool) (vertex place priority : ℕ) → IsStrictlyIncreasing window → vertex < vertex_count game → priority ≡ priority_of game vertex → IsAt window priority place → AreMarks game window seen vertex → AreMarks game window (set seen place true) (vertex + 1)
+pub AreMarks-found : (game : ParityGame) (window : List ℕ) (seen : List Bool) (vertex place priority : ℕ) →
+    IsStrictlyIncreasing window → vertex < vertex_count game → priority ≡ priority_of game vertex →
+    IsAt window priority place → AreMarks game window seen vertex →
+    AreMarks game window (set seen place true) (vertex + 1)
 AreMarks-found game window seen vertex place priority rising in_range is at marks = record {
   room = simp length-set marks.room;
   marked = λ k within mark. elim (cases_eq k place) [
@@ -40,48 +50,64 @@ AreMarks-found game window seen vertex place priority rising in_range is at mark
     | inr differ ↦ marks.marked k within (sym (get_or-set_other seen place k true false differ) ∙ mark)
   ];
   passed = λ k v within below has. elim (cases_eq k place) [
-    | inl same ↦ (let inside : place < length seen = omega (arith, at.within, marks.room) in ap (λ n. get_or (set seen place true) n false) same ∙ get_or-set_same seen place true false inside)
+    | inl same ↦ (let inside : place < length seen = omega (arith, at.within, marks.room) in
+        ap (λ n. get_or (set seen place true) n false) same ∙ get_or-set_same seen place true false inside)
     | inr differ ↦ get_or-set_other seen place k true false differ ∙ elim (cases_eq v vertex) [
-      | inl last ↦ absurd (differ (same_place window rising k place within at.within (sym has ∙ ap (λ n. priority_of game n) last ∙ sym is ∙ sym at.is)))
+      | inl last ↦ absurd (differ (same_place window rising k place within at.within
+          (sym has ∙ ap (λ n. priority_of game n) last ∙ sym is ∙ sym at.is)))
       | inr earlier ↦ marks.passed k v within (omega arith) has
     ]
   ];
 }
 
 -- one more vertex whose priority is not
-pub AreMarks-missing : (game : ParityGame) (window : List ℕ) (seen : List Bool) (vertex priority : ℕ) → priority ≡ priority_of game vertex → ¬ Contains window priority → AreMarks game window seen vertex → AreMarks game window seen (vertex + 1)
+pub AreMarks-missing : (game : ParityGame) (window : List ℕ) (seen : List Bool) (vertex priority : ℕ) →
+    priority ≡ priority_of game vertex → ¬ Contains window priority → AreMarks game window seen vertex →
+    AreMarks game window seen (vertex + 1)
 AreMarks-missing game window seen vertex priority is missing marks = record {
   room = marks.room;
   marked = marks.marked;
   passed = λ k v within below has. elim (cases_eq v vertex) [
-    | inl last ↦ absurd (missing (Contains-at window k priority within (is ∙ ap (λ n. priority_of game n) (sym last) ∙ has)))
+    | inl last ↦ absurd (missing (Contains-at window k priority within
+        (is ∙ ap (λ n. priority_of game n) (sym last) ∙ has)))
     | inr earlier ↦ marks.passed k v within (omega arith) has
   ];
 }
 
 -- all are priorities where all are marked
-pub All-from_marks : (game : ParityGame) (window : List ℕ) (seen : List Bool) (vertex : ℕ) → AreMarks game window seen vertex → ((k : ℕ) → k < length window → get_or seen k false ≡ true) → All (HasPriority game) window
-All-from_marks game window seen vertex marks each = All-from_get_or (HasPriority game) window 0 (λ k within. marks.marked k within (each k within))
+pub All-from_marks : (game : ParityGame) (window : List ℕ) (seen : List Bool) (vertex : ℕ) →
+    AreMarks game window seen vertex → ((k : ℕ) → k < length window → get_or seen k false ≡ true) →
+    All (HasPriority game) window
+All-from_marks game window seen vertex marks each =
+    All-from_get_or (HasPriority game) window 0 (λ k within. marks.marked k within (each k within))
 
 -- a number that is a priority is marked in the end
-pub marked_in_the_end : (game : ParityGame) (window : List ℕ) (seen : List Bool) (k : ℕ) → AreMarks game window seen (vertex_count game) → All (HasPriority game) window → k < length window → get_or seen k false ≡ true
+pub marked_in_the_end : (game : ParityGame) (window : List ℕ) (seen : List Bool) (k : ℕ) →
+    AreMarks game window seen (vertex_count game) → All (HasPriority game) window → k < length window →
+    get_or seen k false ≡ true
 marked_in_the_end game window seen k marks all within =
     let (v, below, has) = all k 0 within in
     marks.passed k v within below has
 
 -- a part of a list
-pub part-at : (list : List ℕ) (start end k : ℕ) → k < end - start → get_or (take (end - start) (drop start list)) k 0 ≡ get_or list (start + k) 0
+pub part-at : (list : List ℕ) (start end k : ℕ) → k < end - start →
+    get_or (take (end - start) (drop start list)) k 0 ≡ get_or list (start + k) 0
 part-at list start end k below = get_or-take (end - start) (drop start list) k 0 below ∙ get_or-drop start list k 0
 
 -- one more part of a list, of which each number is a priority
-pub present_more : (game : ParityGame) (list : List ℕ) (start end : ℕ) → end ≤ length list → ((k : ℕ) → k < start → HasPriority game (get_or list k 0)) → All (HasPriority game) (take (end - start) (drop start list)) → (k : ℕ) → k < end → HasPriority game (get_or list k 0)
+pub present_more : (game : ParityGame) (list : List ℕ) (start end : ℕ) → end ≤ length list →
+    ((k : ℕ) → k < start → HasPriority game (get_or list k 0)) →
+    All (HasPriority game) (take (end - start) (drop start list)) → (k : ℕ) → k < end →
+    HasPriority game (get_or list k 0)
 present_more game list start end within before part k below = elim (cases_lt k start) [
   | inl earlier ↦ before k earlier
   | inr later ↦
       let in_part : k - start < end - start = omega arith in
-      let long : length (take (end - start) (drop start list)) ≡ end - start = simp (length-take, length-drop) (omega arith) in
+      let long : length (take (end - start) (drop start list)) ≡ end - start =
+      simp (length-take, length-drop) (omega arith) in
       let there : start + (k - start) ≡ k = omega arith in
-      let is : get_or (take (end - start) (drop start list)) (k - start) 0 ≡ get_or list k 0 = part-at list start end (k - start) in_part ∙ ap (λ n. get_or list n 0) there in
+      let is : get_or (take (end - start) (drop start list)) (k - start) 0 ≡ get_or list k 0 =
+      part-at list start end (k - start) in_part ∙ ap (λ n. get_or list n 0) there in
       let P : ℕ → Type 0 = HasPriority game in
       subst P is (part (k - start) 0 (omega (arith, long)))
 ]
@@ -92,18 +118,25 @@ pub record AreJust (game : ParityGame) (parity : ℕ) (list : List ℕ) (seen : 
   pub complete : (v : ℕ) → v < vertex → priority_of game v % 2 ≡ parity → Contains list (priority_of game v)
 
 -- one more vertex of the other parity
-pub AreJust-other : (game : ParityGame) (parity : ℕ) (list : List ℕ) (seen : List Bool) (vertex priority : ℕ) → All (λ p. p % 2 ≡ parity) list
-    → priority ≡ priority_of game vertex → (priority % 2 ≡ parity → ⊥) → AreJust game parity list seen vertex → AreJust game parity list seen (vertex + 1)
+pub AreJust-other : (game : ParityGame) (parity : ℕ) (list : List ℕ) (seen : List Bool) (vertex priority : ℕ) →
+    All (λ p. p % 2 ≡ parity) list
+    → priority ≡ priority_of game vertex → (priority % 2 ≡ parity → ⊥) → AreJust game parity list seen vertex →
+    AreJust game parity list seen (vertex + 1)
 AreJust-other game parity list seen vertex priority right is other just = record {
-  marks = AreMarks-missing game list seen vertex priority is (λ has. other (All-contains (λ p. p % 2 ≡ parity) list priority right has)) just.marks;
+  marks =
+      AreMarks-missing game list seen vertex priority is (λ has.
+      other (All-contains (λ p. p % 2 ≡ parity) list priority right has)) just.marks;
   complete = below_more _ _ just.complete (λ same. absurd (other (ap (λ n. n % 2) is ∙ same)));
 }
 
 -- one more vertex whose priority is listed
-pub AreJust-found : (game : ParityGame) (parity : ℕ) (list : List ℕ) (seen : List Bool) (vertex place priority : ℕ) → IsStrictlyIncreasing list
+pub AreJust-found : (game : ParityGame) (parity : ℕ) (list : List ℕ) (seen : List Bool) (vertex place priority : ℕ) →
+    IsStrictlyIncreasing list
     → vertex < vertex_count game → priority ≡ priority_of game vertex → IsAt list priority place
     → AreJust game parity list seen vertex → AreJust game parity list (set seen place true) (vertex + 1)
 AreJust-found game parity list seen vertex place priority rising in_range is at just = record {
   marks = AreMarks-found game list seen vertex place priority rising in_range is at just.marks;
-  complete = below_more _ _ just.complete (λ same. Contains-at list place (priority_of game vertex) at.within (sym is ∙ sym at.is));
+  complete =
+      below_more _ _ just.complete (λ same. Contains-at list place (priority_of game vertex) at.within
+      (sym is ∙ sym at.is));
 }

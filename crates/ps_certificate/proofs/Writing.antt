@@ -5,7 +5,10 @@
 --     went_byte, went_word, went_number, went_fields, went_version, went_winner, went_choice, went_counts, went_pairs,
 --     went_entry, went_entries, went_text      each part of the text
 --     reads_again      the whole text
-use Rattle.std.proofs.Common.{◌≡◌, ◌≢◌, ℕ, zero, suc, ◌+◌, ◌-◌, ◌*◌, ◌/◌, ◌%◌, ◌^◌, ◌<◌, ◌≤◌, ◌⊎◌, Bool, true, false, cond, eqb, ltb, List, [], ◌∷◌, ◌++◌, length, get_or, map, drop, take, Option, Some, None, Ok, refl, sym, ap, ap₂, subst, inl, inr, ◌∙◌, append_assoc, add-zero, arith, length-append}
+use Rattle.std.proofs.Common.{◌≡◌, ◌≢◌, ℕ, zero, suc, ◌+◌, ◌-◌, ◌*◌, ◌/◌, ◌%◌, ◌^◌, ◌<◌, ◌≤◌, ◌⊎◌, Bool, true, false}
+use Rattle.std.proofs.Common.{cond, eqb, ltb, List, [], ◌∷◌, ◌++◌, length, get_or, map, drop, take, Option, Some, None}
+use Rattle.std.proofs.Common.{Ok, refl, sym, ap, ap₂, subst, inl, inr, ◌∙◌, append_assoc, add-zero, arith}
+use Rattle.std.proofs.Common.{length-append}
 use Rattle.std.specs.Prelude.{decimal, IfSome}
 use Rattle.std.specs.List.{All, AllPairs, Contains}
 use Rattle.std.specs.Int.Digits.{number_from_digits}
@@ -28,21 +31,30 @@ use Rattle.ps_text.proofs.Whole.{answers_ok}
 use Rattle.ps_game.specs.Games.{ParityGame, NamedGameData, IsNamedGame, vertex_count}
 use Rattle.ps_certificate.specs.declared.fault.CertCause.{CertCause}
 use Rattle.ps_certificate.specs.declared.fault.CertCause.TheVariants.{Syntax, OtherGame}
-use Rattle.ps_certificate.specs.Certificates.{EntryData, CertificateData, no_entry, winner_of, choice_of, counts_of, opposing, Fits}
+use Rattle.ps_certificate.specs.Certificates.{EntryData, CertificateData, no_entry, winner_of, choice_of, counts_of}
+use Rattle.ps_certificate.specs.Certificates.{opposing, Fits}
 use Rattle.ps_certificate.specs.Places.{Place}
 use Rattle.ps_certificate.specs.Words.{first_word, vertices_word, odd_word, even_word}
 use Rattle.ps_certificate.specs.Pairs.{Pairs, no_pairs, with_pair, DoesNotRise}
 use Rattle.ps_certificate.specs.Reading.{comes, numeral, IsNumberRead}
-use Rattle.ps_certificate.specs.Texts.{Field, stream_at, EndsField, Verdict, byte, word, judged, number, Never, NotNext, priority, priorities, version, winner, vertex_of, choice, counts, WrongPriority, pair, counts_in, lost_by, entry, entries, certificate, ReadsCertificate as ReadsText}
-use Rattle.ps_certificate.specs.Written.{fields, pairs, counts_text, move_text, entry_line, entry_lines, version_digit, head_text, IsWord, IsWritable, HasWords, text_in}
+use Rattle.ps_certificate.specs.Texts.{Field, stream_at, EndsField, Verdict, byte, word, judged, number, Never, NotNext}
+use Rattle.ps_certificate.specs.Texts.{priority, priorities, version, winner, vertex_of, choice, counts, WrongPriority}
+use Rattle.ps_certificate.specs.Texts.{pair, counts_in, lost_by, entry, entries, certificate}
+use Rattle.ps_certificate.specs.Texts.{ReadsCertificate as ReadsText}
+use Rattle.ps_certificate.specs.Written.{fields, pairs, counts_text, move_text, entry_line, entry_lines, version_digit}
+use Rattle.ps_certificate.specs.Written.{head_text, IsWord, IsWritable, HasWords, text_in}
 use Rattle.ps_certificate.proofs.OneReading.{Rises, rises as rises_of}
 use Rattle.ps_certificate.proofs.Numerals.{numeral_ended}
 use Rattle.ps_certificate.proofs.NumberPart.{Settled, settled_other, judged_reads}
-use Rattle.ps_certificate.proofs.TextLaws.{tight_joint, digit_no_space, laws_byte, laws_word, laws_priority, joint_priorities, laws_pair, joint_pairs, laws_entry, laws_entries, laws_certificate}
+use Rattle.ps_certificate.proofs.TextLaws.{tight_joint, digit_no_space, laws_byte, laws_word, laws_priority}
+use Rattle.ps_certificate.proofs.TextLaws.{joint_priorities, laws_pair, joint_pairs, laws_entry, laws_entries}
+use Rattle.ps_certificate.proofs.TextLaws.{laws_certificate}
 use Rattle.ps_certificate.proofs.Steps.{avoids, byte_reads, two_first, two_second, end_reads}
 use Rattle.ps_certificate.proofs.Loops.{joint_listed, joint_counts, joint_count}
 use Rattle.ps_certificate.proofs.PairSteps.{pair_reads, positive_reads}
-use Rattle.ps_certificate.proofs.EntrySteps.{choice_dash, choice_reads, joint_id, joint_space, joint_winner, joint_second, joint_choice, joint_first, joint_version, joint_vertices, joint_number, joint_odd_word, joint_odd, joint_even_word, joint_even}
+use Rattle.ps_certificate.proofs.EntrySteps.{choice_dash, choice_reads, joint_id, joint_space, joint_winner}
+use Rattle.ps_certificate.proofs.EntrySteps.{joint_second, joint_choice, joint_first, joint_version, joint_vertices}
+use Rattle.ps_certificate.proofs.EntrySteps.{joint_number, joint_odd_word, joint_odd, joint_even_word, joint_even}
 
 -- ## Lists
 

@@ -1,6 +1,7 @@
 -- Certificates of parity games: when they fit a game, when they are valid, and what is wrong with one
 -- that is not.
-use Rattle.std.specs.Prelude.{◌≡◌, ◌≢◌, ℕ, ◌<◌, ◌≤◌, ◌⊎◌, List, [], length, Option, None, IfSome, IsSome, IsSomeAnd, if◌then◌else◌, ◌==◌, slice_index, slice_index_or}
+use Rattle.std.specs.Prelude.{◌≡◌, ◌≢◌, ℕ, ◌<◌, ◌≤◌, ◌⊎◌, List, [], length, Option, None, IfSome, IsSome, IsSomeAnd}
+use Rattle.std.specs.Prelude.{if◌then◌else◌, ◌==◌, slice_index, slice_index_or}
 use Rattle.ps_game.specs.Games.{ParityGame, vertex_count, owner_of, priority_of, successors_of, HasEdge}
 use Rattle.ps_game.specs.Ranking.{RemainsFor, ListsPriorities, KeepsRule}
 use Rattle.ps_certificate.specs.declared.flaw.Flaw.{Flaw}
@@ -43,7 +44,8 @@ pub record Fits (game : ParityGame) (certificate : CertificateData) : Type 0 whe
   pub choices : (v : ℕ) → v < vertex_count game → IfSome (choice_of certificate v) (λ w. w < vertex_count game)
   pub odd_listed : ListsPriorities game 1 certificate.odd
   pub even_listed : ListsPriorities game 0 certificate.even
-  pub count_each : (v : ℕ) → v < vertex_count game → length (counts_of certificate v) ≡ length (opposing certificate (winner_of certificate v))
+  pub count_each : (v : ℕ) → v < vertex_count game → length (counts_of certificate v) ≡ length
+      (opposing certificate (winner_of certificate v))
 
 -- an edge remains when it leaves a vertex of the loser, or is the winner's move
 abbrev pub Remains : ParityGame → CertificateData → ℕ → ℕ → Type 0
@@ -66,13 +68,15 @@ opposing_at certificate v k = slice_index (opposing certificate (winner_of certi
 -- an edge keeps the rule of counts for the opposing priority at a place
 abbrev pub KeepsCount : ParityGame → CertificateData → ℕ → ℕ → ℕ → Type 0
 KeepsCount game certificate v w k =
-    KeepsRule (opposing_at certificate v k) (priority_of game v) (priority_of game w) (slice_index (counts_of certificate v) k) (slice_index (counts_of certificate w) k)
+    KeepsRule (opposing_at certificate v k) (priority_of game v) (priority_of game w)
+    (slice_index (counts_of certificate v) k) (slice_index (counts_of certificate w) k)
 
 -- a valid certificate is closed, and each edge that remains between two vertices of one winner keeps
 -- the rule of counts for each opposing priority
 pub record IsValid (game : ParityGame) (certificate : CertificateData) : Type 0 where
   pub closed : IsClosed game certificate
-  pub counts : (v w k : ℕ) → Remains game certificate v w → winner_of certificate w ≡ winner_of certificate v → k < length (opposing certificate (winner_of certificate v)) → KeepsCount game certificate v w k
+  pub counts : (v w k : ℕ) → Remains game certificate v w → winner_of certificate w ≡ winner_of certificate v →
+      k < length (opposing certificate (winner_of certificate v)) → KeepsCount game certificate v w k
 
 -- the winner owns the vertex, and its move is none or no successor; or the loser owns it, and a move
 -- is given

@@ -1,5 +1,5 @@
--- How a certificate keeps its entries: winners, and moves with the parts of one list where the counts of each vertex stand. (Of
--- private fields.)
+-- How a certificate keeps its entries: winners, and moves with the parts of one list where the counts of each vertex
+-- stand. (Of private fields.)
 use Rattle.std.specs.Prelude.{◌≡◌, ℕ, ◌≤◌, List, length, map}
 use Rattle.std.specs.List.{All, slice_range, zip}
 use Rattle.ps_certificate.specs.Certificates.{EntryData}

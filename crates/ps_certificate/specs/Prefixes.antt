@@ -5,11 +5,13 @@ use Rattle.std.specs.List.{Contains}
 use Rattle.ps_game.specs.Games.{ParityGame, vertex_count, priority_of, successors_of}
 use Rattle.ps_certificate.specs.declared.flaw.Flaw.{Flaw}
 use Rattle.ps_certificate.specs.declared.flaw.Flaw.TheVariants.{Move, Escape, Rank}
-use Rattle.ps_certificate.specs.Certificates.{CertificateData, Remains, HasRightMove, IsFlaw, Precedes, StandsBefore, winner_of, choice_of, counts_of, opposing, KeepsCount, opposing_at}
+use Rattle.ps_certificate.specs.Certificates.{CertificateData, Remains, HasRightMove, IsFlaw, Precedes, StandsBefore}
+use Rattle.ps_certificate.specs.Certificates.{winner_of, choice_of, counts_of, opposing, KeepsCount, opposing_at}
 
 -- each edge of a vertex that remains stays with the winner
 abbrev pub StaysInside : ParityGame → CertificateData → ℕ → Type 0
-StaysInside game certificate v = (w : ℕ) → Remains game certificate v w → winner_of certificate w ≡ winner_of certificate v
+StaysInside game certificate v =
+    (w : ℕ) → Remains game certificate v w → winner_of certificate w ≡ winner_of certificate v
 
 -- the move of a vertex is right, and what remains stays with the winner
 pub record IsSoundAt (game : ParityGame) (certificate : CertificateData) (v : ℕ) : Type 0 where
@@ -42,11 +44,13 @@ pub record IsFirstFlawAt (game : ParityGame) (certificate : CertificateData) (st
   pub is_flaw : IsFlaw game certificate flaw
   pub at_stage : stage_of flaw ≡ stage
   pub at_vertex : vertex_of flaw ≡ v
-  pub first : (other : Flaw) → IsFlaw game certificate other → stage_of other ≡ stage → vertex_of other ≡ v → (flaw ≡ other) ⊎ Precedes game flaw other
+  pub first : (other : Flaw) → IsFlaw game certificate other → stage_of other ≡ stage → vertex_of other ≡ v →
+      (flaw ≡ other) ⊎ Precedes game flaw other
 
 -- a list has the priority of each vertex of one parity
 abbrev pub IsComplete : ParityGame → ℕ → List ℕ → Type 0
-IsComplete game parity list = (v : ℕ) → v < vertex_count game → priority_of game v % 2 ≡ parity → Contains list (priority_of game v)
+IsComplete game parity list =
+    (v : ℕ) → v < vertex_count game → priority_of game v % 2 ≡ parity → Contains list (priority_of game v)
 
 -- the entry of a vertex fits a game of so many vertices
 pub record EntryFits (vertices : ℕ) (certificate : CertificateData) (v : ℕ) : Type 0 where
@@ -61,7 +65,8 @@ pub record IsAt (list : List ℕ) (number place : ℕ) : Type 0 where
 
 -- an edge keeps the rule of counts for each opposing priority
 abbrev pub KeepsCounts : ParityGame → CertificateData → ℕ → ℕ → Type 0
-KeepsCounts game certificate v w = (k : ℕ) → k < length (opposing certificate (winner_of certificate v)) → KeepsCount game certificate v w k
+KeepsCounts game certificate v w =
+    (k : ℕ) → k < length (opposing certificate (winner_of certificate v)) → KeepsCount game certificate v w k
 
 -- each edge of a vertex that remains does
 abbrev pub KeepsCountsAt : ParityGame → CertificateData → ℕ → Type 0

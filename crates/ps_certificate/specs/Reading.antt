@@ -1,9 +1,13 @@
 -- What the private functions of the reader say of what they have read: a part of the grammar, or its first fault.
---     Tells view part old result new      from the one place to the other the part was read, or its first fault was found
+--     Tells view part old result new      from the one place to the other the part was read, or its first fault was
+--               found
 --     numeral bytes      the longest run of digits without a leading zero that the bytes begin with
---     TellsNumber old result new      this run was passed; or it is empty, or a word of 64 bits does not hold its number
---     TellsPriority, TellsHead, TellsEntries      the priority of a pair; what stands before the lines of the vertices; the text
-use Rattle.std.specs.Prelude.{◌≡◌, ℕ, ◌+◌, ◌^◌, ◌<◌, ◌≤◌, ◌⊎◌, List, [], ◌∷◌, length, drop, Option, Some, None, Result, Ok, Err, Bool, true, false, ◌||◌, nat_lt, ◌==◌, if◌then◌else◌, take_while, slice_index}
+--     TellsNumber old result new      this run was passed; or it is empty, or a word of 64 bits does not hold its
+--               number
+--     TellsPriority, TellsHead, TellsEntries      the priority of a pair; what stands before the lines of the vertices;
+--               the text
+use Rattle.std.specs.Prelude.{◌≡◌, ℕ, ◌+◌, ◌^◌, ◌<◌, ◌≤◌, ◌⊎◌, List, [], ◌∷◌, length, drop, Option, Some, None, Result}
+use Rattle.std.specs.Prelude.{Ok, Err, Bool, true, false, ◌||◌, nat_lt, ◌==◌, if◌then◌else◌, take_while, slice_index}
 use Rattle.std.specs.Char.{is_ascii_digit}
 use Rattle.ps_text.specs.Answers.{Stream}
 use Rattle.ps_text.specs.Parts.{PartAnswers, mapped}
@@ -16,7 +20,8 @@ use Rattle.ps_certificate.specs.Faults.{CertFault}
 use Rattle.ps_certificate.specs.Certificates.{EntryData, CertificateData}
 use Rattle.ps_certificate.specs.Places.{Place}
 use Rattle.ps_certificate.specs.Pairs.{Pairs}
-use Rattle.ps_certificate.specs.Texts.{Seen, Field, stream_at, causes, byte, judged, WrongPriority, entries, certificate}
+use Rattle.ps_certificate.specs.Texts.{Seen, Field, stream_at, causes, byte, judged, WrongPriority, entries}
+use Rattle.ps_certificate.specs.Texts.{certificate}
 
 -- what stands from a place on
 abbrev pub at_place : Place → Stream Seen
@@ -69,7 +74,8 @@ abbrev pub rises : Option ℕ → ℕ → Bool
 rises None n = true
 rises (Some last) n = nat_lt last n
 
--- the priority of a count was read, at that place of the list; or its first fault was found, or no colon can come behind it
+-- the priority of a count was read, at that place of the list; or its first fault was found, or no colon can come
+-- behind it
 abbrev pub TellsPriority : List ℕ → Pairs → Place → Result ℕ CertFault → Place → Type 0
 TellsPriority ps pairs old (Ok place) new = ReadsPart (judged (WrongPriority ps pairs)) (at_place old)
     (slice_index ps place) (at_place new)

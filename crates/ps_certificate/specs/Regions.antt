@@ -26,4 +26,5 @@ pub record WinsNothingAt (game : ParityGame) (player v : ℕ) : Type 0 where
 
 abbrev pub NoneWinsOutside : ParityGame → CertificateData → Type 0
 NoneWinsOutside game certificate =
-    (player : ℕ) → player < 2 → (v : ℕ) → v < vertex_count game → winner_of certificate v ≢ player → WinsNothingAt game player v
+    (player : ℕ) → player < 2 → (v : ℕ) → v < vertex_count game → winner_of certificate v ≢ player →
+    WinsNothingAt game player v

@@ -4,17 +4,20 @@
 --     odd p p ..                      odd p p ..
 --     even p p ..                     even p p ..
 --     id winner move m m ..           id winner move p:m p:m ..
--- Each line is ended by one newline, fields are separated by one space, and numbers have no leading zeros. The second line has
--- the number of vertices, the next two the priorities that are present, rising. Then one line for each vertex, in the game's
--- order: its id, the winner, 0 or 1, the winner's move, which is the id of a vertex or `-`, and one count for each priority by
--- which the winner loses. The compact text, on the right, has a count only where it is not 0, behind its priority, and these
--- priorities rise.
---     A text has the form of a certificate, whichever numbers stand where a number of vertices, a priority, an id or a move
--- stands, and however many priorities are listed. Where it leaves this form it is refused by 53 (`Syntax`), and so it is at
--- the first digit of a number that no word of 64 bits holds, at a count 0 behind its priority, and at the first digit of a
--- count's priority that does not rise, if a space, a newline or a colon ends it. It is refused by 54 (`OtherGame`) at a number
--- that is not the one that the game has there, if one of these ends it, and at the newline where a priority is missing.
-use Rattle.std.specs.Prelude.{◌≡◌, ◌≢◌, ℕ, zero, suc, ◌+◌, ◌^◌, ◌<◌, ◌≤◌, ◌⊎◌, List, [], ◌∷◌, ◌++◌, length, map, drop, Option, Some, None, Result, Bool, true, false, ◌==◌, if◌then◌else◌, slice_get, position}
+-- Each line is ended by one newline, fields are separated by one space, and numbers have no leading zeros. The second
+-- line has the number of vertices, the next two the priorities that are present, rising. Then one line for each vertex,
+-- in the game's order: its id, the winner, 0 or 1, the winner's move, which is the id of a vertex or `-`, and one count
+-- for each priority by which the winner loses. The compact text, on the right, has a count only where it is not 0,
+-- behind its priority, and these priorities rise.
+--     A text has the form of a certificate, whichever numbers stand where a number of vertices, a priority, an id or a
+--     move
+-- stands, and however many priorities are listed. Where it leaves this form it is refused by 53 (`Syntax`), and so it
+-- is at the first digit of a number that no word of 64 bits holds, at a count 0 behind its priority, and at the first
+-- digit of a count's priority that does not rise, if a space, a newline or a colon ends it. It is refused by 54
+-- (`OtherGame`) at a number that is not the one that the game has there, if one of these ends it, and at the newline
+-- where a priority is missing.
+use Rattle.std.specs.Prelude.{◌≡◌, ◌≢◌, ℕ, zero, suc, ◌+◌, ◌^◌, ◌<◌, ◌≤◌, ◌⊎◌, List, [], ◌∷◌, ◌++◌, length, map, drop}
+use Rattle.std.specs.Prelude.{Option, Some, None, Result, Bool, true, false, ◌==◌, if◌then◌else◌, slice_get, position}
 use Rattle.std.specs.List.{Contains}
 use Rattle.ps_text.specs.Answers.{Piece, Stream, Found}
 use Rattle.ps_text.specs.Parts.{Part, Causes, PartAnswers, NoBad, give, one, then_by, either, many, mapped}
@@ -145,7 +148,8 @@ counts (suc n) = then_by (byte 32) (λ _. then_by (number Never) (λ count. mapp
 
 -- the priority of a count is ended, and does not rise, or is none by which the winner loses
 abbrev pub WrongPriority : List ℕ → Pairs → Verdict
-WrongPriority ps pairs more n f = EndsField more × (((f ≡ Syntax) × DoesNotRise pairs n) ⊎ ((f ≡ OtherGame) × ¬ Contains ps n))
+WrongPriority ps pairs more n f =
+    EndsField more × (((f ≡ Syntax) × DoesNotRise pairs n) ⊎ ((f ≡ OtherGame) × ¬ Contains ps n))
 
 -- a count 0 is not written
 abbrev pub IsZero : Verdict
@@ -171,12 +175,15 @@ abbrev pub entry : Bool → List ℕ → List ℕ → List ℕ → ℕ → Field
 entry compact odd even ids id =
     then_by (number (λ n. n ≢ id)) (λ _. then_by (byte 32) (λ _.
     then_by winner (λ w. then_by (byte 32) (λ _.
-    then_by (choice ids) (λ c. mapped (λ cs. record { winner = w; choice = c; counts = cs }) (counts_in compact (lost_by odd even w)))))))
+    then_by (choice ids) (λ c. mapped (λ cs. record { winner = w; choice = c; counts = cs })
+    (counts_in compact (lost_by odd even w)))))))
 
 -- a line for each of these ids
 abbrev pub entries : Bool → List ℕ → List ℕ → List ℕ → List ℕ → Field (List EntryData)
 entries compact odd even all [] = give []
-entries compact odd even all (id ∷ ids) = then_by (entry compact odd even all id) (λ first. mapped (λ others. first ∷ others) (entries compact odd even all ids))
+entries compact odd even all (id ∷ ids) =
+    then_by (entry compact odd even all id) (λ first. mapped (λ others. first ∷ others)
+    (entries compact odd even all ids))
 
 -- ## The text
 
@@ -193,7 +200,8 @@ certificate odd even ids =
     mapped (λ es. record { odd = odd; even = even; entries = es }) (entries compact odd even ids ids)))))))))
 
 -- the answer to a text, for a given game: its certificate, or the first cause in it
-pub record ReadsCertificate (game : NamedGameData) (text : List ℕ) (answer : Result CertificateData (Found CertCause)) : Type 0 where
+pub record ReadsCertificate (game : NamedGameData) (text : List ℕ)
+    (answer : Result CertificateData (Found CertCause)) : Type 0 where
   pub odd : List ℕ
   pub even : List ℕ
   pub odd_listed : ListsPriorities game.game 1 odd

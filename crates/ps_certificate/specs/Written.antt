@@ -4,9 +4,11 @@
 --     entry_line compact odd even ids id entry      the line of the vertex with that id
 --     IsWritable count odd even entry      what such a line can be written of
 --     IsWord n, HasWords ids c      numbers that the code holds in words
---     text_in compact game c      the first line, the number of vertices, the odd and the even priorities, and a line for each vertex
+--     text_in compact game c      the first line, the number of vertices, the odd and the even priorities, and a line
+--               for each vertex
 --     certificate_text, compact_text      in each of the two texts
-use Rattle.std.specs.Prelude.{◌≡◌, ℕ, ◌+◌, ◌^◌, ◌<◌, Bool, true, false, ◌==◌, if◌then◌else◌, List, [], ◌∷◌, ◌++◌, length, decimal, Option, Some, None, IfSome, slice_index}
+use Rattle.std.specs.Prelude.{◌≡◌, ℕ, ◌+◌, ◌^◌, ◌<◌, Bool, true, false, ◌==◌, if◌then◌else◌, List, [], ◌∷◌, ◌++◌}
+use Rattle.std.specs.Prelude.{length, decimal, Option, Some, None, IfSome, slice_index}
 use Rattle.std.specs.List.{All}
 use Rattle.ps_game.specs.Games.{NamedGameData}
 use Rattle.ps_certificate.specs.Certificates.{EntryData, CertificateData}
@@ -31,7 +33,8 @@ counts_text true ps cs = pairs ps cs
 abbrev pub IsWord : ℕ → Type 0
 IsWord n = n < 2 ^ 64
 
--- the winner is 0 or 1, the move one of so many vertices, and there is a count for each priority by which the winner loses
+-- the winner is 0 or 1, the move one of so many vertices, and there is a count for each priority by which the winner
+-- loses
 pub record IsWritable (count : ℕ) (odd even : List ℕ) (entry : EntryData) : Type 0 where
   pub winner : entry.winner < 2
   pub choice : IfSome entry.choice (λ w. w < count)
@@ -44,7 +47,9 @@ move_text ids (Some v) = decimal (slice_index ids v)
 
 -- the id, the winner, 0 or 1, the move, the counts for these priorities
 abbrev pub line_with : Bool → List ℕ → List ℕ → ℕ → EntryData → List ℕ
-line_with compact ps ids id entry = decimal id ++ 32 ∷ (48 + entry.winner) ∷ 32 ∷ move_text ids entry.choice ++ counts_text compact ps entry.counts ++ 10 ∷ []
+line_with compact ps ids id entry =
+    decimal id ++ 32 ∷ (48 + entry.winner) ∷ 32 ∷ move_text ids entry.choice ++
+    counts_text compact ps entry.counts ++ 10 ∷ []
 
 abbrev pub entry_line : Bool → List ℕ → List ℕ → List ℕ → ℕ → EntryData → List ℕ
 entry_line compact odd even ids id entry = line_with compact (lost_by odd even entry.winner) ids id entry
@@ -52,7 +57,8 @@ entry_line compact odd even ids id entry = line_with compact (lost_by odd even e
 -- the lines of the vertices from v on
 abbrev pub entry_lines : Bool → List ℕ → List ℕ → List ℕ → ℕ → List EntryData → List ℕ
 entry_lines compact odd even ids v [] = []
-entry_lines compact odd even ids v (entry ∷ entries) = entry_line compact odd even ids (slice_index ids v) entry ++ entry_lines compact odd even ids (v + 1) entries
+entry_lines compact odd even ids v (entry ∷ entries) =
+    entry_line compact odd even ids (slice_index ids v) entry ++ entry_lines compact odd even ids (v + 1) entries
 
 -- the digit of the version
 abbrev pub version_digit : Bool → ℕ
@@ -60,11 +66,13 @@ version_digit compact = if compact then 50 else 49
 
 abbrev pub head_text : Bool → ℕ → List ℕ → List ℕ → List ℕ
 head_text compact count odd even =
-    first_word ++ version_digit compact ∷ vertices_word ++ decimal count ++ odd_word ++ fields odd ++ 10 ∷ even_word ++ fields even ++ 10 ∷ []
+    first_word ++ version_digit compact ∷ vertices_word ++ decimal count ++ odd_word ++ fields odd ++ 10 ∷ even_word ++
+    fields even ++ 10 ∷ []
 
 abbrev pub text_in : Bool → NamedGameData → CertificateData → List ℕ
 text_in compact game certificate =
-    head_text compact (length game.ids) certificate.odd certificate.even ++ entry_lines compact certificate.odd certificate.even game.ids 0 certificate.entries
+    head_text compact (length game.ids) certificate.odd certificate.even ++
+    entry_lines compact certificate.odd certificate.even game.ids 0 certificate.entries
 
 -- with all counts, or with those that are not 0
 abbrev pub certificate_text : NamedGameData → CertificateData → List ℕ

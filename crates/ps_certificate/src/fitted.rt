@@ -56,7 +56,8 @@ fn is_just<A: Arena>(arena: &A, parity: u64, list: &[u64]) -> bool
     requires rising { IsStrictlyIncreasing list.now }
     requires right_parity { All (λ p. p % 2 ≡ parity) list.now }
     requires short { length list.now ≤ 1024 }
-    ensures { IsTrue result ↔ (IsComplete (A.game arena.now) parity list.now × All (HasPriority (A.game arena.now)) list.now) }
+    ensures { IsTrue result ↔ (IsComplete (A.game arena.now) parity list.now ×
+        All (HasPriority (A.game arena.now)) list.now) }
 {
     let mut seen = [false; WINDOW];
     for vertex in 0..arena.count() {

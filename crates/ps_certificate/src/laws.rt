@@ -8,27 +8,32 @@ ghost use Rattle.ps_certificate.specs.Regions.{BothKeep, BothHold, NoneWinsOutsi
 
 /// Paths that follow the moves of a closed certificate stay in the region that they begin in.
 pub fn closed_regions_are_kept()
-    ensures { (game : ParityGame) (certificate : CertificateData) → IsClosed game certificate → BothKeep game certificate }
+    ensures { (game : ParityGame) (certificate : CertificateData) → IsClosed game certificate →
+        BothKeep game certificate }
 {}
 
 /// The moves of a valid certificate hold both regions.
 pub fn valid_regions_are_held()
-    ensures { (game : ParityGame) (certificate : CertificateData) → Fits game certificate → IsValid game certificate → BothHold game certificate }
+    ensures { (game : ParityGame) (certificate : CertificateData) → Fits game certificate → IsValid game certificate →
+        BothHold game certificate }
 {}
 
 /// No strategy wins outside the region that a valid certificate gives its player.
 pub fn no_strategy_wins_outside()
-    ensures { (game : ParityGame) (certificate : CertificateData) → IsGame game → Fits game certificate → IsValid game certificate → NoneWinsOutside game certificate }
+    ensures { (game : ParityGame) (certificate : CertificateData) → IsGame game → Fits game certificate →
+        IsValid game certificate → NoneWinsOutside game certificate }
 {}
 
 /// Valid certificates of a game, whose vertices belong to the two players, give each vertex the same winner.
 pub fn winners_are_one()
-    ensures { (game : ParityGame) (one other : CertificateData) → ((v : ℕ) → v < vertex_count game → owner_of game v < 2) →
+    ensures { (game : ParityGame) (one other : CertificateData) →
+        ((v : ℕ) → v < vertex_count game → owner_of game v < 2) →
         Fits game one → IsValid game one → Fits game other → IsValid game other →
         (v : ℕ) → v < vertex_count game → winner_of one v ≡ winner_of other v }
 {}
 
 /// A certificate has one first flaw at most.
 pub fn first_flaw_is_one()
-    ensures { (game : ParityGame) (certificate : CertificateData) (flaw other : Flaw) → IsGame game → IsFirstFlaw game certificate flaw → IsFirstFlaw game certificate other → flaw ≡ other }
+    ensures { (game : ParityGame) (certificate : CertificateData) (flaw other : Flaw) → IsGame game →
+        IsFirstFlaw game certificate flaw → IsFirstFlaw game certificate other → flaw ≡ other }
 {}

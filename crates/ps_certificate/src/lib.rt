@@ -23,7 +23,8 @@
 //! | `closed_regions_are_kept` | paths by the moves of a closed certificate stay in their region |
 //! | `valid_regions_are_held` | the moves of a valid one hold both regions |
 //! | `no_strategy_wins_outside` | no strategy, whatever its memory, wins outside the region that a valid one gives |
-//! | `first_flaw_is_one`, `certificate_text_has_one_answer` | there is one first flaw, and one answer to a text |
+//! | `first_flaw_is_one`, `certificate_text_has_one_answer` | there is one first flaw, and one answer to a text, at most |
+//! | `certificate_text_has_some_answer` | there is an answer to each text |
 #![tactic(auto)]
 
 mod certificate;
@@ -51,5 +52,5 @@ pub use laws::{
     closed_regions_are_kept, first_flaw_is_one, no_strategy_wins_outside, valid_regions_are_held,
     winners_are_one,
 };
-pub use text::{certificate_text_has_one_answer, read};
+pub use text::{certificate_text_has_one_answer, certificate_text_has_some_answer, read};
 pub use writer::{write, write_compact};

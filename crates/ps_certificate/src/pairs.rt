@@ -50,7 +50,9 @@ impl<'a> Cursor<'a> {
     /// The place of a priority above the last one, and its count.
     fn pair(&mut self, priorities: &[u64], last: Option<u64>) -> Result<(usize, u64), CertFault>
         requires { IsStrictlyIncreasing priorities.now }
-        ensures read { (pairs : Pairs) → pairs.last ≡ last → Tells (λ pair. with_pair pairs (slice_index priorities.now pair.0) pair.1) (parts.pair priorities.now pairs) self.old result self.new }
+        ensures read { (pairs : Pairs) → pairs.last ≡ last → Tells
+            (λ pair. with_pair pairs (slice_index priorities.now pair.0) pair.1) (parts.pair priorities.now pairs)
+            self.old result self.new }
         ensures within { IfOk result (λ pair. pair.0 < length priorities.now) }
     {
         self.byte(b' ')?;
@@ -63,7 +65,8 @@ impl<'a> Cursor<'a> {
     /// The place of the priority that comes next, which has to be above the last one.
     fn priority(&mut self, priorities: &[u64], last: Option<u64>) -> Result<usize, CertFault>
         requires { IsStrictlyIncreasing priorities.now }
-        ensures read { (pairs : Pairs) → pairs.last ≡ last → TellsPriority priorities.now pairs self.old result self.new }
+        ensures read { (pairs : Pairs) → pairs.last ≡ last → TellsPriority priorities.now pairs self.old
+            result self.new }
         ensures within { IfOk result (λ place. place < length priorities.now) }
     {
         let refused = self.fault(CertCause::Syntax);

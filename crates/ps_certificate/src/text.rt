@@ -56,7 +56,8 @@ fn ids_of(alloc: Global, game: &NamedGame) -> Result<Ids, AllocError>
 
 /// Goes behind the lines that stand before those of the vertices, and says whether the text is a compact one.
 fn head(cursor: &mut Cursor, known: &Known, count: usize) -> Result<bool, CertFault>
-    ensures { (ids : List ℕ) → count ≡ length ids → TellsHead known.now.odd.items known.now.even.items ids cursor.old result cursor.new }
+    ensures { (ids : List ℕ) → count ≡ length ids → TellsHead known.now.odd.items known.now.even.items ids cursor.old
+        result cursor.new }
 {
     cursor.word(b"psyncert ")?;
     let compact = cursor.version()?;
@@ -86,7 +87,8 @@ fn entry(
 ) -> Result<Won, CertFault>
     requires odd { IsStrictlyIncreasing known.now.odd.items }
     requires even { IsStrictlyIncreasing known.now.even.items }
-    ensures { Tells (λ won. record { winner = won.winner; choice = won.choice; counts = counts.new.items }) (parts.entry compact known.now.odd.items known.now.even.items known.now.ids id) cursor.old result cursor.new }
+    ensures { Tells (λ won. record { winner = won.winner; choice = won.choice; counts = counts.new.items })
+        (parts.entry compact known.now.odd.items known.now.even.items known.now.ids id) cursor.old result cursor.new }
 {
     cursor.exactly(id)?;
     cursor.byte(b' ')?;
@@ -108,7 +110,8 @@ fn entries(
 ) -> Result<Entries, CertFault>
     requires odd { IsStrictlyIncreasing known.now.odd.items }
     requires even { IsStrictlyIncreasing known.now.even.items }
-    ensures { Tells (λ es. es) (parts.entries compact known.now.odd.items known.now.even.items known.now.ids game.now.ids) cursor.old result cursor.new }
+    ensures { Tells (λ es. es) (parts.entries compact known.now.odd.items known.now.even.items known.now.ids
+        game.now.ids) cursor.old result cursor.new }
 {
     let vertices = game.game().count();
     // A count takes two bytes at least.
@@ -168,7 +171,14 @@ pub fn read(alloc: Global, text: &[u8], game: &NamedGame) -> Result<Certificate,
     Ok(Certificate { odd, even, entries })
 }
 
-/// The text of a certificate has one answer for a game.
+/// The text of a certificate has one answer at most for a game.
 pub fn certificate_text_has_one_answer()
-    ensures { (game : NamedGameData) (text : List ℕ) (answer other : Result CertificateData (Found CertCause)) → ReadsCertificate game text answer → ReadsCertificate game text other → answer ≡ other }
+    ensures { (game : NamedGameData) (text : List ℕ) (answer other : Result CertificateData (Found CertCause)) →
+        ReadsCertificate game text answer → ReadsCertificate game text other → answer ≡ other }
+{}
+
+/// The text of a certificate has an answer for a game. This asks no call, so that want of memory is no answer here.
+pub fn certificate_text_has_some_answer()
+    ensures { (game : NamedGameData) (text : List ℕ) → (answer : Result CertificateData (Found CertCause)) ×
+        ReadsCertificate game text answer }
 {}

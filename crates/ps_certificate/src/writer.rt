@@ -5,7 +5,8 @@ ghost use Rattle.std.specs.List.{All};
 ghost use Rattle.ps_game.specs.Games.{vertex_count};
 ghost use Rattle.ps_certificate.specs.Certificates.{Fits};
 ghost use Rattle.ps_certificate.specs.Texts.{ReadsCertificate, lost_by};
-ghost use Rattle.ps_certificate.specs.Written.{IsWord, IsWritable, fields, pairs, counts_text, line_with, entry_lines, version_digit, head_text, text_in, certificate_text, compact_text};
+ghost use Rattle.ps_certificate.specs.Written.{IsWord, IsWritable, fields, pairs, counts_text, line_with, entry_lines};
+ghost use Rattle.ps_certificate.specs.Written.{version_digit, head_text, text_in, certificate_text, compact_text};
 
 use crate::certificate::Certificate;
 use crate::entries::{Entries, Entry};
@@ -92,7 +93,8 @@ fn write_head(
     certificate: &Certificate,
     compact: bool,
 ) -> Result<(), AllocError>
-    ensures bytes { OnOk result (out.new.items ≡ out.old.items ++ head_text compact count certificate.now.odd certificate.now.even) }
+    ensures bytes { OnOk result (out.new.items ≡ out.old.items ++
+        head_text compact count certificate.now.odd certificate.now.even) }
     ensures words { OnOk result (IsWord count × All IsWord certificate.now.odd × All IsWord certificate.now.even) }
 {
     out.extend_from_slice(b"psyncert ")?;
@@ -126,7 +128,8 @@ fn write_entries(
     requires each { length entries.now ≡ vertex_count game.now.game }
     requires ids { length game.now.ids ≡ length entries.now }
     requires writable { All (IsWritable (vertex_count game.now.game) odd.now even.now) entries.now }
-    ensures bytes { OnOk result (out.new.items ≡ out.old.items ++ entry_lines compact odd.now even.now game.now.ids 0 entries.now) }
+    ensures bytes { OnOk result (out.new.items ≡ out.old.items ++
+        entry_lines compact odd.now even.now game.now.ids 0 entries.now) }
     ensures ids { OnOk result (All IsWord game.now.ids) }
     ensures counts { OnOk result (All (λ entry. All IsWord entry.counts) entries.now) }
 {
@@ -158,7 +161,8 @@ fn write_entry(
     requires winner { entry.now.winner < 2 }
     requires choice { IfSome entry.now.choice (λ w. w < vertex_count game.now.game) }
     requires counts { length entry.now.counts ≡ length priorities.now }
-    ensures bytes { OnOk result (out.new.items ≡ out.old.items ++ line_with compact priorities.now game.now.ids (slice_index game.now.ids vertex) entry.now) }
+    ensures bytes { OnOk result (out.new.items ≡ out.old.items ++
+        line_with compact priorities.now game.now.ids (slice_index game.now.ids vertex) entry.now) }
     ensures id { OnOk result (IsWord (slice_index game.now.ids vertex)) }
     ensures counts { OnOk result (All IsWord entry.now.counts) }
 {

@@ -1,5 +1,7 @@
 -- What the moves of a cursor read of a text, and how they fail.
-use Rattle.std.proofs.Common.{◌≡◌, ℕ, zero, suc, ◌+◌, ◌-◌, ◌*◌, ◌^◌, ◌<◌, ◌≤◌, Bool, true, false, not, cond, eqb, List, [], ◌∷◌, ◌++◌, length, take, drop, get_or, map, Option, None, Some, Result, Ok, Err, IsErrAnd, refl, sym, ap, ap₂, subst, inl, ◌∙◌, ⊎_elim, append_assoc, arith, length-append}
+use Rattle.std.proofs.Common.{◌≡◌, ℕ, zero, suc, ◌+◌, ◌-◌, ◌*◌, ◌^◌, ◌<◌, ◌≤◌, Bool, true, false, not, cond, eqb, List}
+use Rattle.std.proofs.Common.{[], ◌∷◌, ◌++◌, length, take, drop, get_or, map, Option, None, Some, Result, Ok, Err}
+use Rattle.std.proofs.Common.{IsErrAnd, refl, sym, ap, ap₂, subst, inl, ◌∙◌, ⊎_elim, append_assoc, arith, length-append}
 use Rattle.std.specs.Prelude.{min}
 use Rattle.std.specs.Option.{option_map}
 use Rattle.std.specs.List.{prefix_len}
@@ -16,26 +18,34 @@ use Rattle.ps_text.proofs.Laws.{Joint}
 use Rattle.ps_text.proofs.Joined.{joint}
 use Rattle.ps_text.proofs.Simple.{same_some, none_is_some, laws_give}
 use Rattle.ps_text.proofs.Covered.{Avoids, Enters, enters_read, enters_one, enters_mapped}
-use Rattle.ps_text.proofs.Exits.{exits, reads_next, reads_give, reads_mapped, reads_then, stops_mapped, stops_first, stops_behind}
+use Rattle.ps_text.proofs.Exits.{exits, reads_next, reads_give, reads_mapped, reads_then, stops_mapped, stops_first}
+use Rattle.ps_text.proofs.Exits.{stops_behind}
 use Rattle.ps_text.proofs.Branches.{Stands, left_entered, left_otherwise, right_otherwise, reads_as, stops_as_well}
 use Rattle.ps_circuit.specs.declared.fault.AigCause.{AigCause}
 use Rattle.ps_circuit.specs.declared.fault.AigCause.TheVariants.{Syntax}
 use Rattle.ps_circuit.specs.Causes.{AigFault}
 use Rattle.ps_text.specs.declared.faults.Fault.TheVariants.{Text, OutOfMemory}
-use Rattle.ps_circuit.specs.Signs.{Seen, pieces_at, ends_line, stream_of, aig_causes, Field, take_byte, byte, word, AllOf, StopsBefore, is_blank, is_inner, gap, rest_of_line, newline, line_end, more, NoBadRun}
+use Rattle.ps_circuit.specs.Signs.{Seen, pieces_at, ends_line, stream_of, aig_causes, Field, take_byte, byte, word}
+use Rattle.ps_circuit.specs.Signs.{AllOf, StopsBefore, is_blank, is_inner, gap, rest_of_line, newline, line_end, more}
+use Rattle.ps_circuit.specs.Signs.{NoBadRun}
 use Rattle.ps_circuit.specs.declared.cursor.Class.{Class}
 use Rattle.ps_circuit.specs.declared.cursor.Class.TheVariants.{Digit, Blank, Inner}
 use Rattle.ps_circuit.specs.Cursors.{in_class, ended, next_byte, place_of, found_of, Tells, Passes, saturated}
 use Rattle.ps_circuit.proofs.Runs.{Odd, run_reads, run_stops, stops_here}
-use Rattle.ps_circuit.proofs.TextLaws.{At, AtBlank, byte_taken, laws_byte, laws_word, laws_gap, laws_blanks, laws_newline, laws_ends_here, laws_gap_more, ends_here, behind_gap, gap_more, joint_gap_more, blank_newline}
+use Rattle.ps_circuit.proofs.TextLaws.{At, AtBlank, byte_taken, laws_byte, laws_word, laws_gap, laws_blanks}
+use Rattle.ps_circuit.proofs.TextLaws.{laws_newline, laws_ends_here, laws_gap_more, ends_here, behind_gap, gap_more}
+use Rattle.ps_circuit.proofs.TextLaws.{joint_gap_more, blank_newline}
 
 -- ## The exits
 
-pub exit : {V X : Type 0} (view : X → V) (P : Field V) (old new : Stream Seen) (e : AigFault) (r : Result X AigFault) → Stops aig_causes P old (found_of e) → IsErrAnd r (λ y. y ≡ e) → Tells view P old r new
+pub exit : {V X : Type 0} (view : X → V) (P : Field V) (old new : Stream Seen) (e : AigFault) (r : Result X AigFault) →
+    Stops aig_causes P old (found_of e) → IsErrAnd r (λ y. y ≡ e) → Tells view P old r new
 exit view P old new e r m i = exits found_of aig_causes view P old new e r m i
 
-pub memory_exit : {V X : Type 0} (view : X → V) (P : Field V) (old new : Stream Seen) (e : AigFault) (r : Result X AigFault) → e ≡ OutOfMemory → IsErrAnd r (λ y. y ≡ e) → Tells view P old r new
-memory_exit view P old new e r m i = exit view P old new e r (subst (λ y. Stops aig_causes P old (found_of y)) (sym m) tt) i
+pub memory_exit : {V X : Type 0} (view : X → V) (P : Field V) (old new : Stream Seen) (e : AigFault)
+    (r : Result X AigFault) → e ≡ OutOfMemory → IsErrAnd r (λ y. y ≡ e) → Tells view P old r new
+memory_exit view P old new e r m i =
+    exit view P old new e r (subst (λ y. Stops aig_causes P old (found_of y)) (sym m) tt) i
 
 -- ## The beginning
 
@@ -47,10 +57,12 @@ last_ends (b ∷ c ∷ cs) h =
     let e' : suc (length cs) - 1 ≡ length cs = omega arith in
     last_ends (c ∷ cs) (omega arith) ∙ rw (e, e') refl
 
-pub new_stream : (text : List ℕ) (b : Bool) → b ≡ ends_line text → record { pieces = pieces_at 0 (ended (not b) text); end = 0 + length text } ≡ stream_of text
+pub new_stream : (text : List ℕ) (b : Bool) → b ≡ ends_line text →
+    record { pieces = pieces_at 0 (ended (not b) text); end = 0 + length text } ≡ stream_of text
 new_stream text b e =
     let end : 0 + length text ≡ length text = omega arith in
-    ap₂ (λ (ps : List (Piece Seen)) (n : ℕ). record { pieces = ps; end = n }) (ap (pieces_at 0) (go b ∙ ap (λ x. cond x text (text ++ 10 ∷ [])) e)) end
+    ap₂ (λ (ps : List (Piece Seen)) (n : ℕ). record { pieces = ps; end = n })
+    (ap (pieces_at 0) (go b ∙ ap (λ x. cond x text (text ++ 10 ∷ [])) e)) end
   where
     go : (x : Bool) → ended (not x) text ≡ cond x text (text ++ 10 ∷ [])
     go true = refl
@@ -64,7 +76,8 @@ pub new_small : (text : List ℕ) (u : Bool) → length text < 2 ^ 63 → length
 new_small text true l = omega (arith, length_pieces 0 (text ++ 10 ∷ []), length-append text (10 ∷ []), l)
 new_small text false l = omega (arith, length_pieces 0 text, l)
 
-pub place_is : (at : ℕ) (rest : List ℕ) (u : Bool) → at ≡ place_of (record { pieces = pieces_at at (ended u rest); end = at + length rest })
+pub place_is : (at : ℕ) (rest : List ℕ) (u : Bool) → at ≡ place_of
+    (record { pieces = pieces_at at (ended u rest); end = at + length rest })
 place_is at [] true = refl
 place_is at [] false = omega arith
 place_is at (b ∷ rest) true = refl
@@ -82,7 +95,8 @@ byte_reads b old new e n =
     let t = next_is b (next_of old) e in
     reads_next (take_byte b) NoBad old new t.0 tt t.1 n (byte_taken b t.0 t.2) (λ f h. h)
 
-pub byte_stops : (b : ℕ) (old : Stream Seen) (e : AigFault) → (next_byte old ≡ Some b → ⊥) → e ≡ Text Syntax (place_of old) → Stops aig_causes (byte b) old (found_of e)
+pub byte_stops : (b : ℕ) (old : Stream Seen) (e : AigFault) → (next_byte old ≡ Some b → ⊥) →
+    e ≡ Text Syntax (place_of old) → Stops aig_causes (byte b) old (found_of e)
 byte_stops b old e none is =
     subst (λ x. Stops aig_causes (byte b) old (found_of x)) (sym is)
     (stops_here (laws_byte b) old (λ t n h. none (ap (option_map (λ (s : Seen). s.byte)) n ∙ ap Some h)))
@@ -103,7 +117,8 @@ is_empty_false (x ∷ r) b e f = omega arith
 all_taken : (p : ℕ → Bool) (xs : List ℕ) → AllOf p (take (prefix_len p xs) xs)
 all_taken p [] = tt
 all_taken p (x ∷ xs) = ⊎_elim
-    (λ yes. let size : prefix_len p (x ∷ xs) ≡ suc (prefix_len p xs) = rw yes (omega arith) in subst (λ n. AllOf p (take n (x ∷ xs))) (sym size) (yes, all_taken p xs))
+    (λ yes. let size : prefix_len p (x ∷ xs) ≡ suc (prefix_len p xs) = rw yes (omega arith) in
+    subst (λ n. AllOf p (take n (x ∷ xs))) (sym size) (yes, all_taken p xs))
     (λ no. let size : prefix_len p (x ∷ xs) ≡ 0 = rw no refl in subst (λ n. AllOf p (take n (x ∷ xs))) (sym size) tt)
     (cases_Bool (p x))
 
@@ -115,25 +130,31 @@ stops_end : (p : ℕ → Bool) (u : Bool) → p 10 ≡ false → StopsBefore p (
 stops_end p true line = line
 stops_end p false line = tt
 
-stops_ended : (p : ℕ → Bool) (u : Bool) (xs : List ℕ) → p 10 ≡ false → StopsBefore p (ended u (drop (prefix_len p xs) xs))
+stops_ended : (p : ℕ → Bool) (u : Bool) (xs : List ℕ) → p 10 ≡ false →
+    StopsBefore p (ended u (drop (prefix_len p xs) xs))
 stops_ended p u [] line = stops_end p u line
 stops_ended p u (x ∷ xs) line = ⊎_elim
-    (λ yes. let size : prefix_len p (x ∷ xs) ≡ suc (prefix_len p xs) = rw yes (omega arith) in subst (λ n. StopsBefore p (ended u (drop n (x ∷ xs)))) (sym size) (stops_ended p u xs line))
-    (λ no. let size : prefix_len p (x ∷ xs) ≡ 0 = rw no refl in subst (λ n. StopsBefore p (ended u (drop n (x ∷ xs)))) (sym size) (stops_here_ended p u x xs no))
+    (λ yes. let size : prefix_len p (x ∷ xs) ≡ suc (prefix_len p xs) = rw yes (omega arith) in
+    subst (λ n. StopsBefore p (ended u (drop n (x ∷ xs)))) (sym size) (stops_ended p u xs line))
+    (λ no. let size : prefix_len p (x ∷ xs) ≡ 0 = rw no refl in
+    subst (λ n. StopsBefore p (ended u (drop n (x ∷ xs)))) (sym size) (stops_here_ended p u x xs no))
     (cases_Bool (p x))
 
 ended_append : (u : Bool) (a b : List ℕ) → ended u (a ++ b) ≡ a ++ ended u b
 ended_append true a b = append_assoc a b (10 ∷ [])
 ended_append false a b = refl
 
-pub passes_run : (p : ℕ → Bool) → p 10 ≡ false → (at n : ℕ) (rest run behind : List ℕ) (u : Bool) → n ≡ prefix_len p rest → run ≡ take n rest → behind ≡ drop n rest → length run ≡ n
-    → Passes p (record { pieces = pieces_at at (ended u rest); end = at + length rest }) (record { pieces = pieces_at (at + n) (ended u behind); end = (at + n) + length behind }) run
+pub passes_run : (p : ℕ → Bool) → p 10 ≡ false → (at n : ℕ) (rest run behind : List ℕ) (u : Bool) →
+    n ≡ prefix_len p rest → run ≡ take n rest → behind ≡ drop n rest → length run ≡ n
+    → Passes p (record { pieces = pieces_at at (ended u rest); end = at + length rest })
+    (record { pieces = pieces_at (at + n) (ended u behind); end = (at + n) + length behind }) run
 passes_run p line at n rest run behind u size taken left each = record {
   at = at;
   rest = ended u behind;
   old_is = ap (pieces_at at) (ap (ended u) whole ∙ ended_append u run behind);
   new_is = ap (λ k. pieces_at (at + k) (ended u behind)) (sym each);
-  end = let l : length rest ≡ length run + length behind = ap length whole ∙ length-append run behind in omega (arith, l, each);
+  end = let l : length rest ≡ length run + length behind = ap length whole ∙ length-append run behind in
+      omega (arith, l, each);
   place = place_is at rest u;
   all = subst (AllOf p) (sym (taken ∙ ap (λ k. take k rest) size)) (all_taken p rest);
   longest = subst (λ r. StopsBefore p (ended u r)) (sym (behind_is)) (stops_ended p u rest line);
@@ -149,51 +170,69 @@ pub same_place : (p : ℕ → Bool) (old new : Stream Seen) (r : List ℕ) → P
 same_place p old new r x e =
     let y : Passes p old new [] = subst (Passes p old new) e x in
     let k : y.at + 0 ≡ y.at = omega arith in
-    ap₂ (λ (ps : List (Piece Seen)) (n : ℕ). record { pieces = ps; end = n }) (y.new_is ∙ ap (λ a. pieces_at a y.rest) k ∙ sym y.old_is) y.end
+    ap₂ (λ (ps : List (Piece Seen)) (n : ℕ). record { pieces = ps; end = n })
+    (y.new_is ∙ ap (λ a. pieces_at a y.rest) k ∙ sym y.old_is) y.end
 
 pub gap_reads : (old new : Stream Seen) (r : List ℕ) → Passes is_blank old new r → 0 < length r → Reads gap old tt new
 unfolding gap
 gap_reads old new r x some = run_reads is_blank (λ at bytes. tt) NoBadRun old new r tt x some (λ f h. h) refl
 
-pub gap_stops : (old new : Stream Seen) (r : List ℕ) (e : AigFault) → Passes is_blank old new r → r ≡ [] → e ≡ Text Syntax (place_of old) → Stops aig_causes gap old (found_of e)
+pub gap_stops : (old new : Stream Seen) (r : List ℕ) (e : AigFault) → Passes is_blank old new r → r ≡ [] →
+    e ≡ Text Syntax (place_of old) → Stops aig_causes gap old (found_of e)
 unfolding gap
-gap_stops old new r e x none is = subst (λ y. Stops aig_causes gap old (found_of y)) (sym is) (run_stops is_blank (λ at bytes. tt) NoBadRun 32 refl old new (subst (Passes is_blank old new) none x))
+gap_stops old new r e x none is =
+    subst (λ y. Stops aig_causes gap old (found_of y)) (sym is)
+    (run_stops is_blank (λ at bytes. tt) NoBadRun 32 refl old new (subst (Passes is_blank old new) none x))
 
-pub rest_reads : (old new : Stream Seen) (r : List ℕ) → Passes is_inner old new r → 0 < length r → Reads rest_of_line old r new
+pub rest_reads : (old new : Stream Seen) (r : List ℕ) → Passes is_inner old new r → 0 < length r →
+    Reads rest_of_line old r new
 unfolding rest_of_line
 rest_reads old new r x some = run_reads is_inner (λ at bytes. bytes) NoBadRun old new r r x some (λ f h. h) refl
 
-pub rest_stops : (old new : Stream Seen) (r : List ℕ) (e : AigFault) → Passes is_inner old new r → r ≡ [] → e ≡ Text Syntax (place_of old) → Stops aig_causes rest_of_line old (found_of e)
+pub rest_stops : (old new : Stream Seen) (r : List ℕ) (e : AigFault) → Passes is_inner old new r → r ≡ [] →
+    e ≡ Text Syntax (place_of old) → Stops aig_causes rest_of_line old (found_of e)
 unfolding rest_of_line
-rest_stops old new r e x none is = subst (λ y. Stops aig_causes rest_of_line old (found_of y)) (sym is) (run_stops is_inner (λ at bytes. bytes) NoBadRun 32 refl old new (subst (Passes is_inner old new) none x))
+rest_stops old new r e x none is =
+    subst (λ y. Stops aig_causes rest_of_line old (found_of y)) (sym is)
+    (run_stops is_inner (λ at bytes. bytes) NoBadRun 32 refl old new (subst (Passes is_inner old new) none x))
 
 -- no byte of the class comes next
-pub avoids_run : (p : ℕ → Bool) (old new : Stream Seen) → Passes p old new [] → Avoids (λ (s : Seen). p s.byte ≡ true) (next_of old)
+pub avoids_run : (p : ℕ → Bool) (old new : Stream Seen) → Passes p old new [] →
+    Avoids (λ (s : Seen). p s.byte ≡ true) (next_of old)
 avoids_run p old new x t n h = go x.rest x.longest (sym (ap (λ z. first_of (signs z)) x.old_is) ∙ n)
   where
     go : (rest : List ℕ) → StopsBefore p rest → first_of (signs (pieces_at x.at rest)) ≡ Some t → ⊥
     go [] s n = none_is_some t n
     go (c ∷ rest) s n =
-        let byte : c ≡ t.byte = ap (λ (s : Seen). s.byte) (same_some (record { byte = c; at = x.at; behind = rest }) t n) in
+        let byte : c ≡ t.byte =
+        ap (λ (s : Seen). s.byte) (same_some (record { byte = c; at = x.at; behind = rest }) t n) in
         let k : p c ≡ true = ap p byte ∙ h in
         let m : p c ≡ false = s in
         cc
 
-blanks_read : (old new : Stream Seen) (r : List ℕ) → Passes is_blank old new r → (b : Bool) → eqb (length r) 0 ≡ b → Reads (either gap (give tt)) old tt new
+blanks_read : (old new : Stream Seen) (r : List ℕ) → Passes is_blank old new r → (b : Bool) → eqb (length r) 0 ≡ b →
+    Reads (either gap (give tt)) old tt new
 blanks_read old new r x true e =
     let none = is_empty_true r true (sym e) refl in
     let y : Passes is_blank old new [] = subst (Passes is_blank old new) none x in
     subst (λ z. Reads (either gap (give tt)) old tt z) (sym (same_place is_blank old new r x none))
-    (reads_as {P = give tt} {Q = either gap (give tt)} {old = old} {new = old} {v = tt} (right_otherwise laws_gap (laws_give Odd tt) (next_of old) (avoids_run is_blank old new y) (λ z. z)) (reads_give old tt))
+    (reads_as {P = give tt} {Q = either gap (give tt)} {old = old} {new = old} {v = tt}
+    (right_otherwise laws_gap (laws_give Odd tt) (next_of old) (avoids_run is_blank old new y) (λ z. z))
+    (reads_give old tt))
 blanks_read old new r x false e =
     let m = gap_reads old new r x (is_empty_false r false (sym e) refl) in
     reads_as {P = gap} {Q = either gap (give tt)} {old = old} {new = new} {v = tt}
-    (left_entered laws_gap (laws_give Odd tt) (next_of old) (λ t h k. k) (enters_read gap (signs old.pieces) (signs new.pieces) tt (λ w h. laws_gap.null w h) m.1)) m
+    (left_entered laws_gap (laws_give Odd tt) (next_of old) (λ t h k. k)
+    (enters_read gap (signs old.pieces) (signs new.pieces) tt (λ w h. laws_gap.null w h) m.1)) m
 
-pub line_end_tells : (old mid new : Stream Seen) (r : List ℕ) (result : Result (Unit {0}) AigFault) → Passes is_blank old mid r → Tells (λ u. u) newline mid result new → Tells (λ u. u) line_end old result new
+pub line_end_tells : (old mid new : Stream Seen) (r : List ℕ) (result : Result (Unit {0}) AigFault) →
+    Passes is_blank old mid r → Tells (λ u. u) newline mid result new → Tells (λ u. u) line_end old result new
 unfolding line_end
-line_end_tells old mid new r (Ok u) x m = reads_then (joint laws_blanks (λ _. laws_newline) blank_newline) (blanks_read old mid r x (eqb (length r) 0) refl) m
-line_end_tells old mid new r (Err e) x m = stops_behind aig_causes (joint laws_blanks (λ _. laws_newline) blank_newline) (blanks_read old mid r x (eqb (length r) 0) refl) (found_of e) m
+line_end_tells old mid new r (Ok u) x m =
+    reads_then (joint laws_blanks (λ _. laws_newline) blank_newline) (blanks_read old mid r x (eqb (length r) 0) refl) m
+line_end_tells old mid new r (Err e) x m =
+    stops_behind aig_causes (joint laws_blanks (λ _. laws_newline) blank_newline)
+    (blanks_read old mid r x (eqb (length r) 0) refl) (found_of e) m
 
 -- ## A further field
 
@@ -222,39 +261,60 @@ module _ (old : Stream Seen) where
   at_gap none = right_otherwise laws_ends_here laws_gap_more (next_of old) (avoids_newline old none) (λ z. z)
 
   pub more_ends : (new : Stream Seen) → next_byte old ≡ Some 10 → Reads newline old tt new → Reads more old false new
-  more_ends new e m = reads_as {P = ends_here} {Q = more} {old = old} {new = new} {v = false} (at_line_end e) (reads_mapped (λ _. false) m)
+  more_ends new e m =
+      reads_as {P = ends_here} {Q = more} {old = old} {new = new} {v = false} (at_line_end e)
+      (reads_mapped (λ _. false) m)
 
-  pub more_fails : (o : Option (Found AigCause)) → next_byte old ≡ Some 10 → Stops aig_causes newline old o → Stops aig_causes more old o
-  more_fails o e m = stops_as_well aig_causes {P = ends_here} {Q = more} old o (at_line_end e) (stops_mapped aig_causes (λ _. false) newline old o m)
+  pub more_fails : (o : Option (Found AigCause)) → next_byte old ≡ Some 10 → Stops aig_causes newline old o →
+      Stops aig_causes more old o
+  more_fails o e m =
+      stops_as_well aig_causes {P = ends_here} {Q = more} old o (at_line_end e)
+      (stops_mapped aig_causes (λ _. false) newline old o m)
 
-  pub gap_fails : (o : Option (Found AigCause)) → (next_byte old ≡ Some 10 → ⊥) → Stops aig_causes gap old o → Stops aig_causes more old o
-  gap_fails o none m = stops_as_well aig_causes {P = gap_more} {Q = more} old o (at_gap none) (stops_first aig_causes joint_gap_more old o m)
+  pub gap_fails : (o : Option (Found AigCause)) → (next_byte old ≡ Some 10 → ⊥) → Stops aig_causes gap old o →
+      Stops aig_causes more old o
+  gap_fails o none m =
+      stops_as_well aig_causes {P = gap_more} {Q = more} old o (at_gap none)
+      (stops_first aig_causes joint_gap_more old o m)
 
   module _ (mid : Stream Seen) (none : next_byte old ≡ Some 10 → ⊥) (g : Reads gap old tt mid) where
     behind_ends : next_byte mid ≡ Some 10 → Stands (next_of mid) ends_here behind_gap
-    behind_ends e = left_entered laws_ends_here (laws_give Odd true) (next_of mid) (λ t h k. k) (enters_mapped (λ _. false) newline (next_of mid) (enters_newline mid e))
+    behind_ends e =
+        left_entered laws_ends_here (laws_give Odd true) (next_of mid) (λ t h k. k)
+        (enters_mapped (λ _. false) newline (next_of mid) (enters_newline mid e))
 
-    pub behind_gap_ends : (new : Stream Seen) → next_byte mid ≡ Some 10 → Reads newline mid tt new → Reads more old false new
+    pub behind_gap_ends : (new : Stream Seen) → next_byte mid ≡ Some 10 → Reads newline mid tt new →
+        Reads more old false new
     behind_gap_ends new e m =
         reads_as {P = gap_more} {Q = more} {old = old} {new = new} {v = false} (at_gap none)
-        (reads_then joint_gap_more g (reads_as {P = ends_here} {Q = behind_gap} {old = mid} {new = new} {v = false} (behind_ends e) (reads_mapped (λ _. false) m)))
+        (reads_then joint_gap_more g (reads_as {P = ends_here} {Q = behind_gap} {old = mid} {new = new} {v = false}
+        (behind_ends e) (reads_mapped (λ _. false) m)))
 
-    pub behind_gap_fails : (o : Option (Found AigCause)) → next_byte mid ≡ Some 10 → Stops aig_causes newline mid o → Stops aig_causes more old o
+    pub behind_gap_fails : (o : Option (Found AigCause)) → next_byte mid ≡ Some 10 → Stops aig_causes newline mid o →
+        Stops aig_causes more old o
     behind_gap_fails o e m =
         stops_as_well aig_causes {P = gap_more} {Q = more} old o (at_gap none)
-        (stops_behind aig_causes joint_gap_more g o (stops_as_well aig_causes {P = ends_here} {Q = behind_gap} mid o (behind_ends e) (stops_mapped aig_causes (λ _. false) newline mid o m)))
+        (stops_behind aig_causes joint_gap_more g o (stops_as_well aig_causes {P = ends_here} {Q = behind_gap} mid o
+        (behind_ends e) (stops_mapped aig_causes (λ _. false) newline mid o m)))
 
     pub behind_gap_more : (next_byte mid ≡ Some 10 → ⊥) → Reads more old true mid
     behind_gap_more n =
         reads_as {P = gap_more} {Q = more} {old = old} {new = mid} {v = true} (at_gap none)
-        (reads_then joint_gap_more g (reads_as {P = give true} {Q = behind_gap} {old = mid} {new = mid} {v = true} (right_otherwise laws_ends_here (laws_give Odd true) (next_of mid) (avoids_newline mid n) (λ z. z)) (reads_give mid true)))
+        (reads_then joint_gap_more g (reads_as {P = give true} {Q = behind_gap} {old = mid} {new = mid} {v = true}
+        (right_otherwise laws_ends_here (laws_give Odd true) (next_of mid) (avoids_newline mid n) (λ z. z))
+        (reads_give mid true)))
 
 -- ## Values
 
-pub value_more : (ds : List ℕ) (i : ℕ) → i < length ds → decimal_value (take (i + 1) ds) ≡ decimal_value (take i ds) * 10 + (get_or ds i 0 - 48)
-value_more ds i l = ap decimal_value (take_more ds i 0 l) ∙ ap (number_from_digits 10) (map-append (λ b. b - 48) (take i ds) (get_or ds i 0 ∷ [])) ∙ number_push 10 (map (λ b. b - 48) (take i ds)) (get_or ds i 0 - 48)
+pub value_more : (ds : List ℕ) (i : ℕ) → i < length ds → decimal_value (take (i + 1) ds) ≡ decimal_value (take i ds) *
+    10 + (get_or ds i 0 - 48)
+value_more ds i l =
+    ap decimal_value (take_more ds i 0 l) ∙ ap (number_from_digits 10)
+    (map-append (λ b. b - 48) (take i ds) (get_or ds i 0 ∷ []))
+    ∙ number_push 10 (map (λ b. b - 48) (take i ds)) (get_or ds i 0 - 48)
 
-pub value_whole : (ds : List ℕ) (i v : ℕ) → length ds ≤ i → i ≤ length ds → v ≡ saturated (decimal_value (take i ds)) → v ≡ saturated (decimal_value ds)
+pub value_whole : (ds : List ℕ) (i v : ℕ) → length ds ≤ i → i ≤ length ds → v ≡ saturated (decimal_value (take i ds)) →
+    v ≡ saturated (decimal_value ds)
 value_whole ds i v l m e =
     let all : i ≡ length ds = omega arith in
     e ∙ ap (λ j. saturated (decimal_value (take j ds))) all ∙ ap (λ xs. saturated (decimal_value xs)) (take-length ds)
@@ -272,6 +332,7 @@ class_line Digit = refl
 class_line Blank = refl
 class_line Inner = refl
 
-pub value_step : (ds : List ℕ) (i v m f r : ℕ) → i < length ds → v ≡ saturated (decimal_value (take i ds)) → m ≡ min (v * 10) 18446744073709551615 → f ≡ get_or ds i 0 - 48 → r ≡ min (m + f) 18446744073709551615
+pub value_step : (ds : List ℕ) (i v m f r : ℕ) → i < length ds → v ≡ saturated (decimal_value (take i ds)) →
+    m ≡ min (v * 10) 18446744073709551615 → f ≡ get_or ds i 0 - 48 → r ≡ min (m + f) 18446744073709551615
     → r ≡ saturated (decimal_value (take (i + 1) ds))
 value_step ds i v m f r l e e' e'' e''' = omega (arith, value_more ds i l)

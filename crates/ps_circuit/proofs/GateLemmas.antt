@@ -1,5 +1,7 @@
 -- The gates of a builder, and one more.
-use Rattle.std.proofs.Common.{◌≡◌, ◌∙◌, ℕ, ◌+◌, ◌-◌, ◌*◌, ◌/◌, ◌%◌, ◌^◌, ◌<◌, ◌≤◌, ◌&&◌, ◌||◌, Bool, true, false, not, cond, eqb, List, [], ◌∷◌, ◌++◌, length, length-append, get_or, slice_get, Some, refl, sym, ap, subst, arith, inl, inr, ◌⊎◌, Result, Ok, Err, IsErrAnd}
+use Rattle.std.proofs.Common.{◌≡◌, ◌∙◌, ℕ, ◌+◌, ◌-◌, ◌*◌, ◌/◌, ◌%◌, ◌^◌, ◌<◌, ◌≤◌, ◌&&◌, ◌||◌, Bool, true, false, not}
+use Rattle.std.proofs.Common.{cond, eqb, List, [], ◌∷◌, ◌++◌, length, length-append, get_or, slice_get, Some, refl, sym}
+use Rattle.std.proofs.Common.{ap, subst, arith, inl, inr, ◌⊎◌, Result, Ok, Err, IsErrAnd}
 use Rattle.ps_circuit.specs.declared.encode_fault.EncodeFault.{EncodeFault}
 use Rattle.std.specs.List.{list_any}
 use Rattle.std.proofs.lemmas.Bool.{eqb-true, eq-eqb, cases_eq}
@@ -10,7 +12,8 @@ use Rattle.ps_components.proofs.Places.{slice_get-append_left, slice_get-push_ca
 use Rattle.ps_circuit.specs.declared.builder.Sides.{Sides}
 use Rattle.ps_circuit.specs.contracts.builder.SidesPartialEq.TheImpl as sides_eq
 use Rattle.ps_circuit.specs.Literals.{variable}
-use Rattle.ps_circuit.specs.Building.{Drafted, AreSides, Extends, IsFull, IsHeld, IsNew, IsSoundDraft, Meets, NeedsGate, bit, variables_of}
+use Rattle.ps_circuit.specs.Building.{Drafted, AreSides, Extends, IsFull, IsHeld, IsNew, IsSoundDraft, Meets, NeedsGate}
+use Rattle.ps_circuit.specs.Building.{bit, variables_of}
 use Rattle.ps_circuit.specs.Literals.{negated}
 
 pub bool_cases : (b : Bool) → (b ≡ true) ⊎ (b ≡ false)
@@ -29,13 +32,16 @@ and_true true b e f = f
 and_true false b e f = e
 
 pub sides_are : (a b : Sides) → a.first ≡ b.first → a.second ≡ b.second → a ≡ b
-sides_are a b e f = let made : ℕ → ℕ → Sides = λ x y. record { first = x; second = y } in ap (λ x. made x a.second) e ∙ ap (λ y. made b.first y) f
+sides_are a b e f = let made : ℕ → ℕ → Sides = λ x y. record { first = x; second = y } in ap (λ x. made x a.second) e
+    ∙ ap (λ y. made b.first y) f
 
 pub same_sides : (a b : Sides) → (sides_eq.eq-value).it a b ≡ true → a ≡ b
-same_sides a b e = let t = and_both (eqb a.first b.first) (eqb a.second b.second) e in sides_are a b (eqb-true a.first b.first t.0) (eqb-true a.second b.second t.1)
+same_sides a b e = let t = and_both (eqb a.first b.first) (eqb a.second b.second) e in
+    sides_are a b (eqb-true a.first b.first t.0) (eqb-true a.second b.second t.1)
 
 pub sides_same : (a : Sides) → (sides_eq.eq-value).it a a ≡ true
-sides_same a = and_true (eqb a.first a.first) (eqb a.second a.second) (eq-eqb a.first a.first refl) (eq-eqb a.second a.second refl)
+sides_same a =
+    and_true (eqb a.first a.first) (eqb a.second a.second) (eq-eqb a.first a.first refl) (eq-eqb a.second a.second refl)
 
 not_not : (b : Bool) → not (not b) ≡ b
 not_not true = refl
@@ -54,7 +60,8 @@ bit-negated v l = elim (cases_eq (l % 2) 1) [
       let even : (l - 1) % 2 ≡ 0 = omega arith in
       let half : (l - 1) / 2 ≡ l / 2 = omega arith in
       let here : bit v l ≡ not (v (l / 2)) = ap (λ b. cond b (not (v (l / 2))) (v (l / 2))) (eq-eqb (l % 2) 1 odd) in
-      let there : bit v (l - 1) ≡ v (l / 2) = ap (λ r. cond (eqb r 1) (not (v ((l - 1) / 2))) (v ((l - 1) / 2))) even ∙ ap v half in
+      let there : bit v (l - 1) ≡ v (l / 2) =
+      ap (λ r. cond (eqb r 1) (not (v ((l - 1) / 2))) (v ((l - 1) / 2))) even ∙ ap v half in
       ap (bit v) is ∙ there ∙ sym (not_not (v (l / 2))) ∙ ap not (sym here)
   | inr other ↦
       let even : l % 2 ≡ 0 = omega arith in
@@ -62,14 +69,17 @@ bit-negated v l = elim (cases_eq (l % 2) 1) [
       let odd : (l + 1) % 2 ≡ 1 = omega arith in
       let half : (l + 1) / 2 ≡ l / 2 = omega arith in
       let here : bit v l ≡ v (l / 2) = ap (λ r. cond (eqb r 1) (not (v (l / 2))) (v (l / 2))) even in
-      let there : bit v (l + 1) ≡ not (v (l / 2)) = ap (λ r. cond (eqb r 1) (not (v ((l + 1) / 2))) (v ((l + 1) / 2))) odd ∙ ap (λ n. not (v n)) half in
+      let there : bit v (l + 1) ≡ not (v (l / 2)) =
+      ap (λ r. cond (eqb r 1) (not (v ((l + 1) / 2))) (v ((l + 1) / 2))) odd ∙ ap (λ n. not (v n)) half in
       ap (bit v) is ∙ there ∙ ap not (sym here)
 ]
 
 pub variable-negated : (l : ℕ) → variable (negated l) ≡ variable l
 variable-negated l = elim (cases_eq (l % 2) 1) [
-  | inl odd ↦ ap (λ b. cond b (l - 1) (l + 1) / 2) (eq-eqb (l % 2) 1 odd) ∙ (let e : (l - 1) / 2 ≡ l / 2 = omega arith in e)
-  | inr other ↦ let even : l % 2 ≡ 0 = omega arith in ap (λ r. cond (eqb r 1) (l - 1) (l + 1) / 2) even ∙ (let e : (l + 1) / 2 ≡ l / 2 = omega arith in e)
+  | inl odd ↦ ap (λ b. cond b (l - 1) (l + 1) / 2) (eq-eqb (l % 2) 1 odd)
+      ∙ (let e : (l - 1) / 2 ≡ l / 2 = omega arith in e)
+  | inr other ↦ let even : l % 2 ≡ 0 = omega arith in ap (λ r. cond (eqb r 1) (l - 1) (l + 1) / 2) even
+      ∙ (let e : (l + 1) / 2 ≡ l / 2 = omega arith in e)
 ]
 
 pub held-negated : (d : Drafted) (l : ℕ) → IsHeld d l → IsHeld d (negated l)
@@ -79,7 +89,12 @@ pub extends-refl : (d : Drafted) → Extends d d
 extends-refl d = record { given = refl; more = omega arith; same = λ k s e. e }
 
 pub extends-trans : (a b c : Drafted) → Extends a b → Extends b c → Extends a c
-extends-trans a b c x y = record { given = y.given ∙ x.given; more = (let p = x.more in let q = y.more in omega arith); same = λ k s e. y.same k s (x.same k s e) }
+extends-trans a b c x y =
+    record {
+      given = y.given ∙ x.given;
+      more = (let p = x.more in let q = y.more in omega arith);
+      same = λ k s e. y.same k s (x.same k s e);
+    }
 
 pub held-extends : (a b : Drafted) → Extends a b → (l : ℕ) → IsHeld a l → IsHeld b l
 held-extends a b x l h = let p = x.more in let q = x.given in omega arith
@@ -95,18 +110,27 @@ abbrev pub more : Drafted → Sides → Drafted
 more d s = record { given = d.given; gates = d.gates ++ s ∷ [] }
 
 pub extends-more : (d : Drafted) (s : Sides) → Extends d (more d s)
-extends-more d s = record { given = refl; more = (let e = length-append d.gates (s ∷ []) in omega arith); same = λ k t e. slice_get-append_left d.gates (s ∷ []) k t e }
+extends-more d s =
+    record {
+      given = refl;
+      more = (let e = length-append d.gates (s ∷ []) in omega arith);
+      same = λ k t e. slice_get-append_left d.gates (s ∷ []) k t e;
+    }
 
-absent : (d : Drafted) (s : Sides) → list_any ((sides_eq.eq-value).it s) d.gates ≡ false → (k : ℕ) (t : Sides) → slice_get d.gates k ≡ Some t → s ≡ t → ⊥
+absent : (d : Drafted) (s : Sides) → list_any ((sides_eq.eq-value).it s) d.gates ≡ false → (k : ℕ) (t : Sides) →
+    slice_get d.gates k ≡ Some t → s ≡ t → ⊥
 absent d s none k t e same =
     let within : k < length d.gates = slice_get_within d.gates k t e in
     let at : get_or d.gates k s ≡ t = get_or_from_slice_get d.gates k t s e in
-    true_is_not_false (sym (list_any_at ((sides_eq.eq-value).it s) d.gates k s within (ap ((sides_eq.eq-value).it s) (at ∙ sym same) ∙ sides_same s)) ∙ none)
+    true_is_not_false (sym (list_any_at ((sides_eq.eq-value).it s) d.gates k s within
+    (ap ((sides_eq.eq-value).it s) (at ∙ sym same) ∙ sides_same s)) ∙ none)
 
-pub new-absent : (d : Drafted) (s : Sides) → list_any ((sides_eq.eq-value).it s) d.gates ≡ false → IsNew d s.first s.second
+pub new-absent : (d : Drafted) (s : Sides) → list_any ((sides_eq.eq-value).it s) d.gates ≡ false →
+    IsNew d s.first s.second
 new-absent d s none k t e both = absent d s none k t e (sides_are s t (sym both.0) (sym both.1))
 
-sound-more : (d : Drafted) (s : Sides) → IsSoundDraft d → variables_of d + 1 < 2 ^ 31 → AreSides (variables_of d + 1) s → list_any ((sides_eq.eq-value).it s) d.gates ≡ false → IsSoundDraft (more d s)
+sound-more : (d : Drafted) (s : Sides) → IsSoundDraft d → variables_of d + 1 < 2 ^ 31 →
+    AreSides (variables_of d + 1) s → list_any ((sides_eq.eq-value).it s) d.gates ≡ false → IsSoundDraft (more d s)
 sound-more d s is room sides none = record {
   room = (let e = length-append d.gates (s ∷ []) in omega arith);
   sides = λ k t e. elim (slice_get-push_cases d.gates s k t e) [
@@ -127,7 +151,8 @@ sound-more d s is room sides none = record {
 }
 
 pub drafted_are : (a b : Drafted) → a.given ≡ b.given → a.gates ≡ b.gates → a ≡ b
-drafted_are a b e f = let made : ℕ → List Sides → Drafted = λ n g. record { given = n; gates = g } in ap (λ n. made n a.gates) e ∙ ap (λ g. made b.given g) f
+drafted_are a b e f = let made : ℕ → List Sides → Drafted = λ n g. record { given = n; gates = g } in
+    ap (λ n. made n a.gates) e ∙ ap (λ g. made b.given g) f
 
 -- what is true once a gate has its place
 pub record Placed (old new : Drafted) (s : Sides) (place : ℕ) : Type 0 where
@@ -135,55 +160,87 @@ pub record Placed (old new : Drafted) (s : Sides) (place : ℕ) : Type 0 where
   pub extends : Extends old new
   pub at : slice_get new.gates place ≡ Some s
 
-pub placed : (old new : Drafted) (s : Sides) (place : ℕ) → IsSoundDraft old → AreSides (variables_of old + 1) s → (list_any ((sides_eq.eq-value).it s) old.gates ≡ false → IsFull old → ⊥) →
-    new.given ≡ old.given → new.gates ≡ insert_key (sides_eq.eq-value).it old.gates s → ((k : Sides) × (slice_get new.gates place ≡ Some k) × ((sides_eq.eq-value).it s k ≡ true)) → Placed old new s place
+pub placed : (old new : Drafted) (s : Sides) (place : ℕ) → IsSoundDraft old → AreSides (variables_of old + 1) s →
+    (list_any ((sides_eq.eq-value).it s) old.gates ≡ false → IsFull old → ⊥) →
+    new.given ≡ old.given → new.gates ≡ insert_key (sides_eq.eq-value).it old.gates s →
+    ((k : Sides) × (slice_get new.gates place ≡ Some k) × ((sides_eq.eq-value).it s k ≡ true)) →
+    Placed old new s place
 placed old new s place is sides room given keys stored =
     let at : slice_get new.gates place ≡ Some s = stored.1 ∙ ap (λ k. Some k) (sym (same_sides s stored.0 stored.2)) in
     let known = list_any ((sides_eq.eq-value).it s) old.gates in
     elim (bool_cases known) [
       | inl there ↦
-          let same : new ≡ old = drafted_are new old given (keys ∙ ap (λ b. cond b old.gates (old.gates ++ s ∷ [])) there) in
-          record { sound = subst IsSoundDraft (sym same) is; extends = subst (Extends old) (sym same) (extends-refl old); at = at }
+          let same : new ≡ old =
+          drafted_are new old given (keys ∙ ap (λ b. cond b old.gates (old.gates ++ s ∷ [])) there) in
+          record {
+            sound = subst IsSoundDraft (sym same) is;
+            extends = subst (Extends old) (sym same)
+                (extends-refl old);
+            at = at;
+          }
       | inr none ↦
-          let same : new ≡ more old s = drafted_are new (more old s) given (keys ∙ ap (λ b. cond b old.gates (old.gates ++ s ∷ [])) none) in
-          let less : variables_of old + 1 < 2 ^ 31 = (let p = is.room in let q : IsFull old → ⊥ = room none in omega arith) in
-          record { sound = subst IsSoundDraft (sym same) (sound-more old s is less sides none); extends = subst (Extends old) (sym same) (extends-more old s); at = at }
+          let same : new ≡ more old s =
+          drafted_are new (more old s) given (keys ∙ ap (λ b. cond b old.gates (old.gates ++ s ∷ [])) none) in
+          let less : variables_of old + 1 < 2 ^ 31 =
+          (let p = is.room in let q : IsFull old → ⊥ = room none in omega arith) in
+          record {
+            sound = subst IsSoundDraft (sym same) (sound-more old s is less sides none);
+            extends = subst (Extends old) (sym same) (extends-more old s);
+            at = at;
+          }
     ]
 
-pub placed-bit : (d : Drafted) (s : Sides) (place : ℕ) → slice_get d.gates place ≡ Some s → (v : ℕ → Bool) → Meets d v → bit v (2 * (d.given + 1 + place)) ≡ (bit v s.first && bit v s.second)
+pub placed-bit : (d : Drafted) (s : Sides) (place : ℕ) → slice_get d.gates place ≡ Some s → (v : ℕ → Bool) → Meets d v →
+    bit v (2 * (d.given + 1 + place)) ≡ (bit v s.first && bit v s.second)
 placed-bit d s place at v m = bit-plain v (d.given + 1 + place) ∙ m.each place s at
 
 -- where a gate is wanted
-pub needs : (d : Drafted) (own : ℕ) (s : Sides) → IsSoundDraft d → AreSides own s → IsNew d s.first s.second → NeedsGate d s.first s.second
+pub needs : (d : Drafted) (own : ℕ) (s : Sides) → IsSoundDraft d → AreSides own s → IsNew d s.first s.second →
+    NeedsGate d s.first s.second
 needs d own s is a new = record {
   first_varies = (let p = a.falls in let q = a.not_constant in omega arith);
   second_varies = a.not_constant;
   different = λ e. a.different (sym e);
   is_new = new;
-  is_new_too = λ k t e both. (let p = (is.sides k t e).falls in let q = a.falls in let f = both.0 in let g = both.1 in omega arith);
+  is_new_too =
+      λ k t e both. (let p = (is.sides k t e).falls in let q = a.falls in let f = both.0 in
+      let g = both.1 in omega arith);
 }
 
 pub needs-turned : (d : Drafted) (x y : ℕ) → NeedsGate d x y → NeedsGate d y x
-needs-turned d x y n = record { first_varies = n.second_varies; second_varies = n.first_varies; different = (λ e. n.different (sym e)); is_new = n.is_new_too; is_new_too = n.is_new }
+needs-turned d x y n =
+    record {
+      first_varies = n.second_varies;
+      second_varies = n.first_varies;
+      different = (λ e. n.different (sym e));
+      is_new = n.is_new_too;
+      is_new_too = n.is_new;
+    }
 
 de_morgan : (a b : Bool) → not (not a && not b) ≡ (a || b)
 de_morgan true b = refl
 de_morgan false b = not_not b
 
-pub or_bits : (v : ℕ → Bool) (x y neither nx ny result : ℕ) → nx ≡ negated x → ny ≡ negated y → result ≡ negated neither → bit v neither ≡ (bit v nx && bit v ny) → bit v result ≡ (bit v x || bit v y)
+pub or_bits : (v : ℕ → Bool) (x y neither nx ny result : ℕ) → nx ≡ negated x → ny ≡ negated y →
+    result ≡ negated neither → bit v neither ≡ (bit v nx && bit v ny) → bit v result ≡ (bit v x || bit v y)
 or_bits v x y neither nx ny result ex ey er h =
-    ap (bit v) er ∙ bit-negated v neither ∙ ap not (h ∙ ap (λ b. b && bit v ny) (ap (bit v) ex ∙ bit-negated v x) ∙ ap (λ b. not (bit v x) && b) (ap (bit v) ey ∙ bit-negated v y)) ∙ de_morgan (bit v x) (bit v y)
+    ap (bit v) er ∙ bit-negated v neither ∙ ap not (h ∙ ap (λ b. b && bit v ny) (ap (bit v) ex ∙ bit-negated v x)
+    ∙ ap (λ b. not (bit v x) && b) (ap (bit v) ey ∙ bit-negated v y)) ∙ de_morgan (bit v x) (bit v y)
 
 choice : (a h l : Bool) → ((a && h) || (not a && l)) ≡ cond a h l
 choice true true l = refl
 choice true false l = refl
 choice false h l = refl
 
-pub chosen_bits : (v : ℕ → Bool) (s h l ns high low result : ℕ) → ns ≡ negated s → bit v high ≡ (bit v s && bit v h) → bit v low ≡ (bit v ns && bit v l) → bit v result ≡ (bit v high || bit v low) → bit v result ≡ cond (bit v s) (bit v h) (bit v l)
+pub chosen_bits : (v : ℕ → Bool) (s h l ns high low result : ℕ) → ns ≡ negated s → bit v high ≡ (bit v s && bit v h) →
+    bit v low ≡ (bit v ns && bit v l) → bit v result ≡ (bit v high || bit v low) →
+    bit v result ≡ cond (bit v s) (bit v h) (bit v l)
 chosen_bits v s h l ns high low result e eh el er =
-    er ∙ ap (λ b. b || bit v low) eh ∙ ap (λ b. (bit v s && bit v h) || b) (el ∙ ap (λ b. b && bit v l) (ap (bit v) e ∙ bit-negated v s)) ∙ choice (bit v s) (bit v h) (bit v l)
+    er ∙ ap (λ b. b || bit v low) eh ∙ ap (λ b. (bit v s && bit v h) || b)
+    (el ∙ ap (λ b. b && bit v l) (ap (bit v) e ∙ bit-negated v s)) ∙ choice (bit v s) (bit v h) (bit v l)
 
 -- a fault that is passed on
-pub passed : {X : Type 0} (result : Result X EncodeFault) (fault other : EncodeFault) → IsErrAnd result (λ given. given ≡ fault) → result ≡ Err other → fault ≡ other
+pub passed : {X : Type 0} (result : Result X EncodeFault) (fault other : EncodeFault) →
+    IsErrAnd result (λ given. given ≡ fault) → result ≡ Err other → fault ≡ other
 passed (Ok x) fault other is e = absurd is
 passed (Err given) fault other is e = sym is ∙ (let same : given ≡ other = cc in same)

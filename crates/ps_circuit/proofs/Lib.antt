@@ -13,6 +13,10 @@ pub mod WentCircuits
 pub mod WentNames
 pub mod WentText
 pub mod OneReading
+pub mod RunOutcomes
+pub mod GateCycles
+pub mod TextOutcomes
+pub mod SomeReading
 pub mod Ordered
 pub mod GateLemmas
 pub mod MadeLemmas

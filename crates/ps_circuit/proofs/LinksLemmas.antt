@@ -1,5 +1,7 @@
 -- Links stand for the gates that a gate reads.
-use Rattle.std.proofs.Common.{◌≡◌, ◌≢◌, ℕ, ◌+◌, ◌<◌, IfSome, inl, inr, List, [], ◌∷◌, ◌++◌, map, length, get_or, refl, sym, ap, ap₂, subst, ◌∙◌, arith, nat_eq, Some, None, Option, slice_get, suc, zero, ◌⊎◌, AllPairs, Contains, take, length-append, option_map}
+use Rattle.std.proofs.Common.{◌≡◌, ◌≢◌, ℕ, ◌+◌, ◌<◌, IfSome, inl, inr, List, [], ◌∷◌, ◌++◌, map, length, get_or, refl}
+use Rattle.std.proofs.Common.{sym, ap, ap₂, subst, ◌∙◌, arith, nat_eq, Some, None, Option, slice_get, suc, zero, ◌⊎◌}
+use Rattle.std.proofs.Common.{AllPairs, Contains, take, length-append, option_map}
 use Rattle.std.proofs.lemmas.Option.{slice_get_within, slice_get-map, slice_get-get_or, get_or_from_slice_get}
 use Rattle.std.proofs.lemmas.List.{length-map, get_or-map, get_or-append-add, map-append, take_more}
 use Rattle.std.proofs.lemmas.List.Quantifiers.{position-Some}
@@ -33,7 +35,8 @@ module _ (gates : List Gate) (once : AllPairs (λ g h. variable g.literal ≢ va
   many : length (gate_variables gates) ≡ length gates
   many = length-map gates (λ g. variable g.literal)
 
-  variable_at : (k d : ℕ) (g : Gate) → k < length gates → get_or (gate_variables gates) k d ≡ variable (get_or gates k g).literal
+  variable_at : (k d : ℕ) (g : Gate) → k < length gates → get_or (gate_variables gates) k d ≡ variable
+      (get_or gates k g).literal
   variable_at k d g l = get_or-map (λ h. variable h.literal) gates k g d l
 
   apart : AreDistinct (gate_variables gates)
@@ -41,18 +44,27 @@ module _ (gates : List Gate) (once : AllPairs (λ g h. variable g.literal ≢ va
       let below : j < length gates = omega (arith, many) in
       once i j no_gate less below (sym (variable_at i d no_gate (omega arith)) ∙ e ∙ variable_at j d no_gate below)
 
-  pub variable_fresh : (k : ℕ) (g : Gate) → k < length gates → Contains (take k (gate_variables gates)) (variable (get_or gates k g).literal) → ⊥
-  variable_fresh k g l = subst (λ v. Contains (take k (gate_variables gates)) v → ⊥) (variable_at k 0 g l) (absent_before (gate_variables gates) k apart (omega (arith, many)))
+  pub variable_fresh : (k : ℕ) (g : Gate) → k < length gates →
+      Contains (take k (gate_variables gates)) (variable (get_or gates k g).literal) → ⊥
+  variable_fresh k g l =
+      subst (λ v. Contains (take k (gate_variables gates)) v → ⊥) (variable_at k 0 g l)
+      (absent_before (gate_variables gates) k apart (omega (arith, many)))
 
-  pub variables_more : (k : ℕ) (g : Gate) → k < length gates → take (k + 1) (gate_variables gates) ≡ take k (gate_variables gates) ++ variable (get_or gates k g).literal ∷ []
-  variables_more k g l = take_more (gate_variables gates) k 0 (omega (arith, many)) ∙ ap (λ v. take k (gate_variables gates) ++ v ∷ []) (variable_at k 0 g l)
+  pub variables_more : (k : ℕ) (g : Gate) → k < length gates →
+      take (k + 1) (gate_variables gates) ≡ take k (gate_variables gates) ++ variable (get_or gates k g).literal ∷ []
+  variables_more k g l = take_more (gate_variables gates) k 0 (omega (arith, many))
+      ∙ ap (λ v. take k (gate_variables gates) ++ v ∷ []) (variable_at k 0 g l)
 
   are_places : ArePlaces gates (place_in (gate_variables gates))
   are_places = record {
     back = λ v k e.
         let at = position-Some (λ other. nat_eq v other) (gate_variables gates) k 0 e in
-        let within : k < length gates = omega (arith, many, at.0) in
-        (get_or gates k no_gate, slice_get-get_or gates k no_gate within, sym (variable_at k 0 no_gate within) ∙ sym (eqb-true v _ at.1));
+        let within : k < length gates = omega (arith, many, at.0) in (
+          get_or gates k no_gate,
+          slice_get-get_or gates k no_gate within,
+          sym (variable_at k 0 no_gate within)
+              ∙ sym (eqb-true v _ at.1),
+        );
     forth = λ k g at.
         let within : k < length gates = slice_get_within gates k g at in
         position_here (gate_variables gates) (variable g.literal) k apart (omega (arith, many))
@@ -64,65 +76,101 @@ length-links_by place_of [] = refl
 length-links_by place_of (g ∷ gates) = ap suc (length-links_by place_of gates)
 
 -- the links by the places of all gates
-links-by_places : (gates : List Gate) (place_of : ℕ → Option ℕ) (links : List Links) → ArePlaces gates place_of → links ≡ links_by place_of gates → AreLinksOf gates links
+links-by_places : (gates : List Gate) (place_of : ℕ → Option ℕ) (links : List Links) → ArePlaces gates place_of →
+    links ≡ links_by place_of gates → AreLinksOf gates links
 links-by_places gates place_of links a e = record {
   each = ap length e ∙ length-links_by place_of gates;
   link_reads = λ i j l. reads i j (subst (λ ls. Link (graph_of ls) i j) e l);
   reads_link = λ i j r. subst (λ ls. Link (graph_of ls) i j) (sym e) (linked i j r);
 }
   where
-    there : (i : ℕ) (sides : Links) → slice_get (links_by place_of gates) i ≡ Some sides → (g : Gate) × ((slice_get gates i ≡ Some g) × (place_of (variable g.first) ≡ sides.first) × (place_of (variable g.second) ≡ sides.second))
+    there : (i : ℕ) (sides : Links) → slice_get (links_by place_of gates) i ≡ Some sides →
+        (g : Gate) × ((slice_get gates i ≡ Some g) × (place_of (variable g.first) ≡ sides.first) ×
+        (place_of (variable g.second) ≡ sides.second))
     there i sides h = found (slice_get gates i) refl (sym (slice_get-map _ gates i) ∙ h)
       where
-        found : (o : Option Gate) → slice_get gates i ≡ o → option_map (λ g. record { first = place_of (variable g.first); second = place_of (variable g.second) }) o ≡ Some sides → (g : Gate) × ((slice_get gates i ≡ Some g) × (place_of (variable g.first) ≡ sides.first) × (place_of (variable g.second) ≡ sides.second))
+        found : (o : Option Gate) → slice_get gates i ≡ o → option_map
+            (λ g. record { first = place_of (variable g.first); second = place_of (variable g.second) }) o ≡ Some sides
+            → (g : Gate) × ((slice_get gates i ≡ Some g) × (place_of (variable g.first) ≡ sides.first) ×
+            (place_of (variable g.second) ≡ sides.second))
         found None is e = cc
         found (Some g) is e = (g, (is, cc, cc))
 
-    read_by : (i j : ℕ) (g h : Gate) → slice_get gates i ≡ Some g → (side : ℕ) → (variable side ≡ variable g.first) ⊎ (variable side ≡ variable g.second) → (slice_get gates j ≡ Some h) × (variable h.literal ≡ variable side) → ReadsGate gates i j
-    read_by i j g h at_i side (inl e) r = record { reader = g; read = h; at_i = at_i; at_j = r.0; side = inl (sym e ∙ sym r.1) }
-    read_by i j g h at_i side (inr e) r = record { reader = g; read = h; at_i = at_i; at_j = r.0; side = inr (sym e ∙ sym r.1) }
+    read_by : (i j : ℕ) (g h : Gate) → slice_get gates i ≡ Some g → (side : ℕ) →
+        (variable side ≡ variable g.first) ⊎ (variable side ≡ variable g.second) →
+        (slice_get gates j ≡ Some h) × (variable h.literal ≡ variable side) → ReadsGate gates i j
+    read_by i j g h at_i side (inl e) r =
+        record { reader = g; read = h; at_i = at_i; at_j = r.0; side = inl (sym e ∙ sym r.1) }
+    read_by i j g h at_i side (inr e) r =
+        record { reader = g; read = h; at_i = at_i; at_j = r.0; side = inr (sym e ∙ sym r.1) }
 
     reads : (i j : ℕ) → Link (graph_of (links_by place_of gates)) i j → ReadsGate gates i j
     reads i j l = found (slice_get (links_by place_of gates) i) refl l.place l.at l.target
       where
-        found : (o : Option Links) → slice_get (links_by place_of gates) i ≡ o → (place : ℕ) → place < 2 → target_of o place ≡ Some j → ReadsGate gates i j
+        found : (o : Option Links) → slice_get (links_by place_of gates) i ≡ o → (place : ℕ) → place < 2 →
+            target_of o place ≡ Some j → ReadsGate gates i j
         found None is place lt t = cc
-        found (Some sides) is zero lt t = (let g = there i sides is in let h = a.back (variable g.0.first) j (g.1.1 ∙ t) in read_by i j g.0 h.0 g.1.0 g.0.first (inl refl) (h.1, h.2))
-        found (Some sides) is (suc place) lt t = (let g = there i sides is in let h = a.back (variable g.0.second) j (g.1.2 ∙ t) in read_by i j g.0 h.0 g.1.0 g.0.second (inr refl) (h.1, h.2))
+        found (Some sides) is zero lt t =
+            (let g = there i sides is in let h = a.back (variable g.0.first) j (g.1.1 ∙ t) in
+            read_by i j g.0 h.0 g.1.0 g.0.first (inl refl) (h.1, h.2))
+        found (Some sides) is (suc place) lt t =
+            (let g = there i sides is in let h = a.back (variable g.0.second) j (g.1.2 ∙ t) in
+            read_by i j g.0 h.0 g.1.0 g.0.second (inr refl) (h.1, h.2))
 
     linked : (i j : ℕ) → ReadsGate gates i j → Link (graph_of (links_by place_of gates)) i j
     linked i j r =
-        let sides : Links = record { first = place_of (variable r.reader.first); second = place_of (variable r.reader.second) } in
+        let sides : Links =
+        record { first = place_of (variable r.reader.first); second = place_of (variable r.reader.second) } in
         let at : slice_get (links_by place_of gates) i ≡ Some sides = slice_get-map _ gates i ∙ (rw r.at_i) in
         let from : i < length (links_by place_of gates) = slice_get_within (links_by place_of gates) i sides at in
         elim r.side [
-          | inl e ↦ record { from = from; place = 0; at = omega arith; target = ap (λ o. target_of o 0) at ∙ ap place_of e ∙ a.forth j r.read r.at_j }
-          | inr e ↦ record { from = from; place = 1; at = omega arith; target = ap (λ o. target_of o 1) at ∙ ap place_of e ∙ a.forth j r.read r.at_j }
+          | inl e ↦ record {
+            from = from;
+            place = 0;
+            at = omega arith;
+            target = ap (λ o. target_of o 0) at
+                ∙ ap place_of e ∙ a.forth j r.read r.at_j;
+          }
+          | inr e ↦ record {
+            from = from;
+            place = 1;
+            at = omega arith;
+            target = ap (λ o. target_of o 1) at
+                ∙ ap place_of e ∙ a.forth j r.read r.at_j;
+          }
         ]
 
 abbrev sides : Option ℕ → Option ℕ → Links
 sides first second = record { first = first; second = second }
 
 -- the links of one gate more
-pub links_by-more : (variables : List ℕ) (gates : List Gate) (k : ℕ) (g : Gate) (links more : List Links) (first second : Option ℕ) → k < length gates →
-    links ≡ links_by (place_in variables) (take k gates) → more ≡ links ++ record { first = first; second = second } ∷ [] →
-    first ≡ place_in variables (variable (get_or gates k g).first) → second ≡ place_in variables (variable (get_or gates k g).second) →
+pub links_by-more : (variables : List ℕ) (gates : List Gate) (k : ℕ) (g : Gate) (links more : List Links)
+    (first second : Option ℕ) → k < length gates →
+    links ≡ links_by (place_in variables) (take k gates) → more ≡ links ++
+    record { first = first; second = second } ∷ [] →
+    first ≡ place_in variables (variable (get_or gates k g).first) →
+    second ≡ place_in variables (variable (get_or gates k g).second) →
     more ≡ links_by (place_in variables) (take (k + 1) gates)
 links_by-more variables gates k g links more first second l before e at_first at_second =
     e ∙ ap₂ (λ (ls : List Links) (made : Links). ls ++ made ∷ []) before (ap₂ sides at_first at_second)
-    ∙ sym (ap (links_by (place_in variables)) (take_more gates k g l) ∙ map-append (λ h. sides (place_in variables (variable h.first)) (place_in variables (variable h.second))) (take k gates) (get_or gates k g ∷ []))
+    ∙ sym (ap (links_by (place_in variables)) (take_more gates k g l)
+    ∙ map-append (λ h. sides (place_in variables (variable h.first)) (place_in variables (variable h.second)))
+    (take k gates) (get_or gates k g ∷ []))
 
 -- the links by the places of the gates' variables
-pub links-by_variables : (gates : List Gate) (variables : List ℕ) (links : List Links) → AllPairs (λ g h. variable g.literal ≢ variable h.literal) gates →
+pub links-by_variables : (gates : List Gate) (variables : List ℕ) (links : List Links) →
+    AllPairs (λ g h. variable g.literal ≢ variable h.literal) gates →
     variables ≡ gate_variables gates → links ≡ links_by (place_in variables) gates → AreLinksOf gates links
 links-by_variables gates variables links once are e =
-    links-by_places gates (place_in (gate_variables gates)) links (are_places gates once) (e ∙ ap (λ vs. links_by (place_in vs) gates) are)
+    links-by_places gates (place_in (gate_variables gates)) links (are_places gates once)
+    (e ∙ ap (λ vs. links_by (place_in vs) gates) are)
 
 module _ (gates : List Gate) (links : List Links) (a : AreLinksOf gates links) where
   pub links_within : IsWithin (graph_of links)
   links_within i j l = omega (arith, a.each, slice_get_within gates j _ (a.link_reads i j l).at_j)
 
-  pub order-of_links : (order : List ℕ) → IsOrder (Link (graph_of links)) (length links) order → IsOrder (ReadsGate gates) (length gates) order
+  pub order-of_links : (order : List ℕ) → IsOrder (Link (graph_of links)) (length links) order →
+      IsOrder (ReadsGate gates) (length gates) order
   order-of_links order o = record {
     within = λ k i h. omega (arith, o.within k i h, a.each);
     once = o.once;
@@ -134,10 +182,12 @@ module _ (gates : List Gate) (links : List Links) (a : AreLinksOf gates links) w
   acyclic-of_links none i w = none i (Way-map a.reads_link w)
 
   pub cyclic-of_links : (i : ℕ) → IsFirstOnCycle (Link (graph_of links)) i → IsFirstOnCycle (ReadsGate gates) i
-  cyclic-of_links i c = record { cyclic = Way-map a.link_reads c.cyclic; first = λ j w. c.first j (Way-map a.reads_link w) }
+  cyclic-of_links i c =
+      record { cyclic = Way-map a.link_reads c.cyclic; first = λ j w. c.first j (Way-map a.reads_link w) }
 
 -- no two gates of a circuit have one variable
-pub gates_once : (c : CircuitData) → AllPairs (λ l m. variable l ≢ variable m) (definitions c) → AllPairs (λ g h. variable g.literal ≢ variable h.literal) c.gates
+pub gates_once : (c : CircuitData) → AllPairs (λ l m. variable l ≢ variable m) (definitions c) →
+    AllPairs (λ g h. variable g.literal ≢ variable h.literal) c.gates
 gates_once c once i j d lt within e =
     let front = c.inputs ++ map (λ l. l.literal) c.latches in
     let all = length-append front (map (λ g. g.literal) c.gates) in
@@ -145,13 +195,22 @@ gates_once c once i j d lt within e =
     once (length front + i) (length front + j) 0 (omega arith) (omega (arith, all, many))
     (ap variable (at_gate i d (omega arith)) ∙ e ∙ sym (ap variable (at_gate j d within)))
   where
-    at_gate : (i : ℕ) (d : Gate) → i < length c.gates → get_or (definitions c) (length (c.inputs ++ map (λ l. l.literal) c.latches) + i) 0 ≡ (get_or c.gates i d).literal
-    at_gate i d lt = get_or-append-add (c.inputs ++ map (λ l. l.literal) c.latches) (map (λ g. g.literal) c.gates) i 0 ∙ get_or-map (λ g. g.literal) c.gates i d 0 lt
+    at_gate : (i : ℕ) (d : Gate) → i < length c.gates → get_or (definitions c)
+        (length (c.inputs ++ map (λ l. l.literal) c.latches) + i) 0 ≡ (get_or c.gates i d).literal
+    at_gate i d lt = get_or-append-add (c.inputs ++ map (λ l. l.literal) c.latches) (map (λ g. g.literal) c.gates) i 0
+        ∙ get_or-map (λ g. g.literal) c.gates i d 0 lt
 
 -- where a side of a gate leads is a gate
-pub side_within : (links : List Links) (item place : ℕ) (sides : Links) → IsWithin (graph_of links) → slice_get links item ≡ Some sides → place < 2 → IfSome (side_of sides place) (λ to. to < length links)
+pub side_within : (links : List Links) (item place : ℕ) (sides : Links) → IsWithin (graph_of links) →
+    slice_get links item ≡ Some sides → place < 2 → IfSome (side_of sides place) (λ to. to < length links)
 side_within links item place sides within at lt = which (side_of sides place) refl
   where
     which : (o : Option ℕ) → side_of sides place ≡ o → IfSome o (λ to. to < length links)
     which None e = tt
-    which (Some to) e = within item to (record { from = slice_get_within links item sides at; place = place; at = lt; target = ap (λ o. target_of o place) at ∙ e })
+    which (Some to) e =
+        within item to (record {
+          from = slice_get_within links item sides at;
+          place = place;
+          at = lt;
+          target = ap (λ o. target_of o place) at ∙ e;
+        })

@@ -1,5 +1,7 @@
 -- Gates that are made stay, and what was made once is there when it is asked for again.
-use Rattle.std.proofs.Common.{◌≡◌, ◌∙◌, ℕ, ◌+◌, ◌*◌, ◌<◌, ◌≤◌, ◌==◌, ◌&&◌, ◌||◌, Bool, true, false, cond, nat_lt, if◌then◌else◌, [], ◌∷◌, ◌++◌, length, length-append, get_or, slice_get, Some, refl, sym, ap, subst, arith, inl, inr}
+use Rattle.std.proofs.Common.{◌≡◌, ◌∙◌, ℕ, ◌+◌, ◌*◌, ◌<◌, ◌≤◌, ◌==◌, ◌&&◌, ◌||◌, Bool, true, false, cond, nat_lt}
+use Rattle.std.proofs.Common.{if◌then◌else◌, [], ◌∷◌, ◌++◌, length, length-append, get_or, slice_get, Some, refl, sym}
+use Rattle.std.proofs.Common.{ap, subst, arith, inl, inr}
 use Rattle.std.specs.List.{list_any, position_or_len}
 use Rattle.std.proofs.lemmas.Bool.{cases_lt, eq-eqb}
 use Rattle.std.proofs.lemmas.List.Folds.{list_any_at, list_any_none}
@@ -12,7 +14,8 @@ use Rattle.ps_circuit.specs.declared.builder.Sides.{Sides}
 use Rattle.ps_circuit.specs.Building.{Drafted, Extends, variables_of}
 use Rattle.ps_circuit.specs.Literals.{negated}
 use Rattle.ps_circuit.specs.Gates.{Made, has_sides, gate_of, and_of, inverted, or_of, chosen_of, mux_of}
-use Rattle.ps_circuit.proofs.GateLemmas.{bool_cases, true_is_not_false, extends-refl, extends-trans, extends-more, same_sides, sides_same, drafted_are, Placed}
+use Rattle.ps_circuit.proofs.GateLemmas.{bool_cases, true_is_not_false, extends-refl, extends-trans, extends-more}
+use Rattle.ps_circuit.proofs.GateLemmas.{same_sides, sides_same, drafted_are, Placed}
 
 -- asked for again, in a draft with all gates that it took, it takes no further gate
 abbrev pub IsThere : Made → (Drafted → Made) → Drafted → Type 0
@@ -41,7 +44,8 @@ absent_place d s none =
 present_place : (d : Drafted) (s : Sides) → list_any (has_sides s) d.gates ≡ true → place_of d s < length d.gates
 present_place d s some = elim (cases_lt (place_of d s) (length d.gates)) [
   | inl lt ↦ lt
-  | inr le ↦ absurd (true_is_not_false (sym some ∙ list_any_none (has_sides s) d.gates (λ k e lt. fails_before_first (has_sides s) d.gates k e (omega arith))))
+  | inr le ↦ absurd (true_is_not_false (sym some ∙ list_any_none (has_sides s) d.gates
+      (λ k e lt. fails_before_first (has_sides s) d.gates k e (omega arith))))
 ]
 
 pub gate-extends : (d : Drafted) (s : Sides) → Extends d (gate_of d s).draft
@@ -56,16 +60,21 @@ unfolding gate_of
 gate_at d s = elim (bool_cases (list_any (has_sides s) d.gates)) [
   | inl there ↦
       let lt = present_place d s there in
-      ap (λ b. slice_get (cond b d.gates (d.gates ++ s ∷ [])) (place_of d s)) there ∙ slice_get-get_or d.gates (place_of d s) s lt
-      ∙ ap (λ t. Some t) (sym (same_sides s (get_or d.gates (place_of d s) s) (passes_at_first (has_sides s) d.gates s lt)))
-  | inr none ↦ ap (λ b. slice_get (cond b d.gates (d.gates ++ s ∷ [])) (place_of d s)) none ∙ ap (slice_get (d.gates ++ s ∷ [])) (absent_place d s none) ∙ slice_get-push d.gates s
+      ap (λ b. slice_get (cond b d.gates (d.gates ++ s ∷ [])) (place_of d s)) there
+      ∙ slice_get-get_or d.gates (place_of d s) s lt
+      ∙ ap (λ t. Some t) (sym (same_sides s (get_or d.gates (place_of d s) s)
+      (passes_at_first (has_sides s) d.gates s lt)))
+  | inr none ↦ ap (λ b. slice_get (cond b d.gates (d.gates ++ s ∷ [])) (place_of d s)) none
+      ∙ ap (slice_get (d.gates ++ s ∷ [])) (absent_place d s none) ∙ slice_get-push d.gates s
 ]
 
 -- no gate before its place has its sides
-gate_first : (d e : Drafted) (s : Sides) → Extends d e → (k : ℕ) → k < place_of d s → place_of d s ≤ length d.gates → has_sides s (get_or e.gates k s) ≡ false
+gate_first : (d e : Drafted) (s : Sides) → Extends d e → (k : ℕ) → k < place_of d s → place_of d s ≤ length d.gates →
+    has_sides s (get_or e.gates k s) ≡ false
 gate_first d e s x k lt within =
     let less : k < length d.gates = omega arith in
-    ap (has_sides s) (get_or_from_slice_get e.gates k (get_or d.gates k s) s (x.same k (get_or d.gates k s) (slice_get-get_or d.gates k s less)))
+    ap (has_sides s) (get_or_from_slice_get e.gates k (get_or d.gates k s) s
+    (x.same k (get_or d.gates k s) (slice_get-get_or d.gates k s less)))
     ∙ fails_before_first (has_sides s) d.gates k s lt
 
 place_within : (d : Drafted) (s : Sides) → place_of d s ≤ length d.gates
@@ -75,25 +84,35 @@ place_within d s = elim (bool_cases (list_any (has_sides s) d.gates)) [
 ]
 
 -- a gate that has these sides where no gate before it has them
-pub gate-found : (e : Drafted) (s : Sides) (place : ℕ) → slice_get e.gates place ≡ Some s → ((k : ℕ) → k < place → has_sides s (get_or e.gates k s) ≡ false) →
+pub gate-found : (e : Drafted) (s : Sides) (place : ℕ) → slice_get e.gates place ≡ Some s →
+    ((k : ℕ) → k < place → has_sides s (get_or e.gates k s) ≡ false) →
     gate_of e s ≡ record { draft = e; literal = 2 * (e.given + 1 + place) }
 unfolding gate_of
 gate-found e s place at first =
     let lt = slice_get_within e.gates place s at in
-    let passes : has_sides s (get_or e.gates place s) ≡ true = ap (has_sides s) (get_or_from_slice_get e.gates place s s at) ∙ sides_same s in
-    let is : place_of e s ≡ place = position_or_len_is (has_sides s) e.gates place s (omega arith) first (λ h. passes) in
+    let passes : has_sides s (get_or e.gates place s) ≡ true =
+    ap (has_sides s) (get_or_from_slice_get e.gates place s s at) ∙ sides_same s in
+    let is : place_of e s ≡ place =
+    position_or_len_is (has_sides s) e.gates place s (omega arith) first (λ h. passes) in
     let there = list_any_at (has_sides s) e.gates place s lt passes in
-    let made : Bool → ℕ → Made = λ b n. record { draft = record { given = e.given; gates = cond b e.gates (e.gates ++ s ∷ []) }; literal = 2 * (e.given + 1 + n) } in
+    let made : Bool → ℕ → Made =
+    λ b n. record {
+      draft = record { given = e.given; gates = cond b e.gates (e.gates ++ s ∷ []) };
+      literal = 2 * (e.given + 1 + n);
+    } in
     ap (λ b. made b (place_of e s)) there ∙ ap (made true) is
 
-gate_literal : (d e : Drafted) (s : Sides) → Extends (gate_of d s).draft e → 2 * (e.given + 1 + place_of d s) ≡ (gate_of d s).literal
+gate_literal : (d e : Drafted) (s : Sides) → Extends (gate_of d s).draft e →
+    2 * (e.given + 1 + place_of d s) ≡ (gate_of d s).literal
 unfolding gate_of
 gate_literal d e s x = ap (λ g. 2 * (g + 1 + place_of d s)) x.given
 
-pub gate-again : (d e : Drafted) (s : Sides) → Extends (gate_of d s).draft e → IsThere (gate_of d s) (λ t. gate_of t s) e
+pub gate-again : (d e : Drafted) (s : Sides) → Extends (gate_of d s).draft e →
+    IsThere (gate_of d s) (λ t. gate_of t s) e
 gate-again d e s x =
     let first = gate_first d e s (extends-trans d (gate_of d s).draft e (gate-extends d s) x) in
-    let found = gate-found e s (place_of d s) (x.same (place_of d s) s (gate_at d s)) (λ k lt. first k lt (place_within d s)) in
+    let found =
+    gate-found e s (place_of d s) (x.same (place_of d s) s (gate_at d s)) (λ k lt. first k lt (place_within d s)) in
     found ∙ ap (made_with e) (gate_literal d e s x)
 
 -- ## Conjunctions
@@ -113,7 +132,8 @@ both_extends false false true f x y d = extends-refl d
 both_extends false false false true x y d = gate-extends d (record { first = x; second = y })
 both_extends false false false false x y d = gate-extends d (record { first = y; second = x })
 
-both_again : (a b c f : Bool) (x y : ℕ) (d e : Drafted) → Extends (both_by a b c f x y d).draft e → IsThere (both_by a b c f x y d) (both_by a b c f x y) e
+both_again : (a b c f : Bool) (x y : ℕ) (d e : Drafted) → Extends (both_by a b c f x y d).draft e →
+    IsThere (both_by a b c f x y d) (both_by a b c f x y) e
 both_again true b c f x y d e h = refl
 both_again false true c f x y d e h = refl
 both_again false false true f x y d e h = refl
@@ -124,7 +144,8 @@ pub and-extends : (d : Drafted) (x y : ℕ) → Extends d (and_of d x y).draft
 unfolding and_of
 and-extends d x y = both_extends (x == 0 || y == 0 || x == negated y) (x == 1 || x == y) (y == 1) (nat_lt y x) x y d
 
-pub and-again : (d e : Drafted) (x y : ℕ) → Extends (and_of d x y).draft e → IsThere (and_of d x y) (λ t. and_of t x y) e
+pub and-again : (d e : Drafted) (x y : ℕ) → Extends (and_of d x y).draft e →
+    IsThere (and_of d x y) (λ t. and_of t x y) e
 unfolding and_of
 and-again d e x y h = both_again (x == 0 || y == 0 || x == negated y) (x == 1 || x == y) (y == 1) (nat_lt y x) x y d e h
 
@@ -143,14 +164,17 @@ unfolding chosen_of
 chosen-extends d s high low =
     let a = and_of d s high in
     let b = and_of a.draft (negated s) low in
-    extends-trans d a.draft _ (and-extends d s high) (extends-trans a.draft b.draft _ (and-extends a.draft (negated s) low) (or-extends b.draft a.literal b.literal))
+    extends-trans d a.draft _ (and-extends d s high) (extends-trans a.draft b.draft _
+    (and-extends a.draft (negated s) low) (or-extends b.draft a.literal b.literal))
 
-pub chosen-again : (d e : Drafted) (s high low : ℕ) → Extends (chosen_of d s high low).draft e → IsThere (chosen_of d s high low) (λ t. chosen_of t s high low) e
+pub chosen-again : (d e : Drafted) (s high low : ℕ) → Extends (chosen_of d s high low).draft e →
+    IsThere (chosen_of d s high low) (λ t. chosen_of t s high low) e
 unfolding chosen_of
 chosen-again d e s high low h =
     let a = and_of d s high in
     let b = and_of a.draft (negated s) low in
-    let hb : Extends b.draft e = extends-trans b.draft (or_of b.draft a.literal b.literal).draft e (or-extends b.draft a.literal b.literal) h in
+    let hb : Extends b.draft e =
+    extends-trans b.draft (or_of b.draft a.literal b.literal).draft e (or-extends b.draft a.literal b.literal) h in
     let ha : Extends a.draft e = extends-trans a.draft b.draft e (and-extends a.draft (negated s) low) hb in
     let again : Made → Made → Made = λ p q. or_of q.draft p.literal q.literal in
     ap (λ p. again p (and_of p.draft (negated s) low)) (and-again d e s high ha)
@@ -168,7 +192,8 @@ choice_by same is_s is_not_s high_true high_false low_false low_true s high low 
     else if low_true then or_of d (negated s) high
     else chosen_of d s high low
 
-choice_extends : (a b c f g h i : Bool) (s high low : ℕ) (d : Drafted) → Extends d (choice_by a b c f g h i s high low d).draft
+choice_extends : (a b c f g h i : Bool) (s high low : ℕ) (d : Drafted) →
+    Extends d (choice_by a b c f g h i s high low d).draft
 choice_extends true b c f g h i s high low d = extends-refl d
 choice_extends false true c f g h i s high low d = extends-refl d
 choice_extends false false true f g h i s high low d = extends-refl d
@@ -178,7 +203,9 @@ choice_extends false false false false false true i s high low d = and-extends d
 choice_extends false false false false false false true s high low d = or-extends d (negated s) high
 choice_extends false false false false false false false s high low d = chosen-extends d s high low
 
-choice_again : (a b c f g h i : Bool) (s high low : ℕ) (d e : Drafted) → Extends (choice_by a b c f g h i s high low d).draft e → IsThere (choice_by a b c f g h i s high low d) (choice_by a b c f g h i s high low) e
+choice_again : (a b c f g h i : Bool) (s high low : ℕ) (d e : Drafted) →
+    Extends (choice_by a b c f g h i s high low d).draft e → IsThere (choice_by a b c f g h i s high low d)
+    (choice_by a b c f g h i s high low) e
 choice_again true b c f g h i s high low d e x = refl
 choice_again false true c f g h i s high low d e x = refl
 choice_again false false true f g h i s high low d e x = refl
@@ -190,11 +217,16 @@ choice_again false false false false false false false s high low d e x = chosen
 
 pub mux-extends : (d : Drafted) (s high low : ℕ) → Extends d (mux_of d s high low).draft
 unfolding mux_of
-mux-extends d s high low = choice_extends (high == low) (high == 1 && low == 0) (high == 0 && low == 1) (high == 1) (high == 0) (low == 0) (low == 1) s high low d
+mux-extends d s high low =
+    choice_extends (high == low) (high == 1 && low == 0) (high == 0 && low == 1) (high == 1) (high == 0) (low == 0)
+    (low == 1) s high low d
 
-pub mux-again : (d e : Drafted) (s high low : ℕ) → Extends (mux_of d s high low).draft e → IsThere (mux_of d s high low) (λ t. mux_of t s high low) e
+pub mux-again : (d e : Drafted) (s high low : ℕ) → Extends (mux_of d s high low).draft e →
+    IsThere (mux_of d s high low) (λ t. mux_of t s high low) e
 unfolding mux_of
-mux-again d e s high low x = choice_again (high == low) (high == 1 && low == 0) (high == 0 && low == 1) (high == 1) (high == 0) (low == 0) (low == 1) s high low d e x
+mux-again d e s high low x =
+    choice_again (high == low) (high == 1 && low == 0) (high == 0 && low == 1) (high == 1) (high == 0) (low == 0)
+    (low == 1) s high low d e x
 
 pub mux-same : (d : Drafted) (s literal : ℕ) → mux_of d s literal literal ≡ record { draft = d; literal = literal }
 unfolding mux_of
@@ -205,45 +237,56 @@ mux-same d s literal = rw (eq-eqb literal literal refl) refl
 pub above-extends : (d e : Drafted) → Extends d e → 2147483647 < variables_of d → 2147483647 < variables_of e
 above-extends d e x above = let p = x.more in let q = x.given in omega arith
 
-pub above-first : (d : Drafted) (s high low : ℕ) → 2147483647 < variables_of (and_of d s high).draft → 2147483647 < variables_of (chosen_of d s high low).draft
+pub above-first : (d : Drafted) (s high low : ℕ) → 2147483647 < variables_of (and_of d s high).draft →
+    2147483647 < variables_of (chosen_of d s high low).draft
 unfolding chosen_of
 above-first d s high low above =
     let a = and_of d s high in
     let b = and_of a.draft (negated s) low in
-    above-extends a.draft (or_of b.draft a.literal b.literal).draft (extends-trans a.draft b.draft _ (and-extends a.draft (negated s) low) (or-extends b.draft a.literal b.literal)) above
+    above-extends a.draft (or_of b.draft a.literal b.literal).draft
+    (extends-trans a.draft b.draft _ (and-extends a.draft (negated s) low) (or-extends b.draft a.literal b.literal))
+    above
 
-pub above-second : (d t : Drafted) (s high low where_true ns : ℕ) → and_of d s high ≡ record { draft = t; literal = where_true } → ns ≡ negated s →
+pub above-second : (d t : Drafted) (s high low where_true ns : ℕ) →
+    and_of d s high ≡ record { draft = t; literal = where_true } → ns ≡ negated s →
     2147483647 < variables_of (and_of t ns low).draft → 2147483647 < variables_of (chosen_of d s high low).draft
 unfolding chosen_of
 above-second d t s high low where_true ns made is above =
     let a = and_of d s high in
     let b = and_of a.draft (negated s) low in
-    let here : 2147483647 < variables_of b.draft = subst (λ x. 2147483647 < variables_of (and_of x (negated s) low).draft) (sym (ap (λ (m : Made). m.draft) made)) (subst (λ x. 2147483647 < variables_of (and_of t x low).draft) is above) in
+    let here : 2147483647 < variables_of b.draft =
+    subst (λ x. 2147483647 < variables_of (and_of x (negated s) low).draft) (sym (ap (λ (m : Made). m.draft) made))
+    (subst (λ x. 2147483647 < variables_of (and_of t x low).draft) is above) in
     above-extends b.draft (or_of b.draft a.literal b.literal).draft (or-extends b.draft a.literal b.literal) here
 
-pub above-new : (d : Drafted) (s : Sides) → variables_of d ≡ 2147483647 → list_any (has_sides s) d.gates ≡ false → 2147483647 < variables_of (gate_of d s).draft
+pub above-new : (d : Drafted) (s : Sides) → variables_of d ≡ 2147483647 → list_any (has_sides s) d.gates ≡ false →
+    2147483647 < variables_of (gate_of d s).draft
 unfolding gate_of
 above-new d s full none =
     let longer = length-append d.gates (s ∷ []) in
     rw none (omega arith)
 
-gate_draft : (old new : Drafted) (s : Sides) → new.given ≡ old.given → new.gates ≡ insert_key (sides_eq.eq-value).it old.gates s → (gate_of old s).draft ≡ new
+gate_draft : (old new : Drafted) (s : Sides) → new.given ≡ old.given →
+    new.gates ≡ insert_key (sides_eq.eq-value).it old.gates s → (gate_of old s).draft ≡ new
 unfolding gate_of
 gate_draft old new s given keys = drafted_are (gate_of old s).draft new (sym given) (sym keys)
 
 -- a gate that has its place is made
-pub made-placed : (old new : Drafted) (s : Sides) (place : ℕ) → Placed old new s place → new.given ≡ old.given → new.gates ≡ insert_key (sides_eq.eq-value).it old.gates s →
+pub made-placed : (old new : Drafted) (s : Sides) (place : ℕ) → Placed old new s place → new.given ≡ old.given →
+    new.gates ≡ insert_key (sides_eq.eq-value).it old.gates s →
     gate_of old s ≡ record { draft = new; literal = 2 * (new.given + 1 + place) }
 made-placed old new s place p given keys =
     let is : (gate_of old s).draft ≡ new = gate_draft old new s given keys in
     let found = gate-found new s place p.at (λ k lt. elim (bool_cases (has_sides s (get_or new.gates k s))) [
       | inl same ↦
           let within : place < length new.gates = slice_get_within new.gates place s p.at in
-          let at : slice_get new.gates k ≡ Some s = slice_get-get_or new.gates k s (omega arith) ∙ ap (λ t. Some t) (sym (same_sides s (get_or new.gates k s) same)) in
+          let at : slice_get new.gates k ≡ Some s = slice_get-get_or new.gates k s (omega arith)
+          ∙ ap (λ t. Some t) (sym (same_sides s (get_or new.gates k s) same)) in
           let one : k ≡ place = p.sound.once k place s at p.at in
           absurd (omega arith)
       | inr isnt ↦ isnt
     ]) in
     let again = gate-again old new s (subst (λ t. Extends t new) (sym is) (extends-refl new)) in
-    let literal : (gate_of old s).literal ≡ 2 * (new.given + 1 + place) = ap (λ (m : Made). m.literal) (sym again ∙ found) in
+    let literal : (gate_of old s).literal ≡ 2 * (new.given + 1 + place) =
+    ap (λ (m : Made). m.literal) (sym again ∙ found) in
     made_are (gate_of old s) (made_with new (2 * (new.given + 1 + place))) is literal

@@ -1,5 +1,6 @@
 -- A text has one answer.
-use Rattle.std.proofs.Common.{◌≡◌, ℕ, ◌≤◌, eqb, if◌then◌else◌, List, ◌∷◌, ◌++◌, slice_get, Some, Result, Ok, Err, All, refl, sym, ap, subst, ◌∙◌, arith}
+use Rattle.std.proofs.Common.{◌≡◌, ℕ, ◌≤◌, eqb, if◌then◌else◌, List, ◌∷◌, ◌++◌, slice_get, Some, Result, Ok, Err, All}
+use Rattle.std.proofs.Common.{refl, sym, ap, subst, ◌∙◌, arith}
 use Rattle.std.proofs.lemmas.List.Elements.{All-contains, Contains-append_right}
 use Rattle.std.specs.List.{Contains}
 use Rattle.ps_text.specs.Answers.{Found, AreNumbered}
@@ -15,12 +16,15 @@ use Rattle.ps_components.specs.Graphs.{Way}
 use Rattle.ps_components.specs.Orders.{IsFirstOnCycle}
 use Rattle.ps_circuit.specs.Circuits.{CircuitData, ReadsGate}
 use Rattle.ps_circuit.specs.Signs.{stream_of, aig_causes}
-use Rattle.ps_circuit.specs.Texts.{DraftData, circuit_text, IsDefined, IsFirstUndefined, ReadsCircuit, refused, undefined, cyclic, meaning}
+use Rattle.ps_circuit.specs.Texts.{DraftData, circuit_text, IsDefined, IsFirstUndefined, ReadsCircuit, refused}
+use Rattle.ps_circuit.specs.Texts.{undefined, cyclic, meaning}
 use Rattle.ps_circuit.proofs.TextLaws.{laws_text}
 
 abbrev of_number : ℕ → AigCause
-of_number n = if eqb n 61 then causes.Syntax else (if eqb n 62 then causes.Literal else (if eqb n 63 then causes.DefinedTwice
-    else (if eqb n 64 then causes.Undefined else (if eqb n 65 then causes.Cyclic else (if eqb n 66 then causes.UnsetLatch else causes.Sections)))))
+of_number n =
+    if eqb n 61 then causes.Syntax else (if eqb n 62 then causes.Literal else (if eqb n 63 then causes.DefinedTwice
+    else (if eqb n 64 then causes.Undefined else (if eqb n 65 then causes.Cyclic else
+    (if eqb n 66 then causes.UnsetLatch else causes.Sections)))))
 
 back : (f : AigCause) → of_number (cause_number f) ≡ f
 back causes.Syntax = refl
@@ -52,19 +56,27 @@ abbrev IsOkDraft : Draft → Type 0
 IsOkDraft (Ok d) = Unit {0}
 IsOkDraft (Err f) = ⊥
 
-same_draft : (text : List ℕ) (a b : Draft) → PartAnswers aig_causes circuit_text (stream_of text) a → PartAnswers aig_causes circuit_text (stream_of text) b → a ≡ b
-same_draft text a b h k = has_one_answer circuit_text.IsText (IsWrong aig_causes circuit_text) cause_number laws_text.one_value numbered (stream_of text) a b h k
+same_draft : (text : List ℕ) (a b : Draft) → PartAnswers aig_causes circuit_text (stream_of text) a →
+    PartAnswers aig_causes circuit_text (stream_of text) b → a ≡ b
+same_draft text a b h k =
+    has_one_answer circuit_text.IsText (IsWrong aig_causes circuit_text) cause_number laws_text.one_value numbered
+    (stream_of text) a b h k
 
 -- what is said of a text that has a draft
 data Settled (d : DraftData) (answer : CircuitAnswer) : Type 0 where
-  undefined_at : (l : Number) → IsFirstUndefined d.defined d.readings l → answer ≡ Err (record { cause = causes.Undefined; offset = l.offset }) → Settled d answer
-  cyclic_at : (i start : ℕ) → All (IsDefined d.defined) d.readings → IsFirstOnCycle (ReadsGate d.circuit.gates) i → slice_get d.starts i ≡ Some start →
+  undefined_at : (l : Number) → IsFirstUndefined d.defined d.readings l →
+      answer ≡ Err (record { cause = causes.Undefined; offset = l.offset }) → Settled d answer
+  cyclic_at : (i start : ℕ) → All (IsDefined d.defined) d.readings → IsFirstOnCycle (ReadsGate d.circuit.gates) i →
+      slice_get d.starts i ≡ Some start →
       answer ≡ Err (record { cause = causes.Cyclic; offset = start }) → Settled d answer
-  meant : All (IsDefined d.defined) d.readings → ((i : ℕ) → Way (ReadsGate d.circuit.gates) i i → ⊥) → answer ≡ Ok d.circuit → Settled d answer
+  meant : All (IsDefined d.defined) d.readings → ((i : ℕ) → Way (ReadsGate d.circuit.gates) i i → ⊥) →
+      answer ≡ Ok d.circuit → Settled d answer
 
 data Over (text : List ℕ) (answer : CircuitAnswer) : Type 0 where
-  first : (f : Found AigCause) → PartAnswers aig_causes circuit_text (stream_of text) (Err f) → answer ≡ Err f → Over text answer
-  draft : (d : DraftData) → PartAnswers aig_causes circuit_text (stream_of text) (Ok d) → Settled d answer → Over text answer
+  first : (f : Found AigCause) → PartAnswers aig_causes circuit_text (stream_of text) (Err f) → answer ≡ Err f →
+      Over text answer
+  draft : (d : DraftData) → PartAnswers aig_causes circuit_text (stream_of text) (Ok d) → Settled d answer →
+      Over text answer
 
 over : (text : List ℕ) (a : CircuitAnswer) → ReadsCircuit text a → Over text a
 over text a (refused f h e) = first f h e
@@ -77,21 +89,32 @@ over text a (meaning d h k n e) = draft d h (meant k n e)
 in_split : (before after : List Number) (l : Number) → Contains (before ++ l ∷ after) l
 in_split before after l = Contains-append_right before (l ∷ after) l (0, omega arith, refl)
 
-not_all : (defined : List ℕ) (readings : List Number) (l : Number) → IsFirstUndefined defined readings l → All (IsDefined defined) readings → ⊥
-not_all defined readings l u h = u.not_defined (All-contains (IsDefined defined) readings l h (subst (λ z. Contains z l) (sym u.split) (in_split u.before u.after l)))
+not_all : (defined : List ℕ) (readings : List Number) (l : Number) → IsFirstUndefined defined readings l →
+    All (IsDefined defined) readings → ⊥
+not_all defined readings l u h =
+    u.not_defined (All-contains (IsDefined defined) readings l h
+    (subst (λ z. Contains z l) (sym u.split) (in_split u.before u.after l)))
 
-same_first : (defined : List ℕ) (readings : List Number) (l m : Number) → IsFirstUndefined defined readings l → IsFirstUndefined defined readings m → l ≡ m
-same_first defined readings l m u v = go (compared u.before (l ∷ u.after) v.before (m ∷ v.after) (sym u.split ∙ v.split))
+same_first : (defined : List ℕ) (readings : List Number) (l m : Number) → IsFirstUndefined defined readings l →
+    IsFirstUndefined defined readings m → l ≡ m
+same_first defined readings l m u v =
+    go (compared u.before (l ∷ u.after) v.before (m ∷ v.after) (sym u.split ∙ v.split))
   where
     go : Compared u.before (l ∷ u.after) v.before (m ∷ v.after) → l ≡ m
     go (same e f) = same_head l m u.after v.after f
-    go (shorter t w e f) = absurd (u.not_defined (subst (IsDefined defined) (sym (same_head l t u.after (w ++ m ∷ v.after) f))
-        (All-contains (IsDefined defined) v.before t v.before_defined (subst (λ z. Contains z t) (sym e) (in_split u.before w t)))))
-    go (longer t w e f) = absurd (v.not_defined (subst (IsDefined defined) (sym (same_head m t v.after (w ++ l ∷ u.after) f))
-        (All-contains (IsDefined defined) u.before t u.before_defined (subst (λ z. Contains z t) (sym e) (in_split v.before w t)))))
+    go (shorter t w e f) =
+        absurd (u.not_defined (subst (IsDefined defined) (sym (same_head l t u.after (w ++ m ∷ v.after) f))
+        (All-contains (IsDefined defined) v.before t v.before_defined
+        (subst (λ z. Contains z t) (sym e) (in_split u.before w t)))))
+    go (longer t w e f) =
+        absurd (v.not_defined (subst (IsDefined defined) (sym (same_head m t v.after (w ++ l ∷ u.after) f))
+        (All-contains (IsDefined defined) u.before t u.before_defined
+        (subst (λ z. Contains z t) (sym e) (in_split v.before w t)))))
 
 settled : (d : DraftData) (a b : CircuitAnswer) → Settled d a → Settled d b → a ≡ b
-settled d a b (undefined_at l u e) (undefined_at m v f) = e ∙ ap (λ (n : Number). Err (record { cause = causes.Undefined; offset = n.offset })) (same_first d.defined d.readings l m u v) ∙ sym f
+settled d a b (undefined_at l u e) (undefined_at m v f) =
+    e ∙ ap (λ (n : Number). Err (record { cause = causes.Undefined; offset = n.offset }))
+    (same_first d.defined d.readings l m u v) ∙ sym f
 settled d a b (undefined_at l u e) (cyclic_at j s h c g f) = absurd (not_all d.defined d.readings l u h)
 settled d a b (undefined_at l u e) (meant h n f) = absurd (not_all d.defined d.readings l u h)
 settled d a b (cyclic_at i r k c g e) (undefined_at m v f) = absurd (not_all d.defined d.readings m v k)
@@ -107,10 +130,12 @@ settled d a b (meant k n e) (cyclic_at j s h x y f) = absurd (n j x.cyclic)
 settled d a b (meant k n e) (meant h m f) = e ∙ sym f
 
 one_over : (text : List ℕ) (a b : CircuitAnswer) → Over text a → Over text b → a ≡ b
-one_over text a b (first f h e) (first g k i) = e ∙ ap (λ r. Err (found_in f r)) (same_draft text (Err f) (Err g) h k) ∙ sym i
+one_over text a b (first f h e) (first g k i) =
+    e ∙ ap (λ r. Err (found_in f r)) (same_draft text (Err f) (Err g) h k) ∙ sym i
 one_over text a b (first f h e) (draft d k s) = absurd (subst IsOkDraft (sym (same_draft text (Err f) (Ok d) h k)) tt)
 one_over text a b (draft d h s) (first g k i) = absurd (subst IsOkDraft (same_draft text (Ok d) (Err g) h k) tt)
-one_over text a b (draft d h s) (draft x k t) = settled d a b s (subst (λ z. Settled z b) (sym (ap (draft_in d) (same_draft text (Ok d) (Ok x) h k))) t)
+one_over text a b (draft d h s) (draft x k t) =
+    settled d a b s (subst (λ z. Settled z b) (sym (ap (draft_in d) (same_draft text (Ok d) (Ok x) h k))) t)
 
 pub one_reading : (text : List ℕ) (a b : CircuitAnswer) → ReadsCircuit text a → ReadsCircuit text b → a ≡ b
 one_reading text a b h k = one_over text a b (over text a h) (over text b k)

@@ -12,7 +12,8 @@ module _ (R : ℕ → ℕ → Type 0) (n : ℕ) (falls : (i j : ℕ) → R i j �
   pub acyclic : (i : ℕ) → Way R i i → ⊥
   acyclic i w = omega (arith, way-falls i i w)
 
-  pub order-of_places : (places : List ℕ) → length places ≡ n → ((k : ℕ) → k < n → get_or places k 0 ≡ k) → IsOrder R n places
+  pub order-of_places : (places : List ℕ) → length places ≡ n → ((k : ℕ) → k < n → get_or places k 0 ≡ k) →
+      IsOrder R n places
   order-of_places places count each = record {
     within = λ k i h. (let lt = slice_get_within places k i h in let e = here k i h in omega arith);
     once = λ k l i hk hl. here k i hk ∙ sym (here l i hl);
@@ -21,7 +22,8 @@ module _ (R : ℕ → ℕ → Type 0) (n : ℕ) (falls : (i j : ℕ) → R i j �
   }
     where
       here : (k i : ℕ) → slice_get places k ≡ Some i → k ≡ i
-      here k i h = (let lt = slice_get_within places k i h in sym (each k (omega arith)) ∙ get_or_from_slice_get places k i 0 h)
+      here k i h =
+          (let lt = slice_get_within places k i h in sym (each k (omega arith)) ∙ get_or_from_slice_get places k i 0 h)
 
       there : (i : ℕ) → i < n → slice_get places i ≡ Some i
       there i lt = (let h = slice_get-get_or places i 0 (omega arith) in let e = each i lt in cc)

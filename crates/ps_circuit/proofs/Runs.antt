@@ -2,7 +2,8 @@
 --     laws_run      a run begins and goes on with the bytes that pass
 --     run_reads, run_bad      a run was passed: it is read, unless it is wrong
 --     stops_here      no sign comes with which the part begins
-use Rattle.std.proofs.Common.{◌≡◌, ℕ, suc, ◌+◌, ◌<◌, ◌≤◌, Bool, true, false, List, [], ◌∷◌, ◌++◌, length, Option, None, Some, refl, sym, ap, ap₂, subst, ◌∙◌, arith}
+use Rattle.std.proofs.Common.{◌≡◌, ℕ, suc, ◌+◌, ◌<◌, ◌≤◌, Bool, true, false, List, [], ◌∷◌, ◌++◌, length, Option, None}
+use Rattle.std.proofs.Common.{Some, refl, sym, ap, ap₂, subst, ◌∙◌, arith}
 use Rattle.ps_text.specs.Answers.{Begins, Piece, Stream, signs, first_of, next_of, offset_of}
 use Rattle.ps_text.specs.Parts.{is_cause, is_refusal, StopsAt, CleanUpTo}
 use Rattle.ps_text.specs.Readers.{StopsWith, Reads}
@@ -12,9 +13,11 @@ use Rattle.ps_text.proofs.Simple.{none_is_some, nil_is_cons}
 use Rattle.ps_text.proofs.Whole.{Own}
 use Rattle.ps_text.proofs.OneAnswer.{signs_split}
 use Rattle.ps_circuit.specs.declared.fault.AigCause.{AigCause}
-use Rattle.ps_circuit.specs.declared.fault.AigCause.TheVariants.{Syntax, Literal, DefinedTwice, Undefined, Cyclic, UnsetLatch, Sections}
+use Rattle.ps_circuit.specs.declared.fault.AigCause.TheVariants.{Syntax, Literal, DefinedTwice, Undefined, Cyclic}
+use Rattle.ps_circuit.specs.declared.fault.AigCause.TheVariants.{UnsetLatch, Sections}
 use Rattle.ps_circuit.specs.Causes.{cause_number}
-use Rattle.ps_circuit.specs.Signs.{Seen, pieces_at, bytes_of, first_at, aig_causes, Field, AllOf, StopsBefore, IsBadRun, run}
+use Rattle.ps_circuit.specs.Signs.{Seen, pieces_at, bytes_of, first_at, aig_causes, Field, AllOf, StopsBefore, IsBadRun}
+use Rattle.ps_circuit.specs.Signs.{run}
 use Rattle.ps_circuit.specs.Cursors.{Passes, place_of}
 
 abbrev pub Odd : Seen → Type 0
@@ -33,10 +36,13 @@ all_right p [] b h = h
 all_right p (x ∷ a) b h = all_right p a b h.1
 
 -- the longest run at a place is one
-pub same_run : (p : ℕ → Bool) (a b x y : List ℕ) → a ++ x ≡ b ++ y → AllOf p a → AllOf p b → StopsBefore p x → StopsBefore p y → a ≡ b
+pub same_run : (p : ℕ → Bool) (a b x y : List ℕ) → a ++ x ≡ b ++ y → AllOf p a → AllOf p b → StopsBefore p x →
+    StopsBefore p y → a ≡ b
 same_run p [] [] x y e h k s t = refl
-same_run p [] (c ∷ b) x y e h k s t = absurd (let f : p c ≡ false = subst (StopsBefore p) e s in let g : p c ≡ true = k.0 in cc)
-same_run p (c ∷ a) [] x y e h k s t = absurd (let f : p c ≡ false = subst (StopsBefore p) (sym e) t in let g : p c ≡ true = h.0 in cc)
+same_run p [] (c ∷ b) x y e h k s t =
+    absurd (let f : p c ≡ false = subst (StopsBefore p) e s in let g : p c ≡ true = k.0 in cc)
+same_run p (c ∷ a) [] x y e h k s t =
+    absurd (let f : p c ≡ false = subst (StopsBefore p) (sym e) t in let g : p c ≡ true = h.0 in cc)
 same_run p (c ∷ a) (d ∷ b) x y e h k s t =
     let head : c ≡ d = same_head c d (a ++ x) (b ++ y) e in
     ap₂ (λ z zs. z ∷ zs) head (same_run p a b x y (same_tail c d (a ++ x) (b ++ y) e) h.1 k.1 s t)
@@ -46,9 +52,11 @@ same_run p (c ∷ a) (d ∷ b) x y e h k s t =
 -- the pieces of a run, where rest stands behind it
 abbrev pub pieces_with : ℕ → List ℕ → List ℕ → List (Piece Seen)
 pieces_with at [] rest = []
-pieces_with at (b ∷ bytes) rest = record { sign = record { byte = b; at = at; behind = bytes ++ rest }; start = at } ∷ pieces_with (at + 1) bytes rest
+pieces_with at (b ∷ bytes) rest =
+    record { sign = record { byte = b; at = at; behind = bytes ++ rest }; start = at } ∷ pieces_with (at + 1) bytes rest
 
-pub pieces_split : (at : ℕ) (bytes rest : List ℕ) → pieces_at at (bytes ++ rest) ≡ pieces_with at bytes rest ++ pieces_at (at + length bytes) rest
+pub pieces_split : (at : ℕ) (bytes rest : List ℕ) → pieces_at at (bytes ++ rest) ≡ pieces_with at bytes rest ++
+    pieces_at (at + length bytes) rest
 pieces_split at [] rest = let e : at ≡ at + 0 = omega arith in ap (λ a. pieces_at a rest) e
 pieces_split at (b ∷ bytes) rest =
     let e : (at + 1) + length bytes ≡ at + suc (length bytes) = omega arith in
@@ -68,9 +76,11 @@ length_with at [] rest h = absurd (omega arith)
 length_with at (b ∷ bytes) rest h = omega arith
 
 -- the first sign sees the bytes
-pub first_sees : (at : ℕ) (bytes : List ℕ) (t : Seen) (rest : List Seen) → signs (pieces_at at bytes) ≡ t ∷ rest → bytes ≡ t.byte ∷ t.behind
+pub first_sees : (at : ℕ) (bytes : List ℕ) (t : Seen) (rest : List Seen) → signs (pieces_at at bytes) ≡ t ∷ rest →
+    bytes ≡ t.byte ∷ t.behind
 first_sees at [] t rest e = absurd (nil_is_cons t rest e)
-first_sees at (b ∷ bytes) t rest e = ap (λ (s : Seen). s.byte ∷ s.behind) (same_head _ t (signs (pieces_at (at + 1) bytes)) rest e)
+first_sees at (b ∷ bytes) t rest e =
+    ap (λ (s : Seen). s.byte ∷ s.behind) (same_head _ t (signs (pieces_at (at + 1) bytes)) rest e)
 
 pub syntax_least : (g : AigCause) → cause_number Syntax ≤ cause_number g
 syntax_least Syntax = omega arith
@@ -83,19 +93,27 @@ syntax_least Sections = omega arith
 
 -- ## A part that does not begin
 
-pub stops_here : {V : Type 0} {P : Field V} {First More : Seen → Type 0} → Laws Odd P First More ⊥ → (old : Stream Seen) → ((t : Seen) → next_of old ≡ Some t → First t → ⊥)
+pub stops_here : {V : Type 0} {P : Field V} {First More : Seen → Type 0} → Laws Odd P First More ⊥ →
+    (old : Stream Seen) → ((t : Seen) → next_of old ≡ Some t → First t → ⊥)
     → StopsWith aig_causes P old (record { cause = Syntax; offset = place_of old })
 stops_here {V} {P = P} {First = First} l old none = go old.pieces refl
   where
     clean : (all : List Seen) → CleanUpTo P all 0
     clean all front more t g e n c = absurd (omega (arith, n))
 
-    go : (ps : List (Piece Seen)) → old.pieces ≡ ps → StopsWith aig_causes P old (record { cause = Syntax; offset = place_of old })
+    go : (ps : List (Piece Seen)) → old.pieces ≡ ps → StopsWith aig_causes P old
+        (record { cause = Syntax; offset = place_of old })
     go [] e = record {
       front = [];
       rest = [];
       split = e;
-      fault = record { front = []; split = ap signs e; clean = clean (signs old.pieces); fault = is_refusal (record { before = l.some; no_text = l.null; stops = tt; no_cause = tt }) refl };
+      fault =
+          record {
+            front = [];
+            split = ap signs e;
+            clean = clean (signs old.pieces);
+            fault = is_refusal (record { before = l.some; no_text = l.null; stops = tt; no_cause = tt }) refl;
+          };
       offset = ap (λ z. offset_of z old.end) e;
     }
     go (p ∷ ps) e = record {
@@ -120,9 +138,15 @@ stops_here {V} {P = P} {First = First} l old none = go old.pieces refl
 
 module _ {V : Type 0} (p : ℕ → Bool) (see : ℕ → List ℕ → V) (Bad : List ℕ → AigCause → Type 0) where
   pub run_begins : (b : ℕ) → p b ≡ true → Begins (run p see Bad).IsText []
-  run_begins b e = record { more = record { byte = b; at = 0; behind = [] } ∷ []; value = see 0 (b ∷ []); is_text = record { some = omega arith; all = (e, tt); value = refl } }
+  run_begins b e =
+      record {
+        more = record { byte = b; at = 0; behind = [] } ∷ [];
+        value = see 0 (b ∷ []);
+        is_text = record { some = omega arith; all = (e, tt); value = refl };
+      }
 
-  head_passes : (t : Seen) (r bytes : List ℕ) → 0 < length r → AllOf p r → t.byte ∷ t.behind ≡ r ++ bytes → p t.byte ≡ true
+  head_passes : (t : Seen) (r bytes : List ℕ) → 0 < length r → AllOf p r → t.byte ∷ t.behind ≡ r ++ bytes →
+      p t.byte ≡ true
   head_passes t [] bytes l h e = absurd (omega arith)
   head_passes t (b ∷ r) bytes l h e = ap p (same_head t.byte b t.behind (r ++ bytes) e) ∙ h.0
 
@@ -135,8 +159,12 @@ module _ {V : Type 0} (p : ℕ → Bool) (see : ℕ → List ℕ → V) (Bad : L
     one_value = λ text v w h k. h.value ∙ sym k.value;
     first_text = λ t text v h. h.all.0;
     first_cause = λ t f c. let r = c.1.begins in head_passes t c.1.run r.rest r.some r.all r.split;
-    more_text = λ text more t v w h k. (all_right p (bytes_of text) (bytes_of (t ∷ more)) (subst (AllOf p) (bytes_append text (t ∷ more)) k.all)).0;
-    more_cause = λ text t v f h c. absurd (let z : 0 < length {A = Seen} [] = subst (λ (x : List Seen). 0 < length x) c.0 h.some in omega (arith, z));
+    more_text =
+        λ text more t v w h k. (all_right p (bytes_of text) (bytes_of (t ∷ more))
+        (subst (AllOf p) (bytes_append text (t ∷ more)) k.all)).0;
+    more_cause =
+        λ text t v f h c. absurd (let z : 0 < length {A = Seen} [] = subst (λ (x : List Seen). 0 < length x) c.0 h.some
+        in omega (arith, z));
     null = λ v h. omega (arith, h.some);
     behind = λ front t f c. subst (Begins (run p see Bad).IsText) (sym c.0) (run_begins b e);
     plain_text = λ front rest t v h o. none_is_some o.0 o.1;
@@ -144,12 +172,16 @@ module _ {V : Type 0} (p : ℕ → Bool) (see : ℕ → List ℕ → V) (Bad : L
   }
 
   -- what is wrong with the run that comes is the run's
-  bad_is : (old new : Stream Seen) (r : List ℕ) → Passes p old new r → (t : Seen) (rest : List Seen) (f : AigCause) → signs old.pieces ≡ t ∷ rest → IsBadRun p Bad t f → Bad r f
+  bad_is : (old new : Stream Seen) (r : List ℕ) → Passes p old new r → (t : Seen) (rest : List Seen) (f : AigCause) →
+      signs old.pieces ≡ t ∷ rest → IsBadRun p Bad t f → Bad r f
   bad_is old new r x t rest f e b =
-      let whole : r ++ x.rest ≡ t.byte ∷ t.behind = first_sees x.at (r ++ x.rest) t rest (ap signs (sym x.old_is) ∙ e) in
-      subst (λ z. Bad z f) (same_run p b.run r b.begins.rest x.rest (sym b.begins.split ∙ sym whole) b.begins.all x.all b.begins.longest x.longest) b.bad
+      let whole : r ++ x.rest ≡ t.byte ∷ t.behind =
+      first_sees x.at (r ++ x.rest) t rest (ap signs (sym x.old_is) ∙ e) in
+      subst (λ z. Bad z f) (same_run p b.run r b.begins.rest x.rest (sym b.begins.split ∙ sym whole) b.begins.all x.all
+      b.begins.longest x.longest) b.bad
 
-  pub run_reads : (old new : Stream Seen) (r : List ℕ) (v : V) → Passes p old new r → 0 < length r → ((f : AigCause) → Bad r f → ⊥) → v ≡ see (place_of old) r → Reads (run p see Bad) old v new
+  pub run_reads : (old new : Stream Seen) (r : List ℕ) (v : V) → Passes p old new r → 0 < length r →
+      ((f : AigCause) → Bad r f → ⊥) → v ≡ see (place_of old) r → Reads (run p see Bad) old v new
   run_reads old new r v x some good value = (
     record { taken = pieces_with x.at r x.rest; split = split; end = x.end },
     record {
@@ -174,12 +206,16 @@ module _ {V : Type 0} (p : ℕ → Bool) (see : ℕ → List ℕ → V) (Bad : L
       split : old.pieces ≡ pieces_with x.at r x.rest ++ new.pieces
       split = x.old_is ∙ pieces_split x.at r x.rest ∙ ap (λ z. pieces_with x.at r x.rest ++ z) (sym x.new_is)
 
-      stops : (rest : List ℕ) → StopsBefore p rest → StopsAt (run p see Bad) text (first_of (signs (pieces_at (x.at + length r) rest)))
+      stops : (rest : List ℕ) → StopsBefore p rest → StopsAt (run p see Bad) text
+          (first_of (signs (pieces_at (x.at + length r) rest)))
       stops [] s = tt
       stops (c ∷ rest) s = λ b.
           let sign : Seen = record { byte = c; at = x.at + length r; behind = rest } in
-          let one : AllOf p (bytes_of (text ++ sign ∷ []) ++ bytes_of b.more) = subst (AllOf p) (bytes_append (text ++ sign ∷ []) b.more) b.is_text.all in
-          let two : AllOf p (bytes_of text ++ c ∷ []) = subst (AllOf p) (bytes_append text (sign ∷ [])) (all_left p (bytes_of (text ++ sign ∷ [])) (bytes_of b.more) one) in
+          let one : AllOf p (bytes_of (text ++ sign ∷ []) ++ bytes_of b.more) =
+          subst (AllOf p) (bytes_append (text ++ sign ∷ []) b.more) b.is_text.all in
+          let two : AllOf p (bytes_of text ++ c ∷ []) =
+          subst (AllOf p) (bytes_append text (sign ∷ [])) (all_left p (bytes_of (text ++ sign ∷ []))
+          (bytes_of b.more) one) in
           let three : p c ≡ true = (all_right p (bytes_of text) (c ∷ []) two).0 in
           let four : p c ≡ false = s in
           absurd cc
@@ -187,11 +223,14 @@ module _ {V : Type 0} (p : ℕ → Bool) (see : ℕ → List ℕ → V) (Bad : L
       clean : CleanUpTo (run p see Bad) (signs old.pieces) (length text + 1)
       clean front more t f e l c = good f (bad_is old new r x t more f (e ∙ ap (λ z. z ++ t ∷ more) c.0) c.1)
 
-  pub run_bad : (old new : Stream Seen) (r : List ℕ) (f : AigCause) → Passes p old new r → 0 < length r → Bad r f → ((g : AigCause) → Bad r g → cause_number f ≤ cause_number g)
+  pub run_bad : (old new : Stream Seen) (r : List ℕ) (f : AigCause) → Passes p old new r → 0 < length r → Bad r f →
+      ((g : AigCause) → Bad r g → cause_number f ≤ cause_number g)
       → StopsWith aig_causes (run p see Bad) old (record { cause = f; offset = place_of old })
   run_bad old new r f x some bad least = go r x some bad least
     where
-      go : (r : List ℕ) → Passes p old new r → 0 < length r → Bad r f → ((g : AigCause) → Bad r g → cause_number f ≤ cause_number g) → StopsWith aig_causes (run p see Bad) old (record { cause = f; offset = place_of old })
+      go : (r : List ℕ) → Passes p old new r → 0 < length r → Bad r f →
+          ((g : AigCause) → Bad r g → cause_number f ≤ cause_number g) →
+          StopsWith aig_causes (run p see Bad) old (record { cause = f; offset = place_of old })
       go [] x some bad least = absurd (omega arith)
       go (b ∷ r) x some bad least =
           let sign : Seen = record { byte = b; at = x.at; behind = r ++ x.rest } in
@@ -203,16 +242,29 @@ module _ {V : Type 0} (p : ℕ → Bool) (see : ℕ → List ℕ → V) (Bad : L
               front = [];
               split = ap signs x.old_is;
               clean = λ front more t g e n c. absurd (omega (arith, n));
-              fault = is_cause sign refl (refl, record { run = b ∷ r; begins = record { rest = x.rest; split = refl; some = omega arith; all = x.all; longest = x.longest }; bad = bad })
-                  (λ g c. least g (bad_is old new (b ∷ r) x sign (signs (pieces_at (x.at + 1) (r ++ x.rest))) g (ap signs x.old_is) c.1));
+              fault =
+                  is_cause sign refl (
+                    refl,
+                    record {
+                      run = b ∷ r;
+                      begins = record
+                          { rest = x.rest; split = refl; some = omega arith; all = x.all; longest = x.longest };
+                      bad = bad;
+                    },
+                  )
+                  (λ g c. least g (bad_is old new (b ∷ r) x sign (signs (pieces_at (x.at + 1) (r ++ x.rest))) g
+                  (ap signs x.old_is) c.1));
             };
             offset = sym x.place;
           }
 
-  pub run_stops : (b : ℕ) → p b ≡ true → (old new : Stream Seen) → Passes p old new [] → StopsWith aig_causes (run p see Bad) old (record { cause = Syntax; offset = place_of old })
-  run_stops b e old new x = stops_here (laws_run b e) old (λ t n h. go x.rest x.longest t (sym (ap (λ z. first_of (signs z)) x.old_is) ∙ n) h)
+  pub run_stops : (b : ℕ) → p b ≡ true → (old new : Stream Seen) → Passes p old new [] →
+      StopsWith aig_causes (run p see Bad) old (record { cause = Syntax; offset = place_of old })
+  run_stops b e old new x =
+      stops_here (laws_run b e) old (λ t n h. go x.rest x.longest t (sym (ap (λ z. first_of (signs z)) x.old_is) ∙ n) h)
     where
-      go : (rest : List ℕ) → StopsBefore p rest → (t : Seen) → first_of (signs (pieces_at x.at rest)) ≡ Some t → p t.byte ≡ true → ⊥
+      go : (rest : List ℕ) → StopsBefore p rest → (t : Seen) → first_of (signs (pieces_at x.at rest)) ≡ Some t →
+          p t.byte ≡ true → ⊥
       go [] s t n h = none_is_some t n
       go (c ∷ rest) s t n h =
           let same : first_of (signs (pieces_at x.at (c ∷ rest))) ≡ Some t = n in
@@ -221,5 +273,7 @@ module _ {V : Type 0} (p : ℕ → Bool) (see : ℕ → List ℕ → V) (Bad : L
           let m : p c ≡ false = s in
           cc
         where
-          byte_of : (c at : ℕ) (rest : List ℕ) (t : Seen) → first_of (signs (pieces_at at (c ∷ rest))) ≡ Some t → c ≡ t.byte
-          byte_of c at rest t n = let e : Some (record { byte = c; at = at; behind = rest }) ≡ Some t = n in ap (λ (o : Option Seen). elim o as (λ _. ℕ) [ None ↦ c | Some s ↦ s.byte ]) e
+          byte_of : (c at : ℕ) (rest : List ℕ) (t : Seen) → first_of (signs (pieces_at at (c ∷ rest))) ≡ Some t →
+              c ≡ t.byte
+          byte_of c at rest t n = let e : Some (record { byte = c; at = at; behind = rest }) ≡ Some t = n in
+              ap (λ (o : Option Seen). elim o as (λ _. ℕ) [ None ↦ c | Some s ↦ s.byte ]) e

@@ -1,7 +1,8 @@
 -- The laws of the parts of an AIGER text: with which bytes each begins, and with which it goes on.
 --     Separates      a blank or a newline: what stands behind a number
 --     AtBody, AtTail      the first byte of what stands behind the first line, and behind the number lines
-use Rattle.std.proofs.Common.{◌≡◌, ℕ, zero, suc, ◌⊎◌, Bool, true, false, cond, ◌||◌, eqb, List, [], ◌∷◌, None, Some, refl, sym, ap, inl, inr, ◌∙◌, arith}
+use Rattle.std.proofs.Common.{◌≡◌, ℕ, zero, suc, ◌⊎◌, Bool, true, false, cond, ◌||◌, eqb, List, [], ◌∷◌, None, Some}
+use Rattle.std.proofs.Common.{refl, sym, ap, inl, inr, ◌∙◌, arith}
 use Rattle.std.specs.Prelude.{codes}
 use Rattle.std.proofs.lemmas.Bool.{eqb-true, eq-eqb}
 use Rattle.ps_text.specs.Parts.{NoBad, give, one, then_by, either, times, many, mapped}
@@ -15,8 +16,14 @@ use Rattle.ps_circuit.specs.declared.cursor.Number.{Number}
 use Rattle.ps_circuit.specs.declared.fault.AigCause.{AigCause}
 use Rattle.ps_circuit.specs.declared.parts.Latch.{Latch}
 use Rattle.ps_circuit.specs.declared.parts.Gate.{Gate}
-use Rattle.ps_circuit.specs.Signs.{Seen, Field, take_byte, byte, word, is_digit, is_blank, is_inner, number_at, number, gap, rest_of_line, newline, line_end, more, by_more, NoBadRun}
-use Rattle.ps_circuit.specs.Texts.{HeaderData, AnyNumber, WrongMost, WrongCount, WrongLiteral, WrongDefinition, WrongReset, sections, field, header, Lines, no_lines, next_lines, add_input, add_latch, add_output, add_gate, input_line, reset, latch_line, output_line, gate_line, Kind, OfInput, OfLatch, OfOutput, NamesData, no_names, add_name, take_kind, IsBadSymbol, symbol_line, anything, comment, DraftData, draft_of, symbols, body, circuit_text}
+use Rattle.ps_circuit.specs.Signs.{Seen, Field, take_byte, byte, word, is_digit, is_blank, is_inner, number_at, number}
+use Rattle.ps_circuit.specs.Signs.{gap, rest_of_line, newline, line_end, more, by_more, NoBadRun}
+use Rattle.ps_circuit.specs.Texts.{HeaderData, AnyNumber, WrongMost, WrongCount, WrongLiteral, WrongDefinition}
+use Rattle.ps_circuit.specs.Texts.{WrongReset, sections, field, header, Lines, no_lines, next_lines, add_input}
+use Rattle.ps_circuit.specs.Texts.{add_latch, add_output, add_gate, input_line, reset, latch_line, output_line}
+use Rattle.ps_circuit.specs.Texts.{gate_line, Kind, OfInput, OfLatch, OfOutput, NamesData, no_names, add_name}
+use Rattle.ps_circuit.specs.Texts.{take_kind, IsBadSymbol, symbol_line, anything, comment, DraftData, draft_of, symbols}
+use Rattle.ps_circuit.specs.Texts.{body, circuit_text}
 use Rattle.ps_circuit.proofs.Runs.{Odd, laws_run}
 
 -- ## Sets of signs
@@ -113,7 +120,8 @@ not_odd A t a o = none_is_some o.0 o.1
 
 module _ {A B : Type 0} {P : Field A} {Q : A → Field B} {First More First' More' : Seen → Type 0} where
   -- and neither is the second
-  pub laws_next : Laws Odd P First More ⊥ → ((a : A) → Laws Odd (Q a) First' More' ⊥) → Apart More First' → Laws Odd (then_by P Q) First More' ⊥
+  pub laws_next : Laws Odd P First More ⊥ → ((a : A) → Laws Odd (Q a) First' More' ⊥) → Apart More First' →
+      Laws Odd (then_by P Q) First More' ⊥
   laws_next l r apart = weaker (laws_then l r apart) first next (λ n. n.0)
     where
       first : (t : Seen) → Or First (When ⊥ First') t → First t
@@ -125,7 +133,8 @@ module _ {A B : Type 0} {P : Field A} {Q : A → Field B} {First More First' Mor
       next t (inr x) = absurd x.0
 
 module _ {A B : Type 0} {P : Field A} {Q : A → Field B} {First First' More' : Seen → Type 0} where
-  pub laws_tight : {Null : Type 0} → Laws Odd P First Nothing ⊥ → ((a : A) → Laws Odd (Q a) First' More' Null) → Laws Odd (then_by P Q) First More' ⊥
+  pub laws_tight : {Null : Type 0} → Laws Odd P First Nothing ⊥ → ((a : A) → Laws Odd (Q a) First' More' Null) →
+      Laws Odd (then_by P Q) First More' ⊥
   laws_tight {Null} l r = weaker (laws_then l r (λ t x y. x)) first next (λ n. n.0)
     where
       first : (t : Seen) → Or First (When ⊥ First') t → First t
@@ -153,7 +162,9 @@ seen b = record { byte = b; at = 0; behind = [] }
 
 pub laws_byte : (b : ℕ) → Laws Odd (byte b) (At b) Nothing ⊥
 unfolding byte
-laws_byte b = weaker (laws_one (take_byte b) NoBad Odd (seen b) tt (byte_taken b (seen b) refl) (not_odd (Taken (take_byte b))) (not_odd (BadSign NoBad))) first (λ t h. h) (λ n. n)
+laws_byte b =
+    weaker (laws_one (take_byte b) NoBad Odd (seen b) tt (byte_taken b (seen b) refl) (not_odd (Taken (take_byte b)))
+    (not_odd (BadSign NoBad))) first (λ t h. h) (λ n. n)
   where
     first : (t : Seen) → Or (Taken (take_byte b)) (BadSign {F = AigCause} NoBad) t → At b t
     first t (inl x) = taken_byte b t x.0 x.1
@@ -291,7 +302,8 @@ module _ {V : Type 0} {P : Field V} (l : Laws Odd P AtDigit Separates ⊥) (v : 
 
 -- ## The first line
 
-pub laws_counted : (n : ℕ) → Laws Odd (sections n) Separates Separates ⊥ → Laws Odd (then_by (number WrongCount) (λ _. sections n)) AtDigit Separates ⊥
+pub laws_counted : (n : ℕ) → Laws Odd (sections n) Separates Separates ⊥ →
+    Laws Odd (then_by (number WrongCount) (λ _. sections n)) AtDigit Separates ⊥
 laws_counted n l = laws_next (laws_number WrongCount) (λ _. l) digit_separates
 
 pub laws_sections : (n : ℕ) → Laws Odd (sections n) Separates Separates ⊥
@@ -361,17 +373,24 @@ laws_header = weaker (laws_then (laws_word (codes "aag")) (λ _. laws_header_0) 
 
 pub laws_input_line : (most : ℕ) (c : Lines ℕ) → Laws Odd (input_line most c) AtDigit Separates ⊥
 unfolding input_line
-laws_input_line most c = weaker (laws_next (laws_number (WrongDefinition most c.defined)) (λ l. laws_ended (add_input c l)) digit_separates) (λ t h. h) (λ t h. absurd h) (λ n. n)
+laws_input_line most c =
+    weaker (laws_next (laws_number (WrongDefinition most c.defined)) (λ l. laws_ended (add_input c l)) digit_separates)
+    (λ t h. h) (λ t h. absurd h) (λ n. n)
 
 pub laws_output_line : (most : ℕ) (c : Lines ℕ) → Laws Odd (output_line most c) AtDigit Separates ⊥
 unfolding output_line
-laws_output_line most c = weaker (laws_next (laws_number (WrongLiteral most)) (λ l. laws_ended (add_output c l)) digit_separates) (λ t h. h) (λ t h. absurd h) (λ n. n)
+laws_output_line most c =
+    weaker (laws_next (laws_number (WrongLiteral most)) (λ l. laws_ended (add_output c l)) digit_separates) (λ t h. h)
+    (λ t h. absurd h) (λ n. n)
 
 abbrev pub is_one : Number → Unit {0} → Bool
 is_one n u = eqb n.value 1
 
-pub laws_reset_value : (latch : ℕ) → Laws Odd (then_by (number (WrongReset latch)) (λ n. mapped (is_one n) line_end)) AtDigit Separates ⊥
-laws_reset_value latch = weaker (laws_next (laws_number (WrongReset latch)) (λ n. laws_mapped (is_one n) line_end laws_line_end) digit_separates) (λ t h. h) (λ t h. absurd h) (λ n. n)
+pub laws_reset_value : (latch : ℕ) → Laws Odd (then_by (number (WrongReset latch)) (λ n. mapped (is_one n) line_end))
+    AtDigit Separates ⊥
+laws_reset_value latch =
+    weaker (laws_next (laws_number (WrongReset latch)) (λ n. laws_mapped (is_one n) line_end laws_line_end)
+    digit_separates) (λ t h. h) (λ t h. absurd h) (λ n. n)
 
 pub laws_reset : (latch : ℕ) → Laws Odd (reset latch) Separates Separates ⊥
 unfolding reset
@@ -391,26 +410,34 @@ laws_latch_next most c l = laws_next (laws_field (WrongLiteral most)) (λ next. 
 
 pub laws_latch_line : (most : ℕ) (c : Lines Latch) → Laws Odd (latch_line most c) AtDigit Separates ⊥
 unfolding latch_line
-laws_latch_line most c = laws_next (laws_number (WrongDefinition most c.defined)) (λ l. laws_latch_next most c l) digit_separates
+laws_latch_line most c =
+    laws_next (laws_number (WrongDefinition most c.defined)) (λ l. laws_latch_next most c l) digit_separates
 
 abbrev pub gate_second : ℕ → Lines Gate → Number → Number → Field (Lines Gate)
-gate_second most c l first = then_by (field (WrongLiteral most)) (λ second. mapped (λ _. add_gate c l first second) line_end)
+gate_second most c l first =
+    then_by (field (WrongLiteral most)) (λ second. mapped (λ _. add_gate c l first second) line_end)
 
-pub laws_gate_second : (most : ℕ) (c : Lines Gate) (l first : Number) → Laws Odd (gate_second most c l first) Separates Nothing ⊥
-laws_gate_second most c l first = laws_next (laws_field (WrongLiteral most)) (λ second. laws_ended (add_gate c l first second)) digit_separates
+pub laws_gate_second : (most : ℕ) (c : Lines Gate) (l first : Number) →
+    Laws Odd (gate_second most c l first) Separates Nothing ⊥
+laws_gate_second most c l first =
+    laws_next (laws_field (WrongLiteral most)) (λ second. laws_ended (add_gate c l first second)) digit_separates
 
 abbrev pub gate_first : ℕ → Lines Gate → Number → Field (Lines Gate)
 gate_first most c l = then_by (field (WrongLiteral most)) (λ first. gate_second most c l first)
 
 pub laws_gate_first : (most : ℕ) (c : Lines Gate) (l : Number) → Laws Odd (gate_first most c l) Separates Nothing ⊥
-laws_gate_first most c l = laws_next (laws_field (WrongLiteral most)) (λ first. laws_gate_second most c l first) digit_separates
+laws_gate_first most c l =
+    laws_next (laws_field (WrongLiteral most)) (λ first. laws_gate_second most c l first) digit_separates
 
 pub laws_gate_line : (most : ℕ) (c : Lines Gate) → Laws Odd (gate_line most c) AtDigit Separates ⊥
 unfolding gate_line
-laws_gate_line most c = weaker (laws_next (laws_number (WrongDefinition most c.defined)) (λ l. laws_gate_first most c l) digit_separates) (λ t h. h) (λ t h. absurd h) (λ n. n)
+laws_gate_line most c =
+    weaker (laws_next (laws_number (WrongDefinition most c.defined)) (λ l. laws_gate_first most c l) digit_separates)
+    (λ t h. h) (λ t h. absurd h) (λ n. n)
 
 -- so many lines of one kind
-pub laws_lines : {C : Type 0} (item : C → Field C) → ((c : C) → Laws Odd (item c) AtDigit Separates ⊥) → (n : ℕ) (c : C) → Laws Odd (times n item c) AtDigit Separates (Unit {0})
+pub laws_lines : {C : Type 0} (item : C → Field C) → ((c : C) → Laws Odd (item c) AtDigit Separates ⊥) →
+    (n : ℕ) (c : C) → Laws Odd (times n item c) AtDigit Separates (Unit {0})
 laws_lines item l zero c = weaker (laws_give Odd c) (λ t h. absurd h) (λ t h. absurd h) (λ n. n)
 laws_lines item l (suc n) c = weaker (laws_then (l c) (λ d. laws_lines item l n d) separates_digit) first next (λ n. tt)
   where
@@ -427,7 +454,8 @@ laws_lines item l (suc n) c = weaker (laws_then (l c) (λ d. laws_lines item l n
 kind_at : (s : Seen) (k : Kind) → take_kind s ≡ Some k → AtKind s
 kind_at s k e = go (eqb s.byte 105) (eqb s.byte 108) (eqb s.byte 111) refl refl refl e
   where
-    go : (x y z : Bool) → eqb s.byte 105 ≡ x → eqb s.byte 108 ≡ y → eqb s.byte 111 ≡ z → cond x (Some OfInput) (cond y (Some OfLatch) (cond z (Some OfOutput) None)) ≡ Some k → AtKind s
+    go : (x y z : Bool) → eqb s.byte 105 ≡ x → eqb s.byte 108 ≡ y → eqb s.byte 111 ≡ z →
+        cond x (Some OfInput) (cond y (Some OfLatch) (cond z (Some OfOutput) None)) ≡ Some k → AtKind s
     go true y z e f g h = inl (eqb-true s.byte 105 e)
     go false true z e f g h = inr (inl (eqb-true s.byte 108 f))
     go false false true e f g h = inr (inr (eqb-true s.byte 111 g))
@@ -437,7 +465,9 @@ abbrev pub letter : NamesData → Field Kind
 letter names = one take_kind (IsBadSymbol names)
 
 pub laws_letter : (names : NamesData) → Laws Odd (letter names) AtKind Nothing ⊥
-laws_letter names = weaker (laws_one take_kind (IsBadSymbol names) Odd (seen 105) OfInput refl (not_odd (Taken take_kind)) (not_odd (BadSign (IsBadSymbol names)))) first (λ t h. h) (λ n. n)
+laws_letter names =
+    weaker (laws_one take_kind (IsBadSymbol names) Odd (seen 105) OfInput refl (not_odd (Taken take_kind))
+    (not_odd (BadSign (IsBadSymbol names)))) first (λ t h. h) (λ n. n)
   where
     first : (t : Seen) → Or (Taken take_kind) (BadSign (IsBadSymbol names)) t → AtKind t
     first t (inl x) = kind_at t x.0 x.1
@@ -455,13 +485,16 @@ symbol_space names kind k = then_by (byte 32) (λ _. symbol_name names kind k)
 abbrev pub symbol_number : NamesData → Kind → Field NamesData
 symbol_number names kind = then_by (number AnyNumber) (λ k. symbol_space names kind k)
 
-pub laws_symbol_end : (names : NamesData) (kind : Kind) (k : Number) (name : List ℕ) → Laws Odd (symbol_end names kind k name) (At 10) Nothing ⊥
+pub laws_symbol_end : (names : NamesData) (kind : Kind) (k : Number) (name : List ℕ) →
+    Laws Odd (symbol_end names kind k name) (At 10) Nothing ⊥
 laws_symbol_end names kind k name = laws_mapped (λ _. add_name names kind k.value name) newline laws_newline
 
-pub laws_symbol_name : (names : NamesData) (kind : Kind) (k : Number) → Laws Odd (symbol_name names kind k) AtInner Nothing ⊥
+pub laws_symbol_name : (names : NamesData) (kind : Kind) (k : Number) →
+    Laws Odd (symbol_name names kind k) AtInner Nothing ⊥
 laws_symbol_name names kind k = laws_next laws_rest (λ name. laws_symbol_end names kind k name) inner_newline
 
-pub laws_symbol_space : (names : NamesData) (kind : Kind) (k : Number) → Laws Odd (symbol_space names kind k) (At 32) Nothing ⊥
+pub laws_symbol_space : (names : NamesData) (kind : Kind) (k : Number) →
+    Laws Odd (symbol_space names kind k) (At 32) Nothing ⊥
 laws_symbol_space names kind k = laws_tight (laws_byte 32) (λ _. laws_symbol_name names kind k)
 
 pub laws_symbol_number : (names : NamesData) (kind : Kind) → Laws Odd (symbol_number names kind) AtDigit Nothing ⊥
@@ -478,7 +511,9 @@ abbrev pub any_sign : Unit {0} → Field (Unit {0})
 any_sign u = one (λ s. Some tt) NoBad
 
 pub laws_any_sign : (u : Unit {0}) → Laws Odd (any_sign u) Any Nothing ⊥
-laws_any_sign u = weaker (laws_one {F = AigCause} (λ (s : Seen). Some tt) NoBad Odd (seen 0) tt refl (not_odd (Taken (λ (s : Seen). Some tt))) (not_odd (BadSign NoBad))) (λ t h. tt) (λ t h. h) (λ n. n)
+laws_any_sign u =
+    weaker (laws_one {F = AigCause} (λ (s : Seen). Some tt) NoBad Odd (seen 0) tt refl
+    (not_odd (Taken (λ (s : Seen). Some tt))) (not_odd (BadSign NoBad))) (λ t h. tt) (λ t h. h) (λ n. n)
 
 pub laws_anything : Laws Odd anything Any Any (Unit {0})
 unfolding anything
@@ -522,13 +557,15 @@ module _ (most : ℕ) (i : Lines ℕ) (l : Lines Latch) (o : Lines ℕ) (a : Lin
 
   pub laws_symbols : Laws Odd (symbols most i l o a) AtTail Any (Unit {0})
   unfolding symbols
-  laws_symbols = weaker (laws_then (laws_names first_names) (λ names. laws_closing names) kind_comment) first (λ t h. tt) (λ n. tt)
+  laws_symbols =
+      weaker (laws_then (laws_names first_names) (λ names. laws_closing names) kind_comment) first (λ t h. tt) (λ n. tt)
     where
       first : (t : Seen) → Or AtKind (When (Unit {0}) (At 99)) t → AtTail t
       first t (inl x) = inl x
       first t (inr x) = inr x.1
 
-module _ {C : Type 0} {item : C → Field C} (l : (c : C) → Laws Odd (item c) AtDigit Separates ⊥) (n : ℕ) (c : C) {Q : C → Field DraftData} {Null : Type 0} (r : (d : C) → Laws Odd (Q d) AtBody Any Null) where
+module _ {C : Type 0} {item : C → Field C} (l : (c : C) → Laws Odd (item c) AtDigit Separates ⊥) (n : ℕ) (c : C)
+    {Q : C → Field DraftData} {Null : Type 0} (r : (d : C) → Laws Odd (Q d) AtBody Any Null) where
   pub joint_lines : Joint (times n item c) (λ d. Q d)
   joint_lines = joint (laws_lines item l n c) r separates_body
 
@@ -549,10 +586,12 @@ module _ (h : HeaderData) where
   abbrev pub body_latches : Lines ℕ → Field DraftData
   body_latches i = then_by (times h.latches (latch_line h.most) (next_lines i)) (λ l. body_outputs i l)
 
-  pub laws_behind_gates : (i : Lines ℕ) (l : Lines Latch) (o : Lines ℕ) (a : Lines Gate) → Laws Odd (symbols h.most i l o a) AtBody Any (Unit {0})
+  pub laws_behind_gates : (i : Lines ℕ) (l : Lines Latch) (o : Lines ℕ) (a : Lines Gate) →
+      Laws Odd (symbols h.most i l o a) AtBody Any (Unit {0})
   laws_behind_gates i l o a = weaker (laws_symbols h.most i l o a) (λ t h. inr h) (λ t h. h) (λ n. n)
 
-  pub laws_body_gates : (i : Lines ℕ) (l : Lines Latch) (o : Lines ℕ) → Laws Odd (body_gates i l o) AtBody Any (Unit {0})
+  pub laws_body_gates : (i : Lines ℕ) (l : Lines Latch) (o : Lines ℕ) →
+      Laws Odd (body_gates i l o) AtBody Any (Unit {0})
   laws_body_gates i l o = laws_with_lines (laws_gate_line h.most) h.gates (next_lines o) (laws_behind_gates i l o)
 
   pub laws_body_outputs : (i : Lines ℕ) (l : Lines Latch) → Laws Odd (body_outputs i l) AtBody Any (Unit {0})

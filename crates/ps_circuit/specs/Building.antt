@@ -1,10 +1,12 @@
 -- Gates made one after another.
---     Drafted      how many variables are no gates, and the two literals of each gate; the gates' variables come next, in order
+--     Drafted      how many variables are no gates, and the two literals of each gate; the gates' variables come next,
+--               in order
 --     bit v literal      the bit of a literal, where each variable has one
 --     Meets d v      variable 0 is false, and each gate is the conjunction of its two literals
 --     Extends old new      the gates that were there are there, at their variables
 --     IsSoundDraft d      what is true of the gates of a builder
-use Rattle.std.specs.Prelude.{◌≡◌, ◌≢◌, ℕ, ◌+◌, ◌^◌, ◌<◌, ◌≤◌, ◌&&◌, Bool, false, not, if◌then◌else◌, List, length, slice_get, Some}
+use Rattle.std.specs.Prelude.{◌≡◌, ◌≢◌, ℕ, ◌+◌, ◌^◌, ◌<◌, ◌≤◌, ◌&&◌, Bool, false, not, if◌then◌else◌, List, length}
+use Rattle.std.specs.Prelude.{slice_get, Some}
 use Rattle.ps_circuit.specs.declared.builder.Sides.{Sides}
 use Rattle.ps_circuit.specs.Literals.{is_negated, variable}
 
@@ -25,7 +27,8 @@ bit v literal = if is_negated literal then not (v (variable literal)) else v (va
 
 pub record Meets (d : Drafted) (v : ℕ → Bool) : Type 0 where
   pub constant : v 0 ≡ false
-  pub each : (k : ℕ) (s : Sides) → slice_get d.gates k ≡ Some s → v (d.given + 1 + k) ≡ (bit v s.first && bit v s.second)
+  pub each : (k : ℕ) (s : Sides) → slice_get d.gates k ≡ Some s →
+      v (d.given + 1 + k) ≡ (bit v s.first && bit v s.second)
 
 pub record Extends (old new : Drafted) : Type 0 where
   pub given : new.given ≡ old.given

@@ -1,7 +1,8 @@
 -- The names of the causes by which the text of a circuit is refused.
 use Rattle.std.specs.Prelude.{ℕ, List, codes}
 use Rattle.ps_circuit.specs.declared.fault.AigCause.{AigCause}
-use Rattle.ps_circuit.specs.declared.fault.AigCause.TheVariants.{Syntax, Literal, DefinedTwice, Undefined, Cyclic, UnsetLatch, Sections}
+use Rattle.ps_circuit.specs.declared.fault.AigCause.TheVariants.{Syntax, Literal, DefinedTwice, Undefined, Cyclic}
+use Rattle.ps_circuit.specs.declared.fault.AigCause.TheVariants.{UnsetLatch, Sections}
 
 abbrev pub cause_name : AigCause → List ℕ
 cause_name Syntax = codes "Syntax"

@@ -1,9 +1,11 @@
 -- What a circuit is.
---     CircuitData      the value of a circuit: its greatest variable, its literals, and a name or none for each input, latch and output
+--     CircuitData      the value of a circuit: its greatest variable, its literals, and a name or none for each input,
+--               latch and output
 --     definitions, readings      the literals that define a variable, and those that are read
 --     ReadsGate gates i j, Way      one gate reads another; it depends on it
 --     IsDraft, IsCircuit      all but that no gate depends on itself; the whole
-use Rattle.std.specs.Prelude.{◌≡◌, ◌≢◌, ℕ, ◌+◌, ◌*◌, ◌%◌, ◌<◌, ◌≤◌, ◌⊎◌, ◌^◌, List, [], ◌∷◌, ◌++◌, length, map, slice_get, Option, None, Some, All, AllPairs, Contains}
+use Rattle.std.specs.Prelude.{◌≡◌, ◌≢◌, ℕ, ◌+◌, ◌*◌, ◌%◌, ◌<◌, ◌≤◌, ◌⊎◌, ◌^◌, List, [], ◌∷◌, ◌++◌, length, map}
+use Rattle.std.specs.Prelude.{slice_get, Option, None, Some, All, AllPairs, Contains}
 use Rattle.std.specs.List.{flat_map}
 use Rattle.ps_circuit.specs.declared.parts.Latch.{Latch}
 use Rattle.ps_circuit.specs.declared.parts.Gate.{Gate}

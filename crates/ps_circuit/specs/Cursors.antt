@@ -1,7 +1,8 @@
 -- What the private functions of the reader say of the signs that they pass.
 --     Passes p old new run      the run of bytes that pass p was passed, or nothing where none comes
 --     TellsNumber old result new      a number was passed, or none comes
-use Rattle.std.specs.Prelude.{◌≡◌, ℕ, ◌+◌, ◌-◌, ◌^◌, ◌<◌, Bool, true, false, List, [], ◌∷◌, ◌++◌, length, Option, Result, Ok, Err, min}
+use Rattle.std.specs.Prelude.{◌≡◌, ℕ, ◌+◌, ◌-◌, ◌^◌, ◌<◌, Bool, true, false, List, [], ◌∷◌, ◌++◌, length, Option}
+use Rattle.std.specs.Prelude.{Result, Ok, Err, min}
 use Rattle.std.specs.Option.{option_map}
 use Rattle.ps_text.specs.Answers.{Stream, offset_of, next_of}
 use Rattle.ps_text.specs.Readers.{Meets}

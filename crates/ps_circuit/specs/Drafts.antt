@@ -29,4 +29,5 @@ place_in variables v = position (λ other. v == other) variables
 
 -- place by place, the gates that each gate reads
 abbrev pub links_by : (ℕ → Option ℕ) → List Gate → List Links
-links_by place_of gates = map (λ g. record { first = place_of (variable g.first); second = place_of (variable g.second) }) gates
+links_by place_of gates =
+    map (λ g. record { first = place_of (variable g.first); second = place_of (variable g.second) }) gates

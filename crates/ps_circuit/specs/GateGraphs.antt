@@ -14,7 +14,8 @@ target_of None place = None
 target_of (Some sides) place = side_of sides place
 
 abbrev pub graph_of : List Links → Digraph
-graph_of links = record { count = length links; degree = λ _. 2; target = λ i place. target_of (slice_get links i) place }
+graph_of links =
+    record { count = length links; degree = λ _. 2; target = λ i place. target_of (slice_get links i) place }
 
 -- the links are from each gate to those that it reads
 pub record AreLinksOf (gates : List Gate) (links : List Links) : Type 0 where

@@ -1,5 +1,6 @@
 -- What the reader keeps true of the names that it has read.
-use Rattle.std.specs.Prelude.{◌≡◌, ℕ, Bool, false, ◌==◌, ◌||◌, [], map, replicate, All, vec_len, Option, None, Some, Result, Ok, Err}
+use Rattle.std.specs.Prelude.{◌≡◌, ℕ, Bool, false, ◌==◌, ◌||◌, [], map, replicate, All, vec_len, Option, None, Some}
+use Rattle.std.specs.Prelude.{Result, Ok, Err}
 use Rattle.ps_text.specs.Answers.{Stream}
 use Rattle.ps_text.specs.Readers.{Reads}
 use Rattle.ps_circuit.specs.Causes.{AigFault}
@@ -13,7 +14,12 @@ use Rattle.ps_circuit.specs.Signs.{Seen}
 use Rattle.ps_circuit.specs.Texts.{NamesData, comment}
 
 abbrev pub names_data : Names → NamesData
-names_data n = record { inputs = map name_bytes n.inputs.items; latches = map name_bytes n.latches.items; outputs = map name_bytes n.outputs.items }
+names_data n =
+    record {
+      inputs = map name_bytes n.inputs.items;
+      latches = map name_bytes n.latches.items;
+      outputs = map name_bytes n.outputs.items;
+    }
 
 -- a name or none for each of so many inputs, latches and outputs
 pub record AreNames (n : Names) (inputs latches outputs : ℕ) : Type 0 where

@@ -1,9 +1,11 @@
 -- What the private functions of the reader say of what they have read.
 --     lines_of items noted      what was read of the lines of one kind
---     TellsField, TellsCount, TellsHeader, TellsDraft      what reading a number behind a gap, a count, the first line and a text answers
+--     TellsField, TellsCount, TellsHeader, TellsDraft      what reading a number behind a gap, a count, the first line
+--               and a text answers
 --     AddsInput, AddsLatch, AddsOutput, AddsGate      one line more
 --     IsRow, Grown      lines that are read one behind another; any number of lines more
-use Rattle.std.specs.Prelude.{◌≡◌, ◌≢◌, ℕ, ◌-◌, ◌<◌, ◌⊎◌, Bool, List, [], ◌∷◌, ◌++◌, slice_index_or, slice_get, length, map, All, AllPairs, Contains, Option, None, Some, Result, Ok, Err}
+use Rattle.std.specs.Prelude.{◌≡◌, ◌≢◌, ℕ, ◌-◌, ◌<◌, ◌⊎◌, Bool, List, [], ◌∷◌, ◌++◌, slice_index_or, slice_get, length}
+use Rattle.std.specs.Prelude.{map, All, AllPairs, Contains, Option, None, Some, Result, Ok, Err}
 use Rattle.ps_text.specs.Answers.{Stream, Found}
 use Rattle.ps_text.specs.Parts.{PartAnswers, times}
 use Rattle.ps_text.specs.Readers.{Reads as ReadsPart, Stops, Goes}
@@ -13,7 +15,8 @@ use Rattle.ps_circuit.specs.Literals.{variable}
 use Rattle.ps_circuit.specs.Drafts.{data_of}
 use Rattle.ps_circuit.specs.Signs.{Seen, Field, aig_causes, gap, stream_of}
 use Rattle.ps_circuit.specs.Cursors.{found_of, saturated, NumberIs, TellsNumber}
-use Rattle.ps_circuit.specs.Texts.{AnyNumber, HeaderData, header, field, Lines, add_input, add_latch, add_output, add_gate, DraftData, circuit_text, IsFirstUndefined, IsDefined}
+use Rattle.ps_circuit.specs.Texts.{AnyNumber, HeaderData, header, field, Lines, add_input, add_latch, add_output}
+use Rattle.ps_circuit.specs.Texts.{add_gate, DraftData, circuit_text, IsFirstUndefined, IsDefined}
 use Rattle.ps_circuit.specs.declared.cursor.Number.{Number}
 use Rattle.ps_circuit.specs.Causes.{AigFault}
 use Rattle.ps_text.specs.declared.faults.Fault.TheVariants.{Text}
@@ -44,7 +47,9 @@ IsKnownIn variables literal = (variable literal ≡ 0) ⊎ Contains variables (v
 
 abbrev pub TellsField : Stream Seen → Result Number AigFault → Stream Seen → Type 0
 TellsField old (Ok n) new = (mid : Stream Seen) × ReadsPart gap old tt mid × NumberIs mid new n
-TellsField old (Err e) new = Stops aig_causes gap old (found_of e) ⊎ ((mid : Stream Seen) × ReadsPart gap old tt mid × TellsNumber mid (Err e) new)
+TellsField old (Err e) new =
+    Stops aig_causes gap old (found_of e) ⊎ ((mid : Stream Seen) × ReadsPart gap old tt mid ×
+    TellsNumber mid (Err e) new)
 
 abbrev pub TellsCount : Stream Seen → Result ℕ AigFault → Stream Seen → Type 0
 TellsCount old (Ok n) new = (v : Number) × (n ≡ saturated v.value) × ReadsPart (field AnyNumber) old v new
@@ -64,7 +69,8 @@ TellsHeader old (Err e) new = Stops aig_causes header old (found_of e)
 -- ## Number lines
 
 abbrev pub lines_of : {A : Type 0} → List A → Noted → Lines A
-lines_of items noted = record { items = items; defined = noted.variables; readings = noted.readings.items; starts = noted.starts.items }
+lines_of items noted =
+    record { items = items; defined = noted.variables; readings = noted.readings.items; starts = noted.starts.items }
 
 -- a line more of each kind; a literal that defines its variable is new
 pub record AddsInput (most : ℕ) (c d : Lines ℕ) : Type 0 where
@@ -93,9 +99,11 @@ pub record AddsGate (most : ℕ) (c d : Lines Gate) : Type 0 where
 -- lines that are read one behind another: each takes a sign, and behind a line the others are read
 pub record IsRow {C : Type 0} (line : C → Field C) : Type 0 where
   pub takes : (c d : C) (old new : Stream Seen) → ReadsPart (line c) old d new → length new.pieces < length old.pieces
-  pub goes_on : (n : ℕ) (c d : C) (old mid new : Stream Seen) (r : Result C (Option (Found AigCause))) → 0 < n → ReadsPart (line c) old d mid →
+  pub goes_on : (n : ℕ) (c d : C) (old mid new : Stream Seen) (r : Result C (Option (Found AigCause))) → 0 < n →
+      ReadsPart (line c) old d mid →
       Goes aig_causes (times (n - 1) line d) mid r new → Goes aig_causes (times n line c) old r new
-  pub fails : (n : ℕ) (c : C) (old : Stream Seen) (o : Option (Found AigCause)) → 0 < n → Stops aig_causes (line c) old o → Stops aig_causes (times n line c) old o
+  pub fails : (n : ℕ) (c : C) (old : Stream Seen) (o : Option (Found AigCause)) → 0 < n →
+      Stops aig_causes (line c) old o → Stops aig_causes (times n line c) old o
 
 pub data Grown {C : Type 0} (Adds : C → C → Type 0) (c : C) : C → Type 0 where
   none : Grown Adds c c
@@ -103,13 +111,20 @@ pub data Grown {C : Type 0} (Adds : C → C → Type 0) (c : C) : C → Type 0 w
 
 -- ## The text
 
--- where each literal that is read is defined, the circuit is one but that a gate may depend on itself; and each gate has its line
+-- where each literal that is read is defined, the circuit is one but that a gate may depend on itself; and each gate
+-- has its line
 pub record IsSoundDraft (d : DraftData) : Type 0 where
   pub draft : All (IsDefined d.defined) d.readings → IsDraft d.circuit
   pub starts : length d.starts ≡ length d.circuit.gates
 
 abbrev pub draft_data : Draft → DraftData
-draft_data d = record { circuit = data_of d.parts; defined = d.noted.variables; readings = d.noted.readings.items; starts = d.noted.starts.items }
+draft_data d =
+    record {
+      circuit = data_of d.parts;
+      defined = d.noted.variables;
+      readings = d.noted.readings.items;
+      starts = d.noted.starts.items;
+    }
 
 abbrev pub FoundAnswers : List ℕ → Option (Found AigCause) → Type 0
 FoundAnswers text None = Unit {0}
@@ -122,9 +137,11 @@ TellsDraft text (Err e) = FoundAnswers text (found_of e)
 -- the refusal of the first literal that is not defined
 abbrev pub TellsDefined : List ℕ → List Number → Result (Unit {0}) AigFault → Type 0
 TellsDefined defined readings (Ok u) = All (IsDefined defined) readings
-TellsDefined defined readings (Err e) = (l : Number) × (e ≡ Text Undefined l.offset) × IsFirstUndefined defined readings l
+TellsDefined defined readings (Err e) =
+    (l : Number) × (e ≡ Text Undefined l.offset) × IsFirstUndefined defined readings l
 
 -- the refusal of the first gate that depends on itself
 abbrev pub TellsCyclic : List Gate → List ℕ → Option (Found AigCause) → Type 0
 TellsCyclic gates starts None = Unit {0}
-TellsCyclic gates starts (Some found) = (i : ℕ) × (found.cause ≡ Cyclic) × IsFirstOnCycle (ReadsGate gates) i × (slice_get starts i ≡ Some found.offset)
+TellsCyclic gates starts (Some found) =
+    (i : ℕ) × (found.cause ≡ Cyclic) × IsFirstOnCycle (ReadsGate gates) i × (slice_get starts i ≡ Some found.offset)

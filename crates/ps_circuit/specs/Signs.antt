@@ -1,10 +1,12 @@
 -- The signs of an AIGER text, and the parts that are made of single bytes and of runs of bytes (`ps_text`).
---     stream_of text      the signs of a text. Where its last line has no newline, one is read behind it, at the offset of the end
---     run p see Bad      the longest run of bytes that pass p, at least one. Its value is see at its offset and its bytes. Bad says
---               what may be wrong with it; it is wrong at its first byte, whatever stands behind it
+--     stream_of text      the signs of a text. Where its last line has no newline, one is read behind it, at the offset
+--               of the end
+--     run p see Bad      the longest run of bytes that pass p, at least one. Its value is see at its offset and its
+--               bytes. Bad says what may be wrong with it; it is wrong at its first byte, whatever stands behind it
 --     number Wrong      the longest run of digits, leading zeros and all; Wrong says which numbers are wrong
 --     gap, newline, line_end, more      what stands between the fields of a line and at its end
-use Rattle.std.specs.Prelude.{◌≡◌, ℕ, ◌+◌, ◌<◌, Bool, true, false, List, [], ◌∷◌, ◌++◌, length, map, Option, None, Some, ◌==◌, ◌&&◌, ◌||◌, nat_le, not, if◌then◌else◌}
+use Rattle.std.specs.Prelude.{◌≡◌, ℕ, ◌+◌, ◌<◌, Bool, true, false, List, [], ◌∷◌, ◌++◌, length, map, Option, None, Some}
+use Rattle.std.specs.Prelude.{◌==◌, ◌&&◌, ◌||◌, nat_le, not, if◌then◌else◌}
 use Rattle.std.specs.List.{AllByRecursion}
 use Rattle.ps_text.specs.Answers.{Piece, Stream}
 use Rattle.ps_text.specs.Parts.{Part, Causes, NoBad, give, one, then_by, either, mapped}
@@ -22,7 +24,8 @@ pub record Seen : Type 0 where
 
 abbrev pub pieces_at : ℕ → List ℕ → List (Piece Seen)
 pieces_at at [] = []
-pieces_at at (b ∷ bytes) = record { sign = record { byte = b; at = at; behind = bytes }; start = at } ∷ pieces_at (at + 1) bytes
+pieces_at at (b ∷ bytes) =
+    record { sign = record { byte = b; at = at; behind = bytes }; start = at } ∷ pieces_at (at + 1) bytes
 
 -- the last byte is a newline
 abbrev pub ends_line : List ℕ → Bool

@@ -6,20 +6,23 @@
 --     A lines   lhs rhs0 rhs1
 --     symbols   iK name | lK name | oK name
 --     c         and then anything
--- A field of a number line stands behind a gap: spaces or tabs, at least one. A number line may end with a gap. Numbers may be
--- of any size and have leading zeros; the last newline may be missing. I, L, O and A say how many lines there are, whatever
--- their size. A name is what stands behind one space up to the end of the line, at least one byte.
---     61 (`Syntax`)      a byte, or an end, that can't stand there; the letter of a symbol whose K is too large or has a name
---     62 (`Literal`)      a literal above 2M + 1; an M of 2^31 or more; an input, latch or left side that is odd or below 2; a
---               reset that is not 0, 1 or the latch
+-- A field of a number line stands behind a gap: spaces or tabs, at least one. A number line may end with a gap. Numbers
+-- may be of any size and have leading zeros; the last newline may be missing. I, L, O and A say how many lines there
+-- are, whatever their size. A name is what stands behind one space up to the end of the line, at least one byte.
+--     61 (`Syntax`)      a byte, or an end, that can't stand there; the letter of a symbol whose K is too large or has
+--               a name
+--     62 (`Literal`)      a literal above 2M + 1; an M of 2^31 or more; an input, latch or left side that is odd or
+--               below 2; a reset that is not 0, 1 or the latch
 --     63 (`DefinedTwice`)      an input, latch or left side whose variable was defined before
 --     66 (`UnsetLatch`)      a reset that is the latch
 --     67 (`Sections`)      a B, C, J or F that is not 0
--- Each stands at the first digit of its number. The first of these in the text is answered, and of two at one place the smaller
--- number. Where there is none,
+-- Each stands at the first digit of its number. The first of these in the text is answered, and of two at one place the
+-- smaller number. Where there is none,
 --     64 (`Undefined`)      the first literal that is read and whose variable is neither defined nor 0, and else
 --     65 (`Cyclic`)      the line of the first gate that depends on itself
-use Rattle.std.specs.Prelude.{◌≡◌, ◌≢◌, ℕ, zero, suc, ◌+◌, ◌*◌, ◌^◌, ◌<◌, ◌≤◌, ◌⊎◌, List, [], ◌∷◌, ◌++◌, Bool, false, map, codes, slice_get, slice_set, All, Contains, Option, Some, None, Result, Ok, Err, ◌==◌, if◌then◌else◌}
+use Rattle.std.specs.Prelude.{◌≡◌, ◌≢◌, ℕ, zero, suc, ◌+◌, ◌*◌, ◌^◌, ◌<◌, ◌≤◌, ◌⊎◌, List, [], ◌∷◌, ◌++◌, Bool, false}
+use Rattle.std.specs.Prelude.{map, codes, slice_get, slice_set, All, Contains, Option, Some, None, Result, Ok, Err}
+use Rattle.std.specs.Prelude.{◌==◌, if◌then◌else◌}
 use Rattle.ps_text.specs.Answers.{Found}
 use Rattle.ps_text.specs.Parts.{PartAnswers, NoBad, give, one, then_by, either, times, many, mapped}
 use Rattle.ps_text.specs.Digits.{decimal_value}
@@ -27,10 +30,12 @@ use Rattle.ps_components.specs.Graphs.{Way}
 use Rattle.ps_components.specs.Orders.{IsFirstOnCycle}
 use Rattle.ps_circuit.specs.Circuits.{CircuitData, IsDefinition, ReadsGate}
 use Rattle.ps_circuit.specs.Literals.{variable}
-use Rattle.ps_circuit.specs.Signs.{Seen, stream_of, aig_causes, Field, BeginsRun, is_digit, byte, word, number, gap, rest_of_line, newline, line_end, more, by_more}
+use Rattle.ps_circuit.specs.Signs.{Seen, stream_of, aig_causes, Field, BeginsRun, is_digit, byte, word, number, gap}
+use Rattle.ps_circuit.specs.Signs.{rest_of_line, newline, line_end, more, by_more}
 use Rattle.ps_circuit.specs.declared.cursor.Number.{Number}
 use Rattle.ps_circuit.specs.declared.fault.AigCause.{AigCause}
-use Rattle.ps_circuit.specs.declared.fault.AigCause.TheVariants.{Syntax, Literal, DefinedTwice, Undefined, Cyclic, UnsetLatch, Sections}
+use Rattle.ps_circuit.specs.declared.fault.AigCause.TheVariants.{Syntax, Literal, DefinedTwice, Undefined, Cyclic}
+use Rattle.ps_circuit.specs.declared.fault.AigCause.TheVariants.{UnsetLatch, Sections}
 use Rattle.ps_circuit.specs.Causes.{AigFault}
 use Rattle.ps_text.specs.Faults.{UnlessMemory}
 use Rattle.ps_circuit.specs.declared.parts.Latch.{Latch}
@@ -51,7 +56,8 @@ abbrev pub WrongLiteral : ℕ → ℕ → AigCause → Type 0
 WrongLiteral most n f = (2 * most + 1 < n) × (f ≡ Literal)
 
 abbrev pub WrongDefinition : ℕ → List ℕ → ℕ → AigCause → Type 0
-WrongDefinition most defined n f = ((¬ IsDefinition most n) × (f ≡ Literal)) ⊎ (Contains defined (variable n) × (f ≡ DefinedTwice))
+WrongDefinition most defined n f =
+    ((¬ IsDefinition most n) × (f ≡ Literal)) ⊎ (Contains defined (variable n) × (f ≡ DefinedTwice))
 
 abbrev pub WrongReset : ℕ → ℕ → AigCause → Type 0
 WrongReset latch n f = ((n ≡ latch) × (f ≡ UnsetLatch)) ⊎ ((2 ≤ n) × (n ≢ latch) × (f ≡ Literal))
@@ -77,13 +83,15 @@ field Wrong = then_by gap (λ _. number Wrong)
 unfoldable pub header : Field HeaderData
 header =
     then_by (word (codes "aag")) (λ _. then_by (field WrongMost) (λ m.
-    then_by (field AnyNumber) (λ i. then_by (field AnyNumber) (λ l. then_by (field AnyNumber) (λ o. then_by (field AnyNumber) (λ a.
-    mapped (λ _. record { most = m.value; inputs = i.value; latches = l.value; outputs = o.value; gates = a.value }) (sections 4)))))))
+    then_by (field AnyNumber) (λ i. then_by (field AnyNumber) (λ l.
+    then_by (field AnyNumber) (λ o. then_by (field AnyNumber) (λ a.
+    mapped (λ _. record { most = m.value; inputs = i.value; latches = l.value; outputs = o.value; gates = a.value })
+    (sections 4)))))))
 
 -- ## Number lines
 
--- what was read of some lines of one kind: their items, the variables that were defined up to there, and the literals that were
--- read up to there, and of the gates the offset of each line
+-- what was read of some lines of one kind: their items, the variables that were defined up to there, and the literals
+-- that were read up to there, and of the gates the offset of each line
 pub record Lines (A : Type 0) : Type 0 where
   pub items : List A
   pub defined : List ℕ
@@ -98,7 +106,13 @@ abbrev pub next_lines : {A B : Type 0} → Lines A → Lines B
 next_lines c = record { items = []; defined = c.defined; readings = c.readings; starts = c.starts }
 
 abbrev pub add_input : Lines ℕ → Number → Lines ℕ
-add_input c l = record { items = c.items ++ l.value ∷ []; defined = c.defined ++ variable l.value ∷ []; readings = c.readings; starts = c.starts }
+add_input c l =
+    record {
+      items = c.items ++ l.value ∷ [];
+      defined = c.defined ++ variable l.value ∷ [];
+      readings = c.readings;
+      starts = c.starts;
+    }
 
 abbrev pub add_latch : Lines Latch → Number → Number → Bool → Lines Latch
 add_latch c l next reset = record {
@@ -109,7 +123,8 @@ add_latch c l next reset = record {
 }
 
 abbrev pub add_output : Lines ℕ → Number → Lines ℕ
-add_output c l = record { items = c.items ++ l.value ∷ []; defined = c.defined; readings = c.readings ++ l ∷ []; starts = c.starts }
+add_output c l =
+    record { items = c.items ++ l.value ∷ []; defined = c.defined; readings = c.readings ++ l ∷ []; starts = c.starts }
 
 abbrev pub add_gate : Lines Gate → Number → Number → Number → Lines Gate
 add_gate c l first second = record {
@@ -124,18 +139,21 @@ input_line most c = then_by (number (WrongDefinition most c.defined)) (λ l. map
 
 -- the reset of a latch, where there is one, and the end of the line; true is 1
 unfoldable pub reset : ℕ → Field Bool
-reset latch = then_by more (by_more (then_by (number (WrongReset latch)) (λ n. mapped (λ _. n.value == 1) line_end)) (give false))
+reset latch =
+    then_by more (by_more (then_by (number (WrongReset latch)) (λ n. mapped (λ _. n.value == 1) line_end)) (give false))
 
 unfoldable pub latch_line : ℕ → Lines Latch → Field (Lines Latch)
 latch_line most c =
-    then_by (number (WrongDefinition most c.defined)) (λ l. then_by (field (WrongLiteral most)) (λ next. mapped (λ r. add_latch c l next r) (reset l.value)))
+    then_by (number (WrongDefinition most c.defined)) (λ l. then_by (field (WrongLiteral most))
+    (λ next. mapped (λ r. add_latch c l next r) (reset l.value)))
 
 unfoldable pub output_line : ℕ → Lines ℕ → Field (Lines ℕ)
 output_line most c = then_by (number (WrongLiteral most)) (λ l. mapped (λ _. add_output c l) line_end)
 
 unfoldable pub gate_line : ℕ → Lines Gate → Field (Lines Gate)
 gate_line most c =
-    then_by (number (WrongDefinition most c.defined)) (λ l. then_by (field (WrongLiteral most)) (λ first. then_by (field (WrongLiteral most)) (λ second.
+    then_by (number (WrongDefinition most c.defined)) (λ l. then_by (field (WrongLiteral most))
+    (λ first. then_by (field (WrongLiteral most)) (λ second.
     mapped (λ _. add_gate c l first second) line_end)))
 
 -- ## Names
@@ -169,7 +187,9 @@ add_name names kind k name = put_names names kind (slice_set (names_of names kin
 
 -- the letters i, l and o
 abbrev pub take_kind : Seen → Option Kind
-take_kind s = if s.byte == 105 then Some OfInput else if s.byte == 108 then Some OfLatch else if s.byte == 111 then Some OfOutput else None
+take_kind s =
+    if s.byte == 105 then Some OfInput else if s.byte == 108 then Some OfLatch else if s.byte == 111 then Some
+    OfOutput else None
 
 -- behind the letter stands a number that is too large, or whose input, latch or output has a name
 pub record IsBadSymbol (names : NamesData) (s : Seen) (f : AigCause) : Type 0 where
@@ -194,8 +214,8 @@ comment = either (then_by (byte 99) (λ _. anything)) (give tt)
 
 -- ## The text
 
--- what was read of a text: its circuit, the variables that are defined, the literals that are read, in text order, and the
--- offset of each gate's line
+-- what was read of a text: its circuit, the variables that are defined, the literals that are read, in text order, and
+-- the offset of each gate's line
 pub record DraftData : Type 0 where
   pub circuit : CircuitData
   pub defined : List ℕ
@@ -221,7 +241,11 @@ draft_of most i l o a names = record {
 
 unfoldable pub symbols : ℕ → Lines ℕ → Lines Latch → Lines ℕ → Lines Gate → Field DraftData
 symbols most i l o a =
-    then_by (many symbol_line (record { inputs = no_names i.items; latches = no_names l.items; outputs = no_names o.items })) (λ names.
+    then_by (many symbol_line (record {
+      inputs = no_names i.items;
+      latches = no_names l.items;
+      outputs = no_names o.items;
+    })) (λ names.
     mapped (λ _. draft_of most i l o a names) comment)
 
 unfoldable pub body : HeaderData → Field DraftData
@@ -251,12 +275,17 @@ pub record IsFirstUndefined (defined : List ℕ) (readings : List Number) (l : N
 
 -- the answer to a text: its circuit, or the first cause for which it has none
 pub data ReadsCircuit (text : List ℕ) (answer : Result CircuitData (Found AigCause)) : Type 0 where
-  refused : (found : Found AigCause) → PartAnswers aig_causes circuit_text (stream_of text) (Err found) → answer ≡ Err found → ReadsCircuit text answer
-  undefined : (d : DraftData) (l : Number) → PartAnswers aig_causes circuit_text (stream_of text) (Ok d) → IsFirstUndefined d.defined d.readings l →
+  refused : (found : Found AigCause) → PartAnswers aig_causes circuit_text (stream_of text) (Err found) →
+      answer ≡ Err found → ReadsCircuit text answer
+  undefined : (d : DraftData) (l : Number) → PartAnswers aig_causes circuit_text (stream_of text) (Ok d) →
+      IsFirstUndefined d.defined d.readings l →
       answer ≡ Err (record { cause = Undefined; offset = l.offset }) → ReadsCircuit text answer
-  cyclic : (d : DraftData) (i start : ℕ) → PartAnswers aig_causes circuit_text (stream_of text) (Ok d) → All (IsDefined d.defined) d.readings →
-      IsFirstOnCycle (ReadsGate d.circuit.gates) i → slice_get d.starts i ≡ Some start → answer ≡ Err (record { cause = Cyclic; offset = start }) → ReadsCircuit text answer
-  meaning : (d : DraftData) → PartAnswers aig_causes circuit_text (stream_of text) (Ok d) → All (IsDefined d.defined) d.readings →
+  cyclic : (d : DraftData) (i start : ℕ) → PartAnswers aig_causes circuit_text (stream_of text) (Ok d) →
+      All (IsDefined d.defined) d.readings →
+      IsFirstOnCycle (ReadsGate d.circuit.gates) i → slice_get d.starts i ≡ Some start →
+      answer ≡ Err (record { cause = Cyclic; offset = start }) → ReadsCircuit text answer
+  meaning : (d : DraftData) → PartAnswers aig_causes circuit_text (stream_of text) (Ok d) →
+      All (IsDefined d.defined) d.readings →
       ((i : ℕ) → ¬ Way (ReadsGate d.circuit.gates) i i) → answer ≡ Ok d.circuit → ReadsCircuit text answer
 
 -- what the reader answers: this, unless memory runs out

@@ -1,11 +1,13 @@
 -- The values of a circuit, and its traces.
 --     bit_of values literal      the bit of a literal, where the list has a bit for each variable
---     AreValues c inputs latches values      the list has a bit for each variable of the circuit, and meets its equations
+--     AreValues c inputs latches values      the list has a bit for each variable of the circuit, and meets its
+--               equations
 --     HasOneValues c      there are values, and any two lists agree on each literal whose variable is 0 or defined
 --     Steps c latches inputs outputs next      what a step answers, and the latches behind it
 --     IsTrace c moments      latches begin with their resets, and go on by their next literals
 -- A variable that nothing defines may have either bit: no literal of a circuit reads it.
-use Rattle.std.specs.Prelude.{◌≡◌, ℕ, ◌+◌, ◌&&◌, Bool, false, not, if◌then◌else◌, List, [], ◌∷◌, map, length, slice_index_or, All}
+use Rattle.std.specs.Prelude.{◌≡◌, ℕ, ◌+◌, ◌&&◌, Bool, false, not, if◌then◌else◌, List, [], ◌∷◌, map, length}
+use Rattle.std.specs.Prelude.{slice_index_or, All}
 use Rattle.ps_circuit.specs.declared.parts.Gate.{Gate}
 use Rattle.ps_circuit.specs.Circuits.{CircuitData, definitions, IsKnown}
 use Rattle.ps_circuit.specs.Literals.{is_negated, variable}
@@ -31,7 +33,8 @@ pub record AreValues (c : CircuitData) (inputs latches values : List Bool) : Typ
 pub record HasOneValues (c : CircuitData) : Type 0 where
   pub some : (inputs latches : List Bool) → length inputs ≡ length c.inputs → length latches ≡ length c.latches →
       (values : List Bool) × AreValues c inputs latches values
-  pub one : (inputs latches values others : List Bool) → AreValues c inputs latches values → AreValues c inputs latches others →
+  pub one : (inputs latches values others : List Bool) → AreValues c inputs latches values →
+      AreValues c inputs latches others →
       (literal : ℕ) → IsKnown (definitions c) literal → bit_of values literal ≡ bit_of others literal
 
 pub record Steps (c : CircuitData) (latches inputs outputs next : List Bool) : Type 0 where

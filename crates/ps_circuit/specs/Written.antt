@@ -39,7 +39,9 @@ symbol_lines letter k [] = []
 symbol_lines letter k (n ∷ ns) = symbol_line letter k n ++ symbol_lines letter (k + 1) ns
 
 abbrev pub header_line : CircuitData → List ℕ
-header_line c = codes "aag" ++ fields (c.most ∷ length c.inputs ∷ length c.latches ∷ length c.outputs ∷ length c.gates ∷ []) ++ 10 ∷ []
+header_line c =
+    codes "aag" ++ fields (c.most ∷ length c.inputs ∷ length c.latches ∷ length c.outputs ∷ length c.gates ∷ []) ++
+    10 ∷ []
 
 abbrev pub text_of : CircuitData → List ℕ
 text_of c =

@@ -1,7 +1,9 @@
 //! And-gates made one after another, each once.
 
-ghost use Rattle.std.specs.Prelude.{◌≡◌, ℕ, ◌+◌, ◌*◌, ◌^◌, ◌<◌, ◌≤◌, ◌&&◌, ◌||◌, Bool, not, cond, [], length, slice_get, Some, IfOk};
-ghost use Rattle.ps_circuit.specs.Building.{Drafted, AreSides, Extends, IsFull, IsHeld, IsNew, IsSoundDraft, Meets, NeedsGate, bit, variables_of};
+ghost use Rattle.std.specs.Prelude.{◌≡◌, ℕ, ◌+◌, ◌*◌, ◌^◌, ◌<◌, ◌≤◌, ◌&&◌, ◌||◌, Bool, not, cond, [], length};
+ghost use Rattle.std.specs.Prelude.{slice_get, Some, IfOk};
+ghost use Rattle.ps_circuit.specs.Building.{Drafted, AreSides, Extends, IsFull, IsHeld, IsNew, IsSoundDraft, Meets};
+ghost use Rattle.ps_circuit.specs.Building.{NeedsGate, bit, variables_of};
 ghost use Rattle.ps_circuit.specs.Literals.{negated};
 ghost use Rattle.ps_circuit.specs.Gates.{and_of, chosen_of, gate_of, mux_of, or_of};
 
@@ -93,7 +95,8 @@ impl Builder {
         ensures too_large { result ≡ Err EncodeFault.CircuitTooLarge → IsFull self.new }
         ensures needed { result ≡ Err EncodeFault.CircuitTooLarge → NeedsGate self.new x y }
         ensures made { IfOk result (λ literal. and_of self.old x y ≡ record { draft = self.new; literal = literal }) }
-        ensures above { result ≡ Err EncodeFault.CircuitTooLarge → 2147483647 < variables_of (and_of self.old x y).draft }
+        ensures above { result ≡ Err EncodeFault.CircuitTooLarge →
+            2147483647 < variables_of (and_of self.old x y).draft }
     {
         if x == Literal::FALSE || y == Literal::FALSE || x == y.negated() {
             return Ok(Literal::FALSE);
@@ -132,7 +135,8 @@ impl Builder {
         ensures too_large { result ≡ Err EncodeFault.CircuitTooLarge → IsFull self.new }
         ensures needed { result ≡ Err EncodeFault.CircuitTooLarge → NeedsGate self.new (negated x) (negated y) }
         ensures made { IfOk result (λ literal. or_of self.old x y ≡ record { draft = self.new; literal = literal }) }
-        ensures above { result ≡ Err EncodeFault.CircuitTooLarge → 2147483647 < variables_of (or_of self.old x y).draft }
+        ensures above { result ≡ Err EncodeFault.CircuitTooLarge →
+            2147483647 < variables_of (or_of self.old x y).draft }
     {
         let neither = self.and(x.negated(), y.negated())?;
         Ok(neither.negated())
@@ -150,10 +154,13 @@ impl Builder {
         requires low { IsHeld self.old low }
         ensures extends { Extends self.old self.new }
         ensures held { IfOk result (λ literal. IsHeld self.new literal) }
-        ensures bit { IfOk result (λ literal. (v : ℕ → Bool) → Meets self.new v → bit v literal ≡ cond (bit v s) (bit v high) (bit v low)) }
+        ensures bit { IfOk result (λ literal. (v : ℕ → Bool) → Meets self.new v →
+            bit v literal ≡ cond (bit v s) (bit v high) (bit v low)) }
         ensures too_large { result ≡ Err EncodeFault.CircuitTooLarge → IsFull self.new }
-        ensures made { IfOk result (λ literal. mux_of self.old s high low ≡ record { draft = self.new; literal = literal }) }
-        ensures above { result ≡ Err EncodeFault.CircuitTooLarge → 2147483647 < variables_of (mux_of self.old s high low).draft }
+        ensures made { IfOk result (λ literal. mux_of self.old s high low ≡ record
+            { draft = self.new; literal = literal }) }
+        ensures above { result ≡ Err EncodeFault.CircuitTooLarge →
+            2147483647 < variables_of (mux_of self.old s high low).draft }
     {
         if high == low {
             return Ok(high);
@@ -187,10 +194,13 @@ impl Builder {
         requires low { IsHeld self.old low }
         ensures extends { Extends self.old self.new }
         ensures held { IfOk result (λ literal. IsHeld self.new literal) }
-        ensures bit { IfOk result (λ literal. (v : ℕ → Bool) → Meets self.new v → bit v literal ≡ cond (bit v s) (bit v high) (bit v low)) }
+        ensures bit { IfOk result (λ literal. (v : ℕ → Bool) → Meets self.new v →
+            bit v literal ≡ cond (bit v s) (bit v high) (bit v low)) }
         ensures too_large { result ≡ Err EncodeFault.CircuitTooLarge → IsFull self.new }
-        ensures made { IfOk result (λ literal. chosen_of self.old s high low ≡ record { draft = self.new; literal = literal }) }
-        ensures above { result ≡ Err EncodeFault.CircuitTooLarge → 2147483647 < variables_of (chosen_of self.old s high low).draft }
+        ensures made { IfOk result (λ literal. chosen_of self.old s high low ≡ record
+            { draft = self.new; literal = literal }) }
+        ensures above { result ≡ Err EncodeFault.CircuitTooLarge →
+            2147483647 < variables_of (chosen_of self.old s high low).draft }
     {
         let where_true = self.and(s, high)?;
         let where_false = self.and(s.negated(), low)?;
@@ -202,11 +212,13 @@ impl Builder {
         requires { AreSides (variables_of self.old + 1) sides }
         ensures extends { Extends self.old self.new }
         ensures held { IfOk result (λ literal. IsHeld self.new literal) }
-        ensures bit { IfOk result (λ literal. (v : ℕ → Bool) → Meets self.new v → bit v literal ≡ (bit v sides.first && bit v sides.second)) }
+        ensures bit { IfOk result (λ literal. (v : ℕ → Bool) → Meets self.new v →
+            bit v literal ≡ (bit v sides.first && bit v sides.second)) }
         ensures too_large { result ≡ Err EncodeFault.CircuitTooLarge → IsFull self.new }
         ensures needed { result ≡ Err EncodeFault.CircuitTooLarge → NeedsGate self.new sides.first sides.second }
         ensures made { IfOk result (λ literal. gate_of self.old sides ≡ record { draft = self.new; literal = literal }) }
-        ensures above { result ≡ Err EncodeFault.CircuitTooLarge → 2147483647 < variables_of (gate_of self.old sides).draft }
+        ensures above { result ≡ Err EncodeFault.CircuitTooLarge →
+            2147483647 < variables_of (gate_of self.old sides).draft }
     {
         let variables = self.given + self.gates.len() as u32;
         if variables == MOST_VARIABLES && !self.gates.contains(&sides) {

@@ -80,7 +80,8 @@ impl Model for Circuit {
 
     ghost view = { λ c. data_of c.parts };
 
-    ghost invariant = { λ c. IsCircuit (data_of c.parts) × IsOrder (ReadsGate c.parts.gates.items) (length c.parts.gates.items) c.order.items };
+    ghost invariant = { λ c. IsCircuit (data_of c.parts) × IsOrder (ReadsGate c.parts.gates.items) (length c.parts.gates.items)
+        c.order.items };
 }
 
 impl Circuit {
@@ -89,7 +90,8 @@ impl Circuit {
         requires { IsDraft (data_of parts) }
         ensures ok { IfOk result (λ c. c ≡ data_of parts) }
         ensures well_formed { IfOk result (λ c. IsCircuit c) }
-        ensures cyclic { (i : ℕ) → result ≡ Err (CircuitFault.Cyclic i) → IsFirstOnCycle (ReadsGate parts.gates.items) i }
+        ensures cyclic { (i : ℕ) → result ≡ Err (CircuitFault.Cyclic i) →
+            IsFirstOnCycle (ReadsGate parts.gates.items) i }
     {
         let links = links_of(alloc, &parts.gates)?;
         let graph = GateGraph { links };

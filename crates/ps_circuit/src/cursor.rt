@@ -1,6 +1,7 @@
 //! The place that a reader has come to in the text of a circuit.
 
-ghost use Rattle.std.specs.Prelude.{◌≡◌, ◌≤◌, ◌<◌, ◌^◌, ◌↔◌, IsTrue, Some, [], ◌∷◌, length, take, codes, IfOk, All, ◌≢◌};
+ghost use Rattle.std.specs.Prelude.{◌≡◌, ◌≤◌, ◌<◌, ◌^◌, ◌↔◌, IsTrue, Some, [], ◌∷◌, length, take, codes, IfOk, All};
+ghost use Rattle.std.specs.Prelude.{◌≢◌};
 ghost use Rattle.ps_text.specs.declared.faults.Fault.TheVariants as faults;
 ghost use Rattle.std.specs.List.{prefix_len};
 ghost use Rattle.ps_text.specs.Readers.{tail};
@@ -8,7 +9,8 @@ ghost use Rattle.ps_text.specs.Digits.{decimal_value};
 ghost use Rattle.ps_circuit.specs.Literals.{variable};
 ghost use Rattle.ps_circuit.specs.Signs as parts;
 ghost use Rattle.ps_circuit.specs.Signs.{stream_of, ends_line, is_digit, word, AllOf};
-ghost use Rattle.ps_circuit.specs.Cursors.{next_byte, place_of, in_class, IsAhead, Passes, Tells, TellsNumber, saturated};
+ghost use Rattle.ps_circuit.specs.Cursors.{next_byte, place_of, in_class, IsAhead, Passes, Tells, TellsNumber};
+ghost use Rattle.ps_circuit.specs.Cursors.{saturated};
 ghost use Rattle.ps_circuit.specs.declared.fault.AigCause.TheVariants.{Syntax};
 
 use crate::fault::{AigCause, AigFault};

@@ -16,6 +16,7 @@
 //! | `Circuit::input_name`, `latch_name`, `output_name` | the name of a symbol, if there is one |
 //! | `EncodeFault::number`, `name`, `AigCause::number`, `name` | a fault or a cause as psyn's list of faults has it |
 //! | `one_answer` | a law: a text has one circuit or one first cause at most |
+//! | `some_answer` | a law: a text has one of the two |
 //!
 //! Reading takes time in proportion to the text, but for the search of variables that do not stand in order, in a tree.
 //! Sections of bad states, constraints, justice and fairness have to be empty, and a latch's own literal as its reset
@@ -42,7 +43,7 @@ pub use builder::{Builder, Sides};
 pub use circuit::Circuit;
 pub use encode_fault::EncodeFault;
 pub use fault::{AigCause, AigFault};
-pub use laws::one_answer;
+pub use laws::{one_answer, some_answer};
 pub use literal::Literal;
 pub use parts::{Gate, Latch, Parts};
 pub use reader::read;

@@ -1,11 +1,13 @@
 //! The number lines of the text of a circuit.
 
-ghost use Rattle.std.specs.Prelude.{◌≡◌, ℕ, ◌<◌, ◌≤◌, ◌+◌, ◌*◌, ◌^◌, [], ◌∷◌, ◌++◌, length, IfOk, IfErr, OnOk, IsTrue, ◌↔◌, false, Contains};
+ghost use Rattle.std.specs.Prelude.{◌≡◌, ℕ, ◌<◌, ◌≤◌, ◌+◌, ◌*◌, ◌^◌, [], ◌∷◌, ◌++◌, length, IfOk, IfErr, OnOk, IsTrue};
+ghost use Rattle.std.specs.Prelude.{◌↔◌, false, Contains};
 ghost use Rattle.std.specs.Bool.{OnTrue};
 ghost use Rattle.ps_text.specs.Parts.{times};
 ghost use Rattle.ps_circuit.specs.Circuits.{IsDefinition};
 ghost use Rattle.ps_circuit.specs.Cursors.{Tells, saturated};
-ghost use Rattle.ps_circuit.specs.Reading.{AddsVariable, Defines, lines_of, AddsInput, AddsLatch, AddsOutput, AddsGate, Grown, IsRow};
+ghost use Rattle.ps_circuit.specs.Reading.{AddsVariable, Defines, lines_of, AddsInput, AddsLatch, AddsOutput, AddsGate};
+ghost use Rattle.ps_circuit.specs.Reading.{Grown, IsRow};
 ghost use Rattle.ps_circuit.specs.Signs as signs;
 ghost use Rattle.ps_text.specs.declared.faults.Fault.TheVariants.{OutOfMemory};
 ghost use Rattle.ps_circuit.specs.Texts as parts;
@@ -64,7 +66,8 @@ pub trait Line {
         items: &mut Vec<Self::Item>,
     ) -> Result<(), AigFault>
         requires { most < 2 ^ 31 }
-        ensures exact { Tells (λ _. lines_of items.new.items noted.new) (part most (lines_of items.old.items noted.old)) cursor.old result cursor.new }
+        ensures exact { Tells (λ _. lines_of items.new.items noted.new) (part most (lines_of items.old.items noted.old))
+            cursor.old result cursor.new }
         ensures adds { OnOk result (adds most (lines_of items.old.items noted.old) (lines_of items.new.items noted.new)) };
 }
 
@@ -82,7 +85,9 @@ pub fn lines<L: Line>(
 ) -> Result<Vec<L::Item>, AigFault>
     requires most { most < 2 ^ 31 }
     requires row { IsRow (L.part most) }
-    ensures exact { (n : ℕ) → count ≡ saturated n → length cursor.old.pieces ≤ 2 ^ 63 → Tells (λ v. lines_of v.items noted.new) (times n (L.part most) (lines_of [] noted.old)) cursor.old result cursor.new }
+    ensures exact { (n : ℕ) → count ≡ saturated n → length cursor.old.pieces ≤ 2 ^ 63 →
+        Tells (λ v. lines_of v.items noted.new) (times n (L.part most) (lines_of [] noted.old)) cursor.old
+        result cursor.new }
     ensures grown { IfOk result (λ v. Grown (L.adds most) (lines_of [] noted.old) (lines_of v.items noted.new)) }
 {
     let mut items = Vec::new(alloc);

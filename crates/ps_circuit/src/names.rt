@@ -1,6 +1,7 @@
 //! The names in the text of a circuit, and the comment that ends it.
 
-ghost use Rattle.std.specs.Prelude.{◌≡◌, ◌≢◌, ℕ, ◌<◌, ◌^◌, Some, None, false, [], map, length, replicate, slice_get, vec_len, IfOk, IfErr, OnOk, IsTrue, All};
+ghost use Rattle.std.specs.Prelude.{◌≡◌, ◌≢◌, ℕ, ◌<◌, ◌^◌, Some, None, false, [], map, length, replicate, slice_get};
+ghost use Rattle.std.specs.Prelude.{vec_len, IfOk, IfErr, OnOk, IsTrue, All};
 ghost use Rattle.ps_text.specs.Answers.{next_of};
 ghost use Rattle.ps_text.specs.Parts.{many};
 ghost use Rattle.ps_circuit.specs.Circuits.{IsName};
@@ -72,8 +73,10 @@ fn no_names(alloc: Global, count: usize) -> Result<Vec<Option<Vec<u8>>>, AigFaul
 /// name has; else want of memory.
 pub fn symbols(alloc: Global, cursor: &mut Cursor, names: &mut Names) -> Result<(), AigFault>
     requires { AreNames names.old (vec_len names.old.inputs) (vec_len names.old.latches) (vec_len names.old.outputs) }
-    ensures exact { Tells (λ _. names_data names.new) (many parts.symbol_line (names_data names.old)) cursor.old result cursor.new }
-    ensures named { OnOk result (AreNames names.new (vec_len names.old.inputs) (vec_len names.old.latches) (vec_len names.old.outputs)) }
+    ensures exact { Tells (λ _. names_data names.new) (many parts.symbol_line (names_data names.old)) cursor.old
+        result cursor.new }
+    ensures named { OnOk result (AreNames names.new (vec_len names.old.inputs) (vec_len names.old.latches)
+        (vec_len names.old.outputs)) }
 {
     'more: while is_letter(cursor.peek()) {
         symbol_line(alloc, cursor, names)?;
@@ -91,8 +94,10 @@ fn is_letter(byte: Option<u8>) -> bool
 /// Reads a line with a name.
 fn symbol_line(alloc: Global, cursor: &mut Cursor, names: &mut Names) -> Result<(), AigFault>
     requires { AreNames names.old (vec_len names.old.inputs) (vec_len names.old.latches) (vec_len names.old.outputs) }
-    ensures exact { Tells (λ _. names_data names.new) (parts.symbol_line (names_data names.old)) cursor.old result cursor.new }
-    ensures named { AreNames names.new (vec_len names.old.inputs) (vec_len names.old.latches) (vec_len names.old.outputs) }
+    ensures exact { Tells (λ _. names_data names.new) (parts.symbol_line (names_data names.old)) cursor.old
+        result cursor.new }
+    ensures named { AreNames names.new (vec_len names.old.inputs) (vec_len names.old.latches)
+        (vec_len names.old.outputs) }
 {
     if cursor.comes(b'i') {
         return name_line(alloc, cursor, &mut names.inputs);
@@ -113,7 +118,10 @@ fn name_line(
     names: &mut Vec<Option<Vec<u8>>>,
 ) -> Result<(), AigFault>
     requires { All IsName (map name_bytes names.old.items) }
-    ensures exact { (all : NamesData) (kind : Kind) (t : Seen) → names_of all kind ≡ map name_bytes names.old.items → next_of cursor.old ≡ Some t → take_kind t ≡ Some kind → Tells (λ _. put_names all kind (map name_bytes names.new.items)) (parts.symbol_line all) cursor.old result cursor.new }
+    ensures exact { (all : NamesData) (kind : Kind) (t : Seen) → names_of all kind ≡ map name_bytes names.old.items →
+        next_of cursor.old ≡ Some t → take_kind t ≡ Some kind → Tells
+        (λ _. put_names all kind (map name_bytes names.new.items)) (parts.symbol_line all) cursor.old
+        result cursor.new }
     ensures names { All IsName (map name_bytes names.new.items) }
     ensures stay { vec_len names.new ≡ vec_len names.old }
 {

@@ -1,6 +1,7 @@
 //! Circuits read from AIGER texts.
 
-ghost use Rattle.std.specs.Prelude.{◌≡◌, ◌≢◌, ℕ, ◌<◌, ◌≤◌, ◌+◌, ◌*◌, ◌^◌, List, [], ◌∷◌, ◌++◌, length, map, vec_len, IfOk, Result, Err, All, Contains, IsTrue, ◌⊎◌, false, slice_index};
+ghost use Rattle.std.specs.Prelude.{◌≡◌, ◌≢◌, ℕ, ◌<◌, ◌≤◌, ◌+◌, ◌*◌, ◌^◌, List, [], ◌∷◌, ◌++◌, length, map, vec_len};
+ghost use Rattle.std.specs.Prelude.{IfOk, Result, Err, All, Contains, IsTrue, ◌⊎◌, false, slice_index};
 ghost use Rattle.ps_text.specs.declared.faults.Fault.{Fault};
 ghost use Rattle.ps_text.specs.declared.faults.Fault.TheVariants as faults;
 ghost use Rattle.ps_text.specs.Answers.{Found};

@@ -3,7 +3,8 @@
 ghost use Rattle.std.specs.Prelude.{◌≡◌, ◌++◌, ◌∷◌, [], length, map, codes, decimal, OnOk, IfOk, Ok};
 ghost use Rattle.ps_circuit.specs.Texts.{ReadsCircuit};
 ghost use Rattle.ps_circuit.specs.Drafts.{name_bytes};
-ghost use Rattle.ps_circuit.specs.Written.{fields, line, latch_line, literal_lines, latch_lines, gate_lines, symbol_line, symbol_lines, header_line, text_of};
+ghost use Rattle.ps_circuit.specs.Written.{fields, line, latch_line, literal_lines, latch_lines, gate_lines};
+ghost use Rattle.ps_circuit.specs.Written.{symbol_line, symbol_lines, header_line, text_of};
 
 use crate::circuit::Circuit;
 use crate::literal::Literal;

@@ -1,5 +1,6 @@
 -- What the search has found when its path is empty.
-use Rattle.std.proofs.Common.{◌≡◌, ◌∙◌, ℕ, ◌<◌, List, length, map, refl, sym, ap, arith, Option, Some, None, get_or, slice_get}
+use Rattle.std.proofs.Common.{◌≡◌, ◌∙◌, ℕ, ◌<◌, List, length, map, refl, sym, ap, arith, Option, Some, None, get_or}
+use Rattle.std.proofs.Common.{slice_get}
 use Rattle.std.specs.Option.{option_map}
 use Rattle.std.proofs.lemmas.Option.{slice_get_within, slice_get-get_or, slice_get-map}
 use Rattle.std.proofs.lemmas.List.{length-map}
@@ -11,7 +12,8 @@ use Rattle.ps_components.specs.ComponentLists.{ComponentsData, IsIn, AreComponen
 use Rattle.ps_components.specs.Searching.{IsSoundSearch, number_of}
 use Rattle.ps_components.proofs.Reaching.{met_is_reached}
 
-module _ (g : Digraph) (marks : List Mark) (active bounds : List ℕ) (pending : List Pending) (order : List ℕ) (s : IsSoundSearch g marks active bounds pending order) where
+module _ (g : Digraph) (marks : List Mark) (active bounds : List ℕ) (pending : List Pending) (order : List ℕ)
+    (s : IsSoundSearch g marks active bounds pending order) where
   abbrev found : ComponentsData
   found = record { numbers = map number_of marks; order = order }
 
@@ -21,7 +23,8 @@ module _ (g : Digraph) (marks : List Mark) (active bounds : List ℕ) (pending :
   in-closed : (v k : ℕ) → IsIn found v k → slice_get marks v ≡ Some (Closed k)
   in-closed v k h = which (slice_get marks v) refl (sym (slice_get-map number_of marks v) ∙ h)
     where
-      which : (o : Option Mark) → slice_get marks v ≡ o → option_map number_of o ≡ Some (Some k) → slice_get marks v ≡ Some (Closed k)
+      which : (o : Option Mark) → slice_get marks v ≡ o → option_map number_of o ≡ Some (Some k) →
+          slice_get marks v ≡ Some (Closed k)
       which None is e = cc
       which (Some Unseen) is e = cc
       which (Some (Active p)) is e = cc
@@ -47,11 +50,21 @@ module _ (g : Digraph) (marks : List Mark) (active bounds : List ℕ) (pending :
     where
       which : (m : Mark) → slice_get marks v ≡ Some m → (k : ℕ) × IsIn found v k
       which Unseen h = absurd (seen h)
-      which (Active p) h = absurd (omega (arith, none, slice_get_within bounds 0 0 (s.bounds_start (omega (arith, slice_get_within active p v (s.marked_active p v h))))))
+      which (Active p) h =
+          absurd (omega (
+            arith,
+            none,
+            slice_get_within bounds 0 0
+                (s.bounds_start (omega (arith, slice_get_within active p v (s.marked_active p v h)))),
+          ))
       which (Closed k) h = (k, closed-in v k h)
 
   pub all_met : length bounds ≡ 0 → ((v : ℕ) → v < g.count → slice_get marks v ≡ Some Unseen → ⊥) → AreAllMet g found
   all_met none seen v lt = met none v lt (seen v lt)
 
-  pub roots_met : length bounds ≡ 0 → (roots : List ℕ) → ((i v : ℕ) → slice_get roots i ≡ Some v → v < g.count) → ((i v : ℕ) → slice_get roots i ≡ Some v → slice_get marks v ≡ Some Unseen → ⊥) → ((v k : ℕ) → slice_get marks v ≡ Some (Closed k) → IsReached g roots v) → AreMet g roots found
-  roots_met none roots within seen only = met_is_reached g roots found components-sound (λ i v h. met none v (within i v h) (seen i v h)) (λ v k h. only v k (in-closed v k h))
+  pub roots_met : length bounds ≡ 0 → (roots : List ℕ) → ((i v : ℕ) → slice_get roots i ≡ Some v → v < g.count) →
+      ((i v : ℕ) → slice_get roots i ≡ Some v → slice_get marks v ≡ Some Unseen → ⊥) →
+      ((v k : ℕ) → slice_get marks v ≡ Some (Closed k) → IsReached g roots v) → AreMet g roots found
+  roots_met none roots within seen only =
+      met_is_reached g roots found components-sound (λ i v h. met none v (within i v h) (seen i v h))
+      (λ v k h. only v k (in-closed v k h))

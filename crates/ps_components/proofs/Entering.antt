@@ -1,52 +1,75 @@
 -- An item put at the end of the path keeps the lists sound.
-use Rattle.std.proofs.Common.{◌≡◌, ℕ, ◌+◌, ◌<◌, ◌≤◌, ◌⊎◌, inl, inr, List, [], ◌∷◌, ◌++◌, length, refl, sym, ap, subst, ◌∙◌, arith, Some, None, Option, slice_get, set, suc, zero, add-zero, length-append, length-set}
+use Rattle.std.proofs.Common.{◌≡◌, ℕ, ◌+◌, ◌<◌, ◌≤◌, ◌⊎◌, inl, inr, List, [], ◌∷◌, ◌++◌, length, refl, sym, ap, subst}
+use Rattle.std.proofs.Common.{◌∙◌, arith, Some, None, Option, slice_get, set, suc, zero, add-zero, length-append}
+use Rattle.std.proofs.Common.{length-set}
 use Rattle.std.proofs.lemmas.Option.{slice_get_within}
 use Rattle.std.proofs.lemmas.Bool.{cases_eq, cases_lt}
 use Rattle.ps_components.specs.declared.search.Mark.{Mark}
 use Rattle.ps_components.specs.declared.search.Mark.TheVariants.{Unseen, Active, Closed}
 use Rattle.ps_components.specs.declared.search.Pending.{Pending}
 use Rattle.ps_components.specs.Graphs.{Digraph, Link, SameOrWay, Way}
-use Rattle.ps_components.specs.Searching.{NoLater, IsSettled, closed, active as settled_active, IsPending, IsSoundSearch, wait_of, waits, turns, turns_of, turns_from}
-use Rattle.ps_components.proofs.Places.{slice_get-append_left, slice_get-append_cases, slice_get-append_right, slice_get-push, slice_get-push_cases, slice_get-set_same, slice_get-set_other}
+use Rattle.ps_components.specs.Searching.{NoLater, IsSettled, closed, active as settled_active, IsPending}
+use Rattle.ps_components.specs.Searching.{IsSoundSearch, wait_of, waits, turns, turns_of, turns_from}
+use Rattle.ps_components.proofs.Places.{slice_get-append_left, slice_get-append_cases, slice_get-append_right}
+use Rattle.ps_components.proofs.Places.{slice_get-push, slice_get-push_cases, slice_get-set_same, slice_get-set_other}
 
 -- one more place of an item
 wait_of-length : (n : ℕ) (side : Option ℕ) → length (wait_of n side) ≤ 1
 wait_of-length n None = omega arith
 wait_of-length n (Some to) = omega arith
 
-wait_of-only : (n : ℕ) (side : Option ℕ) (i : ℕ) (e : Pending) → slice_get (wait_of n side) i ≡ Some e → (e.from ≡ n) × (side ≡ Some e.to)
+wait_of-only : (n : ℕ) (side : Option ℕ) (i : ℕ) (e : Pending) → slice_get (wait_of n side) i ≡ Some e →
+    (e.from ≡ n) × (side ≡ Some e.to)
 wait_of-only n None i e h = cc
-wait_of-only n (Some to) zero e h = let same : record { from = n; to = to } ≡ e = cc in (ap (λ x. x.from) (sym same), ap (λ x. Some x.to) same)
+wait_of-only n (Some to) zero e h =
+    let same : record { from = n; to = to } ≡ e = cc in (ap (λ x. x.from) (sym same), ap (λ x. Some x.to) same)
 wait_of-only n (Some to) (suc i) e h = cc
 
-wait_of-there : (n to : ℕ) (side : Option ℕ) → side ≡ Some to → slice_get (wait_of n side) 0 ≡ Some (record { from = n; to = to })
+wait_of-there : (n to : ℕ) (side : Option ℕ) → side ≡ Some to →
+    slice_get (wait_of n side) 0 ≡ Some (record { from = n; to = to })
 wait_of-there n to None h = cc
 wait_of-there n to (Some t) h = let same : t ≡ to = cc in ap (λ x. Some (record { from = n; to = x })) same
 
 pub waits-length : (g : Digraph) (p item n : ℕ) → length (waits g p item n) ≤ n
 waits-length g p item zero = omega arith
-waits-length g p item (suc n) = omega (arith, waits-length g p item n, wait_of-length p (g.target item n), length-append (waits g p item n) (wait_of p (g.target item n)))
+waits-length g p item (suc n) =
+    omega (
+      arith,
+      waits-length g p item n,
+      wait_of-length p (g.target item n),
+      length-append (waits g p item n) (wait_of p (g.target item n)),
+    )
 
 -- what waits comes from a link
-pub waits-link : (g : Digraph) (p item n : ℕ) → item < g.count → n ≤ g.degree item → (i : ℕ) (e : Pending) → slice_get (waits g p item n) i ≡ Some e → (e.from ≡ p) × Link g item e.to
+pub waits-link : (g : Digraph) (p item n : ℕ) → item < g.count → n ≤ g.degree item → (i : ℕ) (e : Pending) →
+    slice_get (waits g p item n) i ≡ Some e → (e.from ≡ p) × Link g item e.to
 waits-link g p item zero lt le i e h = cc
 waits-link g p item (suc n) lt le i e h =
     elim (slice_get-append_cases (waits g p item n) (wait_of p (g.target item n)) i e h) [
       | inl k ↦ waits-link g p item n lt (omega arith) i e k
-      | inr k ↦ (let o = wait_of-only p (g.target item n) k.0 e k.2 in (o.0, record { from = lt; place = n; at = omega arith; target = o.1 }))
+      | inr k ↦ (let o = wait_of-only p (g.target item n) k.0 e k.2 in
+          (o.0, record { from = lt; place = n; at = omega arith; target = o.1 }))
     ]
 
 -- each place with a target waits
-pub waits-there : (g : Digraph) (p item n place w : ℕ) → place < n → g.target item place ≡ Some w → (i : ℕ) × (slice_get (waits g p item n) i ≡ Some (record { from = p; to = w }))
+pub waits-there : (g : Digraph) (p item n place w : ℕ) → place < n → g.target item place ≡ Some w →
+    (i : ℕ) × (slice_get (waits g p item n) i ≡ Some (record { from = p; to = w }))
 waits-there g p item zero place w lt h = absurd (omega arith)
 waits-there g p item (suc n) place w lt h =
     elim (cases_lt place n) [
-      | inl less ↦ (let t = waits-there g p item n place w less h in (t.0, slice_get-append_left (waits g p item n) _ t.0 _ t.1))
-      | inr le ↦ (let e : place ≡ n = omega arith in (length (waits g p item n) + 0, slice_get-append_right (waits g p item n) _ 0 _ (wait_of-there p w (g.target item n) (subst (λ x. g.target item x ≡ Some w) e h))))
+      | inl less ↦ (let t = waits-there g p item n place w less h in
+          (t.0, slice_get-append_left (waits g p item n) _ t.0 _ t.1))
+      | inr le ↦ (let e : place ≡ n = omega arith in (
+        length (waits g p item n) + 0,
+        slice_get-append_right (waits g p item n) _ 0 _ (wait_of-there p w (g.target item n)
+            (subst (λ x. g.target item x ≡ Some w) e h)),
+      ))
     ]
 
 -- the turns of the marks, with one changed
-pub turns_from-set : (g : Digraph) (first : ℕ) (marks : List Mark) (i : ℕ) (old new : Mark) → slice_get marks i ≡ Some old → turns_from g first (set marks i new) + turns_of g (first + i) old ≡ turns_from g first marks + turns_of g (first + i) new
+pub turns_from-set : (g : Digraph) (first : ℕ) (marks : List Mark) (i : ℕ) (old new : Mark) →
+    slice_get marks i ≡ Some old → turns_from g first (set marks i new) + turns_of g (first + i) old ≡ turns_from g
+    first marks + turns_of g (first + i) new
 turns_from-set g first [] i old new h = cc
 turns_from-set g first (m ∷ ms) zero old new h = let same : m ≡ old = cc in rw (same, add-zero) (omega arith)
 turns_from-set g first (m ∷ ms) (suc i) old new h =
@@ -54,9 +77,19 @@ turns_from-set g first (m ∷ ms) (suc i) old new h =
     rw e (omega (arith, turns_from-set g (suc first) ms i old new h))
 
 pub IsPending-append : (pending more : List Pending) (p w : ℕ) → IsPending pending p w → IsPending (pending ++ more) p w
-IsPending-append pending more p w h = record { at = h.at; step = h.step; is = slice_get-append_left pending more h.at h.step h.is; from_is = h.from_is; to_is = h.to_is }
+IsPending-append pending more p w h =
+    record {
+      at = h.at;
+      step = h.step;
+      is = slice_get-append_left pending more h.at h.step h.is;
+      from_is = h.from_is;
+      to_is = h.to_is;
+    }
 
-module _ (g : Digraph) (marks : List Mark) (active bounds : List ℕ) (pending : List Pending) (order : List ℕ) (s : IsSoundSearch g marks active bounds pending order) (item : ℕ) (within : item < g.count) (unseen : slice_get marks item ≡ Some Unseen) (reached : (p v : ℕ) → slice_get active p ≡ Some v → Way (Link g) v item) where
+module _ (g : Digraph) (marks : List Mark) (active bounds : List ℕ) (pending : List Pending) (order : List ℕ)
+    (s : IsSoundSearch g marks active bounds pending order) (item : ℕ) (within : item < g.count)
+    (unseen : slice_get marks item ≡ Some Unseen) (reached : (p v : ℕ) → slice_get active p ≡ Some v →
+    Way (Link g) v item) where
   abbrev marks' : List Mark
   marks' = set marks item (Active (length active))
 
@@ -66,17 +99,21 @@ module _ (g : Digraph) (marks : List Mark) (active bounds : List ℕ) (pending :
   abbrev pending' : List Pending
   pending' = pending ++ more
 
-  mark_back : (v : ℕ) (m : Mark) → slice_get marks' v ≡ Some m → ((v ≡ item) × (m ≡ Active (length active))) ⊎ (slice_get marks v ≡ Some m)
+  mark_back : (v : ℕ) (m : Mark) → slice_get marks' v ≡ Some m →
+      ((v ≡ item) × (m ≡ Active (length active))) ⊎ (slice_get marks v ≡ Some m)
   mark_back v m h =
       elim (cases_eq v item) [
-        | inl e ↦ (let same = slice_get-set_same marks item (Active (length active)) (slice_get_within marks item Unseen unseen) in let there' : slice_get marks' item ≡ Some m = subst (λ x. slice_get marks' x ≡ Some m) e h in inl (e, cc))
+        | inl e ↦ (let same = slice_get-set_same marks item (Active (length active))
+            (slice_get_within marks item Unseen unseen) in let there' : slice_get marks' item ≡ Some m =
+            subst (λ x. slice_get marks' x ≡ Some m) e h in inl (e, cc))
         | inr ne ↦ inr (sym (slice_get-set_other marks item v (Active (length active)) ne) ∙ h)
       ]
 
   mark_on : (v : ℕ) (m : Mark) → (m ≡ Unseen → ⊥) → slice_get marks v ≡ Some m → slice_get marks' v ≡ Some m
   mark_on v m seen h =
       elim (cases_eq v item) [
-        | inl e ↦ (let here : slice_get marks item ≡ Some m = subst (λ x. slice_get marks x ≡ Some m) e h in absurd (seen cc))
+        | inl e ↦ (let here : slice_get marks item ≡ Some m = subst (λ x. slice_get marks x ≡ Some m) e h in
+            absurd (seen cc))
         | inr ne ↦ slice_get-set_other marks item v (Active (length active)) ne ∙ h
       ]
 
@@ -99,7 +136,8 @@ module _ (g : Digraph) (marks : List Mark) (active bounds : List ℕ) (pending :
   entered-active_marked p v h =
       elim (slice_get-push_cases active item p v h) [
         | inl k ↦ active_on v p (s.active_marked p v k)
-        | inr k ↦ subst (λ x. slice_get marks' v ≡ Some (Active x)) (sym k.0) (subst (λ x. slice_get marks' x ≡ Some (Active (length active))) k.1 mark_item)
+        | inr k ↦ subst (λ x. slice_get marks' v ≡ Some (Active x)) (sym k.0)
+            (subst (λ x. slice_get marks' x ≡ Some (Active (length active))) k.1 mark_item)
       ]
 
   entered-marked_active : (p v : ℕ) → slice_get marks' v ≡ Some (Active p) → slice_get (active ++ item ∷ []) p ≡ Some v
@@ -109,7 +147,8 @@ module _ (g : Digraph) (marks : List Mark) (active bounds : List ℕ) (pending :
         | inr k ↦ slice_get-append_left active _ p v (s.marked_active p v k)
       ]
 
-  entered-bounds_rise : (i j b c : ℕ) → slice_get (bounds ++ length active ∷ []) i ≡ Some b → slice_get (bounds ++ length active ∷ []) j ≡ Some c → i < j → b < c
+  entered-bounds_rise : (i j b c : ℕ) → slice_get (bounds ++ length active ∷ []) i ≡ Some b →
+      slice_get (bounds ++ length active ∷ []) j ≡ Some c → i < j → b < c
   entered-bounds_rise i j b c hi hj lt =
       elim (slice_get-push_cases bounds _ i b hi) [
         | inl ki ↦ elim (slice_get-push_cases bounds _ j c hj) [
@@ -122,32 +161,50 @@ module _ (g : Digraph) (marks : List Mark) (active bounds : List ℕ) (pending :
         ]
       ]
 
-  entered-bounds_within : (i b : ℕ) → slice_get (bounds ++ length active ∷ []) i ≡ Some b → b < length (active ++ item ∷ [])
+  entered-bounds_within : (i b : ℕ) → slice_get (bounds ++ length active ∷ []) i ≡ Some b →
+      b < length (active ++ item ∷ [])
   entered-bounds_within i b h =
-      elim (slice_get-push_cases bounds _ i b h) [ inl k ↦ omega (arith, s.bounds_within i b k, length-append active (item ∷ [])) | inr k ↦ omega (arith, k.1, length-append active (item ∷ [])) ]
+      elim (slice_get-push_cases bounds _ i b h) [
+        | inl k ↦ omega
+            (arith, s.bounds_within i b k, length-append active (item ∷ []))
+        | inr k ↦ omega (arith, k.1, length-append active (item ∷ []))
+      ]
 
   entered-bounds_start : slice_get (bounds ++ length active ∷ []) 0 ≡ Some 0
   entered-bounds_start =
       elim (cases_eq (length active) 0) [
-        | inl e ↦ elim bounds as (λ bs. ((i b : ℕ) → slice_get bs i ≡ Some b → b < length active) → slice_get (bs ++ length active ∷ []) 0 ≡ Some 0) [ [] ↦ (λ _. ap Some e) | b ∷ bs ↦ (λ w. absurd (omega (arith, w 0 b refl))) ] s.bounds_within
+        | inl e ↦ elim bounds as (λ bs. ((i b : ℕ) → slice_get bs i ≡ Some b → b < length active) →
+            slice_get (bs ++ length active ∷ []) 0 ≡ Some 0) [
+              | [] ↦ (λ _. ap Some e)
+              | b ∷ bs ↦ (λ w. absurd (omega (arith, w 0 b refl)))
+            ] s.bounds_within
         | inr ne ↦ slice_get-append_left bounds _ 0 0 (s.bounds_start (omega arith))
       ]
 
-  entry_cases : (i : ℕ) (e : Pending) → slice_get pending' i ≡ Some e → (slice_get pending i ≡ Some e) ⊎ ((length pending ≤ i) × (e.from ≡ length active) × Link g item e.to)
+  entry_cases : (i : ℕ) (e : Pending) → slice_get pending' i ≡ Some e →
+      (slice_get pending i ≡ Some e) ⊎ ((length pending ≤ i) × (e.from ≡ length active) × Link g item e.to)
   entry_cases i e h =
       elim (slice_get-append_cases pending more i e h) [
         | inl k ↦ inl k
-        | inr k ↦ (let l = waits-link g (length active) item (g.degree item) within (omega arith) k.0 e k.2 in inr (omega (arith, k.1), l.0, l.1))
+        | inr k ↦ (let l = waits-link g (length active) item (g.degree item) within (omega arith) k.0 e k.2 in
+            inr (omega (arith, k.1), l.0, l.1))
       ]
 
-  entered-pending_links : (i : ℕ) (e : Pending) → slice_get pending' i ≡ Some e → (v : ℕ) × (slice_get (active ++ item ∷ []) e.from ≡ Some v) × Link g v e.to
+  entered-pending_links : (i : ℕ) (e : Pending) → slice_get pending' i ≡ Some e →
+      (v : ℕ) × (slice_get (active ++ item ∷ []) e.from ≡ Some v) × Link g v e.to
   entered-pending_links i e h =
       elim (entry_cases i e h) [
         | inl k ↦ (let l = s.pending_links i e k in (l.0, slice_get-append_left active _ _ _ l.1, l.2))
-        | inr k ↦ (item, subst (λ x. slice_get (active ++ item ∷ []) x ≡ Some item) (sym k.1) (slice_get-push active item), k.2)
+        | inr k ↦ (
+          item,
+          subst (λ x. slice_get (active ++ item ∷ []) x ≡ Some item) (sym k.1)
+              (slice_get-push active item),
+          k.2,
+        )
       ]
 
-  entered-pending_rise : (i j : ℕ) (e f : Pending) → slice_get pending' i ≡ Some e → slice_get pending' j ≡ Some f → i < j → e.from ≤ f.from
+  entered-pending_rise : (i j : ℕ) (e f : Pending) → slice_get pending' i ≡ Some e → slice_get pending' j ≡ Some f →
+      i < j → e.from ≤ f.from
   entered-pending_rise i j e f hi hj lt =
       elim (entry_cases i e hi) [
         | inl ki ↦ elim (entry_cases j f hj) [
@@ -160,7 +217,8 @@ module _ (g : Digraph) (marks : List Mark) (active bounds : List ℕ) (pending :
         ]
       ]
 
-  entered-together : (p q v w : ℕ) → slice_get (active ++ item ∷ []) p ≡ Some v → slice_get (active ++ item ∷ []) q ≡ Some w → NoLater (bounds ++ length active ∷ []) p q → SameOrWay g v w
+  entered-together : (p q v w : ℕ) → slice_get (active ++ item ∷ []) p ≡ Some v →
+      slice_get (active ++ item ∷ []) q ≡ Some w → NoLater (bounds ++ length active ∷ []) p q → SameOrWay g v w
   entered-together p q v w hp hq later =
       elim (slice_get-push_cases active item p v hp) [
         | inl kp ↦ elim (slice_get-push_cases active item q w hq) [
@@ -168,7 +226,12 @@ module _ (g : Digraph) (marks : List Mark) (active bounds : List ℕ) (pending :
           | inr kq ↦ inr (subst (λ x. Way (Link g) v x) kq.1 (reached p v kp))
         ]
         | inr kp ↦ elim (slice_get-push_cases active item q w hq) [
-          | inl kq ↦ absurd (omega (arith, later (length bounds) (length active) (slice_get-push bounds _) (omega (arith, kp.0)), slice_get_within active q w kq))
+          | inl kq ↦ absurd (omega (
+            arith,
+            later (length bounds) (length active) (slice_get-push bounds _)
+                (omega (arith, kp.0)),
+            slice_get_within active q w kq,
+          ))
           | inr kq ↦ inl (sym kp.1 ∙ kq.1)
         ]
       ]
@@ -176,9 +239,16 @@ module _ (g : Digraph) (marks : List Mark) (active bounds : List ℕ) (pending :
   waiting : (w : ℕ) → Link g item w → IsPending pending' (length active) w
   waiting w l =
       let t = waits-there g (length active) item (g.degree item) l.place w l.at l.target in
-      record { at = length pending + t.0; step = record { from = length active; to = w }; is = slice_get-append_right pending more t.0 _ t.1; from_is = refl; to_is = refl }
+      record {
+        at = length pending + t.0;
+        step = record { from = length active; to = w };
+        is = slice_get-append_right pending more t.0 _ t.1;
+        from_is = refl;
+        to_is = refl;
+      }
 
-  entered-looked_at : (p v w : ℕ) → slice_get (active ++ item ∷ []) p ≡ Some v → Link g v w → IsPending pending' p w ⊎ IsSettled marks' (bounds ++ length active ∷ []) p w
+  entered-looked_at : (p v w : ℕ) → slice_get (active ++ item ∷ []) p ≡ Some v → Link g v w →
+      IsPending pending' p w ⊎ IsSettled marks' (bounds ++ length active ∷ []) p w
   entered-looked_at p v w h l =
       elim (slice_get-push_cases active item p v h) [
         | inl k ↦ elim (s.looked_at p v w k l) [
@@ -188,10 +258,12 @@ module _ (g : Digraph) (marks : List Mark) (active bounds : List ℕ) (pending :
         | inr k ↦ inl (subst (λ x. IsPending pending' x w) (sym k.0) (waiting w (subst (λ x. Link g x w) (sym k.1) l)))
       ]
     where
-      still : (p w : ℕ) → p < length active → IsSettled marks bounds p w → IsSettled marks' (bounds ++ length active ∷ []) p w
+      still : (p w : ℕ) → p < length active → IsSettled marks bounds p w →
+          IsSettled marks' (bounds ++ length active ∷ []) p w
       still p w lt (closed k c) = closed k (closed_on w k c)
       still p w lt (settled_active q a later) =
-          settled_active q (active_on w q a) (λ k b h le. elim (slice_get-push_cases bounds _ k b h) [ inl y ↦ later k b y le | inr y ↦ absurd (omega (arith, y.1)) ])
+          settled_active q (active_on w q a) (λ k b h le. elim (slice_get-push_cases bounds _ k b h)
+          [ inl y ↦ later k b y le | inr y ↦ absurd (omega (arith, y.1)) ])
 
   pub sound-entered : IsSoundSearch g marks' (active ++ item ∷ []) (bounds ++ length active ∷ []) pending' order
   sound-entered = record {
@@ -225,4 +297,11 @@ module _ (g : Digraph) (marks : List Mark) (active bounds : List ℕ) (pending :
       let sums = turns_from-set g 0 marks item Unseen (Active (length active)) unseen in
       let at : 0 + item ≡ item = omega arith in
       let was : turns_of g (0 + item) Unseen ≡ g.degree item + 2 = ap (λ i. g.degree i + 2) at in
-      omega (arith, sums, was, length-append bounds (length active ∷ []), length-append pending more, waits-length g (length active) item (g.degree item))
+      omega (
+        arith,
+        sums,
+        was,
+        length-append bounds (length active ∷ []),
+        length-append pending more,
+        waits-length g (length active) item (g.degree item),
+      )

@@ -7,7 +7,8 @@ use Rattle.ps_components.specs.ComponentLists.{ComponentsData, IsIn, AreComponen
 use Rattle.ps_components.specs.Orders.{IsOrder, IsFirstOnCycle, IsKnot}
 
 -- a way leads to no later component
-pub way_falls : (g : Digraph) (c : ComponentsData) → AreComponents g c → (i j k : ℕ) → Way (Link g) i j → IsIn c i k → (m : ℕ) × IsIn c j m × (m ≤ k)
+pub way_falls : (g : Digraph) (c : ComponentsData) → AreComponents g c → (i j k : ℕ) → Way (Link g) i j → IsIn c i k →
+    (m : ℕ) × IsIn c j m × (m ≤ k)
 way_falls g c a i j k (last r) h = a.falls i k j h r
 way_falls g c a i j k (next {j = x} r w) h =
     let m = a.falls i k x h r in
@@ -35,7 +36,10 @@ module _ (g : Digraph) (c : ComponentsData) (a : AreComponents g c) (met : AreAl
 
   pub cycle_of_knot : (i : ℕ) → IsKnot g c i → Way (Link g) i i
   cycle_of_knot i k =
-      elim (a.same k.to i k.number k.there k.here) [ inl e ↦ subst (λ x. Way (Link g) i x) e (last k.link) | inr w ↦ next k.link w ]
+      elim (a.same k.to i k.number k.there k.here) [
+        | inl e ↦ subst (λ x. Way (Link g) i x) e (last k.link)
+        | inr w ↦ next k.link w
+      ]
 
   pub first-knot : (i : ℕ) → IsKnot g c i → ((j : ℕ) → j < i → IsKnot g c j → ⊥) → IsFirstOnCycle (Link g) i
   first-knot i k none = record {
@@ -62,7 +66,11 @@ module _ (g : Digraph) (c : ComponentsData) (a : AreComponents g c) (met : AreAl
                 let same : i ≡ j = cc in
                 let at : IsIn c i m.0 = subst (λ x. IsIn c x m.0) (sym same) m.1 in
                 absurd (none i r.from (knot (let was = o.1 in cc))))
-            | inr ne ↦ absurd (none i r.from (knot (omega (arith, m.2, a.rises k l i j o.0 m.0 (omega arith) hk hl o.1 m.1))))
+            | inr ne ↦ absurd (none i r.from (knot (omega (
+              arith,
+              m.2,
+              a.rises k l i j o.0 m.0 (omega arith) hk hl o.1 m.1,
+            ))))
           ]
         ]);
   }

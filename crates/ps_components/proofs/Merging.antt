@@ -9,9 +9,12 @@ use Rattle.ps_components.specs.Searching.{IsSettled, closed, active as settled_a
 use Rattle.ps_components.proofs.Places.{slice_get-append_left, slice_get-push_cases}
 use Rattle.ps_components.proofs.Ways.{across}
 
-module _ (g : Digraph) (marks : List Mark) (active bounds : List ℕ) (pending : List Pending) (order : List ℕ) (s : IsSoundSearch g marks active bounds pending order) where
+module _ (g : Digraph) (marks : List Mark) (active bounds : List ℕ) (pending : List Pending) (order : List ℕ)
+    (s : IsSoundSearch g marks active bounds pending order) where
   -- the last segment and those behind the place of w are joined, where the last one has a link to w
-  pub sound-merged : (from place v w : ℕ) (fewer : List ℕ) → slice_get active from ≡ Some v → Link g v w → slice_get marks w ≡ Some (Active place) → ((k b : ℕ) → slice_get bounds k ≡ Some b → b ≤ from) → IsCut bounds place fewer → IsSoundSearch g marks active fewer pending order
+  pub sound-merged : (from place v w : ℕ) (fewer : List ℕ) → slice_get active from ≡ Some v → Link g v w →
+      slice_get marks w ≡ Some (Active place) → ((k b : ℕ) → slice_get bounds k ≡ Some b → b ≤ from) →
+      IsCut bounds place fewer → IsSoundSearch g marks active fewer pending order
   sound-merged from place v w fewer hv l hw last cut = record {
     within = s.within;
     marked = s.marked;
@@ -26,7 +29,8 @@ module _ (g : Digraph) (marks : List Mark) (active bounds : List ℕ) (pending :
       | inl lt ↦ inr (across g a v w b
           (s.together p from a v hp hv (λ k c h _. last k c h))
           l
-          (s.together place q w b (s.marked_active place w hw) hq (λ k c h le. later k c (cut.kept k c h le) (omega arith))))
+          (s.together place q w b (s.marked_active place w hw) hq
+          (λ k c h le. later k c (cut.kept k c h le) (omega arith))))
       | inr le ↦ s.together p q a b hp hq (λ k c h lc. later k c (cut.kept k c h (omega arith)) lc)
     ];
     looked_at = λ p a b h m. elim (s.looked_at p a b h m) [ inl y ↦ inl y | inr y ↦ inr (still p b y) ];
@@ -46,7 +50,9 @@ module _ (g : Digraph) (marks : List Mark) (active bounds : List ℕ) (pending :
       still p w (settled_active q a later) = settled_active q a (λ k b h le. later k b (cut.part k b h) le)
 
 -- a link that leads to what is settled need wait no more
-pub sound-taken : (g : Digraph) (marks : List Mark) (active bounds : List ℕ) (pending : List Pending) (order : List ℕ) (e : Pending) → IsSoundSearch g marks active bounds (pending ++ e ∷ []) order → IsSettled marks bounds e.from e.to → IsSoundSearch g marks active bounds pending order
+pub sound-taken : (g : Digraph) (marks : List Mark) (active bounds : List ℕ) (pending : List Pending) (order : List ℕ)
+    (e : Pending) → IsSoundSearch g marks active bounds (pending ++ e ∷ []) order → IsSettled marks bounds e.from e.to →
+    IsSoundSearch g marks active bounds pending order
 sound-taken g marks active bounds pending order e s settled = record {
   within = s.within;
   marked = s.marked;
@@ -56,7 +62,9 @@ sound-taken g marks active bounds pending order e s settled = record {
   bounds_within = s.bounds_within;
   bounds_start = s.bounds_start;
   pending_links = λ i f h. s.pending_links i f (slice_get-append_left pending _ i f h);
-  pending_rise = λ i j f g hi hj lt. s.pending_rise i j f g (slice_get-append_left pending _ i f hi) (slice_get-append_left pending _ j g hj) lt;
+  pending_rise =
+      λ i j f g hi hj lt. s.pending_rise i j f g (slice_get-append_left pending _ i f hi)
+      (slice_get-append_left pending _ j g hj) lt;
   together = s.together;
   looked_at = λ p v w h l. elim (s.looked_at p v w h l) [ inl y ↦ still p w y | inr y ↦ inr y ];
   closed_links = s.closed_links;
@@ -74,5 +82,6 @@ sound-taken g marks active bounds pending order e s settled = record {
     still p w y =
         elim (slice_get-push_cases pending e y.at y.step y.is) [
           | inl k ↦ inl (record { at = y.at; step = y.step; is = k; from_is = y.from_is; to_is = y.to_is })
-          | inr k ↦ inr (subst (λ x. IsSettled marks bounds p x) (ap (λ x. x.to) k.1 ∙ y.to_is) (subst (λ x. IsSettled marks bounds x e.to) (ap (λ x. x.from) k.1 ∙ y.from_is) settled))
+          | inr k ↦ inr (subst (λ x. IsSettled marks bounds p x) (ap (λ x. x.to) k.1 ∙ y.to_is)
+              (subst (λ x. IsSettled marks bounds x e.to) (ap (λ x. x.from) k.1 ∙ y.from_is) settled))
         ]

@@ -1,8 +1,10 @@
 -- Lemmas on `slice_get`.
-use Rattle.std.proofs.Common.{◌≡◌, ◌≢◌, ℕ, ◌+◌, ◌-◌, ◌<◌, ◌⊎◌, inl, inr, List, [], ◌∷◌, ◌++◌, length, take, drop, refl, ap, subst, arith, Some, slice_get, set, suc, zero, zero-add}
+use Rattle.std.proofs.Common.{◌≡◌, ◌≢◌, ℕ, ◌+◌, ◌-◌, ◌<◌, ◌⊎◌, inl, inr, List, [], ◌∷◌, ◌++◌, length, take, drop, refl}
+use Rattle.std.proofs.Common.{ap, subst, arith, Some, slice_get, set, suc, zero, zero-add}
 use Rattle.std.proofs.lemmas.Option.{slice_get_within}
 
-pub slice_get-append_left : {X : Type 0} (xs ys : List X) (i : ℕ) (x : X) → slice_get xs i ≡ Some x → slice_get (xs ++ ys) i ≡ Some x
+pub slice_get-append_left : {X : Type 0} (xs ys : List X) (i : ℕ) (x : X) → slice_get xs i ≡ Some x →
+    slice_get (xs ++ ys) i ≡ Some x
 slice_get-append_left [] ys i x h = cc
 slice_get-append_left (y ∷ xs) ys zero x h = h
 slice_get-append_left (y ∷ xs) ys (suc i) x h = slice_get-append_left xs ys i x h
@@ -11,7 +13,8 @@ pub slice_get-push : {X : Type 0} (xs : List X) (x : X) → slice_get (xs ++ x �
 slice_get-push [] x = refl
 slice_get-push (y ∷ xs) x = slice_get-push xs x
 
-pub slice_get-push_cases : {X : Type 0} (xs : List X) (y : X) (i : ℕ) (x : X) → slice_get (xs ++ y ∷ []) i ≡ Some x → (slice_get xs i ≡ Some x) ⊎ ((i ≡ length xs) × (y ≡ x))
+pub slice_get-push_cases : {X : Type 0} (xs : List X) (y : X) (i : ℕ) (x : X) → slice_get (xs ++ y ∷ []) i ≡ Some x →
+    (slice_get xs i ≡ Some x) ⊎ ((i ≡ length xs) × (y ≡ x))
 slice_get-push_cases [] y zero x h = inr (refl, cc)
 slice_get-push_cases [] y (suc i) x h = cc
 slice_get-push_cases (z ∷ xs) y zero x h = inl h
@@ -23,14 +26,16 @@ slice_get-set_same [] i y h = absurd (omega arith)
 slice_get-set_same (x ∷ xs) zero y h = refl
 slice_get-set_same (x ∷ xs) (suc i) y h = slice_get-set_same xs i y (omega arith)
 
-pub slice_get-set_other : {X : Type 0} (xs : List X) (i j : ℕ) (y : X) → j ≢ i → slice_get (set xs i y) j ≡ slice_get xs j
+pub slice_get-set_other : {X : Type 0} (xs : List X) (i j : ℕ) (y : X) → j ≢ i →
+    slice_get (set xs i y) j ≡ slice_get xs j
 slice_get-set_other [] i j y h = refl
 slice_get-set_other (x ∷ xs) zero zero y h = absurd (h refl)
 slice_get-set_other (x ∷ xs) zero (suc j) y h = refl
 slice_get-set_other (x ∷ xs) (suc i) zero y h = refl
 slice_get-set_other (x ∷ xs) (suc i) (suc j) y h = slice_get-set_other xs i j y (λ e. h (ap suc e))
 
-pub slice_get-take_back : {X : Type 0} (n : ℕ) (xs : List X) (i : ℕ) (x : X) → slice_get (take n xs) i ≡ Some x → slice_get xs i ≡ Some x
+pub slice_get-take_back : {X : Type 0} (n : ℕ) (xs : List X) (i : ℕ) (x : X) → slice_get (take n xs) i ≡ Some x →
+    slice_get xs i ≡ Some x
 slice_get-take_back zero xs i x h = cc
 slice_get-take_back (suc n) [] i x h = cc
 slice_get-take_back (suc n) (y ∷ xs) zero x h = h
@@ -48,24 +53,30 @@ suc-add_swap n i = omega arith
 pub slice_get-drop : {X : Type 0} (n : ℕ) (xs : List X) (i : ℕ) → slice_get (drop n xs) i ≡ slice_get xs (n + i)
 slice_get-drop zero xs i = rw zero-add
 slice_get-drop (suc n) [] i = refl
-slice_get-drop (suc n) (x ∷ xs) i = subst (λ k. slice_get (drop n xs) i ≡ slice_get (x ∷ xs) k) (suc-add_swap n i) (slice_get-drop n xs i)
+slice_get-drop (suc n) (x ∷ xs) i =
+    subst (λ k. slice_get (drop n xs) i ≡ slice_get (x ∷ xs) k) (suc-add_swap n i) (slice_get-drop n xs i)
 
-last_split_at : {X : Type 0} (xs : List X) (x : X) (n : ℕ) → length xs ≡ suc n → slice_get xs n ≡ Some x → xs ≡ take n xs ++ x ∷ []
+last_split_at : {X : Type 0} (xs : List X) (x : X) (n : ℕ) → length xs ≡ suc n → slice_get xs n ≡ Some x →
+    xs ≡ take n xs ++ x ∷ []
 last_split_at [] x n e h = cc
 last_split_at (y ∷ []) x zero e h = let same : y ≡ x = cc in ap (λ z. z ∷ []) same
 last_split_at (y ∷ z ∷ ys) x zero e h = absurd (omega arith)
 last_split_at (y ∷ ys) x (suc n) e h = ap (λ zs. y ∷ zs) (last_split_at ys x n (omega arith) h)
 
-pub last_split : {X : Type 0} (xs : List X) (x : X) → slice_get xs (length xs - 1) ≡ Some x → xs ≡ take (length xs - 1) xs ++ x ∷ []
+pub last_split : {X : Type 0} (xs : List X) (x : X) → slice_get xs (length xs - 1) ≡ Some x →
+    xs ≡ take (length xs - 1) xs ++ x ∷ []
 last_split xs x h = last_split_at xs x (length xs - 1) (omega (arith, slice_get_within xs _ x h)) h
 
 -- what stands in two lists joined stands in the first, or in the second
-pub slice_get-append_cases : {X : Type 0} (xs ys : List X) (i : ℕ) (x : X) → slice_get (xs ++ ys) i ≡ Some x → (slice_get xs i ≡ Some x) ⊎ ((j : ℕ) × (i ≡ length xs + j) × (slice_get ys j ≡ Some x))
+pub slice_get-append_cases : {X : Type 0} (xs ys : List X) (i : ℕ) (x : X) → slice_get (xs ++ ys) i ≡ Some x →
+    (slice_get xs i ≡ Some x) ⊎ ((j : ℕ) × (i ≡ length xs + j) × (slice_get ys j ≡ Some x))
 slice_get-append_cases [] ys i x h = inr (i, omega arith, h)
 slice_get-append_cases (y ∷ xs) ys zero x h = inl h
 slice_get-append_cases (y ∷ xs) ys (suc i) x h =
     elim (slice_get-append_cases xs ys i x h) [ inl k ↦ inl k | inr k ↦ inr (k.0, omega (arith, k.1), k.2) ]
 
-pub slice_get-append_right : {X : Type 0} (xs ys : List X) (j : ℕ) (x : X) → slice_get ys j ≡ Some x → slice_get (xs ++ ys) (length xs + j) ≡ Some x
+pub slice_get-append_right : {X : Type 0} (xs ys : List X) (j : ℕ) (x : X) → slice_get ys j ≡ Some x →
+    slice_get (xs ++ ys) (length xs + j) ≡ Some x
 slice_get-append_right [] ys j x h = rw zero-add h
-slice_get-append_right (y ∷ xs) ys j x h = subst (λ k. slice_get (y ∷ (xs ++ ys)) k ≡ Some x) (suc-add_swap (length xs) j) (slice_get-append_right xs ys j x h)
+slice_get-append_right (y ∷ xs) ys j x h =
+    subst (λ k. slice_get (y ∷ (xs ++ ys)) k ≡ Some x) (suc-add_swap (length xs) j) (slice_get-append_right xs ys j x h)

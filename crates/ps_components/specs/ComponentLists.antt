@@ -11,9 +11,9 @@ pub record ComponentsData : Type 0 where
 abbrev pub IsIn : ComponentsData → ℕ → ℕ → Type 0
 IsIn c v k = slice_get c.numbers v ≡ Some (Some k)
 
--- the vertices that were met stand in order, component by component, each once; a component's number is the place where it
--- begins; links lead from what was met to what was met, in the same component or one that stands before; the vertices of
--- a component lead to one another
+-- the vertices that were met stand in order, component by component, each once; a component's number is the place where
+-- it begins; links lead from what was met to what was met, in the same component or one that stands before; the
+-- vertices of a component lead to one another
 pub record AreComponents (g : Digraph) (c : ComponentsData) : Type 0 where
   pub counted : length c.numbers ≡ g.count
   pub falls : (v k w : ℕ) → IsIn c v k → Link g v w → (m : ℕ) × IsIn c w m × (m ≤ k)
@@ -23,7 +23,8 @@ pub record AreComponents (g : Digraph) (c : ComponentsData) : Type 0 where
   pub starts : (i v k : ℕ) → slice_get c.order i ≡ Some v → IsIn c v k → k ≤ i
   pub listed : (v k : ℕ) → IsIn c v k → (i : ℕ) × (slice_get c.order i ≡ Some v)
   pub ordered : (i v : ℕ) → slice_get c.order i ≡ Some v → (k : ℕ) × IsIn c v k
-  pub rises : (i j v w k m : ℕ) → i < j → slice_get c.order i ≡ Some v → slice_get c.order j ≡ Some w → IsIn c v k → IsIn c w m → k ≤ m
+  pub rises : (i j v w k m : ℕ) → i < j → slice_get c.order i ≡ Some v → slice_get c.order j ≡ Some w → IsIn c v k →
+      IsIn c w m → k ≤ m
   pub once : (i j v : ℕ) → slice_get c.order i ≡ Some v → slice_get c.order j ≡ Some v → i ≡ j
 
 -- the vertices that were met are these, and those to which they lead

@@ -1,5 +1,6 @@
 -- What the search for components keeps true of its lists.
-use Rattle.std.specs.Prelude.{◌≡◌, ℕ, ◌+◌, ◌<◌, ◌≤◌, ◌⊎◌, List, [], ◌∷◌, ◌++◌, length, slice_get, slice_set, Option, Some, None, zero, suc}
+use Rattle.std.specs.Prelude.{◌≡◌, ℕ, ◌+◌, ◌<◌, ◌≤◌, ◌⊎◌, List, [], ◌∷◌, ◌++◌, length, slice_get, slice_set, Option}
+use Rattle.std.specs.Prelude.{Some, None, zero, suc}
 use Rattle.ps_components.specs.Graphs.{Digraph, Link, IsWithin, SameOrWay, IsReached}
 use Rattle.ps_components.specs.declared.search.Mark.{Mark}
 use Rattle.ps_components.specs.declared.search.Mark.TheVariants.{Unseen, Active, Closed}
@@ -24,7 +25,8 @@ pub record IsPending (pending : List Pending) (p w : ℕ) : Type 0 where
 
 -- the active places stand in segments, each beginning at a bound; the items of a segment lead to one another and
 -- to those of later segments; what is closed stands in order, and leads to what was closed before or with it
-pub record IsSoundSearch (g : Digraph) (marks : List Mark) (active bounds : List ℕ) (pending : List Pending) (order : List ℕ) : Type 0 where
+pub record IsSoundSearch (g : Digraph) (marks : List Mark) (active bounds : List ℕ) (pending : List Pending)
+    (order : List ℕ) : Type 0 where
   pub within : IsWithin g
   pub marked : length marks ≡ g.count
   pub active_marked : (p v : ℕ) → slice_get active p ≡ Some v → slice_get marks v ≡ Some (Active p)
@@ -32,18 +34,25 @@ pub record IsSoundSearch (g : Digraph) (marks : List Mark) (active bounds : List
   pub bounds_rise : (i j b c : ℕ) → slice_get bounds i ≡ Some b → slice_get bounds j ≡ Some c → i < j → b < c
   pub bounds_within : (i b : ℕ) → slice_get bounds i ≡ Some b → b < length active
   pub bounds_start : 0 < length active → slice_get bounds 0 ≡ Some 0
-  pub pending_links : (i : ℕ) (e : Pending) → slice_get pending i ≡ Some e → (v : ℕ) × (slice_get active e.from ≡ Some v) × Link g v e.to
-  pub pending_rise : (i j : ℕ) (e f : Pending) → slice_get pending i ≡ Some e → slice_get pending j ≡ Some f → i < j → e.from ≤ f.from
-  pub together : (p q v w : ℕ) → slice_get active p ≡ Some v → slice_get active q ≡ Some w → NoLater bounds p q → SameOrWay g v w
-  pub looked_at : (p v w : ℕ) → slice_get active p ≡ Some v → Link g v w → IsPending pending p w ⊎ IsSettled marks bounds p w
-  pub closed_links : (v k w : ℕ) → slice_get marks v ≡ Some (Closed k) → Link g v w → (m : ℕ) × (slice_get marks w ≡ Some (Closed m)) × (m ≤ k)
+  pub pending_links : (i : ℕ) (e : Pending) → slice_get pending i ≡ Some e →
+      (v : ℕ) × (slice_get active e.from ≡ Some v) × Link g v e.to
+  pub pending_rise : (i j : ℕ) (e f : Pending) → slice_get pending i ≡ Some e → slice_get pending j ≡ Some f → i < j →
+      e.from ≤ f.from
+  pub together : (p q v w : ℕ) → slice_get active p ≡ Some v → slice_get active q ≡ Some w → NoLater bounds p q →
+      SameOrWay g v w
+  pub looked_at : (p v w : ℕ) → slice_get active p ≡ Some v → Link g v w →
+      IsPending pending p w ⊎ IsSettled marks bounds p w
+  pub closed_links : (v k w : ℕ) → slice_get marks v ≡ Some (Closed k) → Link g v w →
+      (m : ℕ) × (slice_get marks w ≡ Some (Closed m)) × (m ≤ k)
   pub same : (v w k : ℕ) → slice_get marks v ≡ Some (Closed k) → slice_get marks w ≡ Some (Closed k) → SameOrWay g v w
   pub numbered : (v k : ℕ) → slice_get marks v ≡ Some (Closed k) → k < length order
-  pub begins : (v k : ℕ) → slice_get marks v ≡ Some (Closed k) → (u : ℕ) × (slice_get order k ≡ Some u) × (slice_get marks u ≡ Some (Closed k))
+  pub begins : (v k : ℕ) → slice_get marks v ≡ Some (Closed k) →
+      (u : ℕ) × (slice_get order k ≡ Some u) × (slice_get marks u ≡ Some (Closed k))
   pub starts : (i v k : ℕ) → slice_get order i ≡ Some v → slice_get marks v ≡ Some (Closed k) → k ≤ i
   pub listed : (v k : ℕ) → slice_get marks v ≡ Some (Closed k) → (i : ℕ) × (slice_get order i ≡ Some v)
   pub ordered : (i v : ℕ) → slice_get order i ≡ Some v → (k : ℕ) × (slice_get marks v ≡ Some (Closed k))
-  pub rises : (i j v w k m : ℕ) → i < j → slice_get order i ≡ Some v → slice_get order j ≡ Some w → slice_get marks v ≡ Some (Closed k) → slice_get marks w ≡ Some (Closed m) → k ≤ m
+  pub rises : (i j v w k m : ℕ) → i < j → slice_get order i ≡ Some v → slice_get order j ≡ Some w →
+      slice_get marks v ≡ Some (Closed k) → slice_get marks w ≡ Some (Closed m) → k ≤ m
   pub once : (i j v : ℕ) → slice_get order i ≡ Some v → slice_get order j ≡ Some v → i ≡ j
 
 -- only of vertices to which these lead the mark changed

@@ -5,11 +5,13 @@ use Rattle.ps_components.specs.declared.trail.Step.{Step}
 
 -- each step but the first comes by a link from an earlier one
 abbrev pub ComeBack : Digraph → List Step → Type 0
-ComeBack g steps = (i : ℕ) (s : Step) → 0 < i → slice_get steps i ≡ Some s → (t : Step) × (s.from < i) × (slice_get steps s.from ≡ Some t) × Link g t.item s.item
+ComeBack g steps = (i : ℕ) (s : Step) → 0 < i → slice_get steps i ≡ Some s →
+    (t : Step) × (s.from < i) × (slice_get steps s.from ≡ Some t) × Link g t.item s.item
 
 -- two steps have different vertices
 abbrev pub AreApart : List Step → Type 0
-AreApart steps = (i j : ℕ) (s t : Step) → slice_get steps i ≡ Some s → slice_get steps j ≡ Some t → s.item ≡ t.item → i ≡ j
+AreApart steps =
+    (i j : ℕ) (s t : Step) → slice_get steps i ≡ Some s → slice_get steps j ≡ Some t → s.item ≡ t.item → i ≡ j
 
 -- the vertices of the steps are those that were seen; where those before a place lead was seen
 pub record IsSpread (g : Digraph) (seen : List Bool) (steps : List Step) (place : ℕ) : Type 0 where
@@ -17,9 +19,11 @@ pub record IsSpread (g : Digraph) (seen : List Bool) (steps : List Step) (place 
   pub counted : length seen ≡ g.count
   pub back : ComeBack g steps
   pub apart : AreApart steps
-  pub reached : (v : ℕ) → slice_get seen v ≡ Some true → (i : ℕ) × (s : Step) × (slice_get steps i ≡ Some s) × (s.item ≡ v)
+  pub reached : (v : ℕ) → slice_get seen v ≡ Some true → (i : ℕ) × (s : Step) ×
+      (slice_get steps i ≡ Some s) × (s.item ≡ v)
   pub seen_steps : (i : ℕ) (s : Step) → slice_get steps i ≡ Some s → slice_get seen s.item ≡ Some true
-  pub looked : (i w : ℕ) (s : Step) → i < place → slice_get steps i ≡ Some s → Link g s.item w → slice_get seen w ≡ Some true
+  pub looked : (i w : ℕ) (s : Step) → i < place → slice_get steps i ≡ Some s → Link g s.item w →
+      slice_get seen w ≡ Some true
 
 -- the steps stay, and others come behind them
 abbrev pub KeepsSteps : List Step → List Step → Type 0

@@ -37,7 +37,8 @@ pub fn arrange<G: Graph>(alloc: Global, graph: &G) -> Result<Arrangement, AllocE
 fn first_knot<G: Graph>(graph: &G, components: &Components) -> Option<usize>
     requires components { AreComponents (G.graph graph.now) components.now }
     requires met { AreAllMet (G.graph graph.now) components.now }
-    ensures none { IfNone result ((i : ℕ) → i < (G.graph graph.now).count → ¬ IsKnot (G.graph graph.now) components.now i) }
+    ensures none { IfNone result ((i : ℕ) → i < (G.graph graph.now).count →
+        ¬ IsKnot (G.graph graph.now) components.now i) }
     ensures knot { IfSome result (IsKnot (G.graph graph.now) components.now) }
     ensures first { IfSome result (λ i. (j : ℕ) → j < i → ¬ IsKnot (G.graph graph.now) components.now j) }
 {

@@ -1,9 +1,11 @@
 //! The search for components along one path, as Gabow does it: items are put at the end of the path, and where a link
 //! leads back into the path, all components from there on become one.
 
-ghost use Rattle.std.specs.Prelude.{◌≡◌, ℕ, ◌<◌, ◌≤◌, ◌++◌, ◌∷◌, [], ◌-◌, All, length, slice_get, slice_set, Some, OnOk, IfOk};
+ghost use Rattle.std.specs.Prelude.{◌≡◌, ℕ, ◌<◌, ◌≤◌, ◌++◌, ◌∷◌, [], ◌-◌, All, length, slice_get, slice_set, Some};
+ghost use Rattle.std.specs.Prelude.{OnOk, IfOk};
 ghost use Rattle.ps_components.specs.Graphs.{Way, Link};
-ghost use Rattle.ps_components.specs.Searching.{IsSoundSearch, IsSettled, KeepsMarks, ChangesReached, turns, waits, IsCut, close_all};
+ghost use Rattle.ps_components.specs.Searching.{IsSoundSearch, IsSettled, KeepsMarks, ChangesReached, turns, waits};
+ghost use Rattle.ps_components.specs.Searching.{IsCut, close_all};
 ghost use Rattle.ps_components.specs.declared.search.Pending.{Pending};
 
 use crate::graph::Graph;
@@ -46,7 +48,8 @@ impl Search {
     ///
     /// Fails where a growth was refused.
     pub fn new<G: Graph>(alloc: Global, graph: &G) -> Result<Self, AllocError>
-        ensures sound { IfOk result (λ s. IsSoundSearch (G.graph graph.now) s.marks.items s.active.items s.bounds.items s.pending.items s.order.items) }
+        ensures sound { IfOk result (λ s. IsSoundSearch (G.graph graph.now) s.marks.items s.active.items s.bounds.items
+            s.pending.items s.order.items) }
         ensures ended { IfOk result (λ s. length s.bounds.items ≡ 0) }
         ensures unseen { IfOk result (λ s. All (λ m. m ≡ Mark.Unseen) s.marks.items) }
     {
@@ -66,13 +69,16 @@ impl Search {
     /// Fails where a growth was refused.
     pub fn visit<G: Graph>(&mut self, graph: &G, item: usize) -> Result<(), AllocError>
         requires within { item < (G.graph graph.now).count }
-        requires sound { IsSoundSearch (G.graph graph.now) self.old.marks.items self.old.active.items self.old.bounds.items self.old.pending.items self.old.order.items }
+        requires sound { IsSoundSearch (G.graph graph.now) self.old.marks.items self.old.active.items
+            self.old.bounds.items self.old.pending.items self.old.order.items }
         requires ended { length self.old.bounds.items ≡ 0 }
-        ensures sound { OnOk result (IsSoundSearch (G.graph graph.now) self.new.marks.items self.new.active.items self.new.bounds.items self.new.pending.items self.new.order.items) }
+        ensures sound { OnOk result (IsSoundSearch (G.graph graph.now) self.new.marks.items self.new.active.items
+            self.new.bounds.items self.new.pending.items self.new.order.items) }
         ensures ended { OnOk result (length self.new.bounds.items ≡ 0) }
         ensures kept { OnOk result (KeepsMarks self.old.marks.items self.new.marks.items) }
         ensures seen { OnOk result (¬ (slice_get self.new.marks.items item ≡ Some Mark.Unseen)) }
-        ensures reached { OnOk result (ChangesReached (G.graph graph.now) (item ∷ []) self.old.marks.items self.new.marks.items) }
+        ensures reached { OnOk result (ChangesReached (G.graph graph.now) (item ∷ []) self.old.marks.items
+            self.new.marks.items) }
     {
         if let Mark::Unseen = self.marks[item] {
             self.enter(graph, item)?;
@@ -83,11 +89,14 @@ impl Search {
 
     /// Looks at all links that the path leads to.
     fn run<G: Graph>(&mut self, graph: &G) -> Result<(), AllocError>
-        requires { IsSoundSearch (G.graph graph.now) self.old.marks.items self.old.active.items self.old.bounds.items self.old.pending.items self.old.order.items }
-        ensures sound { OnOk result (IsSoundSearch (G.graph graph.now) self.new.marks.items self.new.active.items self.new.bounds.items self.new.pending.items self.new.order.items) }
+        requires { IsSoundSearch (G.graph graph.now) self.old.marks.items self.old.active.items self.old.bounds.items
+            self.old.pending.items self.old.order.items }
+        ensures sound { OnOk result (IsSoundSearch (G.graph graph.now) self.new.marks.items self.new.active.items
+            self.new.bounds.items self.new.pending.items self.new.order.items) }
         ensures ended { OnOk result (length self.new.bounds.items ≡ 0) }
         ensures kept { OnOk result (KeepsMarks self.old.marks.items self.new.marks.items) }
-        ensures reached { OnOk result (ChangesReached (G.graph graph.now) self.old.active.items self.old.marks.items self.new.marks.items) }
+        ensures reached { OnOk result (ChangesReached (G.graph graph.now) self.old.active.items self.old.marks.items
+            self.new.marks.items) }
     {
         while let Some(&bound) = self.bounds.last() {
             self.step(graph, bound)?;
@@ -98,11 +107,16 @@ impl Search {
     /// Looks at the last link that waits, if it is one of the last segment, and else closes that segment.
     fn step<G: Graph>(&mut self, graph: &G, bound: usize) -> Result<(), AllocError>
         requires last { slice_get self.old.bounds.items (length self.old.bounds.items - 1) ≡ Some bound }
-        requires sound { IsSoundSearch (G.graph graph.now) self.old.marks.items self.old.active.items self.old.bounds.items self.old.pending.items self.old.order.items }
-        ensures sound { OnOk result (IsSoundSearch (G.graph graph.now) self.new.marks.items self.new.active.items self.new.bounds.items self.new.pending.items self.new.order.items) }
-        ensures fewer { OnOk result (turns (G.graph graph.now) self.new.marks.items self.new.bounds.items self.new.pending.items < turns (G.graph graph.now) self.old.marks.items self.old.bounds.items self.old.pending.items) }
+        requires sound { IsSoundSearch (G.graph graph.now) self.old.marks.items self.old.active.items
+            self.old.bounds.items self.old.pending.items self.old.order.items }
+        ensures sound { OnOk result (IsSoundSearch (G.graph graph.now) self.new.marks.items self.new.active.items
+            self.new.bounds.items self.new.pending.items self.new.order.items) }
+        ensures fewer { OnOk result (turns (G.graph graph.now) self.new.marks.items self.new.bounds.items
+            self.new.pending.items < turns (G.graph graph.now) self.old.marks.items self.old.bounds.items
+            self.old.pending.items) }
         ensures kept { OnOk result (KeepsMarks self.old.marks.items self.new.marks.items) }
-        ensures reached { OnOk result (ChangesReached (G.graph graph.now) self.old.active.items self.old.marks.items self.new.marks.items) }
+        ensures reached { OnOk result (ChangesReached (G.graph graph.now) self.old.active.items self.old.marks.items
+            self.new.marks.items) }
     {
         let Some(&pending) = self.pending.last() else {
             return self.close(graph, bound);
@@ -125,12 +139,18 @@ impl Search {
     fn enter<G: Graph>(&mut self, graph: &G, item: usize) -> Result<(), AllocError>
         requires within { item < (G.graph graph.now).count }
         requires unseen { slice_get self.old.marks.items item ≡ Some Mark.Unseen }
-        requires reached { (p v : ℕ) → slice_get self.old.active.items p ≡ Some v → Way (Link (G.graph graph.now)) v item }
-        requires sound { IsSoundSearch (G.graph graph.now) self.old.marks.items self.old.active.items self.old.bounds.items self.old.pending.items self.old.order.items }
-        ensures sound { OnOk result (IsSoundSearch (G.graph graph.now) self.new.marks.items self.new.active.items self.new.bounds.items self.new.pending.items self.new.order.items) }
-        ensures fewer { OnOk result (turns (G.graph graph.now) self.new.marks.items self.new.bounds.items self.new.pending.items < turns (G.graph graph.now) self.old.marks.items self.old.bounds.items self.old.pending.items) }
+        requires reached { (p v : ℕ) → slice_get self.old.active.items p ≡ Some v →
+            Way (Link (G.graph graph.now)) v item }
+        requires sound { IsSoundSearch (G.graph graph.now) self.old.marks.items self.old.active.items
+            self.old.bounds.items self.old.pending.items self.old.order.items }
+        ensures sound { OnOk result (IsSoundSearch (G.graph graph.now) self.new.marks.items self.new.active.items
+            self.new.bounds.items self.new.pending.items self.new.order.items) }
+        ensures fewer { OnOk result (turns (G.graph graph.now) self.new.marks.items self.new.bounds.items
+            self.new.pending.items < turns (G.graph graph.now) self.old.marks.items self.old.bounds.items
+            self.old.pending.items) }
         ensures kept { KeepsMarks self.old.marks.items self.new.marks.items }
-        ensures entered { OnOk result (self.new.marks.items ≡ slice_set self.old.marks.items item (Mark.Active (length self.old.active.items))) }
+        ensures entered { OnOk result (self.new.marks.items ≡ slice_set self.old.marks.items item
+            (Mark.Active (length self.old.active.items))) }
         ensures path { OnOk result (self.new.active.items ≡ self.old.active.items ++ item ∷ []) }
     {
         let place = self.active.len();
@@ -144,11 +164,14 @@ impl Search {
     /// Joins the last segment with those behind the place of an item to which it has a link.
     fn merge<G: Graph>(&mut self, graph: &G, pending: Pending, place: usize)
         requires within { pending.to < length self.old.marks.items }
-        requires linked { (v : ℕ) × (slice_get self.old.active.items pending.from ≡ Some v) × Link (G.graph graph.now) v pending.to }
+        requires linked { (v : ℕ) × (slice_get self.old.active.items pending.from ≡ Some v) ×
+            Link (G.graph graph.now) v pending.to }
         requires last { (k b : ℕ) → slice_get self.old.bounds.items k ≡ Some b → b ≤ pending.from }
         requires marked { slice_get self.old.marks.items pending.to ≡ Some (Mark.Active place) }
-        requires sound { IsSoundSearch (G.graph graph.now) self.old.marks.items self.old.active.items self.old.bounds.items self.old.pending.items self.old.order.items }
-        ensures sound { IsSoundSearch (G.graph graph.now) self.new.marks.items self.new.active.items self.new.bounds.items self.new.pending.items self.new.order.items }
+        requires sound { IsSoundSearch (G.graph graph.now) self.old.marks.items self.old.active.items
+            self.old.bounds.items self.old.pending.items self.old.order.items }
+        ensures sound { IsSoundSearch (G.graph graph.now) self.new.marks.items self.new.active.items
+            self.new.bounds.items self.new.pending.items self.new.order.items }
         ensures settled { IsSettled self.new.marks.items self.new.bounds.items pending.from pending.to }
         ensures marks { self.new.marks.items ≡ self.old.marks.items }
         ensures shorter { length self.new.bounds.items ≤ length self.old.bounds.items }
@@ -161,9 +184,12 @@ impl Search {
     fn take<G: Graph>(&mut self, graph: &G, pending: Pending)
         requires last { slice_get self.old.pending.items (length self.old.pending.items - 1) ≡ Some pending }
         requires settled { IsSettled self.old.marks.items self.old.bounds.items pending.from pending.to }
-        requires sound { IsSoundSearch (G.graph graph.now) self.old.marks.items self.old.active.items self.old.bounds.items self.old.pending.items self.old.order.items }
-        ensures sound { IsSoundSearch (G.graph graph.now) self.new.marks.items self.new.active.items self.new.bounds.items self.new.pending.items self.new.order.items }
-        ensures fewer { turns (G.graph graph.now) self.new.marks.items self.new.bounds.items self.new.pending.items < turns (G.graph graph.now) self.old.marks.items self.old.bounds.items self.old.pending.items }
+        requires sound { IsSoundSearch (G.graph graph.now) self.old.marks.items self.old.active.items
+            self.old.bounds.items self.old.pending.items self.old.order.items }
+        ensures sound { IsSoundSearch (G.graph graph.now) self.new.marks.items self.new.active.items
+            self.new.bounds.items self.new.pending.items self.new.order.items }
+        ensures fewer { turns (G.graph graph.now) self.new.marks.items self.new.bounds.items self.new.pending.items <
+            turns (G.graph graph.now) self.old.marks.items self.old.bounds.items self.old.pending.items }
         ensures marks { self.new.marks.items ≡ self.old.marks.items }
     {
         self.pending.pop();
@@ -173,11 +199,16 @@ impl Search {
     fn close<G: Graph>(&mut self, graph: &G, bound: usize) -> Result<(), AllocError>
         requires last { slice_get self.old.bounds.items (length self.old.bounds.items - 1) ≡ Some bound }
         requires done { (i : ℕ) (e : Pending) → slice_get self.old.pending.items i ≡ Some e → e.from < bound }
-        requires sound { IsSoundSearch (G.graph graph.now) self.old.marks.items self.old.active.items self.old.bounds.items self.old.pending.items self.old.order.items }
-        ensures sound { OnOk result (IsSoundSearch (G.graph graph.now) self.new.marks.items self.new.active.items self.new.bounds.items self.new.pending.items self.new.order.items) }
-        ensures fewer { OnOk result (turns (G.graph graph.now) self.new.marks.items self.new.bounds.items self.new.pending.items < turns (G.graph graph.now) self.old.marks.items self.old.bounds.items self.old.pending.items) }
+        requires sound { IsSoundSearch (G.graph graph.now) self.old.marks.items self.old.active.items
+            self.old.bounds.items self.old.pending.items self.old.order.items }
+        ensures sound { OnOk result (IsSoundSearch (G.graph graph.now) self.new.marks.items self.new.active.items
+            self.new.bounds.items self.new.pending.items self.new.order.items) }
+        ensures fewer { OnOk result (turns (G.graph graph.now) self.new.marks.items self.new.bounds.items
+            self.new.pending.items < turns (G.graph graph.now) self.old.marks.items self.old.bounds.items
+            self.old.pending.items) }
         ensures kept { OnOk result (KeepsMarks self.old.marks.items self.new.marks.items) }
-        ensures reached { OnOk result (ChangesReached (G.graph graph.now) self.old.active.items self.old.marks.items self.new.marks.items) }
+        ensures reached { OnOk result (ChangesReached (G.graph graph.now) self.old.active.items self.old.marks.items
+            self.new.marks.items) }
     {
         let number = self.order.len();
         let segment = &self.active[bound..];
@@ -197,7 +228,8 @@ fn wait<G: Graph>(
     item: usize,
 ) -> Result<(), AllocError>
     requires { item < (G.graph graph.now).count }
-    ensures { OnOk result (pending.new.items ≡ pending.old.items ++ waits (G.graph graph.now) from item ((G.graph graph.now).degree item)) }
+    ensures { OnOk result (pending.new.items ≡ pending.old.items ++
+        waits (G.graph graph.now) from item ((G.graph graph.now).degree item)) }
 {
     for place in 0..graph.degree(item) {
         if let Some(to) = graph.target(item, place) {
@@ -209,7 +241,8 @@ fn wait<G: Graph>(
 
 /// Takes the bounds behind this place off the end.
 fn cut(bounds: &mut Vec<usize>, place: usize)
-    requires rise { (i j b c : ℕ) → slice_get bounds.old.items i ≡ Some b → slice_get bounds.old.items j ≡ Some c → i < j → b < c }
+    requires rise { (i j b c : ℕ) → slice_get bounds.old.items i ≡ Some b → slice_get bounds.old.items j ≡ Some c →
+        i < j → b < c }
     ensures { IsCut bounds.old.items place bounds.new.items }
 {
     while let Some(&bound) = bounds.last() {

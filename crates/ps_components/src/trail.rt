@@ -74,7 +74,8 @@ impl Spread {
         requires spread { IsSpread (G.graph graph.now) self.old.seen.items self.old.steps.items place }
         ensures spread { OnOk result (IsSpread (G.graph graph.now) self.new.seen.items self.new.steps.items (place + 1)) }
         ensures kept { OnOk result (KeepsSteps self.old.steps.items self.new.steps.items) }
-        ensures fewer { OnOk result (unseen self.new.seen.items + length self.new.steps.items ≤ unseen self.old.seen.items + length self.old.steps.items) }
+        ensures fewer { OnOk result (unseen self.new.seen.items + length self.new.steps.items ≤ unseen
+            self.old.seen.items + length self.old.steps.items) }
     {
         let item = self.steps[place].item;
         for number in 0..graph.degree(item) {
@@ -88,13 +89,15 @@ impl Spread {
     /// Reaches a vertex from a place, unless it was reached before.
     fn reach<G: Graph>(&mut self, graph: &G, to: usize, place: usize) -> Result<(), AllocError>
         requires to { to < length self.old.seen.items }
-        requires linked { (s : Step) × (slice_get self.old.steps.items place ≡ Some s) × Link (G.graph graph.now) s.item to }
+        requires linked { (s : Step) × (slice_get self.old.steps.items place ≡ Some s) ×
+            Link (G.graph graph.now) s.item to }
         requires spread { IsSpread (G.graph graph.now) self.old.seen.items self.old.steps.items place }
         ensures spread { OnOk result (IsSpread (G.graph graph.now) self.new.seen.items self.new.steps.items place) }
         ensures kept { OnOk result (KeepsSteps self.old.steps.items self.new.steps.items) }
         ensures seen { OnOk result (KeepsSeen self.old.seen.items self.new.seen.items) }
         ensures reached { OnOk result (slice_get self.new.seen.items to ≡ Some true) }
-        ensures fewer { OnOk result (unseen self.new.seen.items + length self.new.steps.items ≤ unseen self.old.seen.items + length self.old.steps.items) }
+        ensures fewer { OnOk result (unseen self.new.seen.items + length self.new.steps.items ≤ unseen
+            self.old.seen.items + length self.old.steps.items) }
     {
         if !self.seen[to] {
             self.seen[to] = true;
@@ -117,7 +120,8 @@ fn trail_from<G: Graph>(
     requires place { place < length steps.now }
     requires back { ComeBack (G.graph graph.now) steps.now }
     requires apart { AreApart steps.now }
-    ensures { (e s : Step) → slice_get steps.now place ≡ Some e → slice_get steps.now 0 ≡ Some s → IfOk result (λ trail. IsTrail (G.graph graph.now) trail.items e.item s.item) }
+    ensures { (e s : Step) → slice_get steps.now place ≡ Some e → slice_get steps.now 0 ≡ Some s →
+        IfOk result (λ trail. IsTrail (G.graph graph.now) trail.items e.item s.item) }
 {
     let mut items = Vec::new(alloc);
     items.push(steps[place].item)?;

@@ -1,5 +1,6 @@
 -- A table with one cell more.
-use Rattle.std.proofs.Common.{◌≡◌, ℕ, ◌+◌, ◌<◌, ◌≤◌, Bool, true, false, List, [], ◌∷◌, ◌++◌, length, get_or, refl, ap, sym, subst, ◌∙◌, arith, length-append, inl, inr, ◌⊎◌, fold, ltb, Option, Some, None, cond}
+use Rattle.std.proofs.Common.{◌≡◌, ℕ, ◌+◌, ◌<◌, ◌≤◌, Bool, true, false, List, [], ◌∷◌, ◌++◌, length, get_or, refl, ap}
+use Rattle.std.proofs.Common.{sym, subst, ◌∙◌, arith, length-append, inl, inr, ◌⊎◌, fold, ltb, Option, Some, None, cond}
 use Rattle.std.proofs.lemmas.List.{get_or_append_left, get_or_push}
 use Rattle.std.proofs.lemmas.List.Sums.{fold_push}
 use Rattle.std.proofs.lemmas.Option.{slice_get_within, slice_get-get_or}
@@ -11,17 +12,20 @@ use Rattle.ps_diagram.specs.declared.view.View.{View}
 use Rattle.ps_diagram.specs.declared.view.View.TheVariants.{Nothing, Leaf, Test}
 use Rattle.ps_diagram.specs.Tree.{Tree, empty, final, choice, IsFrom, IsReduced}
 use Rattle.ps_diagram.specs.Parts.{IsPart}
-use Rattle.ps_diagram.specs.Table.{Table, tree_by, trees_of, tree_at, tree_in, tree_of, IsNode, IsWithin, IsSoundTable, Keeps}
+use Rattle.ps_diagram.specs.Table.{Table, tree_by, trees_of, tree_at, tree_in, tree_of, IsNode, IsWithin, IsSoundTable}
+use Rattle.ps_diagram.specs.Table.{Keeps}
 
 -- the table with one cell more
 abbrev pub more : Table → View → Table
 more t cell = record { propositions = t.propositions; cells = t.cells ++ cell ∷ [] }
 
-trees_push : (cells : List View) (cell : View) → trees_of (cells ++ cell ∷ []) ≡ trees_of cells ++ tree_by (trees_of cells) cell ∷ []
+trees_push : (cells : List View) (cell : View) → trees_of (cells ++ cell ∷ []) ≡ trees_of cells ++
+    tree_by (trees_of cells) cell ∷ []
 unfolding trees_of
 trees_push cells cell = fold_push (λ known c. known ++ tree_by known c ∷ []) [] cells cell
 
-length_from : (known : List Tree) (cells : List View) → length (fold (λ k c. k ++ tree_by k c ∷ []) known cells) ≡ length known + length cells
+length_from : (known : List Tree) (cells : List View) → length (fold (λ k c. k ++ tree_by k c ∷ []) known cells) ≡
+    length known + length cells
 length_from known [] = omega arith
 length_from known (c ∷ cs) =
     let t = tree_by known c in
@@ -31,21 +35,26 @@ pub length_trees : (cells : List View) → length (trees_of cells) ≡ length ce
 unfolding trees_of
 length_trees cells = omega (arith, length_from [] cells)
 
-pub tree_at-old : (cells : List View) (cell : View) (k : ℕ) → k < length cells → tree_at (cells ++ cell ∷ []) k ≡ tree_at cells k
+pub tree_at-old : (cells : List View) (cell : View) (k : ℕ) → k < length cells →
+    tree_at (cells ++ cell ∷ []) k ≡ tree_at cells k
 tree_at-old cells cell k h =
     let within : k < length (trees_of cells) = omega (arith, length_trees cells, h) in
-    ap (λ trees. get_or trees k empty) (trees_push cells cell) ∙ get_or_append_left (trees_of cells) (tree_by (trees_of cells) cell ∷ []) empty k within
+    ap (λ trees. get_or trees k empty) (trees_push cells cell)
+    ∙ get_or_append_left (trees_of cells) (tree_by (trees_of cells) cell ∷ []) empty k within
 
 pub tree_at-new : (cells : List View) (cell : View) → tree_at (cells ++ cell ∷ []) (length cells) ≡ tree_in cells cell
 tree_at-new cells cell =
-    ap (λ trees. get_or trees (length cells) empty) (trees_push cells cell) ∙ get_or_push (trees_of cells) (tree_by (trees_of cells) cell) empty (length cells) (length_trees cells)
+    ap (λ trees. get_or trees (length cells) empty) (trees_push cells cell)
+    ∙ get_or_push (trees_of cells) (tree_by (trees_of cells) cell) empty (length cells) (length_trees cells)
 
 -- the tree of a cell whose nodes are held stays
-pub tree_in-old : (cells : List View) (cell c : View) → IsWithin (length cells) c → tree_in (cells ++ cell ∷ []) c ≡ tree_in cells c
+pub tree_in-old : (cells : List View) (cell c : View) → IsWithin (length cells) c →
+    tree_in (cells ++ cell ∷ []) c ≡ tree_in cells c
 tree_in-old cells cell Nothing h = refl
 tree_in-old cells cell (Leaf k) h = refl
 tree_in-old cells cell (Test p low high) h =
-    ap (λ t. choice p t (tree_at (cells ++ cell ∷ []) high)) (tree_at-old cells cell low h.0) ∙ ap (λ t. choice p (tree_at cells low) t) (tree_at-old cells cell high h.1)
+    ap (λ t. choice p t (tree_at (cells ++ cell ∷ []) high)) (tree_at-old cells cell low h.0)
+    ∙ ap (λ t. choice p (tree_at cells low) t) (tree_at-old cells cell high h.1)
 
 pub within-weaker : (a b : ℕ) (c : View) → a ≤ b → IsWithin a c → IsWithin b c
 within-weaker a b Nothing le h = tt
@@ -78,7 +87,8 @@ kind_of empty = 0
 kind_of (final k) = 1
 kind_of (choice p low high) = 2
 
-pub same_cell : (t : Table) → IsSoundTable t → (a b : View) → IsWithin (length t.cells) a → IsWithin (length t.cells) b → tree_in t.cells a ≡ tree_in t.cells b → a ≡ b
+pub same_cell : (t : Table) → IsSoundTable t → (a b : View) → IsWithin (length t.cells) a →
+    IsWithin (length t.cells) b → tree_in t.cells a ≡ tree_in t.cells b → a ≡ b
 unfolding final-of name_of low_of high_of kind_of tree_of
 same_cell t s Nothing Nothing ha hb e = refl
 same_cell t s Nothing (Leaf m) ha hb e = let k : 0 ≡ 1 = ap kind_of e in absurd (omega (arith, k))
@@ -127,7 +137,11 @@ get_or_of_some xs k d x e = some_one _ _ (sym (slice_get-get_or xs k d (slice_ge
 
 -- a place of the longer list is an old one or the new one
 pub old_or_new : (k n : ℕ) → k < n + 1 → (k < n) ⊎ (k ≡ n)
-old_or_new k n h = elim (bool_cases (ltb k n)) [ inl is ↦ inl (let t = ltb-true k n is in t) | inr is ↦ inr (let f = ltb-false k n is in omega (arith, f, h)) ]
+old_or_new k n h =
+    elim (bool_cases (ltb k n)) [
+      | inl is ↦ inl (let t = ltb-true k n is in t)
+      | inr is ↦ inr (let f = ltb-false k n is in omega (arith, f, h))
+    ]
 
 pub keeps_more : (t : Table) (cell : View) → Keeps t (more t cell)
 unfolding tree_of
@@ -138,48 +152,62 @@ keeps_more t cell = record {
 }
 
 -- every store with one cell more is sound, where the cell is well made and new
-pub sound_more : (t : Table) (cell : View) → IsSoundTable t → IsWithin (length t.cells) cell → IsFrom 0 t.propositions (tree_in t.cells cell) → IsReduced (tree_in t.cells cell) →
+pub sound_more : (t : Table) (cell : View) → IsSoundTable t → IsWithin (length t.cells) cell →
+    IsFrom 0 t.propositions (tree_in t.cells cell) → IsReduced (tree_in t.cells cell) →
     ((k : ℕ) → k < length t.cells → cell ≡ get_or t.cells k Nothing → ⊥) → IsSoundTable (more t cell)
 unfolding tree_of
 sound_more t cell s w o r new =
     let n = length t.cells in
     let len : length (t.cells ++ cell ∷ []) ≡ n + 1 = length-append t.cells (cell ∷ []) in
     let either : (k : ℕ) → IsNode (more t cell) k → (k < n) ⊎ (k ≡ n) = λ k h. old_or_new k n (omega (arith, len, h)) in
-    let at_old : (k : ℕ) → k < n → get_or (t.cells ++ cell ∷ []) k Nothing ≡ get_or t.cells k Nothing = λ k h. get_or_append_left t.cells (cell ∷ []) Nothing k h in
+    let at_old : (k : ℕ) → k < n → get_or (t.cells ++ cell ∷ []) k Nothing ≡ get_or t.cells k Nothing =
+    λ k h. get_or_append_left t.cells (cell ∷ []) Nothing k h in
     let at_new : get_or (t.cells ++ cell ∷ []) n Nothing ≡ cell = get_or_push t.cells cell Nothing n refl in
     let made_old : (k : ℕ) → k < n → tree_at (t.cells ++ cell ∷ []) k ≡ tree_at t.cells k = tree_at-old t.cells cell in
     let made_new : tree_at (t.cells ++ cell ∷ []) n ≡ tree_in t.cells cell = tree_at-new t.cells cell in
     let apart : (k : ℕ) → k < n → tree_in t.cells cell ≡ tree_at t.cells k → ⊥ =
-    λ k h e. new k h (same_cell t s cell (get_or t.cells k Nothing) w (within-weaker k n _ (omega (arith, h)) (s.earlier k h)) (e ∙ s.built k h)) in
+    λ k h e. new k h (same_cell t s cell (get_or t.cells k Nothing) w
+    (within-weaker k n _ (omega (arith, h)) (s.earlier k h)) (e ∙ s.built k h)) in
     record {
       few = s.few;
       built = λ k h. elim (either k h) [
-        | inl old ↦ made_old k old ∙ s.built k old ∙ sym (tree_in-old t.cells cell _ (within-weaker k n _ (omega (arith, old)) (s.earlier k old))) ∙ ap (λ c. tree_in (t.cells ++ cell ∷ []) c) (sym (at_old k old))
-        | inr e ↦ let P : ℕ → Type 0 = λ j. tree_at (t.cells ++ cell ∷ []) j ≡ tree_in (t.cells ++ cell ∷ []) (get_or (t.cells ++ cell ∷ []) j Nothing) in
-            subst P (sym e) (made_new ∙ sym (tree_in-old t.cells cell cell w) ∙ ap (λ c. tree_in (t.cells ++ cell ∷ []) c) (sym at_new))
+        | inl old ↦ made_old k old ∙ s.built k old ∙ sym (tree_in-old t.cells cell _
+            (within-weaker k n _ (omega (arith, old)) (s.earlier k old)))
+            ∙ ap (λ c. tree_in (t.cells ++ cell ∷ []) c) (sym (at_old k old))
+        | inr e ↦ let P : ℕ → Type 0 =
+            λ j. tree_at (t.cells ++ cell ∷ []) j ≡ tree_in (t.cells ++ cell ∷ [])
+            (get_or (t.cells ++ cell ∷ []) j Nothing) in
+            subst P (sym e) (made_new ∙ sym (tree_in-old t.cells cell cell w)
+            ∙ ap (λ c. tree_in (t.cells ++ cell ∷ []) c) (sym at_new))
       ];
       earlier = λ k h. elim (either k h) [
         | inl old ↦ let P : View → Type 0 = λ c. IsWithin k c in subst P (sym (at_old k old)) (s.earlier k old)
-        | inr e ↦ let P : ℕ → Type 0 = λ j. IsWithin j (get_or (t.cells ++ cell ∷ []) j Nothing) in let Q : View → Type 0 = λ c. IsWithin n c in
+        | inr e ↦ let P : ℕ → Type 0 = λ j. IsWithin j (get_or (t.cells ++ cell ∷ []) j Nothing) in let Q : View →
+            Type 0 = λ c. IsWithin n c in
             subst P (sym e) (subst Q (sym at_new) w)
       ];
       ordered = λ k h. elim (either k h) [
-        | inl old ↦ let P : Tree → Type 0 = λ u. IsFrom 0 t.propositions u in subst P (sym (made_old k old)) (s.ordered k old)
-        | inr e ↦ let P : ℕ → Type 0 = λ j. IsFrom 0 t.propositions (tree_at (t.cells ++ cell ∷ []) j) in let Q : Tree → Type 0 = λ u. IsFrom 0 t.propositions u in
+        | inl old ↦ let P : Tree → Type 0 = λ u. IsFrom 0 t.propositions u in
+            subst P (sym (made_old k old)) (s.ordered k old)
+        | inr e ↦ let P : ℕ → Type 0 = λ j. IsFrom 0 t.propositions (tree_at (t.cells ++ cell ∷ []) j) in let Q : Tree →
+            Type 0 = λ u. IsFrom 0 t.propositions u in
             subst P (sym e) (subst Q (sym made_new) o)
       ];
       reduced = λ k h. elim (either k h) [
         | inl old ↦ let P : Tree → Type 0 = λ u. IsReduced u in subst P (sym (made_old k old)) (s.reduced k old)
-        | inr e ↦ let P : ℕ → Type 0 = λ j. IsReduced (tree_at (t.cells ++ cell ∷ []) j) in let Q : Tree → Type 0 = λ u. IsReduced u in
+        | inr e ↦ let P : ℕ → Type 0 = λ j. IsReduced (tree_at (t.cells ++ cell ∷ []) j) in let Q : Tree → Type 0 =
+            λ u. IsReduced u in
             subst P (sym e) (subst Q (sym made_new) r)
       ];
       one = λ a b ha hb e. elim (either a ha) [
         | inl olda ↦ elim (either b hb) [
           | inl oldb ↦ s.one a b olda oldb (sym (made_old a olda) ∙ e ∙ made_old b oldb)
-          | inr isb ↦ absurd (apart a olda (sym made_new ∙ ap (λ j. tree_at (t.cells ++ cell ∷ []) j) (sym isb) ∙ sym e ∙ made_old a olda))
+          | inr isb ↦ absurd (apart a olda (sym made_new ∙ ap (λ j. tree_at (t.cells ++ cell ∷ []) j) (sym isb) ∙ sym e
+              ∙ made_old a olda))
         ]
         | inr isa ↦ elim (either b hb) [
-          | inl oldb ↦ absurd (apart b oldb (sym made_new ∙ ap (λ j. tree_at (t.cells ++ cell ∷ []) j) (sym isa) ∙ e ∙ made_old b oldb))
+          | inl oldb ↦ absurd (apart b oldb (sym made_new ∙ ap (λ j. tree_at (t.cells ++ cell ∷ []) j) (sym isa) ∙ e
+              ∙ made_old b oldb))
           | inr isb ↦ isa ∙ sym isb
         ]
       ];
@@ -201,9 +229,12 @@ at_place t u cell place s keeps w stays e =
     let is : get_or u.cells place Nothing ≡ cell = get_or_of_some u.cells place Nothing cell e in
     record { sound = s; keeps = keeps; held = held; tree = s.built place held ∙ ap (λ c. tree_in u.cells c) is ∙ stays }
 
-pub interned : (t u : Table) (cell : View) (place : ℕ) (eq : View → View → Bool) → ((a b : View) → eq a b ≡ true → a ≡ b) → ((a : View) → eq a a ≡ true) →
-    IsSoundTable t → IsWithin (length t.cells) cell → IsFrom 0 t.propositions (tree_in t.cells cell) → IsReduced (tree_in t.cells cell) →
-    u.propositions ≡ t.propositions → u.cells ≡ insert_key eq t.cells cell → ((k : View) × (slice_get u.cells place ≡ Some k) × (eq cell k ≡ true)) → Interned t u cell place
+pub interned : (t u : Table) (cell : View) (place : ℕ) (eq : View → View → Bool) →
+    ((a b : View) → eq a b ≡ true → a ≡ b) → ((a : View) → eq a a ≡ true) →
+    IsSoundTable t → IsWithin (length t.cells) cell → IsFrom 0 t.propositions (tree_in t.cells cell) →
+    IsReduced (tree_in t.cells cell) →
+    u.propositions ≡ t.propositions → u.cells ≡ insert_key eq t.cells cell →
+    ((k : View) × (slice_get u.cells place ≡ Some k) × (eq cell k ≡ true)) → Interned t u cell place
 interned t u cell place eq sound_eq refl_eq s w o r props keys stored =
     let e : slice_get u.cells place ≡ Some cell = stored.1 ∙ ap (λ k. Some k) (sym (sound_eq cell stored.0 stored.2)) in
     let known = list_any (eq cell) t.cells in
@@ -213,19 +244,24 @@ interned t u cell place eq sound_eq refl_eq s w o r props keys stored =
           let P : Table → Type 0 = λ v. slice_get v.cells place ≡ Some cell → Interned t v cell place in
           subst P (sym same) (λ at. at_place t t cell place s (keeps_refl t) w refl at) e
       | inr is ↦
-          let same : u ≡ more t cell = table_eq u (more t cell) props (keys ∙ ap (λ b. cond b t.cells (t.cells ++ cell ∷ [])) is) in
+          let same : u ≡ more t cell =
+          table_eq u (more t cell) props (keys ∙ ap (λ b. cond b t.cells (t.cells ++ cell ∷ [])) is) in
           let new : (k : ℕ) → k < length t.cells → cell ≡ get_or t.cells k Nothing → ⊥ =
-          λ k h same_cell. true_is_not_false (sym (list_any_at (eq cell) t.cells k Nothing h (ap (λ c. eq cell c) (sym same_cell) ∙ refl_eq cell)) ∙ is) in
+          λ k h same_cell. true_is_not_false (sym (list_any_at (eq cell) t.cells k Nothing h
+          (ap (λ c. eq cell c) (sym same_cell) ∙ refl_eq cell)) ∙ is) in
           let P : Table → Type 0 = λ v. slice_get v.cells place ≡ Some cell → Interned t v cell place in
-          subst P (sym same) (λ at. at_place t (more t cell) cell place (sound_more t cell s w o r new) (keeps_more t cell) w (tree_in-old t.cells cell cell w) at) e
+          subst P (sym same) (λ at. at_place t (more t cell) cell place (sound_more t cell s w o r new)
+          (keeps_more t cell) w (tree_in-old t.cells cell cell w) at) e
     ]
 
-pub part_of : (t : Table) (node : ℕ) (cell : View) → IsSoundTable t → IsNode t node → get_or t.cells node Nothing ≡ cell → IsPart t node cell
+pub part_of : (t : Table) (node : ℕ) (cell : View) → IsSoundTable t → IsNode t node →
+    get_or t.cells node Nothing ≡ cell → IsPart t node cell
 unfolding tree_of
 part_of t node Nothing s h e = s.built node h ∙ ap (λ c. tree_in t.cells c) e
 part_of t node (Leaf k) s h e = s.built node h ∙ ap (λ c. tree_in t.cells c) e
 part_of t node (Test p low high) s h e =
-    let tree : tree_of t node ≡ choice p (tree_of t low) (tree_of t high) = s.built node h ∙ ap (λ c. tree_in t.cells c) e in
+    let tree : tree_of t node ≡ choice p (tree_of t low) (tree_of t high) = s.built node h
+    ∙ ap (λ c. tree_in t.cells c) e in
     let E : View → Type 0 = λ c. IsWithin node c in
     let O : Tree → Type 0 = λ u. IsFrom 0 t.propositions u in
     let R : Tree → Type 0 = λ u. IsReduced u in

@@ -1,5 +1,6 @@
 -- The classes of letters, from a divided diagram and its leaves.
-use Rattle.std.proofs.Common.{◌≡◌, ℕ, ◌<◌, ◌^◌, Bool, true, false, cond, List, length, get_or, Option, Some, refl, ap, sym, subst, ◌∙◌, arith, inl, inr}
+use Rattle.std.proofs.Common.{◌≡◌, ℕ, ◌<◌, ◌^◌, Bool, true, false, cond, List, length, get_or, Option, Some, refl, ap}
+use Rattle.std.proofs.Common.{sym, subst, ◌∙◌, arith, inl, inr}
 use Rattle.std.proofs.lemmas.Bool.{cases_lt}
 use Rattle.std.proofs.lemmas.List.{get_or_default}
 use Rattle.std.proofs.lemmas.Option.{slice_get_within, get_or_from_slice_get}
@@ -30,7 +31,9 @@ record IsListed (t : Table) (node : ℕ) (list : List Class) : Type 0 where
   pub complete : (f : ℕ → Bool) (k : ℕ) → leaf_at (tree_of t node) f ≡ Some k → IsThere list k
   pub rising : (i j : ℕ) → i < j → j < length list → IsBefore (class_at list i).letter (class_at list j).letter
 
-listed : (t : Table) (node : ℕ) → IsFrom 0 t.propositions (tree_of t node) → (leaves : List (ℕ × ℕ)) (list : List Class) → AreLeaves t node leaves → AreOf leaves (length leaves) list → IsListed t node list
+listed : (t : Table) (node : ℕ) → IsFrom 0 t.propositions (tree_of t node) →
+    (leaves : List (ℕ × ℕ)) (list : List Class) → AreLeaves t node leaves → AreOf leaves (length leaves) list →
+    IsListed t node list
 listed t node own leaves list h o =
     let n = t.propositions in
     let each = o.each in
@@ -41,8 +44,12 @@ listed t node own leaves list h o =
           let L : ℕ → Type 0 = λ letter. IsLeast (LeadsTo t node (pair_at leaves i).0) letter in
           subst R (sym (o.rest i within)) (subst L (sym (o.letter i within)) (h.least i (0, 0) within)));
       complete = λ f k e.
-          (let there = h.each k (letter_of n f) (letter_lt n f, sym (leaf_by_number n (tree_of t node) own f) ∙ e) in
-          (there.0, subst (λ m. there.0 < m) (sym each) there.2, o.rest there.0 there.2 ∙ ap (λ (p : ℕ × ℕ). p.0) (get_or_default leaves there.0 (0, 0) there.1 there.2 ∙ there.3) ∙ there.4));
+          (let there = h.each k (letter_of n f) (letter_lt n f, sym (leaf_by_number n (tree_of t node) own f) ∙ e) in (
+            there.0,
+            subst (λ m. there.0 < m) (sym each) there.2,
+            o.rest there.0 there.2
+                ∙ ap (λ (p : ℕ × ℕ). p.0) (get_or_default leaves there.0 (0, 0) there.1 there.2 ∙ there.3) ∙ there.4,
+          ));
       rising = λ i j lt below.
           (let within : j < length leaves = omega (arith, below, each) in
           let before : i < length leaves = omega (arith, lt, within) in
@@ -52,7 +59,9 @@ listed t node own leaves list h o =
     }
 
 -- the leaves of a node stay
-leads_same : (t u : Table) → Keeps t u → (node : ℕ) → IsNode t node → (leaf letter : ℕ) → (LeadsTo t node leaf letter → LeadsTo u node leaf letter) × (LeadsTo u node leaf letter → LeadsTo t node leaf letter)
+leads_same : (t u : Table) → Keeps t u → (node : ℕ) → IsNode t node → (leaf letter : ℕ) →
+    (LeadsTo t node leaf letter → LeadsTo u node leaf letter) ×
+    (LeadsTo u node leaf letter → LeadsTo t node leaf letter)
 leads_same t u k node h leaf letter =
     let tree = k.same node h in
     let P : ℕ → Type 0 = λ n. letter < 2 ^ n in (
@@ -60,12 +69,16 @@ leads_same t u k node h leaf letter =
       (λ e. (subst P k.propositions e.0, sym (ap (λ x. leaf_at x (assignment letter)) tree) ∙ e.1)),
     )
 
-leaves_kept : (t u : Table) → Keeps t u → (node : ℕ) → IsNode t node → (leaves : List (ℕ × ℕ)) → AreLeaves t node leaves → AreLeaves u node leaves
+leaves_kept : (t u : Table) → Keeps t u → (node : ℕ) → IsNode t node → (leaves : List (ℕ × ℕ)) →
+    AreLeaves t node leaves → AreLeaves u node leaves
 leaves_kept t u k node h leaves all = record {
   least = λ i d lt.
       (let x = all.least i d lt in
       let leaf = (get_or leaves i d).0 in
-      record { here = (leads_same t u k node h leaf (get_or leaves i d).1).0 x.here; none_before = λ y e before. x.none_before y ((leads_same t u k node h leaf y).1 e) before });
+      record {
+        here = (leads_same t u k node h leaf (get_or leaves i d).1).0 x.here;
+        none_before = λ y e before. x.none_before y ((leads_same t u k node h leaf y).1 e) before;
+      });
   each = λ leaf letter e. all.each leaf letter ((leads_same t u k node h leaf letter).1 e);
   rising = all.rising;
 }
@@ -130,7 +143,8 @@ known_at s u m f k e =
 
 -- letters that are the same at each proposition
 
-same_letters : (u : Table) → IsSoundTable u → (node : ℕ) → IsNode u node → (f g : ℕ → Bool) → ((q : ℕ) → f q ≡ g q) → leaf_at (tree_of u node) f ≡ leaf_at (tree_of u node) g
+same_letters : (u : Table) → IsSoundTable u → (node : ℕ) → IsNode u node → (f g : ℕ → Bool) → ((q : ℕ) → f q ≡ g q) →
+    leaf_at (tree_of u node) f ≡ leaf_at (tree_of u node) g
 same_letters u s node h f g e = blind-from 0 u.propositions (tree_of u node) (s.ordered node h) f g (λ q le. e q)
 
 mixed_first : (mask x v q : ℕ) → AgreeOn mask x v → mixed mask (assignment x) (assignment v) q ≡ is_in q v
@@ -139,13 +153,16 @@ mixed_first mask x v q on = elim (bool_cases (is_in q mask)) [
   | inr isnt ↦ ap (λ b. cond b (is_in q x) (is_in q v)) isnt
 ]
 
-mixed_second : (mask x u v q : ℕ) → AgreeOff mask u v → mixed mask (assignment x) (assignment u) q ≡ mixed mask (assignment x) (assignment v) q
+mixed_second : (mask x u v q : ℕ) → AgreeOff mask u v → mixed mask (assignment x) (assignment u) q ≡ mixed mask
+    (assignment x) (assignment v) q
 mixed_second mask x u v q off = elim (bool_cases (is_in q mask)) [
   | inl is ↦ ap (λ b. cond b (is_in q x) (is_in q u)) is ∙ sym (ap (λ b. cond b (is_in q x) (is_in q v)) is)
-  | inr isnt ↦ ap (λ b. cond b (is_in q x) (is_in q u)) isnt ∙ off q isnt ∙ sym (ap (λ b. cond b (is_in q x) (is_in q v)) isnt)
+  | inr isnt ↦ ap (λ b. cond b (is_in q x) (is_in q u)) isnt ∙ off q isnt
+      ∙ sym (ap (λ b. cond b (is_in q x) (is_in q v)) isnt)
 ]
 
-mixed_alike : (mask : ℕ) (f g w : ℕ → Bool) → ((q : ℕ) → is_in q mask ≡ true → f q ≡ g q) → (q : ℕ) → mixed mask f w q ≡ mixed mask g w q
+mixed_alike : (mask : ℕ) (f g w : ℕ → Bool) → ((q : ℕ) → is_in q mask ≡ true → f q ≡ g q) → (q : ℕ) →
+    mixed mask f w q ≡ mixed mask g w q
 mixed_alike mask f g w on q = elim (bool_cases (is_in q mask)) [
   | inl is ↦ ap (λ b. cond b (f q) (w q)) is ∙ on q is ∙ sym (ap (λ b. cond b (g q) (w q)) is)
   | inr isnt ↦ ap (λ b. cond b (f q) (w q)) isnt ∙ sym (ap (λ b. cond b (g q) (w q)) isnt)
@@ -168,7 +185,8 @@ together s u m x y e v w on_x on_y off =
     let same : (f g : ℕ → Bool) → ((i : ℕ) → f i ≡ g i) → leaf_at (tree_of s m.node) f ≡ leaf_at (tree_of s m.node) g
     = same_letters s m.node_sound m.node m.node_held in
     sym (same (mixed m.mask (assignment x) (assignment v)) (assignment v) (λ i. mixed_first m.mask x v i on_x))
-    ∙ same (mixed m.mask (assignment x) (assignment v)) (mixed m.mask (assignment x) (assignment w)) (λ i. mixed_second m.mask x v w i off)
+    ∙ same (mixed m.mask (assignment x) (assignment v)) (mixed m.mask (assignment x) (assignment w))
+    (λ i. mixed_second m.mask x v w i off)
     ∙ sym (p.leaf (assignment w)) ∙ q.leaf (assignment w)
     ∙ same (mixed m.mask (assignment y) (assignment w)) (assignment w) (λ i. mixed_first m.mask y w i on_y)
 
@@ -178,15 +196,18 @@ joined_letter : (n mask x : ℕ) (w : ℕ → Bool) → x < 2 ^ n → AgreeOn ma
 joined_letter n mask x w h p is =
     elim (cases_lt p n) [
       | inl lt ↦ sym (letter_is n (mixed mask (assignment x) w) p lt ∙ ap (λ b. cond b (is_in p x) (w p)) is)
-      | inr ge ↦ no_bit n x p h ge ∙ sym (no_bit n (letter_of n (mixed mask (assignment x) w)) p (letter_lt n (mixed mask (assignment x) w)) ge)
+      | inr ge ↦ no_bit n x p h ge ∙ sym (no_bit n (letter_of n (mixed mask (assignment x) w)) p
+          (letter_lt n (mixed mask (assignment x) w)) ge)
     ]
 
-others_agree : (n mask x y : ℕ) (w : ℕ → Bool) → AgreeOff mask (letter_of n (mixed mask (assignment x) w)) (letter_of n (mixed mask (assignment y) w))
+others_agree : (n mask x y : ℕ) (w : ℕ → Bool) → AgreeOff mask (letter_of n (mixed mask (assignment x) w))
+    (letter_of n (mixed mask (assignment y) w))
 others_agree n mask x y w p isnt =
     let f = mixed mask (assignment x) w in
     let g = mixed mask (assignment y) w in
     elim (cases_lt p n) [
-      | inl lt ↦ letter_is n f p lt ∙ ap (λ b. cond b (is_in p x) (w p)) isnt ∙ sym (letter_is n g p lt ∙ ap (λ b. cond b (is_in p y) (w p)) isnt)
+      | inl lt ↦ letter_is n f p lt ∙ ap (λ b. cond b (is_in p x) (w p)) isnt
+          ∙ sym (letter_is n g p lt ∙ ap (λ b. cond b (is_in p y) (w p)) isnt)
       | inr ge ↦ no_bit n (letter_of n f) p (letter_lt n f) ge ∙ sym (no_bit n (letter_of n g) p (letter_lt n g) ge)
     ]
 
@@ -199,12 +220,15 @@ apart s u m x y hx hy h =
     let B : ℕ → ℕ → Type 0 = λ z k. z < 2 ^ k in
     let sx : x < 2 ^ n = subst (B x) m.letters hx in
     let sy : y < 2 ^ n = subst (B y) m.letters hy in
-    let e : (w : ℕ → Bool) → leaf_at a (mixed m.mask (assignment x) w) ≡ leaf_at a (mixed m.mask (assignment y) w) = λ w.
+    let e : (w : ℕ → Bool) → leaf_at a (mixed m.mask (assignment x) w) ≡ leaf_at a (mixed m.mask (assignment y) w) =
+    λ w.
     leaf_by_number n a own (mixed m.mask (assignment x) w)
     ∙ h (letter_of n (mixed m.mask (assignment x) w)) (letter_of n (mixed m.mask (assignment y) w))
     (joined_letter n m.mask x w sx) (joined_letter n m.mask y w sy) (others_agree n m.mask x y w)
     ∙ sym (leaf_by_number n a own (mixed m.mask (assignment y) w)) in
-    m.mapped (assignment x) ∙ ap (λ o. option_and_then m.places o) (divided_alike u m.sound m.mask a (tree_of u m.divided) m.division (assignment x) (assignment y) e) ∙ sym (m.mapped (assignment y))
+    m.mapped (assignment x) ∙ ap (λ o. option_and_then m.places o)
+    (divided_alike u m.sound m.mask a (tree_of u m.divided) m.division (assignment x) (assignment y) e)
+    ∙ sym (m.mapped (assignment y))
 
 -- the class at a place
 
@@ -218,7 +242,12 @@ masked s u m c first p off =
           let n = u.propositions in
           let d = tree_of u m.divided in
           let g = changed (assignment c.letter) p false in
-          let lt : p < n = elim (cases_lt p n) [ inl l ↦ l | inr ge ↦ absurd (true_is_not_false (sym is ∙ no_bit n c.letter p first.here.0 ge)) ] in
+          let lt : p < n =
+          elim (cases_lt p n) [
+            | inl l ↦ l
+            | inr ge ↦ absurd (true_is_not_false
+                (sym is ∙ no_bit n c.letter p first.here.0 ge))
+          ] in
           let same : leaf_at d g ≡ leaf_at d (assignment c.letter) = heeds_mask s u m g (assignment c.letter)
           (λ q on. changed-other (assignment c.letter) p false q
           (λ e. (let P : ℕ → Type 0 = λ k. is_in k m.mask ≡ true in true_is_not_false
@@ -227,9 +256,13 @@ masked s u m c first p off =
             first = p;
             is_false = letter_is n g p lt ∙ changed-here (assignment c.letter) p false;
             is_true = is;
-            same = λ q below. letter_is n g q (omega (arith, below, lt)) ∙ changed-other (assignment c.letter) p false q (λ e. omega (arith, e, below));
+            same = λ q below. letter_is n g q (omega (arith, below, lt))
+                ∙ changed-other (assignment c.letter) p false q (λ e. omega (arith, e, below));
           } in
-          absurd (first.none_before (letter_of n g) (letter_lt n g, sym (leaf_by_number n d (m.sound.ordered m.divided m.divided_held) g) ∙ same ∙ first.here.1) before)
+          absurd (first.none_before (letter_of n g) (
+            letter_lt n g,
+            sym (leaf_by_number n d (m.sound.ordered m.divided m.divided_held) g) ∙ same ∙ first.here.1,
+          ) before)
     ]
 
 class_is : (s u : Table) (m : Made s u) (k : ℕ) → k < length m.list →
@@ -237,7 +270,8 @@ class_is : (s u : Table) (m : Made s u) (k : ℕ) → k < length m.list →
 class_is s u m k lt =
     let c = class_at m.list k in
     let first = m.listed.least k lt in
-    let its_own : leaf_of u m.at c.letter ≡ Some k = m.mapped (assignment c.letter) ∙ ap (λ o. option_and_then m.places o) first.here.1 ∙ m.placed.placed k lt in
+    let its_own : leaf_of u m.at c.letter ≡ Some k = m.mapped (assignment c.letter)
+    ∙ ap (λ o. option_and_then m.places o) first.here.1 ∙ m.placed.placed k lt in
     let here = known_at s u m (assignment c.letter) k its_own in
     let x = m.division (assignment c.letter) in
     let same : (f g : ℕ → Bool) → ((i : ℕ) → f i ≡ g i) → leaf_at (tree_of s m.node) f ≡ leaf_at (tree_of s m.node) g
@@ -251,7 +285,8 @@ class_is s u m k lt =
       };
       masked = masked s u m c first;
       held = subst H (some_nat x.0 c.rest (sym x.1 ∙ first.here.1)) x.2;
-      others = λ y z off. here.leaf (assignment y) ∙ same _ _ (λ i. mixed_second m.mask c.letter y z i off) ∙ sym (here.leaf (assignment z));
+      others = λ y z off. here.leaf (assignment y) ∙ same _ _ (λ i. mixed_second m.mask c.letter y z i off)
+          ∙ sym (here.leaf (assignment z));
       shared = λ y e. (known_at s u m (assignment y) k e).leaf (assignment y) ∙ same _ _
           (λ i. mixed_first m.mask y y i (λ p is. refl));
     }
@@ -271,7 +306,8 @@ are_classes s u m held = record {
   rising = λ i j d lt below.
       (let P : Class → Type 0 = λ x. IsBefore x.letter (get_or m.list j d).letter in
       let Q : Class → Type 0 = λ x. IsBefore (class_at m.list i).letter x.letter in
-      subst P (get_or_default m.list i _ d (omega (arith, lt, below))) (subst Q (get_or_default m.list j _ d below) (m.listed.rising i j lt below)));
+      subst P (get_or_default m.list i _ d (omega (arith, lt, below)))
+      (subst Q (get_or_default m.list j _ d below) (m.listed.rising i j lt below)));
 }
 
 -- the node stands in one table, its division in the next one, and the places in a third, which keeps that
@@ -299,7 +335,9 @@ classes_of s v u m node_sound sound letters mask node divided at places leaves l
       node_held = hn;
       divided_held = m.held divided hd;
       division = subst B (sym d) (divided_kept v u m mask (tree_of s node) (tree_of v divided) division);
-      listed = listed u divided (sound.ordered divided (m.held divided hd)) leaves list (leaves_kept v u m divided hd leaves all) of;
+      listed =
+          listed u divided (sound.ordered divided (m.held divided hd)) leaves list
+          (leaves_kept v u m divided hd leaves all) of;
       placed = placed;
       mapped = subst M (sym d) mapped;
     }) ha

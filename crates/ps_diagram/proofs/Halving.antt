@@ -1,5 +1,7 @@
 -- Rows of nodes, proposition by proposition.
-use Rattle.std.proofs.Common.{◌≡◌, ℕ, suc, ◌+◌, ◌*◌, ◌%◌, ◌^◌, ◌<◌, ◌≤◌, Bool, true, false, cond, List, [], ◌∷◌, ◌++◌, length, length-append, get_or, min, Option, None, ap, sym, subst, ◌∙◌, arith, inl, inr, ◌⊎◌}
+use Rattle.std.proofs.Common.{◌≡◌, ℕ, suc, ◌+◌, ◌*◌, ◌%◌, ◌^◌, ◌<◌, ◌≤◌, Bool, true, false, cond, List, [], ◌∷◌, ◌++◌}
+use Rattle.std.proofs.Common.{length, length-append, get_or, min, Option, None, ap, sym, subst, ◌∙◌, arith, inl, inr}
+use Rattle.std.proofs.Common.{◌⊎◌}
 use Rattle.std.specs.List.{slice_get}
 use Rattle.std.specs.Int.{bit_at}
 use Rattle.std.proofs.lemmas.Bool.{eqb-true, eqb-false, cases_lt}
@@ -56,11 +58,13 @@ bits_rise p letter = omega (arith, first_bits p letter)
 
 -- ## One node more
 
-push_each : (P : ℕ → ℕ → Type 0) (xs more : List ℕ) (x count : ℕ) → length xs ≡ count → more ≡ xs ++ x ∷ [] → ((i : ℕ) → i < count → P i (get_or xs i 0)) → P count x →
+push_each : (P : ℕ → ℕ → Type 0) (xs more : List ℕ) (x count : ℕ) → length xs ≡ count → more ≡ xs ++ x ∷ [] →
+    ((i : ℕ) → i < count → P i (get_or xs i 0)) → P count x →
     (i : ℕ) → i < count + 1 → P i (get_or more i 0)
 push_each P xs more x count size is each last i lt = elim (old_or_new i count lt) [
   | inl before ↦ (
-      let same : get_or more i 0 ≡ get_or xs i 0 = ap (λ (ys : List ℕ). get_or ys i 0) is ∙ get_or_append_left xs (x ∷ []) 0 i (omega (arith, before, size)) in
+      let same : get_or more i 0 ≡ get_or xs i 0 = ap (λ (ys : List ℕ). get_or ys i 0) is
+      ∙ get_or_append_left xs (x ∷ []) 0 i (omega (arith, before, size)) in
       subst (P i) (sym same) (each i before))
   | inr here ↦ (
       let at : get_or more i 0 ≡ x = ap (λ (ys : List ℕ). get_or ys i 0) is ∙ get_or_push xs x 0 i (size ∙ sym here) in
@@ -73,19 +77,24 @@ push_length xs more x count size is =
     omega (arith, ap length is, len, size)
 
 pub has_leaf_kept : (t u : Table) → Keeps t u → (node : ℕ) (leaf : Option ℕ) → HasLeaf t node leaf → HasLeaf u node leaf
-has_leaf_kept t u k node leaf h = (k.held node h.0, kept (λ (x : Tree). (f : ℕ → Bool) → leaf_at x f ≡ leaf) t u k node h.0 h.1)
+has_leaf_kept t u k node leaf h =
+    (k.held node h.0, kept (λ (x : Tree). (f : ℕ → Bool) → leaf_at x f ≡ leaf) t u k node h.0 h.1)
 
-pub leaf_nodes_kept : (t u : Table) (leaves nodes : List ℕ) (count : ℕ) → Keeps t u → AreLeafNodes t leaves count nodes → AreLeafNodes u leaves count nodes
+pub leaf_nodes_kept : (t u : Table) (leaves nodes : List ℕ) (count : ℕ) → Keeps t u →
+    AreLeafNodes t leaves count nodes → AreLeafNodes u leaves count nodes
 leaf_nodes_kept t u leaves nodes count k a = record {
   one_each = a.one_each;
   each = λ i lt. has_leaf_kept t u k (get_or nodes i 0) (slice_get leaves i) (a.each i lt);
 }
 
-pub leaf_nodes_more : (t u : Table) (leaves nodes more : List ℕ) (count node : ℕ) → Keeps t u → AreLeafNodes t leaves count nodes → more ≡ nodes ++ node ∷ [] →
+pub leaf_nodes_more : (t u : Table) (leaves nodes more : List ℕ) (count node : ℕ) → Keeps t u →
+    AreLeafNodes t leaves count nodes → more ≡ nodes ++ node ∷ [] →
     HasLeaf u node (slice_get leaves count) → AreLeafNodes u leaves (count + 1) more
 leaf_nodes_more t u leaves nodes more count node k a is h = record {
   one_each = push_length nodes more node count a.one_each is;
-  each = push_each (λ i x. HasLeaf u x (slice_get leaves i)) nodes more node count a.one_each is (leaf_nodes_kept t u leaves nodes count k a).each h;
+  each =
+      push_each (λ i x. HasLeaf u x (slice_get leaves i)) nodes more node count a.one_each is
+      (leaf_nodes_kept t u leaves nodes count k a).each h;
 }
 
 -- ## The first row
@@ -93,12 +102,14 @@ leaf_nodes_more t u leaves nodes more count node k a is h = record {
 same_default : (xs : List ℕ) (i other : ℕ) → i < length xs → get_or xs i other ≡ get_or xs i 0
 same_default xs i other lt = get_or_from_slice_get xs i (get_or xs i 0) other (slice_get-get_or xs i 0 lt)
 
-module _ (t : Table) (leaves nodes : List ℕ) (none : ℕ) (nothing : HasLeaf t none None) (a : AreLeafNodes t leaves (length leaves) nodes) where
+module _ (t : Table) (leaves nodes : List ℕ) (none : ℕ) (nothing : HasLeaf t none None)
+    (a : AreLeafNodes t leaves (length leaves) nodes) where
   leaf_there : (i : ℕ) → HasLeaf t (get_or nodes i none) (slice_get leaves i)
   leaf_there i = elim (cases_lt i (length leaves)) [
     | inl lt ↦ (
         let size = a.one_each in
-        subst (λ (x : ℕ). HasLeaf t x (slice_get leaves i)) (sym (same_default nodes i none (omega (arith, lt, size)))) (a.each i lt))
+        subst (λ (x : ℕ). HasLeaf t x (slice_get leaves i)) (sym (same_default nodes i none (omega (arith, lt, size))))
+        (a.each i lt))
     | inr past ↦ (
         let size = a.one_each in
         subst (λ (x : ℕ). HasLeaf t x (slice_get leaves i)) (sym (get_or_past nodes i none (omega (arith, past, size))))
@@ -119,33 +130,45 @@ module _ (t : Table) (leaves nodes : List ℕ) (none : ℕ) (nothing : HasLeaf t
 
 -- a node that tests the proposition between the node at a place and the one half a row on
 abbrev pub TestsAt : Table → Table → ℕ → ℕ → ℕ → List ℕ → ℕ → ℕ → Type 0
-TestsAt t u p none half nodes i made = IsNode u made × IsTestOf p (tree_of t (get_or nodes i none)) (tree_of t (get_or nodes (half + i) none)) (tree_of u made)
+TestsAt t u p none half nodes i made =
+    IsNode u made × IsTestOf p (tree_of t (get_or nodes i none)) (tree_of t (get_or nodes (half + i) none))
+    (tree_of u made)
 
 -- the nodes so far are such tests
 pub record AreTests (t u : Table) (p none half : ℕ) (nodes : List ℕ) (count : ℕ) (made : List ℕ) : Type 0 where
   pub one_each : length made ≡ count
   pub each : (i : ℕ) → i < count → TestsAt t u p none half nodes i (get_or made i 0)
 
-pub tests_more : (t u v : Table) (p none half : ℕ) (nodes : List ℕ) (count : ℕ) (made more : List ℕ) (node : ℕ) → Keeps u v → AreTests t u p none half nodes count made → more ≡ made ++ node ∷ [] →
+pub tests_more : (t u v : Table) (p none half : ℕ) (nodes : List ℕ) (count : ℕ) (made more : List ℕ) (node : ℕ) →
+    Keeps u v → AreTests t u p none half nodes count made → more ≡ made ++ node ∷ [] →
     TestsAt t v p none half nodes count node → AreTests t v p none half nodes (count + 1) more
 tests_more t u v p none half nodes count made more node k a is h = record {
   one_each = push_length made more node count a.one_each is;
   each = push_each (TestsAt t v p none half nodes) made more node count a.one_each is
-      (λ i lt. (k.held _ (a.each i lt).0, kept (IsTestOf p (tree_of t (get_or nodes i none)) (tree_of t (get_or nodes (half + i) none))) u v k _ (a.each i lt).0 (a.each i lt).1)) h;
+      (λ i lt. (
+        k.held _ (a.each i lt).0,
+        kept (IsTestOf p (tree_of t (get_or nodes i none))
+            (tree_of t (get_or nodes (half + i) none))) u v k _ (a.each i lt).0 (a.each i lt).1,
+      )) h;
 }
 
 -- a test between nodes that were held before
-pub test_of_held : (t u : Table) (p low high : ℕ) (made : Tree) → Keeps t u → IsNode t low → IsNode t high → IsTestOf p (tree_of u low) (tree_of u high) made → IsTestOf p (tree_of t low) (tree_of t high) made
+pub test_of_held : (t u : Table) (p low high : ℕ) (made : Tree) → Keeps t u → IsNode t low → IsNode t high →
+    IsTestOf p (tree_of u low) (tree_of u high) made → IsTestOf p (tree_of t low) (tree_of t high) made
 test_of_held t u p low high made k l h e =
-    subst (λ (x : Tree). IsTestOf p x (tree_of t high) made) (k.same low l) (subst (λ (x : Tree). IsTestOf p (tree_of u low) x made) (k.same high h) e)
+    subst (λ (x : Tree). IsTestOf p x (tree_of t high) made) (k.same low l)
+    (subst (λ (x : Tree). IsTestOf p (tree_of u low) x made) (k.same high h) e)
 
 -- all places are done
-pub all_tests : (t u : Table) (p none half : ℕ) (nodes : List ℕ) (count : ℕ) (made : List ℕ) → half ≡ 2 ^ p → count ≡ min (length nodes) (2 ^ p) → AreTests t u p none half nodes count made →
+pub all_tests : (t u : Table) (p none half : ℕ) (nodes : List ℕ) (count : ℕ) (made : List ℕ) → half ≡ 2 ^ p →
+    count ≡ min (length nodes) (2 ^ p) → AreTests t u p none half nodes count made →
     AreTests t u p none (2 ^ p) nodes (min (length nodes) (2 ^ p)) made
 all_tests t u p none half nodes count made is done a =
-    subst (λ n. AreTests t u p none (2 ^ p) nodes n made) done (subst (λ h. AreTests t u p none h nodes count made) is a)
+    subst (λ n. AreTests t u p none (2 ^ p) nodes n made) done
+    (subst (λ h. AreTests t u p none h nodes count made) is a)
 
-module _ (t u : Table) (p none : ℕ) (nodes made : List ℕ) (row : IsRow t (p + 1) none nodes) (keeps : Keeps t u) (a : AreTests t u p none (2 ^ p) nodes (min (length nodes) (2 ^ p)) made) where
+module _ (t u : Table) (p none : ℕ) (nodes made : List ℕ) (row : IsRow t (p + 1) none nodes) (keeps : Keeps t u)
+    (a : AreTests t u p none (2 ^ p) nodes (min (length nodes) (2 ^ p)) made) where
   -- a place with a test, or behind them
   Made : ℕ → Type 0
   Made i = ((i < length nodes) × TestsAt t u p none (2 ^ p) nodes i (get_or made i none)) ⊎ (get_or made i none ≡ none)
@@ -155,7 +178,11 @@ module _ (t u : Table) (p none : ℕ) (nodes made : List ℕ) (row : IsRow t (p 
   made_there i = elim (cases_lt i (min (length nodes) (2 ^ p))) [
     | inl lt ↦ (
         let size = a.one_each in
-        inl (omega (arith, lt), subst (TestsAt t u p none (2 ^ p) nodes i) (sym (same_default made i none (omega (arith, lt, size)))) (a.each i lt)))
+        inl (
+          omega (arith, lt),
+          subst (TestsAt t u p none (2 ^ p) nodes i)
+              (sym (same_default made i none (omega (arith, lt, size)))) (a.each i lt),
+        ))
     | inr past ↦ (let size = a.one_each in inr (get_or_past made i none (omega (arith, past, size))))
   ]
 
@@ -168,21 +195,25 @@ module _ (t u : Table) (p none : ℕ) (nodes made : List ℕ) (row : IsRow t (p 
     nothing = nothing_now;
     held = λ i. elim (made_there i) [ inl h ↦ h.1.0 | inr is ↦ subst (IsNode u) (sym is) nothing_now.0 ];
     later = λ i. elim (made_there i) [
-      | inl h ↦ test_blind p (tree_of t (get_or nodes i none)) (tree_of t (get_or nodes (2 ^ p + i) none)) (tree_of u (get_or made i none)) h.1.1 (row.later i) (row.later (2 ^ p + i))
+      | inl h ↦ test_blind p (tree_of t (get_or nodes i none)) (tree_of t (get_or nodes (2 ^ p + i) none))
+          (tree_of u (get_or made i none)) h.1.1 (row.later i) (row.later (2 ^ p + i))
       | inr is ↦ subst (λ (x : ℕ). IsBlind p (tree_of u x)) (sym is) (empty_blind p (tree_of u none) nothing_now.1)
     ];
   }
 
   -- the leaf of a test at a letter is that of the row behind it
-  leads_by : (letter : ℕ) → IsTestOf p (tree_of t (get_or nodes (letter % 2 ^ p) none)) (tree_of t (get_or nodes (2 ^ p + letter % 2 ^ p) none)) (tree_of u (get_or made (letter % 2 ^ p) none)) →
+  leads_by : (letter : ℕ) → IsTestOf p (tree_of t (get_or nodes (letter % 2 ^ p) none))
+      (tree_of t (get_or nodes (2 ^ p + letter % 2 ^ p) none)) (tree_of u (get_or made (letter % 2 ^ p) none)) →
       leaf_of u (get_or made (letter % 2 ^ p) none) letter ≡ leaf_of t (get_or nodes (letter % 2 ^ (p + 1)) none) letter
   leads_by letter h =
       let f = assignment letter in
       let low = leaf_of t (get_or nodes (letter % 2 ^ p) none) letter in
       let high = leaf_of t (get_or nodes (2 ^ p + letter % 2 ^ p) none) letter in
       elim (bool_cases (is_in p letter)) [
-        | inl is ↦ h f ∙ ap (λ b. cond b high low) is ∙ ap (λ i. leaf_of t (get_or nodes i none) letter) (sym (bits_above p letter is))
-        | inr isnt ↦ h f ∙ ap (λ b. cond b high low) isnt ∙ ap (λ i. leaf_of t (get_or nodes i none) letter) (sym (bits_below p letter isnt))
+        | inl is ↦ h f ∙ ap (λ b. cond b high low) is ∙ ap (λ i. leaf_of t (get_or nodes i none) letter)
+            (sym (bits_above p letter is))
+        | inr isnt ↦ h f ∙ ap (λ b. cond b high low) isnt ∙ ap (λ i. leaf_of t (get_or nodes i none) letter)
+            (sym (bits_below p letter isnt))
       ]
 
   made_within : (letter : ℕ) → letter % 2 ^ p < min (length nodes) (2 ^ p) ⊎ (length nodes ≤ letter % 2 ^ p)
@@ -191,19 +222,26 @@ module _ (t u : Table) (p none : ℕ) (nodes made : List ℕ) (row : IsRow t (p 
     | inr past ↦ inr past
   ]
 
-  leads_here : (letter : ℕ) → leaf_of u (get_or made (letter % 2 ^ p) none) letter ≡ leaf_of t (get_or nodes (letter % 2 ^ (p + 1)) none) letter
+  leads_here : (letter : ℕ) → leaf_of u (get_or made (letter % 2 ^ p) none) letter ≡ leaf_of t
+      (get_or nodes (letter % 2 ^ (p + 1)) none) letter
   leads_here letter = elim (made_within letter) [
     | inl lt ↦ (
         let size = a.one_each in
-        let test = subst (TestsAt t u p none (2 ^ p) nodes (letter % 2 ^ p)) (sym (same_default made (letter % 2 ^ p) none (omega (arith, lt, size)))) (a.each (letter % 2 ^ p) lt) in
+        let test =
+        subst (TestsAt t u p none (2 ^ p) nodes (letter % 2 ^ p))
+        (sym (same_default made (letter % 2 ^ p) none (omega (arith, lt, size)))) (a.each (letter % 2 ^ p) lt) in
         leads_by letter test.1)
     | inr past ↦ (
         let size = a.one_each in
         let rise = bits_rise p letter in
-        let now : get_or made (letter % 2 ^ p) none ≡ none = get_or_past made (letter % 2 ^ p) none (omega (arith, past, size)) in
-        let was : get_or nodes (letter % 2 ^ (p + 1)) none ≡ none = get_or_past nodes (letter % 2 ^ (p + 1)) none (omega (arith, past, rise)) in
-        ap (λ i. leaf_of u i letter) now ∙ nothing_now.1 (assignment letter) ∙ sym (row.nothing.1 (assignment letter)) ∙ ap (λ i. leaf_of t i letter) (sym was))
+        let now : get_or made (letter % 2 ^ p) none ≡ none =
+        get_or_past made (letter % 2 ^ p) none (omega (arith, past, size)) in
+        let was : get_or nodes (letter % 2 ^ (p + 1)) none ≡ none =
+        get_or_past nodes (letter % 2 ^ (p + 1)) none (omega (arith, past, rise)) in
+        ap (λ i. leaf_of u i letter) now ∙ nothing_now.1 (assignment letter) ∙ sym (row.nothing.1 (assignment letter))
+        ∙ ap (λ i. leaf_of t i letter) (sym was))
   ]
 
   pub half_leads : (leaves : List ℕ) → LeadsOn t leaves (p + 1) none nodes → LeadsOn u leaves p none made
-  half_leads leaves leads letter = leads_here letter ∙ leads letter ∙ ap (λ n. slice_get leaves (letter % 2 ^ n)) (sym keeps.propositions)
+  half_leads leaves leads letter =
+      leads_here letter ∙ leads letter ∙ ap (λ n. slice_get leaves (letter % 2 ^ n)) (sym keeps.propositions)

@@ -22,7 +22,8 @@ same_view (Test p l h) (Leaf m) e = search rules
 same_view (Test p l h) (Test q m g) e =
     let a = and_both (eqb p q) (eqb l m && eqb h g) e in
     let b = and_both (eqb l m) (eqb h g) a.1 in
-    ap (λ x. Test x l h) (eqb-true p q a.0) ∙ ap (λ x. Test q x h) (eqb-true l m b.0) ∙ ap (λ x. Test q m x) (eqb-true h g b.1)
+    ap (λ x. Test x l h) (eqb-true p q a.0) ∙ ap (λ x. Test q x h) (eqb-true l m b.0)
+    ∙ ap (λ x. Test q m x) (eqb-true h g b.1)
 
 pub view_same : (a : View) → (view_eq.eq-value).it a a ≡ true
 view_same Nothing = search rules

@@ -23,10 +23,12 @@ pub read_keeps : (other : Option Table) (t u : Table) → Keeps t u → Keeps (u
 read_keeps None t u k = k
 read_keeps (Some s) t u k = keeps_itself s
 
-pub kept : (P : Tree → Type 0) (t u : Table) → Keeps t u → (node : ℕ) → IsNode t node → P (tree_of t node) → P (tree_of u node)
+pub kept : (P : Tree → Type 0) (t u : Table) → Keeps t u → (node : ℕ) → IsNode t node → P (tree_of t node) →
+    P (tree_of u node)
 kept P t u k node h p = subst P (sym (k.same node h)) p
 
-pub back : (P : Tree → Type 0) (t u : Table) → Keeps t u → (node : ℕ) → IsNode t node → P (tree_of u node) → P (tree_of t node)
+pub back : (P : Tree → Type 0) (t u : Table) → Keeps t u → (node : ℕ) → IsNode t node → P (tree_of u node) →
+    P (tree_of t node)
 back P t u k node h p = subst P (k.same node h) p
 
 nat_in : Option ℕ → ℕ
@@ -54,37 +56,48 @@ knows_more R s t known new key value update h hk hv r node made e =
     elim (bool_cases (eqb key node)) [
       | inl is ↦
           let same : key ≡ node = eqb-true key node is in
-          let value_is : value ≡ made = some_nat value made (sym (update node ∙ ap (λ b. cond b (Some value) (known node)) is) ∙ e) in
+          let value_is : value ≡ made =
+          some_nat value made (sym (update node ∙ ap (λ b. cond b (Some value) (known node)) is) ∙ e) in
           let P : ℕ → Type 0 = λ k. IsNode s k × IsNode t made × R (tree_of s k) (tree_of t made) in
           let Q : ℕ → Type 0 = λ v. IsNode s key × IsNode t v × R (tree_of s key) (tree_of t v) in
           subst P same (subst Q value_is (hk, hv, r))
       | inr isnt ↦ h node made (sym (update node ∙ ap (λ b. cond b (Some value) (known node)) isnt) ∙ e)
     ]
 
-pub pairs_kept : (R : Tree → Tree → Tree → Type 0) (t u : Table) (known : ℕ × ℕ → Option ℕ) → Keeps t u → KnowsPairs R t known → KnowsPairs R u known
+pub pairs_kept : (R : Tree → Tree → Tree → Type 0) (t u : Table) (known : ℕ × ℕ → Option ℕ) → Keeps t u →
+    KnowsPairs R t known → KnowsPairs R u known
 pairs_kept R t u known k h a b made e =
     let r = h a b made e in (
       k.held a r.0,
       k.held b r.1,
       k.held made r.2,
-      kept (λ x. R x (tree_of u b) (tree_of u made)) t u k a r.0 (kept (λ y. R (tree_of t a) y (tree_of u made)) t u k b r.1 (kept (λ z. R (tree_of t a) (tree_of t b) z) t u k made r.2 r.3)),
+      kept (λ x. R x (tree_of u b) (tree_of u made)) t u k a r.0
+          (kept (λ y. R (tree_of t a) y (tree_of u made)) t u k b r.1
+          (kept (λ z. R (tree_of t a) (tree_of t b) z) t u k made r.2 r.3)),
     )
 
-pub pairs_more : (R : Tree → Tree → Tree → Type 0) (t : Table) (known new : ℕ × ℕ → Option ℕ) (x y value : ℕ) → ((q : ℕ × ℕ) → new q ≡ cond (pair_eq (x, y) q) (Some value) (known q)) →
-    KnowsPairs R t known → IsNode t x → IsNode t y → IsNode t value → R (tree_of t x) (tree_of t y) (tree_of t value) → KnowsPairs R t new
+pub pairs_more : (R : Tree → Tree → Tree → Type 0) (t : Table) (known new : ℕ × ℕ → Option ℕ) (x y value : ℕ) →
+    ((q : ℕ × ℕ) → new q ≡ cond (pair_eq (x, y) q) (Some value) (known q)) →
+    KnowsPairs R t known → IsNode t x → IsNode t y → IsNode t value → R (tree_of t x) (tree_of t y) (tree_of t value) →
+    KnowsPairs R t new
 pairs_more R t known new x y value update h hx hy hv r a b made e =
     elim (bool_cases (pair_eq (x, y) (a, b))) [
       | inl is ↦
           let both = and_both (eqb x a) (eqb y b) is in
-          let value_is : value ≡ made = some_nat value made (sym (update (a, b) ∙ ap (λ c. cond c (Some value) (known (a, b))) is) ∙ e) in
-          let P : ℕ → Type 0 = λ k. IsNode t k × IsNode t b × IsNode t made × R (tree_of t k) (tree_of t b) (tree_of t made) in
-          let Q : ℕ → Type 0 = λ k. IsNode t x × IsNode t k × IsNode t made × R (tree_of t x) (tree_of t k) (tree_of t made) in
-          let V : ℕ → Type 0 = λ v. IsNode t x × IsNode t y × IsNode t v × R (tree_of t x) (tree_of t y) (tree_of t v) in
+          let value_is : value ≡ made =
+          some_nat value made (sym (update (a, b) ∙ ap (λ c. cond c (Some value) (known (a, b))) is) ∙ e) in
+          let P : ℕ → Type 0 =
+          λ k. IsNode t k × IsNode t b × IsNode t made × R (tree_of t k) (tree_of t b) (tree_of t made) in
+          let Q : ℕ → Type 0 =
+          λ k. IsNode t x × IsNode t k × IsNode t made × R (tree_of t x) (tree_of t k) (tree_of t made) in
+          let V : ℕ → Type 0 =
+          λ v. IsNode t x × IsNode t y × IsNode t v × R (tree_of t x) (tree_of t y) (tree_of t v) in
           subst P (eqb-true x a both.0) (subst Q (eqb-true y b both.1) (subst V value_is (hx, hy, hv, r)))
       | inr isnt ↦ h a b made (sym (update (a, b) ∙ ap (λ c. cond c (Some value) (known (a, b))) isnt) ∙ e)
     ]
 
-pub pairs_same : (R : Tree → Tree → Tree → Type 0) (t : Table) (known new : ℕ × ℕ → Option ℕ) → ((q : ℕ × ℕ) → new q ≡ known q) → KnowsPairs R t known → KnowsPairs R t new
+pub pairs_same : (R : Tree → Tree → Tree → Type 0) (t : Table) (known new : ℕ × ℕ → Option ℕ) →
+    ((q : ℕ × ℕ) → new q ≡ known q) → KnowsPairs R t known → KnowsPairs R t new
 pairs_same R t known new e h a b made is = h a b made (sym (e (a, b)) ∙ is)
 
 pub knows_same : (R : Tree → Tree → Type 0) (s t : Table) (known new : ℕ → Option ℕ) → ((q : ℕ) → new q ≡ known q) →

@@ -1,5 +1,6 @@
 -- Letters as numbers and as functions.
-use Rattle.std.proofs.Common.{◌≡◌, ℕ, zero, suc, ◌+◌, ◌-◌, ◌*◌, ◌^◌, ◌<◌, ◌≤◌, Bool, true, false, cond, ltb, ap, sym, subst, ◌∙◌, arith, inl, inr, nat_eq}
+use Rattle.std.proofs.Common.{◌≡◌, ℕ, zero, suc, ◌+◌, ◌-◌, ◌*◌, ◌^◌, ◌<◌, ◌≤◌, Bool, true, false, cond, ltb, ap, sym}
+use Rattle.std.proofs.Common.{subst, ◌∙◌, arith, inl, inr, nat_eq}
 use Rattle.std.proofs.lemmas.Bool.{ltb-true, ltb-false}
 use Rattle.std.proofs.Math.Nat.{pow-suc}
 use Rattle.std.proofs.lemmas.Nat.Bits.{bit_at_cat_low, bit_at_cat_high, bit_at_above}
@@ -28,7 +29,8 @@ on_top n low = omega arith
 pub top_bit : (n low : ℕ) → low < 2 ^ n → is_in n (low + 2 ^ n) ≡ true
 top_bit n low h =
     let same : n - n ≡ 0 = omega arith in
-    let one : bit_at (low + 2 ^ n) n ≡ 1 = ap (λ x. bit_at x n) (on_top n low) ∙ bit_at_cat_high 1 n low n h (omega arith) ∙ ap (λ k. bit_at 1 k) same in
+    let one : bit_at (low + 2 ^ n) n ≡ 1 = ap (λ x. bit_at x n) (on_top n low)
+    ∙ bit_at_cat_high 1 n low n h (omega arith) ∙ ap (λ k. bit_at 1 k) same in
     ap (λ x. nat_eq x 1) one
 
 pub lower_bit : (n low p : ℕ) → p < n → is_in p (low + 2 ^ n) ≡ is_in p low
@@ -60,8 +62,11 @@ letter_is (suc n) f p h =
     ]
 
 -- a tree's leaf at a letter is that at its number
-pub leaf_by_number : (n : ℕ) (t : Tree) → IsFrom 0 n t → (f : ℕ → Bool) → leaf_at t f ≡ leaf_at t (assignment (letter_of n f))
+pub leaf_by_number : (n : ℕ) (t : Tree) → IsFrom 0 n t → (f : ℕ → Bool) →
+    leaf_at t f ≡ leaf_at t (assignment (letter_of n f))
 leaf_by_number n t o f = from-blind 0 n t o f (assignment (letter_of n f)) (λ q h b. sym (letter_is n f q b))
 
-pub same_by_numbers : (n : ℕ) (t u : Tree) → IsFrom 0 n t → IsFrom 0 n u → ((letter : ℕ) → letter < 2 ^ n → leaf_at t (assignment letter) ≡ leaf_at u (assignment letter)) → HaveSameLeaves t u
-same_by_numbers n t u ot ou h f = leaf_by_number n t ot f ∙ h (letter_of n f) (letter_lt n f) ∙ sym (leaf_by_number n u ou f)
+pub same_by_numbers : (n : ℕ) (t u : Tree) → IsFrom 0 n t → IsFrom 0 n u →
+    ((letter : ℕ) → letter < 2 ^ n → leaf_at t (assignment letter) ≡ leaf_at u (assignment letter)) → HaveSameLeaves t u
+same_by_numbers n t u ot ou h f =
+    leaf_by_number n t ot f ∙ h (letter_of n f) (letter_lt n f) ∙ sym (leaf_by_number n u ou f)

@@ -24,9 +24,12 @@ from_root n p empty o h = tt
 from_root n p (final k) o h = tt
 from_root n p (choice q low high) o h = (omega (arith, h), o.1, o.2, o.3)
 
-pub sides_of_later : (t : Table) (node p : ℕ) → IsSoundTable t → IsNode t node → p < root_of t.propositions (tree_of t node) → IsSides t node p node node
+pub sides_of_later : (t : Table) (node p : ℕ) → IsSoundTable t → IsNode t node →
+    p < root_of t.propositions (tree_of t node) → IsSides t node p node node
 sides_of_later t node p s h lt =
-    let later = blind-from (p + 1) t.propositions (tree_of t node) (from_root t.propositions p (tree_of t node) (s.ordered node h) lt) in
+    let later =
+    blind-from (p + 1) t.propositions (tree_of t node) (from_root t.propositions p (tree_of t node)
+    (s.ordered node h) lt) in
     record {
       low_held = h;
       high_held = h;
@@ -62,7 +65,8 @@ least_of a b r e = elim (bool_cases (ltb a b)) [
   | inr isnt ↦ inr (let h = ltb-false a b isnt in omega (arith, e, h))
 ]
 
-pub falls : (a b r first second x y : ℕ) → r ≡ min a b → x ≤ first → y ≤ second → (a ≡ r → x < first) → (b ≡ r → y < second) → x + y < first + second
+pub falls : (a b r first second x y : ℕ) → r ≡ min a b → x ≤ first → y ≤ second → (a ≡ r → x < first) →
+    (b ≡ r → y < second) → x + y < first + second
 falls a b r first second x y e hx hy lx ly = elim (least_of a b r e) [
   | inl is ↦ (let h = lx is in omega (arith, h, hy))
   | inr is ↦ (let h = ly is in omega (arith, h, hx))

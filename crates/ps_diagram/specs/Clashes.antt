@@ -6,5 +6,7 @@ use Rattle.ps_diagram.specs.Table.{Table, leaf_of}
 
 -- at some letter the first node has the first leaf, the second one the second, and these differ
 abbrev pub TellsClash : Table → ℕ → ℕ → OverlayError → Type 0
-TellsClash t first second (Clash x y) = (letter : ℕ) × (letter < 2 ^ t.propositions) × (leaf_of t first letter ≡ Some x) × (leaf_of t second letter ≡ Some y) × (x ≢ y)
+TellsClash t first second (Clash x y) =
+    (letter : ℕ) × (letter < 2 ^ t.propositions) × (leaf_of t first letter ≡ Some x) ×
+    (leaf_of t second letter ≡ Some y) × (x ≢ y)
 TellsClash t first second OutOfMemory = Unit {0}

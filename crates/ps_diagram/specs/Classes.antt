@@ -8,7 +8,8 @@ use Rattle.ps_diagram.specs.Table.{Table, IsNode, leaf_of}
 
 -- each letter over the others leads the two letters over the mask to the same leaf, or both to none
 abbrev pub LeadAlike : Table → ℕ → ℕ → ℕ → ℕ → Type 0
-LeadAlike t node mask x y = (u v : ℕ) → AgreeOn mask x u → AgreeOn mask y v → AgreeOff mask u v → leaf_of t node u ≡ leaf_of t node v
+LeadAlike t node mask x y =
+    (u v : ℕ) → AgreeOn mask x u → AgreeOn mask y v → AgreeOff mask u v → leaf_of t node u ≡ leaf_of t node v
 
 -- The class at the place k: its letter is the least in it and has propositions of the mask alone; its diagram heeds the
 -- others alone, and has the leaf of the first table's node at each letter in it.

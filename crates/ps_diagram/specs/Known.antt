@@ -14,7 +14,8 @@ Knows R s t known =
 -- the same of pairs of nodes
 abbrev pub KnowsPairs : (Tree → Tree → Tree → Type 0) → Table → (ℕ × ℕ → Option ℕ) → Type 0
 KnowsPairs R t known =
-    (first second made : ℕ) → known (first, second) ≡ Some made → IsNode t first × IsNode t second × IsNode t made × R (tree_of t first) (tree_of t second) (tree_of t made)
+    (first second made : ℕ) → known (first, second) ≡ Some made →
+    IsNode t first × IsNode t second × IsNode t made × R (tree_of t first) (tree_of t second) (tree_of t made)
 
 abbrev pub pair_eq : ℕ × ℕ → ℕ × ℕ → Bool
 pair_eq a b = nat_eq a.0 b.0 && nat_eq a.1 b.1
@@ -25,7 +26,8 @@ IsMapped rule t u = (f : ℕ → Bool) → leaf_at u f ≡ rule (leaf_at t f)
 
 -- the third tree has the leaves of the first and of the second, which nowhere differ
 abbrev pub IsOverlay : Tree → Tree → Tree → Type 0
-IsOverlay a b c = (f : ℕ → Bool) → AreAlike (leaf_at a f) (leaf_at b f) × (leaf_at c f ≡ joined (leaf_at a f) (leaf_at b f))
+IsOverlay a b c =
+    (f : ℕ → Bool) → AreAlike (leaf_at a f) (leaf_at b f) × (leaf_at c f ≡ joined (leaf_at a f) (leaf_at b f))
 
 -- a clash is told of two leaves at one letter
 abbrev pub IsClash : Tree → Tree → OverlayError → Type 0

@@ -4,8 +4,10 @@
 --     AreOverFrom k propositions es          so do these aliases, the first being alias k, of earlier aliases alone
 --     HaveTruths t nodes known               the diagrams of these nodes are those of truths, letter by letter
 --     AreNodesOf t aliases nodes             the nodes are the diagrams of the aliases' truths
-use Rattle.std.specs.Prelude.{◌≡◌, ℕ, ◌+◌, ◌<◌, Bool, true, false, List, [], ◌∷◌, length, Option, Some, None, slice_index, slice_index_or}
-use Rattle.ps_label.specs.Expression.{Expression, constant, proposition, alias, not_of, all_of, any_of, Operands, last, more}
+use Rattle.std.specs.Prelude.{◌≡◌, ℕ, ◌+◌, ◌<◌, Bool, true, false, List, [], ◌∷◌, length, Option, Some, None}
+use Rattle.std.specs.Prelude.{slice_index, slice_index_or}
+use Rattle.ps_label.specs.Expression.{Expression, constant, proposition, alias, not_of, all_of, any_of, Operands, last}
+use Rattle.ps_label.specs.Expression.{more}
 use Rattle.ps_label.specs.Truth.{alias_truths}
 use Rattle.ps_diagram.specs.Table.{Table, IsNode, leaf_of}
 
@@ -38,7 +40,8 @@ AreOverFrom k propositions (e ∷ es) = IsOver k propositions e × AreOverFrom (
 -- the nodes are held, and at each letter the leaf of each is that of its truth
 pub record HaveTruths (t : Table) (nodes : List ℕ) (known : ℕ → List Bool) : Type 0 where
   pub held : (k : ℕ) → k < length nodes → IsNode t (slice_index nodes k)
-  pub leaf : (k letter : ℕ) → k < length nodes → leaf_of t (slice_index nodes k) letter ≡ one_where (slice_index_or (known letter) k false)
+  pub leaf : (k letter : ℕ) → k < length nodes → leaf_of t (slice_index nodes k) letter ≡ one_where
+      (slice_index_or (known letter) k false)
 
 pub record AreNodesOf (t : Table) (aliases : List Expression) (nodes : List ℕ) : Type 0 where
   pub one_each : length nodes ≡ length aliases

@@ -21,7 +21,8 @@ pub record IsPlaced (places : ℕ → Option ℕ) (list : List Class) : Type 0 w
   pub found : (k i : ℕ) → places k ≡ Some i → (i < length list) × ((class_at list i).rest ≡ k)
   pub placed : (i : ℕ) → i < length list → places (class_at list i).rest ≡ Some i
 
--- the classes are those of all leaves, and at each letter the second tree has the place of the class of the first tree's leaf
+-- the classes are those of all leaves, and at each letter the second tree has the place of the class of the first
+-- tree's leaf
 pub record AreOfLeaves (leaves : List (ℕ × ℕ)) (tree placed : Tree) (list : List Class) : Type 0 where
   pub listed : AreOf leaves (length leaves) list
   pub places : ℕ → Option ℕ

@@ -31,7 +31,8 @@ pub record IsFirst (n : ℕ) (t : Tree) (letter leaf place : ℕ) : Type 0 where
   pub within : place < 2 ^ n
   pub there : leaf_at t (assignment place) ≡ Some leaf
   pub same : (q : ℕ) → q < root_of n t → is_in q place ≡ is_in q letter
-  pub least : (x : ℕ) → leaf_at t (assignment x) ≡ Some leaf → (before : IsBefore x place) → is_in before.first letter ≡ true
+  pub least : (x : ℕ) → leaf_at t (assignment x) ≡ Some leaf → (before : IsBefore x place) →
+      is_in before.first letter ≡ true
 
 abbrev pub AreRising : List (ℕ × ℕ) → Type 0
 AreRising [] = Unit {0}
@@ -52,4 +53,5 @@ pub record IsGathered (t : Table) (node : ℕ) (found : List (ℕ × ℕ)) : Typ
 
 -- the leaves of these nodes are found
 abbrev pub HaveFound : Table → (ℕ → Bool) → List (ℕ × ℕ) → Type 0
-HaveFound t seen found = (node : ℕ) → seen node ≡ true → (f : ℕ → Bool) (leaf : ℕ) → leaf_at (tree_of t node) f ≡ Some leaf → IsFound found leaf
+HaveFound t seen found = (node : ℕ) → seen node ≡ true → (f : ℕ → Bool) (leaf : ℕ) →
+    leaf_at (tree_of t node) f ≡ Some leaf → IsFound found leaf

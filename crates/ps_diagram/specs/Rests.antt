@@ -12,7 +12,8 @@ mixed mask f g p = cond (is_in p mask) (f p) (g p)
 -- the two letters mixed.
 abbrev pub IsDivided : Table → ℕ → Tree → Tree → Type 0
 IsDivided t mask a d =
-    (f : ℕ → Bool) → (rest : ℕ) × (leaf_at d f ≡ Some rest) × IsNode t rest × ((g : ℕ → Bool) → leaf_at (tree_of t rest) g ≡ leaf_at a (mixed mask f g))
+    (f : ℕ → Bool) → (rest : ℕ) × (leaf_at d f ≡ Some rest) × IsNode t rest ×
+    ((g : ℕ → Bool) → leaf_at (tree_of t rest) g ≡ leaf_at a (mixed mask f g))
 
 -- the leaf is a node, and that heeds propositions from the level on alone
 abbrev pub IsPlace : Table → ℕ → Option ℕ → Type 0
@@ -22,7 +23,8 @@ IsPlace t level leaf = (node : ℕ) × (leaf ≡ Some node) × IsNode t node × 
 abbrev pub LeadsToNodes : Table → ℕ → Tree → Type 0
 LeadsToNodes t level d = (f : ℕ → Bool) → IsPlace t level (leaf_at d f)
 
--- three leaves are nodes, and the third has the leaf of the second at letters where the test is true, else that of the first
+-- three leaves are nodes, and the third has the leaf of the second at letters where the test is true, else that of the
+-- first
 pub record AreTested (t : Table) (test : (ℕ → Bool) → Bool) (x y z : Option ℕ) : Type 0 where
   pub low : ℕ
   pub high : ℕ
@@ -33,7 +35,8 @@ pub record AreTested (t : Table) (test : (ℕ → Bool) → Bool) (x y z : Optio
   pub low_held : IsNode t low
   pub high_held : IsNode t high
   pub held : IsNode t made
-  pub leaf : (g : ℕ → Bool) → leaf_at (tree_of t made) g ≡ cond (test g) (leaf_at (tree_of t high) g) (leaf_at (tree_of t low) g)
+  pub leaf : (g : ℕ → Bool) → leaf_at (tree_of t made) g ≡ cond (test g) (leaf_at (tree_of t high) g)
+      (leaf_at (tree_of t low) g)
 
 -- the nodes of the third tree test the proposition between those of the first and of the second
 abbrev pub IsTested : Table → ℕ → Tree → Tree → Tree → Type 0
@@ -41,12 +44,14 @@ IsTested t p a b d = (f : ℕ → Bool) → AreTested t (λ g. g p) (leaf_at a f
 
 -- the same, where the proposition is read if it is in the mask
 abbrev pub IsDividedTest : Table → ℕ → ℕ → Tree → Tree → Tree → Type 0
-IsDividedTest t mask p a b d = (f : ℕ → Bool) → AreTested t (λ g. mixed mask f g p) (leaf_at a f) (leaf_at b f) (leaf_at d f)
+IsDividedTest t mask p a b d =
+    (f : ℕ → Bool) → AreTested t (λ g. mixed mask f g p) (leaf_at a f) (leaf_at b f) (leaf_at d f)
 
 -- what is known of a proposition and two nodes is held, and of nodes that test the proposition between those of the two
 abbrev pub KnowsTests : Table → (ℕ × ℕ × ℕ → Option ℕ) → Type 0
 KnowsTests t known =
-    (p low high made : ℕ) → known (p, low, high) ≡ Some made → IsNode t low × IsNode t high × IsNode t made × IsTested t p (tree_of t low) (tree_of t high) (tree_of t made)
+    (p low high made : ℕ) → known (p, low, high) ≡ Some made →
+    IsNode t low × IsNode t high × IsNode t made × IsTested t p (tree_of t low) (tree_of t high) (tree_of t made)
 
 abbrev pub test_eq : ℕ × ℕ × ℕ → ℕ × ℕ × ℕ → Bool
 test_eq a b = nat_eq a.0 b.0 && nat_eq a.1 b.1 && nat_eq a.2 b.2

@@ -1,5 +1,7 @@
--- Rows of nodes, from which the diagram of a list of leaves is made, proposition by proposition. (Of private functions.)
-use Rattle.std.specs.Prelude.{◌≡◌, ℕ, ◌%◌, ◌^◌, ◌<◌, Bool, List, length, Option, None, slice_get, slice_index, slice_index_or}
+-- Rows of nodes, from which the diagram of a list of leaves is made, proposition by proposition. (Of private
+-- functions.)
+use Rattle.std.specs.Prelude.{◌≡◌, ℕ, ◌%◌, ◌^◌, ◌<◌, Bool, List, length, Option, None, slice_get, slice_index}
+use Rattle.std.specs.Prelude.{slice_index_or}
 use Rattle.ps_diagram.specs.Tree.{leaf_at, IsBlind}
 use Rattle.ps_diagram.specs.Table.{Table, IsNode, leaf_of, tree_of}
 
@@ -21,4 +23,5 @@ pub record IsRow (t : Table) (level none : ℕ) (nodes : List ℕ) : Type 0 wher
 -- each letter comes to its leaf from the node at the number of its first propositions
 abbrev pub LeadsOn : Table → List ℕ → ℕ → ℕ → List ℕ → Type 0
 LeadsOn t leaves level none nodes =
-    (letter : ℕ) → leaf_of t (slice_index_or nodes (letter % 2 ^ level) none) letter ≡ slice_get leaves (letter % 2 ^ t.propositions)
+    (letter : ℕ) → leaf_of t (slice_index_or nodes (letter % 2 ^ level) none) letter ≡ slice_get leaves
+    (letter % 2 ^ t.propositions)

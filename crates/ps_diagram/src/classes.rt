@@ -186,7 +186,8 @@ impl Store {
         ensures tests { KnowsTests self.new (get test_eq tests.new) }
         ensures held { IfOk result (λ made. IsNode self.new made) }
         ensures leaf { IfOk result
-            (λ made. IsDividedTest self.new split proposition (tree_of self.old low) (tree_of self.old high) (tree_of self.new made)) }
+            (λ made. IsDividedTest self.new split proposition (tree_of self.old low) (tree_of self.old high)
+            (tree_of self.new made)) }
     {
         let _ = self.allocator();
         if split >> proposition & 1 == 1 {
@@ -214,7 +215,8 @@ impl Store {
         ensures tests { KnowsTests self.new (get test_eq tests.new) }
         ensures held { IfOk result (λ made. IsNode self.new made) }
         ensures leaf { IfOk result
-            (λ made. IsTested self.new proposition (tree_of self.old low) (tree_of self.old high) (tree_of self.new made)) }
+            (λ made. IsTested self.new proposition (tree_of self.old low) (tree_of self.old high)
+            (tree_of self.new made)) }
     {
         if low == high {
             return Ok(low);
@@ -250,7 +252,8 @@ impl Store {
         ensures keeps { Keeps self.old self.new }
         ensures held { IfOk result (λ made. IsNode self.new made) }
         ensures leaf { IfOk result
-            (λ made. IsTested self.new proposition (tree_of self.old low) (tree_of self.old high) (tree_of self.new made)) }
+            (λ made. IsTested self.new proposition (tree_of self.old low) (tree_of self.old high)
+            (tree_of self.new made)) }
     {
         let one = self.node_at(low);
         let other = self.node_at(high);

@@ -27,7 +27,8 @@ impl Store {
         ensures keeps { Keeps self.old self.new }
         ensures held { IfOk result (λ node. IsNode self.new node) }
         ensures leaf { IfOk result
-            (λ node. (letter : ℕ) → leaf_of self.new node letter ≡ one_where (label_truth (expressions labels.now) letter (expression label.now))) }
+            (λ node. (letter : ℕ) → leaf_of self.new node letter ≡ one_where
+            (label_truth (expressions labels.now) letter (expression label.now))) }
     {
         let aliases = self.of_aliases(labels)?;
         self.of_label_by(&aliases, label)
@@ -62,7 +63,8 @@ impl Store {
         ensures keeps { Keeps self.old self.new }
         ensures held { IfOk result (λ node. IsNode self.new node) }
         ensures leaf { IfOk result
-            (λ node. (names : List Expression) → AreNodesOf self.old names aliases.now → (letter : ℕ) → leaf_of self.new node letter ≡ one_where (label_truth names letter (expression label.now))) }
+            (λ node. (names : List Expression) → AreNodesOf self.old names aliases.now → (letter : ℕ) →
+            leaf_of self.new node letter ≡ one_where (label_truth names letter (expression label.now))) }
     {
         self.truth_by(aliases, label)
     }
@@ -74,7 +76,8 @@ impl Store {
         ensures keeps { Keeps self.old self.new }
         ensures held { IfOk result (λ node. IsNode self.new node) }
         ensures leaf { IfOk result
-            (λ node. (known : ℕ → List Bool) → HaveTruths self.old aliases.now known → (letter : ℕ) → leaf_of self.new node letter ≡ one_where (truth (known letter) letter (expression label.now))) }
+            (λ node. (known : ℕ → List Bool) → HaveTruths self.old aliases.now known → (letter : ℕ) →
+            leaf_of self.new node letter ≡ one_where (truth (known letter) letter (expression label.now))) }
     {
         match label {
             Label::Truth(value) => self.of_truth(*value),
@@ -158,7 +161,8 @@ impl Store {
         ensures keeps { Keeps self.old self.new }
         ensures held { IfOk result (λ node. IsNode self.new node) }
         ensures leaf { IfOk result
-            (λ node. (letter : ℕ) → leaf_of self.new node letter ≡ joined (leaf_of self.old first letter) (leaf_of self.old second letter)) }
+            (λ node. (letter : ℕ) → leaf_of self.new node letter ≡ joined (leaf_of self.old first letter)
+            (leaf_of self.old second letter)) }
     {
         match self.overlay(first, second) {
             Ok(node) => Ok(node),

@@ -19,7 +19,8 @@ impl Store {
         ensures keeps { Keeps self.old self.new }
         ensures held { IfOk result (λ node. IsNode self.new node) }
         ensures leaf { IfOk result
-            (λ node. (other : ℕ) → other < 2 ^ self.old.propositions → leaf_of self.new node other ≡ one_where (nat_eq other letter)) }
+            (λ node. (other : ℕ) → other < 2 ^ self.old.propositions →
+            leaf_of self.new node other ≡ one_where (nat_eq other letter)) }
     {
         let none = self.constant(None)?;
         let mut node = self.constant(Some(1))?;

@@ -1,6 +1,7 @@
 //! Diagrams with their leaves changed by a rule.
 
-ghost use Rattle.std.specs.Prelude.{◌≡◌, ℕ, ◌+◌, ◌^◌, ◌<◌, ◌≤◌, Bool, Option, Some, None, IfOk, IfSome, length, nat_eq, option_map, option_and_then, unwrap_or, slice_index, is_none, cond};
+ghost use Rattle.std.specs.Prelude.{◌≡◌, ℕ, ◌+◌, ◌^◌, ◌<◌, ◌≤◌, Bool, Option, Some, None, IfOk, IfSome, length, nat_eq};
+ghost use Rattle.std.specs.Prelude.{option_map, option_and_then, unwrap_or, slice_index, is_none, cond};
 ghost use Rattle.std.specs.Option.{option_copied};
 ghost use Rattle.indexmap.specs.IndexMap.{get, index_of};
 ghost use Rattle.ps_diagram.specs.Tree.{leaf_at};
@@ -124,7 +125,8 @@ impl Store {
         ensures keeps { Keeps self.old self.new }
         ensures held { IfOk result (λ made. IsNode self.new made) }
         ensures leaf { IfOk result
-            (λ made. (letter : ℕ) → leaf_of self.new made letter ≡ option_map (λ _. value) (leaf_of self.old node letter)) }
+            (λ made. (letter : ℕ) → leaf_of self.new made letter ≡ option_map (λ _. value)
+            (leaf_of self.old node letter)) }
     {
         self.mapped(None, node, &Guarded(value))
     }
@@ -139,7 +141,8 @@ impl Store {
         ensures keeps { Keeps self.old self.new }
         ensures held { IfOk result (λ made. IsNode self.new made) }
         ensures leaf { IfOk result
-            (λ made. (letter : ℕ) → leaf_of self.new made letter ≡ Some (unwrap_or (leaf_of self.old node letter) value)) }
+            (λ made. (letter : ℕ) → leaf_of self.new made letter ≡ Some
+            (unwrap_or (leaf_of self.old node letter) value)) }
     {
         self.mapped(None, node, &Filled(value))
     }
@@ -151,11 +154,13 @@ impl Store {
     /// Fails where a growth was refused.
     pub fn relabel(&mut self, node: Node, values: &[u64]) -> Result<Node, AllocError>
         requires held { IsNode self.old node }
-        requires within { (letter : ℕ) → letter < 2 ^ self.old.propositions → IfSome (leaf_of self.old node letter) (λ k. k < length values.now) }
+        requires within { (letter : ℕ) → letter < 2 ^ self.old.propositions →
+            IfSome (leaf_of self.old node letter) (λ k. k < length values.now) }
         ensures keeps { Keeps self.old self.new }
         ensures held { IfOk result (λ made. IsNode self.new made) }
         ensures leaf { IfOk result
-            (λ made. (letter : ℕ) → leaf_of self.new made letter ≡ option_map (λ k. slice_index values.now k) (leaf_of self.old node letter)) }
+            (λ made. (letter : ℕ) → leaf_of self.new made letter ≡ option_map (λ k. slice_index values.now k)
+            (leaf_of self.old node letter)) }
     {
         let _ = self.allocator();
         self.mapped(None, node, &Relabelled(values))
@@ -207,7 +212,8 @@ impl Store {
         ensures keeps { Keeps self.old self.new }
         ensures held { IfOk result (λ made. IsNode self.new made) }
         ensures leaf { IfOk result
-            (λ made. IsMapped (λ leaf. option_and_then (λ k. get nat_eq places.now k) leaf) (tree_of self.old node) (tree_of self.new made)) }
+            (λ made. IsMapped (λ leaf. option_and_then (λ k. get nat_eq places.now k) leaf) (tree_of self.old node)
+            (tree_of self.new made)) }
     {
         self.mapped(None, node, &Placed(places))
     }

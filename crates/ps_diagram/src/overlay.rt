@@ -26,8 +26,10 @@ impl Store {
         ensures keeps { Keeps self.old self.new }
         ensures held { IfOk result (λ node. IsNode self.new node) }
         ensures leaf { IfOk result
-            (λ node. (letter : ℕ) → leaf_of self.new node letter ≡ joined (leaf_of self.old first letter) (leaf_of self.old second letter)) }
-        ensures alike { OnOk result ((letter : ℕ) → AreAlike (leaf_of self.old first letter) (leaf_of self.old second letter)) }
+            (λ node. (letter : ℕ) → leaf_of self.new node letter ≡ joined (leaf_of self.old first letter)
+            (leaf_of self.old second letter)) }
+        ensures alike { OnOk result ((letter : ℕ) → AreAlike (leaf_of self.old first letter)
+            (leaf_of self.old second letter)) }
         ensures clash { IfErr result (TellsClash self.old first second) }
     {
         let mut known = IndexMap::new(self.allocator());

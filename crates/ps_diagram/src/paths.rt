@@ -33,7 +33,8 @@ impl Store {
     pub fn path_to(&self, node: Node, leaf: u64) -> Result<Option<u64>, AllocError>
         requires held { IsNode self.now node }
         ensures { IfOk result
-            (λ found. MatchOption found ((letter : ℕ) → LeadsTo self.now node leaf letter → ⊥) (λ letter. IsLeast (LeadsTo self.now node leaf) letter)) }
+            (λ found. MatchOption found ((letter : ℕ) → LeadsTo self.now node leaf letter → ⊥)
+            (λ letter. IsLeast (LeadsTo self.now node leaf) letter)) }
     {
         Ok(self.found_below(node)?.get(&leaf).copied())
     }
@@ -62,7 +63,8 @@ impl Store {
         requires begun { letter < 2 ^ root_of self.now.propositions (tree_of self.now node) }
         requires seen { HaveFound self.now (contains nat_eq seen.old) found.old.entries }
         ensures seen { OnOk result (HaveFound self.now (contains nat_eq seen.new) found.new.entries) }
-        ensures found { OnOk result (Gathers self.now.propositions (tree_of self.now node) letter found.old.entries found.new.entries) }
+        ensures found { OnOk result (Gathers self.now.propositions (tree_of self.now node) letter found.old.entries
+            found.new.entries) }
     {
         match self.cell(node) {
             View::Nothing => Ok(()),

@@ -20,7 +20,8 @@ impl Store {
         ensures keeps { Keeps self.old self.new }
         ensures held { IfOk result (λ node. IsNode self.new node) }
         ensures leaf { IfOk result
-            (λ node. (letter : ℕ) → leaf_of self.new node letter ≡ slice_get leaves.now (letter % 2 ^ self.old.propositions)) }
+            (λ node. (letter : ℕ) → leaf_of self.new node letter ≡ slice_get leaves.now
+            (letter % 2 ^ self.old.propositions)) }
     {
         let none = self.constant(None)?;
         let mut nodes = self.leaf_nodes(leaves)?;
@@ -54,7 +55,8 @@ impl Store {
         ensures keeps { Keeps self.old self.new }
         ensures row { IfOk result (λ made. IsRow self.new proposition none made.items) }
         ensures leads { IfOk result
-            (λ made. (leaves : List ℕ) → LeadsOn self.old leaves (proposition + 1) none nodes.now → LeadsOn self.new leaves proposition none made.items) }
+            (λ made. (leaves : List ℕ) → LeadsOn self.old leaves (proposition + 1) none nodes.now →
+            LeadsOn self.new leaves proposition none made.items) }
     {
         let mut made = Vec::new(self.allocator());
         let half = power(proposition);

@@ -1,6 +1,7 @@
 //! The store: the table of nodes, and the leaf of a node at a letter.
 
-ghost use Rattle.std.specs.Prelude.{◌≡◌, ◌↔◌, IsTrue, ℕ, ◌+◌, ◌^◌, ◌≤◌, ◌<◌, [], IfOk, OnOk, length, slice_index_or, Option, Some, None, cond};
+ghost use Rattle.std.specs.Prelude.{◌≡◌, ◌↔◌, IsTrue, ℕ, ◌+◌, ◌^◌, ◌≤◌, ◌<◌, [], IfOk, OnOk, length, slice_index_or};
+ghost use Rattle.std.specs.Prelude.{Option, Some, None, cond};
 ghost use Rattle.ps_diagram.specs.Tree.{IsBlind, IsFrom, IsReduced, IsTestOf};
 ghost use Rattle.ps_diagram.specs.Parts.{IsPart};
 ghost use Rattle.ps_diagram.specs.Table.{Table, IsNode, IsSoundTable, IsWithin, Keeps, leaf_of, tree_of, tree_in};
@@ -116,7 +117,8 @@ impl Store {
         requires first { IsNode self.now first }
         requires second { IsNode self.now second }
         ensures { IsTrue result
-            ↔ ((letter : ℕ) → letter < 2 ^ self.now.propositions → leaf_of self.now first letter ≡ leaf_of self.now second letter) }
+            ↔ ((letter : ℕ) → letter < 2 ^ self.now.propositions →
+            leaf_of self.now first letter ≡ leaf_of self.now second letter) }
     {
         let _ = &self.propositions;
         first == second

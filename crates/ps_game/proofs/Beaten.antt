@@ -1,6 +1,7 @@
 -- From a vertex of a set that one player holds, each history table of the other player is beaten: the path goes by
 -- both tables, and its loops are won by the holder.
-use Rattle.std.proofs.Common.{◌≡◌, ℕ, zero, suc, ◌+◌, ◌-◌, ◌<◌, ◌≤◌, inl, inr, List, [], ◌∷◌, ◌++◌, Bool, length, get_or, Option, Some, None, refl, subst, sym, ◌∙◌, arith}
+use Rattle.std.proofs.Common.{◌≡◌, ℕ, zero, suc, ◌+◌, ◌-◌, ◌<◌, ◌≤◌, inl, inr, List, [], ◌∷◌, ◌++◌, Bool, length}
+use Rattle.std.proofs.Common.{get_or, Option, Some, None, refl, subst, sym, ◌∙◌, arith}
 use Rattle.std.specs.Prelude.{IsTrue, IsSomeAnd}
 use Rattle.std.proofs.Math.Nat.{le_refl}
 use Rattle.std.proofs.lemmas.Bool.{cases_eq}
@@ -21,7 +22,8 @@ record Meets (game : ParityGame) (player : ℕ) (table : ℕ → Option ℕ) (hi
   goes_by : GoesBy game player history path
 
 -- where both lead from the end of a path
-record NextVertex (game : ParityGame) (player : ℕ) (table : ℕ → Option ℕ) (history : List ℕ → ℕ) (path : List ℕ) : Type 0 where
+record NextVertex (game : ParityGame) (player : ℕ) (table : ℕ → Option ℕ) (history : List ℕ → ℕ)
+    (path : List ℕ) : Type 0 where
   next : ℕ
   edge : HasEdge game (last_vertex path) next
   by_table : owner_of game (last_vertex path) ≡ other_player player → table (last_vertex path) ≡ Some next
@@ -42,12 +44,16 @@ alone_below : (v n k : ℕ) → v < n → k < length (v ∷ []) → get_or (v �
 alone_below v n zero is_below only = is_below
 alone_below v n (suc k) is_below only = absurd (omega arith)
 
-module _ (game : ParityGame) (player : ℕ) (set : ℕ → Bool) (table : ℕ → Option ℕ) (is_game : IsGame game) (is_player : player < 2) (holds : Holds game (other_player player) set table) where
-  next_vertex : (n : ℕ) (history : List ℕ → ℕ) → IsHistoryTable game player n history → (path : List ℕ) → IsPath game path → length path ≤ n → IsTrue (set (get_or path 0 0)) → Follows game (other_player player) table path → NextVertex game player table history path
+module _ (game : ParityGame) (player : ℕ) (set : ℕ → Bool) (table : ℕ → Option ℕ) (is_game : IsGame game)
+    (is_player : player < 2) (holds : Holds game (other_player player) set table) where
+  next_vertex : (n : ℕ) (history : List ℕ → ℕ) → IsHistoryTable game player n history → (path : List ℕ) →
+      IsPath game path → length path ≤ n → IsTrue (set (get_or path 0 0)) →
+      Follows game (other_player player) table path → NextVertex game player table history path
   next_vertex n history is_table path is_path short inside follows =
       let last_place : length path - 1 < length path = omega (arith, is_path.begins) in
       let is_vertex : last_vertex path < vertex_count game = is_path.vertices (length path - 1) last_place in
-      let stays : IsTrue (set (last_vertex path)) = holds.keeps.stays path is_path inside follows (length path - 1) last_place in
+      let stays : IsTrue (set (last_vertex path)) =
+      holds.keeps.stays path is_path inside follows (length path - 1) last_place in
       elim (cases_eq (owner_of game (last_vertex path)) player) [
         | inl owns ↦ record {
           next = history path;
@@ -56,8 +62,11 @@ module _ (game : ParityGame) (player : ℕ) (set : ℕ → Bool) (table : ℕ �
           by_history = λ _. refl;
         }
         | inr other ↦ (
-            let owns : owner_of game (last_vertex path) ≡ other_player player = other_owns _ player (is_game.owners _ is_vertex) is_player other in
-            let moved = value_of (table (last_vertex path)) (HasEdge game (last_vertex path)) (holds.keeps.moves _ is_vertex stays owns) in
+            let owns : owner_of game (last_vertex path) ≡ other_player player =
+            other_owns _ player (is_game.owners _ is_vertex) is_player other in
+            let moved =
+            value_of (table (last_vertex path)) (HasEdge game (last_vertex path))
+            (holds.keeps.moves _ is_vertex stays owns) in
             record {
               next = moved.0;
               edge = moved.2;
@@ -67,10 +76,13 @@ module _ (game : ParityGame) (player : ℕ) (set : ℕ → Bool) (table : ℕ �
       ]
 
   -- one vertex more
-  meets_more : (n : ℕ) (history : List ℕ → ℕ) → IsHistoryTable game player n history → (v k : ℕ) → IsTrue (set v) → k < n → Meets game player table history v k → Meets game player table history v (suc k)
+  meets_more : (n : ℕ) (history : List ℕ → ℕ) → IsHistoryTable game player n history → (v k : ℕ) → IsTrue (set v) →
+      k < n → Meets game player table history v k → Meets game player table history v (suc k)
   meets_more n history is_table v k inside more met =
       let IsIn : ℕ → Type 0 = λ x. IsTrue (set x) in
-      let step = next_vertex n history is_table met.path met.is_path (omega (arith, met.long)) (subst IsIn (sym met.starts) inside) met.follows in
+      let step =
+      next_vertex n history is_table met.path met.is_path (omega (arith, met.long))
+      (subst IsIn (sym met.starts) inside) met.follows in
       let some : 0 < length met.path = met.is_path.begins in
       record {
         path = met.path ++ step.next ∷ [];
@@ -81,17 +93,24 @@ module _ (game : ParityGame) (player : ℕ) (set : ℕ → Bool) (table : ℕ �
         goes_by = GoesBy-push game player history met.path step.next some met.goes_by step.by_history;
       }
 
-  meets : (n : ℕ) (history : List ℕ → ℕ) → IsHistoryTable game player n history → (v : ℕ) → v < vertex_count game → IsTrue (set v) → (k : ℕ) → k ≤ n → Meets game player table history v k
+  meets : (n : ℕ) (history : List ℕ → ℕ) → IsHistoryTable game player n history → (v : ℕ) → v < vertex_count game →
+      IsTrue (set v) → (k : ℕ) → k ≤ n → Meets game player table history v k
   meets n history is_table v is_vertex inside zero within = record {
     path = v ∷ [];
-    is_path = record { begins = omega arith; vertices = λ k below. alone_below v (vertex_count game) k is_vertex below; edges = λ k below. absurd (omega arith) };
+    is_path =
+        record {
+          begins = omega arith;
+          vertices = λ k below. alone_below v (vertex_count game) k is_vertex below;
+          edges = λ k below. absurd (omega arith);
+        };
     starts = refl;
     long = omega arith;
     follows = λ k below. absurd (omega arith);
     goes_by = λ k below. absurd (omega arith);
   }
   meets n history is_table v is_vertex inside (suc k) within =
-      meets_more n history is_table v k inside (omega arith) (meets n history is_table v is_vertex inside k (omega arith))
+      meets_more n history is_table v k inside (omega arith) (meets n history is_table v is_vertex inside
+      k (omega arith))
 
   pub histories_beaten : (v : ℕ) → v < vertex_count game → IsTrue (set v) → AllHistoriesBeaten game player v
   histories_beaten v is_vertex inside n history is_table =

@@ -1,5 +1,6 @@
 -- A draft in which each vertex has a successor and each successor is a vertex is a game without its repeats.
-use Rattle.std.proofs.Common.{◌≡◌, ◌≢◌, ℕ, suc, true, ◌<◌, List, [], ◌∷◌, not, ◌==◌, filter, length, get_or, subst, ap, arith}
+use Rattle.std.proofs.Common.{◌≡◌, ◌≢◌, ℕ, suc, true, ◌<◌, List, [], ◌∷◌, not, ◌==◌, filter, length, get_or, subst, ap}
+use Rattle.std.proofs.Common.{arith}
 use Rattle.std.specs.List.{All, AllPairs, Contains}
 use Rattle.std.proofs.Math.ListN.{get_or-map}
 use Rattle.std.proofs.lemmas.List.{length-map}
@@ -30,7 +31,8 @@ some-distinct [] some = some
 some-distinct (x ∷ xs) some = omega arith
 
 -- a vertex of the game is that of the draft without its repeats
-vertex_at : (draft : ParityGame) (v : ℕ) → get_or (without_repeats draft) v no_vertex ≡ vertex_without_repeats (get_or draft v no_vertex)
+vertex_at : (draft : ParityGame) (v : ℕ) → get_or (without_repeats draft) v no_vertex ≡ vertex_without_repeats
+    (get_or draft v no_vertex)
 vertex_at draft v = get_or-map vertex_without_repeats draft v no_vertex
 
 pub vertex_count-without_repeats : (draft : ParityGame) → vertex_count (without_repeats draft) ≡ vertex_count draft
@@ -41,27 +43,34 @@ pub owner_of-without_repeats : (draft : ParityGame) (v : ℕ) → owner_of (with
 unfolding owner_of
 owner_of-without_repeats draft v = ap (λ vertex. vertex.owner) (vertex_at draft v)
 
-pub successors_of-without_repeats : (draft : ParityGame) (v : ℕ) → successors_of (without_repeats draft) v ≡ distinct (successors_of draft v)
+pub successors_of-without_repeats : (draft : ParityGame) (v : ℕ) →
+    successors_of (without_repeats draft) v ≡ distinct (successors_of draft v)
 unfolding successors_of
 successors_of-without_repeats draft v = ap (λ vertex. vertex.successors) (vertex_at draft v)
 
 -- what each vertex of the draft has
-owner_below : (draft : ParityGame) → All (λ v. v.owner < 2) draft → (v : ℕ) → v < vertex_count draft → owner_of draft v < 2
+owner_below : (draft : ParityGame) → All (λ v. v.owner < 2) draft → (v : ℕ) → v < vertex_count draft →
+    owner_of draft v < 2
 unfolding vertex_count owner_of
 owner_below draft owners v within = owners v no_vertex within
 
 All-Contains : (P : ℕ → Type 0) (xs : List ℕ) (x : ℕ) → All P xs → Contains xs x → P x
 All-Contains P xs x all (k, within, same) = subst P same (all k x within)
 
-pub IsGame-without_repeats : (draft : ParityGame) → All (λ v. v.owner < 2) draft → NoneBare draft → NoneUnknown draft → IsGame (without_repeats draft)
+pub IsGame-without_repeats : (draft : ParityGame) → All (λ v. v.owner < 2) draft → NoneBare draft → NoneUnknown draft →
+    IsGame (without_repeats draft)
 IsGame-without_repeats draft owners bare known =
-    let in_draft : (v : ℕ) → v < vertex_count (without_repeats draft) → v < vertex_count draft = λ v within. rw (← vertex_count-without_repeats draft) within in
+    let in_draft : (v : ℕ) → v < vertex_count (without_repeats draft) → v < vertex_count draft =
+    λ v within. rw (← vertex_count-without_repeats draft) within in
     let IsVertex : ℕ → Type 0 = λ w. w < vertex_count draft in
     record {
       owners = λ v within. rw (owner_of-without_repeats draft v) (owner_below draft owners v (in_draft v within));
-      has_successor = λ v within. rw (successors_of-without_repeats draft v) (some-distinct _ (bare v (in_draft v within)));
+      has_successor =
+          λ v within. rw (successors_of-without_repeats draft v) (some-distinct _ (bare v (in_draft v within)));
       different = λ v within. rw (successors_of-without_repeats draft v) (AllPairs-distinct _);
       within = λ v w edge.
-          let among : Contains (distinct (successors_of draft v)) w = rw (successors_of-without_repeats draft v) at edge.1 in
-          rw (vertex_count-without_repeats draft) (All-Contains IsVertex _ w (All-distinct IsVertex _ (known v (in_draft v edge.0))) among);
+          let among : Contains (distinct (successors_of draft v)) w =
+          rw (successors_of-without_repeats draft v) at edge.1 in
+          rw (vertex_count-without_repeats draft) (All-Contains IsVertex _ w
+          (All-distinct IsVertex _ (known v (in_draft v edge.0))) among);
     }

@@ -1,5 +1,6 @@
 -- Lists of numbers that are worked on eight at a time.
-use Rattle.std.proofs.Common.{◌≡◌, ℕ, zero, suc, ◌+◌, ◌-◌, ◌*◌, ◌^◌, ◌<◌, ◌≤◌, List, [], ◌∷◌, length, take, map, get_or, refl, sym, ap, ap₂, ◌∙◌, inl, inr, arith}
+use Rattle.std.proofs.Common.{◌≡◌, ℕ, zero, suc, ◌+◌, ◌-◌, ◌*◌, ◌^◌, ◌<◌, ◌≤◌, List, [], ◌∷◌, length, take, map, get_or}
+use Rattle.std.proofs.Common.{refl, sym, ap, ap₂, ◌∙◌, inl, inr, arith}
 use Rattle.std.specs.Int.Bits.{bit_or, or_zero_l}
 use Rattle.std.specs.List.{fold, sum_by}
 use Rattle.std.specs.Simd.Lanes.{zip2, chunk, put_chunk, fold_l}
@@ -7,7 +8,8 @@ use Rattle.std.proofs.Math.Seq.{take-add}
 use Rattle.std.proofs.lemmas.Bool.{cases_lt}
 use Rattle.std.proofs.lemmas.List.Sums.{sum_by-append, sum_by-take-le}
 use Rattle.std.proofs.lemmas.Nat.{le_or_l, le_or_r}
-use Rattle.std.proofs.lemmas.Simd.{get_or-put_chunk_below, get_or-put_chunk_at, get_or-put_chunk_above, get_or-zip2, get_or-chunk, length-chunk, length-zip2}
+use Rattle.std.proofs.lemmas.Simd.{get_or-put_chunk_below, get_or-put_chunk_at, get_or-put_chunk_above, get_or-zip2}
+use Rattle.std.proofs.lemmas.Simd.{get_or-chunk, length-chunk, length-zip2}
 
 -- a group is written, behind those in front of it
 group_written : (words values : List ℕ) (f : ℕ → ℕ) (group : ℕ) → length values ≡ 8 → (group + 1) * 8 ≤ length words
@@ -19,27 +21,34 @@ group_written words values f group eight room here before k lt = elim (cases_lt 
       let j = k - group * 8 in
       let e : group * 8 + j ≡ k = omega arith in
       ap (λ n. get_or (put_chunk (group * 8) words values) n 0) (sym e)
-      ∙ get_or-put_chunk_at (group * 8) words values j 0 (omega (arith, eight)) (omega (arith, eight)) ∙ here j (omega arith) ∙ ap f e
+      ∙ get_or-put_chunk_at (group * 8) words values j 0 (omega (arith, eight)) (omega (arith, eight))
+      ∙ here j (omega arith) ∙ ap f e
 ]
 
 -- a group of words is combined with the lanes of a vector
-pub group_combined : (f : ℕ → ℕ → ℕ) (old words lanes : List ℕ) (h : ℕ → ℕ) (group : ℕ) → (group + 1) * 8 ≤ length words → length lanes ≡ 8
+pub group_combined : (f : ℕ → ℕ → ℕ) (old words lanes : List ℕ) (h : ℕ → ℕ) (group : ℕ) →
+    (group + 1) * 8 ≤ length words → length lanes ≡ 8
     → ((j : ℕ) → j < 8 → get_or lanes j 0 ≡ h (group * 8 + j))
-    → ((k : ℕ) → k < group * 8 → get_or words k 0 ≡ f (get_or old k 0) (h k)) → ((k : ℕ) → group * 8 ≤ k → get_or words k 0 ≡ get_or old k 0)
-    → (k : ℕ) → k < (group + 1) * 8 → get_or (put_chunk (group * 8) words (zip2 f (chunk (group * 8) 8 words) lanes)) k 0 ≡ f (get_or old k 0) (h k)
+    → ((k : ℕ) → k < group * 8 → get_or words k 0 ≡ f (get_or old k 0) (h k)) →
+    ((k : ℕ) → group * 8 ≤ k → get_or words k 0 ≡ get_or old k 0)
+    → (k : ℕ) → k < (group + 1) * 8 → get_or (put_chunk (group * 8) words (zip2 f (chunk (group * 8) 8 words) lanes)) k
+    0 ≡ f (get_or old k 0) (h k)
 group_combined f old words lanes h group room eight values before rest =
     let start = group * 8 in
     let loaded = chunk start 8 words in
     let long : length loaded ≡ 8 = length-chunk start 8 words (omega arith) in
-    group_written words (zip2 f loaded lanes) (λ k. f (get_or old k 0) (h k)) group (length-zip2 f loaded lanes (long ∙ sym eight) ∙ long) room
+    group_written words (zip2 f loaded lanes) (λ k. f (get_or old k 0) (h k)) group
+    (length-zip2 f loaded lanes (long ∙ sym eight) ∙ long) room
     (λ j less. get_or-zip2 f loaded lanes j 0 0 0 (omega (arith, long)) (omega (arith, eight))
     ∙ ap₂ f (get_or-chunk start 8 words j 0 less ∙ rest (start + j) (omega arith)) (values j less))
     before
 
 -- the words behind a group stay
-pub group_rest : (f : ℕ → ℕ → ℕ) (old words lanes : List ℕ) (group : ℕ) → (group + 1) * 8 ≤ length words → length lanes ≡ 8
+pub group_rest : (f : ℕ → ℕ → ℕ) (old words lanes : List ℕ) (group : ℕ) → (group + 1) * 8 ≤ length words →
+    length lanes ≡ 8
     → ((k : ℕ) → group * 8 ≤ k → get_or words k 0 ≡ get_or old k 0)
-    → (k : ℕ) → (group + 1) * 8 ≤ k → get_or (put_chunk (group * 8) words (zip2 f (chunk (group * 8) 8 words) lanes)) k 0 ≡ get_or old k 0
+    → (k : ℕ) → (group + 1) * 8 ≤ k → get_or (put_chunk (group * 8) words (zip2 f (chunk (group * 8) 8 words) lanes)) k
+    0 ≡ get_or old k 0
 group_rest f old words lanes group room eight rest k beyond =
     let start = group * 8 in
     let loaded = chunk start 8 words in
@@ -48,7 +57,8 @@ group_rest f old words lanes group room eight rest k beyond =
     get_or-put_chunk_above start words (zip2 f loaded lanes) k 0 (omega (arith, same)) ∙ rest k (omega arith)
 
 -- the lanes of a group of other words
-pub lanes_are : (others : List ℕ) (group j : ℕ) → j < 8 → get_or (chunk (group * 8) 8 others) j 0 ≡ get_or others (group * 8 + j) 0
+pub lanes_are : (others : List ℕ) (group j : ℕ) → j < 8 → get_or (chunk (group * 8) 8 others) j 0 ≡ get_or others
+    (group * 8 + j) 0
 lanes_are others group j less = get_or-chunk (group * 8) 8 others j 0 less
 
 -- ---- a disjunction of lanes is 0 where each of them is
@@ -65,7 +75,8 @@ clear_from_or (x ∷ xs) a e (suc k) = clear_from_or xs (bit_or a x) e k
 pub or_of_clear : (xs : List ℕ) (a : ℕ) → a ≡ 0 → ((k : ℕ) → k < length xs → get_or xs k 0 ≡ 0) → fold_l bit_or a xs ≡ 0
 or_of_clear [] a none clear = none
 or_of_clear (x ∷ xs) a none clear =
-    or_of_clear xs (bit_or a x) (ap₂ bit_or none (clear 0 (omega arith)) ∙ or_zero_l 0) (λ k less. clear (suc k) (omega arith))
+    or_of_clear xs (bit_or a x) (ap₂ bit_or none (clear 0 (omega arith)) ∙ or_zero_l 0)
+    (λ k less. clear (suc k) (omega arith))
 
 -- a group without a bit, behind those in front of it
 pub group_clear : (words : List ℕ) (group : ℕ) → fold_l bit_or 0 (chunk (group * 8) 8 words) ≡ 0
@@ -75,7 +86,8 @@ group_clear words group none before k lt = elim (cases_lt k (group * 8)) [
   | inr beyond ↦
       let j = k - group * 8 in
       let e : group * 8 + j ≡ k = omega arith in
-      ap (λ n. get_or words n 0) (sym e) ∙ sym (lanes_are words group j (omega arith)) ∙ clear_from_or (chunk (group * 8) 8 words) 0 none j
+      ap (λ n. get_or words n 0) (sym e) ∙ sym (lanes_are words group j (omega arith))
+      ∙ clear_from_or (chunk (group * 8) 8 words) 0 none j
 ]
 
 -- where no word up to the end of a group has a bit, its disjunction is 0
@@ -84,25 +96,33 @@ pub clear_group : (words : List ℕ) (group groups : ℕ) → group < groups →
 clear_group words group groups lt room clear =
     let long : length (chunk (group * 8) 8 words) ≡ 8 = length-chunk (group * 8) 8 words (omega arith) in
     or_of_clear (chunk (group * 8) 8 words) 0 refl
-    (λ j less. let inside : j < 8 = omega (arith, long) in lanes_are words group j inside ∙ clear (group * 8 + j) (omega arith))
+    (λ j less. let inside : j < 8 = omega (arith, long) in lanes_are words group j inside
+    ∙ clear (group * 8 + j) (omega arith))
 
 -- ---- sums over lanes
 
-summed : (f g : ℕ → ℕ) → ((x : ℕ) → g (f x) ≡ f x) → (xs : List ℕ) (a : ℕ) → fold_l (λ s x. s + x) a (map g (map f xs)) ≡ fold (λ s x. s + f x) a xs
+summed : (f g : ℕ → ℕ) → ((x : ℕ) → g (f x) ≡ f x) → (xs : List ℕ) (a : ℕ) →
+    fold_l (λ s x. s + x) a (map g (map f xs)) ≡ fold (λ s x. s + f x) a xs
 summed f g same [] a = refl
-summed f g same (x ∷ xs) a = ap (λ n. fold_l (λ s x. s + x) (a + n) (map g (map f xs))) (same x) ∙ summed f g same xs (a + f x)
+summed f g same (x ∷ xs) a =
+    ap (λ n. fold_l (λ s x. s + x) (a + n) (map g (map f xs))) (same x) ∙ summed f g same xs (a + f x)
 
 -- a sum over the words in front of a group, and over the group's lanes, which a cast g leaves as they are
-pub group_summed : (f g : ℕ → ℕ) (words : List ℕ) (group count : ℕ) → ((x : ℕ) → g (f x) ≡ f x) → count ≡ sum_by f (take (group * 8) words)
-    → count + fold_l (λ s x. s + x) 0 (map g (map f (chunk (group * 8) 8 words))) ≡ sum_by f (take ((group + 1) * 8) words)
+pub group_summed : (f g : ℕ → ℕ) (words : List ℕ) (group count : ℕ) → ((x : ℕ) → g (f x) ≡ f x) →
+    count ≡ sum_by f (take (group * 8) words)
+    → count + fold_l (λ s x. s + x) 0 (map g (map f (chunk (group * 8) 8 words))) ≡ sum_by f
+    (take ((group + 1) * 8) words)
 group_summed f g words group count same before =
     let front = take (group * 8) words in
     let here = chunk (group * 8) 8 words in
     let next : group * 8 + 8 ≡ (group + 1) * 8 = omega arith in
-    ap₂ ◌+◌ before (summed f g same here 0) ∙ sym (sum_by-append f front here) ∙ ap (sum_by f) (sym (take-add (group * 8) 8 words))
+    ap₂ ◌+◌ before (summed f g same here 0) ∙ sym (sum_by-append f front here)
+    ∙ ap (sum_by f) (sym (take-add (group * 8) 8 words))
     ∙ ap (λ n. sum_by f (take n words)) next
 
 -- such a sum fits where that over all words does
-pub group_fits : (f g : ℕ → ℕ) (words : List ℕ) (group count : ℕ) → ((x : ℕ) → g (f x) ≡ f x) → count ≡ sum_by f (take (group * 8) words)
+pub group_fits : (f g : ℕ → ℕ) (words : List ℕ) (group count : ℕ) → ((x : ℕ) → g (f x) ≡ f x) →
+    count ≡ sum_by f (take (group * 8) words)
     → sum_by f words < 2 ^ 64 → count + fold_l (λ s x. s + x) 0 (map g (map f (chunk (group * 8) 8 words))) < 2 ^ 64
-group_fits f g words group count same before room = omega (arith, group_summed f g words group count same before, sum_by-take-le f words ((group + 1) * 8))
+group_fits f g words group count same before room =
+    omega (arith, group_summed f g words group count same before, sum_by-take-le f words ((group + 1) * 8))

@@ -2,6 +2,8 @@ pub mod Beaten
 pub mod Distinct
 pub mod Finished
 pub mod FlatArrays
+pub mod VertexArrays
+pub mod NamesKept
 pub mod Groups
 pub mod LoopPriorities
 pub mod Memory
@@ -9,6 +11,7 @@ pub mod MoveLists
 pub mod OnPaths
 pub mod Paths
 pub mod Priorities
+pub mod PriorityLists
 pub mod Repeats
 pub mod SubgameFacts
 pub mod Unknown

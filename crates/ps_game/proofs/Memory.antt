@@ -1,5 +1,6 @@
 -- A strategy of finite memory is a history table, so it does not win where its histories are beaten.
-use Rattle.std.proofs.Common.{◌≡◌, ℕ, suc, ◌+◌, ◌-◌, ◌*◌, ◌<◌, List, [], ◌∷◌, length, get_or, take, fold, map, subst, sym, ap, ◌∙◌, arith}
+use Rattle.std.proofs.Common.{◌≡◌, ℕ, suc, ◌+◌, ◌-◌, ◌*◌, ◌<◌, List, [], ◌∷◌, length, get_or, take, fold, map, subst}
+use Rattle.std.proofs.Common.{sym, ap, ◌∙◌, arith}
 use Rattle.std.specs.List.{All, range_with_len}
 use Rattle.std.proofs.lemmas.Nat.{same_from_place, mul-add-lt}
 use Rattle.std.proofs.lemmas.List.{get_or-take, get_or_default, length-take-le, take-take}
@@ -7,74 +8,91 @@ use Rattle.std.proofs.lemmas.List.Elements.{All-take}
 use Rattle.std.proofs.lemmas.List.FromFn.{get_or-map-range_with_len, length-map-range_with_len}
 use Rattle.ps_game.specs.Games.{ParityGame, vertex_count}
 use Rattle.ps_game.specs.Plays.{IsPath, IsLoop}
-use Rattle.ps_game.specs.Strategies.{FiniteMemory, IsFiniteMemory, memory_at, Agrees, WinsFrom, WinsByNoMemory, last_vertex, IsHistoryTable, GoesBy, AllHistoriesBeaten}
+use Rattle.ps_game.specs.Strategies.{FiniteMemory, IsFiniteMemory, memory_at, Agrees, WinsFrom, WinsByNoMemory}
+use Rattle.ps_game.specs.Strategies.{last_vertex, IsHistoryTable, GoesBy, AllHistoriesBeaten}
 use Rattle.ps_game.proofs.Beaten.{players_differ}
 use Rattle.ps_game.proofs.Repeats.{repeats}
 
-module _ (game : ParityGame) (player : ℕ) (strategy : FiniteMemory) (is_strategy : IsFiniteMemory game player strategy) where
-  -- the memory after some vertices
-  after_below : (memory : ℕ) (met : List ℕ) → memory < strategy.size → All (λ v. v < vertex_count game) met → fold strategy.update memory met < strategy.size
-  after_below memory [] below all = below
-  after_below memory (v ∷ vs) below all =
-      after_below (strategy.update memory v) vs (is_strategy.update_below memory v below (all 0 0 (omega arith))) (λ k d within. all (suc k) d (omega arith))
+module _ (game : ParityGame) (player : ℕ) (strategy : FiniteMemory) (is_strategy : IsFiniteMemory game player strategy)
+  where
+    -- the memory after some vertices
+    after_below : (memory : ℕ) (met : List ℕ) → memory < strategy.size → All (λ v. v < vertex_count game) met →
+        fold strategy.update memory met < strategy.size
+    after_below memory [] below all = below
+    after_below memory (v ∷ vs) below all =
+        after_below (strategy.update memory v) vs (is_strategy.update_below memory v below (all 0 0 (omega arith)))
+        (λ k d within. all (suc k) d (omega arith))
 
-  memory_below : (path : List ℕ) → IsPath game path → (k : ℕ) → memory_at strategy path k < strategy.size
-  memory_below path is_path k =
-      let IsVertex : ℕ → Type 0 = λ v. v < vertex_count game in
-      after_below strategy.first (take k path) is_strategy.first_below
-      (All-take IsVertex k path (λ i d within. subst IsVertex (get_or_default path i 0 d within) (is_path.vertices i within)))
+    memory_below : (path : List ℕ) → IsPath game path → (k : ℕ) → memory_at strategy path k < strategy.size
+    memory_below path is_path k =
+        let IsVertex : ℕ → Type 0 = λ v. v < vertex_count game in
+        after_below strategy.first (take k path) is_strategy.first_below
+        (All-take IsVertex k path (λ i d within. subst IsVertex (get_or_default path i 0 d within)
+        (is_path.vertices i within)))
 
-  -- what the strategy plays after a history
-  history_of : List ℕ → ℕ
-  history_of path = strategy.choice (memory_at strategy path (length path - 1)) (last_vertex path)
+    -- what the strategy plays after a history
+    history_of : List ℕ → ℕ
+    history_of path = strategy.choice (memory_at strategy path (length path - 1)) (last_vertex path)
 
-  history_is_table : (n : ℕ) → IsHistoryTable game player n history_of
-  unfolding history_of
-  history_is_table n path is_path short owns =
-      is_strategy.moves _ _ (memory_below path is_path (length path - 1)) (is_path.vertices (length path - 1) (omega (arith, is_path.begins))) owns
+    history_is_table : (n : ℕ) → IsHistoryTable game player n history_of
+    unfolding history_of
+    history_is_table n path is_path short owns =
+        is_strategy.moves _ _ (memory_below path is_path (length path - 1))
+        (is_path.vertices (length path - 1) (omega (arith, is_path.begins))) owns
 
-  -- at place k of a path the history up to there is played as the strategy does
-  history_at : (path : List ℕ) (k : ℕ) → k < length path → history_of (take (k + 1) path) ≡ strategy.choice (memory_at strategy path k) (get_or path k 0)
-  unfolding history_of
-  history_at path k within =
-      let last_place : length (take (k + 1) path) - 1 ≡ k = omega (arith, length-take-le (k + 1) path (omega arith)) in
-      let played : List ℕ → ℕ → ℕ = λ met x. strategy.choice (fold strategy.update strategy.first met) x in
-      ap (λ n. played (take n (take (k + 1) path)) (get_or (take (k + 1) path) n 0)) last_place
-      ∙ ap (λ met. played met (get_or (take (k + 1) path) k 0)) (take-take k (k + 1) path (omega arith))
-      ∙ ap (played (take k path)) (get_or-take (k + 1) path k 0 (omega arith))
+    -- at place k of a path the history up to there is played as the strategy does
+    history_at : (path : List ℕ) (k : ℕ) → k < length path → history_of (take (k + 1) path) ≡ strategy.choice
+        (memory_at strategy path k) (get_or path k 0)
+    unfolding history_of
+    history_at path k within =
+        let last_place : length (take (k + 1) path) - 1 ≡ k =
+        omega (arith, length-take-le (k + 1) path (omega arith)) in
+        let played : List ℕ → ℕ → ℕ = λ met x. strategy.choice (fold strategy.update strategy.first met) x in
+        ap (λ n. played (take n (take (k + 1) path)) (get_or (take (k + 1) path) n 0)) last_place
+        ∙ ap (λ met. played met (get_or (take (k + 1) path) k 0)) (take-take k (k + 1) path (omega arith))
+        ∙ ap (played (take k path)) (get_or-take (k + 1) path k 0 (omega arith))
 
-  agrees : (path : List ℕ) → GoesBy game player history_of path → Agrees game player strategy path
-  agrees path goes_by k within owns = sym (history_at path k (omega arith)) ∙ goes_by k within owns
+    agrees : (path : List ℕ) → GoesBy game player history_of path → Agrees game player strategy path
+    agrees path goes_by k within owns = sym (history_at path k (omega arith)) ∙ goes_by k within owns
 
-  -- a vertex and a memory as one number
-  code_at : List ℕ → ℕ → ℕ
-  code_at path k = get_or path k 0 * strategy.size + memory_at strategy path k
+    -- a vertex and a memory as one number
+    code_at : List ℕ → ℕ → ℕ
+    code_at path k = get_or path k 0 * strategy.size + memory_at strategy path k
 
-  -- a long path comes back to a vertex with the same memory
-  same_again : (path : List ℕ) → IsPath game path → strategy.size * vertex_count game < length path → (i : ℕ) × (j : ℕ) × IsLoop path i j × (memory_at strategy path i ≡ memory_at strategy path j)
-  unfolding code_at
-  same_again path is_path long =
-      let codes : List ℕ = map (code_at path) (range_with_len 0 (length path)) in
-      let as_long : length codes ≡ length path = length-map-range_with_len (code_at path) 0 (length path) in
-      let code_is : (k d : ℕ) → k < length path → get_or codes k d ≡ code_at path k = λ k d within. get_or-map-range_with_len (code_at path) 0 (length path) k k d within (omega arith) in
-      let IsCode : ℕ → Type 0 = λ code. code < strategy.size * vertex_count game in
-      let found = repeats (strategy.size * vertex_count game) codes
-      (λ k d within. let there : k < length path = omega arith in
-      subst IsCode (sym (code_is k d there)) (mul-add-lt (get_or path k 0) strategy.size (memory_at strategy path k) (vertex_count game) (is_path.vertices k there) (memory_below path is_path k)))
-      (omega arith) in
-      let later : found.1 < length path = omega (arith, found.2.within) in
-      let earlier : found.0 < length path = omega (arith, found.2.rises) in
-      let parts = same_from_place _ _ _ _ strategy.size (memory_below path is_path found.0) (memory_below path is_path found.1) (sym (code_is found.0 0 earlier) ∙ found.2.same ∙ code_is found.1 0 later) in
-      (found.0, found.1, record { rises = found.2.rises; within = later; same = parts.0 }, parts.1)
+    -- a long path comes back to a vertex with the same memory
+    same_again : (path : List ℕ) → IsPath game path → strategy.size * vertex_count game < length path →
+        (i : ℕ) × (j : ℕ) × IsLoop path i j × (memory_at strategy path i ≡ memory_at strategy path j)
+    unfolding code_at
+    same_again path is_path long =
+        let codes : List ℕ = map (code_at path) (range_with_len 0 (length path)) in
+        let as_long : length codes ≡ length path = length-map-range_with_len (code_at path) 0 (length path) in
+        let code_is : (k d : ℕ) → k < length path → get_or codes k d ≡ code_at path k =
+        λ k d within. get_or-map-range_with_len (code_at path) 0 (length path) k k d within (omega arith) in
+        let IsCode : ℕ → Type 0 = λ code. code < strategy.size * vertex_count game in
+        let found = repeats (strategy.size * vertex_count game) codes
+        (λ k d within. let there : k < length path = omega arith in
+        subst IsCode (sym (code_is k d there)) (mul-add-lt (get_or path k 0) strategy.size (memory_at strategy path k)
+        (vertex_count game) (is_path.vertices k there) (memory_below path is_path k)))
+        (omega arith) in
+        let later : found.1 < length path = omega (arith, found.2.within) in
+        let earlier : found.0 < length path = omega (arith, found.2.rises) in
+        let parts =
+        same_from_place _ _ _ _ strategy.size (memory_below path is_path found.0) (memory_below path is_path found.1)
+        (sym (code_is found.0 0 earlier) ∙ found.2.same ∙ code_is found.1 0 later) in
+        (found.0, found.1, record { rises = found.2.rises; within = later; same = parts.0 }, parts.1)
 
-  loses : (v : ℕ) → player < 2 → AllHistoriesBeaten game player v → WinsFrom game player strategy v → ⊥
-  loses v is_player beaten wins =
-      let n : ℕ = strategy.size * vertex_count game in
-      let against = (beaten n history_of (history_is_table n)).0 in
-      let again = same_again against.path against.is_path (omega (arith, against.long)) in
-      let won = wins against.path again.0 again.1 against.is_path against.begins (agrees against.path against.goes_by) again.2 again.3 in
-      let lost = against.loses again.0 again.1 again.2 in
-      players_differ player is_player (sym won ∙ lost)
+    loses : (v : ℕ) → player < 2 → AllHistoriesBeaten game player v → WinsFrom game player strategy v → ⊥
+    loses v is_player beaten wins =
+        let n : ℕ = strategy.size * vertex_count game in
+        let against = (beaten n history_of (history_is_table n)).0 in
+        let again = same_again against.path against.is_path (omega (arith, against.long)) in
+        let won =
+        wins against.path again.0 again.1 against.is_path against.begins (agrees against.path against.goes_by)
+        again.2 again.3 in
+        let lost = against.loses again.0 again.1 again.2 in
+        players_differ player is_player (sym won ∙ lost)
 
-pub WinsByNoMemory-AllHistoriesBeaten : (game : ParityGame) (player v : ℕ) → player < 2 → AllHistoriesBeaten game player v → WinsByNoMemory game player v
-WinsByNoMemory-AllHistoriesBeaten game player v is_player beaten strategy is_strategy wins = loses game player strategy is_strategy v is_player beaten wins
+pub WinsByNoMemory-AllHistoriesBeaten : (game : ParityGame) (player v : ℕ) → player < 2 →
+    AllHistoriesBeaten game player v → WinsByNoMemory game player v
+WinsByNoMemory-AllHistoriesBeaten game player v is_player beaten strategy is_strategy wins =
+    loses game player strategy is_strategy v is_player beaten wins

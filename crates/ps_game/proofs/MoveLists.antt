@@ -1,5 +1,6 @@
 -- Tables of moves in two lists: what they hold, and what a new move does to them.
-use Rattle.std.proofs.Common.{◌≡◌, ℕ, ◌<◌, inl, inr, Bool, true, false, cond, List, length, get_or, set, Option, Some, None, length-set, sym, ap, ap₂, ◌∙◌, arith}
+use Rattle.std.proofs.Common.{◌≡◌, ℕ, ◌<◌, inl, inr, Bool, true, false, cond, List, length, get_or, set, Option, Some}
+use Rattle.std.proofs.Common.{None, length-set, sym, ap, ap₂, ◌∙◌, arith}
 use Rattle.std.specs.Prelude.{replicate}
 use Rattle.std.proofs.lemmas.Bool.{cases_eq}
 use Rattle.std.proofs.lemmas.Grind.{get_or-set_at}
@@ -11,9 +12,11 @@ pub length-moves_of : (chosen : List Bool) (moves : List ℕ) → length (moves_
 unfolding moves_of
 length-moves_of chosen moves = length-map-range_with_len (move_in chosen moves) 0 (length moves)
 
-pub move_inside : (chosen : List Bool) (moves : List ℕ) (v : ℕ) → v < length moves → get_or (moves_of chosen moves) v None ≡ move_in chosen moves v
+pub move_inside : (chosen : List Bool) (moves : List ℕ) (v : ℕ) → v < length moves →
+    get_or (moves_of chosen moves) v None ≡ move_in chosen moves v
 unfolding moves_of
-move_inside chosen moves v lt = get_or-map-range_with_len (move_in chosen moves) 0 (length moves) v v None lt (omega arith)
+move_inside chosen moves v lt =
+    get_or-map-range_with_len (move_in chosen moves) 0 (length moves) v v None lt (omega arith)
 
 -- a table is that of two lists where it says what they say
 moves_are : (chosen : List Bool) (moves : List ℕ) (table : List (Option ℕ)) → length table ≡ length moves
@@ -23,7 +26,8 @@ moves_are chosen moves table long each = sym (fill_by_all (move_in chosen moves)
 
 pub no_moves : (places : ℕ) → moves_of (replicate places false) (replicate places 0) ≡ replicate places None
 no_moves places =
-    moves_are (replicate places false) (replicate places 0) (replicate places None) (length-replicate places None ∙ sym (length-replicate places 0))
+    moves_are (replicate places false) (replicate places 0) (replicate places None)
+    (length-replicate places None ∙ sym (length-replicate places 0))
     (λ v lt.
     let less : v < places = omega (arith, length-replicate {A = ℕ} places 0) in
     get_or-replicate places v None None less
@@ -37,8 +41,11 @@ one_moved chosen moves v w long lt =
     (λ u less. elim (cases_eq u v) [
       | inl same ↦
           get_or-set_at (moves_of chosen moves) v u (Some w) None same (omega (arith, length-moves_of chosen moves))
-          ∙ sym (ap₂ (λ b n. cond b (Some n) None) (get_or-set_at chosen v u true false same (omega arith)) (get_or-set_at moves v u w 0 same lt))
+          ∙ sym (ap₂ (λ b n. cond b (Some n) None) (get_or-set_at chosen v u true false same (omega arith))
+          (get_or-set_at moves v u w 0 same lt))
       | inr other ↦
-          get_or-set_other (moves_of chosen moves) v u (Some w) None other ∙ move_inside chosen moves u (omega (arith, length-set moves v w))
-          ∙ sym (ap₂ (λ b n. cond b (Some n) None) (get_or-set_other chosen v u true false other) (get_or-set_other moves v u w 0 other))
+          get_or-set_other (moves_of chosen moves) v u (Some w) None other
+          ∙ move_inside chosen moves u (omega (arith, length-set moves v w))
+          ∙ sym (ap₂ (λ b n. cond b (Some n) None) (get_or-set_other chosen v u true false other)
+          (get_or-set_other moves v u w 0 other))
     ])

@@ -1,5 +1,6 @@
 -- From what is held within a subgame to what is held on paths.
-use Rattle.std.proofs.Common.{◌≡◌, ℕ, zero, suc, ◌+◌, ◌-◌, ◌<◌, ◌≤◌, inl, inr, List, length, get_or, Bool, IsTrue, Option, Some, None, IsSomeAnd, subst, sym, ap, ◌∙◌, arith}
+use Rattle.std.proofs.Common.{◌≡◌, ℕ, zero, suc, ◌+◌, ◌-◌, ◌<◌, ◌≤◌, inl, inr, List, length, get_or, Bool, IsTrue}
+use Rattle.std.proofs.Common.{Option, Some, None, IsSomeAnd, subst, sym, ap, ◌∙◌, arith}
 use Rattle.std.proofs.lemmas.Bool.{cases_eq}
 use Rattle.ps_game.specs.Games.{ParityGame, vertex_count, owner_of, priority_of, HasEdge}
 use Rattle.ps_game.specs.Plays.{IsPath, IsLoop, Follows, Holds, loop_priority}
@@ -10,7 +11,8 @@ use Rattle.ps_game.proofs.LoopPriorities.{le-loop_priority, loop_priority_stands
 abbrev pub from_place : List ℕ → ℕ → ℕ → ℕ
 from_place path i t = get_or path (i + t) 0
 
-pub loop_priority_top : (game : ParityGame) (path : List ℕ) (i j : ℕ) → i < j → j ≤ length path → IsTop game (from_place path i) (j - i) (loop_priority game path i j)
+pub loop_priority_top : (game : ParityGame) (path : List ℕ) (i j : ℕ) → i < j → j ≤ length path →
+    IsTop game (from_place path i) (j - i) (loop_priority game path i j)
 loop_priority_top game path i j rises within =
     let found = loop_priority_stands game path i j rises within in
     let after : i ≤ found.0 = found.1 in
@@ -29,7 +31,10 @@ some_more : (P Q : ℕ → Type 0) (o : Option ℕ) → ((w : ℕ) → P w → Q
 some_more P Q (Some w) more there = more w there
 some_more P Q None more there = absurd there
 
-stays_on : (game : ParityGame) (player : ℕ) (subgame set : ℕ → Bool) (table : ℕ → Option ℕ) → ((v : ℕ) → v < vertex_count game → IsTrue (subgame v)) → HoldsWithin game subgame player set table → (path : List ℕ) → IsPath game path → IsTrue (set (get_or path 0 0)) → Follows game player table path → (k : ℕ) → k < length path → IsTrue (set (get_or path k 0))
+stays_on : (game : ParityGame) (player : ℕ) (subgame set : ℕ → Bool) (table : ℕ → Option ℕ) →
+    ((v : ℕ) → v < vertex_count game → IsTrue (subgame v)) → HoldsWithin game subgame player set table →
+    (path : List ℕ) → IsPath game path → IsTrue (set (get_or path 0 0)) → Follows game player table path → (k : ℕ) →
+    k < length path → IsTrue (set (get_or path k 0))
 stays_on game player subgame set table all holds path is_path begins follows zero within = begins
 stays_on game player subgame set table all holds path is_path begins follows (suc k) within =
     let next : k + 1 ≡ suc k = omega arith in
@@ -38,13 +43,18 @@ stays_on game player subgame set table all holds path is_path begins follows (su
     let step : k + 1 < length path = omega arith in
     subst In next (elim (cases_eq (owner_of game (get_or path k 0)) player) [
       | inl owns ↦ (
-          let leads : LeadsInto game set (get_or path k 0) (get_or path (k + 1) 0) = moved (LeadsInto game set (get_or path k 0)) (table (get_or path k 0)) (get_or path (k + 1) 0) (holds.moves (get_or path k 0) here owns) (follows k step owns) in
+          let leads : LeadsInto game set (get_or path k 0) (get_or path (k + 1) 0) =
+          moved (LeadsInto game set (get_or path k 0)) (table (get_or path k 0)) (get_or path (k + 1) 0)
+          (holds.moves (get_or path k 0) here owns) (follows k step owns) in
           leads.inside)
-      | inr others ↦ holds.stays (get_or path k 0) (get_or path (k + 1) 0) here others (record { edge = is_path.edges k step; inside = all (get_or path (k + 1) 0) (is_path.vertices (k + 1) step) })
+      | inr others ↦ holds.stays (get_or path k 0) (get_or path (k + 1) 0) here others
+          (record { edge = is_path.edges k step; inside = all (get_or path (k + 1) 0) (is_path.vertices (k + 1) step) })
     ])
 
 -- a loop of a path that stays in the set is a round
-loop_round : (game : ParityGame) (player : ℕ) (set : ℕ → Bool) (table : ℕ → Option ℕ) (path : List ℕ) (i j : ℕ) → IsPath game path → ((k : ℕ) → k < length path → IsTrue (set (get_or path k 0))) → Follows game player table path → IsLoop path i j → IsRound game player set table (from_place path i) (j - i)
+loop_round : (game : ParityGame) (player : ℕ) (set : ℕ → Bool) (table : ℕ → Option ℕ) (path : List ℕ) (i j : ℕ) →
+    IsPath game path → ((k : ℕ) → k < length path → IsTrue (set (get_or path k 0))) → Follows game player table path →
+    IsLoop path i j → IsRound game player set table (from_place path i) (j - i)
 loop_round game player set table path i j is_path inside follows is_loop =
     let rises : i < j = is_loop.rises in
     let within : j < length path = is_loop.within in
@@ -61,12 +71,16 @@ loop_round game player set table path i j is_path inside follows is_loop =
       follows = λ t below owns. follows (i + t) (omega arith) owns ∙ ap (λ n. Some (get_or path n 0)) (step t);
     }
 
-pub Holds-HoldsWithin : (game : ParityGame) (player : ℕ) (subgame set : ℕ → Bool) (table : ℕ → Option ℕ) → ((v : ℕ) → v < vertex_count game → IsTrue (subgame v)) → HoldsWithin game subgame player set table → Holds game player set table
+pub Holds-HoldsWithin : (game : ParityGame) (player : ℕ) (subgame set : ℕ → Bool) (table : ℕ → Option ℕ) →
+    ((v : ℕ) → v < vertex_count game → IsTrue (subgame v)) → HoldsWithin game subgame player set table →
+    Holds game player set table
 Holds-HoldsWithin game player subgame set table all holds =
     let stays = stays_on game player subgame set table all holds in
     record {
       keeps = record {
-        moves = λ v is_vertex inside owns. some_more (LeadsInto game set v) (HasEdge game v) (table v) (λ w leads. leads.edge) (holds.moves v inside owns);
+        moves =
+            λ v is_vertex inside owns. some_more (LeadsInto game set v) (HasEdge game v) (table v)
+            (λ w leads. leads.edge) (holds.moves v inside owns);
         stays = stays;
       };
       wins = λ path i j is_path begins follows is_loop. (
@@ -76,7 +90,9 @@ Holds-HoldsWithin game player subgame set table all holds =
           (loop_priority_top game path i j is_loop.rises (omega arith)));
     }
 
-pub HoldsWithin-same_moves : (game : ParityGame) (player : ℕ) (subgame set : ℕ → Bool) (table other : ℕ → Option ℕ) → ((v : ℕ) → IsTrue (set v) → owner_of game v ≡ player → other v ≡ table v) → HoldsWithin game subgame player set table → HoldsWithin game subgame player set other
+pub HoldsWithin-same_moves : (game : ParityGame) (player : ℕ) (subgame set : ℕ → Bool) (table other : ℕ → Option ℕ) →
+    ((v : ℕ) → IsTrue (set v) → owner_of game v ≡ player → other v ≡ table v) →
+    HoldsWithin game subgame player set table → HoldsWithin game subgame player set other
 HoldsWithin-same_moves game player subgame set table other same holds = record {
   within = holds.within;
   moves = λ v inside owns. (

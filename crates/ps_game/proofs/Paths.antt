@@ -1,5 +1,6 @@
 -- Paths with one more vertex.
-use Rattle.std.proofs.Common.{◌≡◌, ℕ, ◌+◌, ◌-◌, ◌<◌, inl, inr, List, [], ◌∷◌, ◌++◌, length, get_or, take, Option, Some, subst, sym, ap, ◌∙◌, arith}
+use Rattle.std.proofs.Common.{◌≡◌, ℕ, ◌+◌, ◌-◌, ◌<◌, inl, inr, List, [], ◌∷◌, ◌++◌, length, get_or, take, Option, Some}
+use Rattle.std.proofs.Common.{subst, sym, ap, ◌∙◌, arith}
 use Rattle.std.proofs.Math.Nat.{le_refl}
 use Rattle.std.proofs.lemmas.Bool.{cases_lt}
 use Rattle.std.proofs.lemmas.List.{get_or_append_left, get_or_push, length_push, take-append-le, take_all}
@@ -8,7 +9,10 @@ use Rattle.ps_game.specs.Plays.{IsPath, Follows}
 use Rattle.ps_game.specs.Strategies.{GoesBy, last_vertex}
 
 -- what holds at each step of a list and at the step to one more element holds at each step of the longer list
-pub along-push : (R : ℕ → ℕ → ℕ → Type 0) (path : List ℕ) (w : ℕ) → 0 < length path → ((k : ℕ) → k + 1 < length path → R k (get_or path k 0) (get_or path (k + 1) 0)) → R (length path - 1) (last_vertex path) w → (k : ℕ) → k + 1 < length (path ++ w ∷ []) → R k (get_or (path ++ w ∷ []) k 0) (get_or (path ++ w ∷ []) (k + 1) 0)
+pub along-push : (R : ℕ → ℕ → ℕ → Type 0) (path : List ℕ) (w : ℕ) → 0 < length path →
+    ((k : ℕ) → k + 1 < length path → R k (get_or path k 0) (get_or path (k + 1) 0)) →
+    R (length path - 1) (last_vertex path) w → (k : ℕ) → k + 1 < length (path ++ w ∷ []) →
+    R k (get_or (path ++ w ∷ []) k 0) (get_or (path ++ w ∷ []) (k + 1) 0)
 along-push R path w some so_far last k within =
     let size : length (path ++ w ∷ []) ≡ length path + 1 = length_push path w in
     let inside : k < length path = omega arith in
@@ -24,7 +28,8 @@ along-push R path w some so_far last k within =
     ])
 
 -- an edge from the last vertex goes on
-pub IsPath-push : (game : ParityGame) (path : List ℕ) (w : ℕ) → IsPath game path → HasEdge game (last_vertex path) w → w < vertex_count game → IsPath game (path ++ w ∷ [])
+pub IsPath-push : (game : ParityGame) (path : List ℕ) (w : ℕ) → IsPath game path → HasEdge game (last_vertex path) w →
+    w < vertex_count game → IsPath game (path ++ w ∷ [])
 IsPath-push game path w is_path edge is_vertex =
     let size : length (path ++ w ∷ []) ≡ length path + 1 = length_push path w in
     let IsVertex : ℕ → Type 0 = λ v. v < vertex_count game in
@@ -38,14 +43,19 @@ IsPath-push game path w is_path edge is_vertex =
     }
 
 -- a path that follows a table, with a last step that does
-pub Follows-push : (game : ParityGame) (player : ℕ) (table : ℕ → Option ℕ) (path : List ℕ) (w : ℕ) → 0 < length path → Follows game player table path → (owner_of game (last_vertex path) ≡ player → table (last_vertex path) ≡ Some w) → Follows game player table (path ++ w ∷ [])
+pub Follows-push : (game : ParityGame) (player : ℕ) (table : ℕ → Option ℕ) (path : List ℕ) (w : ℕ) → 0 < length path →
+    Follows game player table path → (owner_of game (last_vertex path) ≡ player → table (last_vertex path) ≡ Some w) →
+    Follows game player table (path ++ w ∷ [])
 Follows-push game player table path w some follows last =
     along-push (λ k u x. owner_of game u ≡ player → table u ≡ Some x) path w some follows last
 
 -- a path that goes by a history table, with a last step that does
-pub GoesBy-push : (game : ParityGame) (player : ℕ) (table : List ℕ → ℕ) (path : List ℕ) (w : ℕ) → 0 < length path → GoesBy game player table path → (owner_of game (last_vertex path) ≡ player → table path ≡ w) → GoesBy game player table (path ++ w ∷ [])
+pub GoesBy-push : (game : ParityGame) (player : ℕ) (table : List ℕ → ℕ) (path : List ℕ) (w : ℕ) → 0 < length path →
+    GoesBy game player table path → (owner_of game (last_vertex path) ≡ player → table path ≡ w) →
+    GoesBy game player table (path ++ w ∷ [])
 GoesBy-push game player table path w some goes_by last =
     along-push (λ k u x. owner_of game u ≡ player → table (take (k + 1) (path ++ w ∷ [])) ≡ x) path w some
     (λ k within owns. ap table (take-append-le (k + 1) path (w ∷ []) (omega arith)) ∙ goes_by k within owns)
     (λ owns. let whole : length path - 1 + 1 ≡ length path = omega arith in
-    ap table (ap (λ n. take n (path ++ w ∷ [])) whole ∙ take-append-le (length path) path (w ∷ []) (le_refl (length path)) ∙ take_all (length path) path (le_refl (length path))) ∙ last owns)
+    ap table (ap (λ n. take n (path ++ w ∷ [])) whole ∙ take-append-le (length path) path (w ∷ [])
+    (le_refl (length path)) ∙ take_all (length path) path (le_refl (length path))) ∙ last owns)

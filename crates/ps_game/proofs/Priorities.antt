@@ -24,29 +24,40 @@ lists_none game parity list e = rw e (record {
   present = All-nil (HasPriority game);
 })
 
-pub lists_push : (game : ParityGame) (parity n : ℕ) (list : List ℕ) → n < vertex_count game → priority_of game n % 2 ≡ parity → ListsBelow game parity n list
+pub lists_push : (game : ParityGame) (parity n : ℕ) (list : List ℕ) → n < vertex_count game →
+    priority_of game n % 2 ≡ parity → ListsBelow game parity n list
     → ListsBelow game parity (n + 1) (list ++ priority_of game n ∷ [])
 lists_push game parity n list lt right so_far = record {
-  complete = below_more (λ v. priority_of game v % 2 ≡ parity → Contains (list ++ priority_of game n ∷ []) (priority_of game v)) n
-      (λ v below h. Contains-append_left list (priority_of game n ∷ []) (priority_of game v) (so_far.complete v below h))
+  complete =
+      below_more (λ v. priority_of game v % 2 ≡ parity → Contains (list ++ priority_of game n ∷ [])
+      (priority_of game v)) n
+      (λ v below h. Contains-append_left list (priority_of game n ∷ []) (priority_of game v)
+      (so_far.complete v below h))
       (λ h. Contains-push list (priority_of game n));
   right_parity = All-push (λ p. p % 2 ≡ parity) list (priority_of game n) so_far.right_parity right;
   present = All-push (HasPriority game) list (priority_of game n) so_far.present (n, lt, refl);
 }
 
-pub lists_skip : (game : ParityGame) (parity n : ℕ) (list : List ℕ) → (priority_of game n % 2 ≡ parity → ⊥) → ListsBelow game parity n list → ListsBelow game parity (n + 1) list
+pub lists_skip : (game : ParityGame) (parity n : ℕ) (list : List ℕ) → (priority_of game n % 2 ≡ parity → ⊥) →
+    ListsBelow game parity n list → ListsBelow game parity (n + 1) list
 lists_skip game parity n list wrong so_far = record {
-  complete = below_more (λ v. priority_of game v % 2 ≡ parity → Contains list (priority_of game v)) n so_far.complete (λ h. absurd (wrong h));
+  complete =
+      below_more (λ v. priority_of game v % 2 ≡ parity → Contains list (priority_of game v)) n so_far.complete
+      (λ h. absurd (wrong h));
   right_parity = so_far.right_parity;
   present = so_far.present;
 }
 
 pub lists_from : (game : ParityGame) (parity : ℕ) (all sorted kept : List ℕ)
-    → ((v : ℕ) → v < vertex_count game → priority_of game v % 2 ≡ parity → Contains all (priority_of game v)) → All (λ p. p % 2 ≡ parity) all → All (HasPriority game) all
+    → ((v : ℕ) → v < vertex_count game → priority_of game v % 2 ≡ parity → Contains all (priority_of game v)) →
+    All (λ p. p % 2 ≡ parity) all → All (HasPriority game) all
     → IsPermutation all sorted → IsSorted nat_cmp sorted → kept ≡ dedup eqb sorted → ListsPriorities game parity kept
 lists_from game parity all sorted kept complete right present moved order e = rw e (record {
   rising = IsStrictlyIncreasing-dedup sorted order;
-  complete = λ v lt h. Contains-dedup_nat sorted (priority_of game v) (Contains-permutation all sorted (priority_of game v) moved (complete v lt h));
-  right_parity = All-dedup eqb (λ p. p % 2 ≡ parity) sorted (All-permutation (λ p. p % 2 ≡ parity) all sorted moved right);
+  complete =
+      λ v lt h. Contains-dedup_nat sorted (priority_of game v) (Contains-permutation all sorted (priority_of game v)
+      moved (complete v lt h));
+  right_parity =
+      All-dedup eqb (λ p. p % 2 ≡ parity) sorted (All-permutation (λ p. p % 2 ≡ parity) all sorted moved right);
   present = All-dedup eqb (HasPriority game) sorted (All-permutation (HasPriority game) all sorted moved present);
 })

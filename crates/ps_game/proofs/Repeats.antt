@@ -1,5 +1,6 @@
 -- More places than values: two places have the same value.
-use Rattle.std.proofs.Common.{◌≡◌, ◌≢◌, ℕ, suc, ◌<◌, ◌≤◌, ◌⊎◌, inl, inr, List, [], ◌∷◌, Bool, true, false, ◌==◌, length, get_or, refl, subst, sym, ◌∙◌, arith}
+use Rattle.std.proofs.Common.{◌≡◌, ◌≢◌, ℕ, suc, ◌<◌, ◌≤◌, ◌⊎◌, inl, inr, List, [], ◌∷◌, Bool, true, false, ◌==◌, length}
+use Rattle.std.proofs.Common.{get_or, refl, subst, sym, ◌∙◌, arith}
 use Rattle.std.specs.List.{All, AllPairs, list_any}
 use Rattle.std.proofs.lemmas.Bool.{eqb-true, eq-eqb}
 use Rattle.std.proofs.lemmas.Bool.Decides.{Decides-eqb}
@@ -13,7 +14,8 @@ use Rattle.ps_game.specs.Plays.{IsPath}
 use Rattle.ps_game.specs.Strategies.{HasLoop}
 
 -- a head that stands in the tail again, or does not
-head_repeats : (x : ℕ) (xs : List ℕ) → AllPairs (λ x y. x ≢ y) xs → (b : Bool) → list_any (λ y. x == y) xs ≡ b → AllPairs (λ x y. x ≢ y) (x ∷ xs) ⊎ HasLoop (x ∷ xs)
+head_repeats : (x : ℕ) (xs : List ℕ) → AllPairs (λ x y. x ≢ y) xs → (b : Bool) → list_any (λ y. x == y) xs ≡ b →
+    AllPairs (λ x y. x ≢ y) (x ∷ xs) ⊎ HasLoop (x ∷ xs)
 head_repeats x xs differ true there =
     let found = Any-from_list_any (λ y. x == y) xs there in
     inr (
@@ -27,14 +29,26 @@ head_repeats x xs differ true there =
     )
 head_repeats x xs differ false none =
     inl (AllPairs-cons (λ x y. x ≢ y) x xs (λ k d within same.
-    let there : list_any (λ y. x == y) xs ≡ true = list_any-from_Any (λ y. x == y) xs (k, get_or xs k d, within, get_or_default xs k (get_or xs k d) d within, eq-eqb x (get_or xs k d) same) in
+    let there : list_any (λ y. x == y) xs ≡ true =
+    list_any-from_Any (λ y. x == y) xs (
+      k,
+      get_or xs k d,
+      within,
+      get_or_default xs k (get_or xs k d) d within,
+      eq-eqb x (get_or xs k d) same,
+    ) in
     cc) differ)
 
 -- the values of a list differ, or two of them are the same
 differ_or_repeat : (xs : List ℕ) → AllPairs (λ x y. x ≢ y) xs ⊎ HasLoop xs
 differ_or_repeat [] = inl (λ i j d rises within. absurd (omega arith))
 differ_or_repeat (x ∷ xs) = elim (differ_or_repeat xs) [
-  | inr repeated ↦ inr (suc repeated.0, suc repeated.1, record { rises = omega (arith, repeated.2.rises); within = omega (arith, repeated.2.within); same = repeated.2.same })
+  | inr repeated ↦ inr (
+    suc repeated.0,
+    suc repeated.1,
+    record
+        { rises = omega (arith, repeated.2.rises); within = omega (arith, repeated.2.within); same = repeated.2.same },
+  )
   | inl differ ↦ head_repeats x xs differ (list_any (λ y. x == y) xs) refl
 ]
 
@@ -49,11 +63,14 @@ below_from_there n xs below q there =
 pub repeats : (n : ℕ) (xs : List ℕ) → All (λ x. x < n) xs → n < length xs → HasLoop xs
 repeats n xs below many = elim (differ_or_repeat xs) [
   | inr repeated ↦ repeated
-  | inl differ ↦ (let few : length xs ≤ n = length-le_from_distinct_below xs n (IsDistinct-from_AllPairs Decides-eqb xs differ) (below_from_there n xs below) in absurd (omega arith))
+  | inl differ ↦ (let few : length xs ≤ n = length-le_from_distinct_below xs n
+      (IsDistinct-from_AllPairs Decides-eqb xs differ) (below_from_there n xs below) in absurd (omega arith))
 ]
 
 -- a path with more vertices than the game has a loop
-pub HasLoop-IsPath : (game : ParityGame) (path : List ℕ) → IsPath game path → vertex_count game < length path → HasLoop path
+pub HasLoop-IsPath : (game : ParityGame) (path : List ℕ) → IsPath game path →
+    vertex_count game < length path → HasLoop path
 HasLoop-IsPath game path is_path long =
     let IsVertex : ℕ → Type 0 = λ v. v < vertex_count game in
-    repeats (vertex_count game) path (λ k d within. subst IsVertex (get_or_default path k 0 d within) (is_path.vertices k within)) long
+    repeats (vertex_count game) path (λ k d within. subst IsVertex (get_or_default path k 0 d within)
+    (is_path.vertices k within)) long

@@ -1,5 +1,6 @@
 -- Subgames: all of a game is one.
-use Rattle.std.proofs.Common.{◌≡◌, ℕ, ◌<◌, inl, inr, List, Bool, true, false, replicate, length, get_or, sym, ap, ◌∙◌, arith}
+use Rattle.std.proofs.Common.{◌≡◌, ℕ, ◌<◌, inl, inr, List, Bool, true, false, replicate, length, get_or, sym, ap, ◌∙◌}
+use Rattle.std.proofs.Common.{arith}
 use Rattle.std.proofs.lemmas.Bool.{cases_lt, false≢true}
 use Rattle.std.proofs.lemmas.List.{get_or-replicate, get_or_past, get_or_default, length-replicate}
 use Rattle.std.proofs.lemmas.List.Elements.{Contains-get_or}
@@ -15,35 +16,46 @@ has-below region v inside = elim (cases_lt v (length region)) [
 ]
 
 -- the first successor of a vertex
-pub first_edge : (game : ParityGame) (v : ℕ) → IsGame game → v < vertex_count game → HasEdge game v (get_or (successors_of game v) 0 0)
-first_edge game v is_game is_vertex = (is_vertex, Contains-get_or (successors_of game v) 0 0 (is_game.has_successor v is_vertex))
+pub first_edge : (game : ParityGame) (v : ℕ) → IsGame game → v < vertex_count game →
+    HasEdge game v (get_or (successors_of game v) 0 0)
+first_edge game v is_game is_vertex =
+    (is_vertex, Contains-get_or (successors_of game v) 0 0 (is_game.has_successor v is_vertex))
 
 pub whole_game : (game : ParityGame) → IsGame game → IsSubgame game (has (replicate (vertex_count game) true))
 whole_game game is_game =
-    let size : length (replicate (vertex_count game) true) ≡ vertex_count game = length-replicate (vertex_count game) true in
-    let is_vertex = λ (v : ℕ) (inside : has (replicate (vertex_count game) true) v ≡ true). let below = has-below (replicate (vertex_count game) true) v inside in let less : v < vertex_count game = omega arith in less in
+    let size : length (replicate (vertex_count game) true) ≡ vertex_count game =
+    length-replicate (vertex_count game) true in
+    let is_vertex = λ (v : ℕ) (inside : has (replicate (vertex_count game) true) v ≡ true). let below =
+    has-below (replicate (vertex_count game) true) v inside in
+    let less : v < vertex_count game = omega arith in less in
     record {
       vertices = is_vertex;
       goes_on = λ v inside. let edge = first_edge game v is_game (is_vertex v inside) in (
         get_or (successors_of game v) 0 0,
         record {
           edge = edge;
-          inside = get_or-replicate (vertex_count game) (get_or (successors_of game v) 0 0) true false (is_game.within v (get_or (successors_of game v) 0 0) edge);
+          inside =
+              get_or-replicate (vertex_count game) (get_or (successors_of game v) 0 0) true false
+              (is_game.within v (get_or (successors_of game v) 0 0) edge);
         },
       );
     }
 
 -- a successor, by its number
-pub edge_at : (game : ParityGame) (v k : ℕ) → v < vertex_count game → k < length (successors_of game v) → HasEdge game v (get_or (successors_of game v) k 0)
+pub edge_at : (game : ParityGame) (v k : ℕ) → v < vertex_count game → k < length (successors_of game v) →
+    HasEdge game v (get_or (successors_of game v) k 0)
 edge_at game v k is_vertex within = (is_vertex, Contains-get_or (successors_of game v) k 0 within)
 
 -- an edge leads to a successor that has a number
-pub number_of_edge : (game : ParityGame) (v w : ℕ) → HasEdge game v w → (k : ℕ) × (k < length (successors_of game v)) × (get_or (successors_of game v) k 0 ≡ w)
+pub number_of_edge : (game : ParityGame) (v w : ℕ) → HasEdge game v w →
+    (k : ℕ) × (k < length (successors_of game v)) × (get_or (successors_of game v) k 0 ≡ w)
 number_of_edge game v w edge =
     (edge.1.0, edge.1.1, get_or_default (successors_of game v) edge.1.0 0 w edge.1.1 ∙ edge.1.2)
 
 -- where no successor is in a set, no edge leads into it
-pub none_leads : (game : ParityGame) (set : ℕ → Bool) (v : ℕ) → ((k : ℕ) → k < length (successors_of game v) → set (get_or (successors_of game v) k 0) ≡ false) → (w : ℕ) → LeadsInto game set v w → ⊥
+pub none_leads : (game : ParityGame) (set : ℕ → Bool) (v : ℕ) →
+    ((k : ℕ) → k < length (successors_of game v) → set (get_or (successors_of game v) k 0) ≡ false) → (w : ℕ) →
+    LeadsInto game set v w → ⊥
 none_leads game set v none w leads =
     let (k, within, same) = number_of_edge game v w leads.edge in
     false≢true (sym (none k within) ∙ ap set same ∙ leads.inside)

@@ -1,5 +1,6 @@
 -- What the search for an unknown successor finds.
-use Rattle.std.proofs.Common.{inl, inr, ◌≤◌, ap, sym, ◌∙◌, ◌≡◌, ℕ, zero, suc, ◌<◌, List, [], ◌∷◌, find, Option, None, Some, nat_le, cond, arith}
+use Rattle.std.proofs.Common.{inl, inr, ◌≤◌, ap, sym, ◌∙◌, ◌≡◌, ℕ, zero, suc, ◌<◌, List, [], ◌∷◌, find, Option, None}
+use Rattle.std.proofs.Common.{Some, nat_le, cond, arith}
 use Rattle.std.specs.List.{All}
 use Rattle.std.proofs.lemmas.Bool.{cases_lt}
 use Rattle.std.proofs.lemmas.Bool.Decides.{nat_tests}
@@ -23,15 +24,26 @@ all_from_find n (x ∷ xs) none (suc k) d within = all_from_find n xs (parts n x
 -- where one is found, not all are smaller
 none_found : (n w : ℕ) (xs : List ℕ) → find (λ w. nat_le n w) xs ≡ Some w → All (λ w. w < n) xs → ⊥
 none_found n w [] found small = cc
-none_found n w (x ∷ xs) found small = none_found n w xs (behind n x w _ found (small 0 0 (omega arith))) (λ k d within. small (suc k) d (omega arith))
+none_found n w (x ∷ xs) found small =
+    none_found n w xs (behind n x w _ found (small 0 0 (omega arith))) (λ k d within. small (suc k) d (omega arith))
 
 -- the least vertex with an unknown successor, and its first such successor, are determined
-pub first_unknown_once : (draft : ParityGame) (v w u x : ℕ) → IsFirstUnknown draft v w → IsFirstUnknown draft u x → (v ≡ u) × (w ≡ x)
+pub first_unknown_once : (draft : ParityGame) (v w u x : ℕ) → IsFirstUnknown draft v w → IsFirstUnknown draft u x →
+    (v ≡ u) × (w ≡ x)
 first_unknown_once draft v w u x first second =
-    let not_above : v ≤ u = elim (cases_lt u v) [ inl less ↦ absurd (none_found _ _ _ second.unknown (first.before u less)) | inr more ↦ more ] in
-    let not_below : u ≤ v = elim (cases_lt v u) [ inl less ↦ absurd (none_found _ _ _ first.unknown (second.before v less)) | inr more ↦ more ] in
+    let not_above : v ≤ u =
+    elim (cases_lt u v) [
+      | inl less ↦ absurd (none_found _ _ _ second.unknown (first.before u less))
+      | inr more ↦ more
+    ] in
+    let not_below : u ≤ v =
+    elim (cases_lt v u) [
+      | inl less ↦ absurd (none_found _ _ _ first.unknown (second.before v less))
+      | inr more ↦ more
+    ] in
     let same : v ≡ u = omega arith in
-    let found : ℕ → Option ℕ = λ number. find (λ successor. nat_le (vertex_count draft) successor) (successors_of draft number) in
+    let found : ℕ → Option ℕ =
+    λ number. find (λ successor. nat_le (vertex_count draft) successor) (successors_of draft number) in
     let both : Some w ≡ Some x = sym first.unknown ∙ ap found same ∙ second.unknown in
     (same, cc)
 

@@ -1,5 +1,7 @@
 -- Sets of vertices in words: what each change of a word does to the set.
-use Rattle.std.proofs.Common.{◌≡◌, ◌≢◌, ℕ, zero, suc, ◌+◌, ◌-◌, ◌*◌, ◌/◌, ◌%◌, ◌^◌, ◌<◌, ◌≤◌, inl, inr, Bool, true, false, not, cond, ◌==◌, ◌&&◌, List, [], ◌∷◌, ◌++◌, map, length, take, get_or, set, max, length-set, add-zero, w64, refl, sym, ap, ap₂, ◌∙◌, subst, arith}
+use Rattle.std.proofs.Common.{◌≡◌, ◌≢◌, ℕ, zero, suc, ◌+◌, ◌-◌, ◌*◌, ◌/◌, ◌%◌, ◌^◌, ◌<◌, ◌≤◌, inl, inr, Bool, true}
+use Rattle.std.proofs.Common.{false, not, cond, ◌==◌, ◌&&◌, List, [], ◌∷◌, ◌++◌, map, length, take, get_or, set, max}
+use Rattle.std.proofs.Common.{length-set, add-zero, w64, refl, sym, ap, ap₂, ◌∙◌, subst, arith}
 use Rattle.std.specs.Prelude.{◌||◌, replicate, count_by, count_ones}
 use Prim.Native.Nat.{min}
 use Rattle.std.specs.Int.{bit_at, bit_not}
@@ -12,7 +14,9 @@ use Rattle.std.proofs.lemmas.List.{get_or-set_other, get_or_past, take_all}
 use Rattle.std.proofs.lemmas.List.FromFn.{get_or-map-range_with_len, length-map-range_with_len, fill_by_all}
 use Rattle.std.proofs.lemmas.List.Sums.{sum_by-cons, sum_by-append, sum_by_more, count_by-le-length}
 use Rattle.std.proofs.lemmas.Nat.{div-mul-add, mod-mul-add}
-use Rattle.std.proofs.lemmas.Nat.Bits.{bit_at-lt, bit_at_and, bit_at_or, bit_at_not, bit_at-zero, bit_at_ones, bit_at_ones_above, bit_at_set_same, bit_at_set_other, bit_at_clear_same, bit_at_clear_other, ones_shr, shr_and_one, same_from_bits_below}
+use Rattle.std.proofs.lemmas.Nat.Bits.{bit_at-lt, bit_at_and, bit_at_or, bit_at_not, bit_at-zero, bit_at_ones}
+use Rattle.std.proofs.lemmas.Nat.Bits.{bit_at_ones_above, bit_at_set_same, bit_at_set_other, bit_at_clear_same}
+use Rattle.std.proofs.lemmas.Nat.Bits.{bit_at_clear_other, ones_shr, shr_and_one, same_from_bits_below}
 use Rattle.std.proofs.lemmas.Simd.{get_or-replicate, length-replicate, mask_l-lt, bit_mask_l, ones-mask_l}
 use Rattle.ps_game.specs.Regions.{has}
 use Rattle.ps_game.specs.Words.{bit_in, members, ArePacked}
@@ -26,10 +30,12 @@ unfolding members
 has-inside places words v lt = get_or-map-range_with_len (bit_in words) 0 places v v false lt (omega arith)
 
 -- no bit is set past the last place, so the set has what the bits say everywhere
-pub has-bit : (places : ℕ) (words : List ℕ) (v : ℕ) → ArePacked places words → has (members places words) v ≡ bit_in words v
+pub has-bit : (places : ℕ) (words : List ℕ) (v : ℕ) → ArePacked places words →
+    has (members places words) v ≡ bit_in words v
 has-bit places words v packed = elim (cases_lt v places) [
   | inl lt ↦ has-inside places words v lt
-  | inr past ↦ get_or_past (members places words) v false (omega (arith, length-members places words)) ∙ sym (packed.none_past v past)
+  | inr past ↦ get_or_past (members places words) v false (omega (arith, length-members places words))
+      ∙ sym (packed.none_past v past)
 ]
 
 -- a list of truth values is a set in words where it says what the bits say
@@ -42,8 +48,10 @@ members_are places words region long each = sym (fill_by_all (bit_in words) regi
 
 pub no_bits : (n v : ℕ) → bit_in (replicate n 0) v ≡ false
 no_bits n v = elim (cases_lt (v / 64) n) [
-  | inl lt ↦ ap (λ w. bit_at w (v % 64) == 1) (get_or-replicate n (v / 64) 0 0 lt) ∙ ap (λ b. b == 1) (bit_at-zero (v % 64))
-  | inr past ↦ ap (λ w. bit_at w (v % 64) == 1) (get_or_past (replicate n 0) (v / 64) 0 (omega (arith, length-replicate {A = ℕ} n 0))) ∙ ap (λ b. b == 1) (bit_at-zero (v % 64))
+  | inl lt ↦ ap (λ w. bit_at w (v % 64) == 1) (get_or-replicate n (v / 64) 0 0 lt)
+      ∙ ap (λ b. b == 1) (bit_at-zero (v % 64))
+  | inr past ↦ ap (λ w. bit_at w (v % 64) == 1) (get_or_past (replicate n 0) (v / 64) 0
+      (omega (arith, length-replicate {A = ℕ} n 0))) ∙ ap (λ b. b == 1) (bit_at-zero (v % 64))
 ]
 
 pub empty_is : (places n : ℕ) → members places (replicate n 0) ≡ replicate places false
@@ -59,7 +67,8 @@ pub record IsChanged (before after : List ℕ) (v : ℕ) (b : Bool) : Type 0 whe
   pub here : bit_in after v ≡ b
   pub elsewhere : (u : ℕ) → u ≢ v → bit_in after u ≡ bit_in before u
 
-pub changed_packed : (places : ℕ) (before after : List ℕ) (v : ℕ) (b : Bool) → v < places → IsChanged before after v b → ArePacked places before → ArePacked places after
+pub changed_packed : (places : ℕ) (before after : List ℕ) (v : ℕ) (b : Bool) → v < places → IsChanged before after v b →
+    ArePacked places before → ArePacked places after
 changed_packed places before after v b lt changed packed = record {
   few = packed.few;
   enough = omega (arith, changed.long, packed.enough);
@@ -74,13 +83,16 @@ changed_members places before after v b lt changed =
     members_are places after (set region v b) (length-set region v b ∙ length-members places before)
     (λ u less. elim (cases_eq u v) [
       | inl same ↦
-          get_or-set_at region v u b false same (omega (arith, length-members places before)) ∙ sym changed.here ∙ ap (bit_in after) (sym same)
-      | inr other ↦ get_or-set_other region v u b false other ∙ has-inside places before u less ∙ sym (changed.elsewhere u other)
+          get_or-set_at region v u b false same (omega (arith, length-members places before)) ∙ sym changed.here
+          ∙ ap (bit_in after) (sym same)
+      | inr other ↦ get_or-set_other region v u b false other ∙ has-inside places before u less
+          ∙ sym (changed.elsewhere u other)
     ])
 
 -- one word is changed in one bit
 one_word : (words : List ℕ) (v w : ℕ) (b : Bool) → v / 64 < length words → (bit_at w (v % 64) == 1) ≡ b
-    → ((i : ℕ) → i < 64 → i ≢ v % 64 → bit_at w i ≡ bit_at (get_or words (v / 64) 0) i) → IsChanged words (set words (v / 64) w) v b
+    → ((i : ℕ) → i < 64 → i ≢ v % 64 → bit_at w i ≡ bit_at (get_or words (v / 64) 0) i) →
+    IsChanged words (set words (v / 64) w) v b
 one_word words v w b within is others = record {
   long = length-set words (v / 64) w;
   here = ap (λ n. bit_at n (v % 64) == 1) (get_or-set_at words (v / 64) (v / 64) w 0 refl within) ∙ is;
@@ -97,22 +109,26 @@ pub bit_set : (words : List ℕ) (v w : ℕ) → v / 64 < length words → w ≡
     → IsChanged words (set words (v / 64) (bit_or w (1 * 2 ^ (v % 64) % 2 ^ 64))) v true
 bit_set words v w within is =
     let read : w ≡ get_or words (v / 64) 0 = is ∙ get_or_default_zero words (v / 64) w within in
-    one_word words v (bit_or w (1 * 2 ^ (v % 64) % 2 ^ 64)) true within (ap (λ n. n == 1) (bit_at_set_same w64 w (v % 64) (omega arith)))
+    one_word words v (bit_or w (1 * 2 ^ (v % 64) % 2 ^ 64)) true within
+    (ap (λ n. n == 1) (bit_at_set_same w64 w (v % 64) (omega arith)))
     (λ i lt other. bit_at_set_other w64 w (v % 64) (omega arith) i other ∙ ap (λ n. bit_at n i) read)
 
 pub bit_cleared : (words : List ℕ) (v w : ℕ) → v / 64 < length words → w ≡ get_or words (v / 64) w
     → IsChanged words (set words (v / 64) (bit_and w (bit_not w64 (1 * 2 ^ (v % 64) % 2 ^ 64)))) v false
 bit_cleared words v w within is =
     let read : w ≡ get_or words (v / 64) 0 = is ∙ get_or_default_zero words (v / 64) w within in
-    one_word words v (bit_and w (bit_not w64 (1 * 2 ^ (v % 64) % 2 ^ 64))) false within (ap (λ n. n == 1) (bit_at_clear_same w64 w (v % 64) (omega arith)))
+    one_word words v (bit_and w (bit_not w64 (1 * 2 ^ (v % 64) % 2 ^ 64))) false within
+    (ap (λ n. n == 1) (bit_at_clear_same w64 w (v % 64) (omega arith)))
     (λ i lt other. bit_at_clear_other w64 w (v % 64) (omega arith) i lt other ∙ ap (λ n. bit_at n i) read)
 
 -- a bit is read by a shift
-pub bit_read : (places : ℕ) (words : List ℕ) (v w : ℕ) → ArePacked places words → v < places → w ≡ get_or words (v / 64) w
+pub bit_read : (places : ℕ) (words : List ℕ) (v w : ℕ) → ArePacked places words → v < places →
+    w ≡ get_or words (v / 64) w
     → (bit_and (w / 2 ^ (v % 64)) 1 == 1) ≡ has (members places words) v
 bit_read places words v w packed lt is =
     let within : v / 64 < length words = omega (arith, packed.enough) in
-    ap (λ n. n == 1) (shr_and_one w (v % 64)) ∙ ap (λ n. bit_at n (v % 64) == 1) (is ∙ get_or_default_zero words (v / 64) w within)
+    ap (λ n. n == 1) (shr_and_one w (v % 64)) ∙ ap (λ n. bit_at n (v % 64) == 1)
+    (is ∙ get_or_default_zero words (v / 64) w within)
     ∙ sym (has-inside places words v lt)
 
 -- ---- the bits of two sets
@@ -151,7 +167,8 @@ left_bit old others new fits each v =
     let x = get_or old (v / 64) 0 in
     let y = get_or others (v / 64) 0 in
     let i = v % 64 in
-    ap (λ n. bit_at n i == 1) (each (v / 64)) ∙ ap (λ n. n == 1) (bit_at_and x (bit_not w64 y) i ∙ ap (min (bit_at x i)) (bit_at_not w64 y i (fits (v / 64)) (omega arith)))
+    ap (λ n. bit_at n i == 1) (each (v / 64)) ∙ ap (λ n. n == 1)
+    (bit_at_and x (bit_not w64 y) i ∙ ap (min (bit_at x i)) (bit_at_not w64 y i (fits (v / 64)) (omega arith)))
     ∙ first_only (bit_at x i) (bit_at y i) (bit_at-lt x i) (bit_at-lt y i)
 
 -- the set of two sets' words, by a rule on each vertex
@@ -159,8 +176,10 @@ pub record IsMade (places : ℕ) (old others new : List ℕ) (rule : Bool → Bo
   pub packed : ArePacked places new
   pub rules : (v : ℕ) → has (members places new) v ≡ rule (has (members places old) v) (has (members places others) v)
 
-made : (places : ℕ) (old others new : List ℕ) (rule : Bool → Bool → Bool) → ArePacked places old → ArePacked places others → length new ≡ length old
-    → rule false false ≡ false → ((v : ℕ) → bit_in new v ≡ rule (bit_in old v) (bit_in others v)) → IsMade places old others new rule
+made : (places : ℕ) (old others new : List ℕ) (rule : Bool → Bool → Bool) → ArePacked places old →
+    ArePacked places others → length new ≡ length old
+    → rule false false ≡ false → ((v : ℕ) → bit_in new v ≡ rule (bit_in old v) (bit_in others v)) →
+    IsMade places old others new rule
 made places old others new rule packed other_packed long none each =
     let whole : ArePacked places new = record {
       few = packed.few;
@@ -170,22 +189,29 @@ made places old others new rule packed other_packed long none each =
     } in
     record {
       packed = whole;
-      rules = λ v. has-bit places new v whole ∙ each v ∙ sym (ap₂ rule (has-bit places old v packed) (has-bit places others v other_packed));
+      rules =
+          λ v. has-bit places new v whole ∙ each v ∙ sym (ap₂ rule (has-bit places old v packed)
+          (has-bit places others v other_packed));
     }
 
-pub union_made : (places : ℕ) (old others new : List ℕ) → ArePacked places old → ArePacked places others → length new ≡ length old
-    → ((k : ℕ) → get_or new k 0 ≡ bit_or (get_or old k 0) (get_or others k 0)) → IsMade places old others new (λ a b. a || b)
+pub union_made : (places : ℕ) (old others new : List ℕ) → ArePacked places old → ArePacked places others →
+    length new ≡ length old
+    → ((k : ℕ) → get_or new k 0 ≡ bit_or (get_or old k 0) (get_or others k 0)) →
+    IsMade places old others new (λ a b. a || b)
 union_made places old others new packed other_packed long each =
     made places old others new (λ a b. a || b) packed other_packed long refl (united_bit old others new each)
 
-pub difference_made : (places : ℕ) (old others new : List ℕ) → ArePacked places old → ArePacked places others → length new ≡ length old → ((k : ℕ) → get_or others k 0 < 2 ^ 64)
-    → ((k : ℕ) → get_or new k 0 ≡ bit_and (get_or old k 0) (bit_not w64 (get_or others k 0))) → IsMade places old others new (λ a b. a && not b)
+pub difference_made : (places : ℕ) (old others new : List ℕ) → ArePacked places old → ArePacked places others →
+    length new ≡ length old → ((k : ℕ) → get_or others k 0 < 2 ^ 64)
+    → ((k : ℕ) → get_or new k 0 ≡ bit_and (get_or old k 0) (bit_not w64 (get_or others k 0))) →
+    IsMade places old others new (λ a b. a && not b)
 difference_made places old others new packed other_packed long fits each =
     made places old others new (λ a b. a && not b) packed other_packed long refl (left_bit old others new fits each)
 
 -- sets with as many places have as many words
 pub same_words : (m n : ℕ) (xs ys : List ℕ) → m ≡ n → ArePacked m xs → ArePacked n ys → length xs ≡ length ys
-same_words m n xs ys same packed other_packed = omega (arith, packed.enough, packed.no_more, other_packed.enough, other_packed.no_more)
+same_words m n xs ys same packed other_packed =
+    omega (arith, packed.enough, packed.no_more, other_packed.enough, other_packed.no_more)
 
 -- ---- no vertex
 
@@ -194,9 +220,11 @@ bit_is_none zero lt e = refl
 bit_is_none (suc zero) lt e = cc
 bit_is_none (suc (suc x)) lt e = absurd (omega arith)
 
-pub clear_has_none : (places : ℕ) (words : List ℕ) → ArePacked places words → ((k : ℕ) → get_or words k 0 ≡ 0) → (v : ℕ) → has (members places words) v ≡ false
+pub clear_has_none : (places : ℕ) (words : List ℕ) → ArePacked places words → ((k : ℕ) → get_or words k 0 ≡ 0) →
+    (v : ℕ) → has (members places words) v ≡ false
 clear_has_none places words packed clear v =
-    has-bit places words v packed ∙ ap (λ n. bit_at n (v % 64) == 1) (clear (v / 64)) ∙ ap (λ n. n == 1) (bit_at-zero (v % 64))
+    has-bit places words v packed ∙ ap (λ n. bit_at n (v % 64) == 1) (clear (v / 64))
+    ∙ ap (λ n. n == 1) (bit_at-zero (v % 64))
 
 pub none_is_clear : (places : ℕ) (words : List ℕ) → ArePacked places words → ((k : ℕ) → get_or words k 0 < 2 ^ 64)
     → ((v : ℕ) → has (members places words) v ≡ false) → (k : ℕ) → get_or words k 0 ≡ 0
@@ -206,14 +234,16 @@ none_is_clear places words packed fits none k =
     let v = k * 64 + i in
     let word : v / 64 ≡ k = div-mul-add k 64 i lt in
     let place : v % 64 ≡ i = mod-mul-add k 64 i lt in
-    let seen : (bit_at (get_or words (v / 64) 0) (v % 64) == 1) ≡ false = sym (has-bit places words v packed) ∙ none v in
+    let seen : (bit_at (get_or words (v / 64) 0) (v % 64) == 1) ≡ false =
+    sym (has-bit places words v packed) ∙ none v in
     bit_is_none (bit_at (get_or words k 0) i) (bit_at-lt (get_or words k 0) i)
     (ap₂ (λ m n. bit_at (get_or words m 0) n == 1) (sym word) (sym place) ∙ seen)
     ∙ sym (bit_at-zero i))
 
 -- ---- the number of vertices
 
-counted_map : (p : ℕ → Bool) (xs : List ℕ) (a : ℕ) → fold (λ s m. s + cond m 1 0) a (map p xs) ≡ fold (λ s x. s + cond (p x) 1 0) a xs
+counted_map : (p : ℕ → Bool) (xs : List ℕ) (a : ℕ) → fold (λ s m. s + cond m 1 0) a (map p xs) ≡ fold
+    (λ s x. s + cond (p x) 1 0) a xs
 counted_map p [] a = refl
 counted_map p (x ∷ xs) a = counted_map p xs (a + cond (p x) 1 0)
 
@@ -222,7 +252,8 @@ range_split a zero n = ap₂ range_with_len (sym (add-zero a)) (let e : 0 + n �
 range_split a (suc m) n =
     let e : suc m + n ≡ suc (m + n) = omega arith in
     let f : (a + 1) + m ≡ a + suc m = omega arith in
-    ap (range_with_len a) e ∙ ap (λ xs. a ∷ xs) (range_split (a + 1) m n ∙ ap (λ b. range_with_len (a + 1) m ++ range_with_len b n) f)
+    ap (range_with_len a) e ∙ ap (λ xs. a ∷ xs) (range_split (a + 1) m n
+    ∙ ap (λ b. range_with_len (a + 1) m ++ range_with_len b n) f)
 
 none_counted : (p : ℕ → Bool) (n m : ℕ) → ((v : ℕ) → n ≤ v → p v ≡ false) → count_by p (range_with_len n m) ≡ 0
 none_counted p n zero none = refl
@@ -236,13 +267,15 @@ bit_again (suc zero) lt = refl
 bit_again (suc (suc x)) lt = absurd (omega arith)
 
 -- the places of a word, counted
-word_counted : (words : List ℕ) (k : ℕ) → get_or words k 0 < 2 ^ 64 → count_by (bit_in words) (range_with_len (k * 64) 64) ≡ count_ones (get_or words k 0)
+word_counted : (words : List ℕ) (k : ℕ) → get_or words k 0 < 2 ^ 64 →
+    count_by (bit_in words) (range_with_len (k * 64) 64) ≡ count_ones (get_or words k 0)
 word_counted words k fits =
     let places = range_with_len (k * 64) 64 in
     let bits = map (bit_in words) places in
     let long : length bits ≡ 64 = length-map-range_with_len (bit_in words) (k * 64) 64 in
     sym (ones-mask_l (bit_in words) places)
-    ∙ ap count_ones (same_from_bits_below 64 (mask_l bits) (get_or words k 0) (subst (λ n. mask_l bits < 2 ^ n) long (mask_l-lt bits)) fits
+    ∙ ap count_ones (same_from_bits_below 64 (mask_l bits) (get_or words k 0)
+    (subst (λ n. mask_l bits < 2 ^ n) long (mask_l-lt bits)) fits
     (λ i lt.
     bit_mask_l bits i
     ∙ ap (λ b. cond b 1 0) (get_or-map-range_with_len (bit_in words) (k * 64) 64 i (k * 64 + i) false lt refl
@@ -260,7 +293,8 @@ words_counted words fits (suc k) le =
     let g : k + 1 ≡ suc k = omega arith in
     ap (λ n. count_by (bit_in words) (range_with_len 0 n)) e ∙ ap (count_by (bit_in words)) (range_split 0 (k * 64) 64)
     ∙ sum_by-append test (range_with_len 0 (k * 64)) (range_with_len (0 + k * 64) 64)
-    ∙ ap₂ ◌+◌ (words_counted words fits k (omega arith)) (ap (λ n. count_by (bit_in words) (range_with_len n 64)) f ∙ word_counted words k (fits k))
+    ∙ ap₂ ◌+◌ (words_counted words fits k (omega arith)) (ap (λ n. count_by (bit_in words) (range_with_len n 64)) f
+    ∙ word_counted words k (fits k))
     ∙ sym (sum_by_more count_ones words k 0 (omega arith)) ∙ ap (λ n. sum_by count_ones (take n words)) g
 
 pub count_is : (places : ℕ) (words : List ℕ) → ArePacked places words → ((k : ℕ) → get_or words k 0 < 2 ^ 64)
@@ -274,14 +308,24 @@ count_is places words packed fits =
     let e : many * 64 ≡ places + rest = omega (arith, packed.enough) in
     let whole : count_by p (range_with_len 0 (many * 64)) ≡ sum_by count_ones words =
     words_counted words fits many (omega arith) ∙ ap (sum_by count_ones) (take_all many words (omega arith)) in
-    let split : count_by p (range_with_len 0 (many * 64)) ≡ count_by p (range_with_len 0 places) + count_by p (range_with_len (0 + places) rest) =
-    ap (λ n. count_by p (range_with_len 0 n)) e ∙ ap (count_by p) (range_split 0 places rest) ∙ sum_by-append test (range_with_len 0 places) (range_with_len (0 + places) rest) in
-    let none : count_by p (range_with_len (0 + places) rest) ≡ 0 = none_counted p (0 + places) rest (λ v past. packed.none_past v (omega arith)) in
+    let split : count_by p (range_with_len 0 (many * 64)) ≡ count_by p (range_with_len 0 places) + count_by p
+    (range_with_len (0 + places) rest) =
+    ap (λ n. count_by p (range_with_len 0 n)) e ∙ ap (count_by p) (range_split 0 places rest)
+    ∙ sum_by-append test (range_with_len 0 places) (range_with_len (0 + places) rest) in
+    let none : count_by p (range_with_len (0 + places) rest) ≡ 0 =
+    none_counted p (0 + places) rest (λ v past. packed.none_past v (omega arith)) in
     counted_map p (range_with_len 0 places) 0 ∙ omega (arith, whole, split, none)
 
-pub count_fits : (places : ℕ) (words : List ℕ) → ArePacked places words → ((k : ℕ) → get_or words k 0 < 2 ^ 64) → sum_by count_ones words < 2 ^ 64
+pub count_fits : (places : ℕ) (words : List ℕ) → ArePacked places words → ((k : ℕ) → get_or words k 0 < 2 ^ 64) →
+    sum_by count_ones words < 2 ^ 64
 count_fits places words packed fits =
-    omega (arith, packed.few, count_is places words packed fits, count_by-le-length (λ (member : Bool). member) (members places words), length-members places words)
+    omega (
+      arith,
+      packed.few,
+      count_is places words packed fits,
+      count_by-le-length (λ (member : Bool). member) (members places words),
+      length-members places words,
+    )
 
 -- ---- each vertex
 
@@ -293,19 +337,23 @@ pub record AreFull (places : ℕ) (words : List ℕ) : Type 0 where
   pub none_past : (v : ℕ) → places ≤ v → bit_in words v ≡ false
 
 pub full_packed : (places : ℕ) (words : List ℕ) → places < 2 ^ 64 → AreFull places words → ArePacked places words
-full_packed places words few full = record { few = few; enough = full.enough; no_more = full.no_more; none_past = full.none_past }
+full_packed places words few full =
+    record { few = few; enough = full.enough; no_more = full.no_more; none_past = full.none_past }
 
 pub full_members : (places : ℕ) (words : List ℕ) → AreFull places words → members places words ≡ replicate places true
 full_members places words full =
-    members_are places words (replicate places true) (length-replicate places true) (λ v lt. get_or-replicate places v true false lt ∙ sym (full.all v lt))
+    members_are places words (replicate places true) (length-replicate places true)
+    (λ v lt. get_or-replicate places v true false lt ∙ sym (full.all v lt))
 
 ones_bit : (n v : ℕ) → v / 64 < n → bit_in (replicate n (2 ^ 64 - 1)) v ≡ true
 ones_bit n v lt =
-    ap (λ w. bit_at w (v % 64) == 1) (get_or-replicate n (v / 64) (2 ^ 64 - 1) 0 lt) ∙ ap (λ b. b == 1) (bit_at_ones 64 (v % 64) (omega arith))
+    ap (λ w. bit_at w (v % 64) == 1) (get_or-replicate n (v / 64) (2 ^ 64 - 1) 0 lt)
+    ∙ ap (λ b. b == 1) (bit_at_ones 64 (v % 64) (omega arith))
 
 -- no bit past the words
 bit_past : (words : List ℕ) (v : ℕ) → length words ≤ v / 64 → bit_in words v ≡ false
-bit_past words v past = ap (λ w. bit_at w (v % 64) == 1) (get_or_past words (v / 64) 0 past) ∙ ap (λ b. b == 1) (bit_at-zero (v % 64))
+bit_past words v past =
+    ap (λ w. bit_at w (v % 64) == 1) (get_or_past words (v / 64) 0 past) ∙ ap (λ b. b == 1) (bit_at-zero (v % 64))
 
 -- the last word is full, where the places fill it
 pub full_whole : (places n : ℕ) → places % 64 ≡ 0 → n ≡ places / 64 → AreFull places (replicate n (2 ^ 64 - 1))
@@ -331,13 +379,15 @@ full_part places n some is =
     let e : 64 - (64 - rest) ≡ rest = omega arith in
     let last_is : last ≡ 2 ^ rest - 1 = ones_shr 64 (64 - rest) (omega arith) ∙ ap (λ k. 2 ^ k - 1) e in
     let in_last : (v : ℕ) → v / 64 ≡ places / 64 → bit_in words v ≡ (bit_at (2 ^ rest - 1) (v % 64) == 1) =
-    λ v same. ap (λ w. bit_at w (v % 64) == 1) (get_or-set_at ones (places / 64) (v / 64) last 0 same (omega (arith, many)) ∙ last_is) in
+    λ v same. ap (λ w. bit_at w (v % 64) == 1) (get_or-set_at ones (places / 64) (v / 64) last 0 same
+    (omega (arith, many)) ∙ last_is) in
     record {
       enough = omega (arith, long);
       no_more = omega (arith, long);
       all = λ v lt. elim (cases_eq (v / 64) (places / 64)) [
         | inl same ↦ in_last v same ∙ ap (λ b. b == 1) (bit_at_ones rest (v % 64) (omega arith))
-        | inr other ↦ ap (λ w. bit_at w (v % 64) == 1) (get_or-set_other ones (places / 64) (v / 64) last 0 other) ∙ ones_bit n v (omega arith)
+        | inr other ↦ ap (λ w. bit_at w (v % 64) == 1) (get_or-set_other ones (places / 64) (v / 64) last 0 other)
+            ∙ ones_bit n v (omega arith)
       ];
       none_past = λ v past. elim (cases_eq (v / 64) (places / 64)) [
         | inl same ↦ in_last v same ∙ ap (λ b. b == 1) (bit_at_ones_above rest (v % 64) (omega arith))

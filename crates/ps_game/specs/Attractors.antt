@@ -8,8 +8,10 @@ use Rattle.ps_game.specs.Subgames.{IsWithin, LeadsInto}
 -- the other player from which all edges within the subgame lead into the set
 pub record IsClosed (game : ParityGame) (subgame : ℕ → Bool) (player : ℕ) (target set : ℕ → Bool) : Type 0 where
   pub holds : IsWithin target set
-  pub own : (v w : ℕ) → IsTrue (subgame v) → owner_of game v ≡ player → LeadsInto game subgame v w → IsTrue (set w) → IsTrue (set v)
-  pub other : (v : ℕ) → IsTrue (subgame v) → owner_of game v ≢ player → ((w : ℕ) → LeadsInto game subgame v w → IsTrue (set w)) → IsTrue (set v)
+  pub own : (v w : ℕ) → IsTrue (subgame v) → owner_of game v ≡ player → LeadsInto game subgame v w →
+      IsTrue (set w) → IsTrue (set v)
+  pub other : (v : ℕ) → IsTrue (subgame v) → owner_of game v ≢ player →
+      ((w : ℕ) → LeadsInto game subgame v w → IsTrue (set w)) → IsTrue (set v)
 
 -- an edge within the subgame leads from v to w, which is in the set at a smaller rank
 pub record LeadsDown (game : ParityGame) (subgame set : ℕ → Bool) (rank : ℕ → ℕ) (v w : ℕ) : Type 0 where
@@ -19,10 +21,14 @@ pub record LeadsDown (game : ParityGame) (subgame set : ℕ → Bool) (rank : �
 
 -- at each vertex of the set outside the target the rank falls within the set: by the player's move in the table, and by
 -- each edge of the other player within the subgame
-pub record Falls (game : ParityGame) (subgame : ℕ → Bool) (player : ℕ) (target set : ℕ → Bool) (table : ℕ → Option ℕ) (rank : ℕ → ℕ) : Type 0 where
-  pub own : (v : ℕ) → IsTrue (set v) → ¬ IsTrue (target v) → owner_of game v ≡ player → IsSomeAnd (table v) (LeadsDown game subgame set rank v)
-  pub other : (v w : ℕ) → IsTrue (set v) → ¬ IsTrue (target v) → owner_of game v ≢ player → LeadsInto game subgame v w → LeadsDown game subgame set rank v w
+pub record Falls (game : ParityGame) (subgame : ℕ → Bool) (player : ℕ) (target set : ℕ → Bool) (table : ℕ → Option ℕ)
+    (rank : ℕ → ℕ) : Type 0 where
+  pub own : (v : ℕ) → IsTrue (set v) → ¬ IsTrue (target v) → owner_of game v ≡ player →
+      IsSomeAnd (table v) (LeadsDown game subgame set rank v)
+  pub other : (v w : ℕ) → IsTrue (set v) → ¬ IsTrue (target v) → owner_of game v ≢ player → LeadsInto game subgame v w →
+      LeadsDown game subgame set rank v w
 
 -- the set is contained in each closed set
 abbrev pub IsLeast : ParityGame → (ℕ → Bool) → ℕ → (ℕ → Bool) → (ℕ → Bool) → Type 0
-IsLeast game subgame player target set = (closed : ℕ → Bool) → IsClosed game subgame player target closed → IsWithin set closed
+IsLeast game subgame player target set =
+    (closed : ℕ → Bool) → IsClosed game subgame player target closed → IsWithin set closed

@@ -1,7 +1,9 @@
 -- A draft of a game: the vertices as they were made, whose successors may be missing, unknown or repeated.
-use Rattle.std.specs.Prelude.{◌≡◌, ℕ, ◌<◌, ◌++◌, ◌∷◌, List, [], length, map, find, filter, not, ◌==◌, nat_le, Some, slice_set}
+use Rattle.std.specs.Prelude.{◌≡◌, ◌≢◌, ℕ, ◌<◌, ◌++◌, ◌∷◌, List, [], length, map, find, filter, not, ◌==◌, nat_le, Some}
+use Rattle.std.specs.Prelude.{slice_set}
 use Rattle.ps_game.specs.Games.{VertexData, ParityGame, vertex_count, owner_of, priority_of, successors_of}
-use Rattle.std.specs.List.{All}
+use Rattle.std.specs.List.{All, AllPairs}
+use Rattle.ps_ids.specs.Ids.{place_of}
 
 -- the draft with one more vertex, which has no successor yet
 abbrev pub with_vertex : ParityGame → ℕ → ℕ → ParityGame
@@ -10,7 +12,11 @@ with_vertex draft owner priority = draft ++ record { owner = owner; priority = p
 -- the draft with one more successor, w, of the vertex v
 abbrev pub with_edge : ParityGame → ℕ → ℕ → ParityGame
 with_edge draft v w =
-    slice_set draft v (record { owner = owner_of draft v; priority = priority_of draft v; successors = successors_of draft v ++ w ∷ [] })
+    slice_set draft v (record {
+      owner = owner_of draft v;
+      priority = priority_of draft v;
+      successors = successors_of draft v ++ w ∷ [];
+    })
 
 -- the numbers of a list, each at its first place
 abbrev pub distinct : List ℕ → List ℕ
@@ -44,3 +50,11 @@ pub record IsFirstUnknown (draft : ParityGame) (v w : ℕ) : Type 0 where
 -- each successor is a vertex
 abbrev pub NoneUnknown : ParityGame → Type 0
 NoneUnknown draft = (v : ℕ) → v < vertex_count draft → All (λ w. w < vertex_count draft) (successors_of draft v)
+
+-- no vertex has a successor twice
+abbrev pub HaveNoRepeats : ParityGame → Type 0
+HaveNoRepeats draft = All (λ v. AllPairs (λ x y. x ≢ y) v.successors) draft
+
+-- the successors are ids, and the place of each is put where it stands
+abbrev pub with_places : List ℕ → VertexData → VertexData
+with_places ids v = record v { successors = map (place_of ids) v.successors }

@@ -1,7 +1,7 @@
--- A game in four arrays: one owner and one priority for each vertex, the successors of all vertices one behind the other, and the
--- offsets where those of each vertex begin, with one more offset at the end.
+-- A game in four arrays: one owner and one priority for each vertex, the successors of all vertices one behind the
+-- other, and the offsets where those of each vertex begin, with one more offset at the end.
 use Rattle.std.specs.Prelude.{◌≡◌, ℕ, ◌+◌, ◌-◌, ◌^◌, ◌<◌, ◌≤◌, min, List, length, map, take, slice_index, slice_range}
-use Rattle.std.specs.List.{flat_map, range_with_len, sum_by}
+use Rattle.std.specs.List.{All, flat_map, range_with_len, sum_by}
 use Rattle.ps_game.specs.Games.{VertexData, ParityGame, IsGame, vertex_count}
 
 -- the successors of a vertex: from its offset up to the next one
@@ -11,20 +11,16 @@ successors_in offsets successors v = slice_range successors (slice_index offsets
 -- a vertex as the arrays tell it
 abbrev pub vertex_in : List ℕ → List ℕ → List ℕ → List ℕ → ℕ → VertexData
 vertex_in offsets successors owners priorities v =
-    record { owner = slice_index owners v; priority = slice_index priorities v; successors = successors_in offsets successors v }
+    record {
+      owner = slice_index owners v;
+      priority = slice_index priorities v;
+      successors = successors_in offsets successors v;
+    }
 
 -- the game that the arrays stand for
 unfoldable pub game_in : List ℕ → List ℕ → List ℕ → List ℕ → ParityGame
-game_in offsets successors owners priorities = map (vertex_in offsets successors owners priorities) (range_with_len 0 (length owners))
-
--- each array has its place for each vertex, the offsets lie in the array of successors in order, and the whole is a game
-pub record AreFlat (offsets successors owners priorities : List ℕ) : Type 0 where
-  pub offset_each : length offsets ≡ length owners + 1
-  pub priority_each : length priorities ≡ length owners
-  pub in_order : (v : ℕ) → v < length owners → slice_index offsets v ≤ slice_index offsets (v + 1)
-  pub within : (v : ℕ) → v < length owners → slice_index offsets (v + 1) ≤ length successors
-  pub few : length successors < 2 ^ 64
-  pub is_game : IsGame (game_in offsets successors owners priorities)
+game_in offsets successors owners priorities =
+    map (vertex_in offsets successors owners priorities) (range_with_len 0 (length owners))
 
 -- how many edges a game has
 abbrev pub edge_count : ParityGame → ℕ
@@ -43,3 +39,27 @@ all_successors game = flat_map (λ v. v.successors) game
 pub record AreOffsets (game : ParityGame) (offsets : List ℕ) : Type 0 where
   pub offset_each : length offsets ≡ length game + 1
   pub in_front : (v : ℕ) → v ≤ length game → slice_index offsets v ≡ length (all_successors (take v game))
+
+-- the arrays say what the vertices of the game say
+pub record TellGame (game : ParityGame) (offsets successors owners priorities : List ℕ) : Type 0 where
+  pub offsets_are : AreOffsets game offsets
+  pub successors_are : successors ≡ all_successors game
+  pub few : length successors < 2 ^ 64
+  pub owners_are : owners ≡ map (λ v. v.owner) game
+  pub priorities_are : priorities ≡ map (λ v. v.priority) game
+
+-- the arrays of vertices with an owner 0 or 1, whose successors may be any numbers
+pub record AreVertices (offsets successors owners priorities : List ℕ) : Type 0 where
+  pub tell : TellGame (game_in offsets successors owners priorities) offsets successors owners priorities
+  pub players : All (λ v. v.owner < 2) (game_in offsets successors owners priorities)
+
+-- each array has its place for each vertex, the offsets lie in the array of successors in order, and the whole is a
+-- game
+pub record AreFlat (offsets successors owners priorities : List ℕ) : Type 0 where
+  pub offset_each : length offsets ≡ length owners + 1
+  pub priority_each : length priorities ≡ length owners
+  pub in_order : (v : ℕ) → v < length owners → slice_index offsets v ≤ slice_index offsets (v + 1)
+  pub within : (v : ℕ) → v < length owners → slice_index offsets (v + 1) ≤ length successors
+  pub few : length successors < 2 ^ 64
+  pub is_game : IsGame (game_in offsets successors owners priorities)
+  pub tell : TellGame (game_in offsets successors owners priorities) offsets successors owners priorities

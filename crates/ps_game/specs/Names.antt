@@ -1,8 +1,12 @@
 -- What a list of names is to a contract.
-use Rattle.std.specs.Prelude.{ℕ, List, Option, Vec}
+use Rattle.std.specs.Prelude.{ℕ, ◌-◌, List, ◌++◌, length, replicate, Option, None, Vec}
 use Rattle.std.specs.Option.{option_map}
 use Rattle.std.specs.Global.{Global}
 
 -- the bytes of a name, if there is one
 abbrev pub name_bytes : Option (Vec ℕ Global) → Option (List ℕ)
 name_bytes name = option_map (λ bytes. bytes.items) name
+
+-- the names of so many vertices, where these are the names of the first ones and the others have none
+abbrev pub with_none : ℕ → List (Option (List ℕ)) → List (Option (List ℕ))
+with_none count names = names ++ replicate (count - length names) None

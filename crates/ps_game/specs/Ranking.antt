@@ -5,16 +5,18 @@ use Rattle.std.specs.List.{All, Contains}
 use Rattle.std.specs.List.Sorted.{IsStrictlyIncreasing}
 use Rattle.ps_game.specs.Games.{ParityGame, vertex_count, owner_of, priority_of, HasEdge}
 
--- an edge remains for a player with a table when it leaves a vertex of the other player, or is the move that the table gives
+-- an edge remains for a player with a table when it leaves a vertex of the other player, or is the move that the table
+-- gives
 pub record RemainsFor (game : ParityGame) (player : ℕ) (table : ℕ → Option ℕ) (v w : ℕ) : Type 0 where
   pub edge : HasEdge game v w
   pub chosen : owner_of game v ≡ player → table v ≡ Some w
 
 -- an edge that remains, with both ends in a set
-pub record RemainsWithin (game : ParityGame) (player : ℕ) (set : ℕ → Bool) (table : ℕ → Option ℕ) (v w : ℕ) : Type 0 where
-  pub from : IsTrue (set v)
-  pub to : IsTrue (set w)
-  pub remains : RemainsFor game player table v w
+pub record RemainsWithin (game : ParityGame) (player : ℕ) (set : ℕ → Bool) (table : ℕ → Option ℕ) (v w : ℕ) : Type 0
+  where
+    pub from : IsTrue (set v)
+    pub to : IsTrue (set w)
+    pub remains : RemainsFor game player table v w
 
 -- some vertex has the priority
 abbrev pub HasPriority : ParityGame → ℕ → Type 0
@@ -28,7 +30,8 @@ pub record ListsPriorities (game : ParityGame) (parity : ℕ) (list : List ℕ) 
   pub present : All (HasPriority game) list
 
 -- the rule of counts for a priority and an edge between two vertices with priorities and counts of their own: where
--- neither end has a greater priority, the count does not rise, and it falls where the edge leaves a vertex of that priority
+-- neither end has a greater priority, the count does not rise, and it falls where the edge leaves a vertex of that
+-- priority
 pub record KeepsRule (priority from_priority to_priority from_count to_count : ℕ) : Type 0 where
   pub never_rises : from_priority ≤ priority → to_priority ≤ priority → to_count ≤ from_count
   pub falls : from_priority ≡ priority → to_priority ≤ priority → to_count < from_count
@@ -36,4 +39,5 @@ pub record KeepsRule (priority from_priority to_priority from_count to_count : �
 -- the counts for a priority keep the rule on each edge that remains in a set
 abbrev pub KeepRuleWithin : ParityGame → ℕ → (ℕ → Bool) → (ℕ → Option ℕ) → ℕ → (ℕ → ℕ) → Type 0
 KeepRuleWithin game player set table priority count =
-    (v w : ℕ) → RemainsWithin game player set table v w → KeepsRule priority (priority_of game v) (priority_of game w) (count v) (count w)
+    (v w : ℕ) → RemainsWithin game player set table v w → KeepsRule priority (priority_of game v) (priority_of game w)
+    (count v) (count w)

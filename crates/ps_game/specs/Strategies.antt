@@ -13,8 +13,10 @@ pub record FiniteMemory : Type 0 where
 -- memories are numbers below the size, and the choice is a successor at each vertex of the player
 pub record IsFiniteMemory (game : ParityGame) (player : ℕ) (strategy : FiniteMemory) : Type 0 where
   pub first_below : strategy.first < strategy.size
-  pub update_below : (memory v : ℕ) → memory < strategy.size → v < vertex_count game → strategy.update memory v < strategy.size
-  pub moves : (memory v : ℕ) → memory < strategy.size → v < vertex_count game → owner_of game v ≡ player → HasEdge game v (strategy.choice memory v)
+  pub update_below : (memory v : ℕ) → memory < strategy.size → v < vertex_count game →
+      strategy.update memory v < strategy.size
+  pub moves : (memory v : ℕ) → memory < strategy.size → v < vertex_count game → owner_of game v ≡ player →
+      HasEdge game v (strategy.choice memory v)
 
 -- the memory at place k of a path, which has met the vertices before it
 abbrev pub memory_at : FiniteMemory → List ℕ → ℕ → ℕ
@@ -23,16 +25,19 @@ memory_at strategy path k = fold strategy.update strategy.first (take k path)
 -- each move of the player is the choice at the memory of that place
 abbrev pub Agrees : ParityGame → ℕ → FiniteMemory → List ℕ → Type 0
 Agrees game player strategy path =
-    (k : ℕ) → k + 1 < length path → owner_of game (slice_index path k) ≡ player → strategy.choice (memory_at strategy path k) (slice_index path k) ≡ slice_index path (k + 1)
+    (k : ℕ) → k + 1 < length path → owner_of game (slice_index path k) ≡ player →
+    strategy.choice (memory_at strategy path k) (slice_index path k) ≡ slice_index path (k + 1)
 
 -- on each path from v that agrees with the strategy, the player wins each loop whose two places have the same memory
 abbrev pub WinsFrom : ParityGame → ℕ → FiniteMemory → ℕ → Type 0
 WinsFrom game player strategy v =
-    (path : List ℕ) (i j : ℕ) → IsPath game path → slice_index path 0 ≡ v → Agrees game player strategy path → IsLoop path i j → memory_at strategy path i ≡ memory_at strategy path j → WinsLoop game player path i j
+    (path : List ℕ) (i j : ℕ) → IsPath game path → slice_index path 0 ≡ v → Agrees game player strategy path →
+    IsLoop path i j → memory_at strategy path i ≡ memory_at strategy path j → WinsLoop game player path i j
 
 -- the player has no strategy of finite memory that wins from v
 abbrev pub WinsByNoMemory : ParityGame → ℕ → ℕ → Type 0
-WinsByNoMemory game player v = (strategy : FiniteMemory) → IsFiniteMemory game player strategy → WinsFrom game player strategy v → ⊥
+WinsByNoMemory game player v =
+    (strategy : FiniteMemory) → IsFiniteMemory game player strategy → WinsFrom game player strategy v → ⊥
 
 -- the last vertex of a path
 abbrev pub last_vertex : List ℕ → ℕ
@@ -41,12 +46,14 @@ last_vertex path = slice_index path (length path - 1)
 -- each path of at most n vertices that ends at a vertex of the player has a successor of that vertex
 abbrev pub IsHistoryTable : ParityGame → ℕ → ℕ → (List ℕ → ℕ) → Type 0
 IsHistoryTable game player n table =
-    (path : List ℕ) → IsPath game path → length path ≤ n → owner_of game (last_vertex path) ≡ player → HasEdge game (last_vertex path) (table path)
+    (path : List ℕ) → IsPath game path → length path ≤ n → owner_of game (last_vertex path) ≡ player →
+    HasEdge game (last_vertex path) (table path)
 
 -- each move of the player is what the table gives the path up to there
 abbrev pub GoesBy : ParityGame → ℕ → (List ℕ → ℕ) → List ℕ → Type 0
 GoesBy game player table path =
-    (k : ℕ) → k + 1 < length path → owner_of game (slice_index path k) ≡ player → table (take (k + 1) path) ≡ slice_index path (k + 1)
+    (k : ℕ) → k + 1 < length path → owner_of game (slice_index path k) ≡ player →
+    table (take (k + 1) path) ≡ slice_index path (k + 1)
 
 -- a path of n + 1 vertices from v goes by the table, and the player loses each loop of it
 pub record IsBeaten (game : ParityGame) (player n : ℕ) (table : List ℕ → ℕ) (v : ℕ) : Type 0 where
@@ -64,4 +71,5 @@ HasLoop path = (i : ℕ) × (j : ℕ) × IsLoop path i j
 -- each history table of the player is beaten from v, and by a path with a loop where it is long enough
 abbrev pub AllHistoriesBeaten : ParityGame → ℕ → ℕ → Type 0
 AllHistoriesBeaten game player v =
-    (n : ℕ) (table : List ℕ → ℕ) → IsHistoryTable game player n table → (beaten : IsBeaten game player n table v) × (vertex_count game ≤ n → HasLoop beaten.path)
+    (n : ℕ) (table : List ℕ → ℕ) → IsHistoryTable game player n table →
+    (beaten : IsBeaten game player n table v) × (vertex_count game ≤ n → HasLoop beaten.path)

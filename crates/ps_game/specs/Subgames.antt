@@ -18,7 +18,8 @@ pub record IsSubgame (game : ParityGame) (set : ℕ → Bool) : Type 0 where
   pub goes_on : (v : ℕ) → IsTrue (set v) → (w : ℕ) × LeadsInto game set v w
 
 -- k > 0 steps through the set that come back to where they began, in which the table gives each move of the player
-pub record IsRound (game : ParityGame) (player : ℕ) (set : ℕ → Bool) (table : ℕ → Option ℕ) (walk : ℕ → ℕ) (k : ℕ) : Type 0 where
+pub record IsRound (game : ParityGame) (player : ℕ) (set : ℕ → Bool) (table : ℕ → Option ℕ) (walk : ℕ → ℕ)
+    (k : ℕ) : Type 0 where
   pub some : 0 < k
   pub closes : walk k ≡ walk 0
   pub inside : (t : ℕ) → t < k → IsTrue (set (walk t))
@@ -32,8 +33,10 @@ pub record IsTop (game : ParityGame) (walk : ℕ → ℕ) (k top : ℕ) : Type 0
 
 -- the set lies in the subgame; the table gives a successor in the set at each vertex of it that the player owns; the
 -- other player's edges from the set within the subgame stay in the set; the player wins each round in it by the table
-pub record HoldsWithin (game : ParityGame) (subgame : ℕ → Bool) (player : ℕ) (set : ℕ → Bool) (table : ℕ → Option ℕ) : Type 0 where
+pub record HoldsWithin (game : ParityGame) (subgame : ℕ → Bool) (player : ℕ) (set : ℕ → Bool)
+    (table : ℕ → Option ℕ) : Type 0 where
   pub within : IsWithin set subgame
   pub moves : (v : ℕ) → IsTrue (set v) → owner_of game v ≡ player → IsSomeAnd (table v) (LeadsInto game set v)
   pub stays : (v w : ℕ) → IsTrue (set v) → owner_of game v ≢ player → LeadsInto game subgame v w → IsTrue (set w)
-  pub wins : (walk : ℕ → ℕ) (k top : ℕ) → IsRound game player set table walk k → IsTop game walk k top → top % 2 ≡ player
+  pub wins : (walk : ℕ → ℕ) (k top : ℕ) → IsRound game player set table walk k → IsTop game walk k top →
+      top % 2 ≡ player

@@ -1,16 +1,33 @@
 //! Builds a game of vertices and edges in any order. Repeated successors are dropped at the end, in time in proportion
 //! to vertices and edges, by a stamp at each vertex.
 
-ghost use Rattle.std.specs.Prelude.{◌≡◌, ◌<◌, ◌≤◌, ◌+◌, ◌↔◌, ℕ, [], IfOk, OnOk, OnErr, Err, IfSome, IfNone, Some, None, length, find, nat_le, take, map};
+ghost use Rattle.std.specs.Prelude.{◌≡◌, ◌<◌, ◌≤◌, ◌+◌, ◌↔◌, ℕ, [], IfOk, OnOk, OnErr, Err, IfSome, IfNone, Some, None};
+ghost use Rattle.std.specs.Prelude.{length, find, nat_le, take, map};
 ghost use Rattle.std.specs.List.{All};
 ghost use Rattle.ps_game.specs.Games.{ParityGame, VertexData, IsGame, vertex_count};
-ghost use Rattle.ps_game.specs.Drafts.{with_vertex, with_edge, distinct, vertex_without_repeats, without_repeats, NoneBare, IsFirstBare, IsFirstUnknown, NoneUnknown};
+ghost use Rattle.ps_game.specs.Drafts.{with_vertex, with_edge, distinct, vertex_without_repeats, without_repeats};
+ghost use Rattle.ps_game.specs.Drafts.{NoneBare, IsFirstBare, IsFirstUnknown, NoneUnknown};
 
 use crate::faults::GameFault;
-use crate::games::{Game, Vertex};
+use crate::games::Game;
+use crate::vertices::Vertices;
 use smallvec::SmallVec;
 use std::alloc::{AllocError, Global};
 use std::marker::Model;
+
+/// A vertex of a draft: most vertices have few successors, which then lie in the value.
+#[derive(Drop)]
+pub(crate) struct Vertex {
+    owner: u8,
+    priority: u64,
+    successors: SmallVec<usize, 4>,
+}
+
+impl Model for Vertex {
+    ghost Value = { VertexData };
+
+    ghost view = { λ v. record { owner = v.owner; priority = v.priority; successors = v.successors.items } };
+}
 
 /// Builds a game, vertex by vertex and edge by edge, in any order.
 #[derive(Drop)]
@@ -86,24 +103,69 @@ impl GameBuilder {
     pub fn finish(self) -> Result<Game, GameFault>
         ensures game { IfOk result (λ game. game ≡ without_repeats self) }
         ensures no_successor { (v : ℕ) → (result ≡ Err (GameFault.NoSuccessor v)) ↔ IsFirstBare self v }
-        ensures unknown_successor { (v w : ℕ) → (result ≡ Err (GameFault.UnknownSuccessor v w)) ↔ IsFirstUnknown self v w }
+        ensures unknown_successor { (v w : ℕ) → (result ≡ Err (GameFault.UnknownSuccessor v w)) ↔
+            IsFirstUnknown self v w }
     {
-        let GameBuilder {
-            alloc,
-            mut vertices,
-        } = self;
+        let GameBuilder { alloc, vertices } = self;
         if let Some(vertex) = first_bare(&vertices) {
             return Err(GameFault::NoSuccessor { vertex });
         }
         if let Some((vertex, successor)) = first_unknown(&vertices) {
             return Err(GameFault::UnknownSuccessor { vertex, successor });
         }
-        let Ok(mut seen) = vec![in alloc; 0usize; vertices.len()] else {
-            return Err(GameFault::OutOfMemory);
-        };
-        drop_repeats(&mut vertices, &mut seen);
-        Ok(Game { vertices })
+        match distinct_game(alloc, vertices) {
+            Ok(game) => Ok(game),
+            Err(_) => Err(GameFault::OutOfMemory),
+        }
     }
+}
+
+/// The game of a draft in which each vertex has a successor and each successor is a vertex.
+pub(crate) fn distinct_game(alloc: Global, mut vertices: Vec<Vertex>) -> Result<Game, AllocError>
+    requires owners { All (λ v. v.owner < 2) vertices.items }
+    requires bare { NoneBare vertices.items }
+    requires known { NoneUnknown vertices.items }
+    ensures { IfOk result (λ game. game ≡ without_repeats vertices.items) }
+{
+    let mut seen = vec![in alloc; 0usize; vertices.len()]?;
+    drop_repeats(&mut vertices, &mut seen);
+    game_of(alloc, &vertices)
+}
+
+/// The game of these vertices.
+fn game_of(alloc: Global, vertices: &[Vertex]) -> Result<Game, AllocError>
+    requires { IsGame vertices.now }
+    ensures { IfOk result (λ game. game ≡ vertices.now) }
+{
+    let mut arrays = Vertices::new(alloc)?;
+    for vertex in vertices {
+        arrays.push(vertex.owner, vertex.priority, &vertex.successors)?;
+    }
+    Ok(arrays.as_game())
+}
+
+/// A vertex with a list of its own.
+pub(crate) fn listed_vertex(
+    alloc: Global,
+    owner: u8,
+    priority: u64,
+    successors: &[usize],
+) -> Result<Vertex, AllocError>
+    ensures { IfOk result (λ vertex. vertex ≡ record {
+      owner = owner;
+      priority = priority;
+      successors = successors.now;
+    }) }
+{
+    let mut list = SmallVec::new(alloc);
+    for successor in successors {
+        list.push(*successor)?;
+    }
+    Ok(Vertex {
+        owner,
+        priority,
+        successors: list,
+    })
 }
 
 /// The least vertex without an edge.

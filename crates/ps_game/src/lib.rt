@@ -7,7 +7,8 @@
 //! | Call | What it gives |
 //! |---|---|
 //! | `GameBuilder::vertex`, `edge`, `finish` | a `Game` of vertices and edges in any order, or the first `GameFault` |
-//! | `NamedGame::new`, `game`, `id`, `name` | the game with an id, and a name or none, for each vertex |
+//! | `Vertices::push`, `resolve`, `into_game` | a `Game` of vertices in order, whose successors may be ids at first |
+//! | `NamedGame::new`, `with_first_names`, `game`, `id`, `name` | the game with an id, and a name or none, for each vertex |
 //! | `Arena::count`, `owner`, `priority`, `degree`, `successor` | what every form of a game answers, without memory |
 //! | `FlatGame::of`, `fits_narrow` | the same game in four arrays, with numbers of 4 or 8 bytes; whether 4 do |
 //! | `Player::EVEN`, `ODD`, `of_priority`, `opponent`, `owns`, `number` | one of the two players |
@@ -44,6 +45,7 @@ mod ranking;
 mod regions;
 mod strategy;
 mod subgame;
+mod vertices;
 mod widths;
 mod words;
 
@@ -64,4 +66,5 @@ pub use ranking::priorities_of;
 pub use regions::Region;
 pub use strategy::Strategy;
 pub use subgame::Subgame;
+pub use vertices::Vertices;
 pub use widths::Width;

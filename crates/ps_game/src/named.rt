@@ -1,15 +1,15 @@
 //! Games whose vertices have ids and names, as texts and certificates speak of them.
 
-ghost use Rattle.std.specs.Prelude.{◌≡◌, ◌≢◌, ◌<◌, length, map, vec_len, slice_index, slice_index_or, None};
+ghost use Rattle.std.specs.Prelude.{◌≡◌, ◌≢◌, ◌<◌, ◌≤◌, length, map, vec_len, slice_index, slice_index_or, None};
 ghost use Rattle.std.specs.List.{All, AllPairs};
 ghost use Rattle.std.specs.Option.{option_copied};
 ghost use Rattle.ps_game.specs.Games.{NamedGameData, IsNamedGame, HasNoQuote, vertex_count};
-ghost use Rattle.ps_game.specs.Names.{name_bytes};
+ghost use Rattle.ps_game.specs.Names.{name_bytes, with_none};
 
 use crate::games::Game;
 use std::marker::Model;
 
-/// A game with an id and an optional name, bytes without `"`, for each vertex.
+/// A game with an id and an optional name, bytes without `"`, for each vertex. Names are kept up to the last one.
 #[derive(Drop)]
 pub struct NamedGame {
     game: Game,
@@ -20,9 +20,18 @@ pub struct NamedGame {
 impl Model for NamedGame {
     ghost Value = { NamedGameData };
 
-    ghost view = { λ n. record { game = n.game; ids = n.ids.items; names = map name_bytes n.names.items } };
+    ghost view = { λ n. record {
+      game = n.game;
+      ids = n.ids.items;
+      names = with_none (length n.ids.items)
+          (map name_bytes n.names.items);
+    } };
 
-    ghost invariant = { λ n. IsNamedGame (record { game = n.game; ids = n.ids.items; names = map name_bytes n.names.items }) };
+    ghost invariant = { λ n. IsNamedGame (record {
+      game = n.game;
+      ids = n.ids.items;
+      names = with_none (length n.ids.items) (map name_bytes n.names.items);
+    }) };
 }
 
 impl NamedGame {
@@ -35,6 +44,19 @@ impl NamedGame {
         ensures game { result.game ≡ game }
         ensures ids { result.ids ≡ ids.items }
         ensures names { result.names ≡ map name_bytes names.items }
+    {
+        NamedGame::with_first_names(game, ids, names)
+    }
+
+    /// Gives ids to the vertices of a game, in their order, and names to the first of them. The others have none.
+    pub fn with_first_names(game: Game, ids: Vec<u64>, names: Vec<Option<Vec<u8>>>) -> Self
+        requires id_each { vec_len ids ≡ vertex_count game }
+        requires names_of_vertices { vec_len names ≤ vertex_count game }
+        requires ids_differ { AllPairs (λ x y. x ≢ y) ids.items }
+        requires names_plain { All HasNoQuote (map name_bytes names.items) }
+        ensures game { result.game ≡ game }
+        ensures ids { result.ids ≡ ids.items }
+        ensures names { result.names ≡ with_none (vertex_count game) (map name_bytes names.items) }
     {
         NamedGame { game, ids, names }
     }
@@ -60,9 +82,9 @@ impl NamedGame {
         requires { vertex < vertex_count self.now.game }
         ensures { option_copied result ≡ slice_index_or self.now.names vertex None }
     {
-        match &self.names[vertex] {
-            Some(name) => Some(name.as_slice()),
-            None => None,
+        match self.names.get(vertex) {
+            Some(Some(name)) => Some(name.as_slice()),
+            _ => None,
         }
     }
 }

@@ -1,6 +1,8 @@
 //! Lists of numbers that are kept at 4 or 8 bytes each.
 
-ghost use Rattle.std.specs.Prelude.{◌≡◌, ◌<◌, ◌≤◌, ◌∷◌, [], ◌++◌, IfOk, OnOk, OnErr, length, map, replicate, take, slice_index, slice_range, slice_set};
+ghost use Rattle.std.specs.Prelude.{◌≡◌, ◌<◌, ◌≤◌, ◌∷◌, [], ◌++◌, IfOk, OnOk, OnErr, length, map, replicate, take};
+ghost use Rattle.std.specs.Prelude.{slice_index, slice_range, slice_set};
+ghost use Rattle.std.specs.List.{All};
 
 use crate::widths::Width;
 use std::alloc::{AllocError, Global};
@@ -44,6 +46,25 @@ impl<W: Width> Numbers<W> {
     {
         let items = Vec::with_capacity(alloc, count)?;
         Ok(Numbers { items })
+    }
+
+    /// The numbers that a list keeps.
+    pub(crate) fn of(items: Vec<W>) -> Numbers<W>
+        ensures { result ≡ map W.value items.items }
+    {
+        Numbers { items }
+    }
+
+    /// The same numbers at another width.
+    pub(crate) fn in_width<V: Width>(&self, alloc: Global) -> Result<Numbers<V>, AllocError>
+        requires { All (λ number. number ≤ V.LIMIT) self.now }
+        ensures { IfOk result (λ numbers. numbers ≡ self.now) }
+    {
+        let mut numbers = Numbers::with_capacity(alloc, self.len())?;
+        for place in 0..self.len() {
+            numbers.push(self.at(place))?;
+        }
+        Ok(numbers)
     }
 
     /// How many numbers there are.

@@ -1,6 +1,7 @@
 //! Sets of vertices, a bit for each: union, difference and count take eight words of 64 bits at a time.
 
-ghost use Rattle.std.specs.Prelude.{◌≡◌, ◌<◌, ◌↔◌, ◌&&◌, ◌||◌, ℕ, IfOk, IsTrue, true, false, not, length, replicate, count_by, slice_set};
+ghost use Rattle.std.specs.Prelude.{◌≡◌, ◌<◌, ◌↔◌, ◌&&◌, ◌||◌, ℕ, IfOk, IsTrue, true, false, not, length, replicate};
+ghost use Rattle.std.specs.Prelude.{count_by, slice_set};
 ghost use Rattle.ps_game.specs.Regions.{has};
 
 use crate::words::{count_set, is_clear, subtract, unite};

@@ -1,6 +1,7 @@
 //! Subgames: regions in which every play can go on.
 
-ghost use Rattle.std.specs.Prelude.{◌≡◌, ◌<◌, ◌↔◌, ℕ, IfOk, IfSome, IsSome, IsTrue, true, length, replicate, slice_index, slice_index_or};
+ghost use Rattle.std.specs.Prelude.{◌≡◌, ◌<◌, ◌↔◌, ℕ, IfOk, IfSome, IsSome, IsTrue, true, length, replicate};
+ghost use Rattle.std.specs.Prelude.{slice_index, slice_index_or};
 ghost use Rattle.std.specs.List.{Contains};
 ghost use Rattle.ps_game.specs.Games.{IsGame, vertex_count};
 ghost use Rattle.ps_game.specs.Subgames.{IsSubgame, LeadsInto};

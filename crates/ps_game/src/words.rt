@@ -1,6 +1,7 @@
 //! Words of 64 bits, worked on eight at a time.
 
-ghost use Rattle.std.specs.Prelude.{◌≡◌, ◌↔◌, ℕ, ◌*◌, ◌/◌, ◌<◌, ◌≤◌, ◌^◌, IsTrue, length, slice_index, take, drop, bit_and, bit_or, count_ones};
+ghost use Rattle.std.specs.Prelude.{◌≡◌, ◌↔◌, ℕ, ◌*◌, ◌/◌, ◌<◌, ◌≤◌, ◌^◌, IsTrue, length, slice_index, take, drop};
+ghost use Rattle.std.specs.Prelude.{bit_and, bit_or, count_ones};
 ghost use Rattle.std.specs.Int.{bit_not, w64};
 ghost use Rattle.std.specs.List.{sum_by};
 
@@ -23,7 +24,8 @@ pub(crate) fn unite(words: &mut [u64], others: &[u64])
 fn unite_groups(words: &mut [u64], others: &[u64], groups: usize)
     requires words { groups * 8 ≤ length words.old }
     requires others { groups * 8 ≤ length others.now }
-    ensures united { (k : ℕ) → k < groups * 8 → slice_index words.new k ≡ bit_or (slice_index words.old k) (slice_index others.now k) }
+    ensures united { (k : ℕ) → k < groups * 8 → slice_index words.new k ≡ bit_or (slice_index words.old k)
+        (slice_index others.now k) }
     ensures rest { (k : ℕ) → groups * 8 ≤ k → slice_index words.new k ≡ slice_index words.old k }
 {
     for group in 0..groups {
@@ -37,7 +39,8 @@ fn unite_groups(words: &mut [u64], others: &[u64], groups: usize)
 fn unite_rest(words: &mut [u64], others: &[u64], start: usize)
     requires { length others.now ≡ length words.old }
     ensures before { (k : ℕ) → k < start → slice_index words.new k ≡ slice_index words.old k }
-    ensures united { (k : ℕ) → start ≤ k → slice_index words.new k ≡ bit_or (slice_index words.old k) (slice_index others.now k) }
+    ensures united { (k : ℕ) → start ≤ k → slice_index words.new k ≡ bit_or (slice_index words.old k)
+        (slice_index others.now k) }
 {
     for place in start..words.len() {
         words[place] |= others[place];
@@ -48,7 +51,8 @@ fn unite_rest(words: &mut [u64], others: &[u64], start: usize)
 pub(crate) fn subtract(words: &mut [u64], others: &[u64])
     requires { length others.now ≡ length words.old }
     ensures in_range { (k : ℕ) → slice_index others.now k < 2 ^ 64 }
-    ensures subtracted { (k : ℕ) → slice_index words.new k ≡ bit_and (slice_index words.old k) (bit_not w64 (slice_index others.now k)) }
+    ensures subtracted { (k : ℕ) → slice_index words.new k ≡ bit_and (slice_index words.old k)
+        (bit_not w64 (slice_index others.now k)) }
 {
     let groups = words.len() / LANES;
     subtract_groups(words, others, groups);
@@ -59,7 +63,8 @@ pub(crate) fn subtract(words: &mut [u64], others: &[u64])
 fn subtract_groups(words: &mut [u64], others: &[u64], groups: usize)
     requires words { groups * 8 ≤ length words.old }
     requires others { groups * 8 ≤ length others.now }
-    ensures subtracted { (k : ℕ) → k < groups * 8 → slice_index words.new k ≡ bit_and (slice_index words.old k) (bit_not w64 (slice_index others.now k)) }
+    ensures subtracted { (k : ℕ) → k < groups * 8 → slice_index words.new k ≡ bit_and (slice_index words.old k)
+        (bit_not w64 (slice_index others.now k)) }
     ensures rest { (k : ℕ) → groups * 8 ≤ k → slice_index words.new k ≡ slice_index words.old k }
 {
     for group in 0..groups {
@@ -73,7 +78,8 @@ fn subtract_groups(words: &mut [u64], others: &[u64], groups: usize)
 fn subtract_rest(words: &mut [u64], others: &[u64], start: usize)
     requires { length others.now ≡ length words.old }
     ensures before { (k : ℕ) → k < start → slice_index words.new k ≡ slice_index words.old k }
-    ensures subtracted { (k : ℕ) → start ≤ k → slice_index words.new k ≡ bit_and (slice_index words.old k) (bit_not w64 (slice_index others.now k)) }
+    ensures subtracted { (k : ℕ) → start ≤ k → slice_index words.new k ≡ bit_and (slice_index words.old k)
+        (bit_not w64 (slice_index others.now k)) }
 {
     for place in start..words.len() {
         words[place] &= !others[place];

@@ -12,7 +12,13 @@ struct Table<'a> {
 }
 
 impl Graph for Table<'_> {
-    ghost graph = { λ t. record { count = length t.targets.now / 2; degree = λ _. 2; target = λ v p. if nat_lt (slice_index t.targets.now (2 * v + p)) (length t.targets.now / 2) then Some (slice_index t.targets.now (2 * v + p)) else None } };
+    ghost graph = { λ t. record {
+      count = length t.targets.now / 2;
+      degree = λ _. 2;
+      target =
+          λ v p. if nat_lt (slice_index t.targets.now (2 * v + p)) (length t.targets.now / 2) then Some
+          (slice_index t.targets.now (2 * v + p)) else None;
+    } };
 
     fn count(&self) -> usize {
         self.targets.len() / 2

@@ -1,10 +1,15 @@
 //! Attractors, regions that are won and counts of small games, which were found by hand, and how much work they took.
 
-use ps_attractor::{Attracted, Sources, attract, places_by_number};
-use ps_game::{Arena, Counts, FlatGame, Game, GameBuilder, Region, Strategy, Subgame, fits_narrow};
+ghost use Rattle.std.specs.Prelude.{◌≤◌};
+
+use ps_attractor::{Attracted, Sources, attract, has_room, places_by_number};
+use ps_game::{
+    Arena, Counts, FlatGame, Game, GameBuilder, Numbers, Region, Strategy, Subgame, Width,
+    fits_narrow,
+};
 use ps_measure::{CountTable, MeasureFault, Ranks, ranks};
 use ps_pgsolver::read;
-use ps_zielonka::regions;
+use ps_zielonka::{regions, regions_in};
 use std::alloc::{AllocError, Global};
 use std::test::Fail;
 
@@ -81,30 +86,45 @@ fn attractors(rt: HostRuntime) {
     assert!(rt; attracts(rt.alloc(), 1, &[3], &[1, 3], &[None, Some(3), None, None]));
 }
 
-/// Whether these vertices lead to vertex 3 of a game of four.
-fn are_sources(alloc: Global, game: &Game, wanted: &[usize]) -> bool {
-    if game.count() != 4 {
+/// Whether numbers that are kept at some width are these.
+fn are_kept<W: Width>(kept: &[W], wanted: &[usize]) -> bool {
+    kept.len() == wanted.len()
+        && kept
+            .iter()
+            .zip(wanted)
+            .all(|(number, wanted)| number.number() == *wanted)
+}
+
+/// Whether these vertices lead to vertex 3 of a game of four, with numbers of a stated width.
+fn are_sources<W: Width>(alloc: Global, game: &Game, wanted: &[usize]) -> bool {
+    if game.count() != 4 || !has_room::<Game, W>(game) {
         return false;
     }
-    match Sources::of(alloc, game) {
-        Ok(sources) => sources.at(3) == wanted,
+    match Sources::<W>::of(alloc, game) {
+        Ok(sources) => are_kept(sources.at(3), wanted),
         Err(_) => false,
     }
 }
 
-/// Whether these are the places of some numbers.
-fn are_places(alloc: Global, wanted: &[usize]) -> bool {
-    match places_by_number(alloc, &[2, 0, 2, 1], 3) {
-        Ok(places) => places.as_slice() == wanted,
-        Err(_) => false,
-    }
+/// Whether these are the places of some numbers, by lists of a stated width.
+fn are_places<W: Width>(alloc: Global, wanted: &[usize]) -> Result<bool, AllocError>
+    requires { 4 ≤ W.LIMIT }
+{
+    let mut numbers = Numbers::<W>::filled(alloc, 2, 1)?;
+    numbers.push(0)?;
+    numbers.push(2)?;
+    numbers.push(1)?;
+    let places = places_by_number(alloc, &numbers, 3)?;
+    Ok(are_kept(places.part(0, places.len()), wanted))
 }
 
 #[test]
 fn lists_by_number(rt: HostRuntime) -> Result<(), Fail> {
     let named = read(rt.alloc(), FORK)?;
-    assert!(rt; are_sources(rt.alloc(), named.game(), &[1, 3]));
-    assert!(rt; are_places(rt.alloc(), &[1, 3, 0, 2]));
+    assert!(rt; are_sources::<u32>(rt.alloc(), named.game(), &[1, 3]));
+    assert!(rt; are_sources::<usize>(rt.alloc(), named.game(), &[1, 3]));
+    assert!(rt; are_places::<u32>(rt.alloc(), &[1, 3, 0, 2])?);
+    assert!(rt; are_places::<usize>(rt.alloc(), &[1, 3, 0, 2])?);
     Ok(())
 }
 
@@ -365,6 +385,31 @@ fn found_in<A: Arena>(alloc: Global, arena: &A) -> Result<Vec<Option<u64>>, Meas
     add_attracted(alloc, arena, 1, &mut found)?;
     add_won(alloc, arena, &mut found)?;
     Ok(found)
+}
+
+/// What is won of a game, and by which moves, by tables of a stated width.
+fn won_by_tables<W: Width>(alloc: Global, game: &Game) -> Result<Vec<Option<u64>>, AllocError> {
+    let mut found = Vec::new(alloc);
+    if has_room::<Game, W>(game) {
+        let mut counts = Counts::default();
+        let (won, first, second) = regions_in::<Game, W>(alloc, game, &mut counts)?;
+        add_table(&mut found, &won, &first)?;
+        add_table(&mut found, &won, &second)?;
+    }
+    Ok(found)
+}
+
+#[test]
+fn tables_of_each_width_have_the_same_answers(rt: HostRuntime) -> Result<(), Fail> {
+    let alloc = rt.alloc();
+    let two_turns: &[u8] = b"0 4 0 1,2; 1 3 1 0,3; 2 2 1 2,0; 3 1 0 3,1;";
+    for text in [FORK, LOOPS, two_turns] {
+        let named = read(alloc, text)?;
+        let narrow = won_by_tables::<u32>(alloc, named.game())?;
+        assert!(rt; narrow.len() > named.game().count());
+        assert!(rt; won_by_tables::<usize>(alloc, named.game())? == narrow);
+    }
+    Ok(())
 }
 
 #[test]

@@ -3,7 +3,8 @@
 --     header_fails, body_fails      the header, or the body behind it, stopped at its first fault
 --     ends_answers      both were read, and the text ends behind them
 --     trails_answers      both were read, and a token stands behind them
--- `reads` says of the tokens behind the version that what they mean, or the first cause in them, is the answer to the text.
+-- `reads` says of the tokens behind the version that what they mean, or the first cause in them, is the answer to the
+-- text.
 use Rattle.std.proofs.Common.{◌≡◌, ℕ, List, [], ◌∷◌, Some, Result, Ok, Err, IsErrAnd, refl, sym, ap, subst, ◌∙◌}
 use Rattle.std.proofs.lemmas.Result.{err_from_is_err_and}
 use Rattle.ps_text.specs.Answers.{Piece, Stream, Found, signs}
@@ -31,20 +32,27 @@ module _ {X : Type 0} (view : X → FileData) (text : List ℕ) where
   is_fault (Text cause offset) h = h
   is_fault OutOfMemory h = tt
 
-  pub refused_answers : (e : HoaFault) (r : Result X HoaFault) → IsRefusedAs text e → IsErrAnd r (λ y. y ≡ e) → IsFileAnswer view text r
+  pub refused_answers : (e : HoaFault) (r : Result X HoaFault) → IsRefusedAs text e → IsErrAnd r (λ y. y ≡ e) →
+      IsFileAnswer view text r
   refused_answers e r h i = exit e r (is_fault e h) i
 
-  module _ (stream : Stream Sign) (reads : (answer : Result FileData (Found HoaCause)) → PartAnswers hoa_causes file stream answer → ReadsFile text answer) where
+  module _ (stream : Stream Sign) (reads : (answer : Result FileData (Found HoaCause)) →
+      PartAnswers hoa_causes file stream answer → ReadsFile text answer) where
     stopped : (e : HoaFault) → Stops hoa_causes file stream (found_of e) → IsFaultOf text e
-    stopped (Text cause offset) s = reads _ (answers_fault laws_file stream (record { cause = cause; offset = offset }) s)
+    stopped (Text cause offset) s =
+        reads _ (answers_fault laws_file stream (record { cause = cause; offset = offset }) s)
     stopped OutOfMemory s = tt
 
-    pub header_fails : (e : HoaFault) (r : Result X HoaFault) → Stops hoa_causes header stream (found_of e) → IsErrAnd r (λ y. y ≡ e) → IsFileAnswer view text r
+    pub header_fails : (e : HoaFault) (r : Result X HoaFault) → Stops hoa_causes header stream (found_of e) →
+        IsErrAnd r (λ y. y ≡ e) → IsFileAnswer view text r
     header_fails e r s i = exit e r (stopped e (stops_first hoa_causes joint_file stream (found_of e) s)) i
 
     module _ (h : HeaderData) (mid : Stream Sign) (m : PartReads header stream h mid) where
-      pub body_fails : (e : HoaFault) (r : Result X HoaFault) → Stops hoa_causes (body h) mid (found_of e) → IsErrAnd r (λ y. y ≡ e) → IsFileAnswer view text r
-      body_fails e r s i = exit e r (stopped e (stops_behind hoa_causes joint_file m (found_of e) (stops_mapped hoa_causes (file_of h) (body h) mid (found_of e) s))) i
+      pub body_fails : (e : HoaFault) (r : Result X HoaFault) → Stops hoa_causes (body h) mid (found_of e) →
+          IsErrAnd r (λ y. y ≡ e) → IsFileAnswer view text r
+      body_fails e r s i =
+          exit e r (stopped e (stops_behind hoa_causes joint_file m (found_of e)
+          (stops_mapped hoa_causes (file_of h) (body h) mid (found_of e) s))) i
 
       module _ (b : BodyData) (new : Stream Sign) (n : PartReads (body h) mid b new) where
         whole : PartReads file stream (file_of h b) new
@@ -52,13 +60,16 @@ module _ {X : Type 0} (view : X → FileData) (text : List ℕ) where
 
         pub ends_answers : (x : X) → view x ≡ file_of h b → new.pieces ≡ [] → IsFileAnswer view text (Ok x)
         ends_answers x v e = reads _ (subst (λ z. PartAnswers hoa_causes file stream (Ok z)) (sym v)
-            (answers_ok laws_file stream (file_of h b) (subst (λ ps. IsRead file (signs stream.pieces) (file_of h b) (signs ps)) e whole.1)))
+            (answers_ok laws_file stream (file_of h b) (subst (λ ps.
+            IsRead file (signs stream.pieces) (file_of h b) (signs ps)) e whole.1)))
 
-        pub trails_answers : (p : Piece Sign) (e : HoaFault) (r : Result X HoaFault) → p ≡ next_of new → (new.pieces ≡ [] → ⊥) → e ≡ Text (refusal_of hoa_causes (Some p.sign)) p.start →
+        pub trails_answers : (p : Piece Sign) (e : HoaFault) (r : Result X HoaFault) → p ≡ next_of new →
+            (new.pieces ≡ [] → ⊥) → e ≡ Text (refusal_of hoa_causes (Some p.sign)) p.start →
             IsErrAnd r (λ y. y ≡ e) → IsFileAnswer view text r
         trails_answers p e r is some f i = exit e r (subst (IsFaultOf text) (sym f) (go new.pieces refl)) i
           where
-            go : (ps : List (Piece Sign)) → new.pieces ≡ ps → IsFaultOf text (Text (refusal_of hoa_causes (Some p.sign)) p.start)
+            go : (ps : List (Piece Sign)) → new.pieces ≡ ps → IsFaultOf text
+                (Text (refusal_of hoa_causes (Some p.sign)) p.start)
             go [] k = absurd (some k)
             go (q ∷ qs) k =
                 let same : q ≡ p = sym (is ∙ ap (λ ps. next_of (record { pieces = ps; end = new.end })) k) in

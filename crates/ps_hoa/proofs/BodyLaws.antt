@@ -1,8 +1,10 @@
 -- The laws of the body's sets, labels and edges, and how their parts are joined. proofs/StateLaws goes on with states.
---     laws_marks, laws_label_in_brackets, laws_state_label, laws_labelled_edge, laws_plain_edge, laws_edge, laws_edges      the laws
+--     laws_marks, laws_label_in_brackets, laws_state_label, laws_labelled_edge, laws_plain_edge, laws_edge, laws_edges
+--               the laws
 --     joint_braces, joint_sets      `{`, the numbers and `}`
 --     joint_bracket, joint_label      `[`, a label and `]`
---     joint_edge_label, joint_edge_target, joint_edge_marks, joint_plain_marks      the parts of an edge, from the front
+--     joint_edge_label, joint_edge_target, joint_edge_marks, joint_plain_marks      the parts of an edge, from the
+--               front
 use Rattle.std.proofs.Common.{◌≡◌, ℕ, ◌⊎◌, Bool, true, false, List, [], Option, None, Some, refl, ap, inl, inr}
 use Rattle.ps_label.specs.Expression.{Expression}
 use Rattle.ps_text.specs.Parts.{Part, NoBad, give, one, then_by, many, mapped, barred}
@@ -17,12 +19,17 @@ use Rattle.ps_hoa.specs.Operands.{nesting_limit, is_and, is_or, mark}
 use Rattle.ps_hoa.specs.Labels.{label}
 use Rattle.ps_hoa.specs.Files.{RowData}
 use Rattle.ps_hoa.specs.Header.{HeaderData, int_value, int_in, string_value, string_in, string, IsAlternating}
-use Rattle.ps_hoa.specs.Body.{IsBadState, IsBadSet, BadIn, sets_of, is_left_brace, is_right_brace, set_number, closing, sets, marks, is_left_bracket, is_right_bracket, body_scope, some_label, label_in_brackets, state_label, is_bracket, IsBadBracket, labelled_target, IsBadPlainTarget, plain_target, with_edge, labelled_edge, plain_edge, edge, edges, is_end}
+use Rattle.ps_hoa.specs.Body.{IsBadState, IsBadSet, BadIn, sets_of, is_left_brace, is_right_brace, set_number, closing}
+use Rattle.ps_hoa.specs.Body.{sets, marks, is_left_bracket, is_right_bracket, body_scope, some_label, label_in_brackets}
+use Rattle.ps_hoa.specs.Body.{state_label, is_bracket, IsBadBracket, labelled_target, IsBadPlainTarget, plain_target}
+use Rattle.ps_hoa.specs.Body.{with_edge, labelled_edge, plain_edge, edge, edges, is_end}
 use Rattle.ps_hoa.specs.Ahead.{begins_edge}
 use Rattle.ps_hoa.specs.declared.fault.HoaCause.{HoaCause}
 use Rattle.ps_hoa.specs.declared.tokens.Kind.{Kind}
-use Rattle.ps_hoa.specs.declared.tokens.Kind.TheVariants.{Int, Text, And, Or as OrSign, LeftBracket, RightBracket, LeftBrace, RightBrace, End}
-use Rattle.ps_hoa.proofs.OperandLaws.{Odd, Of, IsPlain, false_true, taken_mark, plain_odd, nothing_apart, laws_mark, only_first, laws_behind}
+use Rattle.ps_hoa.specs.declared.tokens.Kind.TheVariants.{Int, Text, And, Or as OrSign, LeftBracket, RightBracket}
+use Rattle.ps_hoa.specs.declared.tokens.Kind.TheVariants.{LeftBrace, RightBrace, End}
+use Rattle.ps_hoa.proofs.OperandLaws.{Odd, Of, IsPlain, false_true, taken_mark, plain_odd, nothing_apart, laws_mark}
+use Rattle.ps_hoa.proofs.OperandLaws.{only_first, laws_behind}
 use Rattle.ps_hoa.proofs.LabelLaws.{is_start, AndOrMore, laws_label}
 
 -- ## Kinds of signs
@@ -103,7 +110,8 @@ int_there kind text h = absurd (h refl)
 pub laws_number : (Bad : ℕ → HoaCause → Type 0) → Laws Odd (one int_in (BadIn Bad)) (Of is_int) Nothing ⊥
 laws_number Bad = weaker
     (laws_one int_in (BadIn Bad) Odd (record { kind = Int; text = [] }) _ refl
-    (λ t h o. plain_odd is_int plain_int t (first t (inl h)) o) (λ t h o. plain_odd is_int plain_int t (first t (inr h)) o))
+    (λ t h o. plain_odd is_int plain_int t (first t (inl h)) o)
+    (λ t h o. plain_odd is_int plain_int t (first t (inr h)) o))
     first (λ t h. h) (λ h. h)
   where
     first : Within (Or (Taken int_in) (BadSign (BadIn Bad))) (Of is_int)
@@ -132,7 +140,8 @@ laws_set_number count ns = laws_mapped _ (one int_in (BadIn (IsBadSet count))) (
 laws_closing : (ns : List ℕ) → Laws Odd (closing ns) (Of is_right_brace) Nothing ⊥
 laws_closing ns = laws_mapped _ (mark is_right_brace) laws_right_brace
 
-pub laws_set_numbers : (count : ℕ) (ns : List ℕ) → Laws Odd (many (set_number count) ns) (Of is_int) (Or Nothing (Of is_int)) (Unit {0})
+pub laws_set_numbers : (count : ℕ) (ns : List ℕ) → Laws Odd (many (set_number count) ns) (Of is_int)
+    (Or Nothing (Of is_int)) (Unit {0})
 laws_set_numbers count ns = laws_many (set_number count) (laws_set_number count) (nothing_apart (Of is_int)) ns
 
 int_closes : Apart (Or Nothing (Of is_int)) (Of is_right_brace)
@@ -146,8 +155,11 @@ int_closes t (inr h) k = go t.kind h k
 pub joint_sets : (count : ℕ) → Joint (many (set_number count) []) closing
 joint_sets count = joint (laws_set_numbers count []) laws_closing int_closes
 
-laws_in_braces : (count : ℕ) → Laws Odd (then_by (many (set_number count) []) closing) (Or (Of is_int) (When (Unit {0}) (Of is_right_brace))) Nothing ⊥
-laws_in_braces count = weaker (laws_then (laws_set_numbers count []) laws_closing int_closes) (λ t k. k) (only_first Nothing (Or Nothing (Of is_int))) (λ k. k.1)
+laws_in_braces : (count : ℕ) → Laws Odd (then_by (many (set_number count) []) closing)
+    (Or (Of is_int) (When (Unit {0}) (Of is_right_brace))) Nothing ⊥
+laws_in_braces count =
+    weaker (laws_then (laws_set_numbers count []) laws_closing int_closes) (λ t k. k)
+    (only_first Nothing (Or Nothing (Of is_int))) (λ k. k.1)
 
 pub joint_braces : (count : ℕ) → Joint (mark is_left_brace) (λ _. then_by (many (set_number count) []) closing)
 joint_braces count = joint laws_left_brace (λ _. laws_in_braces count) (nothing_apart _)
@@ -169,7 +181,9 @@ either_more A t (inr (inl h)) = absurd h.0
 either_more A t (inr (inr h)) = h.1
 
 pub laws_marks : (h : HeaderData) → Laws Odd (marks h) (Of is_left_brace) (Of is_left_brace) (Unit {0})
-laws_marks h = weaker (laws_either (laws_sets (sets_of h)) laws_no_sets (λ t a b. b) (λ a b. a)) (either_first _) (either_more _) (λ k. tt)
+laws_marks h =
+    weaker (laws_either (laws_sets (sets_of h)) laws_no_sets (λ t a b. b) (λ a b. a)) (either_first _)
+    (either_more _) (λ k. tt)
 
 -- ## Labels between brackets
 
@@ -186,10 +200,12 @@ label_closes t (inr h) k = go t.kind h k
     go OrSign h k = false_true k
     go kind h k = false_true h
 
-laws_after_label : (e : Expression) → Laws Odd (mapped (some_label e) (mark is_right_bracket)) (Of is_right_bracket) Nothing ⊥
+laws_after_label : (e : Expression) → Laws Odd (mapped (some_label e) (mark is_right_bracket))
+    (Of is_right_bracket) Nothing ⊥
 laws_after_label e = laws_mapped (some_label e) (mark is_right_bracket) laws_right_bracket
 
-pub joint_label : (h : HeaderData) → Joint (label (body_scope h) nesting_limit) (λ e. mapped (some_label e) (mark is_right_bracket))
+pub joint_label : (h : HeaderData) → Joint (label (body_scope h) nesting_limit)
+    (λ e. mapped (some_label e) (mark is_right_bracket))
 joint_label h = joint (laws_label (body_scope h) nesting_limit) laws_after_label label_closes
 
 pub laws_label_in_brackets : (h : HeaderData) → Laws Odd (label_in_brackets h) (Of is_start) Nothing ⊥
@@ -199,14 +215,17 @@ laws_label_in_brackets h = weaker (laws_then (laws_label (body_scope h) nesting_
 pub joint_bracket : (h : HeaderData) → Joint (mark is_left_bracket) (λ _. label_in_brackets h)
 joint_bracket h = joint laws_left_bracket (λ _. laws_label_in_brackets h) (nothing_apart _)
 
-pub laws_bracketed : (h : HeaderData) → Laws Odd (then_by (mark is_left_bracket) (λ _. label_in_brackets h)) (Of is_left_bracket) Nothing ⊥
+pub laws_bracketed : (h : HeaderData) → Laws Odd (then_by (mark is_left_bracket) (λ _. label_in_brackets h))
+    (Of is_left_bracket) Nothing ⊥
 laws_bracketed h = laws_behind is_left_bracket laws_left_bracket (laws_label_in_brackets h)
 
 pub laws_no_label : Laws Odd (give {T = Sign} {V = Option Expression} {F = HoaCause} None) Nothing Nothing (Unit {0})
 laws_no_label = laws_give Odd None
 
 pub laws_state_label : (h : HeaderData) → Laws Odd (state_label h) (Of is_left_bracket) (Of is_left_bracket) (Unit {0})
-laws_state_label h = weaker (laws_either (laws_bracketed h) laws_no_label (λ t a b. b) (λ a b. a)) (either_first _) (either_more _) (λ k. tt)
+laws_state_label h =
+    weaker (laws_either (laws_bracketed h) laws_no_label (λ t a b. b) (λ a b. a)) (either_first _)
+    (either_more _) (λ k. tt)
 
 -- ## Edges
 
@@ -218,8 +237,10 @@ target_more t (inl h) = absurd h
 target_more t (inr h) = after_target t h
 
 -- a target, which `&` may not follow
-laws_target : (Bad : ℕ → HoaCause → Type 0) → Laws Odd (barred (one int_in (BadIn Bad)) IsAlternating) (Of is_int) (Of is_and) ⊥
-laws_target Bad = weaker (laws_barred IsAlternating (laws_number Bad) (λ t b o. plain_odd is_and plain_and t (after_target t b) o))
+laws_target : (Bad : ℕ → HoaCause → Type 0) → Laws Odd (barred (one int_in (BadIn Bad)) IsAlternating)
+    (Of is_int) (Of is_and) ⊥
+laws_target Bad =
+    weaker (laws_barred IsAlternating (laws_number Bad) (λ t b o. plain_odd is_and plain_and t (after_target t b) o))
     (only_first (Of is_int) (Bar IsAlternating)) target_more (λ k. k)
 
 pub number_barred : Apart Nothing (Bar IsAlternating)
@@ -235,7 +256,8 @@ target_marked t h k = go t.kind h k
     go And h k = false_true k
     go kind h k = false_true h
 
-laws_marked : (h : HeaderData) (row : RowData) (label : Option Expression) (target : ℕ) → Laws Odd (mapped (with_edge row label target) (marks h)) (Of is_left_brace) (Of is_left_brace) (Unit {0})
+laws_marked : (h : HeaderData) (row : RowData) (label : Option Expression) (target : ℕ) →
+    Laws Odd (mapped (with_edge row label target) (marks h)) (Of is_left_brace) (Of is_left_brace) (Unit {0})
 laws_marked h row label target = laws_mapped (with_edge row label target) (marks h) (laws_marks h)
 
 brace_lengthens : Within (Or (Of is_left_brace) (When (Unit {0}) (Of is_and))) (Of lengthens_edge)
@@ -252,30 +274,39 @@ module _ (h : HeaderData) (row : RowData) (label : Option Expression) where
   abbrev pub from_target : Part Sign ℕ HoaCause → Part Sign RowData HoaCause
   from_target target = then_by target (λ n. mapped (with_edge row label n) (marks h))
 
-  pub joint_target_marks : (Bad : ℕ → HoaCause → Type 0) → Joint (barred (one int_in (BadIn Bad)) IsAlternating) (λ n. mapped (with_edge row label n) (marks h))
+  pub joint_target_marks : (Bad : ℕ → HoaCause → Type 0) → Joint (barred (one int_in (BadIn Bad)) IsAlternating)
+      (λ n. mapped (with_edge row label n) (marks h))
   joint_target_marks Bad = joint (laws_target Bad) (laws_marked h row label) target_marked
 
-  pub laws_from_target : (Bad : ℕ → HoaCause → Type 0) → Laws Odd (from_target (barred (one int_in (BadIn Bad)) IsAlternating)) (Of is_int) (Of lengthens_edge) ⊥
-  laws_from_target Bad = weaker (laws_then (laws_target Bad) (laws_marked h row label) target_marked) (only_first (Of is_int) (Of is_left_brace)) brace_lengthens (λ k. k.0)
+  pub laws_from_target : (Bad : ℕ → HoaCause → Type 0) → Laws Odd
+      (from_target (barred (one int_in (BadIn Bad)) IsAlternating)) (Of is_int) (Of lengthens_edge) ⊥
+  laws_from_target Bad =
+      weaker (laws_then (laws_target Bad) (laws_marked h row label) target_marked)
+      (only_first (Of is_int) (Of is_left_brace)) brace_lengthens (λ k. k.0)
 
 module _ (h : HeaderData) (before : ℕ) (row : RowData) where
   abbrev pub from_edge_label : Part Sign RowData HoaCause
   from_edge_label = then_by (label_in_brackets h) (λ label. from_target h row label (labelled_target h))
 
-  pub joint_edge_marks : (label : Option Expression) → Joint (labelled_target h) (λ n. mapped (with_edge row label n) (marks h))
+  pub joint_edge_marks : (label : Option Expression) → Joint (labelled_target h)
+      (λ n. mapped (with_edge row label n) (marks h))
   joint_edge_marks label = joint_target_marks h row label (IsBadState h.states)
 
   pub joint_edge_target : Joint (label_in_brackets h) (λ label. from_target h row label (labelled_target h))
-  joint_edge_target = joint (laws_label_in_brackets h) (λ label. laws_from_target h row label (IsBadState h.states)) (nothing_apart _)
+  joint_edge_target =
+      joint (laws_label_in_brackets h) (λ label. laws_from_target h row label (IsBadState h.states)) (nothing_apart _)
 
   laws_from_edge_label : Laws Odd from_edge_label (Of is_start) (Of lengthens_edge) ⊥
-  laws_from_edge_label = weaker (laws_then (laws_label_in_brackets h) (λ label. laws_from_target h row label (IsBadState h.states)) (nothing_apart _))
+  laws_from_edge_label =
+      weaker (laws_then (laws_label_in_brackets h) (λ label. laws_from_target h row label (IsBadState h.states))
+      (nothing_apart _))
       (only_first _ _) (only_first _ Nothing) (λ k. k.0)
 
   laws_edge_bracket : Laws Odd (one is_bracket (IsBadBracket before row)) (Of is_left_bracket) Nothing ⊥
   laws_edge_bracket = weaker
       (laws_one is_bracket (IsBadBracket before row) Odd (record { kind = LeftBracket; text = [] }) tt refl
-      (λ t k o. plain_odd is_left_bracket plain_left_bracket t (first t (inl k)) o) (λ t k o. plain_odd is_left_bracket plain_left_bracket t (first t (inr k)) o))
+      (λ t k o. plain_odd is_left_bracket plain_left_bracket t (first t (inl k)) o)
+      (λ t k o. plain_odd is_left_bracket plain_left_bracket t (first t (inr k)) o))
       first (λ t k. k) (λ k. k)
     where
       first : Within (Or (Taken is_bracket) (BadSign (IsBadBracket before row))) (Of is_left_bracket)
@@ -286,7 +317,9 @@ module _ (h : HeaderData) (before : ℕ) (row : RowData) where
   joint_edge_label = joint laws_edge_bracket (λ _. laws_from_edge_label) (nothing_apart _)
 
   pub laws_labelled_edge : Laws Odd (labelled_edge h before row) (Of is_left_bracket) (Of lengthens_edge) ⊥
-  laws_labelled_edge = weaker (laws_then laws_edge_bracket (λ _. laws_from_edge_label) (nothing_apart _)) (only_first _ _) (only_first _ Nothing) (λ k. k.0)
+  laws_labelled_edge =
+      weaker (laws_then laws_edge_bracket (λ _. laws_from_edge_label) (nothing_apart _)) (only_first _ _)
+      (only_first _ Nothing) (λ k. k.0)
 
   pub joint_plain_marks : Joint (plain_target h before row) (λ n. mapped (with_edge row None n) (marks h))
   joint_plain_marks = joint_target_marks h row None (IsBadPlainTarget h.states before row)
@@ -317,7 +350,8 @@ module _ (h : HeaderData) (before : ℕ) (row : RowData) where
   edge_more A B C t (inr (inr k)) = absurd k.0
 
   pub laws_edge : Laws Odd (edge h before row) (Of begins_edge) (Of lengthens_edge) ⊥
-  laws_edge = weaker (laws_either laws_labelled_edge laws_plain_edge bracket_int (λ a b. a)) edge_first (edge_more _ _ _) none
+  laws_edge =
+      weaker (laws_either laws_labelled_edge laws_plain_edge bracket_int (λ a b. a)) edge_first (edge_more _ _ _) none
     where
       none : ⊥ ⊎ ⊥ → ⊥
       none (inl k) = k
@@ -331,5 +365,6 @@ edge_apart t h k = go t.kind h k
     go LeftBrace h k = false_true k
     go kind h k = false_true h
 
-pub laws_edges : (h : HeaderData) (before : ℕ) (row : RowData) → Laws Odd (edges h before row) (Of begins_edge) (Or (Of lengthens_edge) (Of begins_edge)) (Unit {0})
+pub laws_edges : (h : HeaderData) (before : ℕ) (row : RowData) →
+    Laws Odd (edges h before row) (Of begins_edge) (Or (Of lengthens_edge) (Of begins_edge)) (Unit {0})
 laws_edges h before row = laws_many (edge h before) (laws_edge h before) edge_apart row

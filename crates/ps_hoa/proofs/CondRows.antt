@@ -2,7 +2,8 @@
 use Rattle.std.proofs.Common.{◌≡◌, List, map, refl, ap, ◌∙◌}
 use Rattle.std.specs.declared.vec.Vec.{Vec}
 use Rattle.std.specs.declared.alloc.Global.{Global}
-use Rattle.ps_hoa.specs.declared.condition.Cond.{Cond, All, Any, Row_of-Cond, end_of-Cond, more_of-Cond, items-the_row-Cond, items_hidden-the_row-Cond-0}
+use Rattle.ps_hoa.specs.declared.condition.Cond.{Cond, All, Any, Row_of-Cond, end_of-Cond, more_of-Cond}
+use Rattle.ps_hoa.specs.declared.condition.Cond.{items-the_row-Cond, items_hidden-the_row-Cond-0}
 use Rattle.ps_hoa.specs.declared.condition.Cond.TheBlock.{hidden-the_row-Cond-0}
 use Rattle.ps_hoa.specs.Conditions.{more, all_hold, any_holds, row_of}
 use Rattle.ps_hoa.specs.Values.{condition_of, conditions_of}
@@ -12,7 +13,11 @@ conditions_of-items end_of-Cond = refl
 conditions_of-items (more_of-Cond l k) = ap (more (condition_of l)) (conditions_of-items k)
 
 pub condition_of-All : (v : Vec Cond Global) → condition_of (All v) ≡ all_hold (row_of (map condition_of v.items))
-condition_of-All v = ap all_hold (conditions_of-items (hidden-the_row-Cond-0 v) ∙ ap (λ (ls : List Cond). row_of (map condition_of ls)) (items_hidden-the_row-Cond-0 v))
+condition_of-All v =
+    ap all_hold (conditions_of-items (hidden-the_row-Cond-0 v)
+    ∙ ap (λ (ls : List Cond). row_of (map condition_of ls)) (items_hidden-the_row-Cond-0 v))
 
 pub condition_of-Any : (v : Vec Cond Global) → condition_of (Any v) ≡ any_holds (row_of (map condition_of v.items))
-condition_of-Any v = ap any_holds (conditions_of-items (hidden-the_row-Cond-0 v) ∙ ap (λ (ls : List Cond). row_of (map condition_of ls)) (items_hidden-the_row-Cond-0 v))
+condition_of-Any v =
+    ap any_holds (conditions_of-items (hidden-the_row-Cond-0 v)
+    ∙ ap (λ (ls : List Cond). row_of (map condition_of ls)) (items_hidden-the_row-Cond-0 v))

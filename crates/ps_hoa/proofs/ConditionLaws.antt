@@ -1,5 +1,6 @@
 -- The laws of acceptance conditions, and which form of an operand stands by its first sign.
-use Rattle.std.proofs.Common.{◌≡◌, ℕ, zero, suc, Bool, true, false, cond, List, [], codes, None, Some, refl, subst, inl, inr, arith}
+use Rattle.std.proofs.Common.{◌≡◌, ℕ, zero, suc, Bool, true, false, cond, List, [], codes, None, Some, refl, subst, inl}
+use Rattle.std.proofs.Common.{inr, arith}
 use Rattle.std.specs.Str.{bytes_eq}
 use Rattle.std.proofs.lemmas.Slice.Eq.{bytes_eq-Decides}
 use Rattle.ps_text.specs.Parts.{Part, NoBad, one, then_by}
@@ -9,12 +10,16 @@ use Rattle.ps_text.proofs.Simple.{Taken, BadSign, none_is_some, laws_one, laws_t
 use Rattle.ps_text.proofs.Covered.{laws_either}
 use Rattle.ps_hoa.specs.Tokens.{Sign}
 use Rattle.ps_hoa.specs.Operands.{is_not, is_left, is_right, mark}
-use Rattle.ps_hoa.specs.Conditions.{SetData, Condition, constant_of, constant_value, constant_in, often_value, often_in, visits, set_value, set_in, IsBadSet, BadSet, set, any_set, closed_set, often_or_not, visit, IsBadStart, BadStart, atom, together, operand, condition}
+use Rattle.ps_hoa.specs.Conditions.{SetData, Condition, constant_of, constant_value, constant_in, often_value, often_in}
+use Rattle.ps_hoa.specs.Conditions.{visits, set_value, set_in, IsBadSet, BadSet, set, any_set, closed_set, often_or_not}
+use Rattle.ps_hoa.specs.Conditions.{visit, IsBadStart, BadStart, atom, together, operand, condition}
 use Rattle.ps_hoa.specs.declared.fault.HoaCause.{HoaCause}
 use Rattle.ps_hoa.specs.declared.tokens.Kind.{Kind}
 use Rattle.ps_hoa.specs.declared.tokens.Kind.TheVariants.{Word, Int, Not, LeftParen}
-use Rattle.ps_hoa.proofs.OperandLaws.{Odd, Of, false_true, nothing_apart, plain_odd, only_first, laws_behind, laws_closed}
-use Rattle.ps_hoa.proofs.LabelLaws.{is_start, plain_start, laws_not, laws_left, laws_right, AndOrMore, laws_rows, laws_nested, no_more, no_null}
+use Rattle.ps_hoa.proofs.OperandLaws.{Odd, Of, false_true, nothing_apart, plain_odd, only_first, laws_behind}
+use Rattle.ps_hoa.proofs.OperandLaws.{laws_closed}
+use Rattle.ps_hoa.proofs.LabelLaws.{is_start, plain_start, laws_not, laws_left, laws_right, AndOrMore, laws_rows}
+use Rattle.ps_hoa.proofs.LabelLaws.{laws_nested, no_more, no_null}
 
 abbrev pub is_word : Kind → Bool
 is_word Word = true
@@ -32,7 +37,8 @@ word_often : (kind : Kind) (text : List ℕ) (v : Bool) → often_value kind tex
 word_often Word text v e = refl
 word_often kind text v e = absurd (none_is_some v e)
 
-int_set : (complemented : Bool) (kind : Kind) (text : List ℕ) (v : SetData) → set_value complemented kind text ≡ Some v → is_int kind ≡ true
+int_set : (complemented : Bool) (kind : Kind) (text : List ℕ) (v : SetData) →
+    set_value complemented kind text ≡ Some v → is_int kind ≡ true
 int_set complemented Int text v e = refl
 int_set complemented kind text v e = absurd (none_is_some v e)
 
@@ -64,7 +70,8 @@ left_start kind e = absurd (false_true e)
 
 pub laws_set : (complemented : Bool) → Laws Odd (set complemented) (Of is_int) Nothing ⊥
 laws_set complemented = weaker (laws_one (set_in complemented) BadSet Odd (record { kind = Int; text = [] }) _ refl
-    (λ t h o. plain_odd is_start plain_start t (int_start t.kind (first t (inl h))) o) (λ t h o. plain_odd is_start plain_start t (int_start t.kind (first t (inr h))) o))
+    (λ t h o. plain_odd is_start plain_start t (int_start t.kind (first t (inl h))) o)
+    (λ t h o. plain_odd is_start plain_start t (int_start t.kind (first t (inr h))) o))
     first (λ t h. h) (λ h. h)
   where
     first : Within (Or (Taken (set_in complemented)) (BadSign BadSet)) (Of is_int)
@@ -82,7 +89,9 @@ pub laws_complement : Laws Odd (then_by (mark is_not) (λ _. set true)) (Of is_n
 laws_complement = laws_behind is_not laws_not (laws_set true)
 
 pub laws_any_set : Laws Odd any_set (Or (Of is_not) (Of is_int)) Nothing ⊥
-laws_any_set = weaker (laws_either laws_complement (laws_set false) not_int (λ h k. h)) (λ t h. h) (no_more (Of is_int) (Of is_not)) no_null
+laws_any_set =
+    weaker (laws_either laws_complement (laws_set false) not_int (λ h k. h)) (λ t h. h)
+    (no_more (Of is_int) (Of is_not)) no_null
 
 -- ## Inf and Fin
 
@@ -95,8 +104,10 @@ laws_often = weaker (laws_one often_in NoBad Odd (record { kind = Word; text = c
     first t (inl h) = h
     first t (inr h) = absurd h.1
 
-pub laws_closed_set : (often : Bool) → Laws Odd (then_by any_set (closed_set often)) (Or (Of is_not) (Of is_int)) Nothing ⊥
-laws_closed_set often = weaker (laws_then laws_any_set (λ s. laws_closed laws_right (visits often s)) (nothing_apart (Of is_right)))
+pub laws_closed_set : (often : Bool) → Laws Odd (then_by any_set (closed_set often))
+    (Or (Of is_not) (Of is_int)) Nothing ⊥
+laws_closed_set often =
+    weaker (laws_then laws_any_set (λ s. laws_closed laws_right (visits often s)) (nothing_apart (Of is_right)))
     (only_first (Or (Of is_not) (Of is_int)) (Of is_right)) (only_first Nothing Nothing) (λ h. h.0)
 
 pub joint_closed_set : (often : Bool) → Joint any_set (closed_set often)
@@ -112,7 +123,9 @@ pub joint_visit : Joint often_or_not behind_often
 joint_visit = joint laws_often laws_behind_often (nothing_apart (Of is_left))
 
 pub laws_visit : Laws Odd visit (Taken often_in) Nothing ⊥
-laws_visit = weaker (laws_then laws_often laws_behind_often (nothing_apart (Of is_left))) (only_first (Taken often_in) (Of is_left)) (only_first Nothing Nothing) (λ h. h.0)
+laws_visit =
+    weaker (laws_then laws_often laws_behind_often (nothing_apart (Of is_left)))
+    (only_first (Taken often_in) (Of is_left)) (only_first Nothing Nothing) (λ h. h.0)
 
 -- ## Operands
 
@@ -129,13 +142,17 @@ constant_often t h k = go t.kind t.text h.0 k.0 h.1 k.1
     no_often_f : (b : Bool) → often_value Word (codes "f") ≡ Some b → ⊥
     no_often_f b e = none_is_some b e
 
-    words : (text : List ℕ) (c : Condition) (b : Bool) (is_t is_f : Bool) → bytes_eq text (codes "t") ≡ is_t → bytes_eq text (codes "f") ≡ is_f →
+    words : (text : List ℕ) (c : Condition) (b : Bool) (is_t is_f : Bool) → bytes_eq text (codes "t") ≡ is_t →
+        bytes_eq text (codes "f") ≡ is_f →
         constant_of (cond is_t (Some true) (cond is_f (Some false) None)) ≡ Some c → often_value Word text ≡ Some b → ⊥
-    words text c b true is_f p q h k = no_often b (subst (λ z. often_value Word z ≡ Some b) (same_bytes text (codes "t") p) k)
-    words text c b false true p q h k = no_often_f b (subst (λ z. often_value Word z ≡ Some b) (same_bytes text (codes "f") q) k)
+    words text c b true is_f p q h k =
+        no_often b (subst (λ z. often_value Word z ≡ Some b) (same_bytes text (codes "t") p) k)
+    words text c b false true p q h k =
+        no_often_f b (subst (λ z. often_value Word z ≡ Some b) (same_bytes text (codes "f") q) k)
     words text c b false false p q h k = none_is_some c h
 
-    go : (kind : Kind) (text : List ℕ) (c : Condition) (b : Bool) → constant_value kind text ≡ Some c → often_value kind text ≡ Some b → ⊥
+    go : (kind : Kind) (text : List ℕ) (c : Condition) (b : Bool) → constant_value kind text ≡ Some c →
+        often_value kind text ≡ Some b → ⊥
     go Word text c b h k = words text c b (bytes_eq text (codes "t")) (bytes_eq text (codes "f")) refl refl h k
     go kind text c b h k = none_is_some c h
 
@@ -156,7 +173,9 @@ atom_often room t (inr h) k = apart t.kind (left_bad room t.kind h.0 h.1) (word_
     apart kind h k = false_true h
 
 pub laws_atom : (room : ℕ) → Laws Odd (atom room) (Or (FirstAtom room) (Taken often_in)) Nothing ⊥
-laws_atom room = weaker (laws_either (laws_constant room) laws_visit (atom_often room) (λ h k. h)) (λ t h. h) (no_more (Taken often_in) (FirstAtom room)) no_null
+laws_atom room =
+    weaker (laws_either (laws_constant room) laws_visit (atom_often room) (λ h k. h)) (λ t h. h)
+    (no_more (Taken often_in) (FirstAtom room)) no_null
 
 first_atom : (room : ℕ) → Within (Or (FirstAtom room) (Taken often_in)) (Of is_start)
 first_atom room t (inl (inl h)) = word_start t.kind (word_constant t.kind t.text h.0 h.1)
@@ -185,11 +204,13 @@ first_operand t (inr h) = left_start t.kind h
 pub laws_operand : (room : ℕ) → Laws Odd (operand room) (Of is_start) Nothing ⊥
 unfolding operand
 laws_operand zero = weaker (laws_atom 0) (first_atom 0) (λ t h. h) (λ h. h)
-laws_operand (suc room) = weaker (laws_either (laws_word room) (laws_nested (operand room) together (laws_operand room)) word_left (λ h k. h))
+laws_operand (suc room) =
+    weaker (laws_either (laws_word room) (laws_nested (operand room) together (laws_operand room)) word_left (λ h k. h))
     first_operand (no_more (Of is_left) (Of is_word)) no_null
 
 pub laws_condition : (room : ℕ) → Laws Odd (condition room) (Of is_start) AndOrMore ⊥
 laws_condition room = laws_rows (operand room) together (laws_operand room)
 
-pub one_condition : (room : ℕ) (text : List Sign) (v w : Condition) → (condition room).IsText text v → (condition room).IsText text w → v ≡ w
+pub one_condition : (room : ℕ) (text : List Sign) (v w : Condition) → (condition room).IsText text v →
+    (condition room).IsText text w → v ≡ w
 one_condition room = (laws_condition room).one_value

@@ -14,7 +14,9 @@ nat_eq_not a b e = go (nat_eq b a) refl
   where
     go : (t : Bool) → nat_eq b a ≡ t → nat_eq b a ≡ false
     go false h = h
-    go true h = absurd (let x : b ≡ a = eqb-true b a h in let y : nat_eq a b ≡ true = eq-eqb a b (sym x) in false_true (sym e ∙ y))
+    go true h =
+        absurd (let x : b ≡ a = eqb-true b a h in let y : nat_eq a b ≡ true = eq-eqb a b (sym x) in
+        false_true (sym e ∙ y))
 
 pub different_push : (ns : List ℕ) (n : ℕ) → AreDifferent ns → is_among n ns ≡ false → AreDifferent (ns ++ n ∷ [])
 different_push [] n a e = (refl, tt)
@@ -24,12 +26,14 @@ different_push (m ∷ ns) n a e = go (nat_eq n m) refl e (different_push ns n a.
     apart [] h k = ap (λ t. cond t true false) k
     apart (x ∷ ks) h k = at (nat_eq m x) h (apart ks)
       where
-        at : (t : Bool) → cond t true (is_among m ks) ≡ false → (is_among m ks ≡ false → nat_eq m n ≡ false → is_among m (ks ++ n ∷ []) ≡ false) →
+        at : (t : Bool) → cond t true (is_among m ks) ≡ false → (is_among m ks ≡ false → nat_eq m n ≡ false →
+            is_among m (ks ++ n ∷ []) ≡ false) →
             cond t true (is_among m (ks ++ n ∷ [])) ≡ false
         at true h more = h
         at false h more = more h k
 
-    go : (t : Bool) → nat_eq n m ≡ t → cond t true (is_among n ns) ≡ false → (is_among n ns ≡ false → AreDifferent (ns ++ n ∷ [])) → AreDifferent (m ∷ ns ++ n ∷ [])
+    go : (t : Bool) → nat_eq n m ≡ t → cond t true (is_among n ns) ≡ false →
+        (is_among n ns ≡ false → AreDifferent (ns ++ n ∷ [])) → AreDifferent (m ∷ ns ++ n ∷ [])
     go true h k more = absurd (false_true (sym k))
     go false h k more = (apart ns a.0 (nat_eq_not n m h), more k)
 

@@ -16,7 +16,12 @@ use Rattle.ps_hoa.specs.Causes.{is_unknown_capital}
 use Rattle.ps_hoa.specs.Operands.{number_limit, nesting_limit, is_and, is_or}
 use Rattle.ps_hoa.specs.Labels.{label}
 use Rattle.ps_hoa.specs.Conditions.{condition}
-use Rattle.ps_hoa.specs.Header.{HeaderData, no_items, state_limit, proposition_limit, set_limit, name_value, item_name, IsAbove, int, string, with_states, states_item, IsSecondStart, IsAlternating, with_start, start_item, proposition_name, with_names, names_item, header_scope, with_alias, alias_item, with_acceptance, acceptance_item, index, with_controllable, controllable_item, unchanged, tool_item, name_item, other_value, read_over_value, read_over, other_item, form_of, item, body_value, IsBadBody, body_mark, header}
+use Rattle.ps_hoa.specs.Header.{HeaderData, no_items, state_limit, proposition_limit, set_limit, name_value, item_name}
+use Rattle.ps_hoa.specs.Header.{IsAbove, int, string, with_states, states_item, IsSecondStart, IsAlternating}
+use Rattle.ps_hoa.specs.Header.{with_start, start_item, proposition_name, with_names, names_item, header_scope}
+use Rattle.ps_hoa.specs.Header.{with_alias, alias_item, with_acceptance, acceptance_item, index, with_controllable}
+use Rattle.ps_hoa.specs.Header.{controllable_item, unchanged, tool_item, name_item, other_value, read_over_value}
+use Rattle.ps_hoa.specs.Header.{read_over, other_item, form_of, item, body_value, IsBadBody, body_mark, header}
 use Rattle.ps_hoa.specs.ItemNames as items
 use Rattle.ps_hoa.specs.ItemNames.{ItemName}
 use Rattle.ps_hoa.specs.Items.{item_names, item_among, item_at}
@@ -27,7 +32,10 @@ use Rattle.ps_hoa.proofs.OperandLaws.{Odd, Of, false_true, plain_odd, nothing_ap
 use Rattle.ps_hoa.proofs.LabelLaws.{is_start, AndOrMore, laws_label}
 use Rattle.ps_hoa.proofs.ConditionLaws.{is_int, laws_condition}
 use Rattle.ps_hoa.proofs.ItemNames.{StartsWith, begins}
-use Rattle.ps_hoa.proofs.SignLaws.{is_string, is_alias, is_body, is_value, is_argument, plain_body, plain_value, plain_and, laws_sign, laws_behind_sign, joint_behind_sign, Named, Other, named_there, plain_named, plain_other, laws_name, above_int, laws_int, laws_string, laws_proposition_name, new_alias, laws_new_alias}
+use Rattle.ps_hoa.proofs.SignLaws.{is_string, is_alias, is_body, is_value, is_argument, plain_body, plain_value}
+use Rattle.ps_hoa.proofs.SignLaws.{plain_and, laws_sign, laws_behind_sign, joint_behind_sign, Named, Other, named_there}
+use Rattle.ps_hoa.proofs.SignLaws.{plain_named, plain_other, laws_name, above_int, laws_int, laws_string}
+use Rattle.ps_hoa.proofs.SignLaws.{laws_proposition_name, new_alias, laws_new_alias}
 
 -- ## Items
 
@@ -68,7 +76,8 @@ abbrev pub ItemMore : Sign → Type 0
 ItemMore = Of is_argument
 
 -- a name and then a part, of which only the signs with which an item goes on matter
-behind_name : {V : Type 0} {P : Part Sign (Unit {0}) HoaCause} {Q : Part Sign V HoaCause} {F1 F2 M2 : Sign → Type 0} {N2 : Type 0} →
+behind_name : {V : Type 0} {P : Part Sign (Unit {0}) HoaCause} {Q : Part Sign V HoaCause} {F1 F2 M2 : Sign → Type 0}
+    {N2 : Type 0} →
     Laws Odd P F1 Nothing ⊥ → Laws Odd Q F2 M2 N2 → Within M2 ItemMore → Laws Odd (then_by P (λ _. Q)) F1 ItemMore ⊥
 behind_name l r w = weaker (laws_behind_sign l (λ _. r)) (λ t h. h) w (λ h. h)
 
@@ -120,10 +129,15 @@ only_later A t (inr h) = h
 
 -- `States:`
 pub laws_states : (h : HeaderData) → Laws Odd (states_item h) (Named (codes "States:")) ItemMore ⊥
-laws_states h = behind_name (laws_name (codes "States:") known_states) (laws_mapped (with_states h) (int state_limit) (laws_int state_limit)) (λ t k. absurd k)
+laws_states h =
+    behind_name (laws_name (codes "States:") known_states) (laws_mapped (with_states h) (int state_limit)
+    (laws_int state_limit)) (λ t k. absurd k)
 
-pub joint_states : (h : HeaderData) → Joint (item_name (codes "States:")) (λ _. mapped (with_states h) (int state_limit))
-joint_states h = joint_behind_sign (laws_name (codes "States:") known_states) (λ _. laws_mapped (with_states h) (int state_limit) (laws_int state_limit))
+pub joint_states : (h : HeaderData) → Joint (item_name (codes "States:"))
+    (λ _. mapped (with_states h) (int state_limit))
+joint_states h =
+    joint_behind_sign (laws_name (codes "States:") known_states)
+    (λ _. laws_mapped (with_states h) (int state_limit) (laws_int state_limit))
 
 -- `Start:`
 after_start : Within (Or Nothing (Bar IsAlternating)) (Of is_and)
@@ -131,44 +145,63 @@ after_start t (inl h) = absurd h
 after_start t (inr h) = ap is_and h.2.0
 
 pub laws_start_state : Laws Odd (barred (int number_limit) IsAlternating) (Of is_int) (Of is_and) ⊥
-laws_start_state = weaker (laws_barred IsAlternating (laws_int number_limit) (λ t b o. plain_odd is_and plain_and t (ap is_and b.2.0) o))
+laws_start_state =
+    weaker (laws_barred IsAlternating (laws_int number_limit) (λ t b o.
+    plain_odd is_and plain_and t (ap is_and b.2.0) o))
     (only_first (Of is_int) (Bar IsAlternating)) after_start (λ h. h)
 
 abbrev pub start_name : HeaderData → Part Sign (Unit {0}) HoaCause
 start_name h = one (λ s. name_value (codes "Start:") s.kind s.text) (IsSecondStart h)
 
 pub laws_start_name : (h : HeaderData) → Laws Odd (start_name h) (Named (codes "Start:")) Nothing ⊥
-laws_start_name h = weaker (laws_one (λ s. name_value (codes "Start:") s.kind s.text) (IsSecondStart h) Odd (record { kind = Header; text = codes "Start:" }) tt refl
-    (λ t k o. plain_named (codes "Start:") known_start t k.1 o) (λ t k o. plain_named (codes "Start:") known_start t (bad t k) o)) first (λ t k. k) (λ k. k)
+laws_start_name h =
+    weaker (laws_one (λ s. name_value (codes "Start:") s.kind s.text) (IsSecondStart h) Odd
+    (record { kind = Header; text = codes "Start:" }) tt refl
+    (λ t k o. plain_named (codes "Start:") known_start t k.1 o)
+    (λ t k o. plain_named (codes "Start:") known_start t (bad t k) o)) first (λ t k. k) (λ k. k)
   where
     bad : Within (BadSign (IsSecondStart h)) (Named (codes "Start:"))
     bad t k = named_there (codes "Start:") t.kind t.text k.1.0
 
-    first : Within (Or (Taken (λ (s : Sign). name_value (codes "Start:") s.kind s.text)) (BadSign (IsSecondStart h))) (Named (codes "Start:"))
+    first : Within (Or (Taken (λ (s : Sign). name_value (codes "Start:") s.kind s.text)) (BadSign (IsSecondStart h)))
+        (Named (codes "Start:"))
     first t (inl k) = k.1
     first t (inr k) = bad t k
 
 pub laws_start : (h : HeaderData) → Laws Odd (start_item h) (Named (codes "Start:")) ItemMore ⊥
-laws_start h = behind_name (laws_start_name h) (laws_mapped (with_start h) (barred (int number_limit) IsAlternating) laws_start_state) and_argument
+laws_start h =
+    behind_name (laws_start_name h) (laws_mapped (with_start h) (barred (int number_limit) IsAlternating)
+    laws_start_state) and_argument
 
-pub joint_start : (h : HeaderData) → Joint (start_name h) (λ _. mapped (with_start h) (barred (int number_limit) IsAlternating))
-joint_start h = joint_behind_sign (laws_start_name h) (λ _. laws_mapped (with_start h) (barred (int number_limit) IsAlternating) laws_start_state)
+pub joint_start : (h : HeaderData) → Joint (start_name h) (λ _.
+    mapped (with_start h) (barred (int number_limit) IsAlternating))
+joint_start h =
+    joint_behind_sign (laws_start_name h) (λ _. laws_mapped (with_start h) (barred (int number_limit) IsAlternating)
+    laws_start_state)
 
 -- `AP:`
-pub laws_propositions : (n : ℕ) → Laws Odd (times n proposition_name []) (Of is_string) (Or Nothing (Of is_string)) (Unit {0})
+pub laws_propositions : (n : ℕ) → Laws Odd (times n proposition_name []) (Of is_string)
+    (Or Nothing (Of is_string)) (Unit {0})
 laws_propositions n = laws_times proposition_name laws_proposition_name (nothing_apart (Of is_string)) n []
 
 abbrev pub counted_names : HeaderData → Part Sign HeaderData HoaCause
 counted_names h = then_by (int proposition_limit) (λ n. mapped (with_names h) (times n proposition_name []))
 
 laws_counted_names : (h : HeaderData) → Laws Odd (counted_names h) (Of is_int) (Or Nothing (Of is_string)) ⊥
-laws_counted_names h = laws_behind_sign (laws_int proposition_limit) (λ n. laws_mapped (with_names h) (times n proposition_name []) (laws_propositions n))
+laws_counted_names h =
+    laws_behind_sign (laws_int proposition_limit) (λ n. laws_mapped (with_names h) (times n proposition_name [])
+    (laws_propositions n))
 
-pub joint_counted_names : (h : HeaderData) → Joint (int proposition_limit) (λ n. mapped (with_names h) (times n proposition_name []))
-joint_counted_names h = joint_behind_sign (laws_int proposition_limit) (λ n. laws_mapped (with_names h) (times n proposition_name []) (laws_propositions n))
+pub joint_counted_names : (h : HeaderData) → Joint (int proposition_limit)
+    (λ n. mapped (with_names h) (times n proposition_name []))
+joint_counted_names h =
+    joint_behind_sign (laws_int proposition_limit) (λ n. laws_mapped (with_names h) (times n proposition_name [])
+    (laws_propositions n))
 
 pub laws_names : (h : HeaderData) → Laws Odd (names_item h) (Named (codes "AP:")) ItemMore ⊥
-laws_names h = behind_name (laws_name (codes "AP:") known_names) (laws_counted_names h) (λ t k. string_argument t (only_later (Of is_string) t k))
+laws_names h =
+    behind_name (laws_name (codes "AP:") known_names) (laws_counted_names h)
+    (λ t k. string_argument t (only_later (Of is_string) t k))
 
 pub joint_names : (h : HeaderData) → Joint (item_name (codes "AP:")) (λ _. counted_names h)
 joint_names h = joint_behind_sign (laws_name (codes "AP:") known_names) (λ _. laws_counted_names h)
@@ -177,13 +210,16 @@ joint_names h = joint_behind_sign (laws_name (codes "AP:") known_names) (λ _. l
 abbrev pub named_label : HeaderData → Part Sign HeaderData HoaCause
 named_label h = then_by (new_alias h) (λ name. mapped (with_alias h name) (label (header_scope h) nesting_limit))
 
-laws_alias_label : (h : HeaderData) (name : List ℕ) → Laws Odd (mapped (with_alias h name) (label (header_scope h) nesting_limit)) (Of is_start) AndOrMore ⊥
-laws_alias_label h name = laws_mapped (with_alias h name) (label (header_scope h) nesting_limit) (laws_label (header_scope h) nesting_limit)
+laws_alias_label : (h : HeaderData) (name : List ℕ) → Laws Odd
+    (mapped (with_alias h name) (label (header_scope h) nesting_limit)) (Of is_start) AndOrMore ⊥
+laws_alias_label h name =
+    laws_mapped (with_alias h name) (label (header_scope h) nesting_limit) (laws_label (header_scope h) nesting_limit)
 
 laws_named_label : (h : HeaderData) → Laws Odd (named_label h) (Of is_alias) AndOrMore ⊥
 laws_named_label h = laws_behind_sign (laws_new_alias h) (laws_alias_label h)
 
-pub joint_named_label : (h : HeaderData) → Joint (new_alias h) (λ name. mapped (with_alias h name) (label (header_scope h) nesting_limit))
+pub joint_named_label : (h : HeaderData) → Joint (new_alias h)
+    (λ name. mapped (with_alias h name) (label (header_scope h) nesting_limit))
 joint_named_label h = joint_behind_sign (laws_new_alias h) (laws_alias_label h)
 
 pub laws_alias : (h : HeaderData) → Laws Odd (alias_item h) (Named (codes "Alias:")) ItemMore ⊥
@@ -196,20 +232,25 @@ joint_alias h = joint_behind_sign (laws_name (codes "Alias:") known_alias) (λ _
 abbrev pub counted_condition : HeaderData → Part Sign HeaderData HoaCause
 counted_condition h = then_by (int set_limit) (λ n. mapped (with_acceptance h n) (condition nesting_limit))
 
-laws_acceptance_condition : (h : HeaderData) (n : ℕ) → Laws Odd (mapped (with_acceptance h n) (condition nesting_limit)) (Of is_start) AndOrMore ⊥
-laws_acceptance_condition h n = laws_mapped (with_acceptance h n) (condition nesting_limit) (laws_condition nesting_limit)
+laws_acceptance_condition : (h : HeaderData) (n : ℕ) → Laws Odd (mapped (with_acceptance h n) (condition nesting_limit))
+    (Of is_start) AndOrMore ⊥
+laws_acceptance_condition h n =
+    laws_mapped (with_acceptance h n) (condition nesting_limit) (laws_condition nesting_limit)
 
 laws_counted_condition : (h : HeaderData) → Laws Odd (counted_condition h) (Of is_int) AndOrMore ⊥
 laws_counted_condition h = laws_behind_sign (laws_int set_limit) (laws_acceptance_condition h)
 
-pub joint_counted_condition : (h : HeaderData) → Joint (int set_limit) (λ n. mapped (with_acceptance h n) (condition nesting_limit))
+pub joint_counted_condition : (h : HeaderData) → Joint (int set_limit)
+    (λ n. mapped (with_acceptance h n) (condition nesting_limit))
 joint_counted_condition h = joint_behind_sign (laws_int set_limit) (laws_acceptance_condition h)
 
 pub laws_acceptance : (h : HeaderData) → Laws Odd (acceptance_item h) (Named (codes "Acceptance:")) ItemMore ⊥
-laws_acceptance h = behind_name (laws_name (codes "Acceptance:") known_acceptance) (laws_counted_condition h) row_argument
+laws_acceptance h =
+    behind_name (laws_name (codes "Acceptance:") known_acceptance) (laws_counted_condition h) row_argument
 
 pub joint_acceptance : (h : HeaderData) → Joint (item_name (codes "Acceptance:")) (λ _. counted_condition h)
-joint_acceptance h = joint_behind_sign (laws_name (codes "Acceptance:") known_acceptance) (λ _. laws_counted_condition h)
+joint_acceptance h =
+    joint_behind_sign (laws_name (codes "Acceptance:") known_acceptance) (λ _. laws_counted_condition h)
 
 -- `controllable-AP:`
 pub laws_index : (ns : List ℕ) → Laws Odd (index ns) (Of is_int) Nothing ⊥
@@ -219,11 +260,16 @@ pub laws_indices : (ns : List ℕ) → Laws Odd (many index ns) (Of is_int) (Or 
 laws_indices ns = laws_many index laws_index (nothing_apart (Of is_int)) ns
 
 pub laws_controllable : (h : HeaderData) → Laws Odd (controllable_item h) (Named (codes "controllable-AP:")) ItemMore ⊥
-laws_controllable h = behind_name (laws_name (codes "controllable-AP:") known_controllable) (laws_mapped (with_controllable h) (many index []) (laws_indices []))
+laws_controllable h =
+    behind_name (laws_name (codes "controllable-AP:") known_controllable)
+    (laws_mapped (with_controllable h) (many index []) (laws_indices []))
     (λ t k. int_argument t (only_later (Of is_int) t k))
 
-pub joint_controllable : (h : HeaderData) → Joint (item_name (codes "controllable-AP:")) (λ _. mapped (with_controllable h) (many index []))
-joint_controllable h = joint_behind_sign (laws_name (codes "controllable-AP:") known_controllable) (λ _. laws_mapped (with_controllable h) (many index []) (laws_indices []))
+pub joint_controllable : (h : HeaderData) → Joint (item_name (codes "controllable-AP:"))
+    (λ _. mapped (with_controllable h) (many index []))
+joint_controllable h =
+    joint_behind_sign (laws_name (codes "controllable-AP:") known_controllable)
+    (λ _. laws_mapped (with_controllable h) (many index []) (laws_indices []))
 
 -- `tool:`
 abbrev pub second_string : HeaderData → Part Sign HeaderData HoaCause
@@ -232,11 +278,13 @@ second_string h = either (mapped (unchanged h) string) (give h)
 pub laws_read_string : (h : HeaderData) → Laws Odd (mapped (unchanged h) string) (Of is_string) Nothing ⊥
 laws_read_string h = laws_mapped (unchanged h) string laws_string
 
-pub laws_no_string : (h : HeaderData) → Laws Odd (give {T = Sign} {V = HeaderData} {F = HoaCause} h) Nothing Nothing (Unit {0})
+pub laws_no_string : (h : HeaderData) → Laws Odd (give {T = Sign} {V = HeaderData} {F = HoaCause} h) Nothing
+    Nothing (Unit {0})
 laws_no_string h = laws_give Odd h
 
 laws_second_string : (h : HeaderData) → Laws Odd (second_string h) (Of is_string) (Of is_string) (Unit {0})
-laws_second_string h = weaker (laws_either (laws_read_string h) (laws_no_string h) (λ t a b. b) (λ a b. a)) first more (λ k. tt)
+laws_second_string h =
+    weaker (laws_either (laws_read_string h) (laws_no_string h) (λ t a b. b) (λ a b. a)) first more (λ k. tt)
   where
     first : Within (Or (Of is_string) Nothing) (Of is_string)
     first t (inl k) = k
@@ -275,10 +323,12 @@ abbrev pub other_name : Part Sign (Unit {0}) HoaCause
 other_name = one (λ s. other_value s.kind s.text) NoBad
 
 pub laws_other_name : Laws Odd other_name Other Nothing ⊥
-laws_other_name = weaker (laws_one (λ s. other_value s.kind s.text) NoBad Odd (record { kind = Header; text = codes "a:" }) tt refl
+laws_other_name =
+    weaker (laws_one (λ s. other_value s.kind s.text) NoBad Odd (record { kind = Header; text = codes "a:" }) tt refl
     (λ t h o. plain_other t h.1 o) (λ t h o. h.1)) first (λ t h. h) (λ h. h)
   where
-    first : Within (Or (Taken (λ (s : Sign). other_value s.kind s.text)) (BadSign (NoBad {T = Sign} {F = HoaCause}))) Other
+    first : Within (Or (Taken (λ (s : Sign). other_value s.kind s.text)) (BadSign (NoBad {T = Sign} {F = HoaCause})))
+        Other
     first t (inl h) = h.1
     first t (inr h) = absurd h.1
 
@@ -293,7 +343,9 @@ int_is_value Int e = refl
 int_is_value kind e = absurd (false_true e)
 
 pub laws_read_over : (h : HeaderData) → Laws Odd (read_over h) (Of is_value) Nothing ⊥
-laws_read_over h = laws_sign is_value (λ s. read_over_value h s.kind) (IsAbove number_limit) (record { kind = Word; text = [] }) h refl plain_value
+laws_read_over h =
+    laws_sign is_value (λ s. read_over_value h s.kind) (IsAbove number_limit) (record { kind = Word; text = [] }) h
+    refl plain_value
     (λ t k. value_taken h k.0 t.kind k.1) (λ t k. int_is_value t.kind (above_int number_limit t k))
 
 pub laws_values : (h : HeaderData) → Laws Odd (many read_over h) (Of is_value) (Or Nothing (Of is_value)) (Unit {0})
@@ -349,7 +401,8 @@ body_taken h g Body e = refl
 body_taken h g kind e = absurd (none_is_some g e)
 
 pub laws_body_mark : (h : HeaderData) → Laws Odd (body_mark h) (Of is_body) Nothing ⊥
-laws_body_mark h = laws_sign is_body (λ s. body_value h s.kind) (IsBadBody h) (record { kind = Body; text = [] }) h refl plain_body
+laws_body_mark h =
+    laws_sign is_body (λ s. body_value h s.kind) (IsBadBody h) (record { kind = Body; text = [] }) h refl plain_body
     (λ t k. body_taken h k.0 t.kind k.1) (λ t k. ap is_body k.1.0)
 
 item_body : Apart (Or ItemMore ItemFirst) (Of is_body)
@@ -364,7 +417,9 @@ abbrev pub HeaderFirst : Sign → Type 0
 HeaderFirst = Or ItemFirst (Of is_body)
 
 pub laws_header : Laws Odd header HeaderFirst Nothing ⊥
-laws_header = weaker (laws_then (laws_items no_items) laws_body_mark item_body) first (only_first Nothing (Or ItemMore ItemFirst)) (λ h. h.1)
+laws_header =
+    weaker (laws_then (laws_items no_items) laws_body_mark item_body) first
+    (only_first Nothing (Or ItemMore ItemFirst)) (λ h. h.1)
   where
     first : Within (Or ItemFirst (When (Unit {0}) (Of is_body))) HeaderFirst
     first t (inl h) = inl h

@@ -24,7 +24,8 @@ StartsWith items.other t = Other t
 
 -- ## The table tells the item whose name stands there
 
-named_told : (name : List ℕ) (item : ItemName) → item_among item_names Header name ≡ Some item → (t : Sign) → Named name t →
+named_told : (name : List ℕ) (item : ItemName) → item_among item_names Header name ≡ Some item →
+    (t : Sign) → Named name t →
     item_at t ≡ Some item
 named_told name item e t h =
     let p = named_text name t.kind t.text h in
@@ -34,11 +35,13 @@ abbrev NoneIsOther : List (List ℕ × ItemName) → Type 0
 NoneIsOther [] = Unit {0}
 NoneIsOther (row ∷ rows) = (other_value Header row.0 ≡ None) × NoneIsOther rows
 
-other_told : (rows : List (List ℕ × ItemName)) → NoneIsOther rows → (t : Sign) → Other t → item_among rows t.kind t.text ≡ Some items.other
+other_told : (rows : List (List ℕ × ItemName)) → NoneIsOther rows → (t : Sign) → Other t →
+    item_among rows t.kind t.text ≡ Some items.other
 other_told [] n t h = ap (λ o. cond (is_some o) (Some items.other) None) h
 other_told (row ∷ rows) n t h = go (name_value row.0 t.kind t.text) refl (other_told rows n.1 t h)
   where
-    go : (o : Option (Unit {0})) → name_value row.0 t.kind t.text ≡ o → item_among rows t.kind t.text ≡ Some items.other →
+    go : (o : Option (Unit {0})) → name_value row.0 t.kind t.text ≡ o →
+        item_among rows t.kind t.text ≡ Some items.other →
         cond (is_some o) (Some row.1) (item_among rows t.kind t.text) ≡ Some items.other
     go None x e = e
     go (Some u) x e = absurd (other_apart row.0 n.0 t x h)
@@ -60,11 +63,13 @@ abbrev AreRows : List (List ℕ × ItemName) → Type 0
 AreRows [] = Unit {0}
 AreRows (row ∷ rows) = ((t : Sign) → Named row.0 t → StartsWith row.1 t) × AreRows rows
 
-told : (rows : List (List ℕ × ItemName)) → AreRows rows → (t : Sign) (item : ItemName) → item_among rows t.kind t.text ≡ Some item →
+told : (rows : List (List ℕ × ItemName)) → AreRows rows → (t : Sign) (item : ItemName) →
+    item_among rows t.kind t.text ≡ Some item →
     StartsWith item t
 told [] r t item e = go (other_value t.kind t.text) refl e
   where
-    go : (o : Option (Unit {0})) → other_value t.kind t.text ≡ o → cond (is_some o) (Some items.other) None ≡ Some item → StartsWith item t
+    go : (o : Option (Unit {0})) → other_value t.kind t.text ≡ o →
+        cond (is_some o) (Some items.other) None ≡ Some item → StartsWith item t
     go None x e = absurd (none_is_some item e)
     go (Some u) x e = subst (λ i. StartsWith i t) (same_some items.other item e) x
 told (row ∷ rows) r t item e = go (name_value row.0 t.kind t.text) refl e (told rows r.1 t item)
@@ -76,4 +81,17 @@ told (row ∷ rows) r t item e = go (name_value row.0 t.kind t.text) refl e (tol
     go (Some u) x e rest = subst (λ i. StartsWith i t) (same_some row.1 item e) (r.0 t x)
 
 pub begun : (item : ItemName) (t : Sign) → item_at t ≡ Some item → StartsWith item t
-begun item t e = told item_names ((λ _ h. h), ((λ _ h. h), ((λ _ h. h), ((λ _ h. h), ((λ _ h. h), ((λ _ h. h), ((λ _ h. h), ((λ _ h. h), tt)))))))) t item e
+begun item t e =
+    told item_names (
+      (λ _ h. h),
+      (
+        (λ _ h. h),
+        (
+          (λ _ h. h),
+          (
+            (λ _ h. h),
+            ((λ _ h. h), ((λ _ h. h), ((λ _ h. h), ((λ _ h. h), tt)))),
+          ),
+        ),
+      ),
+    ) t item e

@@ -2,12 +2,14 @@
 --     Keeps part S      S holds of the value of each text of the part in which no cause of it stands
 --     keeps_give, .., keeps_barred      for each combinator: of the parts of which it is made
 --     keeps_read      so S holds of what was read
-use Rattle.std.proofs.Common.{◌≡◌, ℕ, zero, suc, ◌+◌, List, [], ◌∷◌, ◌++◌, length, Option, Some, refl, sym, ap, subst, inl, inr, ◌∙◌, append_assoc, arith, length-append}
+use Rattle.std.proofs.Common.{◌≡◌, ℕ, zero, suc, ◌+◌, List, [], ◌∷◌, ◌++◌, length, Option, Some, refl, sym, ap, subst}
+use Rattle.std.proofs.Common.{inl, inr, ◌∙◌, append_assoc, arith, length-append}
 use Rattle.ps_text.specs.Choices.{choice}
 use Rattle.ps_text.specs.Parts.{Part, IsRead, give, one, then_by, either, times, many, mapped, barred}
 
 abbrev pub IsQuiet : {T V F : Type 0} → Part T V F → List T → Type 0
-IsQuiet {T} {V} {F} part text = (front rest : List T) (t : T) (f : F) → text ≡ front ++ t ∷ rest → part.IsCause front t f → ⊥
+IsQuiet {T} {V} {F} part text =
+    (front rest : List T) (t : T) (f : F) → text ≡ front ++ t ∷ rest → part.IsCause front t f → ⊥
 
 abbrev pub Keeps : {T V F : Type 0} → Part T V F → (V → Type 0) → Type 0
 Keeps {T} {V} {F} part S = (text : List T) (v : V) → part.IsText text v → IsQuiet part text → S v
@@ -16,36 +18,53 @@ Keeps {T} {V} {F} part S = (text : List T) (v : V) → part.IsText text v → Is
 pub keeps_nothing : {T V F : Type 0} (part : Part T V F) → Keeps part (λ _. Unit {0})
 keeps_nothing part text v i q = tt
 
-pub keeps_less : {T V F : Type 0} {S R : V → Type 0} (part : Part T V F) → ((v : V) → S v → R v) → Keeps part S → Keeps part R
+pub keeps_less : {T V F : Type 0} {S R : V → Type 0} (part : Part T V F) → ((v : V) → S v → R v) →
+    Keeps part S → Keeps part R
 keeps_less part h k text v i q = h v (k text v i q)
 
 pub keeps_give : {T V F : Type 0} (S : V → Type 0) (v : V) → S v → Keeps (give {T = T} {V = V} {F = F} v) S
 keeps_give S v s text w i q = subst S (sym i.1) s
 
-pub keeps_one : {T V F : Type 0} (S : V → Type 0) (take : T → Option V) (Bad : T → F → Type 0) → ((t : T) (v : V) → take t ≡ Some v → ((f : F) → Bad t f → ⊥) → S v) → Keeps (one take Bad) S
+pub keeps_one : {T V F : Type 0} (S : V → Type 0) (take : T → Option V) (Bad : T → F → Type 0) →
+    ((t : T) (v : V) → take t ≡ Some v → ((f : F) → Bad t f → ⊥) → S v) → Keeps (one take Bad) S
 keeps_one S take Bad h text v i q = h i.0 v i.2 (λ f b. q [] [] i.0 f i.1 (refl, b))
 
-pub keeps_then : {T A B F : Type 0} {S : A → Type 0} {R : B → Type 0} {P : Part T A F} {Q : A → Part T B F} → Keeps P S → ((a : A) → S a → Keeps (Q a) R) → Keeps (then_by P Q) R
+pub keeps_then : {T A B F : Type 0} {S : A → Type 0} {R : B → Type 0} {P : Part T A F} {Q : A → Part T B F} →
+    Keeps P S → ((a : A) → S a → Keeps (Q a) R) → Keeps (then_by P Q) R
 keeps_then {P = P} {Q = Q} p q text b i quiet = q i.value (p i.left i.value i.is_left left) i.right b i.is_right right
   where
     left : IsQuiet P i.left
-    left front rest t f e c = quiet front (rest ++ i.right) t f (i.split ∙ ap (λ z. z ++ i.right) e ∙ append_assoc front (t ∷ rest) i.right) (inl c)
+    left front rest t f e c =
+        quiet front (rest ++ i.right) t f (i.split ∙ ap (λ z. z ++ i.right) e ∙ append_assoc front (t ∷ rest) i.right)
+        (inl c)
 
     right : IsQuiet (Q i.value) i.right
-    right front rest t f e c = quiet (i.left ++ front) rest t f (i.split ∙ ap (λ z. i.left ++ z) e ∙ sym (append_assoc i.left front (t ∷ rest)))
-        (inr (record { left = i.left; right = front; value = i.value; split = refl; is_left = i.is_left; is_cause = c }))
+    right front rest t f e c =
+        quiet (i.left ++ front) rest t f (i.split ∙ ap (λ z. i.left ++ z) e
+        ∙ sym (append_assoc i.left front (t ∷ rest)))
+        (inr (record {
+          left = i.left;
+          right = front;
+          value = i.value;
+          split = refl;
+          is_left = i.is_left;
+          is_cause = c;
+        }))
 
 pub keeps_either : {T V F : Type 0} {S : V → Type 0} {P Q : Part T V F} → Keeps P S → Keeps Q S → Keeps (either P Q) S
 keeps_either p q text v (inl i) quiet = p text v i (λ front rest t f e c. quiet front rest t f e (inl c))
 keeps_either p q text v (inr i) quiet = q text v i (λ front rest t f e c. quiet front rest t f e (inr c))
 
-pub keeps_choice : {K T V F : Type 0} {S : V → Type 0} (form : K → Part T V F) → ((k : K) → Keeps (form k) S) → Keeps (choice form) S
+pub keeps_choice : {K T V F : Type 0} {S : V → Type 0} (form : K → Part T V F) → ((k : K) → Keeps (form k) S) →
+    Keeps (choice form) S
 keeps_choice form h text v i quiet = h i.0 text v i.1 (λ front rest t f e c. quiet front rest t f e (i.0, c))
 
-pub keeps_mapped : {T A B F : Type 0} (S : B → Type 0) (h : A → B) (P : Part T A F) → Keeps P (λ a. S (h a)) → Keeps (mapped h P) S
+pub keeps_mapped : {T A B F : Type 0} (S : B → Type 0) (h : A → B) (P : Part T A F) → Keeps P (λ a. S (h a)) →
+    Keeps (mapped h P) S
 keeps_mapped S h P k text b i quiet = subst S (sym i.2) (k text i.0 i.1 quiet)
 
-pub keeps_barred : {T V F : Type 0} {S : V → Type 0} (P : Part T V F) (Bad : V → T → F → Type 0) → Keeps P S → Keeps (barred P Bad) S
+pub keeps_barred : {T V F : Type 0} {S : V → Type 0} (P : Part T V F) (Bad : V → T → F → Type 0) → Keeps P S →
+    Keeps (barred P Bad) S
 keeps_barred P Bad k text v i quiet = k text v i (λ front rest t f e c. quiet front rest t f e (inl c))
 
 module _ {T C F : Type 0} {S : C → Type 0} (item : C → Part T C F) (k : (c : C) → S c → Keeps (item c) S) where
@@ -56,10 +75,12 @@ module _ {T C F : Type 0} {S : C → Type 0} (item : C → Part T C F) (k : (c :
   pub keeps_many : (c : C) → S c → Keeps (many item c) S
   keeps_many c s text v i quiet = keeps_times i.0 c s text v i.1 (λ front rest t f e d. quiet front rest t f e (i.0, d))
 
-pub keeps_read : {T V F : Type 0} {S : V → Type 0} (part : Part T V F) → Keeps part S → (all rest : List T) (v : V) → IsRead part all v rest → S v
+pub keeps_read : {T V F : Type 0} {S : V → Type 0} (part : Part T V F) → Keeps part S → (all rest : List T) (v : V) →
+    IsRead part all v rest → S v
 keeps_read part k all rest v p = k p.text v p.is_text quiet
   where
     quiet : IsQuiet part p.text
     quiet front more t f e c =
         let l : length p.text ≡ length front + suc (length more) = ap length e ∙ length-append front (t ∷ more) in
-        p.clean front (more ++ rest) t f (p.split ∙ ap (λ z. z ++ rest) e ∙ append_assoc front (t ∷ more) rest) (omega (arith, l)) c
+        p.clean front (more ++ rest) t f (p.split ∙ ap (λ z. z ++ rest) e ∙ append_assoc front (t ∷ more) rest)
+        (omega (arith, l)) c

@@ -7,13 +7,16 @@ use Rattle.ps_text.proofs.Simple.{Taken, BadSign, none_is_some, laws_one, laws_m
 use Rattle.ps_text.proofs.Covered.{laws_either}
 use Rattle.ps_hoa.specs.Tokens.{Sign}
 use Rattle.ps_hoa.specs.Operands.{is_not, is_and, is_or, is_left, is_right, mark, inner, rows}
-use Rattle.ps_hoa.specs.Labels.{ScopeData, leaf_value, leaf_in, IsBadLeaf, BadLeaf, leaf, together, negation, operand, label}
+use Rattle.ps_hoa.specs.Labels.{ScopeData, leaf_value, leaf_in, IsBadLeaf, BadLeaf, leaf, together, negation, operand}
+use Rattle.ps_hoa.specs.Labels.{label}
 use Rattle.ps_hoa.specs.declared.connective.Connective.{Connective}
 use Rattle.ps_hoa.specs.declared.connective.Connective.TheVariants as connectives
 use Rattle.ps_hoa.specs.declared.fault.HoaCause.{HoaCause}
 use Rattle.ps_hoa.specs.declared.tokens.Kind.{Kind}
-use Rattle.ps_hoa.specs.declared.tokens.Kind.TheVariants.{Word, Int, AliasName, Not, And, Or as OrSign, LeftParen, RightParen}
-use Rattle.ps_hoa.proofs.OperandLaws.{Odd, Of, IsPlain, false_true, nothing_apart, plain_odd, laws_mark, laws_behind, laws_held, laws_row}
+use Rattle.ps_hoa.specs.declared.tokens.Kind.TheVariants.{Word, Int, AliasName, Not, And, Or as OrSign, LeftParen}
+use Rattle.ps_hoa.specs.declared.tokens.Kind.TheVariants.{RightParen}
+use Rattle.ps_hoa.proofs.OperandLaws.{Odd, Of, IsPlain, false_true, nothing_apart, plain_odd, laws_mark, laws_behind}
+use Rattle.ps_hoa.proofs.OperandLaws.{laws_held, laws_row}
 
 -- the signs with which an operand begins, and those that are one by themselves
 abbrev pub is_start : Kind → Bool
@@ -73,7 +76,8 @@ laws_left = laws_mark is_left LeftParen refl plain_left
 pub laws_right : Laws Odd (mark is_right) (Of is_right) Nothing ⊥
 laws_right = laws_mark is_right RightParen refl plain_right
 
-start_value : (names : List (List ℕ)) (kind : Kind) (text : List ℕ) (v : Expression) → leaf_value names kind text ≡ Some v → is_single kind ≡ true
+start_value : (names : List (List ℕ)) (kind : Kind) (text : List ℕ) (v : Expression) →
+    leaf_value names kind text ≡ Some v → is_single kind ≡ true
 start_value names Word text v e = refl
 start_value names Int text v e = refl
 start_value names AliasName text v e = refl
@@ -85,29 +89,35 @@ single_start Int e = refl
 single_start AliasName e = refl
 single_start kind e = absurd (false_true e)
 
-start_bad : (scope : ScopeData) (room : ℕ) (kind : Kind) (text : List ℕ) (f : HoaCause) → IsBadLeaf scope room kind text f → is_start kind ≡ true
+start_bad : (scope : ScopeData) (room : ℕ) (kind : Kind) (text : List ℕ) (f : HoaCause) →
+    IsBadLeaf scope room kind text f → is_start kind ≡ true
 start_bad scope room Int text f h = refl
 start_bad scope room AliasName text f h = refl
 start_bad scope room Not text f h = refl
 start_bad scope room LeftParen text f h = refl
 start_bad scope room kind text f h = absurd h
 
-single_bad : (scope : ScopeData) (room : ℕ) (kind : Kind) (text : List ℕ) (f : HoaCause) → IsBadLeaf scope (suc room) kind text f → is_single kind ≡ true
+single_bad : (scope : ScopeData) (room : ℕ) (kind : Kind) (text : List ℕ) (f : HoaCause) →
+    IsBadLeaf scope (suc room) kind text f → is_single kind ≡ true
 single_bad scope room Int text f h = refl
 single_bad scope room AliasName text f h = refl
 single_bad scope room Not text f h = absurd (omega (arith, h.0))
 single_bad scope room LeftParen text f h = absurd (omega (arith, h.0))
 single_bad scope room kind text f h = absurd h
 
-first_leaf : (scope : ScopeData) (room : ℕ) → Within (Or (Taken (leaf_in scope.names)) (BadSign (BadLeaf scope room))) (Of is_start)
+first_leaf : (scope : ScopeData) (room : ℕ) → Within (Or (Taken (leaf_in scope.names)) (BadSign (BadLeaf scope room)))
+    (Of is_start)
 first_leaf scope room t (inl h) = single_start t.kind (start_value scope.names t.kind t.text h.0 h.1)
 first_leaf scope room t (inr h) = start_bad scope room t.kind t.text h.0 h.1
 
-pub laws_leaf : (scope : ScopeData) (room : ℕ) → Laws Odd (leaf scope room) (Or (Taken (leaf_in scope.names)) (BadSign (BadLeaf scope room))) Nothing ⊥
+pub laws_leaf : (scope : ScopeData) (room : ℕ) → Laws Odd (leaf scope room)
+    (Or (Taken (leaf_in scope.names)) (BadSign (BadLeaf scope room))) Nothing ⊥
 laws_leaf scope room = laws_one (leaf_in scope.names) (BadLeaf scope room) Odd (record { kind = Int; text = [] }) _ refl
-    (λ t h o. plain_odd is_start plain_start t (first_leaf scope room t (inl h)) o) (λ t h o. plain_odd is_start plain_start t (first_leaf scope room t (inr h)) o)
+    (λ t h o. plain_odd is_start plain_start t (first_leaf scope room t (inl h)) o)
+    (λ t h o. plain_odd is_start plain_start t (first_leaf scope room t (inr h)) o)
 
-first_single : (scope : ScopeData) (room : ℕ) → Within (Or (Taken (leaf_in scope.names)) (BadSign (BadLeaf scope (suc room)))) (Of is_single)
+first_single : (scope : ScopeData) (room : ℕ) → Within (Or (Taken (leaf_in scope.names))
+    (BadSign (BadLeaf scope (suc room)))) (Of is_single)
 first_single scope room t (inl h) = start_value scope.names t.kind t.text h.0 h.1
 first_single scope room t (inr h) = single_bad scope room t.kind t.text h.0 h.1
 
@@ -170,7 +180,8 @@ apart_right t (inl (inl h)) k = h
 apart_right t (inl (inr h)) k = and_right t h k
 apart_right t (inr h) k = or_right t h k
 
-module _ {V : Type 0} {F : Sign → Type 0} (P : Part Sign V HoaCause) (together : Connective → List V → V) (l : Laws Odd P F Nothing ⊥) where
+module _ {V : Type 0} {F : Sign → Type 0} (P : Part Sign V HoaCause) (together : Connective → List V → V)
+    (l : Laws Odd P F Nothing ⊥) where
   pub laws_both : Laws Odd (rows together connectives.And P) F AndMore ⊥
   laws_both = laws_row is_and P laws_and l (nothing_apart (Of is_and)) (together connectives.And)
 
@@ -180,7 +191,8 @@ module _ {V : Type 0} {F : Sign → Type 0} (P : Part Sign V HoaCause) (together
   pub laws_nested : Laws Odd (inner (rows together connectives.Or P)) (Of is_left) Nothing ⊥
   laws_nested = laws_behind is_left laws_left (laws_held laws_right laws_rows apart_right)
 
-pub laws_negation : {F : Sign → Type 0} (P : Part Sign Expression HoaCause) → Laws Odd P F Nothing ⊥ → Laws Odd (negation P) (Of is_not) Nothing ⊥
+pub laws_negation : {F : Sign → Type 0} (P : Part Sign Expression HoaCause) → Laws Odd P F Nothing ⊥ →
+    Laws Odd (negation P) (Of is_not) Nothing ⊥
 laws_negation P l = laws_behind is_not laws_not (laws_mapped not_of P l)
 
 first_operand : Within (Or (Of is_single) (Or (Of is_not) (Of is_left))) (Of is_start)
@@ -207,17 +219,22 @@ no_null (inl h) = h
 no_null (inr h) = h
 
 -- the two forms that nest
-pub laws_deep : {F : Sign → Type 0} (P : Part Sign Expression HoaCause) → Laws Odd P F Nothing ⊥ → Laws Odd (either (negation P) (inner (rows together connectives.Or P))) (Or (Of is_not) (Of is_left)) Nothing ⊥
-laws_deep P l = weaker (laws_either (laws_negation P l) (laws_nested P together l) not_left (λ h k. h)) (λ t h. h) (no_more (Of is_left) (Of is_not)) no_null
+pub laws_deep : {F : Sign → Type 0} (P : Part Sign Expression HoaCause) → Laws Odd P F Nothing ⊥ →
+    Laws Odd (either (negation P) (inner (rows together connectives.Or P))) (Or (Of is_not) (Of is_left)) Nothing ⊥
+laws_deep P l =
+    weaker (laws_either (laws_negation P l) (laws_nested P together l) not_left (λ h k. h)) (λ t h. h)
+    (no_more (Of is_left) (Of is_not)) no_null
 
 pub laws_operand : (scope : ScopeData) (room : ℕ) → Laws Odd (operand scope room) (Of is_start) Nothing ⊥
 unfolding operand
 laws_operand scope zero = weaker (laws_leaf scope 0) (first_leaf scope 0) (λ t h. h) (λ h. h)
 laws_operand scope (suc room) = let l = laws_deep (operand scope room) (laws_operand scope room) in
-    weaker (laws_either (laws_single scope room) l single_nested (λ h k. h)) first_operand (no_more (Or (Of is_not) (Of is_left)) (Of is_single)) no_null
+    weaker (laws_either (laws_single scope room) l single_nested (λ h k. h)) first_operand
+    (no_more (Or (Of is_not) (Of is_left)) (Of is_single)) no_null
 
 pub laws_label : (scope : ScopeData) (room : ℕ) → Laws Odd (label scope room) (Of is_start) AndOrMore ⊥
 laws_label scope room = laws_rows (operand scope room) together (laws_operand scope room)
 
-pub one_label : (scope : ScopeData) (room : ℕ) (text : List Sign) (v w : Expression) → (label scope room).IsText text v → (label scope room).IsText text w → v ≡ w
+pub one_label : (scope : ScopeData) (room : ℕ) (text : List Sign) (v w : Expression) →
+    (label scope room).IsText text v → (label scope room).IsText text w → v ≡ w
 one_label scope room = (laws_label scope room).one_value

@@ -4,7 +4,8 @@ use Rattle.std.specs.Option.{option_map}
 use Rattle.ps_text.proofs.Simple.{none_is_some}
 use Rattle.ps_hoa.specs.Causes.{cause_number}
 use Rattle.ps_hoa.specs.Flaws.{IsLeastFlaw, IsSoundHeader}
-use Rattle.ps_hoa.specs.Header.{HeaderData, IsStartTooLarge, IsRangeBroken, IsBadHeader, no_acceptance, start_too_large, no_start, out_of_range, no_controllable}
+use Rattle.ps_hoa.specs.Header.{HeaderData, IsStartTooLarge, IsRangeBroken, IsBadHeader, no_acceptance, start_too_large}
+use Rattle.ps_hoa.specs.Header.{no_start, out_of_range, no_controllable}
 use Rattle.ps_hoa.specs.declared.fault.HoaCause.{HoaCause}
 use Rattle.ps_hoa.specs.declared.fault.HoaCause.TheVariants.{MissingAcceptance, Limit, Start, Range, Controllable}
 use Rattle.ps_hoa.proofs.OperandLaws.{false_true}

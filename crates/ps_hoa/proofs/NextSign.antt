@@ -20,7 +20,8 @@ next_there s h = go s.pieces s.end h
 pub next_same : (s : Stream Sign) (t : Sign) → next_sign s ≡ Some t → (next_of s).sign ≡ t
 next_same s t h = go s.pieces s.end h
   where
-    go : (ps : List (Piece Sign)) (e : ℕ) → next_sign (record { pieces = ps; end = e }) ≡ Some t → (next_of (record { pieces = ps; end = e })).sign ≡ t
+    go : (ps : List (Piece Sign)) (e : ℕ) → next_sign (record { pieces = ps; end = e }) ≡ Some t →
+        (next_of (record { pieces = ps; end = e })).sign ≡ t
     go [] e h = absurd (none_is_some t h)
     go (p ∷ ps) e h = same_some p.sign t h
 

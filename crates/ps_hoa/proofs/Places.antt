@@ -13,10 +13,12 @@ free_place : (n : ℕ) (ns : List ℕ) → has_place (place_of n) ns ≡ false �
 free_place n [] e = refl
 free_place n (m ∷ ns) e = go (nat_eq n m) refl (nat_eq (place_of n) (place_of m)) refl e (free_place n ns)
   where
-    go : (a : Bool) → nat_eq n m ≡ a → (b : Bool) → nat_eq (place_of n) (place_of m) ≡ b → cond b true (has_place (place_of n) ns) ≡ false →
+    go : (a : Bool) → nat_eq n m ≡ a → (b : Bool) → nat_eq (place_of n) (place_of m) ≡ b →
+        cond b true (has_place (place_of n) ns) ≡ false →
         (has_place (place_of n) ns ≡ false → is_among n ns ≡ false) → cond a true (is_among n ns) ≡ false
     go a h true k e more = absurd (false_true (sym e))
-    go true h false k e more = absurd (false_true (sym k ∙ eq-eqb (place_of n) (place_of m) (ap place_of (eqb-true n m h))))
+    go true h false k e more =
+        absurd (false_true (sym k ∙ eq-eqb (place_of n) (place_of m) (ap place_of (eqb-true n m h))))
     go false h false k e more = more e
 
 pub different_kept : (ns : List ℕ) (n : ℕ) → AreDifferent ns → AreDifferent (kept ns n)

@@ -1,5 +1,6 @@
 -- One byte further in a string or a comment.
-use Rattle.std.proofs.Common.{◌≡◌, ◌≢◌, ℕ, suc, zero, ◌+◌, ◌-◌, ◌<◌, ◌≤◌, ◌&&◌, Bool, true, false, List, [], ◌∷◌, length, get_or, take, drop, refl, ap, sym, ◌∙◌, arith, add-one, zero-add, nat_eq}
+use Rattle.std.proofs.Common.{◌≡◌, ◌≢◌, ℕ, suc, zero, ◌+◌, ◌-◌, ◌<◌, ◌≤◌, ◌&&◌, Bool, true, false, List, [], ◌∷◌}
+use Rattle.std.proofs.Common.{length, get_or, take, drop, refl, ap, sym, ◌∙◌, arith, add-one, zero-add, nat_eq}
 use Rattle.std.specs.Prelude.{Option, None, Some}
 use Rattle.std.proofs.Math.Seq.{drop-cons}
 use Rattle.std.proofs.lemmas.List.{drop_all, drop-drop}
@@ -22,17 +23,23 @@ plus_zero (Some n) = ap (λ (x : ℕ). Some x) (zero-add n)
 differ : (a b : ℕ) → a ≢ b → nat_eq a b ≡ false
 differ a b h = grind arith
 
-pub quoted_skip : (bs : List ℕ) (at : ℕ) → at < length bs → plus at (quoted_len (drop at bs) true) ≡ plus (at + 1) (quoted_len (drop (at + 1) bs) false)
+pub quoted_skip : (bs : List ℕ) (at : ℕ) → at < length bs → plus at (quoted_len (drop at bs) true) ≡ plus (at + 1)
+    (quoted_len (drop (at + 1) bs) false)
 unfolding quoted_len
-quoted_skip bs at h = rw (drop-cons bs at 0 h, add-one at) (rw add-one at (plus-one_more at (quoted_len (drop (suc at) bs) false)))
+quoted_skip bs at h =
+    rw (drop-cons bs at 0 h, add-one at) (rw add-one at (plus-one_more at (quoted_len (drop (suc at) bs) false)))
 
-pub quoted_ends : (bs : List ℕ) (at : ℕ) → at < length bs → get_or bs at 0 ≡ 34 → plus at (quoted_len (drop at bs) false) ≡ Some (at + 1)
+pub quoted_ends : (bs : List ℕ) (at : ℕ) → at < length bs → get_or bs at 0 ≡ 34 →
+    plus at (quoted_len (drop at bs) false) ≡ Some (at + 1)
 unfolding quoted_len
 quoted_ends bs at h is = rw (drop-cons bs at 0 h, is) refl
 
-pub quoted_on : (bs : List ℕ) (at : ℕ) → at < length bs → get_or bs at 0 ≢ 34 → plus at (quoted_len (drop at bs) false) ≡ plus (at + 1) (quoted_len (drop (at + 1) bs) (nat_eq (get_or bs at 0) 92))
+pub quoted_on : (bs : List ℕ) (at : ℕ) → at < length bs → get_or bs at 0 ≢ 34 →
+    plus at (quoted_len (drop at bs) false) ≡ plus (at + 1) (quoted_len (drop (at + 1) bs) (nat_eq (get_or bs at 0) 92))
 unfolding quoted_len
-quoted_on bs at h is = rw (drop-cons bs at 0 h, differ (get_or bs at 0) 34 is, add-one at) (rw add-one at (plus-one_more at (quoted_len (drop (suc at) bs) (nat_eq (get_or bs at 0) 92))))
+quoted_on bs at h is =
+    rw (drop-cons bs at 0 h, differ (get_or bs at 0) 34 is, add-one at)
+    (rw add-one at (plus-one_more at (quoted_len (drop (suc at) bs) (nat_eq (get_or bs at 0) 92))))
 
 pub quoted_past : (bs : List ℕ) (skip : Bool) (at : ℕ) → length bs ≤ at → plus at (quoted_len (drop at bs) skip) ≡ None
 unfolding quoted_len
@@ -48,14 +55,17 @@ head-drop (b ∷ bs) (suc at) = head-drop bs at
 next-is : (bs : List ℕ) (at : ℕ) → head_or_zero (drop (suc at) bs) ≡ get_or bs (at + 1) 0
 next-is bs at = head-drop bs (suc at) ∙ ap (λ (k : ℕ). get_or bs k 0) (sym (add-one at))
 
-pub comment_skip : (bs : List ℕ) (at depth : ℕ) → at < length bs → plus at (comment_len (drop at bs) true depth) ≡ plus (at + 1) (comment_len (drop (at + 1) bs) false depth)
+pub comment_skip : (bs : List ℕ) (at depth : ℕ) → at < length bs →
+    plus at (comment_len (drop at bs) true depth) ≡ plus (at + 1) (comment_len (drop (at + 1) bs) false depth)
 unfolding comment_len
-comment_skip bs at depth h = rw (drop-cons bs at 0 h, add-one at) (rw add-one at (plus-one_more at (comment_len (drop (suc at) bs) false depth)))
+comment_skip bs at depth h =
+    rw (drop-cons bs at 0 h, add-one at) (rw add-one at (plus-one_more at (comment_len (drop (suc at) bs) false depth)))
 
 abbrev pub is_pair : List ℕ → ℕ → ℕ → ℕ → Bool
 is_pair bs at a b = nat_eq (get_or bs at 0) a && nat_eq (get_or bs (at + 1) 0) b
 
-pub comment_ends : (bs : List ℕ) (at : ℕ) → at < length bs → is_pair bs at 42 47 ≡ true → plus at (comment_len (drop at bs) false 0) ≡ Some (at + 2)
+pub comment_ends : (bs : List ℕ) (at : ℕ) → at < length bs → is_pair bs at 42 47 ≡ true →
+    plus at (comment_len (drop at bs) false 0) ≡ Some (at + 2)
 unfolding comment_len
 comment_ends bs at h close = rw (drop-cons bs at 0 h, next-is bs at, close) refl
 
@@ -65,19 +75,27 @@ unfolding comment_len
 comment_closes bs at zero h some close = absurd (omega arith)
 comment_closes bs at (suc depth) h some close =
     let same : suc depth - 1 ≡ depth = omega arith in
-    rw (drop-cons bs at 0 h, next-is bs at, close, add-one at, same) (rw add-one at (plus-one_more at (comment_len (drop (suc at) bs) true depth)))
+    rw (drop-cons bs at 0 h, next-is bs at, close, add-one at, same)
+    (rw add-one at (plus-one_more at (comment_len (drop (suc at) bs) true depth)))
 
-pub comment_opens : (bs : List ℕ) (at depth : ℕ) → at < length bs → is_pair bs at 42 47 ≡ false → is_pair bs at 47 42 ≡ true →
+pub comment_opens : (bs : List ℕ) (at depth : ℕ) → at < length bs → is_pair bs at 42 47 ≡ false →
+    is_pair bs at 47 42 ≡ true →
     plus at (comment_len (drop at bs) false depth) ≡ plus (at + 1) (comment_len (drop (at + 1) bs) true (depth + 1))
 unfolding comment_len
-comment_opens bs at depth h close begin = rw (drop-cons bs at 0 h, next-is bs at, close, begin, add-one at, add-one depth) (rw add-one at (plus-one_more at (comment_len (drop (suc at) bs) true (suc depth))))
+comment_opens bs at depth h close begin =
+    rw (drop-cons bs at 0 h, next-is bs at, close, begin, add-one at, add-one depth)
+    (rw add-one at (plus-one_more at (comment_len (drop (suc at) bs) true (suc depth))))
 
-pub comment_on : (bs : List ℕ) (at depth : ℕ) → at < length bs → is_pair bs at 42 47 ≡ false → is_pair bs at 47 42 ≡ false →
+pub comment_on : (bs : List ℕ) (at depth : ℕ) → at < length bs → is_pair bs at 42 47 ≡ false →
+    is_pair bs at 47 42 ≡ false →
     plus at (comment_len (drop at bs) false depth) ≡ plus (at + 1) (comment_len (drop (at + 1) bs) false depth)
 unfolding comment_len
-comment_on bs at depth h close begin = rw (drop-cons bs at 0 h, next-is bs at, close, begin, add-one at) (rw add-one at (plus-one_more at (comment_len (drop (suc at) bs) false depth)))
+comment_on bs at depth h close begin =
+    rw (drop-cons bs at 0 h, next-is bs at, close, begin, add-one at)
+    (rw add-one at (plus-one_more at (comment_len (drop (suc at) bs) false depth)))
 
-pub comment_past : (bs : List ℕ) (skip : Bool) (at depth : ℕ) → length bs ≤ at → plus at (comment_len (drop at bs) skip depth) ≡ None
+pub comment_past : (bs : List ℕ) (skip : Bool) (at depth : ℕ) → length bs ≤ at →
+    plus at (comment_len (drop at bs) skip depth) ≡ None
 unfolding comment_len
 comment_past bs skip at depth h = rw (drop_all at bs h) refl
 
@@ -88,13 +106,15 @@ unfolding lex_behind
 lex_skips [] zero at = refl
 lex_skips [] (suc n) at = refl
 lex_skips (b ∷ bs) zero at = let e : at ≡ at + 0 = omega arith in ap (λ (k : ℕ). lex_behind (b ∷ bs) 0 k) e
-lex_skips (b ∷ bs) (suc n) at = let e : (at + 1) + n ≡ at + suc n = omega arith in lex_skips bs n (at + 1) ∙ ap (λ (k : ℕ). lex_behind (drop n bs) 0 k) e
+lex_skips (b ∷ bs) (suc n) at = let e : (at + 1) + n ≡ at + suc n = omega arith in lex_skips bs n (at + 1)
+    ∙ ap (λ (k : ℕ). lex_behind (drop n bs) 0 k) e
 
 -- the list by what begins at the front
 abbrev lex_by : ℕ → List ℕ → ℕ → Step → List (Piece Sign)
 lex_by b bs at s = elim s [
   | Skip n ↦ lex_behind bs (n - 1) (at + 1)
-  | Found kind n ↦ record { sign = record { kind = kind; text = take n (b ∷ bs) }; start = at } ∷ lex_behind bs (n - 1) (at + 1)
+  | Found kind n ↦ record { sign = record { kind = kind; text = take n (b ∷ bs) }; start = at } ∷ lex_behind bs
+      (n - 1) (at + 1)
 ]
 
 lex_is : (b : ℕ) (bs : List ℕ) (at : ℕ) → lex at (b ∷ bs) ≡ lex_by b bs at (step_of (b ∷ bs))
@@ -112,10 +132,12 @@ lex_skip (b ∷ bs) zero at is some = absurd (omega arith)
 lex_skip (b ∷ bs) (suc n) at is some =
     let less : suc n - 1 ≡ n = omega arith in
     let e : (at + 1) + n ≡ at + suc n = omega arith in
-    lex_is b bs at ∙ ap (lex_by b bs at) is ∙ ap (λ (k : ℕ). lex_behind bs k (at + 1)) less ∙ lex_skips bs n (at + 1) ∙ ap (λ (k : ℕ). lex_behind (drop n bs) 0 k) e
+    lex_is b bs at ∙ ap (lex_by b bs at) is ∙ ap (λ (k : ℕ). lex_behind bs k (at + 1)) less ∙ lex_skips bs n (at + 1)
+    ∙ ap (λ (k : ℕ). lex_behind (drop n bs) 0 k) e
 
 pub lex_token : (bytes : List ℕ) (kind : Kind) (n at : ℕ) → 0 < length bytes → step_of bytes ≡ Found kind n → 0 < n →
-    lex at bytes ≡ record { sign = record { kind = kind; text = take n bytes }; start = at } ∷ lex (at + n) (drop n bytes)
+    lex at bytes ≡ record { sign = record { kind = kind; text = take n bytes }; start = at } ∷ lex
+    (at + n) (drop n bytes)
 lex_token [] kind n at long is some = absurd (omega arith)
 lex_token (b ∷ bs) kind zero at long is some = absurd (omega arith)
 lex_token (b ∷ bs) kind (suc n) at long is some =
@@ -127,7 +149,8 @@ lex_token (b ∷ bs) kind (suc n) at long is some =
 
 -- one turn of a loop over blanks
 pub lex_step : (source : List ℕ) (from at n : ℕ) → step_of (drop at source) ≡ Skip n → 0 < n →
-    lex at (drop at source) ≡ lex from (drop from source) → lex (at + n) (drop (at + n) source) ≡ lex from (drop from source)
+    lex at (drop at source) ≡ lex from (drop from source) → lex (at + n) (drop (at + n) source) ≡ lex from
+    (drop from source)
 lex_step source from at n is some so_far =
     let e : drop n (drop at source) ≡ drop (at + n) source = drop-drop n at source in
     ap (λ (bytes : List ℕ). lex (at + n) bytes) (sym e) ∙ sym (lex_skip (drop at source) n at is some) ∙ so_far

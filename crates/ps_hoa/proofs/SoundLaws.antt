@@ -3,12 +3,14 @@
 --     aliases_ordered      so are its aliases
 --     sound_row, sound_edge      each row is sound, and so is each edge
 --     row_of_state      so is the row of a state, and it is of that state
-use Rattle.std.proofs.Common.{◌≡◌, ℕ, zero, suc, ◌+◌, ◌<◌, ◌≤◌, Bool, true, false, cond, List, [], ◌∷◌, length, Some, refl, sym, ap, subst, ◌∙◌, arith}
+use Rattle.std.proofs.Common.{◌≡◌, ℕ, zero, suc, ◌+◌, ◌<◌, ◌≤◌, Bool, true, false, cond, List, [], ◌∷◌, length, Some}
+use Rattle.std.proofs.Common.{refl, sym, ap, subst, ◌∙◌, arith}
 use Rattle.std.specs.List.{All, AllByRecursion, slice_get}
 use Rattle.std.specs.Option.{IfSome}
 use Rattle.std.specs.Prelude.{nat_eq}
 use Rattle.std.proofs.lemmas.Bool.{eqb-true}
-use Rattle.ps_label.specs.Expression.{Expression, constant, proposition, alias, not_of, all_of, any_of, Operands, last, more, IsWithin, AreWithin, AreOrderedFrom, AreOrdered}
+use Rattle.ps_label.specs.Expression.{Expression, constant, proposition, alias, not_of, all_of, any_of, Operands, last}
+use Rattle.ps_label.specs.Expression.{more, IsWithin, AreWithin, AreOrderedFrom, AreOrdered}
 use Rattle.ps_text.proofs.Simple.{none_is_some, same_some}
 use Rattle.ps_hoa.specs.Edges.{row_among, row_of}
 use Rattle.ps_hoa.specs.Files.{EdgeData, RowData, FileData, stated}
@@ -41,7 +43,8 @@ all_get P [] a k x e = absurd (none_is_some x e)
 all_get P (y ∷ xs) a zero x e = subst P (same_some y x e) (a 0 y (omega arith))
 all_get P (y ∷ xs) a (suc k) x e = all_get P xs (λ n d l. a (suc n) d (omega (arith, l))) k x e
 
-pub sound_edge : (file : FileData) (row : RowData) → IsSoundRow file row → (j : ℕ) (edge : EdgeData) → slice_get row.edges j ≡ Some edge → IsSoundEdge file edge
+pub sound_edge : (file : FileData) (row : RowData) → IsSoundRow file row → (j : ℕ) (edge : EdgeData) →
+    slice_get row.edges j ≡ Some edge → IsSoundEdge file edge
 sound_edge file row r j edge e = all_get (IsSoundEdge file) row.edges r.edges j edge e
 
 module _ (file : FileData) (s : IsSoundFile file) where
@@ -51,19 +54,29 @@ module _ (file : FileData) (s : IsSoundFile file) where
   pub sound_row : (k : ℕ) (row : RowData) → slice_get file.rows k ≡ Some row → IsSoundRow file row
   sound_row k row e = all_get (IsSoundRow file) file.rows s.rows k row e
 
-  pub edge_label : (edge : EdgeData) → IsSoundEdge file edge → (e : Expression) → edge.guard ≡ stated e → IsWithin (length file.aliases) e
-  edge_label edge i e g = label_within (length file.aliases) (length file.names) e s.few_names (subst (IsGuard file) g i.guard)
+  pub edge_label : (edge : EdgeData) → IsSoundEdge file edge → (e : Expression) → edge.guard ≡ stated e →
+      IsWithin (length file.aliases) e
+  edge_label edge i e g =
+      label_within (length file.aliases) (length file.names) e s.few_names (subst (IsGuard file) g i.guard)
 
-  pub state_label : (row : RowData) → IsSoundRow file row → (e : Expression) → row.label ≡ Some e → IsWithin (length file.aliases) e
-  state_label row r e l = label_within (length file.aliases) (length file.names) e s.few_names (subst (λ o. IfSome o (IsLabel (length file.aliases) (length file.names))) l r.label)
+  pub state_label : (row : RowData) → IsSoundRow file row → (e : Expression) → row.label ≡ Some e →
+      IsWithin (length file.aliases) e
+  state_label row r e l =
+      label_within (length file.aliases) (length file.names) e s.few_names
+      (subst (λ o. IfSome o (IsLabel (length file.aliases) (length file.names))) l r.label)
 
-  among : (rows : List RowData) (q : ℕ) (row : RowData) → All (IsSoundRow file) rows → row_among rows q ≡ Some row → IsSoundRow file row × (row.state ≡ q)
+  among : (rows : List RowData) (q : ℕ) (row : RowData) → All (IsSoundRow file) rows → row_among rows q ≡ Some row →
+      IsSoundRow file row × (row.state ≡ q)
   among [] q row a e = absurd (none_is_some row e)
   among (r ∷ rows) q row a e = go (nat_eq q r.state) refl e (among rows q row (λ k d l. a (suc k) d (omega (arith, l))))
     where
       go : (t : Bool) → nat_eq q r.state ≡ t → cond t (Some r) (row_among rows q) ≡ Some row →
           (row_among rows q ≡ Some row → IsSoundRow file row × (row.state ≡ q)) → IsSoundRow file row × (row.state ≡ q)
-      go true n h rest = let same : r ≡ row = same_some r row h in (subst (IsSoundRow file) same (a 0 r (omega arith)), ap (λ z. z.state) (sym same) ∙ sym (eqb-true q r.state n))
+      go true n h rest = let same : r ≡ row = same_some r row h in (
+        subst (IsSoundRow file) same (a 0 r (omega arith)),
+        ap (λ z. z.state) (sym same)
+            ∙ sym (eqb-true q r.state n),
+      )
       go false n h rest = rest h
 
   pub row_of_state : (q : ℕ) (row : RowData) → row_of file q ≡ Some row → IsSoundRow file row × (row.state ≡ q)

@@ -2,12 +2,13 @@
 --     state ::= "State:" ("[" label "]")? INT STRING? sets? edge*
 --     edge  ::= ("[" label "]")? INT sets?
 --     sets  ::= "{" INT* "}"
--- The label of a state is that of each of its edges. A state without one, whose edges have none either, has implicit labels:
--- edge k is taken at the letter k, in which proposition i is bit i.
+-- The label of a state is that of each of its edges. A state without one, whose edges have none either, has implicit
+-- labels: edge k is taken at the letter k, in which proposition i is bit i.
 --     BodyData      the rows so far, and how many edges they have
 --     state h body      one more state, behind those of body
 --     body h      all states, and `--END--`
-use Rattle.std.specs.Prelude.{◌≡◌, ◌≢◌, ℕ, ◌+◌, ◌-◌, ◌^◌, ◌<◌, ◌≤◌, ◌⊎◌, Bool, true, false, List, [], ◌∷◌, ◌++◌, length, codes, if◌then◌else◌, nat_eq, Option, None, Some, IfSome, slice_get}
+use Rattle.std.specs.Prelude.{◌≡◌, ◌≢◌, ℕ, ◌+◌, ◌-◌, ◌^◌, ◌<◌, ◌≤◌, ◌⊎◌, Bool, true, false, List, [], ◌∷◌, ◌++◌, length}
+use Rattle.std.specs.Prelude.{codes, if◌then◌else◌, nat_eq, Option, None, Some, IfSome, slice_get}
 use Rattle.ps_label.specs.Expression.{Expression}
 use Rattle.ps_text.specs.Parts.{Part, give, one, then_by, either, many, mapped, barred}
 use Rattle.ps_hoa.specs.Tokens.{Sign}
@@ -92,7 +93,8 @@ some_label e _ = Some e
 
 -- what stands behind `[`
 abbrev pub label_in_brackets : HeaderData → Part Sign (Option Expression) HoaCause
-label_in_brackets h = then_by (labels.label (body_scope h) nesting_limit) (λ e. mapped (some_label e) (mark is_right_bracket))
+label_in_brackets h =
+    then_by (labels.label (body_scope h) nesting_limit) (λ e. mapped (some_label e) (mark is_right_bracket))
 
 abbrev pub state_label : HeaderData → Part Sign (Option Expression) HoaCause
 state_label h = either (then_by (mark is_left_bracket) (λ _. label_in_brackets h)) (give None)
@@ -117,11 +119,12 @@ MayHaveLabel ByEdge = Unit {0}
 MayHaveLabel NotKnown = Unit {0}
 MayHaveLabel _ = ⊥
 
--- what may be wrong with the `[` of an edge, where `before` is the number of edges of earlier states: one edge too many; or a label
--- where there may be none
+-- what may be wrong with the `[` of an edge, where `before` is the number of edges of earlier states: one edge too
+-- many; or a label where there may be none
 abbrev pub IsBadBracket : ℕ → RowData → Sign → HoaCause → Type 0
 IsBadBracket before row s f = (s.kind ≡ kinds.LeftBracket)
-    × (((edge_limit ≤ before + length row.edges) × (f ≡ causes.Limit)) ⊎ ((MayHaveLabel (labelling row) → ⊥) × (f ≡ causes.Labels)))
+    × (((edge_limit ≤ before + length row.edges) × (f ≡ causes.Limit)) ⊎
+    ((MayHaveLabel (labelling row) → ⊥) × (f ≡ causes.Labels)))
 
 abbrev pub is_bracket : Sign → Option (Unit {0})
 is_bracket s = if is_left_bracket s.kind then Some tt else None
@@ -130,11 +133,13 @@ is_bracket s = if is_left_bracket s.kind then Some tt else None
 abbrev pub labelled_target : HeaderData → Part Sign ℕ HoaCause
 labelled_target h = barred (one int_in (BadIn (IsBadState h.states))) IsAlternating
 
--- a target that is an edge's first sign: of a state's number that is wrong, of one edge too many, or of an edge that wants a label
+-- a target that is an edge's first sign: of a state's number that is wrong, of one edge too many, or of an edge that
+-- wants a label
 abbrev pub IsBadPlainTarget : Option ℕ → ℕ → RowData → ℕ → HoaCause → Type 0
 IsBadPlainTarget states before row n f =
     IsBadState states n f
-    ⊎ (((edge_limit ≤ before + length row.edges) × (f ≡ causes.Limit)) ⊎ ((MayHaveNoLabel (labelling row) → ⊥) × (f ≡ causes.Labels)))
+    ⊎ (((edge_limit ≤ before + length row.edges) × (f ≡ causes.Limit)) ⊎
+    ((MayHaveNoLabel (labelling row) → ⊥) × (f ≡ causes.Labels)))
 
 abbrev pub plain_target : HeaderData → ℕ → RowData → Part Sign ℕ HoaCause
 plain_target h before row = barred (one int_in (BadIn (IsBadPlainTarget h.states before row))) IsAlternating
@@ -148,10 +153,12 @@ guard_of row None = plain_guard row
 guard_of row (Some e) = stated e
 
 abbrev pub with_edge : RowData → Option Expression → ℕ → List ℕ → RowData
-with_edge row label target ns = record row { edges = row.edges ++ record { guard = guard_of row label; target = target; marks = ns } ∷ [] }
+with_edge row label target ns =
+    record row { edges = row.edges ++ record { guard = guard_of row label; target = target; marks = ns } ∷ [] }
 
 abbrev pub labelled_edge : HeaderData → ℕ → RowData → Part Sign RowData HoaCause
-labelled_edge h before row = then_by (one is_bracket (IsBadBracket before row)) (λ _. then_by (label_in_brackets h) (λ label.
+labelled_edge h before row =
+    then_by (one is_bracket (IsBadBracket before row)) (λ _. then_by (label_in_brackets h) (λ label.
     then_by (labelled_target h) (λ target. mapped (with_edge row label target) (marks h))))
 
 abbrev pub plain_edge : HeaderData → ℕ → RowData → Part Sign RowData HoaCause
@@ -211,7 +218,8 @@ state_begins h body = one state_value (IsBadNext h body)
 
 abbrev pub state : HeaderData → BodyData → Part Sign BodyData HoaCause
 state h body = then_by (state_begins h body) (λ _. then_by (state_label h) (λ label. then_by (state_number h body) (λ n.
-    then_by state_name (λ _. then_by (marks h) (λ ns. mapped (with_row body) (edges h body.edges (empty_row n label ns)))))))
+    then_by state_name (λ _. then_by (marks h) (λ ns. mapped (with_row body)
+    (edges h body.edges (empty_row n label ns)))))))
 
 abbrev pub is_end : Kind → Bool
 is_end kinds.End = true

@@ -1,10 +1,12 @@
 -- The bytes of an HOA text, by the tokens that they begin.
---     class_of b      what a byte begins: a blank, a run of digits, a name, an alias, a string, a mark, a comment, or a sign by itself
+--     class_of b      what a byte begins: a blank, a run of digits, a name, an alias, a string, a mark, a comment, or a
+--               sign by itself
 --     IsName text      a letter or `_`, and then letters, digits, `_` and `-`
 use Rattle.std.specs.Prelude.{ℕ, ◌&&◌, Bool, true, false, if◌then◌else◌, nat_le, nat_eq}
 use Rattle.ps_hoa.specs.declared.tokens.Class.{Class}
 use Rattle.ps_hoa.specs.declared.tokens.Class.TheVariants.{Blank, Digit, Letter, At, Quote, Dash, Slash, Sign, Other}
-use Rattle.ps_hoa.specs.declared.tokens.Kind.TheVariants.{Not, And, Or, LeftParen, RightParen, LeftBracket, RightBracket, LeftBrace, RightBrace}
+use Rattle.ps_hoa.specs.declared.tokens.Kind.TheVariants.{Not, And, Or, LeftParen, RightParen, LeftBracket}
+use Rattle.ps_hoa.specs.declared.tokens.Kind.TheVariants.{RightBracket, LeftBrace, RightBrace}
 
 abbrev pub is_between : ℕ → ℕ → ℕ → Bool
 is_between low high b = nat_le low b && nat_le b high

@@ -1,8 +1,10 @@
--- The causes by which an HOA text is refused, with their numbers in psyn's list of faults, and those that a sign is by itself,
--- wherever it stands.
---     hoa_causes      for the answer to a text: the numbers, the causes of signs by themselves, and the grammar's refusal
+-- The causes by which an HOA text is refused, with their numbers in psyn's list of faults, and those that a sign is by
+-- itself, wherever it stands.
+--     hoa_causes      for the answer to a text: the numbers, the causes of signs by themselves, and the grammar's
+--               refusal
 --     found_of      what an error says of the text
-use Rattle.std.specs.Prelude.{ℕ, ◌&&◌, Bool, true, false, List, [], ◌∷◌, codes, if◌then◌else◌, nat_le, Option, None, Some}
+use Rattle.std.specs.Prelude.{ℕ, ◌&&◌, Bool, true, false, List, [], ◌∷◌, codes, if◌then◌else◌, nat_le, Option, None}
+use Rattle.std.specs.Prelude.{Some}
 use Rattle.std.specs.Str.{bytes_eq}
 use Rattle.ps_text.specs.Parts.{Causes}
 pub use Rattle.ps_text.specs.Faults.{found_of}

@@ -5,10 +5,12 @@ use Rattle.std.specs.Coded.{Coded, code_by, coded_list, coded_option, coded×, c
 use Rattle.ps_label.specs.Codes.{expression_code}
 use Rattle.ps_label.specs.Expression as expressions
 use Rattle.ps_label.specs.Expression.{Expression, Operands}
-use Rattle.ps_hoa.specs.Conditions.{Condition, Conditions, constant, infinitely, finitely, all_hold, any_holds, last, more}
+use Rattle.ps_hoa.specs.Conditions.{Condition, Conditions, constant, infinitely, finitely, all_hold, any_holds, last}
+use Rattle.ps_hoa.specs.Conditions.{more}
 use Rattle.ps_hoa.specs.Files.{GuardData, EdgeData, RowData, FileData, stated, of_state, at_letter}
 
--- a set that is visited infinitely often stands as a proposition, one finitely often as an alias, and a complement as a negation
+-- a set that is visited infinitely often stands as a proposition, one finitely often as an alias, and a complement as a
+-- negation
 abbrev expression_of_set : Bool → Expression → Expression
 expression_of_set true e = expressions.not_of e
 expression_of_set false e = e
@@ -43,11 +45,13 @@ abbrev mutual
   conditions_by expressions.last = last
   conditions_by (expressions.more e es) = more (condition_by e) (conditions_by es)
 
-same_infinitely : (n : ℕ) (b : Bool) → condition_by (expression_of_set b (expressions.proposition n)) ≡ infinitely (record { number = n; complemented = b })
+same_infinitely : (n : ℕ) (b : Bool) → condition_by (expression_of_set b (expressions.proposition n)) ≡ infinitely
+    (record { number = n; complemented = b })
 same_infinitely n true = refl
 same_infinitely n false = refl
 
-same_finitely : (n : ℕ) (b : Bool) → condition_by (expression_of_set b (expressions.alias n)) ≡ finitely (record { number = n; complemented = b })
+same_finitely : (n : ℕ) (b : Bool) → condition_by (expression_of_set b (expressions.alias n)) ≡ finitely
+    (record { number = n; complemented = b })
 same_finitely n true = refl
 same_finitely n false = refl
 
@@ -82,20 +86,33 @@ same_guard of_state = refl
 same_guard (at_letter k) = refl
 
 abbrev pub guard_code : Coded GuardData
-guard_code = code_by (Expression ⊎ Option ℕ) (coded⊎ expression_code (coded_option coded_ℕ)) parts_of_guard guard_of same_guard
+guard_code =
+    code_by (Expression ⊎ Option ℕ) (coded⊎ expression_code (coded_option coded_ℕ)) parts_of_guard guard_of same_guard
 
 abbrev pub edge_code : Coded EdgeData
 edge_code = code_by (GuardData × (ℕ × List ℕ)) (coded× guard_code (coded× coded_ℕ (coded_list coded_ℕ)))
     (λ e. (e.guard, (e.target, e.marks))) (λ p. record { guard = p.0; target = p.1.0; marks = p.1.1 }) (λ _. refl)
 
 abbrev pub row_code : Coded RowData
-row_code = code_by ((ℕ × Option Expression) × (List ℕ × List EdgeData)) (coded× (coded× coded_ℕ (coded_option expression_code)) (coded× (coded_list coded_ℕ) (coded_list edge_code)))
-    (λ r. ((r.state, r.label), (r.marks, r.edges))) (λ p. record { state = p.0.0; label = p.0.1; marks = p.1.0; edges = p.1.1 }) (λ _. refl)
+row_code =
+    code_by ((ℕ × Option Expression) × (List ℕ × List EdgeData))
+    (coded× (coded× coded_ℕ (coded_option expression_code)) (coded× (coded_list coded_ℕ) (coded_list edge_code)))
+    (λ r. ((r.state, r.label), (r.marks, r.edges))) (λ p. record
+    { state = p.0.0; label = p.0.1; marks = p.1.0; edges = p.1.1 }) (λ _. refl)
 
 abbrev pub file_code : Coded FileData
 file_code = code_by (((ℕ × ℕ) × (List (List ℕ) × List ℕ)) × ((List Expression × ℕ) × (Condition × List RowData)))
     (coded× (coded× (coded× coded_ℕ coded_ℕ) (coded× (coded_list (coded_list coded_ℕ)) (coded_list coded_ℕ)))
     (coded× (coded× (coded_list expression_code) coded_ℕ) (coded× condition_code (coded_list row_code))))
     (λ f. (((f.states, f.start), (f.names, f.controllable)), ((f.aliases, f.sets), (f.condition, f.rows))))
-    (λ p. record { states = p.0.0.0; start = p.0.0.1; names = p.0.1.0; controllable = p.0.1.1; aliases = p.1.0.0; sets = p.1.0.1; condition = p.1.1.0; rows = p.1.1.1 })
+    (λ p. record {
+      states = p.0.0.0;
+      start = p.0.0.1;
+      names = p.0.1.0;
+      controllable = p.0.1.1;
+      aliases = p.1.0.0;
+      sets = p.1.0.1;
+      condition = p.1.1.0;
+      rows = p.1.1.1;
+    })
     (λ _. refl)

@@ -1,9 +1,10 @@
 -- Acceptance conditions:
 --     cond ::= BOOLEAN | ("Inf" | "Fin") "(" "!"? INT ")" | "(" cond ")" | cond "&" cond | cond "|" cond
--- `&` binds tighter than `|`. The operands of several `&` are one conjunction, and so with `|`; a condition in parentheses stands
--- for itself.
+-- `&` binds tighter than `|`. The operands of several `&` are one conjunction, and so with `|`; a condition in
+-- parentheses stands for itself.
 --     condition room      a condition at a place where `(` may nest so many deep; those of `Inf` and `Fin` don't count
-use Rattle.std.specs.Prelude.{ℕ, ◌≡◌, ◌<◌, zero, suc, Bool, true, false, List, [], ◌∷◌, codes, if◌then◌else◌, Option, None, Some}
+use Rattle.std.specs.Prelude.{ℕ, ◌≡◌, ◌<◌, zero, suc, Bool, true, false, List, [], ◌∷◌, codes, if◌then◌else◌, Option}
+use Rattle.std.specs.Prelude.{None, Some}
 use Rattle.std.specs.Str.{bytes_eq}
 use Rattle.ps_text.specs.Digits.{decimal_value}
 use Rattle.ps_text.specs.Parts.{Part, NoBad, one, then_by, either}
@@ -53,7 +54,8 @@ constant_in sign = constant_value sign.kind sign.text
 
 -- `Inf` is true of Inf
 abbrev pub often_value : Kind → List ℕ → Option Bool
-often_value kinds.Word text = if bytes_eq text (codes "Inf") then Some true else (if bytes_eq text (codes "Fin") then Some false else None)
+often_value kinds.Word text =
+    if bytes_eq text (codes "Inf") then Some true else (if bytes_eq text (codes "Fin") then Some false else None)
 often_value kind text = None
 
 abbrev pub often_in : Sign → Option Bool

@@ -4,7 +4,8 @@
 --     is_marked row edge set      an edge of that row is in that set
 --     Goes file q letter marks next      the state q goes by that letter, with these sets, to the next state
 -- A letter is a number, in which proposition i is bit i.
-use Rattle.std.specs.Prelude.{◌≡◌, ℕ, ◌^◌, ◌<◌, ◌||◌, Bool, IsTrue, List, [], ◌∷◌, length, nat_eq, if◌then◌else◌, Option, None, Some, slice_get}
+use Rattle.std.specs.Prelude.{◌≡◌, ℕ, ◌^◌, ◌<◌, ◌||◌, Bool, IsTrue, List, [], ◌∷◌, length, nat_eq, if◌then◌else◌}
+use Rattle.std.specs.Prelude.{Option, None, Some, slice_get}
 use Rattle.ps_label.specs.Expression.{Expression}
 use Rattle.ps_label.specs.Truth.{label_truth}
 use Rattle.ps_hoa.specs.Files.{GuardData, EdgeData, RowData, FileData, stated, of_state, at_letter, is_among}
@@ -31,8 +32,8 @@ IsTaken file row edge letter = IsOpen file.aliases row.label edge.guard letter
 abbrev pub is_marked : RowData → EdgeData → ℕ → Bool
 is_marked row edge set = is_among set row.marks || is_among set edge.marks
 
--- Some edge of q, taken at that letter, leads there. Its sets are given by a test, so in which order they are written, and how
--- often, makes no difference.
+-- Some edge of q, taken at that letter, leads there. Its sets are given by a test, so in which order they are written,
+-- and how often, makes no difference.
 pub record Goes (file : FileData) (q letter : ℕ) (marks : ℕ → Bool) (next : ℕ) : Type 0 where
   pub is_letter : letter < 2 ^ length file.names
   pub row : RowData

@@ -1,6 +1,7 @@
 -- What an HOA text means: an automaton as it is written, with its names, its aliases and its condition.
 --     FileData      the whole text; a state without a row has no edges
-use Rattle.std.specs.Prelude.{ℕ, ◌+◌, max, List, [], ◌∷◌, ◌++◌, Option, None, Some, if◌then◌else◌, nat_eq, Bool, true, false}
+use Rattle.std.specs.Prelude.{ℕ, ◌+◌, max, List, [], ◌∷◌, ◌++◌, Option, None, Some, if◌then◌else◌, nat_eq, Bool, true}
+use Rattle.std.specs.Prelude.{false}
 use Rattle.ps_label.specs.Expression.{Expression}
 use Rattle.ps_hoa.specs.Conditions.{Condition}
 

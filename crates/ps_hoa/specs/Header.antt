@@ -7,10 +7,12 @@
 --     form_of h name      what stands at that name, behind items that say h
 --     item h      one more item
 --     header      all items, and `--BODY--`
-use Rattle.std.specs.Prelude.{◌≡◌, ◌≢◌, ℕ, ◌<◌, ◌≤◌, ◌⊎◌, ◌||◌, Bool, true, false, List, [], ◌∷◌, ◌++◌, length, drop, codes, if◌then◌else◌, nat_eq, nat_lt, Option, None, Some, IfSome}
+use Rattle.std.specs.Prelude.{◌≡◌, ◌≢◌, ℕ, ◌<◌, ◌≤◌, ◌⊎◌, ◌||◌, Bool, true, false, List, [], ◌∷◌, ◌++◌, length, drop}
+use Rattle.std.specs.Prelude.{codes, if◌then◌else◌, nat_eq, nat_lt, Option, None, Some, IfSome}
 use Rattle.std.specs.Str.{bytes_eq}
 use Rattle.std.specs.Option.{unwrap_or}
-use Rattle.ps_label.specs.Expression.{Expression, constant, proposition, alias, not_of, all_of, any_of, Operands, last, more}
+use Rattle.ps_label.specs.Expression.{Expression, constant, proposition, alias, not_of, all_of, any_of, Operands, last}
+use Rattle.ps_label.specs.Expression.{more}
 use Rattle.ps_text.specs.Digits.{decimal_value}
 use Rattle.ps_text.specs.Parts.{Part, NoBad, give, one, then_by, either, times, many, mapped, barred}
 use Rattle.ps_text.specs.Choices.{choice}
@@ -43,7 +45,16 @@ pub record HeaderData : Type 0 where
   pub acceptance : Option AcceptanceData
 
 abbrev pub no_items : HeaderData
-no_items = record { states = None; start = None; names = None; controllable = None; alias_names = []; aliases = []; acceptance = None }
+no_items =
+    record {
+      states = None;
+      start = None;
+      names = None;
+      controllable = None;
+      alias_names = [];
+      aliases = [];
+      acceptance = None;
+    }
 
 -- without `AP:` there are no propositions
 abbrev pub names_of : HeaderData → List (List ℕ)
@@ -51,7 +62,8 @@ names_of h = unwrap_or h.names []
 
 -- ## Signs
 
--- the limits: of states, propositions, sets and aliases; the greatest number of a state where `States:` does not give one
+-- the limits: of states, propositions, sets and aliases; the greatest number of a state where `States:` does not give
+-- one
 abbrev pub state_limit : ℕ
 state_limit = 65535
 
@@ -129,7 +141,9 @@ abbrev pub with_start : HeaderData → ℕ → HeaderData
 with_start h n = record h { start = Some n }
 
 abbrev pub start_item : HeaderData → Part Sign HeaderData HoaCause
-start_item h = then_by (one (λ s. name_value (codes "Start:") s.kind s.text) (IsSecondStart h)) (λ _. mapped (with_start h) (barred (int number_limit) IsAlternating))
+start_item h =
+    then_by (one (λ s. name_value (codes "Start:") s.kind s.text) (IsSecondStart h))
+    (λ _. mapped (with_start h) (barred (int number_limit) IsAlternating))
 
 -- a byte that stands in no name of a proposition
 abbrev pub is_control : ℕ → Bool
@@ -149,7 +163,9 @@ is_empty (b ∷ bs) = false
 
 -- a string that is no name of a proposition, or that of an earlier one
 abbrev pub IsBadName : List (List ℕ) → Sign → HoaCause → Type 0
-IsBadName names s f = IfSome (string_in s) (λ name. ((is_empty name || has_control name || is_name_among name names) ≡ true) × (f ≡ causes.Name)) × (string_in s ≢ None)
+IsBadName names s f =
+    IfSome (string_in s) (λ name. ((is_empty name || has_control name || is_name_among name names) ≡ true) ×
+    (f ≡ causes.Name)) × (string_in s ≢ None)
 
 abbrev pub with_name : List (List ℕ) → List ℕ → List (List ℕ)
 with_name names name = names ++ name ∷ []
@@ -161,7 +177,9 @@ abbrev pub with_names : HeaderData → List (List ℕ) → HeaderData
 with_names h names = record h { names = Some names }
 
 abbrev pub names_item : HeaderData → Part Sign HeaderData HoaCause
-names_item h = then_by (item_name (codes "AP:")) (λ _. then_by (int proposition_limit) (λ n. mapped (with_names h) (times n proposition_name [])))
+names_item h =
+    then_by (item_name (codes "AP:")) (λ _. then_by (int proposition_limit)
+    (λ n. mapped (with_names h) (times n proposition_name [])))
 
 abbrev pub alias_value : Kind → List ℕ → Option (List ℕ)
 alias_value kinds.AliasName text = Some text
@@ -170,7 +188,8 @@ alias_value kind text = None
 -- a name beyond the limit of aliases, or that of an earlier one
 abbrev pub IsBadAlias : List (List ℕ) → Sign → HoaCause → Type 0
 IsBadAlias names s f = IfSome (alias_value s.kind s.text) (λ name.
-    ((alias_limit ≤ length names) × (f ≡ causes.Limit)) ⊎ ((is_name_among name names ≡ true) × (f ≡ causes.Alias))) × (alias_value s.kind s.text ≢ None)
+    ((alias_limit ≤ length names) × (f ≡ causes.Limit)) ⊎ ((is_name_among name names ≡ true) × (f ≡ causes.Alias))) ×
+    (alias_value s.kind s.text ≢ None)
 
 abbrev pub header_scope : HeaderData → ScopeData
 header_scope h = record { names = h.alias_names; propositions = None }
@@ -187,9 +206,12 @@ abbrev pub with_acceptance : HeaderData → ℕ → Condition → HeaderData
 with_acceptance h n c = record h { acceptance = Some (record { sets = n; condition = c }) }
 
 abbrev pub acceptance_item : HeaderData → Part Sign HeaderData HoaCause
-acceptance_item h = then_by (item_name (codes "Acceptance:")) (λ _. then_by (int set_limit) (λ n. mapped (with_acceptance h n) (conditions.condition nesting_limit)))
+acceptance_item h =
+    then_by (item_name (codes "Acceptance:")) (λ _. then_by (int set_limit)
+    (λ n. mapped (with_acceptance h n) (conditions.condition nesting_limit)))
 
--- Each proposition has a place, and all numbers that are no proposition's have one together: of them it matters only that there is one.
+-- Each proposition has a place, and all numbers that are no proposition's have one together: of them it matters only
+-- that there is one.
 abbrev pub place_of : ℕ → ℕ
 place_of n = if nat_lt n proposition_limit then n else proposition_limit
 
@@ -215,7 +237,8 @@ abbrev pub unchanged : HeaderData → List ℕ → HeaderData
 unchanged h _ = h
 
 abbrev pub tool_item : HeaderData → Part Sign HeaderData HoaCause
-tool_item h = then_by (item_name (codes "tool:")) (λ _. then_by string (λ _. either (mapped (unchanged h) string) (give h)))
+tool_item h =
+    then_by (item_name (codes "tool:")) (λ _. then_by string (λ _. either (mapped (unchanged h) string) (give h)))
 
 abbrev pub name_item : HeaderData → Part Sign HeaderData HoaCause
 name_item h = then_by (item_name (codes "name:")) (λ _. mapped (unchanged h) string)
@@ -224,7 +247,8 @@ name_item h = then_by (item_name (codes "name:")) (λ _. mapped (unchanged h) st
 abbrev pub other_value : Kind → List ℕ → Option (Unit {0})
 other_value kinds.Header text =
     if is_spelled text || begins_capital text then None
-    else (if bytes_eq text (codes "controllable-AP:") || bytes_eq text (codes "tool:") || bytes_eq text (codes "name:") then None
+    else (if bytes_eq text (codes "controllable-AP:") || bytes_eq text (codes "tool:") || bytes_eq text
+    (codes "name:") then None
     else Some tt)
 other_value kind text = None
 
@@ -310,7 +334,8 @@ IsControlBeyond count (Some ns) = AnIndexBeyond count ns
 abbrev pub IsRangeBroken : HeaderData → Type 0
 IsRangeBroken h =
     IsStartBeyond h.states h.start
-    ⊎ (AnAliasBeyond (length (names_of h)) h.aliases ⊎ (IsConditionBeyond h.acceptance ⊎ IsControlBeyond (length (names_of h)) h.controllable))
+    ⊎ (AnAliasBeyond (length (names_of h)) h.aliases ⊎ (IsConditionBeyond h.acceptance ⊎
+    IsControlBeyond (length (names_of h)) h.controllable))
 
 -- what is wrong with a header that ends here; of several the one with the smallest number is answered
 pub data IsBadHeader (h : HeaderData) : HoaCause → Type 0 where

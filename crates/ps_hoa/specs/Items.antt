@@ -12,14 +12,17 @@ use Rattle.ps_hoa.specs.declared.tokens.Kind.TheVariants as kinds
 -- the names of the items that have a meaning here
 abbrev pub item_names : List (List ℕ × ItemName)
 item_names =
-    (codes "States:", items.states) ∷ (codes "Start:", items.start) ∷ (codes "AP:", items.propositions) ∷ (codes "Alias:", items.alias)
-    ∷ (codes "Acceptance:", items.acceptance) ∷ (codes "controllable-AP:", items.controllable) ∷ (codes "tool:", items.tool)
+    (codes "States:", items.states) ∷ (codes "Start:", items.start) ∷ (codes "AP:", items.propositions) ∷
+    (codes "Alias:", items.alias)
+    ∷ (codes "Acceptance:", items.acceptance) ∷ (codes "controllable-AP:", items.controllable) ∷
+    (codes "tool:", items.tool)
     ∷ (codes "name:", items.name) ∷ []
 
 -- which item begins with a sign: the one with that name, or one whose name has no meaning here
 abbrev pub item_among : List (List ℕ × ItemName) → Kind → List ℕ → Option ItemName
 item_among [] kind text = if is_some (other_value kind text) then Some items.other else None
-item_among (row ∷ rows) kind text = if is_some (name_value row.0 kind text) then Some row.1 else item_among rows kind text
+item_among (row ∷ rows) kind text =
+    if is_some (name_value row.0 kind text) then Some row.1 else item_among rows kind text
 
 abbrev pub item_at : Sign → Option ItemName
 item_at s = item_among item_names s.kind s.text

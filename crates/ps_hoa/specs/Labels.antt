@@ -1,10 +1,11 @@
 -- Label expressions:
 --     label ::= BOOLEAN | INT | ANAME | "!" label | "(" label ")" | label "&" label | label "|" label
--- `!` binds tightest, then `&`, then `|`. The operands of several `&` are one conjunction, and so with `|`; an operand in
--- parentheses stands for itself.
+-- `!` binds tightest, then `&`, then `|`. The operands of several `&` are one conjunction, and so with `|`; an operand
+-- in parentheses stands for itself.
 --     label scope room      a label at a place where `!` and `(` may nest so many deep
 --     operand scope room      what may stand on either side of `&`
-use Rattle.std.specs.Prelude.{ℕ, ◌≡◌, ◌≤◌, ◌<◌, ◌⊎◌, zero, suc, Bool, true, false, List, codes, if◌then◌else◌, Option, None, Some, position}
+use Rattle.std.specs.Prelude.{ℕ, ◌≡◌, ◌≤◌, ◌<◌, ◌⊎◌, zero, suc, Bool, true, false, List, codes, if◌then◌else◌, Option}
+use Rattle.std.specs.Prelude.{None, Some, position}
 use Rattle.std.specs.Str.{bytes_eq}
 use Rattle.ps_label.specs.Expression.{Expression, constant, proposition, alias, not_of, all_of, any_of, row_of}
 use Rattle.ps_text.specs.Digits.{decimal_value}
@@ -18,14 +19,15 @@ use Rattle.ps_hoa.specs.declared.fault.HoaCause.TheVariants as causes
 use Rattle.ps_hoa.specs.declared.tokens.Kind.{Kind}
 use Rattle.ps_hoa.specs.declared.tokens.Kind.TheVariants as kinds
 
--- The surroundings of a label: the aliases that were defined before, in order, and where it matters the number of propositions.
--- In the header it does not, since `AP:` may stand behind the label.
+-- The surroundings of a label: the aliases that were defined before, in order, and where it matters the number of
+-- propositions. In the header it does not, since `AP:` may stand behind the label.
 pub record ScopeData : Type 0 where
   pub names : List (List ℕ)
   pub propositions : Option ℕ
 
 abbrev pub boolean_in : List ℕ → Option Bool
-boolean_in text = if bytes_eq text (codes "t") then Some true else (if bytes_eq text (codes "f") then Some false else None)
+boolean_in text =
+    if bytes_eq text (codes "t") then Some true else (if bytes_eq text (codes "f") then Some false else None)
 
 abbrev pub constant_in : Option Bool → Option Expression
 constant_in None = None
@@ -53,10 +55,12 @@ abbrev pub IsBeyond : Option ℕ → ℕ → Type 0
 IsBeyond None n = ⊥
 IsBeyond (Some count) n = count ≤ n
 
--- what may be wrong with the first sign of an operand: an INT above the greatest one, or that is no proposition; an alias that
--- is not known; and a `!` or `(` where no more may nest
+-- what may be wrong with the first sign of an operand: an INT above the greatest one, or that is no proposition; an
+-- alias that is not known; and a `!` or `(` where no more may nest
 abbrev pub IsBadLeaf : ScopeData → ℕ → Kind → List ℕ → HoaCause → Type 0
-IsBadLeaf scope room kinds.Int text f = ((number_limit < decimal_value text) × (f ≡ causes.Limit)) ⊎ (IsBeyond scope.propositions (decimal_value text) × (f ≡ causes.Range))
+IsBadLeaf scope room kinds.Int text f =
+    ((number_limit < decimal_value text) × (f ≡ causes.Limit)) ⊎
+    (IsBeyond scope.propositions (decimal_value text) × (f ≡ causes.Range))
 IsBadLeaf scope room kinds.AliasName text f = (alias_number scope.names text ≡ None) × (f ≡ causes.Alias)
 IsBadLeaf scope room kinds.Not text f = (room ≡ 0) × (f ≡ causes.Limit)
 IsBadLeaf scope room kinds.LeftParen text f = (room ≡ 0) × (f ≡ causes.Limit)
@@ -78,7 +82,9 @@ negation operand = then_by (mark is_not) (λ _. mapped not_of operand)
 
 unfoldable pub operand : ScopeData → ℕ → Part Sign Expression HoaCause
 operand scope zero = leaf scope 0
-operand scope (suc room) = either (leaf scope (suc room)) (either (negation (operand scope room)) (inner (rows together connectives.Or (operand scope room))))
+operand scope (suc room) =
+    either (leaf scope (suc room)) (either (negation (operand scope room))
+    (inner (rows together connectives.Or (operand scope room))))
 
 abbrev pub label : ScopeData → ℕ → Part Sign Expression HoaCause
 label scope room = rows together connectives.Or (operand scope room)

@@ -1,7 +1,8 @@
--- Labels and acceptance conditions by the grammar without a limit, with how deep `!` and `(` nest: each counts from its sign to
--- the end of its operand, and the parentheses of `Inf` and `Fin` don't count. The grammars of `Labels` and `Conditions` are this
--- one up to their room.
---     IsLabel names deep text v, IsCondition deep text v      the signs are one of that meaning, in which they nest that deep
+-- Labels and acceptance conditions by the grammar without a limit, with how deep `!` and `(` nest: each counts from its
+-- sign to the end of its operand, and the parentheses of `Inf` and `Fin` don't count. The grammars of `Labels` and
+-- `Conditions` are this one up to their room.
+--     IsLabel names deep text v, IsCondition deep text v      the signs are one of that meaning, in which they nest
+--               that deep
 --     Within room Nests      they nest no deeper than that
 use Rattle.std.specs.Prelude.{ℕ, ◌≡◌, ◌≤◌, ◌⊎◌, suc, max, true, List, [], ◌∷◌, ◌++◌, Some}
 use Rattle.ps_label.specs.Expression.{Expression, not_of}
@@ -26,22 +27,27 @@ pub record Grammar (V : Type 0) : Type 1 where
 mutual
   pub data IsOperand {V : Type 0} (g : Grammar V) : ℕ → List Sign → V → Type 0 where
     atom : (text : List Sign) (v : V) → g.IsAtom text v → IsOperand g 0 text v
-    negated : (t : Sign) (deep : ℕ) (text : List Sign) (v w : V) → is_not t.kind ≡ true → g.Negates v w → IsOperand g deep text v → IsOperand g (suc deep) (t ∷ text) w
-    in_parentheses : (l r : Sign) (deep : ℕ) (text : List Sign) (v : V) → is_left l.kind ≡ true → is_right r.kind ≡ true → IsRow g connectives.Or deep text v →
+    negated : (t : Sign) (deep : ℕ) (text : List Sign) (v w : V) → is_not t.kind ≡ true → g.Negates v w →
+        IsOperand g deep text v → IsOperand g (suc deep) (t ∷ text) w
+    in_parentheses : (l r : Sign) (deep : ℕ) (text : List Sign) (v : V) → is_left l.kind ≡ true →
+        is_right r.kind ≡ true → IsRow g connectives.Or deep text v →
         IsOperand g (suc deep) (l ∷ text ++ r ∷ []) v
 
   -- what stands between connectives: `&` binds tighter than `|`
   pub data IsPart {V : Type 0} (g : Grammar V) : Connective → ℕ → List Sign → V → Type 0 where
     operand : (deep : ℕ) (text : List Sign) (v : V) → IsOperand g deep text v → IsPart g connectives.And deep text v
-    conjunction : (deep : ℕ) (text : List Sign) (v : V) → IsRow g connectives.And deep text v → IsPart g connectives.Or deep text v
+    conjunction : (deep : ℕ) (text : List Sign) (v : V) → IsRow g connectives.And deep text v →
+        IsPart g connectives.Or deep text v
 
   pub data More {V : Type 0} (g : Grammar V) : Connective → ℕ → List Sign → List V → Type 0 where
     no_more : (c : Connective) → More g c 0 [] []
-    one_more : (c : Connective) (t : Sign) (a b : ℕ) (text rest : List Sign) (v : V) (vs : List V) → is_sign_of c t.kind ≡ true → IsPart g c a text v → More g c b rest vs →
+    one_more : (c : Connective) (t : Sign) (a b : ℕ) (text rest : List Sign) (v : V) (vs : List V) →
+        is_sign_of c t.kind ≡ true → IsPart g c a text v → More g c b rest vs →
         More g c (max a b) (t ∷ text ++ rest) (v ∷ vs)
 
   pub data IsRow {V : Type 0} (g : Grammar V) : Connective → ℕ → List Sign → V → Type 0 where
-    row : (c : Connective) (a b : ℕ) (text rest : List Sign) (v : V) (vs : List V) → IsPart g c a text v → More g c b rest vs →
+    row : (c : Connective) (a b : ℕ) (text rest : List Sign) (v : V) (vs : List V) → IsPart g c a text v →
+        More g c b rest vs →
         IsRow g c (max a b) (text ++ rest) (joined (g.together c) (v ∷ vs))
 
 -- a label's atoms are of one sign, and `!` makes its negation
@@ -58,7 +64,8 @@ IsLabel names = IsRow (label_grammar names) connectives.Or
 -- a condition's atoms are a constant or a set that is visited, and `!` stands before none
 abbrev pub condition_grammar : Grammar Condition
 condition_grammar = record {
-  IsAtom = λ text v. ((t : Sign) × (text ≡ t ∷ []) × (conditions.constant_in t ≡ Some v)) ⊎ conditions.visit.IsText text v;
+  IsAtom =
+      λ text v. ((t : Sign) × (text ≡ t ∷ []) × (conditions.constant_in t ≡ Some v)) ⊎ conditions.visit.IsText text v;
   Negates = λ v w. ⊥;
   together = conditions.together;
 }

@@ -1,7 +1,9 @@
--- What labels and acceptance conditions have in common: signs by themselves, an operand in parentheses, and rows of operands.
+-- What labels and acceptance conditions have in common: signs by themselves, an operand in parentheses, and rows of
+-- operands.
 --     mark test      a sign of such a kind, by itself
 --     inner part      the part between parentheses
---     row sign join operand      operands with that sign between them: one stands for itself, and several are joined, all at once
+--     row sign join operand      operands with that sign between them: one stands for itself, and several are joined,
+--               all at once
 --     rows together connective operand      operands with a connective between them, where `&` binds tighter than `|`
 use Rattle.std.specs.Prelude.{ℕ, Bool, true, false, List, [], ◌∷◌, ◌++◌, if◌then◌else◌, Option, None, Some}
 use Rattle.ps_text.specs.Parts.{Part, NoBad, one, then_by, many, mapped}
@@ -83,7 +85,8 @@ between together connectives.And operand = operand
 between together connectives.Or operand = row is_and (together connectives.And) operand
 
 abbrev pub rows : {V : Type 0} → (Connective → List V → V) → Connective → Part Sign V HoaCause → Part Sign V HoaCause
-rows together connective operand = row (is_sign_of connective) (together connective) (between together connective operand)
+rows together connective operand =
+    row (is_sign_of connective) (together connective) (between together connective operand)
 
 -- the greatest INT
 abbrev pub number_limit : ℕ

@@ -11,4 +11,5 @@ use Rattle.ps_text.specs.declared.faults.Fault.TheVariants.{Text}
 -- nothing more stands in the text, or what stands next can't
 abbrev pub EndsHere : Stream Sign → Result (Unit {0}) HoaFault → Type 0
 EndsHere stream (Ok u) = stream.pieces ≡ []
-EndsHere stream (Err e) = (stream.pieces ≡ [] → ⊥) × (e ≡ Text (refusal_of hoa_causes (Some (next_of stream).sign)) (next_of stream).start)
+EndsHere stream (Err e) =
+    (stream.pieces ≡ [] → ⊥) × (e ≡ Text (refusal_of hoa_causes (Some (next_of stream).sign)) (next_of stream).start)

@@ -1,7 +1,7 @@
 -- What the reading functions say of the parts that they read.
 --     ReadsAs view part old result new      the part was read from old, and new is left, or its first fault was found
---     Takes view take Bad piece result      what is answered to one sign, or to the end of the text: it is taken, it is bad, or
---               it can't stand there
+--     Takes view take Bad piece result      what is answered to one sign, or to the end of the text: it is taken, it is
+--               bad, or it can't stand there
 use Rattle.std.specs.Prelude.{◌≡◌, ◌≤◌, ◌⊎◌, Option, None, Some, Result, Ok, Err}
 use Rattle.ps_text.specs.Answers.{Piece}
 use Rattle.ps_text.specs.Parts.{Part, refusal_of}
@@ -22,17 +22,21 @@ pub record IsWorst (Bad : Sign → HoaCause → Type 0) (sign : Sign) (f : HoaCa
   pub least : (g : HoaCause) → Bad sign g → cause_number f ≤ cause_number g
 
 -- the sign is none that is taken, and f is its own cause or the grammar's
-pub record IsRefusal {V : Type 0} (take : Sign → Option V) (Bad : Sign → HoaCause → Type 0) (sign : Sign) (f : HoaCause) : Type 0 where
+pub record IsRefusal {V : Type 0} (take : Sign → Option V) (Bad : Sign → HoaCause → Type 0) (sign : Sign)
+    (f : HoaCause) : Type 0 where
   pub none : take sign ≡ None
   pub good : (g : HoaCause) → Bad sign g → ⊥
   pub cause : f ≡ refusal_of hoa_causes (Some sign)
 
 -- the sign is taken
-pub record IsTaken {V : Type 0} (take : Sign → Option V) (Bad : Sign → HoaCause → Type 0) (sign : Sign) (v : V) : Type 0 where
-  pub some : take sign ≡ Some v
-  pub good : (g : HoaCause) → Bad sign g → ⊥
+pub record IsTaken {V : Type 0} (take : Sign → Option V) (Bad : Sign → HoaCause → Type 0) (sign : Sign) (v : V) : Type 0
+  where
+    pub some : take sign ≡ Some v
+    pub good : (g : HoaCause) → Bad sign g → ⊥
 
-abbrev pub Takes : {V X : Type 0} → (X → V) → (Sign → Option V) → (Sign → HoaCause → Type 0) → Piece Sign → Result X HoaFault → Type 0
+abbrev pub Takes : {V X : Type 0} → (X → V) → (Sign → Option V) → (Sign → HoaCause → Type 0) → Piece Sign →
+    Result X HoaFault → Type 0
 Takes view take Bad piece (Ok x) = IsTaken take Bad piece.sign (view x)
-Takes view take Bad piece (Err (faults.Text cause offset)) = (offset ≡ piece.start) × (IsWorst Bad piece.sign cause ⊎ IsRefusal take Bad piece.sign cause)
+Takes view take Bad piece (Err (faults.Text cause offset)) =
+    (offset ≡ piece.start) × (IsWorst Bad piece.sign cause ⊎ IsRefusal take Bad piece.sign cause)
 Takes view take Bad piece (Err faults.OutOfMemory) = Unit {0}

@@ -1,14 +1,17 @@
 -- The tokens found by going over the bytes once: where the reader is, and what is still to come.
-use Rattle.std.specs.Prelude.{◌≡◌, ℕ, zero, suc, ◌+◌, ◌-◌, ◌<◌, ◌&&◌, Bool, true, false, List, [], ◌∷◌, length, take, drop, codes, if◌then◌else◌, nat_eq, nat_lt, Option, None, Some}
+use Rattle.std.specs.Prelude.{◌≡◌, ℕ, zero, suc, ◌+◌, ◌-◌, ◌<◌, ◌&&◌, Bool, true, false, List, [], ◌∷◌, length, take}
+use Rattle.std.specs.Prelude.{drop, codes, if◌then◌else◌, nat_eq, nat_lt, Option, None, Some}
 use Rattle.std.specs.List.{prefix_len}
 use Rattle.std.specs.Str.{bytes_eq}
 use Rattle.ps_text.specs.Answers.{Piece, Stream}
 use Rattle.ps_hoa.specs.Bytes.{class_of, is_digit, is_name_byte}
 use Rattle.ps_hoa.specs.Tokens.{Sign, marked}
 use Rattle.ps_hoa.specs.declared.tokens.Class.{Class}
-use Rattle.ps_hoa.specs.declared.tokens.Class.TheVariants.{Blank, Digit, Letter, At, Quote, Dash, Slash, Sign as SignOf, Other}
+use Rattle.ps_hoa.specs.declared.tokens.Class.TheVariants.{Blank, Digit, Letter, At, Quote, Dash, Slash, Sign as SignOf}
+use Rattle.ps_hoa.specs.declared.tokens.Class.TheVariants.{Other}
 use Rattle.ps_hoa.specs.declared.tokens.Kind.{Kind}
-use Rattle.ps_hoa.specs.declared.tokens.Kind.TheVariants.{Header, Word, AliasName, Int, ZeroRun, Text, Body, End, Abort, OpenComment, Odd, Finish}
+use Rattle.ps_hoa.specs.declared.tokens.Kind.TheVariants.{Header, Word, AliasName, Int, ZeroRun, Text, Body, End, Abort}
+use Rattle.ps_hoa.specs.declared.tokens.Kind.TheVariants.{OpenComment, Odd, Finish}
 use Rattle.ps_hoa.specs.declared.tokens.Step.{Step}
 use Rattle.ps_hoa.specs.declared.tokens.Step.TheVariants.{Skip, Found}
 use Rattle.ps_hoa.specs.declared.tokens.Marks.{Marks}
@@ -26,13 +29,14 @@ abbrev pub plus : ℕ → Option ℕ → Option ℕ
 plus k None = None
 plus k (Some n) = Some (k + n)
 
--- how many bytes end the comment that they stand in, with `depth` others around it; with `skip`, the first one belongs to a pair
--- before
+-- how many bytes end the comment that they stand in, with `depth` others around it; with `skip`, the first one belongs
+-- to a pair before
 unfoldable pub comment_len : List ℕ → Bool → ℕ → Option ℕ
 comment_len [] skip depth = None
 comment_len (b ∷ bs) true depth = one_more (comment_len bs false depth)
 comment_len (b ∷ bs) false depth =
-    if nat_eq b 42 && nat_eq (head_or_zero bs) 47 then (elim depth [ zero ↦ Some 2 | suc d ↦ one_more (comment_len bs true d) ])
+    if nat_eq b 42 && nat_eq (head_or_zero bs) 47 then (elim depth
+    [ zero ↦ Some 2 | suc d ↦ one_more (comment_len bs true d) ])
     else (if nat_eq b 47 && nat_eq (head_or_zero bs) 42 then one_more (comment_len bs true (suc depth))
     else one_more (comment_len bs false depth))
 
@@ -53,11 +57,13 @@ number_step b bs =
 
 abbrev pub name_step : List ℕ → Step
 name_step bs =
-    if nat_eq (head_or_zero (drop (prefix_len is_name_byte bs) bs)) 58 then Found Header (2 + prefix_len is_name_byte bs)
+    if nat_eq (head_or_zero (drop (prefix_len is_name_byte bs) bs)) 58 then Found Header
+    (2 + prefix_len is_name_byte bs)
     else Found Word (1 + prefix_len is_name_byte bs)
 
 abbrev pub alias_step : List ℕ → Step
-alias_step bs = if nat_eq (prefix_len is_name_byte bs) 0 then Found Odd 1 else Found AliasName (1 + prefix_len is_name_byte bs)
+alias_step bs =
+    if nat_eq (prefix_len is_name_byte bs) 0 then Found Odd 1 else Found AliasName (1 + prefix_len is_name_byte bs)
 
 abbrev pub text_by : Option ℕ → Step
 text_by None = Found Odd 1
@@ -130,7 +136,8 @@ lex_behind (b ∷ bs) (suc skip) at = lex_behind bs skip (at + 1)
 lex_behind (b ∷ bs) zero at =
     elim (step_of (b ∷ bs)) [
       | Skip n ↦ lex_behind bs (n - 1) (at + 1)
-      | Found kind n ↦ record { sign = record { kind = kind; text = take n (b ∷ bs) }; start = at } ∷ lex_behind bs (n - 1) (at + 1)
+      | Found kind n ↦ record { sign = record { kind = kind; text = take n (b ∷ bs) }; start = at } ∷ lex_behind bs
+          (n - 1) (at + 1)
     ]
 
 abbrev pub lex : ℕ → List ℕ → List (Piece Sign)

@@ -1,14 +1,18 @@
--- What holds of each file that was read: every number is that of a state, a proposition, a set or an earlier alias; the numbers of a
--- list, names and rows differ; the edges of a state are labelled in one of three ways; and nothing is beyond the limits of texts.
+-- What holds of each file that was read: every number is that of a state, a proposition, a set or an earlier alias; the
+-- numbers of a list, names and rows differ; the edges of a state are labelled in one of three ways; and nothing is
+-- beyond the limits of texts.
 --     IsSoundFile file
 --     IsLabel aliases propositions e      e speaks of that many aliases and propositions alone
-use Rattle.std.specs.Prelude.{◌≡◌, ℕ, ◌+◌, ◌^◌, ◌<◌, ◌≤◌, ◌⊎◌, ◌||◌, false, List, [], ◌∷◌, length, All, sum_by, Option, None, Some, IfSome}
+use Rattle.std.specs.Prelude.{◌≡◌, ℕ, ◌+◌, ◌^◌, ◌<◌, ◌≤◌, ◌⊎◌, ◌||◌, false, List, [], ◌∷◌, length, All, sum_by, Option}
+use Rattle.std.specs.Prelude.{None, Some, IfSome}
 use Rattle.std.specs.List.{AllByRecursion}
-use Rattle.ps_label.specs.Expression.{Expression, constant, proposition, alias, not_of, all_of, any_of, Operands, last, more}
+use Rattle.ps_label.specs.Expression.{Expression, constant, proposition, alias, not_of, all_of, any_of, Operands, last}
+use Rattle.ps_label.specs.Expression.{more}
 use Rattle.ps_hoa.specs.Conditions as conditions
 use Rattle.ps_hoa.specs.Conditions.{Condition, Conditions}
 use Rattle.ps_hoa.specs.Files.{GuardData, EdgeData, RowData, FileData, stated, of_state, at_letter, is_among}
-use Rattle.ps_hoa.specs.Header.{state_limit, proposition_limit, set_limit, alias_limit, has_control, is_empty, is_name_among}
+use Rattle.ps_hoa.specs.Header.{state_limit, proposition_limit, set_limit, alias_limit, has_control, is_empty}
+use Rattle.ps_hoa.specs.Header.{is_name_among}
 use Rattle.ps_hoa.specs.Body.{edge_limit, has_row}
 
 -- none of the numbers stands twice
@@ -95,7 +99,8 @@ pub record IsSoundRow (file : FileData) (row : RowData) : Type 0 where
 -- names are not empty, have no control bytes, and differ
 abbrev pub AreNames : List (List ℕ) → Type 0
 AreNames [] = Unit {0}
-AreNames (name ∷ names) = ((is_empty name || has_control name) ≡ false) × (is_name_among name names ≡ false) × AreNames names
+AreNames (name ∷ names) =
+    ((is_empty name || has_control name) ≡ false) × (is_name_among name names ≡ false) × AreNames names
 
 -- no state has two rows
 abbrev pub AreRowsOnce : List RowData → Type 0

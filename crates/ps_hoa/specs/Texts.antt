@@ -1,10 +1,11 @@
 -- What the reader of HOA texts answers.
 --     file      header and body, as one part
 --     IsBehindBlanks bytes blanks rest      rest is what stands behind all blanks and comments
---     ReadsFile bytes answer      the meaning of a text without a cause, and else its first cause. The stages go one behind the other:
---               the length, `HOA:`, the version, and what is behind it by its tokens
+--     ReadsFile bytes answer      the meaning of a text without a cause, and else its first cause. The stages go one
+--               behind the other: the length, `HOA:`, the version, and what is behind it by its tokens
 --     IsFileAnswer view bytes result      what the reader answers
-use Rattle.std.specs.Prelude.{◌≡◌, ◌≢◌, ℕ, ◌+◌, ◌<◌, ◌≤◌, ◌||◌, Bool, true, List, [], ◌++◌, length, codes, nat_eq, None, Some, Result, Ok, Err}
+use Rattle.std.specs.Prelude.{◌≡◌, ◌≢◌, ℕ, ◌+◌, ◌<◌, ◌≤◌, ◌||◌, Bool, true, List, [], ◌++◌, length, codes, nat_eq, None}
+use Rattle.std.specs.Prelude.{Some, Result, Ok, Err}
 use Rattle.std.specs.Option.{unwrap_or}
 use Rattle.ps_text.specs.Answers.{Piece, Found}
 use Rattle.ps_text.specs.Parts.{Part, then_by, mapped, PartAnswers}
@@ -68,13 +69,17 @@ pub data ReadsFile (bytes : List ℕ) : Result FileData (Found HoaCause) → Typ
   too_long : text_limit < length bytes → ReadsFile bytes (at_offset causes.Limit text_limit)
   not_hoa : {blanks rest : List ℕ} → length bytes ≤ text_limit → IsBehindBlanks bytes blanks rest →
       ((more : List ℕ) → rest ≡ codes "HOA:" ++ more → ⊥) → ReadsFile bytes (at_offset causes.NotHoa (length blanks))
-  other_version : {blanks further rest version more tail : List ℕ} → length bytes ≤ text_limit → IsBehindBlanks bytes blanks (codes "HOA:" ++ more) →
+  other_version : {blanks further rest version more tail : List ℕ} → length bytes ≤ text_limit →
+      IsBehindBlanks bytes blanks (codes "HOA:" ++ more) →
       IsBehindBlanks more further rest → IsVersion rest version tail → version ≢ codes "v1" →
       ReadsFile bytes (at_offset causes.Version (length blanks + 4 + length further))
-  by_tokens : {blanks further rest more tail : List ℕ} → (pieces : List (Piece Sign)) → {answer : Result FileData (Found HoaCause)} →
-      length bytes ≤ text_limit → IsBehindBlanks bytes blanks (codes "HOA:" ++ more) → IsBehindBlanks more further rest → IsVersion rest (codes "v1") tail →
+  by_tokens : {blanks further rest more tail : List ℕ} → (pieces : List (Piece Sign)) →
+      {answer : Result FileData (Found HoaCause)} →
+      length bytes ≤ text_limit → IsBehindBlanks bytes blanks (codes "HOA:" ++ more) →
+      IsBehindBlanks more further rest → IsVersion rest (codes "v1") tail →
       AreTokens (length blanks + 4 + length further + 2) tail pieces →
-      PartAnswers hoa_causes file (record { pieces = marked fresh pieces; end = length bytes }) answer → ReadsFile bytes answer
+      PartAnswers hoa_causes file (record { pieces = marked fresh pieces; end = length bytes }) answer →
+      ReadsFile bytes answer
 
 -- the error is the answer to the text
 abbrev pub IsRefusedAs : List ℕ → HoaFault → Type 0

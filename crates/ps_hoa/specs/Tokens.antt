@@ -3,17 +3,20 @@
 --     IsComment text      `/* .. */`, with comments of its own inside
 --     IsBlankRun text      blanks and comments
 --     Stands kind text rest      a token of that kind, where rest is what follows: the longest that can begin there
---     IsToken kind text rest      the same, or one that can't stand: a comment that is not closed, or a byte that begins no token
+--     IsToken kind text rest      the same, or one that can't stand: a comment that is not closed, or a byte that
+--               begins no token
 --     AreTokens at bytes pieces      the tokens of bytes, the first of which has the offset at, with blanks between
---     marked marks pieces      the same, where names that may stand once are told from a second one, and what is behind `--END--`
---               from what is not
-use Rattle.std.specs.Prelude.{◌≡◌, ℕ, suc, ◌+◌, ◌<◌, ◌⊎◌, ◌≢◌, ◌||◌, Bool, true, false, List, [], ◌∷◌, ◌++◌, length, codes, if◌then◌else◌, nat_eq}
+--     marked marks pieces      the same, where names that may stand once are told from a second one, and what is behind
+--               `--END--` from what is not
+use Rattle.std.specs.Prelude.{◌≡◌, ℕ, suc, ◌+◌, ◌<◌, ◌⊎◌, ◌≢◌, ◌||◌, Bool, true, false, List, [], ◌∷◌, ◌++◌, length}
+use Rattle.std.specs.Prelude.{codes, if◌then◌else◌, nat_eq}
 use Rattle.std.specs.Str.{bytes_eq}
 use Rattle.ps_text.specs.Answers.{Piece}
 use Rattle.ps_hoa.specs.Bytes.{class_of, is_digit, is_name_byte}
 use Rattle.ps_hoa.specs.declared.tokens.Class.TheVariants.{Blank, Letter, Sign as SignOf}
 use Rattle.ps_hoa.specs.declared.tokens.Kind.{Kind}
-use Rattle.ps_hoa.specs.declared.tokens.Kind.TheVariants.{Header, HeaderAgain, Word, AliasName, Int, ZeroRun, Text, Body, End, Abort, OpenComment, Odd, Behind, Finish}
+use Rattle.ps_hoa.specs.declared.tokens.Kind.TheVariants.{Header, HeaderAgain, Word, AliasName, Int, ZeroRun, Text}
+use Rattle.ps_hoa.specs.declared.tokens.Kind.TheVariants.{Body, End, Abort, OpenComment, Odd, Behind, Finish}
 use Rattle.ps_hoa.specs.declared.tokens.Marks.{Marks}
 
 pub record Sign : Type 0 where
@@ -22,12 +25,14 @@ pub record Sign : Type 0 where
 
 -- ## Blanks
 
--- These bytes end the comment that they stand in, with `depth` further ones around it, and no sooner than with the last byte.
+-- These bytes end the comment that they stand in, with `depth` further ones around it, and no sooner than with the last
+-- byte.
 pub data Ends : ℕ → List ℕ → Type 0 where
   closes_last : {b c : ℕ} → b ≡ 42 → c ≡ 47 → Ends 0 (b ∷ c ∷ [])
   closes : {depth b c : ℕ} {bs : List ℕ} → b ≡ 42 → c ≡ 47 → Ends depth bs → Ends (suc depth) (b ∷ c ∷ bs)
   opens : {depth b c : ℕ} {bs : List ℕ} → b ≡ 47 → c ≡ 42 → Ends (suc depth) bs → Ends depth (b ∷ c ∷ bs)
-  goes_on : {depth b c : ℕ} {bs : List ℕ} → ((b ≡ 42) × (c ≡ 47) → ⊥) → ((b ≡ 47) × (c ≡ 42) → ⊥) → Ends depth (c ∷ bs) → Ends depth (b ∷ c ∷ bs)
+  goes_on : {depth b c : ℕ} {bs : List ℕ} → ((b ≡ 42) × (c ≡ 47) → ⊥) → ((b ≡ 47) × (c ≡ 42) → ⊥) →
+      Ends depth (c ∷ bs) → Ends depth (b ∷ c ∷ bs)
 
 abbrev pub IsComment : List ℕ → Type 0
 IsComment text = (inside : List ℕ) × (text ≡ 47 ∷ 42 ∷ inside) × Ends 0 inside
@@ -37,7 +42,8 @@ IsBlankPart text = ((b : ℕ) × (text ≡ b ∷ []) × (class_of b ≡ Blank)) 
 
 pub data IsBlankRun : List ℕ → Type 0 where
   no_blank : IsBlankRun []
-  blank : {part rest : List ℕ} → IsBlankPart part → IsBlankRun rest → (all : List ℕ) → all ≡ part ++ rest → IsBlankRun all
+  blank : {part rest : List ℕ} → IsBlankPart part → IsBlankRun rest → (all : List ℕ) →
+      all ≡ part ++ rest → IsBlankRun all
 
 -- ## Tokens
 
@@ -121,7 +127,8 @@ pub record IsNext (at : ℕ) (bytes : List ℕ) (piece : Piece Sign) (rest : Lis
 
 abbrev pub AreTokens : ℕ → List ℕ → List (Piece Sign) → Type 0
 AreTokens at bytes [] = IsBlankRun bytes
-AreTokens at bytes (p ∷ ps) = (rest : List ℕ) × IsNext at bytes p rest × AreTokens (p.start + length p.sign.text) rest ps
+AreTokens at bytes (p ∷ ps) =
+    (rest : List ℕ) × IsNext at bytes p rest × AreTokens (p.start + length p.sign.text) rest ps
 
 -- ## Names that may stand once, and what stands behind the end
 
@@ -157,4 +164,6 @@ marks_after marks kind text = marks
 
 abbrev pub marked : Marks → List (Piece Sign) → List (Piece Sign)
 marked marks [] = []
-marked marks (p ∷ ps) = record { sign = record { kind = kind_here marks p.sign.kind p.sign.text; text = p.sign.text }; start = p.start } ∷ marked (marks_after marks p.sign.kind p.sign.text) ps
+marked marks (p ∷ ps) =
+    record { sign = record { kind = kind_here marks p.sign.kind p.sign.text; text = p.sign.text }; start = p.start } ∷
+    marked (marks_after marks p.sign.kind p.sign.text) ps

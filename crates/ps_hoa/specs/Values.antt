@@ -1,8 +1,10 @@
 -- What the code's acceptance conditions are, apart from where their parts lie in memory.
 use Rattle.std.specs.Prelude.{true, false}
-use Rattle.ps_hoa.specs.Conditions.{SetData, Condition, Conditions, constant, infinitely, finitely, all_hold, any_holds, last, more}
+use Rattle.ps_hoa.specs.Conditions.{SetData, Condition, Conditions, constant, infinitely, finitely, all_hold, any_holds}
+use Rattle.ps_hoa.specs.Conditions.{last, more}
 use Rattle.ps_hoa.specs.declared.condition.Set.{Set}
-use Rattle.ps_hoa.specs.declared.condition.Cond.{Cond, Always, Never, Inf, Fin, All', Any', Row_of-Cond, end_of-Cond, more_of-Cond}
+use Rattle.ps_hoa.specs.declared.condition.Cond.{Cond, Always, Never, Inf, Fin, All', Any', Row_of-Cond, end_of-Cond}
+use Rattle.ps_hoa.specs.declared.condition.Cond.{more_of-Cond}
 
 abbrev mutual
   pub condition_of : Cond → Condition

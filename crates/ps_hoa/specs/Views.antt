@@ -23,7 +23,13 @@ abbrev pub edge_data : Edge → EdgeData
 edge_data e = record { guard = guard_data e.guard; target = e.target; marks = e.marks.items }
 
 abbrev pub row_data : Row → RowData
-row_data r = record { state = r.state; label = option_map expression r.label; marks = r.marks.items; edges = map edge_data r.edges.items }
+row_data r =
+    record {
+      state = r.state;
+      label = option_map expression r.label;
+      marks = r.marks.items;
+      edges = map edge_data r.edges.items;
+    }
 
 abbrev pub acceptance_data : Acceptance → AcceptanceData
 acceptance_data a = record { sets = a.sets; condition = condition_of a.condition }

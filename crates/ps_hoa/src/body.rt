@@ -1,11 +1,13 @@
 //! The body of an HOA text.
 
-ghost use Rattle.std.specs.Prelude.{◌≡◌, ◌≢◌, ℕ, ◌+◌, ◌^◌, ◌≤◌, ◌↔◌, false, true, codes, IfOk, is_some, length, option_map};
+ghost use Rattle.std.specs.Prelude.{◌≡◌, ◌≢◌, ℕ, ◌+◌, ◌^◌, ◌≤◌, ◌↔◌, false, true, codes, IfOk, is_some, length};
+ghost use Rattle.std.specs.Prelude.{option_map};
 ghost use Rattle.ps_label.specs.Expression.{expression};
 ghost use Rattle.ps_text.specs.Parts.{many, one};
 ghost use Rattle.ps_text.specs.Readers.{Reads as ReadsPart};
 ghost use Rattle.ps_hoa.specs.Body as parts;
-ghost use Rattle.ps_hoa.specs.Body.{BadIn, edge_limit, has_row, IsBadClose, IsBadNext, IsBadRow, IsWrongCount, is_end, last_row, no_rows, state_value, with_row};
+ghost use Rattle.ps_hoa.specs.Body.{BadIn, edge_limit, has_row, IsBadClose, IsBadNext, IsBadRow, IsWrongCount, is_end};
+ghost use Rattle.ps_hoa.specs.Body.{last_row, no_rows, state_value, with_row};
 ghost use Rattle.ps_hoa.specs.Header.{HeaderData, int_in, names_of, name_value};
 ghost use Rattle.ps_hoa.specs.Operands.{mark_in};
 ghost use Rattle.ps_hoa.specs.Reads.{ReadsAs, Takes};
@@ -60,7 +62,8 @@ fn state(
     header: &Header,
     rows: &mut Rows,
 ) -> Result<(), HoaFault>
-    ensures { ReadsAs (λ _. body_data rows.new) (parts.state (header_data header.now) (body_data rows.old)) tokens.old result tokens.new }
+    ensures { ReadsAs (λ _. body_data rows.new) (parts.state (header_data header.now) (body_data rows.old)) tokens.old
+        result tokens.new }
 {
     let row = row(alloc, tokens, header, rows)?;
     rows.push(row)?;
@@ -69,7 +72,8 @@ fn state(
 
 /// Reads the row of a state of which no other row is.
 fn row(alloc: Global, tokens: &mut Tokens, header: &Header, rows: &Rows) -> Result<Row, HoaFault>
-    ensures part { ReadsAs (λ row. with_row (body_data rows.now) (row_data row)) (parts.state (header_data header.now) (body_data rows.now)) tokens.old result tokens.new }
+    ensures part { ReadsAs (λ row. with_row (body_data rows.now) (row_data row))
+        (parts.state (header_data header.now) (body_data rows.now)) tokens.old result tokens.new }
     ensures new { IfOk result (λ row. has_row row.state (body_data rows.now).rows ≡ false) }
     ensures within { IfOk result (λ row. (body_data rows.now).edges + length row.edges.items ≤ edge_limit) }
 {
@@ -91,7 +95,8 @@ fn row(alloc: Global, tokens: &mut Tokens, header: &Header, rows: &Rows) -> Resu
 
 /// Reads `State:` behind the edges of the last row.
 fn begin(tokens: &mut Tokens, header: &Header, rows: &Rows) -> Result<(), HoaFault>
-    ensures { ReadsAs (λ u. u) (parts.state_begins (header_data header.now) (body_data rows.now)) tokens.old result tokens.new }
+    ensures { ReadsAs (λ u. u) (parts.state_begins (header_data header.now) (body_data rows.now)) tokens.old
+        result tokens.new }
 {
     let token = tokens.advance();
     begin_of(token, header, rows)
@@ -99,7 +104,8 @@ fn begin(tokens: &mut Tokens, header: &Header, rows: &Rows) -> Result<(), HoaFau
 
 /// The token is `State:` behind the edges of the last row.
 fn begin_of(token: Token, header: &Header, rows: &Rows) -> Result<(), HoaFault>
-    ensures { Takes (λ u. u) state_value (IsBadNext (header_data header.now) (body_data rows.now)) (piece_of token.entry) result }
+    ensures { Takes (λ u. u) state_value (IsBadNext (header_data header.now) (body_data rows.now))
+        (piece_of token.entry) result }
 {
     if !is_item_name(token, b"State:") {
         Err(refused(token))
@@ -112,7 +118,8 @@ fn begin_of(token: Token, header: &Header, rows: &Rows) -> Result<(), HoaFault>
 
 /// Reads `--END--` behind the edges of the last row.
 fn end(tokens: &mut Tokens, header: &Header, rows: &Rows) -> Result<(), HoaFault>
-    ensures { ReadsAs (λ _. body_data rows.now) (parts.ended (header_data header.now) (body_data rows.now)) tokens.old result tokens.new }
+    ensures { ReadsAs (λ _. body_data rows.now) (parts.ended (header_data header.now) (body_data rows.now)) tokens.old
+        result tokens.new }
 {
     let token = tokens.advance();
     end_of(token, header, rows)
@@ -120,7 +127,8 @@ fn end(tokens: &mut Tokens, header: &Header, rows: &Rows) -> Result<(), HoaFault
 
 /// The token is `--END--` behind the edges of the last row.
 fn end_of(token: Token, header: &Header, rows: &Rows) -> Result<(), HoaFault>
-    ensures { Takes (λ u. u) (mark_in is_end) (IsBadClose (header_data header.now) (body_data rows.now)) (piece_of token.entry) result }
+    ensures { Takes (λ u. u) (mark_in is_end) (IsBadClose (header_data header.now) (body_data rows.now))
+        (piece_of token.entry) result }
 {
     match token.kind {
         Kind::End if is_end_wrong(header, rows) => Err(fault_at(token, HoaCause::Labels)),
@@ -141,7 +149,8 @@ fn is_end_wrong(header: &Header, rows: &Rows) -> bool
 
 /// Whether a row has implicit labels that are not one for each letter, where there are so many propositions.
 fn has_wrong_count(row: &Row, propositions: usize) -> bool
-    ensures { (h : HeaderData) → length (names_of h) ≡ propositions → (result ≡ true) ↔ IsWrongCount h (row_data row.now) }
+    ensures { (h : HeaderData) → length (names_of h) ≡ propositions →
+        (result ≡ true) ↔ IsWrongCount h (row_data row.now) }
 {
     matches!(labelling_of(row), Labelling::ByPlace)
         && !is_power_of_two(row.edges.len(), propositions)
@@ -160,7 +169,8 @@ fn state_label(
     tokens: &mut Tokens,
     header: &Header,
 ) -> Result<Option<Label>, HoaFault>
-    ensures { ReadsAs (λ label. option_map expression label) (parts.state_label (header_data header.now)) tokens.old result tokens.new }
+    ensures { ReadsAs (λ label. option_map expression label) (parts.state_label (header_data header.now)) tokens.old
+        result tokens.new }
 {
     if !tokens.is_at(Kind::LeftBracket) {
         return Ok(None);
@@ -172,7 +182,8 @@ fn state_label(
 
 /// Reads the number of a state of which no row is.
 fn state_number(tokens: &mut Tokens, header: &Header, rows: &Rows) -> Result<u32, HoaFault>
-    ensures part { ReadsAs (λ n. n) (parts.state_number (header_data header.now) (body_data rows.now)) tokens.old result tokens.new }
+    ensures part { ReadsAs (λ n. n) (parts.state_number (header_data header.now) (body_data rows.now)) tokens.old
+        result tokens.new }
     ensures new { IfOk result (λ n. has_row n (body_data rows.now).rows ≡ false) }
 {
     let token = tokens.advance();
@@ -181,7 +192,8 @@ fn state_number(tokens: &mut Tokens, header: &Header, rows: &Rows) -> Result<u32
 
 /// The state that a token is, of which no row is.
 fn new_state_of(token: Token, header: &Header, rows: &Rows) -> Result<u32, HoaFault>
-    ensures sign { Takes (λ n. n) int_in (BadIn (IsBadRow (header_data header.now) (body_data rows.now))) (piece_of token.entry) result }
+    ensures sign { Takes (λ n. n) int_in (BadIn (IsBadRow (header_data header.now) (body_data rows.now)))
+        (piece_of token.entry) result }
     ensures new { IfOk result (λ n. has_row n (body_data rows.now).rows ≡ false) }
 {
     let state = state_of(token, header.states)?;

@@ -57,7 +57,8 @@ fn row(
     room: usize,
     connective: Connective,
 ) -> Result<Cond, HoaFault>
-    ensures { ReadsAs condition_of (rows conditions.together connective (conditions.operand room)) tokens.old result tokens.new }
+    ensures { ReadsAs condition_of (rows conditions.together connective (conditions.operand room)) tokens.old
+        result tokens.new }
 {
     let first = part(alloc, tokens, room, connective)?;
     if !is_at(tokens, connective) {
@@ -80,7 +81,8 @@ fn part(
     room: usize,
     connective: Connective,
 ) -> Result<Cond, HoaFault>
-    ensures { ReadsAs condition_of (between conditions.together connective (conditions.operand room)) tokens.old result tokens.new }
+    ensures { ReadsAs condition_of (between conditions.together connective (conditions.operand room)) tokens.old
+        result tokens.new }
 {
     match connective {
         Connective::And => operand(alloc, tokens, room),
@@ -150,7 +152,8 @@ fn often_of(token: Token) -> Option<bool>
 
 /// Reads `t` or `f`.
 fn constant(tokens: &mut Tokens, room: usize) -> Result<Cond, HoaFault>
-    ensures { ReadsAs condition_of (one conditions.constant_in (conditions.BadStart room)) tokens.old result tokens.new }
+    ensures { ReadsAs condition_of (one conditions.constant_in (conditions.BadStart room)) tokens.old
+        result tokens.new }
 {
     let token = tokens.advance();
     constant_of(token, room)

@@ -3,7 +3,8 @@
 ghost use Rattle.std.specs.Prelude.{[], ◌≡◌, ◌+◌, ◌<◌, ◌≤◌, ◌↔◌, Bool, IfOk, IsTrue, OnOk, length, map, Some};
 ghost use Rattle.ps_label.specs.Expression.{expression};
 ghost use Rattle.ps_hoa.specs.Body as parts;
-ghost use Rattle.ps_hoa.specs.Body.{BadIn, IsBadBracket, IsBadPlainTarget, IsBadSet, IsBadState, edge_limit, is_bracket, MayHaveLabel, MayHaveNoLabel};
+ghost use Rattle.ps_hoa.specs.Body.{BadIn, IsBadBracket, IsBadPlainTarget, IsBadSet, IsBadState, edge_limit};
+ghost use Rattle.ps_hoa.specs.Body.{is_bracket, MayHaveLabel, MayHaveNoLabel};
 ghost use Rattle.ps_hoa.specs.Files.{once};
 ghost use Rattle.ps_hoa.specs.Header.{int_in};
 ghost use Rattle.ps_hoa.specs.Reads.{ReadsAs, Takes};
@@ -70,7 +71,8 @@ pub(crate) fn edges(
     row: &mut Row,
 ) -> Result<(), HoaFault>
     requires { before + length row.old.edges.items ≤ edge_limit }
-    ensures part { ReadsAs (λ _. row_data row.new) (parts.edges (header_data header.now) before (row_data row.old)) tokens.old result tokens.new }
+    ensures part { ReadsAs (λ _. row_data row.new) (parts.edges (header_data header.now) before (row_data row.old))
+        tokens.old result tokens.new }
     ensures within { IfOk result (λ _. before + length row.new.edges.items ≤ edge_limit) }
     ensures same { row.new.state ≡ row.old.state }
 {
@@ -96,7 +98,8 @@ fn edge(
     row: &mut Row,
 ) -> Result<(), HoaFault>
     requires { before + length row.old.edges.items ≤ edge_limit }
-    ensures part { ReadsAs (λ _. row_data row.new) (parts.edge (header_data header.now) before (row_data row.old)) tokens.old result tokens.new }
+    ensures part { ReadsAs (λ _. row_data row.new) (parts.edge (header_data header.now) before (row_data row.old))
+        tokens.old result tokens.new }
     ensures within { IfOk result (λ _. before + length row.new.edges.items ≤ edge_limit) }
     ensures same { row.new.state ≡ row.old.state }
 {
@@ -116,7 +119,8 @@ fn labelled_edge(
     row: &mut Row,
 ) -> Result<(), HoaFault>
     requires { before + length row.old.edges.items ≤ edge_limit }
-    ensures part { ReadsAs (λ _. row_data row.new) (parts.labelled_edge (header_data header.now) before (row_data row.old)) tokens.old result tokens.new }
+    ensures part { ReadsAs (λ _. row_data row.new) (parts.labelled_edge (header_data header.now) before
+        (row_data row.old)) tokens.old result tokens.new }
     ensures within { IfOk result (λ _. before + length row.new.edges.items ≤ edge_limit) }
     ensures same { row.new.state ≡ row.old.state }
 {
@@ -141,7 +145,8 @@ fn plain_edge(
     row: &mut Row,
 ) -> Result<(), HoaFault>
     requires { before + length row.old.edges.items ≤ edge_limit }
-    ensures part { ReadsAs (λ _. row_data row.new) (parts.plain_edge (header_data header.now) before (row_data row.old)) tokens.old result tokens.new }
+    ensures part { ReadsAs (λ _. row_data row.new) (parts.plain_edge (header_data header.now) before (row_data row.old))
+        tokens.old result tokens.new }
     ensures within { IfOk result (λ _. before + length row.new.edges.items ≤ edge_limit) }
     ensures same { row.new.state ≡ row.old.state }
 {
@@ -169,7 +174,8 @@ fn plain_guard(row: &Row) -> Guard
 /// Reads the `[` of an edge.
 fn bracket(tokens: &mut Tokens, before: usize, row: &Row) -> Result<(), HoaFault>
     requires { before ≤ edge_limit }
-    ensures part { ReadsAs (λ u. u) (one is_bracket (IsBadBracket before (row_data row.now))) tokens.old result tokens.new }
+    ensures part { ReadsAs (λ u. u) (one is_bracket (IsBadBracket before (row_data row.now))) tokens.old
+        result tokens.new }
     ensures room { IfOk result (λ _. before + length row.now.edges.items < edge_limit) }
 {
     let token = tokens.advance();
@@ -199,7 +205,8 @@ pub(crate) fn label_in_brackets(
     tokens: &mut Tokens,
     header: &Header,
 ) -> Result<Label, HoaFault>
-    ensures { ReadsAs (λ label. Some (expression label)) (parts.label_in_brackets (header_data header.now)) tokens.old result tokens.new }
+    ensures { ReadsAs (λ label. Some (expression label)) (parts.label_in_brackets (header_data header.now)) tokens.old
+        result tokens.new }
 {
     let scope = header.scope();
     let label = label(alloc, tokens, &scope)?;
@@ -225,7 +232,8 @@ fn plain_target(
     row: &Row,
 ) -> Result<u32, HoaFault>
     requires { before ≤ edge_limit }
-    ensures part { ReadsAs (λ n. n) (parts.plain_target (header_data header.now) before (row_data row.now)) tokens.old result tokens.new }
+    ensures part { ReadsAs (λ n. n) (parts.plain_target (header_data header.now) before (row_data row.now)) tokens.old
+        result tokens.new }
     ensures room { IfOk result (λ _. before + length row.now.edges.items < edge_limit) }
 {
     let token = tokens.advance();
@@ -242,7 +250,8 @@ fn plain_target_of(
     row: &Row,
 ) -> Result<u32, HoaFault>
     requires { before ≤ edge_limit }
-    ensures sign { Takes (λ n. n) int_in (BadIn (IsBadPlainTarget states before (row_data row.now))) (piece_of token.entry) result }
+    ensures sign { Takes (λ n. n) int_in (BadIn (IsBadPlainTarget states before (row_data row.now)))
+        (piece_of token.entry) result }
     ensures room { IfOk result (λ _. before + length row.now.edges.items < edge_limit) }
 {
     if token.kind != Kind::Int {

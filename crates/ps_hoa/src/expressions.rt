@@ -19,6 +19,8 @@ pub fn one_expression()
 /// Labels and conditions with room for so many `!` and `(` are those of the grammars without a limit in which no more
 /// of them nest.
 pub fn bounded_nesting()
-    ensures labels { (scope : ScopeData) (room : ℕ) (text : List Sign) (v : Expression) → (labels.label scope room).IsText text v ↔ Within room (IsLabel scope.names) text v }
-    ensures conditions { (room : ℕ) (text : List Sign) (v : Condition) → (conditions.condition room).IsText text v ↔ Within room IsCondition text v }
+    ensures labels { (scope : ScopeData) (room : ℕ) (text : List Sign) (v : Expression) →
+        (labels.label scope room).IsText text v ↔ Within room (IsLabel scope.names) text v }
+    ensures conditions { (room : ℕ) (text : List Sign) (v : Condition) →
+        (conditions.condition room).IsText text v ↔ Within room IsCondition text v }
 {}

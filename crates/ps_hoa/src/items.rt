@@ -62,7 +62,8 @@ pub(crate) fn header<'a>(alloc: Global, tokens: &mut Tokens<'a>) -> Result<Heade
 
 /// Reads `--BODY--`, where nothing may be wrong with the header.
 fn body_mark(tokens: &mut Tokens, header: &Header) -> Result<(), HoaFault>
-    ensures { ReadsAs (λ _. header_data header.now) (parts.body_mark (header_data header.now)) tokens.old result tokens.new }
+    ensures { ReadsAs (λ _. header_data header.now) (parts.body_mark (header_data header.now)) tokens.old
+        result tokens.new }
 {
     let token = tokens.advance();
     body_mark_of(token, header)
@@ -70,7 +71,8 @@ fn body_mark(tokens: &mut Tokens, header: &Header) -> Result<(), HoaFault>
 
 /// The token is `--BODY--`, and nothing is wrong with the header.
 fn body_mark_of(token: Token, header: &Header) -> Result<(), HoaFault>
-    ensures { Takes (λ _. header_data header.now) (body_in (header_data header.now)) (parts.IsBadBody (header_data header.now)) (piece_of token.entry) result }
+    ensures { Takes (λ _. header_data header.now) (body_in (header_data header.now))
+        (parts.IsBadBody (header_data header.now)) (piece_of token.entry) result }
 {
     if !is_kind(token, Kind::Body) {
         return Err(refused(token));
@@ -126,7 +128,8 @@ fn read_item<'a>(
     item: Item,
     header: &mut Header<'a>,
 ) -> Result<(), HoaFault>
-    ensures { ReadsAs (λ _. header_data header.new) (parts.form_of (header_data header.old) (item_name_of item)) tokens.old result tokens.new }
+    ensures { ReadsAs (λ _. header_data header.new) (parts.form_of (header_data header.old) (item_name_of item))
+        tokens.old result tokens.new }
 {
     match item {
         Item::States => states(tokens, header),
@@ -143,7 +146,8 @@ fn read_item<'a>(
 
 /// Reads the number of states.
 fn states(tokens: &mut Tokens, header: &mut Header) -> Result<(), HoaFault>
-    ensures { ReadsAs (λ _. header_data header.new) (parts.states_item (header_data header.old)) tokens.old result tokens.new }
+    ensures { ReadsAs (λ _. header_data header.new) (parts.states_item (header_data header.old)) tokens.old
+        result tokens.new }
 {
     item_name(tokens, b"States:")?;
     header.states = Some(int(tokens, STATE_LIMIT)?);
@@ -152,7 +156,8 @@ fn states(tokens: &mut Tokens, header: &mut Header) -> Result<(), HoaFault>
 
 /// Reads the start state.
 fn start(tokens: &mut Tokens, header: &mut Header) -> Result<(), HoaFault>
-    ensures { ReadsAs (λ _. header_data header.new) (parts.start_item (header_data header.old)) tokens.old result tokens.new }
+    ensures { ReadsAs (λ _. header_data header.new) (parts.start_item (header_data header.old)) tokens.old
+        result tokens.new }
 {
     start_name(tokens, header)?;
     header.start = Some(start_state(tokens)?);
@@ -161,7 +166,8 @@ fn start(tokens: &mut Tokens, header: &mut Header) -> Result<(), HoaFault>
 
 /// Reads `Start:`, which may stand once.
 fn start_name(tokens: &mut Tokens, header: &Header) -> Result<(), HoaFault>
-    ensures { ReadsAs (λ u. u) (one start_name_in (parts.IsSecondStart (header_data header.now))) tokens.old result tokens.new }
+    ensures { ReadsAs (λ u. u) (one start_name_in (parts.IsSecondStart (header_data header.now))) tokens.old
+        result tokens.new }
 {
     let token = tokens.advance();
     start_name_of(token, header)
@@ -169,7 +175,8 @@ fn start_name(tokens: &mut Tokens, header: &Header) -> Result<(), HoaFault>
 
 /// The token is the first `Start:`.
 fn start_name_of(token: Token, header: &Header) -> Result<(), HoaFault>
-    ensures { Takes (λ u. u) start_name_in (parts.IsSecondStart (header_data header.now)) (piece_of token.entry) result }
+    ensures { Takes (λ u. u) start_name_in (parts.IsSecondStart (header_data header.now))
+        (piece_of token.entry) result }
 {
     if !is_item_name(token, b"Start:") {
         return Err(refused(token));
@@ -182,7 +189,8 @@ fn start_name_of(token: Token, header: &Header) -> Result<(), HoaFault>
 
 /// Reads the names of the propositions.
 fn names(alloc: Global, tokens: &mut Tokens, header: &mut Header) -> Result<(), HoaFault>
-    ensures { ReadsAs (λ _. header_data header.new) (parts.names_item (header_data header.old)) tokens.old result tokens.new }
+    ensures { ReadsAs (λ _. header_data header.new) (parts.names_item (header_data header.old)) tokens.old
+        result tokens.new }
 {
     item_name(tokens, b"AP:")?;
     let count = int(tokens, PROPOSITION_LIMIT)?;
@@ -196,7 +204,8 @@ fn alias<'a>(
     tokens: &mut Tokens<'a>,
     header: &mut Header<'a>,
 ) -> Result<(), HoaFault>
-    ensures { ReadsAs (λ _. header_data header.new) (parts.alias_item (header_data header.old)) tokens.old result tokens.new }
+    ensures { ReadsAs (λ _. header_data header.new) (parts.alias_item (header_data header.old)) tokens.old
+        result tokens.new }
 {
     item_name(tokens, b"Alias:")?;
     let name = new_alias(tokens, &header.alias_names)?;
@@ -208,7 +217,8 @@ fn alias<'a>(
 
 /// Reads a label in a header, where nothing is known of the propositions.
 fn header_label(alloc: Global, tokens: &mut Tokens, names: &Names) -> Result<Label, HoaFault>
-    ensures { ReadsAs expression (labels.label (record { names = names.now; propositions = None }) nesting_limit) tokens.old result tokens.new }
+    ensures { ReadsAs expression (labels.label (record { names = names.now; propositions = None }) nesting_limit)
+        tokens.old result tokens.new }
 {
     let scope = Scope {
         aliases: names,
@@ -219,7 +229,8 @@ fn header_label(alloc: Global, tokens: &mut Tokens, names: &Names) -> Result<Lab
 
 /// Reads the acceptance condition.
 fn acceptance(alloc: Global, tokens: &mut Tokens, header: &mut Header) -> Result<(), HoaFault>
-    ensures { ReadsAs (λ _. header_data header.new) (parts.acceptance_item (header_data header.old)) tokens.old result tokens.new }
+    ensures { ReadsAs (λ _. header_data header.new) (parts.acceptance_item (header_data header.old)) tokens.old
+        result tokens.new }
 {
     item_name(tokens, b"Acceptance:")?;
     let sets = int(tokens, SET_LIMIT)?;
@@ -230,7 +241,8 @@ fn acceptance(alloc: Global, tokens: &mut Tokens, header: &mut Header) -> Result
 
 /// Reads which propositions are controllable.
 fn controllable(alloc: Global, tokens: &mut Tokens, header: &mut Header) -> Result<(), HoaFault>
-    ensures { ReadsAs (λ _. header_data header.new) (parts.controllable_item (header_data header.old)) tokens.old result tokens.new }
+    ensures { ReadsAs (λ _. header_data header.new) (parts.controllable_item (header_data header.old)) tokens.old
+        result tokens.new }
 {
     item_name(tokens, b"controllable-AP:")?;
     header.controllable = Some(indices(alloc, tokens)?);

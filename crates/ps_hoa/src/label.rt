@@ -37,7 +37,8 @@ fn row(
     room: usize,
     connective: Connective,
 ) -> Result<Label, HoaFault>
-    ensures { ReadsAs expression (rows labels.together connective (labels.operand scope.now room)) tokens.old result tokens.new }
+    ensures { ReadsAs expression (rows labels.together connective (labels.operand scope.now room)) tokens.old
+        result tokens.new }
 {
     let first = part(alloc, tokens, scope, room, connective)?;
     if !is_at(tokens, connective) {
@@ -61,7 +62,8 @@ fn part(
     room: usize,
     connective: Connective,
 ) -> Result<Label, HoaFault>
-    ensures { ReadsAs expression (between labels.together connective (labels.operand scope.now room)) tokens.old result tokens.new }
+    ensures { ReadsAs expression (between labels.together connective (labels.operand scope.now room)) tokens.old
+        result tokens.new }
 {
     match connective {
         Connective::And => operand(alloc, tokens, scope, room),
@@ -113,7 +115,8 @@ fn leaf(tokens: &mut Tokens, scope: &Scope, room: usize) -> Result<Label, HoaFau
 
 /// The operand that a token is.
 fn leaf_of(token: Token, scope: &Scope, room: usize) -> Result<Label, HoaFault>
-    ensures { Takes expression (labels.leaf_in scope.now.names) (labels.BadLeaf scope.now room) (piece_of token.entry) result }
+    ensures { Takes expression (labels.leaf_in scope.now.names) (labels.BadLeaf scope.now room)
+        (piece_of token.entry) result }
 {
     match token.kind {
         Kind::Word if is_same(token.text, b"t") => Ok(Label::Truth(true)),

@@ -22,15 +22,20 @@ pub fn sound_files()
 
 /// In a sound file each row is sound, the row of a state is of that state, and each edge of a row is sound.
 pub fn sound_parts()
-    ensures row { (file : FileData) → IsSoundFile file → (k : ℕ) (row : RowData) → slice_get file.rows k ≡ Some row → IsSoundRow file row }
-    ensures state { (file : FileData) → IsSoundFile file → (q : ℕ) (row : RowData) → row_of file q ≡ Some row → IsSoundRow file row × (row.state ≡ q) }
-    ensures edge { (file : FileData) (row : RowData) → IsSoundRow file row → (k : ℕ) (edge : EdgeData) → slice_get row.edges k ≡ Some edge → IsSoundEdge file edge }
+    ensures row { (file : FileData) → IsSoundFile file → (k : ℕ) (row : RowData) → slice_get file.rows k ≡ Some row →
+        IsSoundRow file row }
+    ensures state { (file : FileData) → IsSoundFile file → (q : ℕ) (row : RowData) → row_of file q ≡ Some row →
+        IsSoundRow file row × (row.state ≡ q) }
+    ensures edge { (file : FileData) (row : RowData) → IsSoundRow file row → (k : ℕ) (edge : EdgeData) →
+        slice_get row.edges k ≡ Some edge → IsSoundEdge file edge }
 {}
 
 /// The labels of a sound file are such as their truth asks for: its aliases speak of earlier ones, and the labels of
 /// its rows and edges of its aliases, and of propositions below 64.
 pub fn sound_labels()
     ensures aliases { (file : FileData) → IsSoundFile file → AreOrdered file.aliases }
-    ensures row { (file : FileData) → IsSoundFile file → (row : RowData) → IsSoundRow file row → (e : Expression) → row.label ≡ Some e → IsWithin (length file.aliases) e }
-    ensures edge { (file : FileData) → IsSoundFile file → (edge : EdgeData) → IsSoundEdge file edge → (e : Expression) → edge.guard ≡ stated e → IsWithin (length file.aliases) e }
+    ensures row { (file : FileData) → IsSoundFile file → (row : RowData) → IsSoundRow file row → (e : Expression) →
+        row.label ≡ Some e → IsWithin (length file.aliases) e }
+    ensures edge { (file : FileData) → IsSoundFile file → (edge : EdgeData) → IsSoundEdge file edge → (e : Expression) →
+        edge.guard ≡ stated e → IsWithin (length file.aliases) e }
 {}

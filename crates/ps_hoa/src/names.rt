@@ -25,7 +25,8 @@ impl<'a> Model for Names<'a> {
 
     ghost view = { λ n. map (λ name. name.now) n.names.items };
 
-    ghost invariant = { λ n. (name : List ℕ) → get_by (λ k. slice_cmp nat_cmp name k.now) n.numbers ≡ alias_number (map (λ k. k.now) n.names.items) name };
+    ghost invariant = { λ n. (name : List ℕ) → get_by (λ k. slice_cmp nat_cmp name k.now) n.numbers ≡ alias_number
+        (map (λ k. k.now) n.names.items) name };
 }
 
 impl<'a> Names<'a> {

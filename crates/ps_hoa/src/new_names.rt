@@ -45,7 +45,8 @@ fn proposition(alloc: Global, tokens: &mut Tokens, names: &mut Propositions) -> 
 
 /// Reads a name that no proposition has.
 fn new_name(alloc: Global, tokens: &mut Tokens, names: &Propositions) -> Result<Vec<u8>, HoaFault>
-    ensures part { ReadsAs (λ name. name.items) (one parts.string_in (parts.IsBadName names.now)) tokens.old result tokens.new }
+    ensures part { ReadsAs (λ name. name.items) (one parts.string_in (parts.IsBadName names.now)) tokens.old
+        result tokens.new }
     ensures new { IfOk result (λ name. parts.is_name_among name.items names.now ≡ false) }
 {
     let token = tokens.advance();
@@ -54,7 +55,8 @@ fn new_name(alloc: Global, tokens: &mut Tokens, names: &Propositions) -> Result<
 
 /// The name that a token is, which no proposition has.
 fn new_name_of(alloc: Global, token: Token, names: &Propositions) -> Result<Vec<u8>, HoaFault>
-    ensures sign { Takes (λ name. name.items) parts.string_in (parts.IsBadName names.now) (piece_of token.entry) result }
+    ensures sign { Takes (λ name. name.items) parts.string_in (parts.IsBadName names.now)
+        (piece_of token.entry) result }
     ensures new { IfOk result (λ name. parts.is_name_among name.items names.now ≡ false) }
 {
     let name = unescaped(alloc, quoted_of(token)?)?;
@@ -78,7 +80,8 @@ fn has_control(name: &[u8]) -> bool
 
 /// Reads a name that no alias has.
 pub(crate) fn new_alias<'a>(tokens: &mut Tokens<'a>, names: &Names) -> Result<&'a [u8], HoaFault>
-    ensures part { ReadsAs (λ name. name.now) (one alias_name_in (parts.IsBadAlias names.now)) tokens.old result tokens.new }
+    ensures part { ReadsAs (λ name. name.now) (one alias_name_in (parts.IsBadAlias names.now)) tokens.old
+        result tokens.new }
     ensures new { IfOk result (λ name. alias_number names.now name.now ≡ None) }
 {
     let token = tokens.advance();

@@ -7,7 +7,8 @@ ghost use Rattle.ps_hoa.specs.Operands.{number_limit};
 /// The number that digits write, if it is no more than the greatest `INT`. A byte below `0` counts as `0`, so that
 /// nothing is asked of the bytes.
 pub(crate) fn int_of(digits: &[u8]) -> Option<u32>
-    ensures { result ≡ (if nat_le (decimal_value digits.now) number_limit then Some (decimal_value digits.now) else None) }
+    ensures { result ≡ (if nat_le (decimal_value digits.now) number_limit then Some
+        (decimal_value digits.now) else None) }
 {
     let mut value = 0u32;
     for digit in digits {

@@ -36,7 +36,8 @@ fn version_at(bytes: &[u8]) -> usize
 /// the version is not `v1`.
 pub(crate) fn opened(text: &[u8]) -> Result<Tokens<'_>, HoaFault>
     // What the tokens mean, or the first cause in them, is the answer to the text.
-    ensures tokens { IfOk result (λ tokens. (answer : Result FileData (Found HoaCause)) → PartAnswers hoa_causes file (stream_of tokens) answer → ReadsFile text.now answer) }
+    ensures tokens { IfOk result (λ tokens. (answer : Result FileData (Found HoaCause)) →
+        PartAnswers hoa_causes file (stream_of tokens) answer → ReadsFile text.now answer) }
     // A refusal is the first cause of the text.
     ensures refused { IfErr result (IsRefusedAs text.now) }
 {

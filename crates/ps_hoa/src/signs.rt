@@ -2,7 +2,8 @@
 
 ghost use Rattle.std.specs.Prelude.{◌≡◌, ◌≢◌, ◌≤◌, ◌↔◌, Bool, IfOk, false, is_some, true};
 ghost use Rattle.ps_text.specs.Parts.{NoBad, barred as barred_by};
-ghost use Rattle.ps_hoa.specs.Header.{int as int_part, int_in, IsAbove, IsAlternating, item_name as item_name_part, name_value, string as string_part, string_in, unescaped as meaning};
+ghost use Rattle.ps_hoa.specs.Header.{int as int_part, int_in, IsAbove, IsAlternating, item_name as item_name_part};
+ghost use Rattle.ps_hoa.specs.Header.{name_value, string as string_part, string_in, unescaped as meaning};
 ghost use Rattle.ps_hoa.specs.Operands.{mark as mark_part, mark_in, number_limit};
 ghost use Rattle.ps_hoa.specs.Reads.{ReadsAs, Takes};
 ghost use Rattle.ps_hoa.specs.Signs.{inside, IsTestOf, name_in};
@@ -18,7 +19,8 @@ use std::alloc::{AllocError, Global};
 /// Reads a sign of a kind.
 pub(crate) fn mark(tokens: &mut Tokens, kind: Kind) -> Result<(), HoaFault>
     requires { kind ≢ Kind.Finish }
-    ensures { (test : Kind → Bool) → IsTestOf test kind → ReadsAs (λ u. u) (mark_part test) tokens.old result tokens.new }
+    ensures { (test : Kind → Bool) → IsTestOf test kind → ReadsAs (λ u. u) (mark_part test) tokens.old
+        result tokens.new }
 {
     let token = tokens.advance();
     mark_of(token, kind)
@@ -26,7 +28,8 @@ pub(crate) fn mark(tokens: &mut Tokens, kind: Kind) -> Result<(), HoaFault>
 
 /// The token is of a kind.
 fn mark_of(token: Token, kind: Kind) -> Result<(), HoaFault>
-    ensures { (test : Kind → Bool) → IsTestOf test kind → Takes (λ u. u) (mark_in test) NoBad (piece_of token.entry) result }
+    ensures { (test : Kind → Bool) → IsTestOf test kind → Takes (λ u. u) (mark_in test) NoBad
+        (piece_of token.entry) result }
 {
     if is_kind(token, kind) {
         Ok(())

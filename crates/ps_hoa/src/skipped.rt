@@ -95,7 +95,8 @@ fn read_over(tokens: &mut Tokens) -> Result<(), HoaFault>
 
 /// The token may be read over.
 fn read_over_of(token: Token) -> Result<(), HoaFault>
-    ensures { (h : HeaderData) → Takes (λ _. h) (read_over_in h) (parts.IsAbove number_limit) (piece_of token.entry) result }
+    ensures { (h : HeaderData) → Takes (λ _. h) (read_over_in h) (parts.IsAbove number_limit)
+        (piece_of token.entry) result }
 {
     if !is_value(token) {
         return Err(refused(token));

@@ -1,11 +1,14 @@
 //! Tokens of an HOA text.
 
-ghost use Rattle.std.specs.Prelude.{◌≡◌, ℕ, ◌+◌, ◌-◌, ◌<◌, ◌≤◌, ◌↔◌, false, true, List, [], length, drop, slice_index, slice_range, IfSome, IsTrue, ◌==◌, ◌&&◌};
+ghost use Rattle.std.specs.Prelude.{◌≡◌, ℕ, ◌+◌, ◌-◌, ◌<◌, ◌≤◌, ◌↔◌, false, true, List, [], length, drop, slice_index};
+ghost use Rattle.std.specs.Prelude.{slice_range, IfSome, IsTrue, ◌==◌, ◌&&◌};
 ghost use Rattle.std.specs.List.{prefix_len};
 ghost use Rattle.std.specs.Str.{bytes_eq};
 ghost use Rattle.ps_text.specs.Answers.{Piece};
 ghost use Rattle.ps_hoa.specs.Bytes.{class_of as class, is_digit, is_name_byte as names};
-ghost use Rattle.ps_hoa.specs.Scan.{alias_step, begins_with, behind_next, comment_len, comment_step, fresh, is_finish, IsNoBlank, IsTokenClass, IsTokenStep, lex, mark_step, name_step, next_of, number_step, quoted_len, SkipsSome, step_len, step_of, stream_of, text_step};
+ghost use Rattle.ps_hoa.specs.Scan.{alias_step, begins_with, behind_next, comment_len, comment_step, fresh, is_finish};
+ghost use Rattle.ps_hoa.specs.Scan.{IsNoBlank, IsTokenClass, IsTokenStep, lex, mark_step, name_step, next_of};
+ghost use Rattle.ps_hoa.specs.Scan.{number_step, quoted_len, SkipsSome, step_len, step_of, stream_of, text_step};
 ghost use Rattle.ps_hoa.specs.Tokens.{AreTokens, is_known, kind_here, marked, marks_after, Sign, with_name};
 ghost use Rattle.ps_hoa.specs.Spans.{AreBlanks, IsSpan, piece_of};
 
@@ -461,7 +464,8 @@ impl<'a> Tokens<'a> {
     /// one, also where the place is 0.
     pub fn new(source: &'a [u8], from: usize) -> Self
         requires { from ≤ length source.now }
-        ensures pieces { (pieces : List (Piece Sign)) → AreTokens from (drop from source.now) pieces → (stream_of result).pieces ≡ marked fresh pieces }
+        ensures pieces { (pieces : List (Piece Sign)) → AreTokens from (drop from source.now) pieces →
+            (stream_of result).pieces ≡ marked fresh pieces }
         ensures end { (stream_of result).end ≡ length source.now }
         ensures source { result.source ≡ source.now }
     {
@@ -543,5 +547,6 @@ impl<'a> Tokens<'a> {
 /// A text has exactly one list of tokens.
 pub fn one_list_of_tokens()
     ensures some { (at : ℕ) (bytes : List ℕ) → (pieces : List (Piece Sign)) × AreTokens at bytes pieces }
-    ensures only { (at : ℕ) (bytes : List ℕ) (one two : List (Piece Sign)) → AreTokens at bytes one → AreTokens at bytes two → one ≡ two }
+    ensures only { (at : ℕ) (bytes : List ℕ) (one two : List (Piece Sign)) → AreTokens at bytes one →
+        AreTokens at bytes two → one ≡ two }
 {}

@@ -26,7 +26,9 @@ pub Contains-none : (q : ℕ) (ids : List ℕ) → list_any (eqb q) ids ≡ fals
 Contains-none q ids none h = let e : true ≡ false = sym (any-from_Contains q ids h) ∙ none in cc
 
 -- where ids differ, none of them stands before its place
-pub absent_before : (ids : List ℕ) (place : ℕ) → AreDistinct ids → place < length ids → Contains (take place ids) (get_or ids place 0) → ⊥
+pub absent_before : (ids : List ℕ) (place : ℕ) → AreDistinct ids → place < length ids →
+    Contains (take place ids) (get_or ids place 0) → ⊥
 absent_before ids place distinct l (k, within, e) =
     let less : k < place = omega (arith, length-take-le place ids (omega arith), within) in
-    distinct k place (get_or ids place 0) less l (sym (get_or-take place ids k (get_or ids place 0) less) ∙ e ∙ sym (get_or_default ids place (get_or ids place 0) 0 l))
+    distinct k place (get_or ids place 0) less l (sym (get_or-take place ids k (get_or ids place 0) less) ∙ e
+    ∙ sym (get_or_default ids place (get_or ids place 0) 0 l))

@@ -1,14 +1,18 @@
 -- The table of the aliases' truths: there is one, and it is that of the definition.
-use Rattle.std.proofs.Common.{◌≡◌, ℕ, suc, zero, add-zero, append-nil, ◌+◌, ◌<◌, ◌≤◌, Bool, true, false, cond, List, [], ◌∷◌, ◌++◌, length, get_or, refl, ap, sym, ◌∙◌, arith, append_assoc, take, drop, set, length-append, zero-add}
+use Rattle.std.proofs.Common.{◌≡◌, ℕ, suc, zero, add-zero, append-nil, ◌+◌, ◌<◌, ◌≤◌, Bool, true, false, cond, List, []}
+use Rattle.std.proofs.Common.{◌∷◌, ◌++◌, length, get_or, refl, ap, sym, ◌∙◌, arith, append_assoc, take, drop, set}
+use Rattle.std.proofs.Common.{length-append, zero-add}
 use Rattle.std.proofs.lemmas.List.{get_or-append-add, take_more_set, take_all, drop_all}
 use Rattle.std.proofs.lemmas.Grind.{common_steps}
-use Rattle.ps_label.specs.Expression.{Expression, Operands, constant, proposition, alias, not_of, all_of, any_of, last, more, IsWithin, AreWithin, AreOrdered, AreOrderedFrom}
+use Rattle.ps_label.specs.Expression.{Expression, Operands, constant, proposition, alias, not_of, all_of, any_of, last}
+use Rattle.ps_label.specs.Expression.{more, IsWithin, AreWithin, AreOrdered, AreOrderedFrom}
 use Rattle.ps_label.specs.declared.label.Label.{Label}
 use Rattle.ps_label.specs.Truth.{expressions, truth, all_true, any_true, truths_behind, alias_truths, AreTruths}
 
 -- what stands behind the names that an expression uses changes nothing
 mutual
-  pub truth-front : (known more_known : List Bool) (letter : ℕ) (e : Expression) → IsWithin (length known) e → truth (known ++ more_known) letter e ≡ truth known letter e
+  pub truth-front : (known more_known : List Bool) (letter : ℕ) (e : Expression) → IsWithin (length known) e →
+      truth (known ++ more_known) letter e ≡ truth known letter e
   truth-front known x letter (constant b) h = refl
   truth-front known x letter (proposition p) h = refl
   truth-front known x letter (alias k) h = grind (arith, common_steps)
@@ -16,20 +20,25 @@ mutual
   truth-front known x letter (all_of es) h = all-front known x letter es h
   truth-front known x letter (any_of es) h = any-front known x letter es h
 
-  all-front : (known more_known : List Bool) (letter : ℕ) (es : Operands) → AreWithin (length known) es → all_true (known ++ more_known) letter es ≡ all_true known letter es
+  all-front : (known more_known : List Bool) (letter : ℕ) (es : Operands) → AreWithin (length known) es →
+      all_true (known ++ more_known) letter es ≡ all_true known letter es
   all-front known x letter last h = refl
   all-front known x letter (more e es) h = rw (truth-front known x letter e h.0, all-front known x letter es h.1) refl
 
-  any-front : (known more_known : List Bool) (letter : ℕ) (es : Operands) → AreWithin (length known) es → any_true (known ++ more_known) letter es ≡ any_true known letter es
+  any-front : (known more_known : List Bool) (letter : ℕ) (es : Operands) → AreWithin (length known) es →
+      any_true (known ++ more_known) letter es ≡ any_true known letter es
   any-front known x letter last h = refl
   any-front known x letter (more e es) h = rw (truth-front known x letter e h.0, any-front known x letter es h.1) refl
 
-pub push_ordered : (k : ℕ) (es : List Expression) (e : Expression) → AreOrderedFrom k es → IsWithin (k + length es) e → AreOrderedFrom k (es ++ e ∷ [])
+pub push_ordered : (k : ℕ) (es : List Expression) (e : Expression) → AreOrderedFrom k es → IsWithin (k + length es) e →
+    AreOrderedFrom k (es ++ e ∷ [])
 push_ordered k [] e o h = ((let g : IsWithin k e = rw add-zero at h in g), tt)
-push_ordered k (x ∷ xs) e o h = (o.0, push_ordered (k + 1) xs e o.1 (let g : k + suc (length xs) ≡ (k + 1) + length xs = omega arith in rw g at h))
+push_ordered k (x ∷ xs) e o h =
+    (o.0, push_ordered (k + 1) xs e o.1 (let g : k + suc (length xs) ≡ (k + 1) + length xs = omega arith in rw g at h))
 
 -- what the truths of the aliases from some place on look like
-truths_grow : (known : List Bool) (letter : ℕ) (es : List Expression) → (rest : List Bool) × (truths_behind known letter es ≡ known ++ rest) × (length rest ≡ length es)
+truths_grow : (known : List Bool) (letter : ℕ) (es : List Expression) →
+    (rest : List Bool) × (truths_behind known letter es ≡ known ++ rest) × (length rest ≡ length es)
 truths_grow known letter [] = ([], sym (append-nil known), refl)
 truths_grow known letter (e ∷ es) =
     let b = truth known letter e in
@@ -38,7 +47,8 @@ truths_grow known letter (e ∷ es) =
 
 -- each truth in the table is that of its alias by the table
 table_from : (known : List Bool) (letter : ℕ) (es : List Expression) → AreOrderedFrom (length known) es →
-    (k : ℕ) → k < length es → get_or (truths_behind known letter es) (length known + k) false ≡ truth (truths_behind known letter es) letter (get_or es k (constant false))
+    (k : ℕ) → k < length es → get_or (truths_behind known letter es) (length known + k) false ≡ truth
+    (truths_behind known letter es) letter (get_or es k (constant false))
 table_from known letter [] o k h = absurd (omega arith)
 table_from known letter (e ∷ es) o zero h =
     let b = truth known letter e in
@@ -53,7 +63,8 @@ table_from known letter (e ∷ es) o (suc k) h =
     let below : k < length es = omega arith in
     rw here (table_from (known ++ b ∷ []) letter es o' k below)
 
-pub table : (aliases : List Expression) (letter : ℕ) → AreOrdered aliases → AreTruths aliases letter (alias_truths aliases letter)
+pub table : (aliases : List Expression) (letter : ℕ) → AreOrdered aliases →
+    AreTruths aliases letter (alias_truths aliases letter)
 unfolding alias_truths
 table aliases letter o =
     let r = truths_grow [] letter aliases in
@@ -63,36 +74,47 @@ table aliases letter o =
     }
 
 -- a table that fits the aliases from some place on is what the definition makes of its front
-only_from : (front back : List Bool) (letter : ℕ) (es : List Expression) → AreOrderedFrom (length front) es → length back ≡ length es →
-    ((k : ℕ) → k < length es → get_or (front ++ back) (length front + k) false ≡ truth (front ++ back) letter (get_or es k (constant false))) →
+only_from : (front back : List Bool) (letter : ℕ) (es : List Expression) → AreOrderedFrom (length front) es →
+    length back ≡ length es →
+    ((k : ℕ) → k < length es → get_or (front ++ back) (length front + k) false ≡ truth (front ++ back) letter
+    (get_or es k (constant false))) →
     front ++ back ≡ truths_behind front letter es
 only_from front [] letter [] o len fits = append-nil front
 only_from front (b ∷ back) letter [] o len fits = absurd (let n : suc (length back) ≡ 0 = len in omega arith)
 only_from front [] letter (e ∷ es) o len fits = absurd (let n : 0 ≡ suc (length es) = len in omega arith)
 only_from front (b ∷ back) letter (e ∷ es) o len fits =
     let some : 0 < suc (length es) = omega arith in
-    let first : b ≡ truth front letter e = sym (get_or-append-add front (b ∷ back) 0 false) ∙ fits 0 some ∙ truth-front front (b ∷ back) letter e o.0 in
+    let first : b ≡ truth front letter e = sym (get_or-append-add front (b ∷ back) 0 false) ∙ fits 0 some
+    ∙ truth-front front (b ∷ back) letter e o.0 in
     let joined : (front ++ b ∷ []) ++ back ≡ front ++ b ∷ back = append_assoc front (b ∷ []) back in
     let longer : length (front ++ b ∷ []) ≡ length front + 1 = length-append front (b ∷ []) in
     let o' : AreOrderedFrom (length (front ++ b ∷ [])) es = rw longer o.1 in
     let len' : length back ≡ length es = omega (arith, len) in
-    let later : (k : ℕ) → k < length es → get_or ((front ++ b ∷ []) ++ back) (length (front ++ b ∷ []) + k) false ≡ truth ((front ++ b ∷ []) ++ back) letter (get_or es k (constant false)) =
+    let later : (k : ℕ) → k < length es → get_or ((front ++ b ∷ []) ++ back) (length (front ++ b ∷ []) + k) false ≡
+    truth ((front ++ b ∷ []) ++ back) letter (get_or es k (constant false)) =
     λ k h. let below : suc k < suc (length es) = omega arith in
     let there : length (front ++ b ∷ []) + k ≡ length front + suc k = omega arith in
     rw (joined, there) (fits (suc k) below) in
-    sym joined ∙ only_from (front ++ b ∷ []) back letter es o' len' later ∙ ap (λ (x : Bool). truths_behind (front ++ x ∷ []) letter es) first
+    sym joined ∙ only_from (front ++ b ∷ []) back letter es o' len' later
+    ∙ ap (λ (x : Bool). truths_behind (front ++ x ∷ []) letter es) first
 
-pub only_table : (aliases : List Expression) (letter : ℕ) (known : List Bool) → AreOrdered aliases → AreTruths aliases letter known → known ≡ alias_truths aliases letter
+pub only_table : (aliases : List Expression) (letter : ℕ) (known : List Bool) → AreOrdered aliases →
+    AreTruths aliases letter known → known ≡ alias_truths aliases letter
 unfolding alias_truths
 only_table aliases letter known o t = only_from [] known letter aliases o t.one_each (λ k h. rw zero-add (t.each k h))
 
 -- one alias more is worked out
-pub truths_step : (scratch : List Bool) (k : ℕ) (letter : ℕ) (es : List Expression) (e : Expression) → k < length scratch →
-    truths_behind (take (k + 1) (set scratch k (truth (take k scratch) letter e))) letter es ≡ truths_behind (take k scratch) letter (e ∷ es)
-truths_step scratch k letter es e h = ap (λ (known : List Bool). truths_behind known letter es) (take_more_set scratch k (truth (take k scratch) letter e) h)
+pub truths_step : (scratch : List Bool) (k : ℕ) (letter : ℕ) (es : List Expression) (e : Expression) →
+    k < length scratch →
+    truths_behind (take (k + 1) (set scratch k (truth (take k scratch) letter e))) letter es ≡ truths_behind
+    (take k scratch) letter (e ∷ es)
+truths_step scratch k letter es e h =
+    ap (λ (known : List Bool). truths_behind known letter es) (take_more_set scratch k
+    (truth (take k scratch) letter e) h)
 
 -- once each alias is worked out, the table is whole
-pub whole_table : (scratch : List Bool) (k letter : ℕ) (items : List Label) (whole : List Bool) → length scratch ≡ length items → length items ≤ k →
+pub whole_table : (scratch : List Bool) (k letter : ℕ) (items : List Label) (whole : List Bool) →
+    length scratch ≡ length items → length items ≤ k →
     truths_behind (take k scratch) letter (expressions (drop k items)) ≡ whole → scratch ≡ whole
 whole_table scratch k letter items whole room done is =
     let none : drop k items ≡ [] = drop_all k items done in

@@ -1,8 +1,10 @@
--- A code for expressions, by which a proof tells them apart: the steps in which stacks of expressions and of operands make one.
+-- A code for expressions, by which a proof tells them apart: the steps in which stacks of expressions and of operands
+-- make one.
 use Rattle.std.specs.Prelude.{◌≡◌, ℕ, ◌⊎◌, Bool, true, false, List, [], ◌∷◌, refl}
 use Rattle.std.proofs.Common.{inl, inr, ◌∙◌}
 use Rattle.std.specs.Coded.{Coded, code_by, coded_list, coded⊎, coded_bool, coded_ℕ}
-use Rattle.ps_label.specs.Expression.{Expression, constant, proposition, alias, not_of, all_of, any_of, Operands, last, more}
+use Rattle.ps_label.specs.Expression.{Expression, constant, proposition, alias, not_of, all_of, any_of, Operands, last}
+use Rattle.ps_label.specs.Expression.{more}
 
 -- a constant, a proposition or an alias; or what is made of what lies on the stacks
 abbrev pub Step : Type 0
@@ -56,7 +58,8 @@ abbrev mutual
   row_onto (more e row) steps = row_onto row (steps_onto e (one_operand ∷ steps))
 
 mutual
-  run_steps : (e : Expression) (steps : List Step) (stacks : Stacks) → run (steps_onto e steps) stacks ≡ run steps (e ∷ stacks.0, stacks.1)
+  run_steps : (e : Expression) (steps : List Step) (stacks : Stacks) →
+      run (steps_onto e steps) stacks ≡ run steps (e ∷ stacks.0, stacks.1)
   run_steps (constant b) steps stacks = refl
   run_steps (proposition p) steps stacks = refl
   run_steps (alias k) steps stacks = refl
@@ -64,9 +67,11 @@ mutual
   run_steps (all_of row) steps stacks = run_row row (conjunction ∷ steps) stacks
   run_steps (any_of row) steps stacks = run_row row (disjunction ∷ steps) stacks
 
-  run_row : (row : Operands) (steps : List Step) (stacks : Stacks) → run (row_onto row steps) stacks ≡ run steps (stacks.0, row ∷ stacks.1)
+  run_row : (row : Operands) (steps : List Step) (stacks : Stacks) →
+      run (row_onto row steps) stacks ≡ run steps (stacks.0, row ∷ stacks.1)
   run_row last steps stacks = refl
-  run_row (more e row) steps stacks = run_row row (steps_onto e (one_operand ∷ steps)) stacks ∙ run_steps e (one_operand ∷ steps) (stacks.0, row ∷ stacks.1)
+  run_row (more e row) steps stacks = run_row row (steps_onto e (one_operand ∷ steps)) stacks
+      ∙ run_steps e (one_operand ∷ steps) (stacks.0, row ∷ stacks.1)
 
 abbrev top : List Expression → Expression
 top [] = constant false
@@ -79,7 +84,10 @@ abbrev made_by : List Step → Expression
 made_by steps = top (run steps ([], [])).0
 
 pub made_by_steps : (e : Expression) → made_by (steps_of e) ≡ e
-made_by_steps e = let same : run (steps_onto e []) ([], []) ≡ (e ∷ [], []) = run_steps e [] ([], []) in λ i. top (same i).0
+made_by_steps e =
+    let same : run (steps_onto e []) ([], []) ≡ (e ∷ [], []) = run_steps e [] ([], []) in λ i. top (same i).0
 
 abbrev pub expression_code : Coded Expression
-expression_code = code_by (List Step) (coded_list (coded⊎ (coded⊎ coded_bool (coded⊎ coded_ℕ coded_ℕ)) (coded⊎ coded_bool (coded⊎ coded_bool coded_bool)))) steps_of made_by made_by_steps
+expression_code =
+    code_by (List Step) (coded_list (coded⊎ (coded⊎ coded_bool (coded⊎ coded_ℕ coded_ℕ))
+    (coded⊎ coded_bool (coded⊎ coded_bool coded_bool)))) steps_of made_by made_by_steps

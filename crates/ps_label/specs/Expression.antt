@@ -1,6 +1,7 @@
 -- A label as a Boolean expression, apart from where its parts lie in memory.
 use Rattle.std.specs.Prelude.{ℕ, ◌+◌, ◌<◌, Bool, List, [], ◌∷◌}
-use Rattle.ps_label.specs.declared.label.Label.{Label, Truth, Atom, Named, Neg', Both', Either', Row_of-Label, end_of-Label, more_of-Label}
+use Rattle.ps_label.specs.declared.label.Label.{Label, Truth, Atom, Named, Neg', Both', Either', Row_of-Label}
+use Rattle.ps_label.specs.declared.label.Label.{end_of-Label, more_of-Label}
 
 mutual
   pub data Expression : Type 0 where

@@ -1,7 +1,9 @@
 -- The truth of an expression at a letter.
-use Rattle.std.specs.Prelude.{◌≡◌, ℕ, ◌/◌, ◌%◌, ◌^◌, ◌<◌, Bool, true, false, cond, List, [], ◌∷◌, ◌++◌, length, map, nat_eq, slice_index_or}
+use Rattle.std.specs.Prelude.{◌≡◌, ℕ, ◌/◌, ◌%◌, ◌^◌, ◌<◌, Bool, true, false, cond, List, [], ◌∷◌, ◌++◌, length, map}
+use Rattle.std.specs.Prelude.{nat_eq, slice_index_or}
 use Rattle.ps_label.specs.declared.label.Label.{Label}
-use Rattle.ps_label.specs.Expression.{Expression, constant, proposition, alias, not_of, all_of, any_of, Operands, last, more, expression}
+use Rattle.ps_label.specs.Expression.{Expression, constant, proposition, alias, not_of, all_of, any_of, Operands, last}
+use Rattle.ps_label.specs.Expression.{more, expression}
 
 -- proposition p is bit p of the letter, the lowest bit being bit 0
 abbrev pub is_in : ℕ → ℕ → Bool
@@ -28,7 +30,8 @@ abbrev mutual
 -- A table has the truth of each alias: of the expression that it stands for, by the same table.
 pub record AreTruths (aliases : List Expression) (letter : ℕ) (known : List Bool) : Type 0 where
   pub one_each : length known ≡ length aliases
-  pub each : (k : ℕ) → k < length aliases → slice_index_or known k false ≡ truth known letter (slice_index_or aliases k (constant false))
+  pub each : (k : ℕ) → k < length aliases → slice_index_or known k false ≡ truth known letter
+      (slice_index_or aliases k (constant false))
 
 -- the truths of the aliases, from the first to the last, behind those of earlier ones
 abbrev pub truths_behind : List Bool → ℕ → List Expression → List Bool

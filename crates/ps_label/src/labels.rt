@@ -81,9 +81,12 @@ impl Labels {
 /// Where each alias speaks of earlier ones alone, there is one table of their truths at a letter, each being
 /// that of its expression by the same table; and a label's truth is its truth by that table.
 pub fn one_table_of_truths()
-    ensures table { (aliases : List Expression) (letter : ℕ) → AreOrdered aliases → AreTruths aliases letter (alias_truths aliases letter) }
-    ensures only { (aliases : List Expression) (letter : ℕ) (known : List Bool) → AreOrdered aliases → AreTruths aliases letter known → known ≡ alias_truths aliases letter }
-    ensures label { (aliases : List Expression) (letter : ℕ) (known : List Bool) (e : Expression) → AreOrdered aliases → AreTruths aliases letter known → label_truth aliases letter e ≡ truth known letter e }
+    ensures table { (aliases : List Expression) (letter : ℕ) → AreOrdered aliases →
+        AreTruths aliases letter (alias_truths aliases letter) }
+    ensures only { (aliases : List Expression) (letter : ℕ) (known : List Bool) → AreOrdered aliases →
+        AreTruths aliases letter known → known ≡ alias_truths aliases letter }
+    ensures label { (aliases : List Expression) (letter : ℕ) (known : List Bool) (e : Expression) → AreOrdered aliases →
+        AreTruths aliases letter known → label_truth aliases letter e ≡ truth known letter e }
 {}
 
 /// The truth of a label at a letter, where that of each alias is in `known`.

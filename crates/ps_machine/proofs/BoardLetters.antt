@@ -1,5 +1,6 @@
 -- Letters of the two players, their sums, and the order of letters.
-use Rattle.std.proofs.Common.{◌≡◌, ℕ, zero, suc, ◌+◌, ◌^◌, ◌<◌, Bool, true, false, cond, not, refl, ap, sym, subst, ◌∙◌, arith, inl, inr, ◌⊎◌}
+use Rattle.std.proofs.Common.{◌≡◌, ℕ, zero, suc, ◌+◌, ◌^◌, ◌<◌, Bool, true, false, cond, not, refl, ap, sym, subst, ◌∙◌}
+use Rattle.std.proofs.Common.{arith, inl, inr, ◌⊎◌}
 use Rattle.std.specs.Prelude.{◌||◌, ◌&&◌}
 use Rattle.std.proofs.lemmas.Bool.{cases_lt}
 use Rattle.ps_label.specs.Truth.{is_in}
@@ -12,22 +13,30 @@ use Rattle.ps_machine.specs.Moving.{IsMaskOf}
 
 -- ## Sums of letters with no proposition in common
 
-sum_step : (a b : Bool) (k l m s : ℕ) → (a && b) ≡ false → k + l ≡ m → (k + cond a s 0) + (l + cond b s 0) ≡ m + cond (a || b) s 0
+sum_step : (a b : Bool) (k l m s : ℕ) → (a && b) ≡ false → k + l ≡ m →
+    (k + cond a s 0) + (l + cond b s 0) ≡ m + cond (a || b) s 0
 sum_step true true k l m s apart e = absurd (true_is_not_false apart)
 sum_step true false k l m s apart e = omega arith
 sum_step false true k l m s apart e = omega arith
 sum_step false false k l m s apart e = omega arith
 
-sum_of : (n : ℕ) (f g : ℕ → Bool) → ((p : ℕ) → (f p && g p) ≡ false) → letter_of n f + letter_of n g ≡ letter_of n (λ p. f p || g p)
+sum_of : (n : ℕ) (f g : ℕ → Bool) → ((p : ℕ) → (f p && g p) ≡ false) →
+    letter_of n f + letter_of n g ≡ letter_of n (λ p. f p || g p)
 sum_of zero f g apart = omega arith
-sum_of (suc n) f g apart = sum_step (f n) (g n) (letter_of n f) (letter_of n g) (letter_of n (λ p. f p || g p)) (2 ^ n) (apart n) (sum_of n f g apart)
+sum_of (suc n) f g apart =
+    sum_step (f n) (g n) (letter_of n f) (letter_of n g) (letter_of n (λ p. f p || g p)) (2 ^ n) (apart n)
+    (sum_of n f g apart)
 
 number_is : (n x : ℕ) → x < 2 ^ n → x ≡ letter_of n (assignment x)
-number_is n x lt = same_letter n x (letter_of n (assignment x)) lt (letter_lt n (assignment x)) (λ q below. sym (letter_is n (assignment x) q below))
+number_is n x lt =
+    same_letter n x (letter_of n (assignment x)) lt (letter_lt n (assignment x))
+    (λ q below. sym (letter_is n (assignment x) q below))
 
-sum_is : (n x y : ℕ) → x < 2 ^ n → y < 2 ^ n → ((p : ℕ) → (is_in p x && is_in p y) ≡ false) → x + y ≡ letter_of n (λ p. is_in p x || is_in p y)
+sum_is : (n x y : ℕ) → x < 2 ^ n → y < 2 ^ n → ((p : ℕ) → (is_in p x && is_in p y) ≡ false) →
+    x + y ≡ letter_of n (λ p. is_in p x || is_in p y)
 sum_is n x y a b apart =
-    ap (λ k. k + y) (number_is n x a) ∙ ap (λ k. letter_of n (assignment x) + k) (number_is n y b) ∙ sum_of n (assignment x) (assignment y) apart
+    ap (λ k. k + y) (number_is n x a) ∙ ap (λ k. letter_of n (assignment x) + k) (number_is n y b)
+    ∙ sum_of n (assignment x) (assignment y) apart
 
 and_false-right : (a b : Bool) → b ≡ false → (a && b) ≡ false
 and_false-right true b e = e
@@ -54,19 +63,26 @@ module _ (board : Board) where
     | inr isnt ↦ and_false-left (is_in p x) (is_in p y) (hx.own p isnt)
   ]
 
-  both : (x y : ℕ) → IsFirstLetter board x → IsSecondLetter board y → x + y ≡ letter_of board.propositions (λ p. is_in p x || is_in p y)
+  both : (x y : ℕ) → IsFirstLetter board x → IsSecondLetter board y →
+      x + y ≡ letter_of board.propositions (λ p. is_in p x || is_in p y)
   both x y hx hy = sum_is board.propositions x y hx.within hy.within (apart x y hx hy)
 
   pub sum_within : (x y : ℕ) → IsFirstLetter board x → IsSecondLetter board y → x + y < 2 ^ board.propositions
-  sum_within x y hx hy = subst (λ k. k < 2 ^ board.propositions) (sym (both x y hx hy)) (letter_lt board.propositions (λ p. is_in p x || is_in p y))
+  sum_within x y hx hy =
+      subst (λ k. k < 2 ^ board.propositions) (sym (both x y hx hy))
+      (letter_lt board.propositions (λ p. is_in p x || is_in p y))
 
-  sum_bit : (x y p : ℕ) → IsFirstLetter board x → IsSecondLetter board y → p < board.propositions → is_in p (x + y) ≡ (is_in p x || is_in p y)
-  sum_bit x y p hx hy lt = ap (is_in p) (both x y hx hy) ∙ letter_is board.propositions (λ q. is_in q x || is_in q y) p lt
+  sum_bit : (x y p : ℕ) → IsFirstLetter board x → IsSecondLetter board y → p < board.propositions →
+      is_in p (x + y) ≡ (is_in p x || is_in p y)
+  sum_bit x y p hx hy lt =
+      ap (is_in p) (both x y hx hy) ∙ letter_is board.propositions (λ q. is_in q x || is_in q y) p lt
 
-  pub sum_first : (x y p : ℕ) → IsFirstLetter board x → IsSecondLetter board y → p < board.propositions → board.is_first p ≡ true → is_in p (x + y) ≡ is_in p x
+  pub sum_first : (x y p : ℕ) → IsFirstLetter board x → IsSecondLetter board y → p < board.propositions →
+      board.is_first p ≡ true → is_in p (x + y) ≡ is_in p x
   sum_first x y p hx hy lt is = sum_bit x y p hx hy lt ∙ or_false-right (is_in p x) (is_in p y) (hy.own p is)
 
-  pub sum_second : (x y p : ℕ) → IsFirstLetter board x → IsSecondLetter board y → p < board.propositions → board.is_first p ≡ false → is_in p (x + y) ≡ is_in p y
+  pub sum_second : (x y p : ℕ) → IsFirstLetter board x → IsSecondLetter board y → p < board.propositions →
+      board.is_first p ≡ false → is_in p (x + y) ≡ is_in p y
   sum_second x y p hx hy lt isnt = sum_bit x y p hx hy lt ∙ or_false-left (is_in p x) (is_in p y) (hx.own p isnt)
 
   -- ## The mask of the first player
@@ -77,26 +93,33 @@ module _ (board : Board) where
     | inr ge ↦ absurd (true_is_not_false (sym is ∙ no_bit board.propositions mask p m.within ge))
   ]
 
-  pub agree_on : (mask x y : ℕ) → IsMaskOf board mask → IsFirstLetter board x → IsSecondLetter board y → AgreeOn mask x (x + y)
+  pub agree_on : (mask x y : ℕ) → IsMaskOf board mask → IsFirstLetter board x → IsSecondLetter board y →
+      AgreeOn mask x (x + y)
   agree_on mask x y m hx hy p is =
       let lt = mask_below mask p m is in
       sym (sum_first x y p hx hy lt (sym (m.is p lt) ∙ is))
 
-  pub agree_off : (mask x y : ℕ) → IsMaskOf board mask → IsFirstLetter board x → IsSecondLetter board y → AgreeOff mask y (x + y)
+  pub agree_off : (mask x y : ℕ) → IsMaskOf board mask → IsFirstLetter board x → IsSecondLetter board y →
+      AgreeOff mask y (x + y)
   agree_off mask x y m hx hy p isnt = elim (cases_lt p board.propositions) [
     | inl lt ↦ sym (sum_second x y p hx hy lt (sym (m.is p lt) ∙ isnt))
-    | inr ge ↦ no_bit board.propositions y p hy.within ge ∙ sym (no_bit board.propositions (x + y) p (sum_within x y hx hy) ge)
+    | inr ge ↦ no_bit board.propositions y p hy.within ge ∙ sym
+        (no_bit board.propositions (x + y) p (sum_within x y hx hy) ge)
   ]
 
   -- two letters of the second player and of one letter of the first agree where the mask is
-  pub agree_first : (mask x y z : ℕ) → IsMaskOf board mask → IsFirstLetter board x → IsSecondLetter board y → IsSecondLetter board z → AgreeOn mask (x + y) (x + z)
+  pub agree_first : (mask x y z : ℕ) → IsMaskOf board mask → IsFirstLetter board x → IsSecondLetter board y →
+      IsSecondLetter board z → AgreeOn mask (x + y) (x + z)
   agree_first mask x y z m hx hy hz p is = sym (agree_on mask x y m hx hy p is) ∙ agree_on mask x z m hx hz p is
 
-  pub agree_second : (mask x w y : ℕ) → IsMaskOf board mask → IsFirstLetter board x → IsFirstLetter board w → IsSecondLetter board y → AgreeOff mask (x + y) (w + y)
-  agree_second mask x w y m hx hw hy p isnt = sym (agree_off mask x y m hx hy p isnt) ∙ agree_off mask w y m hw hy p isnt
+  pub agree_second : (mask x w y : ℕ) → IsMaskOf board mask → IsFirstLetter board x → IsFirstLetter board w →
+      IsSecondLetter board y → AgreeOff mask (x + y) (w + y)
+  agree_second mask x w y m hx hw hy p isnt =
+      sym (agree_off mask x y m hx hy p isnt) ∙ agree_off mask w y m hw hy p isnt
 
   -- a letter over the mask alone is the first player's
-  pub masked_first : (mask x : ℕ) → IsMaskOf board mask → x < 2 ^ board.propositions → ((p : ℕ) → is_in p mask ≡ false → is_in p x ≡ false) → IsFirstLetter board x
+  pub masked_first : (mask x : ℕ) → IsMaskOf board mask → x < 2 ^ board.propositions →
+      ((p : ℕ) → is_in p mask ≡ false → is_in p x ≡ false) → IsFirstLetter board x
   masked_first mask x m lt masked = record {
     within = lt;
     own = λ p isnt. elim (cases_lt p board.propositions) [
@@ -114,32 +137,39 @@ module _ (board : Board) where
   second_is u = record {
     within = letter_lt board.propositions (λ p. is_in p u && not (board.is_first p));
     own = λ p is. elim (cases_lt p board.propositions) [
-      | inl below ↦ letter_is board.propositions (λ q. is_in q u && not (board.is_first q)) p below ∙ and_false-right (is_in p u) (not (board.is_first p)) (ap not is)
-      | inr ge ↦ no_bit board.propositions (second_of u) p (letter_lt board.propositions (λ q. is_in q u && not (board.is_first q))) ge
+      | inl below ↦ letter_is board.propositions (λ q. is_in q u && not (board.is_first q)) p below
+          ∙ and_false-right (is_in p u) (not (board.is_first p)) (ap not is)
+      | inr ge ↦ no_bit board.propositions (second_of u) p (letter_lt board.propositions
+          (λ q. is_in q u && not (board.is_first q))) ge
     ];
   }
 
   pub second_bit : (u p : ℕ) → p < board.propositions → board.is_first p ≡ false → is_in p (second_of u) ≡ is_in p u
-  second_bit u p lt isnt = letter_is board.propositions (λ q. is_in q u && not (board.is_first q)) p lt ∙ and_true-right (is_in p u) (not (board.is_first p)) (ap not isnt)
+  second_bit u p lt isnt = letter_is board.propositions (λ q. is_in q u && not (board.is_first q)) p lt
+      ∙ and_true-right (is_in p u) (not (board.is_first p)) (ap not isnt)
 
   second_off : (mask y : ℕ) → IsMaskOf board mask → y < 2 ^ board.propositions → AgreeOff mask y (second_of y)
   second_off mask y m lt p isnt = elim (cases_lt p board.propositions) [
     | inl below ↦ sym (second_bit y p below (sym (m.is p below) ∙ isnt))
-    | inr ge ↦ no_bit board.propositions y p lt ge ∙ sym (no_bit board.propositions (second_of y) p (second_is y).within ge)
+    | inr ge ↦ no_bit board.propositions y p lt ge ∙ sym (no_bit board.propositions (second_of y) p
+        (second_is y).within ge)
   ]
 
   -- a letter is that of a first letter and of its own second one, where it agrees with the first
-  pub as_sum : (mask x u p : ℕ) → IsMaskOf board mask → IsFirstLetter board x → AgreeOn mask x u → p < board.propositions → is_in p u ≡ is_in p (x + second_of u)
+  pub as_sum : (mask x u p : ℕ) → IsMaskOf board mask → IsFirstLetter board x → AgreeOn mask x u →
+      p < board.propositions → is_in p u ≡ is_in p (x + second_of u)
   as_sum mask x u p m hx on lt = elim (bool_cases (board.is_first p)) [
     | inl is ↦ sym (on p (m.is p lt ∙ is)) ∙ sym (sum_first x (second_of u) p hx (second_is u) lt is)
     | inr isnt ↦ sym (second_bit u p lt isnt) ∙ sym (sum_second x (second_of u) p hx (second_is u) lt isnt)
   ]
 
   -- the same with the second part of another letter that agrees outside the mask
-  pub as_other_sum : (mask x u v p : ℕ) → IsMaskOf board mask → IsFirstLetter board x → AgreeOn mask x v → AgreeOff mask u v → p < board.propositions → is_in p v ≡ is_in p (x + second_of u)
+  pub as_other_sum : (mask x u v p : ℕ) → IsMaskOf board mask → IsFirstLetter board x → AgreeOn mask x v →
+      AgreeOff mask u v → p < board.propositions → is_in p v ≡ is_in p (x + second_of u)
   as_other_sum mask x u v p m hx on off lt = elim (bool_cases (board.is_first p)) [
     | inl is ↦ sym (on p (m.is p lt ∙ is)) ∙ sym (sum_first x (second_of u) p hx (second_is u) lt is)
-    | inr isnt ↦ sym (off p (m.is p lt ∙ isnt)) ∙ sym (second_bit u p lt isnt) ∙ sym (sum_second x (second_of u) p hx (second_is u) lt isnt)
+    | inr isnt ↦ sym (off p (m.is p lt ∙ isnt)) ∙ sym (second_bit u p lt isnt)
+        ∙ sym (sum_second x (second_of u) p hx (second_is u) lt isnt)
   ]
 
   pub zero_second : IsSecondLetter board 0
@@ -175,8 +205,16 @@ alike_more n f g h e q lt = elim (cases_lt q n) [
 first_difference : (n : ℕ) (f g : ℕ → Bool) → ((q : ℕ) → q < n → f q ≡ g q) ⊎ Differ n f g
 first_difference zero f g = inl (λ q lt. absurd (omega (arith, lt)))
 first_difference (suc n) f g = elim (first_difference n f g) [
-  | inl h ↦ elim (bool_same (f n) (g n)) [ inl e ↦ inl (alike_more n f g h e) | inr ne ↦ inr (record { at = n; below = omega arith; differ = ne; same = h }) ]
-  | inr d ↦ inr (record { at = d.at; below = (let lt = d.below in omega (arith, lt)); differ = d.differ; same = d.same })
+  | inl h ↦ elim (bool_same (f n) (g n)) [
+    | inl e ↦ inl (alike_more n f g h e)
+    | inr ne ↦ inr (record { at = n; below = omega arith; differ = ne; same = h })
+  ]
+  | inr d ↦ inr (record {
+    at = d.at;
+    below = (let lt = d.below in omega (arith, lt));
+    differ = d.differ;
+    same = d.same;
+  })
 ]
 
 not_true : (a b : Bool) → (a ≡ b → ⊥) → a ≡ true → b ≡ false
@@ -191,8 +229,18 @@ pub compared : (n x y : ℕ) → x < 2 ^ n → y < 2 ^ n → (x ≡ y) ⊎ (IsBe
 compared n x y lx ly = elim (first_difference n (assignment x) (assignment y)) [
   | inl h ↦ inl (same_letter n x y lx ly h)
   | inr d ↦ elim (bool_cases (is_in d.at x)) [
-    | inl is ↦ inr (inr (record { first = d.at; is_false = not_true (is_in d.at x) (is_in d.at y) d.differ is; is_true = is; same = λ p lt. sym (d.same p lt) }))
-    | inr isnt ↦ inr (inl (record { first = d.at; is_false = isnt; is_true = not_false (is_in d.at x) (is_in d.at y) d.differ isnt; same = d.same }))
+    | inl is ↦ inr (inr (record {
+      first = d.at;
+      is_false = not_true (is_in d.at x) (is_in d.at y) d.differ is;
+      is_true = is;
+      same = λ p lt. sym (d.same p lt);
+    }))
+    | inr isnt ↦ inr (inl (record {
+      first = d.at;
+      is_false = isnt;
+      is_true = not_false (is_in d.at x) (is_in d.at y) d.differ isnt;
+      same = d.same;
+    }))
   ]
 ]
 
@@ -207,7 +255,8 @@ pub not_before_itself : (x : ℕ) → IsBefore x x → ⊥
 not_before_itself x b = true_is_not_false (sym b.is_true ∙ b.is_false)
 
 -- a letter is the second player's where what is the second player's in it doesn't come before it
-pub second_itself : (board : Board) (y : ℕ) → y < 2 ^ board.propositions → (IsBefore (second_of board y) y → ⊥) → IsSecondLetter board y
+pub second_itself : (board : Board) (y : ℕ) → y < 2 ^ board.propositions → (IsBefore (second_of board y) y → ⊥) →
+    IsSecondLetter board y
 second_itself board y lt never = subst (IsSecondLetter board) same (second_is board y)
   where
     fewer : (a b : Bool) → (a && b) ≡ true → a ≡ true
@@ -216,14 +265,18 @@ second_itself board y lt never = subst (IsSecondLetter board) same (second_is bo
 
     later : IsBefore y (second_of board y) → ⊥
     later b = elim (cases_lt b.first board.propositions) [
-      | inl below ↦ true_is_not_false (sym (fewer (is_in b.first y) (not (board.is_first b.first)) (sym (letter_is board.propositions (λ q. is_in q y && not (board.is_first q)) b.first below) ∙ b.is_true)) ∙ b.is_false)
-      | inr ge ↦ true_is_not_false (sym b.is_true ∙ no_bit board.propositions (second_of board y) b.first (second_is board y).within ge)
+      | inl below ↦ true_is_not_false (sym (fewer (is_in b.first y) (not (board.is_first b.first))
+          (sym (letter_is board.propositions (λ q. is_in q y && not (board.is_first q)) b.first below) ∙ b.is_true))
+          ∙ b.is_false)
+      | inr ge ↦ true_is_not_false (sym b.is_true ∙ no_bit board.propositions (second_of board y) b.first
+          (second_is board y).within ge)
     ]
 
     same : second_of board y ≡ y
     same = neither_before board.propositions (second_of board y) y (second_is board y).within lt never later
 
-pub second_agrees : (board : Board) (mask y : ℕ) → IsMaskOf board mask → y < 2 ^ board.propositions → AgreeOff mask y (second_of board y)
+pub second_agrees : (board : Board) (mask y : ℕ) → IsMaskOf board mask → y < 2 ^ board.propositions →
+    AgreeOff mask y (second_of board y)
 second_agrees board mask y m lt = second_off board mask y m lt
 
 -- two least letters with the same property are one

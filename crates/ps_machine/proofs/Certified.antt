@@ -1,19 +1,25 @@
--- Two regions that are held and part the game, with the least counts of both, make a valid certificate with the least counts.
-use Rattle.std.proofs.Common.{◌≡◌, ◌≢◌, ◌⊎◌, inl, inr, ℕ, zero, suc, ◌+◌, ◌<◌, ◌≤◌, List, [], ◌∷◌, length, get_or, Option, Some, None, IfSome, IsSomeAnd, Bool, true, false, IsTrue, refl, ap, sym, subst, ◌∙◌, rules, arith, ◌==◌, ◌&&◌, not, replicate}
+-- Two regions that are held and part the game, with the least counts of both, make a valid certificate with the least
+-- counts.
+use Rattle.std.proofs.Common.{◌≡◌, ◌≢◌, ◌⊎◌, inl, inr, ℕ, zero, suc, ◌+◌, ◌<◌, ◌≤◌, List, [], ◌∷◌, length, get_or}
+use Rattle.std.proofs.Common.{Option, Some, None, IfSome, IsSomeAnd, Bool, true, false, IsTrue, refl, ap, sym, subst}
+use Rattle.std.proofs.Common.{◌∙◌, rules, arith, ◌==◌, ◌&&◌, not, replicate}
 use Rattle.std.proofs.lemmas.List.{get_or-replicate}
 use Rattle.std.proofs.lemmas.Bool.Decides.{nat_tests}
 use Rattle.ps_game.specs.Games.{ParityGame, IsGame, HasEdge, owner_of, priority_of, vertex_count}
 use Rattle.ps_game.specs.Plays.{Holds, IsPath, Follows}
 use Rattle.ps_game.specs.Ranking.{RemainsFor, KeepRuleWithin, KeepsRule}
 use Rattle.ps_game.specs.Regions.{has}
-use Rattle.ps_certificate.specs.Certificates.{CertificateData, EntryData, no_entry, winner_of, choice_of, counts_of, opposing, opposing_at, Fits, Remains, HasRightMove, KeepsCount, IsValid}
+use Rattle.ps_certificate.specs.Certificates.{CertificateData, EntryData, no_entry, winner_of, choice_of, counts_of}
+use Rattle.ps_certificate.specs.Certificates.{opposing, opposing_at, Fits, Remains, HasRightMove, KeepsCount, IsValid}
 use Rattle.ps_measure.specs.Ranks.{AreRanks, count_of, count_in, width_in}
 use Rattle.ps_machine.specs.Building.{IsEntryAmong, AreEntries}
 use Rattle.ps_machine.specs.Solving.{DiffersInCounts, HasLeastCounts}
 use Rattle.ps_zielonka.specs.Answers.{others}
 
--- what a certificate says of a vertex that a player wins: it is in the player's set, and has the table's move and its row
-record IsSide (game : ParityGame) (player : ℕ) (set : ℕ → Bool) (table : ℕ → Option ℕ) (priorities : List ℕ) (rows : List (List ℕ)) (c : CertificateData) (v : ℕ) : Type 0 where
+-- what a certificate says of a vertex that a player wins: it is in the player's set, and has the table's move and its
+-- row
+record IsSide (game : ParityGame) (player : ℕ) (set : ℕ → Bool) (table : ℕ → Option ℕ) (priorities : List ℕ)
+    (rows : List (List ℕ)) (c : CertificateData) (v : ℕ) : Type 0 where
   inside : IsTrue (set v)
   winner : winner_of c v ≡ player
   own : owner_of game v ≡ player → choice_of c v ≡ table v
@@ -22,8 +28,10 @@ record IsSide (game : ParityGame) (player : ℕ) (set : ℕ → Bool) (table : �
   count : (k : ℕ) → get_or (counts_of c v) k 0 ≡ count_of rows v k
 
 -- an entry among the rows of counts makes a side
-side : (game : ParityGame) (player : ℕ) (set : ℕ → Bool) (table : ℕ → Option ℕ) (priorities : List ℕ) (rows : List (List ℕ)) (c : CertificateData) (v : ℕ) → v < vertex_count game → IsTrue (set v) →
-    AreRanks game player set table priorities rows → IsEntryAmong game player table rows v (get_or c.entries v no_entry) → IsSide game player set table priorities rows c v
+side : (game : ParityGame) (player : ℕ) (set : ℕ → Bool) (table : ℕ → Option ℕ) (priorities : List ℕ)
+    (rows : List (List ℕ)) (c : CertificateData) (v : ℕ) → v < vertex_count game → IsTrue (set v) →
+    AreRanks game player set table priorities rows → IsEntryAmong game player table rows v (get_or c.entries v no_entry)
+    → IsSide game player set table priorities rows c v
 unfolding winner_of choice_of counts_of
 side game player set table priorities rows c v within inside ranks among =
     let e = among.is_entry in
@@ -53,7 +61,8 @@ two_path game v w is_game edge = record {
     steps zero within = edge
     steps (suc k) within = absurd (omega (arith, within))
 
-two_follows : (game : ParityGame) (player : ℕ) (table : ℕ → Option ℕ) (v w : ℕ) → (owner_of game v ≡ player → table v ≡ Some w) → Follows game player table (v ∷ w ∷ [])
+two_follows : (game : ParityGame) (player : ℕ) (table : ℕ → Option ℕ) (v w : ℕ) →
+    (owner_of game v ≡ player → table v ≡ Some w) → Follows game player table (v ∷ w ∷ [])
 two_follows game player table v w chosen zero within owns = chosen owns
 two_follows game player table v w chosen (suc k) within owns = absurd (omega (arith, within))
 
@@ -64,47 +73,63 @@ same_or_not x y = by (x == y) refl
     by true e = inl (grind (arith, nat_tests))
     by false e = inr (λ same. grind (arith, nat_tests))
 
-some_within : (game : ParityGame) (v : ℕ) → IsGame game → (o : Option ℕ) → IsSomeAnd o (HasEdge game v) → IfSome o (λ w. w < vertex_count game)
+some_within : (game : ParityGame) (v : ℕ) → IsGame game → (o : Option ℕ) → IsSomeAnd o (HasEdge game v) →
+    IfSome o (λ w. w < vertex_count game)
 some_within game v is_game None is = tt
 some_within game v is_game (Some w) is = is_game.within v w is
 
-module _ (game : ParityGame) (is_game : IsGame game) (player : ℕ) (set : ℕ → Bool) (table : ℕ → Option ℕ) (priorities : List ℕ) (rows : List (List ℕ)) (c : CertificateData)
+module _ (game : ParityGame) (is_game : IsGame game) (player : ℕ) (set : ℕ → Bool) (table : ℕ → Option ℕ)
+    (priorities : List ℕ) (rows : List (List ℕ)) (c : CertificateData)
     (holds : Holds game player set table) (ranks : AreRanks game player set table priorities rows) where
   -- the edges of the certificate are those of the table
-  remains_for : (v w : ℕ) → IsSide game player set table priorities rows c v → Remains game c v w → RemainsFor game player table v w
+  remains_for : (v w : ℕ) → IsSide game player set table priorities rows c v → Remains game c v w →
+      RemainsFor game player table v w
   remains_for v w s r = record {
     edge = r.edge;
     chosen = λ owns. sym (s.own owns) ∙ r.chosen (owns ∙ sym s.winner);
   }
 
   side_stays : (v w : ℕ) → IsSide game player set table priorities rows c v → Remains game c v w → IsTrue (set w)
-  side_stays v w s r = holds.keeps.stays (v ∷ w ∷ []) (two_path game v w is_game r.edge) s.inside (two_follows game player table v w (remains_for v w s r).chosen) 1 (omega arith)
+  side_stays v w s r =
+      holds.keeps.stays (v ∷ w ∷ []) (two_path game v w is_game r.edge) s.inside
+      (two_follows game player table v w (remains_for v w s r).chosen) 1 (omega arith)
 
   side_move : (v : ℕ) → v < vertex_count game → IsSide game player set table priorities rows c v → HasRightMove game c v
   side_move v within s = record {
-    own = λ owns. subst (λ o. IsSomeAnd o (HasEdge game v)) (sym (s.own (owns ∙ s.winner))) (holds.keeps.moves v within s.inside (owns ∙ s.winner));
+    own =
+        λ owns. subst (λ o. IsSomeAnd o (HasEdge game v)) (sym (s.own (owns ∙ s.winner)))
+        (holds.keeps.moves v within s.inside (owns ∙ s.winner));
     other = λ not_own. s.other (λ owns. not_own (owns ∙ sym s.winner));
   }
 
-  side_choice : (v : ℕ) → v < vertex_count game → IsSide game player set table priorities rows c v → IfSome (choice_of c v) (λ w. w < vertex_count game)
+  side_choice : (v : ℕ) → v < vertex_count game → IsSide game player set table priorities rows c v →
+      IfSome (choice_of c v) (λ w. w < vertex_count game)
   side_choice v within s = by (same_or_not (owner_of game v) player)
     where
       by : (owner_of game v ≡ player) ⊎ (owner_of game v ≢ player) → IfSome (choice_of c v) (λ w. w < vertex_count game)
-      by (inl owns) = subst (λ o. IfSome o (λ w. w < vertex_count game)) (sym (s.own owns)) (some_within game v is_game (table v) (holds.keeps.moves v within s.inside owns))
+      by (inl owns) =
+          subst (λ o. IfSome o (λ w. w < vertex_count game)) (sym (s.own owns))
+          (some_within game v is_game (table v) (holds.keeps.moves v within s.inside owns))
       by (inr not_own) = subst (λ o. IfSome o (λ w. w < vertex_count game)) (sym (s.other not_own)) tt
 
-  side_counts : (v w k : ℕ) → IsSide game player set table priorities rows c v → IsSide game player set table priorities rows c w → opposing c player ≡ priorities → Remains game c v w → k < length priorities → KeepsCount game c v w k
+  side_counts : (v w k : ℕ) → IsSide game player set table priorities rows c v →
+      IsSide game player set table priorities rows c w → opposing c player ≡ priorities → Remains game c v w →
+      k < length priorities → KeepsCount game c v w k
   side_counts v w k s t listed r within =
-      let keep = (ranks.columns k within).keep v w (record { from = s.inside; to = t.inside; remains = remains_for v w s r }) in
+      let keep =
+      (ranks.columns k within).keep v w (record { from = s.inside; to = t.inside; remains = remains_for v w s r })
+      in
       let K : ℕ → ℕ → ℕ → Type 0 = λ p x y. KeepsRule p (priority_of game v) (priority_of game w) x y in
-      let at : get_or priorities k 0 ≡ opposing_at c v k = ap (λ l. get_or l k 0) (sym listed ∙ ap (λ q. opposing c q) (sym s.winner)) in
+      let at : get_or priorities k 0 ≡ opposing_at c v k =
+      ap (λ l. get_or l k 0) (sym listed ∙ ap (λ q. opposing c q) (sym s.winner)) in
       subst (λ p. K p (get_or (counts_of c v) k 0) (get_or (counts_of c w) k 0)) at
       (subst (λ x. K (get_or priorities k 0) x (get_or (counts_of c w) k 0)) (sym (s.count k))
       (subst (λ y. K (get_or priorities k 0) (count_of rows v k) y) (sym (t.count k)) keep))
 
   -- the counts of a valid certificate that differs in counts alone keep the rule on the edges of the table
   others_keep : (d : CertificateData) → IsValid game d → DiffersInCounts game c d → opposing d player ≡ priorities →
-      ((u : ℕ) → u < vertex_count game → IsTrue (set u) → IsSide game player set table priorities rows c u) → (k : ℕ) → k < length priorities →
+      ((u : ℕ) → u < vertex_count game → IsTrue (set u) → IsSide game player set table priorities rows c u) → (k : ℕ) →
+      k < length priorities →
       KeepRuleWithin game player set table (get_or priorities k 0) (λ u. get_or (counts_of d u) k 0)
   others_keep d valid differs listed sides k within u w r =
       let from = r.remains.edge.0 in
@@ -114,34 +139,48 @@ module _ (game : ParityGame) (is_game : IsGame game) (player : ℕ) (set : ℕ �
       let one : winner_of d u ≡ player = sym (differs.winners u from) ∙ s.winner in
       let two : winner_of d w ≡ player = sym (differs.winners w to) ∙ t.winner in
       let remains : Remains game d u w =
-      record { edge = r.remains.edge; chosen = λ owns. sym (differs.moves u from) ∙ s.own (owns ∙ one) ∙ r.remains.chosen (owns ∙ one) } in
+      record {
+        edge = r.remains.edge;
+        chosen = λ owns. sym (differs.moves u from) ∙ s.own (owns ∙ one)
+            ∙ r.remains.chosen (owns ∙ one);
+      } in
       let lists : opposing d (winner_of d u) ≡ priorities = ap (λ q. opposing d q) one ∙ listed in
-      subst (λ l. KeepsRule (get_or l k 0) (priority_of game u) (priority_of game w) (get_or (counts_of d u) k 0) (get_or (counts_of d w) k 0)) lists
+      subst (λ l. KeepsRule (get_or l k 0) (priority_of game u) (priority_of game w) (get_or (counts_of d u) k 0)
+      (get_or (counts_of d w) k 0)) lists
       (valid.counts u w k remains (two ∙ sym one) (subst (λ l. k < length l) (sym lists) within))
 
   side_least : (d : CertificateData) → IsValid game d → DiffersInCounts game c d → opposing d player ≡ priorities →
-      ((u : ℕ) → u < vertex_count game → IsTrue (set u) → IsSide game player set table priorities rows c u) → (v k : ℕ) → IsSide game player set table priorities rows c v → k < length (counts_of c v) →
+      ((u : ℕ) → u < vertex_count game → IsTrue (set u) → IsSide game player set table priorities rows c u) →
+      (v k : ℕ) → IsSide game player set table priorities rows c v → k < length (counts_of c v) →
       get_or (counts_of c v) k 0 ≤ get_or (counts_of d v) k 0
   side_least d valid differs listed sides v k s inside =
       let within = subst (λ n. k < n) s.long inside in
-      subst (λ x. x ≤ get_or (counts_of d v) k 0) (sym (s.count k)) ((ranks.columns k within).least (λ u. get_or (counts_of d u) k 0) (others_keep d valid differs listed sides k within) v)
+      subst (λ x. x ≤ get_or (counts_of d v) k 0) (sym (s.count k))
+      ((ranks.columns k within).least (λ u. get_or (counts_of d u) k 0)
+      (others_keep d valid differs listed sides k within) v)
 
-  side_without_meaning : (v k : ℕ) → IsSide game player set table priorities rows c v → opposing c player ≡ priorities → k < length (counts_of c v) → opposing_at c v k < priority_of game v → get_or (counts_of c v) k 0 ≡ 0
+  side_without_meaning : (v k : ℕ) → IsSide game player set table priorities rows c v → opposing c player ≡ priorities →
+      k < length (counts_of c v) → opposing_at c v k < priority_of game v → get_or (counts_of c v) k 0 ≡ 0
   side_without_meaning v k s listed inside below =
-      let at : opposing_at c v k ≡ get_or priorities k 0 = ap (λ l. get_or l k 0) (ap (λ q. opposing c q) s.winner ∙ listed) in
-      s.count k ∙ (ranks.columns k (subst (λ n. k < n) s.long inside)).above v (subst (λ p. p < priority_of game v) at below)
+      let at : opposing_at c v k ≡ get_or priorities k 0 =
+      ap (λ l. get_or l k 0) (ap (λ q. opposing c q) s.winner ∙ listed) in
+      s.count k ∙ (ranks.columns k (subst (λ n. k < n) s.long inside)).above v
+      (subst (λ p. p < priority_of game v) at below)
 
 -- the two regions, and all that is known of them
-pub record AreBoth (game : ParityGame) (region : List Bool) (lost : ℕ → Bool) (first second : ℕ → Option ℕ) (odd even : List ℕ) (odd_rows even_rows : List (List ℕ)) (entries : List EntryData) : Type 0 where
+pub record AreBoth (game : ParityGame) (region : List Bool) (lost : ℕ → Bool) (first second : ℕ → Option ℕ)
+    (odd even : List ℕ) (odd_rows even_rows : List (List ℕ)) (entries : List EntryData) : Type 0 where
   pub is_game : IsGame game
   pub holds_first : Holds game 0 (has region) first
   pub holds_second : Holds game 1 lost second
-  pub rest : (v : ℕ) → v < vertex_count game → (has region v ≡ false → lost v ≡ true) × (lost v ≡ true → has region v ≡ false)
+  pub rest : (v : ℕ) → v < vertex_count game → (has region v ≡ false → lost v ≡ true) ×
+      (lost v ≡ true → has region v ≡ false)
   pub odd_ranks : AreRanks game 0 (has region) first odd odd_rows
   pub even_ranks : AreRanks game 1 lost second even even_rows
   pub are_entries : AreEntries game region first second odd_rows even_rows (vertex_count game) entries
 
-module _ (game : ParityGame) (region : List Bool) (lost : ℕ → Bool) (first second : ℕ → Option ℕ) (odd even : List ℕ) (odd_rows even_rows : List (List ℕ)) (entries : List EntryData)
+module _ (game : ParityGame) (region : List Bool) (lost : ℕ → Bool) (first second : ℕ → Option ℕ) (odd even : List ℕ)
+    (odd_rows even_rows : List (List ℕ)) (entries : List EntryData)
     (b : AreBoth game region lost first second odd even odd_rows even_rows entries) where
   made : CertificateData
   made = record { odd = odd; even = even; entries = entries }
@@ -157,17 +196,23 @@ module _ (game : ParityGame) (region : List Bool) (lost : ℕ → Bool) (first s
   sides v within = by (has region v) refl
     where
       by : (x : Bool) → has region v ≡ x → One v ⊎ Two v
-      by true e = inl (side game 0 (has region) first odd odd_rows made v within e b.odd_ranks (b.are_entries.won v within e))
-      by false e = inr (side game 1 lost second even even_rows made v within ((b.rest v within).0 e) b.even_ranks (b.are_entries.lost v within e))
+      by true e =
+          inl (side game 0 (has region) first odd odd_rows made v within e b.odd_ranks (b.are_entries.won v within e))
+      by false e =
+          inr (side game 1 lost second even even_rows made v within ((b.rest v within).0 e) b.even_ranks
+          (b.are_entries.lost v within e))
 
   -- a vertex of a player's set is on the player's side
   one_side : (v : ℕ) → v < vertex_count game → has region v ≡ true → One v
   unfolding One made
-  one_side v within e = side game 0 (has region) first odd odd_rows made v within e b.odd_ranks (b.are_entries.won v within e)
+  one_side v within e =
+      side game 0 (has region) first odd odd_rows made v within e b.odd_ranks (b.are_entries.won v within e)
 
   two_side : (v : ℕ) → v < vertex_count game → lost v ≡ true → Two v
   unfolding Two made
-  two_side v within e = side game 1 lost second even even_rows made v within e b.even_ranks (b.are_entries.lost v within ((b.rest v within).1 e))
+  two_side v within e =
+      side game 1 lost second even even_rows made v within e b.even_ranks
+      (b.are_entries.lost v within ((b.rest v within).1 e))
 
   opposing_first : opposing made 0 ≡ odd
   unfolding opposing made
@@ -196,8 +241,10 @@ module _ (game : ParityGame) (region : List Bool) (lost : ℕ → Bool) (first s
       winner_below v (inr s) = omega (arith, s.winner)
 
       choice : (v : ℕ) → v < vertex_count game → One v ⊎ Two v → IfSome (choice_of made v) (λ w. w < vertex_count game)
-      choice v within (inl s) = side_choice game b.is_game 0 (has region) first odd odd_rows made b.holds_first b.odd_ranks v within s
-      choice v within (inr s) = side_choice game b.is_game 1 lost second even even_rows made b.holds_second b.even_ranks v within s
+      choice v within (inl s) =
+          side_choice game b.is_game 0 (has region) first odd odd_rows made b.holds_first b.odd_ranks v within s
+      choice v within (inr s) =
+          side_choice game b.is_game 1 lost second even even_rows made b.holds_second b.even_ranks v within s
 
       counts : (v : ℕ) → One v ⊎ Two v → length (counts_of made v) ≡ length (opposing made (winner_of made v))
       counts v (inl s) = s.long ∙ ap (λ l. length l) (sym opposing_first ∙ ap (λ p. opposing made p) (sym s.winner))
@@ -210,27 +257,37 @@ module _ (game : ParityGame) (region : List Bool) (lost : ℕ → Bool) (first s
       moves = λ v within. move v within (sides v within);
       stays = λ v w r. stays v w r (sides v r.edge.0);
     };
-    counts = λ v w k r same within. keeps v w k r same within (sides v r.edge.0) (sides w (b.is_game.within v w r.edge));
+    counts =
+        λ v w k r same within. keeps v w k r same within (sides v r.edge.0) (sides w (b.is_game.within v w r.edge));
   }
     where
       move : (v : ℕ) → v < vertex_count game → One v ⊎ Two v → HasRightMove game made v
-      move v within (inl s) = side_move game b.is_game 0 (has region) first odd odd_rows made b.holds_first b.odd_ranks v within s
-      move v within (inr s) = side_move game b.is_game 1 lost second even even_rows made b.holds_second b.even_ranks v within s
+      move v within (inl s) =
+          side_move game b.is_game 0 (has region) first odd odd_rows made b.holds_first b.odd_ranks v within s
+      move v within (inr s) =
+          side_move game b.is_game 1 lost second even even_rows made b.holds_second b.even_ranks v within s
 
       stays : (v w : ℕ) → Remains game made v w → One v ⊎ Two v → winner_of made w ≡ winner_of made v
       stays v w r (inl s) =
-          let t = one_side w (b.is_game.within v w r.edge) (side_stays game b.is_game 0 (has region) first odd odd_rows made b.holds_first b.odd_ranks v w s r) in
+          let t =
+          one_side w (b.is_game.within v w r.edge) (side_stays game b.is_game 0 (has region) first odd odd_rows made
+          b.holds_first b.odd_ranks v w s r) in
           t.winner ∙ sym s.winner
       stays v w r (inr s) =
-          let t = two_side w (b.is_game.within v w r.edge) (side_stays game b.is_game 1 lost second even even_rows made b.holds_second b.even_ranks v w s r) in
+          let t =
+          two_side w (b.is_game.within v w r.edge) (side_stays game b.is_game 1 lost second even even_rows made
+          b.holds_second b.even_ranks v w s r) in
           t.winner ∙ sym s.winner
 
-      keeps : (v w k : ℕ) → Remains game made v w → winner_of made w ≡ winner_of made v → k < length (opposing made (winner_of made v)) → One v ⊎ Two v → One w ⊎ Two w → KeepsCount game made v w k
+      keeps : (v w k : ℕ) → Remains game made v w → winner_of made w ≡ winner_of made v →
+          k < length (opposing made (winner_of made v)) → One v ⊎ Two v → One w ⊎ Two w → KeepsCount game made v w k
       keeps v w k r same within (inl s) (inl t) =
-          side_counts game b.is_game 0 (has region) first odd odd_rows made b.holds_first b.odd_ranks v w k s t opposing_first r
+          side_counts game b.is_game 0 (has region) first odd odd_rows made b.holds_first b.odd_ranks v w k s t
+          opposing_first r
           (subst (λ l. k < length l) (ap (λ p. opposing made p) s.winner ∙ opposing_first) within)
       keeps v w k r same within (inr s) (inr t) =
-          side_counts game b.is_game 1 lost second even even_rows made b.holds_second b.even_ranks v w k s t opposing_second r
+          side_counts game b.is_game 1 lost second even even_rows made b.holds_second b.even_ranks v w k s t
+          opposing_second r
           (subst (λ l. k < length l) (ap (λ p. opposing made p) s.winner ∙ opposing_second) within)
       keeps v w k r same within (inl s) (inr t) = absurd (omega (arith, same, s.winner, t.winner))
       keeps v w k r same within (inr s) (inl t) = absurd (omega (arith, same, s.winner, t.winner))
@@ -242,52 +299,80 @@ module _ (game : ParityGame) (region : List Bool) (lost : ℕ → Bool) (first s
     without_meaning = λ v k within inside below. without v k inside below (sides v within);
   }
     where
-      at_most : (d : CertificateData) → IsValid game d → DiffersInCounts game made d → (v k : ℕ) → v < vertex_count game → k < length (counts_of made v) → One v ⊎ Two v → get_or (counts_of made v) k 0 ≤ get_or (counts_of d v) k 0
+      at_most : (d : CertificateData) → IsValid game d → DiffersInCounts game made d → (v k : ℕ) →
+          v < vertex_count game → k < length (counts_of made v) → One v ⊎ Two v →
+          get_or (counts_of made v) k 0 ≤ get_or (counts_of d v) k 0
       at_most d d_valid differs v k within inside (inl s) =
-          side_least game b.is_game 0 (has region) first odd odd_rows made b.holds_first b.odd_ranks d d_valid differs (sym differs.odd) (λ u below. one_side u below) v k s inside
+          side_least game b.is_game 0 (has region) first odd odd_rows made b.holds_first b.odd_ranks d d_valid differs
+          (sym differs.odd) (λ u below. one_side u below) v k s inside
       at_most d d_valid differs v k within inside (inr s) =
-          side_least game b.is_game 1 lost second even even_rows made b.holds_second b.even_ranks d d_valid differs (sym differs.even) (λ u below. two_side u below) v k s inside
+          side_least game b.is_game 1 lost second even even_rows made b.holds_second b.even_ranks d d_valid differs
+          (sym differs.even) (λ u below. two_side u below) v k s inside
 
-      without : (v k : ℕ) → k < length (counts_of made v) → opposing_at made v k < priority_of game v → One v ⊎ Two v → get_or (counts_of made v) k 0 ≡ 0
-      without v k inside below (inl s) = side_without_meaning game b.is_game 0 (has region) first odd odd_rows made b.holds_first b.odd_ranks v k s opposing_first inside below
-      without v k inside below (inr s) = side_without_meaning game b.is_game 1 lost second even even_rows made b.holds_second b.even_ranks v k s opposing_second inside below
+      without : (v k : ℕ) → k < length (counts_of made v) → opposing_at made v k < priority_of game v → One v ⊎ Two v →
+          get_or (counts_of made v) k 0 ≡ 0
+      without v k inside below (inl s) =
+          side_without_meaning game b.is_game 0 (has region) first odd odd_rows made b.holds_first b.odd_ranks v k s
+          opposing_first inside below
+      without v k inside below (inr s) =
+          side_without_meaning game b.is_game 1 lost second even even_rows made b.holds_second b.even_ranks v k s
+          opposing_second inside below
 
-  certified : Fits game (record { odd = odd; even = even; entries = entries }) × IsValid game (record { odd = odd; even = even; entries = entries })
+  certified : Fits game (record { odd = odd; even = even; entries = entries }) ×
+      IsValid game (record { odd = odd; even = even; entries = entries })
       × HasLeastCounts game (record { odd = odd; even = even; entries = entries })
   unfolding made
   certified = (fits, valid, least)
 
 -- a player who holds a set of vertices holds each set with the same vertices of the game
-holds_same : (game : ParityGame) (player : ℕ) (set other : ℕ → Bool) (table : ℕ → Option ℕ) → ((v : ℕ) → v < vertex_count game → set v ≡ other v) → Holds game player set table → Holds game player other table
+holds_same : (game : ParityGame) (player : ℕ) (set other : ℕ → Bool) (table : ℕ → Option ℕ) →
+    ((v : ℕ) → v < vertex_count game → set v ≡ other v) → Holds game player set table → Holds game player other table
 holds_same game player set other table same h = record {
   keeps = record {
     moves = λ v within inside owns. h.keeps.moves v within (same v within ∙ inside) owns;
-    stays = λ path is begins follows k within. sym (same (get_or path k 0) (is.vertices k within)) ∙ h.keeps.stays path is (same (get_or path 0 0) (is.vertices 0 is.begins) ∙ begins) follows k within;
+    stays = λ path is begins follows k within. sym (same (get_or path k 0) (is.vertices k within))
+        ∙ h.keeps.stays path is (same (get_or path 0 0) (is.vertices 0 is.begins) ∙ begins) follows k within;
   };
-  wins = λ path i j is begins follows loop. h.wins path i j is (same (get_or path 0 0) (is.vertices 0 is.begins) ∙ begins) follows loop;
+  wins =
+      λ path i j is begins follows loop. h.wins path i j is (same (get_or path 0 0) (is.vertices 0 is.begins) ∙ begins)
+      follows loop;
 }
 
-pub lost_held : (game : ParityGame) (region full lost : List Bool) (table : ℕ → Option ℕ) → full ≡ replicate (vertex_count game) true → ((v : ℕ) → has lost v ≡ (has full v && not (has region v))) → Holds game 1 (others region) table → Holds game 1 (has lost) table
-lost_held game region full lost table whole is h = holds_same game 1 (others region) (has lost) table (λ v within. sym (is v ∙ ap (λ x. x && not (has region v)) (ap (λ l. has l v) whole ∙ get_or-replicate (vertex_count game) v true false within))) h
+pub lost_held : (game : ParityGame) (region full lost : List Bool) (table : ℕ → Option ℕ) →
+    full ≡ replicate (vertex_count game) true → ((v : ℕ) → has lost v ≡ (has full v && not (has region v))) →
+    Holds game 1 (others region) table → Holds game 1 (has lost) table
+lost_held game region full lost table whole is h =
+    holds_same game 1 (others region) (has lost) table (λ v within.
+    sym (is v ∙ ap (λ x. x && not (has region v)) (ap (λ l. has l v) whole
+    ∙ get_or-replicate (vertex_count game) v true false within))) h
 
-pub lost_rest : (game : ParityGame) (region full lost : List Bool) → full ≡ replicate (vertex_count game) true → ((v : ℕ) → has lost v ≡ (has full v && not (has region v))) → (v : ℕ) → v < vertex_count game →
+pub lost_rest : (game : ParityGame) (region full lost : List Bool) → full ≡ replicate (vertex_count game) true →
+    ((v : ℕ) → has lost v ≡ (has full v && not (has region v))) → (v : ℕ) → v < vertex_count game →
     (has region v ≡ false → has lost v ≡ true) × (has lost v ≡ true → has region v ≡ false)
 lost_rest game region full lost whole is v within = (λ e. now ∙ ap not e, λ e. back (has region v) (sym now ∙ e))
   where
     now : has lost v ≡ not (has region v)
-    now = is v ∙ ap (λ x. x && not (has region v)) (ap (λ l. has l v) whole ∙ get_or-replicate (vertex_count game) v true false within)
+    now =
+        is v ∙ ap (λ x. x && not (has region v)) (ap (λ l. has l v) whole
+        ∙ get_or-replicate (vertex_count game) v true false within)
 
     back : (x : Bool) → not x ≡ true → x ≡ false
     back true e = search rules
     back false e = refl
 
 -- the same where the second region has all vertices that the first one has not
-pub certified_both : (game : ParityGame) (region full lost : List Bool) (first second : ℕ → Option ℕ) (odd even : List ℕ) (odd_rows even_rows : List (List ℕ)) (entries : List EntryData) →
-    IsGame game → full ≡ replicate (vertex_count game) true → ((v : ℕ) → has lost v ≡ (has full v && not (has region v))) → Holds game 0 (has region) first → Holds game 1 (others region) second →
-    AreRanks game 0 (has region) first odd odd_rows → AreRanks game 1 (has lost) second even even_rows → AreEntries game region first second odd_rows even_rows (vertex_count game) entries →
-    Fits game (record { odd = odd; even = even; entries = entries }) × IsValid game (record { odd = odd; even = even; entries = entries })
+pub certified_both : (game : ParityGame) (region full lost : List Bool) (first second : ℕ → Option ℕ)
+    (odd even : List ℕ) (odd_rows even_rows : List (List ℕ)) (entries : List EntryData) →
+    IsGame game → full ≡ replicate (vertex_count game) true → ((v : ℕ) →
+    has lost v ≡ (has full v && not (has region v))) → Holds game 0 (has region) first →
+    Holds game 1 (others region) second →
+    AreRanks game 0 (has region) first odd odd_rows → AreRanks game 1 (has lost) second even even_rows →
+    AreEntries game region first second odd_rows even_rows (vertex_count game) entries →
+    Fits game (record { odd = odd; even = even; entries = entries }) ×
+    IsValid game (record { odd = odd; even = even; entries = entries })
     × HasLeastCounts game (record { odd = odd; even = even; entries = entries })
-certified_both game region full lost first second odd even odd_rows even_rows entries is_game whole is holds_first holds_second odd_ranks even_ranks are_entries =
+certified_both game region full lost first second odd even odd_rows even_rows entries is_game whole is holds_first
+    holds_second odd_ranks even_ranks are_entries =
     certified game region (has lost) first second odd even odd_rows even_rows entries (record {
       is_game = is_game;
       holds_first = holds_first;

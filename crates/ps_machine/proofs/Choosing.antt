@@ -1,4 +1,5 @@
--- What can be told of letters and steps by definition: the class of a letter of the first player, and the move of one of the second.
+-- What can be told of letters and steps by definition: the class of a letter of the first player, and the move of one
+-- of the second.
 use Rattle.std.proofs.Common.{◌≡◌, ◌⊎◌, inl, inr, ℕ, ◌+◌, ◌^◌, ◌<◌, Bool, true, false, not, refl, ap, sym, subst, ◌∙◌}
 use Rattle.std.specs.Prelude.{◌&&◌}
 use Rattle.std.proofs.lemmas.Bool.{cases_eq, cases_lt}
@@ -37,7 +38,8 @@ module _ (n : ℕ) (mine : ℕ → Bool) where
   pub part_same : (x y : ℕ) → ((p : ℕ) → p < n → mine p ≡ true → is_in p x ≡ is_in p y) → part x ≡ part y
   unfolding part
   part_same x y same = same_letter n (part x) (part y) (part_over x).within (part_over y).within
-      (λ p less. letter_is n (λ q. mine q && is_in q x) p less ∙ bit (mine p) (is_in p x) (is_in p y) (same p less) ∙ sym (letter_is n (λ q. mine q && is_in q y) p less))
+      (λ p less. letter_is n (λ q. mine q && is_in q x) p less ∙ bit (mine p) (is_in p x) (is_in p y) (same p less)
+      ∙ sym (letter_is n (λ q. mine q && is_in q y) p less))
     where
       bit : (m a b : Bool) → (m ≡ true → a ≡ b) → (m && a) ≡ (m && b)
       bit true a b e = e refl
@@ -51,6 +53,10 @@ module _ (n : ℕ) (mine : ℕ → Bool) where
       bit : (m a : Bool) → (m ≡ false → a ≡ false) → (m && a) ≡ a
       bit true a e = refl
       bit false a e = sym (e refl)
+
+  pub part_bit : (x p : ℕ) → p < n → mine p ≡ true → is_in p (part x) ≡ is_in p x
+  unfolding part
+  part_bit x p less is = letter_is n (λ q. mine q && is_in q x) p less ∙ ap (λ b. b && is_in p x) is
 
   pub over_or_not : (y : ℕ) → IsOver n mine y ⊎ (IsOver n mine y → ⊥)
   over_or_not y = elim (cases_eq (part y) y) [
@@ -110,7 +116,8 @@ module _ (board : Board) where
   pub steps_or_not : (q one other : ℕ) → SameSteps board q one other ⊎ (SameSteps board q one other → ⊥)
   steps_or_not q one other = elim (some_or_none Differ differ_or_not (2 ^ board.propositions) (λ y d. d.0.within)) [
     | inl differ ↦ inr (λ same. differ.1.1 (same differ.0 differ.1.0))
-    | inr none ↦ inl (λ y second. elim (step_or_not q (one + y) (other + y)) [ inl same ↦ same | inr apart ↦ absurd (none (y, (second, apart))) ])
+    | inr none ↦ inl (λ y second. elim (step_or_not q (one + y) (other + y))
+        [ inl same ↦ same | inr apart ↦ absurd (none (y, (second, apart))) ])
   ]
     where
       Differ : ℕ → Type 0
@@ -119,11 +126,17 @@ module _ (board : Board) where
       differ_or_not : (y : ℕ) → Differ y ⊎ (Differ y → ⊥)
       differ_or_not y = elim (second_or_not y) [
         | inr not_second ↦ inr (λ d. not_second d.0)
-        | inl second ↦ elim (step_or_not q (one + y) (other + y)) [ inl same ↦ inr (λ d. d.1 same) | inr apart ↦ inl (second, apart) ]
+        | inl second ↦ elim (step_or_not q (one + y) (other + y))
+            [ inl same ↦ inr (λ d. d.1 same) | inr apart ↦ inl (second, apart) ]
       ]
 
   pub steps_trans : (q a b c : ℕ) → SameSteps board q a b → SameSteps board q b c → SameSteps board q a c
-  steps_trans q a b c one other y second = record { state = (one y second).state ∙ (other y second).state; priority = (one y second).priority ∙ (other y second).priority }
+  steps_trans q a b c one other y second =
+      record {
+        state = (one y second).state ∙ (other y second).state;
+        priority = (one y second).priority
+            ∙ (other y second).priority;
+      }
 
   pub steps_sym : (q a b : ℕ) → SameSteps board q a b → SameSteps board q b a
   steps_sym q a b same y second = record { state = sym (same y second).state; priority = sym (same y second).priority }
@@ -132,7 +145,10 @@ module _ (board : Board) where
   pub class_there : (q x : ℕ) → IsFirstLetter board x → (class : ℕ) × IsClass board q class × SameSteps board q x class
   class_there q x first =
       let P : ℕ → Type 0 = λ other. IsFirstLetter board other × SameSteps board q other x in
-      let l = least_there board.propositions P (λ y. both_or_not (IsFirstLetter board y) (SameSteps board q y x) (first_or_not y) (steps_or_not q y x)) (λ y is. is.0.within) x (first, λ y second. record { state = refl; priority = refl }) in
+      let l =
+      least_there board.propositions P (λ y. both_or_not (IsFirstLetter board y) (SameSteps board q y x)
+      (first_or_not y) (steps_or_not q y x)) (λ y is. is.0.within) x
+      (first, λ y second. record { state = refl; priority = refl }) in
       let class = l.0 in
       let here = l.1.here in (
         class,
@@ -144,15 +160,24 @@ module _ (board : Board) where
       )
 
   -- the move behind a class that leads where a letter of the second player leads
-  pub move_there : (q class y : ℕ) → IsSecondLetter board y → (move : ℕ) × IsMove board q class move × SameStep board q (class + move) (class + y)
+  pub move_there : (q class y : ℕ) → IsSecondLetter board y →
+      (move : ℕ) × IsMove board q class move × SameStep board q (class + move) (class + y)
   move_there q class y second =
       let P : ℕ → Type 0 = λ other. IsSecondLetter board other × SameStep board q (class + other) (class + y) in
-      let l = least_there board.propositions P (λ z. both_or_not (IsSecondLetter board z) (SameStep board q (class + z) (class + y)) (second_or_not z) (step_or_not q (class + z) (class + y))) (λ z is. is.0.within) y (second, record { state = refl; priority = refl }) in
+      let l =
+      least_there board.propositions P (λ z. both_or_not (IsSecondLetter board z)
+      (SameStep board q (class + z) (class + y)) (second_or_not z) (step_or_not q (class + z) (class + y)))
+      (λ z is. is.0.within) y (second, record { state = refl; priority = refl }) in
       let here = l.1.here in (
         l.0,
         record {
           here = (here.0, record { state = refl; priority = refl });
-          none_before = λ other is before. l.1.none_before other (is.0, record { state = is.1.state ∙ here.1.state; priority = is.1.priority ∙ here.1.priority }) before;
+          none_before =
+              λ other is before. l.1.none_before other (
+                is.0,
+                record
+                    { state = is.1.state ∙ here.1.state; priority = is.1.priority ∙ here.1.priority },
+              ) before;
         },
         here.1,
       )

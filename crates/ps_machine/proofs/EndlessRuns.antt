@@ -1,5 +1,7 @@
 -- A lasso of a machine is read on and on; and its letters are those of the automaton.
-use Rattle.std.proofs.Common.{◌≡◌, ℕ, zero, suc, ◌+◌, ◌-◌, ◌*◌, ◌/◌, ◌%◌, ◌^◌, ◌<◌, ◌≤◌, ◌⊎◌, inl, inr, Bool, true, false, cond, not, ltb, List, ◌++◌, length, get_or, refl, ap, sym, subst, ◌∙◌, arith, rules, add-one}
+use Rattle.std.proofs.Common.{◌≡◌, ℕ, zero, suc, ◌+◌, ◌-◌, ◌*◌, ◌/◌, ◌%◌, ◌^◌, ◌<◌, ◌≤◌, ◌⊎◌, inl, inr, Bool, true}
+use Rattle.std.proofs.Common.{false, cond, not, ltb, List, ◌++◌, length, get_or, refl, ap, sym, subst, ◌∙◌, arith}
+use Rattle.std.proofs.Common.{rules, add-one}
 use Rattle.std.specs.Prelude.{slice_index}
 use Rattle.ps_diagram.proofs.Letters.{no_bit}
 use Rattle.std.proofs.Math.Nat.{div-add-mod, mod-lt}
@@ -67,14 +69,17 @@ module _ (m : Behaviour) (stem lap : List ℕ) (l : IsLasso m stem lap) where
   unfolding at_place
   place_within t = elim (cases_lt t (length stem)) [
     | inl less ↦ (let is = folded_within (length stem) (length lap) t less in omega (arith, is, less, long))
-    | inr more ↦ (let is = folded_behind (length stem) (length lap) t more in omega (arith, is, long, mod-lt (t - length stem) l.some))
+    | inr more ↦ (let is = folded_behind (length stem) (length lap) t more in
+        omega (arith, is, long, mod-lt (t - length stem) l.some))
   ]
 
   letter_at : (t : ℕ) → slice_index (stem ++ lap) (at_place t) ≡ word stem lap t
   unfolding at_place
   letter_at t = elim (cases_lt t (length stem)) [
-    | inl less ↦ ap (λ n. get_or (stem ++ lap) n 0) (folded_within (length stem) (length lap) t less) ∙ get_or-append stem lap 0 t less ∙ sym (word_within stem lap t less)
-    | inr more ↦ ap (λ n. get_or (stem ++ lap) n 0) (folded_behind (length stem) (length lap) t more) ∙ get_or-append-add stem lap ((t - length stem) % length lap) 0 ∙ sym (word_behind stem lap t more)
+    | inl less ↦ ap (λ n. get_or (stem ++ lap) n 0) (folded_within (length stem) (length lap) t less)
+        ∙ get_or-append stem lap 0 t less ∙ sym (word_within stem lap t less)
+    | inr more ↦ ap (λ n. get_or (stem ++ lap) n 0) (folded_behind (length stem) (length lap) t more)
+        ∙ get_or-append-add stem lap ((t - length stem) % length lap) 0 ∙ sym (word_behind stem lap t more)
   ]
 
   pub memories_on : ℕ → ℕ
@@ -87,14 +92,18 @@ module _ (m : Behaviour) (stem lap : List ℕ) (l : IsLasso m stem lap) where
       u : ℕ
       u = length stem
 
-      behind : (n : ℕ) → ((suc n) % length lap ≡ suc (n % length lap)) ⊎ ((suc (n % length lap) ≡ length lap) × ((suc n) % length lap ≡ 0)) → l.memories (u + n % length lap + 1) ≡ l.memories (u + suc n % length lap)
-      behind n (inl is) = (let same : u + n % length lap + 1 ≡ u + suc n % length lap = omega (arith, is) in ap l.memories same)
+      behind : (n : ℕ) → ((suc n) % length lap ≡ suc (n % length lap)) ⊎
+          ((suc (n % length lap) ≡ length lap) × ((suc n) % length lap ≡ 0)) →
+          l.memories (u + n % length lap + 1) ≡ l.memories (u + suc n % length lap)
+      behind n (inl is) =
+          (let same : u + n % length lap + 1 ≡ u + suc n % length lap = omega (arith, is) in ap l.memories same)
       behind n (inr full) =
           let last : u + n % length lap + 1 ≡ length (stem ++ lap) = omega (arith, full.0, long) in
           let first : length stem ≡ u + suc n % length lap = omega (arith, full.1) in
           ap l.memories last ∙ sym l.returns ∙ ap l.memories first
 
-      by : (t < u) ⊎ (u ≤ t) → (suc t < u) ⊎ (u ≤ suc t) → l.memories (folded u (length lap) t + 1) ≡ l.memories (folded u (length lap) (suc t))
+      by : (t < u) ⊎ (u ≤ t) → (suc t < u) ⊎ (u ≤ suc t) → l.memories (folded u (length lap) t + 1) ≡ l.memories
+          (folded u (length lap) (suc t))
       by (inl less) (inl next) =
           let here = folded_within u (length lap) t less in
           let there = folded_within u (length lap) (suc t) next in
@@ -104,8 +113,10 @@ module _ (m : Behaviour) (stem lap : List ℕ) (l : IsLasso m stem lap) where
           let here = folded_within u (length lap) t less in
           let there = folded_behind u (length lap) (suc t) next in
           let none : suc t - u ≡ 0 * length lap + 0 = omega (arith, less) in
-          let begin : (suc t - u) % length lap ≡ 0 = ap (λ n. n % length lap) none ∙ mod-mul-add 0 (length lap) 0 l.some in
-          let same : folded u (length lap) t + 1 ≡ folded u (length lap) (suc t) = omega (arith, here, there, begin, less, next) in
+          let begin : (suc t - u) % length lap ≡ 0 = ap (λ n. n % length lap) none
+          ∙ mod-mul-add 0 (length lap) 0 l.some in
+          let same : folded u (length lap) t + 1 ≡ folded u (length lap) (suc t) =
+          omega (arith, here, there, begin, less, next) in
           ap l.memories same
       by (inr more) next =
           let here = folded_behind u (length lap) t more in
@@ -120,15 +131,18 @@ module _ (m : Behaviour) (stem lap : List ℕ) (l : IsLasso m stem lap) where
     begins = by (cases_lt 0 (length stem));
     makes = λ t.
         let makes = l.makes (at_place t) (place_within t) in
-        subst (λ n. Makes m (memories_on t) (word stem lap t) n) (goes_on t) (subst (λ x. Makes m (memories_on t) x (l.memories (at_place t + 1))) (letter_at t) makes);
+        subst (λ n. Makes m (memories_on t) (word stem lap t) n) (goes_on t)
+        (subst (λ x. Makes m (memories_on t) x (l.memories (at_place t + 1))) (letter_at t) makes);
   }
     where
       by : (0 < length stem) ⊎ (length stem ≤ 0) → l.memories (folded (length stem) (length lap) 0) ≡ 0
       by (inl less) = ap l.memories (folded_within (length stem) (length lap) 0 less) ∙ l.begins
       by (inr more) =
           let none : 0 - length stem ≡ 0 * length lap + 0 = omega arith in
-          let begin : (0 - length stem) % length lap ≡ 0 = ap (λ n. n % length lap) none ∙ mod-mul-add 0 (length lap) 0 l.some in
-          let is : folded (length stem) (length lap) 0 ≡ 0 = omega (arith, folded_behind (length stem) (length lap) 0 more, begin, more) in
+          let begin : (0 - length stem) % length lap ≡ 0 = ap (λ n. n % length lap) none
+          ∙ mod-mul-add 0 (length lap) 0 l.some in
+          let is : folded (length stem) (length lap) 0 ≡ 0 =
+          omega (arith, folded_behind (length stem) (length lap) 0 more, begin, more) in
           ap l.memories is ∙ l.begins
 
   -- behind the first lap it is in the memory before it
@@ -141,7 +155,8 @@ module _ (m : Behaviour) (stem lap : List ℕ) (l : IsLasso m stem lap) where
       let none : u - u ≡ 0 * n + 0 = omega arith in
       let one : (u + n - u) % n ≡ 0 = ap (λ k. k % n) here ∙ mod-mul-add 1 n 0 l.some in
       let zeroth : (u - u) % n ≡ 0 = ap (λ k. k % n) none ∙ mod-mul-add 0 n 0 l.some in
-      let same : folded u n (u + n) ≡ folded u n u = omega (arith, folded_behind u n (u + n) (omega arith), folded_behind u n u (omega arith), one, zeroth) in
+      let same : folded u n (u + n) ≡ folded u n u =
+      omega (arith, folded_behind u n (u + n) (omega arith), folded_behind u n u (omega arith), one, zeroth) in
       ap l.memories same
 
   pub letter_returns : word stem lap (length stem + length lap) ≡ word stem lap (length stem)
@@ -150,8 +165,10 @@ module _ (m : Behaviour) (stem lap : List ℕ) (l : IsLasso m stem lap) where
       let n = length lap in
       let here : u + n - u ≡ 1 * n + 0 = omega arith in
       let none : u - u ≡ 0 * n + 0 = omega arith in
-      let same : (u + n - u) % n ≡ (u - u) % n = ap (λ k. k % n) here ∙ mod-mul-add 1 n 0 l.some ∙ sym (mod-mul-add 0 n 0 l.some) ∙ ap (λ k. k % n) (sym none) in
-      word_behind stem lap (u + n) (omega arith) ∙ ap (λ k. get_or lap k 0) same ∙ sym (word_behind stem lap u (omega arith))
+      let same : (u + n - u) % n ≡ (u - u) % n = ap (λ k. k % n) here ∙ mod-mul-add 1 n 0 l.some
+      ∙ sym (mod-mul-add 0 n 0 l.some) ∙ ap (λ k. k % n) (sym none) in
+      word_behind stem lap (u + n) (omega arith) ∙ ap (λ k. get_or lap k 0) same
+      ∙ sym (word_behind stem lap u (omega arith))
 
 -- ## Letters
 
@@ -171,25 +188,33 @@ module _ (m : Behaviour) (is_machine : IsMachine m) where
   ]
 
   -- what it makes is a letter
-  pub letter_within : (memory letter next : ℕ) → memory < m.memories → Makes m memory letter next → letter < 2 ^ length m.names
+  pub letter_within : (memory letter next : ℕ) → memory < m.memories → Makes m memory letter next →
+      letter < 2 ^ length m.names
   letter_within memory letter next within makes =
       let output = is_machine.plays_own memory makes.input within in
-      let sum = sum_within (length m.names) makes.input (m.plays memory makes.input) makes.is_input.within output.within (apart makes.input (m.plays memory makes.input) makes.is_input output) in
+      let sum =
+      sum_within (length m.names) makes.input (m.plays memory makes.input) makes.is_input.within output.within
+      (apart makes.input (m.plays memory makes.input) makes.is_input output) in
       omega (arith, sum, makes.joined)
 
-  pub memories_of_lasso : (stem lap : List ℕ) (l : IsLasso m stem lap) (t : ℕ) → t ≤ length (stem ++ lap) → l.memories t < m.memories
+  pub memories_of_lasso : (stem lap : List ℕ) (l : IsLasso m stem lap) (t : ℕ) → t ≤ length (stem ++ lap) →
+      l.memories t < m.memories
   memories_of_lasso stem lap l zero low = omega (arith, is_machine.some, l.begins)
   memories_of_lasso stem lap l (suc t) low =
       let makes = l.makes t (omega (arith, low)) in
-      let next = is_machine.next_within (l.memories t) makes.input (memories_of_lasso stem lap l t (omega (arith, low))) in
+      let next =
+      is_machine.next_within (l.memories t) makes.input (memories_of_lasso stem lap l t (omega (arith, low))) in
       let place : l.memories (t + 1) ≡ l.memories (suc t) = ap l.memories (add-one t) in
       omega (arith, next, makes.next_is, place)
 
-  pub reads_other : (names : List (List ℕ)) (board : Board) → HasPropositions names board m → (x : ℕ) → IsInput m x → IsOther m.is_first board x
+  pub reads_other : (names : List (List ℕ)) (board : Board) → HasPropositions names board m → (x : ℕ) → IsInput m x →
+      IsOther m.is_first board x
   reads_other names board h x input = by m.is_first refl
     where
       within : x < 2 ^ board.propositions
-      within = (let many : length m.names ≡ board.propositions = ap length h.names_are ∙ h.as_many in subst (λ n. x < 2 ^ n) many input.within)
+      within =
+          (let many : length m.names ≡ board.propositions = ap length h.names_are ∙ h.as_many in
+          subst (λ n. x < 2 ^ n) many input.within)
 
       -- of what the other one does not play nothing is true
       own : (p : ℕ) → is_others m.is_first board p ≡ false → is_in p x ≡ false

@@ -12,13 +12,26 @@ use Rattle.ps_machine.specs.Keys.{mover_of}
 use Rattle.ps_machine.specs.declared.key.Key.{Key}
 use Rattle.ps_machine.specs.declared.key.Order.{Order}
 
-pub board_is : (order : Order) (file : FileData) (chain : Chain) (a : AutomatonData) → IsBuiltFrom file chain a → board_of order a ≡ board_of_file order file (auto_of a)
+pub board_is : (order : Order) (file : FileData) (chain : Chain) (a : AutomatonData) → IsBuiltFrom file chain a →
+    board_of order a ≡ board_of_file order file (auto_of a)
 board_is order file chain a built =
-    ap₂ (λ (q n : ℕ). let board : Board = record { auto = auto_of a; states = q; propositions = n; is_first = is_first_of order a.controllable } in board) built.states (ap length built.names)
-    ∙ ap (λ (controllable : List ℕ). let board : Board = record { auto = auto_of a; states = file.states; propositions = length file.names; is_first = is_first_of order controllable } in board) built.controllable
+    ap₂ (λ (q n : ℕ). let board : Board = record {
+      auto = auto_of a;
+      states = q;
+      propositions = n;
+      is_first = is_first_of order a.controllable;
+    } in board) built.states (ap length built.names)
+    ∙ ap (λ (controllable : List ℕ). let board : Board = record {
+      auto = auto_of a;
+      states = file.states;
+      propositions = length file.names;
+      is_first = is_first_of order controllable;
+    } in board) built.controllable
 
-abbrev pub game_of_file : (order : Order) (file : FileData) (chain : Chain) (a : AutomatonData) (keys : List Key) (game : NamedGameData) →
-    IsGameOf (board_of order a) (mover_of order) keys game.game → AreNamed (board_of order a) keys game → IsBuiltFrom file chain a → IsGameOfFile order file game
+abbrev pub game_of_file : (order : Order) (file : FileData) (chain : Chain) (a : AutomatonData) (keys : List Key)
+    (game : NamedGameData) →
+    IsGameOf (board_of order a) (mover_of order) keys game.game → AreNamed (board_of order a) keys game →
+    IsBuiltFrom file chain a → IsGameOfFile order file game
 game_of_file order file chain a keys game is_game are_named built = record {
   chain = chain;
   is_chain = built.is_chain;

@@ -1,5 +1,7 @@
 -- The diagram of a memory of a player who moves first.
-use Rattle.std.proofs.Common.{not, is_some, ◌≡◌, ◌≢◌, ℕ, zero, suc, ◌+◌, ◌^◌, ◌<◌, ◌≤◌, Bool, true, false, cond, List, length, get_or, option_map, Option, Some, None, refl, ap, sym, subst, ◌∙◌, arith, inl, inr}
+use Rattle.std.proofs.Common.{not, is_some, ◌≡◌, ◌≢◌, ℕ, zero, suc, ◌+◌, ◌^◌, ◌<◌, ◌≤◌, Bool, true, false, cond, List}
+use Rattle.std.proofs.Common.{length, get_or, option_map, Option, Some, None, refl, ap, sym, subst, ◌∙◌, arith, inl}
+use Rattle.std.proofs.Common.{inr}
 use Rattle.std.specs.Prelude.{IfSome, slice_get, slice_index, Any}
 use Rattle.std.specs.Option.{unwrap_or}
 use Rattle.std.specs.List.{All, Contains}
@@ -70,7 +72,8 @@ module _ (n mask class : ℕ) (small : mask < 2 ^ n) where
   joint_bit u p = elim (cases_lt p (n + u)) [
     | inl less ↦ letter_is (n + u) (bits u) p less
     | inr more ↦ no_bit (n + u) (joint u) p (letter_lt (n + u) (bits u)) more
-        ∙ sym (other_bit (is_in p mask) (is_in p class) (is_in p u) (no_bit n mask p small (omega (arith, more))) ∙ no_bit u u p (small_power u) (omega (arith, more)))
+        ∙ sym (other_bit (is_in p mask) (is_in p class) (is_in p u) (no_bit n mask p small (omega (arith, more)))
+        ∙ no_bit u u p (small_power u) (omega (arith, more)))
   ]
 
   joint_on : (u : ℕ) → AgreeOn mask class (joint u)
@@ -83,12 +86,14 @@ module _ (n mask class : ℕ) (small : mask < 2 ^ n) where
 
   joint_same : (u v p : ℕ) → (is_in p mask ≡ false → is_in p u ≡ is_in p v) → is_in p (joint u) ≡ is_in p (joint v)
   unfolding bits
-  joint_same u v p alike = joint_bit u p ∙ cond_alike (is_in p mask) (is_in p class) (is_in p u) (is_in p v) alike ∙ sym (joint_bit v p)
+  joint_same u v p alike =
+      joint_bit u p ∙ cond_alike (is_in p mask) (is_in p class) (is_in p u) (is_in p v) alike ∙ sym (joint_bit v p)
 
 -- the rest heeds the second player's propositions alone
 pub Heeds : Order → AutomatonData → Table → ℕ → Type 0
 Heeds order a t rest =
-    (x y : ℕ) → ((p : ℕ) → p < length a.names → (board_of order a).is_first p ≡ false → is_in p x ≡ is_in p y) → leaf_of t rest x ≡ leaf_of t rest y
+    (x y : ℕ) → ((p : ℕ) → p < length a.names → (board_of order a).is_first p ≡ false → is_in p x ≡ is_in p y) →
+    leaf_of t rest x ≡ leaf_of t rest y
 
 module _ (order : Order) (a : AutomatonData) (mask : ℕ) (t : Table) (q places : ℕ) (list : List Class)
     (f : IsFit order a mask t) (h : q ≤ a.states) (are : AreClasses a.store t (node_of a q) mask places list) where
@@ -100,7 +105,8 @@ module _ (order : Order) (a : AutomatonData) (mask : ℕ) (t : Table) (q places 
       like u = joint (length a.names) mask c.letter f.is_mask.within u
 
       there : (u : ℕ) → leaf_of t places (like u) ≡ Some k
-      there u = sym (are.read c.letter (like u) (joint_on (length a.names) mask c.letter f.is_mask.within u)) ∙ (are.each k c at).least.here.1
+      there u = sym (are.read c.letter (like u) (joint_on (length a.names) mask c.letter f.is_mask.within u))
+          ∙ (are.each k c at).least.here.1
 
       to : (u : ℕ) → leaf_of t c.rest u ≡ leaf_of a.store (node_of a q) (like u)
       to u =
@@ -109,7 +115,9 @@ module _ (order : Order) (a : AutomatonData) (mask : ℕ) (t : Table) (q places 
           (there u)
 
       same : (p : ℕ) → p < length a.names → is_in p (like x) ≡ is_in p (like y)
-      same p lt = joint_same (length a.names) mask c.letter f.is_mask.within x y p (λ off. alike p lt (sym (f.is_mask.is p lt) ∙ off))
+      same p lt =
+          joint_same (length a.names) mask c.letter f.is_mask.within x y p
+          (λ off. alike p lt (sym (f.is_mask.is p lt) ∙ off))
 
 -- what is left behind the letter of a class, and that it heeds the second player alone
 pub record Left (order : Order) (a : AutomatonData) (mask : ℕ) (t : Table) (q letter rest : ℕ) : Type 0 where
@@ -126,8 +134,11 @@ left order a mask t q places list letter rest f h are any =
     let r = class_rest order a mask t q places list f h are any.0 c at in
     record {
       fit = f;
-      is_rest = subst (λ l. IsRest order a mask t q l rest) any.4.0 (subst (λ n. IsRest order a mask t q c.letter n) any.4.1 r);
-      heeds_second = subst (λ n. Heeds order a t n) any.4.1 (class_heeds order a mask t q places list f h are any.0 c at);
+      is_rest =
+          subst (λ l. IsRest order a mask t q l rest) any.4.0 (subst
+          (λ n. IsRest order a mask t q c.letter n) any.4.1 r);
+      heeds_second =
+          subst (λ n. Heeds order a t n) any.4.1 (class_heeds order a mask t q places list f h are any.0 c at);
     }
 
 -- the places by another name
@@ -144,23 +155,30 @@ renamed_within t places values rest same within = subst
     (λ (l : List ℕ). (x : ℕ) → x < 2 ^ t.propositions → IfSome (leaf_of t rest x) (λ k. k < length l)) (sym same) within
 
 -- a class of the list
-pub any_class : (list : List Class) (letter : ℕ) (c : Class) → c.letter ≡ letter → (k : ℕ) → k < length list → ((d : Class) → get_or list k d ≡ c) → Any (λ (d : Class). (d.letter ≡ letter) × (d.rest ≡ c.rest)) list
+pub any_class : (list : List Class) (letter : ℕ) (c : Class) → c.letter ≡ letter → (k : ℕ) → k < length list →
+    ((d : Class) → get_or list k d ≡ c) → Any (λ (d : Class). (d.letter ≡ letter) × (d.rest ≡ c.rest)) list
 any_class list letter c is k within at = (k, c, within, at c, (is, refl))
 
 -- ## Rows that are noted
 
 -- the rows of the first leaves are noted, and all rows are as they ought to be
-pub record AreNoted (a : AutomatonData) (keys : List Key) (is_first : Bool) (board : Board) (kept : List ℕ) (letter : ℕ) (found : List (ℕ × ℕ)) (old rows : List Row) (places : List ℕ) (n : ℕ) : Type 0 where
+pub record AreNoted (a : AutomatonData) (keys : List Key) (is_first : Bool) (board : Board) (kept : List ℕ) (letter : ℕ)
+    (found : List (ℕ × ℕ)) (old rows : List Row) (places : List ℕ) (n : ℕ) : Type 0 where
   pub same_rows : KeepsRows old rows
   pub each : All (IsRow is_first board kept) rows
   pub placed : (k : ℕ) (d : ℕ × ℕ) → k < n → IsPlaced a keys is_first kept rows places letter (get_or found k d).0
 
-module _ (a : AutomatonData) (keys : List Key) (is_first : Bool) (board : Board) (kept : List ℕ) (letter : ℕ) (found : List (ℕ × ℕ)) (old : List Row) where
-  pub none_noted : (places : List ℕ) → All (IsRow is_first board kept) old → AreNoted a keys is_first board kept letter found old old places 0
-  none_noted places each = record { same_rows = keeps_rows_same old; each = each; placed = λ k d none. absurd (omega (arith, none)) }
+module _ (a : AutomatonData) (keys : List Key) (is_first : Bool) (board : Board) (kept : List ℕ) (letter : ℕ)
+    (found : List (ℕ × ℕ)) (old : List Row) where
+  pub none_noted : (places : List ℕ) → All (IsRow is_first board kept) old →
+      AreNoted a keys is_first board kept letter found old old places 0
+  none_noted places each =
+      record { same_rows = keeps_rows_same old; each = each; placed = λ k d none. absurd (omega (arith, none)) }
 
   -- the row of a leaf is added
-  pub add_row : (eq : Row → Row → Bool) (rows : List Row) (places : List ℕ) (n : ℕ) (row : Row) (new : List Row) → AreNoted a keys is_first board kept letter found old rows places n → new ≡ insert_key eq rows row → IsRow is_first board kept row →
+  pub add_row : (eq : Row → Row → Bool) (rows : List Row) (places : List ℕ) (n : ℕ) (row : Row) (new : List Row) →
+      AreNoted a keys is_first board kept letter found old rows places n → new ≡ insert_key eq rows row →
+      IsRow is_first board kept row →
       AreNoted a keys is_first board kept letter found old new places n
   add_row eq rows places n row new h e is =
       let k = keeps_rows eq rows row new e in
@@ -169,13 +187,23 @@ module _ (a : AutomatonData) (keys : List Key) (is_first : Bool) (board : Board)
         each = all_rows (IsRow is_first board kept) eq rows row new e h.each is;
         placed = λ i d within.
             (let p = h.placed i d within in
-            record { place = p.place; is_noted = p.is_noted; row = p.row; is_row = k.same p.place p.row p.is_row; plays = p.plays; next = p.next });
+            record {
+              place = p.place;
+              is_noted = p.is_noted;
+              row = p.row;
+              is_row = k.same p.place p.row p.is_row;
+              plays = p.plays;
+              next = p.next;
+            });
       }
 
   -- and its place is noted
-  pub note_more : (rows : List Row) (places more : List ℕ) (n leaf place : ℕ) (row : Row) → AreNoted a keys is_first board kept letter found old rows places n → ((d : ℕ × ℕ) → (get_or found n d).0 ≡ leaf) →
-      slice_get rows place ≡ Some row → row.letter ≡ letter → ((v : ℕ) → StandsAt keys v (step_key (pair_of a leaf)) → StandsFor is_first keys kept row.memory v (pair_of a leaf).state) →
-      slice_get more leaf ≡ Some place → ((other i : ℕ) → other ≢ leaf → slice_get places other ≡ Some i → slice_get more other ≡ Some i) → AreNoted a keys is_first board kept letter found old rows more (n + 1)
+  pub note_more : (rows : List Row) (places more : List ℕ) (n leaf place : ℕ) (row : Row) →
+      AreNoted a keys is_first board kept letter found old rows places n → ((d : ℕ × ℕ) → (get_or found n d).0 ≡ leaf) →
+      slice_get rows place ≡ Some row → row.letter ≡ letter → ((v : ℕ) → StandsAt keys v (step_key (pair_of a leaf)) →
+      StandsFor is_first keys kept row.memory v (pair_of a leaf).state) →
+      slice_get more leaf ≡ Some place → ((other i : ℕ) → other ≢ leaf → slice_get places other ≡ Some i →
+      slice_get more other ≡ Some i) → AreNoted a keys is_first board kept letter found old rows more (n + 1)
   note_more rows places more n leaf place row h is at plays next noted others = record {
     same_rows = h.same_rows;
     each = h.each;
@@ -188,12 +216,21 @@ module _ (a : AutomatonData) (keys : List Key) (is_first : Bool) (board : Board)
         | inr other ↦ omega (arith, other, within)
       ]
 
-      at_leaf : (other : ℕ) → (other ≢ leaf → IsPlaced a keys is_first kept rows places letter other) → IsPlaced a keys is_first kept rows more letter other
+      at_leaf : (other : ℕ) → (other ≢ leaf → IsPlaced a keys is_first kept rows places letter other) →
+          IsPlaced a keys is_first kept rows more letter other
       at_leaf other was = elim (cases_eq other leaf) [
-        | inl same ↦ subst (λ l. IsPlaced a keys is_first kept rows more letter l) (sym same) (record { place = place; is_noted = noted; row = row; is_row = at; plays = plays; next = next })
+        | inl same ↦ subst (λ l. IsPlaced a keys is_first kept rows more letter l) (sym same)
+            (record { place = place; is_noted = noted; row = row; is_row = at; plays = plays; next = next })
         | inr differ ↦ (
             let p = was differ in
-            record { place = p.place; is_noted = others other p.place differ p.is_noted; row = p.row; is_row = p.is_row; plays = p.plays; next = p.next })
+            record {
+              place = p.place;
+              is_noted = others other p.place differ p.is_noted;
+              row = p.row;
+              is_row = p.is_row;
+              plays = p.plays;
+              next = p.next;
+            })
       ]
 
 -- ## The move of a player who moves first
@@ -206,7 +243,8 @@ same_letter : (q r x y : ℕ) → Second q x ≡ Second r y → x ≡ y
 unfolding letter_in
 same_letter q r x y e = ap letter_in e
 
-module _ (order : Order) (a : AutomatonData) (keys : List Key) (certificate : CertificateData) (is_first : Bool) (kept marks : List ℕ) (plan : IsPlan order a keys certificate is_first kept marks) (first : is_first ≡ true) where
+module _ (order : Order) (a : AutomatonData) (keys : List Key) (certificate : CertificateData) (is_first : Bool)
+    (kept marks : List ℕ) (plan : IsPlan order a keys certificate is_first kept marks) (first : is_first ≡ true) where
   mover_wins : mover_of order ≡ winner certificate
   mover_wins = eqb-true (mover_of order) (winner certificate) (sym plan.turn ∙ first)
 
@@ -224,15 +262,31 @@ module _ (order : Order) (a : AutomatonData) (keys : List Key) (certificate : Ce
       let board = board_of order a in
       let mover = mover_of order in
       let s = setting order a keys certificate is_first kept marks plan in
-      let m = move_at board mover keys plan.game certificate s v (First q p) at (kept_used order a keys certificate is_first kept marks plan v is_kept) (first_owner board mover keys plan.game certificate s v q p at ∙ mover_wins) in
+      let m =
+      move_at board mover keys plan.game certificate s v (First q p) at
+      (kept_used order a keys certificate is_first kept marks plan v is_kept)
+      (first_owner board mover keys plan.game certificate s v q p at ∙ mover_wins) in
       let c = class_at board mover keys plan.game certificate s v m.chosen q p at m.edge in
-      record { chosen = m.chosen; choice = m.choice; used = m.used; letter = c.letter; is_class = c.is_class; stands = c.stands }
+      record {
+        chosen = m.chosen;
+        choice = m.choice;
+        used = m.used;
+        letter = c.letter;
+        is_class = c.is_class;
+        stands = c.stands;
+      }
 
   -- the vertex that the certificate gives is one of a class
-  class_chosen : (v chosen q p : ℕ) → Contains kept v → StandsAt keys v (First q p) → choice_of certificate v ≡ Some chosen → (letter : ℕ) × IsClass (board_of order a) q letter × StandsAt keys chosen (Second q letter)
+  class_chosen : (v chosen q p : ℕ) → Contains kept v → StandsAt keys v (First q p) →
+      choice_of certificate v ≡ Some chosen → (letter : ℕ) × IsClass (board_of order a) q letter ×
+      StandsAt keys chosen (Second q letter)
   class_chosen v chosen q p is_kept at choice =
-      let to = to_class v q p is_kept at in
-      (to.letter, to.is_class, subst (λ n. StandsAt keys n (Second q to.letter)) (some_nat to.chosen chosen (sym to.choice ∙ choice)) to.stands)
+      let to = to_class v q p is_kept at in (
+        to.letter,
+        to.is_class,
+        subst (λ n. StandsAt keys n (Second q to.letter))
+            (some_nat to.chosen chosen (sym to.choice ∙ choice)) to.stands,
+      )
 
   pub has_choice : (v : ℕ) → Contains kept v → is_some (choice_of certificate v) ≡ true
   has_choice v is_kept =
@@ -245,16 +299,20 @@ module _ (order : Order) (a : AutomatonData) (keys : List Key) (certificate : Ce
       let to = class_chosen v chosen k.state k.priority is_kept k.stands choice in
       slice_get_within keys chosen (Second k.state to.0) to.2
 
-  pub chosen_not_first : (v chosen r o : ℕ) → Contains kept v → choice_of certificate v ≡ Some chosen → get_or keys chosen (First 0 0) ≡ First r o → ⊥
+  pub chosen_not_first : (v chosen r o : ℕ) → Contains kept v → choice_of certificate v ≡ Some chosen →
+      get_or keys chosen (First 0 0) ≡ First r o → ⊥
   chosen_not_first v chosen r o is_kept choice is =
       let k = kept_at order a keys certificate is_first kept marks plan v is_kept in
       let to = class_chosen v chosen k.state k.priority is_kept k.stands choice in
       not_both k.state to.0 r o (sym (get_or_from_slice_get keys chosen (Second k.state to.0) (First 0 0) to.2) ∙ is)
 
-  pub plays_class : (v chosen r letter : ℕ) → Contains kept v → choice_of certificate v ≡ Some chosen → get_or keys chosen (First 0 0) ≡ Second r letter → (q p : ℕ) → StandsAt keys v (First q p) → PlaysClass (board_of order a) keys certificate v q letter
+  pub plays_class : (v chosen r letter : ℕ) → Contains kept v → choice_of certificate v ≡ Some chosen →
+      get_or keys chosen (First 0 0) ≡ Second r letter → (q p : ℕ) → StandsAt keys v (First q p) →
+      PlaysClass (board_of order a) keys certificate v q letter
   plays_class v chosen r letter is_kept choice is q p at =
       let to = class_chosen v chosen q p is_kept at choice in
-      let same : to.0 ≡ letter = same_letter q r to.0 letter (sym (get_or_from_slice_get keys chosen (Second q to.0) (First 0 0) to.2) ∙ is) in
+      let same : to.0 ≡ letter =
+      same_letter q r to.0 letter (sym (get_or_from_slice_get keys chosen (Second q to.0) (First 0 0) to.2) ∙ is) in
       record {
         chosen = chosen;
         choice = choice;
@@ -263,7 +321,9 @@ module _ (order : Order) (a : AutomatonData) (keys : List Key) (certificate : Ce
       }
 
   -- the pair of each leaf behind that class is entered
-  pub entered : (mask : ℕ) (t : Table) (v q p letter rest : ℕ) (found : List (ℕ × ℕ)) → Contains kept v → StandsAt keys v (First q p) → PlaysClass (board_of order a) keys certificate v q letter → Left order a mask t q letter rest → AreLeaves t rest found →
+  pub entered : (mask : ℕ) (t : Table) (v q p letter rest : ℕ) (found : List (ℕ × ℕ)) → Contains kept v →
+      StandsAt keys v (First q p) → PlaysClass (board_of order a) keys certificate v q letter →
+      Left order a mask t q letter rest → AreLeaves t rest found →
       All (λ leaf. IsEntered order a keys certificate is_first kept marks leaf.0) found
   entered mask t v q p letter rest found is_kept at plays l are k d within =
       let board = board_of order a in
@@ -274,19 +334,28 @@ module _ (order : Order) (a : AutomatonData) (keys : List Key) (certificate : Ce
       let used : IsUsed plan.game certificate plays.chosen = subst (λ n. IsUsed plan.game certificate n) same to.used in
       let y = (get_or found k (0, 0)).1 in
       let leaf = (get_or found k (0, 0)).0 in
-      let on = to_pair_of board mover keys plan.game certificate s plays.chosen q letter y plays.stands (move_is order a mask t q letter rest found l.fit l.is_rest are k within) in
-      let there : step_of a q (letter + y) ≡ pair_of a leaf = ap (λ o. pair_of a (unwrap_or o (length a.steps))) (move_leaf order a mask t q letter rest found l.fit l.is_rest are k within) in
-      let other : owner_of plan.game plays.chosen ≡ winner certificate → ⊥ = λ own. (let o = second_owner board mover keys plan.game certificate s plays.chosen q letter plays.stands in omega (arith, o, own, mover_wins, s.is_mover)) in
+      let on =
+      to_pair_of board mover keys plan.game certificate s plays.chosen q letter y plays.stands
+      (move_is order a mask t q letter rest found l.fit l.is_rest are k within) in
+      let there : step_of a q (letter + y) ≡ pair_of a leaf =
+      ap (λ o. pair_of a (unwrap_or o (length a.steps))) (move_leaf order a mask t q letter rest found l.fit
+      l.is_rest are k within) in
+      let other : owner_of plan.game plays.chosen ≡ winner certificate → ⊥ =
+      λ own. (let o = second_owner board mover keys plan.game certificate s plays.chosen q letter plays.stands in
+      omega (arith, o, own, mover_wins, s.is_mover)) in
       let item : IsEntered order a keys certificate is_first kept marks leaf = record {
         within = leaf_within order a mask t q letter rest found l.fit l.is_rest are k within;
         enters = record {
           plan = plan;
           vertex = on.vertex;
           stands = subst (λ (x : Step). StandsAt keys on.vertex (First x.state x.priority)) there on.stands;
-          is_used = used_more plan.game certificate plays.chosen on.vertex used on.edge (within_game board mover keys plan.game certificate s on.vertex _ on.stands) (λ own. absurd (other own));
+          is_used =
+              used_more plan.game certificate plays.chosen on.vertex used on.edge
+              (within_game board mover keys plan.game certificate s on.vertex _ on.stands) (λ own. absurd (other own));
         };
       } in
-      subst (λ (x : ℕ × ℕ). IsEntered order a keys certificate is_first kept marks x.0) (get_or_default found k (0, 0) d within) item
+      subst (λ (x : ℕ × ℕ). IsEntered order a keys certificate is_first kept marks x.0)
+      (get_or_default found k (0, 0) d within) item
 
   -- the classes of the state have that of the move
   module _ (mask : ℕ) (t : Table) (v q : ℕ) (c : Classes) (l : List Class) (letter : ℕ)
@@ -301,8 +370,11 @@ module _ (order : Order) (a : AutomatonData) (keys : List Key) (certificate : Ce
     left_behind rest any = left order a mask t q c.places c.list.items letter rest fit of.state of.are
         (subst (λ (cs : List Class). Any (λ (k : Class). (k.letter ≡ letter) × (k.rest ≡ rest)) cs) same any)
 
-  module _ (mask : ℕ) (t : Table) (v q p letter rest : ℕ) (found : List (ℕ × ℕ)) (rows : List Row) (places : List ℕ) (is_kept : Contains kept v) (at : StandsAt keys v (First q p)) (plays : PlaysClass (board_of order a) keys certificate v q letter)
-      (l : Left order a mask t q letter rest) (are : AreLeaves t rest found) (placed : All (λ leaf. IsPlaced a keys is_first kept rows places letter leaf.0) found) where
+  module _ (mask : ℕ) (t : Table) (v q p letter rest : ℕ) (found : List (ℕ × ℕ)) (rows : List Row) (places : List ℕ)
+      (is_kept : Contains kept v) (at : StandsAt keys v (First q p))
+      (plays : PlaysClass (board_of order a) keys certificate v q letter)
+      (l : Left order a mask t q letter rest) (are : AreLeaves t rest found)
+      (placed : All (λ leaf. IsPlaced a keys is_first kept rows places letter leaf.0) found) where
     -- what is noted for the leaf of a letter
     record Noted (x : ℕ) : Type 0 where
       leaf : ℕ
@@ -313,7 +385,9 @@ module _ (order : Order) (a : AutomatonData) (keys : List Key) (certificate : Ce
 
     noted : (x : ℕ) → IsSecondLetter (board_of order a) x → Noted x
     noted x second =
-        let there = some_of (leaf_of a.store (node_of a q) (letter + x)) (λ leaf. leaf < length a.steps) (l.fit.whole.leaves q (letter + x) l.is_rest.state) in
+        let there =
+        some_of (leaf_of a.store (node_of a q) (letter + x)) (λ leaf. leaf < length a.steps)
+        (l.fit.whole.leaves q (letter + x) l.is_rest.state) in
         let is = l.is_rest.leaves x second ∙ there.1 in
         let any = are.each there.0 x (below_back order a mask t x l.fit second.within, is) in
         let same : (get_or found any.0 any.1).0 ≡ there.0 = ap (λ (e : ℕ × ℕ). e.0) any.3 ∙ any.4 in
@@ -322,7 +396,9 @@ module _ (order : Order) (a : AutomatonData) (keys : List Key) (certificate : Ce
           is_leaf = is;
           is_step = ap (λ o. pair_of a (unwrap_or o (length a.steps))) there.1;
           is_placed = subst (λ n. IsPlaced a keys is_first kept rows places letter n) same (placed any.0 any.1 any.2);
-          is_entered = subst (λ n. IsEntered order a keys certificate is_first kept marks n) same (entered mask t v q p letter rest found is_kept at plays l are any.0 any.1 any.2);
+          is_entered =
+              subst (λ n. IsEntered order a keys certificate is_first kept marks n) same
+              (entered mask t v q p letter rest found is_kept at plays l are any.0 any.1 any.2);
         }
 
     -- each letter that leads the rest to a leaf leads it to one for which a place is noted
@@ -337,8 +413,10 @@ module _ (order : Order) (a : AutomatonData) (keys : List Key) (certificate : Ce
             let is = subst (λ n. IsPlaced a keys is_first kept rows places letter n) same (placed any.0 any.1 any.2) in
             slice_get_within places leaf is.place is.is_noted
 
-    module _ (u : Table) (made : ℕ) (held : IsNode u made) (named : (x : ℕ) → leaf_of u made x ≡ option_map (λ k. slice_index places k) (leaf_of t rest x)) where
-      row_at : (x : ℕ) → IsSecondLetter (board_of order a) x → LeadsToRow true (board_of order a) keys kept certificate u rows made v q x
+    module _ (u : Table) (made : ℕ) (held : IsNode u made) (named : (x : ℕ) →
+        leaf_of u made x ≡ option_map (λ k. slice_index places k) (leaf_of t rest x)) where
+      row_at : (x : ℕ) → IsSecondLetter (board_of order a) x → LeadsToRow true (board_of order a) keys kept certificate
+          u rows made v q x
       row_at x second =
           let board = board_of order a in
           let n = noted x second in
@@ -349,15 +427,23 @@ module _ (order : Order) (a : AutomatonData) (keys : List Key) (certificate : Ce
           let stands = n.is_entered.enters.stands in
           record {
             leaf = w.place;
-            is_leaf = named x ∙ ap (λ o. option_map (λ k. slice_index places k) o) n.is_leaf ∙ ap (λ k. Some k) (get_or_from_slice_get places n.leaf w.place 0 w.is_noted);
+            is_leaf = named x ∙ ap (λ o. option_map (λ k. slice_index places k) o) n.is_leaf
+                ∙ ap (λ k. Some k) (get_or_from_slice_get places n.leaf w.place 0 w.is_noted);
             row = w.row;
             is_row = w.is_row;
             is_right = record {
-              played = record { chosen = plays.chosen; choice = plays.choice; stands = subst (λ k. StandsAt keys plays.chosen (Second q k)) (sym w.plays) plays.stands };
+              played =
+                  record {
+                    chosen = plays.chosen;
+                    choice = plays.choice;
+                    stands = subst (λ k. StandsAt keys plays.chosen (Second q k)) (sym w.plays) plays.stands;
+                  };
               entered = vertex;
-              goes = record { stands = subst (λ (s : Step). StandsAt keys vertex (First s.state s.priority)) step stands };
+              goes =
+                  record { stands = subst (λ (s : Step). StandsAt keys vertex (First s.state s.priority)) step stands };
               next = subst (λ b. StandsFor b keys kept w.row.memory vertex (board.auto.next q (x + w.row.letter))) first
-                  (subst (λ (s : Step). StandsFor is_first keys kept w.row.memory vertex s.state) step (w.next vertex stands));
+                  (subst (λ (s : Step). StandsFor is_first keys kept w.row.memory vertex s.state) step
+                  (w.next vertex stands));
             };
           }
 
@@ -369,5 +455,7 @@ module _ (order : Order) (a : AutomatonData) (keys : List Key) (certificate : Ce
         priority = p;
         stands = at;
         leads = row_at;
-        heeds = λ x y alike. named x ∙ ap (λ o. option_map (λ k. slice_index places k) o) (l.heeds_second x y (λ r within isnt. alike r within (ap not isnt))) ∙ sym (named y);
+        heeds =
+            λ x y alike. named x ∙ ap (λ o. option_map (λ k. slice_index places k) o)
+            (l.heeds_second x y (λ r within isnt. alike r within (ap not isnt))) ∙ sym (named y);
       })

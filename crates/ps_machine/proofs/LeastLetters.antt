@@ -1,5 +1,7 @@
--- Letters in their order: no property of letters goes down forever; and the sum of two letters without a common proposition is a letter.
-use Rattle.std.proofs.Common.{◌≡◌, ℕ, zero, suc, ◌+◌, ◌/◌, ◌%◌, ◌^◌, ◌<◌, ◌≤◌, ◌⊎◌, inl, inr, Bool, true, false, cond, List, [], ◌∷◌, length, get_or, refl, ap, sym, ◌∙◌, arith, rules, nat_eq}
+-- Letters in their order: no property of letters goes down forever; and the sum of two letters without a common
+-- proposition is a letter.
+use Rattle.std.proofs.Common.{◌≡◌, ℕ, zero, suc, ◌+◌, ◌/◌, ◌%◌, ◌^◌, ◌<◌, ◌≤◌, ◌⊎◌, inl, inr, Bool, true, false, cond}
+use Rattle.std.proofs.Common.{List, [], ◌∷◌, length, get_or, refl, ap, sym, ◌∙◌, arith, rules, nat_eq}
 use Rattle.std.specs.List.{Contains}
 use Rattle.std.specs.Int.{bit_at}
 use Rattle.std.proofs.lemmas.Bool.{cases_eq, cases_lt}
@@ -35,14 +37,18 @@ bit_decides true c n r s e f h = search rules
 bit_decides false false n r s e f h = search rules
 
 bit_alike : (b c : Bool) (n r s : ℕ) → b ≡ c → r < s → cond b (2 ^ n) 0 + r < cond c (2 ^ n) 0 + s
-bit_alike b c n r s e h = (let same : cond b (2 ^ n) 0 ≡ cond c (2 ^ n) 0 = ap (λ d. cond d (2 ^ n) 0) e in omega (arith, same, h))
+bit_alike b c n r s e h =
+    (let same : cond b (2 ^ n) 0 ≡ cond c (2 ^ n) 0 = ap (λ d. cond d (2 ^ n) 0) e in omega (arith, same, h))
 
-rank_rises : (from n x y first : ℕ) → from ≤ first → first < from + n → is_in first x ≡ false → is_in first y ≡ true → ((p : ℕ) → p < first → is_in p x ≡ is_in p y) → rank from n x < rank from n y
+rank_rises : (from n x y first : ℕ) → from ≤ first → first < from + n → is_in first x ≡ false → is_in first y ≡ true →
+    ((p : ℕ) → p < first → is_in p x ≡ is_in p y) → rank from n x < rank from n y
 unfolding rank
 rank_rises from zero x y first low high one other same = absurd (omega (arith, low, high))
 rank_rises from (suc n) x y first low high one other same = elim (cases_eq from first) [
-  | inl here ↦ bit_decides (is_in from x) (is_in from y) n (rank (from + 1) n x) (rank (from + 1) n y) (ap (λ p. is_in p x) here ∙ one) (ap (λ p. is_in p y) here ∙ other) (rank_lt (from + 1) n x)
-  | inr later ↦ bit_alike (is_in from x) (is_in from y) n (rank (from + 1) n x) (rank (from + 1) n y) (same from (omega (arith, low, later)))
+  | inl here ↦ bit_decides (is_in from x) (is_in from y) n (rank (from + 1) n x) (rank (from + 1) n y)
+      (ap (λ p. is_in p x) here ∙ one) (ap (λ p. is_in p y) here ∙ other) (rank_lt (from + 1) n x)
+  | inr later ↦ bit_alike (is_in from x) (is_in from y) n (rank (from + 1) n x) (rank (from + 1) n y)
+      (same from (omega (arith, low, later)))
       (rank_rises (from + 1) n x y first (omega (arith, low, later)) (omega (arith, high)) one other same)
 ]
 
@@ -60,7 +66,8 @@ before_ranks n x y within before =
     let first_within : before.first < 0 + n = omega (arith, true_is_within n y before.first within before.is_true) in
     rank_rises 0 n x y before.first (omega arith) first_within before.is_false before.is_true before.same
 
-goes_down : (n : ℕ) (P : ℕ → Type 0) → ((y : ℕ) → P y → y < 2 ^ n) → ((y : ℕ) → IsLeast P y → ⊥) → (bound y : ℕ) → P y → rank 0 n y < bound → ⊥
+goes_down : (n : ℕ) (P : ℕ → Type 0) → ((y : ℕ) → P y → y < 2 ^ n) → ((y : ℕ) → IsLeast P y → ⊥) → (bound y : ℕ) → P y →
+    rank 0 n y < bound → ⊥
 goes_down n P within none zero y here small = absurd (omega (arith, small))
 goes_down n P within none (suc bound) y here small = none y (record {
   here = here;
@@ -70,17 +77,27 @@ goes_down n P within none (suc bound) y here small = none y (record {
 })
 
 -- where a property of letters has no least one it has none at all
-pub none_without_least : (n : ℕ) (P : ℕ → Type 0) → ((y : ℕ) → P y → y < 2 ^ n) → ((y : ℕ) → IsLeast P y → ⊥) → (y : ℕ) → P y → ⊥
+pub none_without_least : (n : ℕ) (P : ℕ → Type 0) → ((y : ℕ) → P y → y < 2 ^ n) → ((y : ℕ) → IsLeast P y → ⊥) →
+    (y : ℕ) → P y → ⊥
 none_without_least n P within none y here = goes_down n P within none (rank 0 n y + 1) y here (omega arith)
 
 -- ## A least one
 
-down_to_least : (n : ℕ) (P : ℕ → Type 0) → ((y : ℕ) → P y ⊎ (P y → ⊥)) → ((y : ℕ) → P y → y < 2 ^ n) → (bound y : ℕ) → P y → rank 0 n y < bound → (z : ℕ) × IsLeast P z
+down_to_least : (n : ℕ) (P : ℕ → Type 0) → ((y : ℕ) → P y ⊎ (P y → ⊥)) → ((y : ℕ) → P y → y < 2 ^ n) → (bound y : ℕ) →
+    P y → rank 0 n y < bound → (z : ℕ) × IsLeast P z
 down_to_least n P tell within zero y here small = absurd (omega (arith, small))
-down_to_least n P tell within (suc bound) y here small = elim (some_or_none Lower lower_or_not (2 ^ n) (λ x lower. within x lower.0)) [
-  | inl lower ↦ down_to_least n P tell within bound lower.0 lower.1.0 (omega (arith, small, lower.1.1))
-  | inr none ↦ (y, record { here = here; none_before = λ x at before. none (x, (at, before_ranks n x y (within y here) before)) })
-]
+down_to_least n P tell within (suc bound) y here small =
+    elim (some_or_none Lower lower_or_not (2 ^ n) (λ x lower. within x lower.0)) [
+      | inl lower ↦ down_to_least n P tell within bound lower.0 lower.1.0 (omega (arith, small, lower.1.1))
+      | inr none ↦ (
+        y,
+        record {
+          here = here;
+          none_before = λ x at before.
+              none (x, (at, before_ranks n x y (within y here) before));
+        },
+      )
+    ]
   where
     Lower : ℕ → Type 0
     Lower x = P x × (rank 0 n x < rank 0 n y)
@@ -95,7 +112,8 @@ down_to_least n P tell within (suc bound) y here small = elim (some_or_none Lowe
     ]
 
 -- of letters with a property that can be told there is a least one, where there is one
-pub least_there : (n : ℕ) (P : ℕ → Type 0) → ((y : ℕ) → P y ⊎ (P y → ⊥)) → ((y : ℕ) → P y → y < 2 ^ n) → (y : ℕ) → P y → (z : ℕ) × IsLeast P z
+pub least_there : (n : ℕ) (P : ℕ → Type 0) → ((y : ℕ) → P y ⊎ (P y → ⊥)) → ((y : ℕ) → P y → y < 2 ^ n) → (y : ℕ) → P y →
+    (z : ℕ) × IsLeast P z
 least_there n P tell within y here = down_to_least n P tell within (rank 0 n y + 1) y here (omega arith)
 
 -- ## Sums
@@ -121,17 +139,22 @@ by_halves n x y halves bits = omega (arith, twice n, halves, bits)
 pub sum_within : (n x y : ℕ) → x < 2 ^ n → y < 2 ^ n → ((p : ℕ) → is_in p x ≡ true → is_in p y ≡ false) → x + y < 2 ^ n
 sum_within zero x y a b apart = omega (arith, a, b)
 sum_within (suc n) x y a b apart =
-    let halves : x / 2 + y / 2 < 2 ^ n = sum_within n (x / 2) (y / 2) (half_within n x a) (half_within n y b) (λ p is. half_bit y p ∙ apart (suc p) (sym (half_bit x p) ∙ is)) in
-    let low : bit_at x 0 + bit_at y 0 < 2 = bits_apart (bit_at x 0) (bit_at y 0) (bit_at-lt x 0) (bit_at-lt y 0) (apart 0) in
+    let halves : x / 2 + y / 2 < 2 ^ n =
+    sum_within n (x / 2) (y / 2) (half_within n x a) (half_within n y b)
+    (λ p is. half_bit y p ∙ apart (suc p) (sym (half_bit x p) ∙ is)) in
+    let low : bit_at x 0 + bit_at y 0 < 2 =
+    bits_apart (bit_at x 0) (bit_at y 0) (bit_at-lt x 0) (bit_at-lt y 0) (apart 0) in
     by_halves n x y halves (omega (arith, low, bit_at_lowest x, bit_at_lowest y))
 
 -- ## Lists
 
-not_there : (y : ℕ) (ys : List ℕ) (x : ℕ) → (y ≡ x → ⊥) → (Contains ys x → ⊥) → (k : ℕ) → k < suc (length ys) → get_or (y ∷ ys) k x ≡ x → ⊥
+not_there : (y : ℕ) (ys : List ℕ) (x : ℕ) → (y ≡ x → ⊥) → (Contains ys x → ⊥) → (k : ℕ) → k < suc (length ys) →
+    get_or (y ∷ ys) k x ≡ x → ⊥
 not_there y ys x other none zero within is = other is
 not_there y ys x other none (suc k) within is = none (k, omega (arith, within), is)
 
-one_more : (y : ℕ) (ys : List ℕ) (x : ℕ) → (y ≡ x → ⊥) → Contains ys x ⊎ (Contains ys x → ⊥) → Contains (y ∷ ys) x ⊎ (Contains (y ∷ ys) x → ⊥)
+one_more : (y : ℕ) (ys : List ℕ) (x : ℕ) → (y ≡ x → ⊥) → Contains ys x ⊎ (Contains ys x → ⊥) →
+    Contains (y ∷ ys) x ⊎ (Contains (y ∷ ys) x → ⊥)
 one_more y ys x other (inl c) = inl (suc c.0, omega (arith, c.1), c.2)
 one_more y ys x other (inr none) = inr (λ c. not_there y ys x other none c.0 c.1 c.2)
 

@@ -26,8 +26,11 @@ mod MaskLemmas
 mod MemorySteps
 mod NamingLemmas
 mod OneFileGame
+mod OneFileMachine
 mod OneGame
+mod OneMachine
 mod Remembering
+mod Rising
 mod RowTests
 mod SecondDrawing
 mod Starting

@@ -21,10 +21,12 @@ use Rattle.ps_machine.specs.declared.machine.Propositions.{Propositions}
 use Rattle.ps_machine.specs.declared.machine.Row.{Row}
 
 -- the first n memories have their diagrams
-pub record AreDrawn (is_first : Bool) (board : Board) (keys : List Key) (kept : List ℕ) (certificate : CertificateData) (t : Table) (rows : List Row) (nodes : List ℕ) (n : ℕ) : Type 0 where
+pub record AreDrawn (is_first : Bool) (board : Board) (keys : List Key) (kept : List ℕ) (certificate : CertificateData)
+    (t : Table) (rows : List Row) (nodes : List ℕ) (n : ℕ) : Type 0 where
   pub rows_are : All (IsRow is_first board kept) rows
   pub many : length nodes ≡ n
-  pub each : (memory : ℕ) → memory < n → IsDrawn is_first board keys kept certificate t rows (slice_index kept memory) (slice_index nodes memory)
+  pub each : (memory : ℕ) → memory < n → IsDrawn is_first board keys kept certificate t rows (slice_index kept memory)
+      (slice_index nodes memory)
 
 pub record AreListedBelow (n : ℕ) (is : ℕ → Bool) (list : List ℕ) : Type 0 where
   pub rising : AllPairs (λ p q. p < q) list
@@ -50,7 +52,8 @@ machine_of player is_first propositions diagrams =
     }
 
 -- a machine whose propositions, diagrams and rows are right
-pub record IsAssembled (board : Board) (keys : List Key) (kept : List ℕ) (certificate : CertificateData) (m : MachineData) : Type 0 where
+pub record IsAssembled (board : Board) (keys : List Key) (kept : List ℕ) (certificate : CertificateData)
+    (m : MachineData) : Type 0 where
   pub few_names : length m.names ≤ 64
   pub are_names : AreNames m.names
   pub as_many : length m.names ≡ board.propositions

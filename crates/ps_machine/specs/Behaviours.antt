@@ -1,17 +1,22 @@
 -- What the finite machine of a player does, in the order of moves that it is made for; and the words that it makes.
---     Behaviour      its propositions, whose it is, whether that player moves first; and, by memory and the other player's letter,
+--     Behaviour      its propositions, whose it is, whether that player moves first; and, by memory and the other
+--               player's letter,
 --                    the memory behind a step and the letter that is played
 --     IsMachine b      it is a finite machine's
---     IsLasso b stem lap      letters of a run of the machine from memory 0 that goes back, behind the lap, to the memory before it
---     LassosWon file b      the automaton accepts each of these words if the machine is the controller's (player 0), and else none
-use Rattle.std.specs.Prelude.{◌≡◌, ◌≢◌, ℕ, ◌+◌, ◌^◌, ◌<◌, ◌≤◌, ◌⊎◌, ◌↔◌, Bool, false, IsTrue, List, ◌++◌, length, slice_index}
+--     IsLasso b stem lap      letters of a run of the machine from memory 0 that goes back, behind the lap, to the
+--               memory before it
+--     LassosWon file b      the automaton accepts each of these words if the machine is the controller's (player 0),
+--               and else none
+use Rattle.std.specs.Prelude.{◌≡◌, ◌≢◌, ℕ, ◌+◌, ◌^◌, ◌<◌, ◌≤◌, ◌⊎◌, ◌↔◌, Bool, false, IsTrue, List, ◌++◌, length}
+use Rattle.std.specs.Prelude.{slice_index}
 use Rattle.std.specs.List.{AllPairs}
 use Rattle.ps_label.specs.Truth.{is_in}
 use Rattle.ps_hoa.specs.Files.{FileData, is_among}
 use Rattle.ps_hoa.specs.Sound.{AreNames}
 use Rattle.ps_automaton.specs.Acceptance.{IsAccepted}
 
--- `inputs` are the propositions that it reads, the other player's, and `outputs` those that it plays. It begins in memory 0.
+-- `inputs` are the propositions that it reads, the other player's, and `outputs` those that it plays. It begins in
+-- memory 0.
 pub record Behaviour : Type 0 where
   pub names : List (List ℕ)
   pub inputs : List ℕ
@@ -41,8 +46,8 @@ AreSameOn list x y = (p : ℕ) → IsTrue (is_among p list) → is_in p x ≡ is
 
 -- ## Machines
 
--- Each proposition is read or played, and none both. A step leads to a memory, plays a letter, and heeds what is read alone; a
--- player who moves first plays the same whatever the letter.
+-- Each proposition is read or played, and none both. A step leads to a memory, plays a letter, and heeds what is read
+-- alone; a player who moves first plays the same whatever the letter.
 pub record IsMachine (b : Behaviour) : Type 0 where
   pub few_names : length b.names ≤ 64
   pub are_names : AreNames b.names
@@ -55,7 +60,8 @@ pub record IsMachine (b : Behaviour) : Type 0 where
   pub next_within : (memory x : ℕ) → memory < b.memories → b.next memory x < b.memories
   pub plays_own : (memory x : ℕ) → memory < b.memories → IsOutput b (b.plays memory x)
   pub next_heeds : (memory x y : ℕ) → memory < b.memories → AreSameOn b.inputs x y → b.next memory x ≡ b.next memory y
-  pub plays_heeds : (memory x y : ℕ) → memory < b.memories → AreSameOn b.inputs x y → b.plays memory x ≡ b.plays memory y
+  pub plays_heeds : (memory x y : ℕ) → memory < b.memories → AreSameOn b.inputs x y →
+      b.plays memory x ≡ b.plays memory y
   pub blind : IsTrue b.is_first → (memory x y : ℕ) → memory < b.memories → b.plays memory x ≡ b.plays memory y
 
 -- ## Words

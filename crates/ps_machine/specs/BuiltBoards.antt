@@ -6,4 +6,9 @@ use Rattle.ps_machine.specs.declared.key.Order.{Order}
 
 abbrev pub board_of : Order → AutomatonData → Board
 board_of order a =
-    record { auto = auto_of a; states = a.states; propositions = length a.names; is_first = is_first_of order a.controllable }
+    record {
+      auto = auto_of a;
+      states = a.states;
+      propositions = length a.names;
+      is_first = is_first_of order a.controllable;
+    }

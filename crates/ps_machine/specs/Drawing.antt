@@ -1,12 +1,16 @@
--- What is known while the machine of a certificate is made: its plan is what it is made from, and its diagrams are drawn one
--- after another, for each memory one that leads each letter of the other player to a row. (Of private functions.)
+-- What is known while the machine of a certificate is made: its plan is what it is made from, and its diagrams are
+-- drawn one after another, for each memory one that leads each letter of the other player to a row. (Of private
+-- functions.)
 --     AreUsed game certificate found      the used vertices
 --     GoesOn game certificate v w      how a path goes on that follows the table of the winner of vertex 0
 --     AreMemories is_first keys used kept marks      the vertex of each memory, and what is remembered there
 --     IsPlan ..      what the machine is made from
---     IsDrawn .. v node      the diagram leads each letter of the other player to the row of the memory that is kept at v
---     IsReply .. q x r p, IsReplyRow .. q x row      where a player who moves second goes on behind the letter x, and the row of that
-use Rattle.std.specs.Prelude.{◌≡◌, ◌≢◌, ℕ, ◌+◌, ◌<◌, ◌≤◌, ◌↔◌, ◌==◌, Bool, true, false, List, [], ◌∷◌, length, Some, ◌++◌, slice_get, slice_index}
+--     IsDrawn .. v node      the diagram leads each letter of the other player to the row of the memory that is kept at
+--               v
+--     IsReply .. q x r p, IsReplyRow .. q x row      where a player who moves second goes on behind the letter x, and
+--               the row of that
+use Rattle.std.specs.Prelude.{◌≡◌, ◌≢◌, ℕ, ◌+◌, ◌<◌, ◌≤◌, ◌↔◌, ◌==◌, Bool, true, false, List, [], ◌∷◌, length, Some}
+use Rattle.std.specs.Prelude.{◌++◌, slice_get, slice_index}
 use Rattle.std.specs.List.{All, AllPairs, Contains}
 use Rattle.ps_label.specs.Truth.{is_in}
 use Rattle.ps_game.specs.Games.{ParityGame}
@@ -42,7 +46,8 @@ pub record Adds (IsNext : ℕ → Type 0) (old new : List ℕ) : Type 0 where
 
 -- ## Memories
 
--- what a player remembers at the vertex v of the state q: one who moves first the vertex, one who moves second the state
+-- what a player remembers at the vertex v of the state q: one who moves first the vertex, one who moves second the
+-- state
 abbrev pub mark_of : Bool → ℕ → ℕ → ℕ
 mark_of true v q = v
 mark_of false v q = q
@@ -50,7 +55,8 @@ mark_of false v q = q
 -- a mark that has come has its memory; with another one a memory is kept at the vertex
 pub data KeepsAt (old_kept old_marks : List ℕ) (v mark : ℕ) (kept marks : List ℕ) : Type 0 where
   Stays : Contains old_marks mark → kept ≡ old_kept → marks ≡ old_marks → KeepsAt old_kept old_marks v mark kept marks
-  Grows : ¬ Contains old_marks mark → kept ≡ old_kept ++ v ∷ [] → marks ≡ old_marks ++ mark ∷ [] → KeepsAt old_kept old_marks v mark kept marks
+  Grows : ¬ Contains old_marks mark → kept ≡ old_kept ++ v ∷ [] → marks ≡ old_marks ++ mark ∷ [] →
+      KeepsAt old_kept old_marks v mark kept marks
 
 -- the memory is kept at a used vertex at which the first player moves
 pub record IsMemory (is_first : Bool) (keys : List Key) (used kept marks : List ℕ) (memory : ℕ) : Type 0 where
@@ -72,11 +78,13 @@ pub record AreMemories (is_first : Bool) (keys : List Key) (used kept marks : Li
   pub rising : AllPairs (λ v w. v < w) kept
   pub different : AllPairs (λ one other. one ≢ other) marks
   pub each : (memory : ℕ) → memory < length kept → IsMemory is_first keys used kept marks memory
-  pub found : (v q p : ℕ) → Contains used v → StandsAt keys v (First q p) → HasMemory kept marks v (mark_of is_first v q)
+  pub found : (v q p : ℕ) → Contains used v → StandsAt keys v (First q p) →
+      HasMemory kept marks v (mark_of is_first v q)
 
 -- ## Rows
 
-pub record IsPlan (order : Order) (a : AutomatonData) (keys : List Key) (certificate : CertificateData) (is_first : Bool) (kept marks : List ℕ) : Type 0 where
+pub record IsPlan (order : Order) (a : AutomatonData) (keys : List Key) (certificate : CertificateData)
+    (is_first : Bool) (kept marks : List ℕ) : Type 0 where
   pub game : ParityGame
   pub is_game : IsGameOf (board_of order a) (mover_of order) keys game
   pub fits : Fits game certificate
@@ -97,35 +105,40 @@ pub record IsRow (is_first : Bool) (board : Board) (kept : List ℕ) (row : Row)
   pub letter : IsOwn is_first board row.letter
 
 -- at the vertex v of the state q, where the other player's letter is x, the row has what is played and where that leads
-pub record IsRowAt (is_first : Bool) (board : Board) (keys : List Key) (kept : List ℕ) (certificate : CertificateData) (v q x : ℕ) (row : Row) : Type 0 where
+pub record IsRowAt (is_first : Bool) (board : Board) (keys : List Key) (kept : List ℕ) (certificate : CertificateData)
+    (v q x : ℕ) (row : Row) : Type 0 where
   pub played : IsPlayed is_first board keys certificate v q x row.letter
   pub entered : ℕ
   pub goes : GoesTo keys board q (x + row.letter) entered
   pub next : StandsFor is_first keys kept row.memory entered (board.auto.next q (x + row.letter))
 
 -- the leaf at a letter names the row
-pub record LeadsToRow (is_first : Bool) (board : Board) (keys : List Key) (kept : List ℕ) (certificate : CertificateData) (t : Table) (rows : List Row) (node v q x : ℕ) : Type 0 where
+pub record LeadsToRow (is_first : Bool) (board : Board) (keys : List Key) (kept : List ℕ)
+    (certificate : CertificateData) (t : Table) (rows : List Row) (node v q x : ℕ) : Type 0 where
   pub leaf : ℕ
   pub is_leaf : leaf_of t node x ≡ Some leaf
   pub row : Row
   pub is_row : slice_get rows leaf ≡ Some row
   pub is_right : IsRowAt is_first board keys kept certificate v q x row
 
-pub record IsDrawn (is_first : Bool) (board : Board) (keys : List Key) (kept : List ℕ) (certificate : CertificateData) (t : Table) (rows : List Row) (v node : ℕ) : Type 0 where
+pub record IsDrawn (is_first : Bool) (board : Board) (keys : List Key) (kept : List ℕ) (certificate : CertificateData)
+    (t : Table) (rows : List Row) (v node : ℕ) : Type 0 where
   pub held : IsNode t node
   pub state : ℕ
   pub priority : ℕ
   pub stands : StandsAt keys v (First state priority)
   pub leads : (x : ℕ) → IsOther is_first board x → LeadsToRow is_first board keys kept certificate t rows node v state x
   -- it heeds the other player's propositions alone
-  pub heeds : (x y : ℕ) → ((p : ℕ) → p < board.propositions → is_others is_first board p ≡ true → is_in p x ≡ is_in p y) → leaf_of t node x ≡ leaf_of t node y
+  pub heeds : (x y : ℕ) → ((p : ℕ) → p < board.propositions → is_others is_first board p ≡ true → is_in p x ≡ is_in p y)
+      → leaf_of t node x ≡ leaf_of t node y
 
 -- the rows that were there are there, at their places
 pub record KeepsRows (old new : List Row) : Type 0 where
   pub same : (leaf : ℕ) (row : Row) → slice_get old leaf ≡ Some row → slice_get new leaf ≡ Some row
 
 -- a step leads to the used vertex of that pair
-pub record CanEnter (order : Order) (a : AutomatonData) (keys : List Key) (certificate : CertificateData) (is_first : Bool) (kept marks : List ℕ) (q p : ℕ) : Type 0 where
+pub record CanEnter (order : Order) (a : AutomatonData) (keys : List Key) (certificate : CertificateData)
+    (is_first : Bool) (kept marks : List ℕ) (q p : ℕ) : Type 0 where
   pub plan : IsPlan order a keys certificate is_first kept marks
   pub vertex : ℕ
   pub stands : StandsAt keys vertex (First q p)
@@ -150,7 +163,8 @@ abbrev pub IsReplyRow : Board → List Key → List ℕ → CertificateData → 
 IsReplyRow board keys kept certificate q x row = (v : ℕ) → IsRowAt false board keys kept certificate v q x row
 
 -- the number names such a row
-pub record NamesAnswer (board : Board) (keys : List Key) (kept : List ℕ) (certificate : CertificateData) (rows : List Row) (q x value : ℕ) : Type 0 where
+pub record NamesAnswer (board : Board) (keys : List Key) (kept : List ℕ) (certificate : CertificateData)
+    (rows : List Row) (q x value : ℕ) : Type 0 where
   pub row : Row
   pub is_row : slice_get rows value ≡ Some row
   pub is_answer : IsReplyRow board keys kept certificate q x row

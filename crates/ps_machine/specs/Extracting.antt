@@ -3,7 +3,8 @@
 --     IsKept .. v      of the used first-mover vertices, v is the least of those that share a memory with it
 --     IsMachineOf board mover keys game certificate m      the machine: its memories are the kept vertices, rising
 -- A winner who moves first remembers the vertex. One who moves second remembers its state alone.
-use Rattle.std.specs.Prelude.{◌≡◌, ℕ, ◌+◌, ◌-◌, ◌<◌, ◌==◌, Bool, true, false, not, List, length, Some, slice_index, slice_get}
+use Rattle.std.specs.Prelude.{◌≡◌, ℕ, ◌+◌, ◌-◌, ◌<◌, ◌==◌, Bool, true, false, not, List, length, Some, slice_index}
+use Rattle.std.specs.Prelude.{slice_get}
 use Rattle.std.specs.List.{All, AllPairs, Contains}
 use Rattle.ps_game.specs.Games.{ParityGame}
 use Rattle.ps_game.specs.Plays.{IsPath, Follows}
@@ -34,7 +35,8 @@ abbrev pub Shares : Bool → ℕ → ℕ → ℕ → ℕ → Type 0
 Shares true v q w r = v ≡ w
 Shares false v q w r = q ≡ r
 
-pub record IsKept (is_first : Bool) (keys : List Key) (game : ParityGame) (certificate : CertificateData) (v : ℕ) : Type 0 where
+pub record IsKept (is_first : Bool) (keys : List Key) (game : ParityGame) (certificate : CertificateData)
+    (v : ℕ) : Type 0 where
   pub state : ℕ
   pub priority : ℕ
   pub here : IsUsedFirst keys game certificate v state priority
@@ -54,21 +56,23 @@ pub record GoesTo (keys : List Key) (board : Board) (q letter next : ℕ) : Type
   pub stands : StandsAt keys next (First (board.auto.next q letter) (board.auto.priority q letter))
 
 -- A winner who moves first plays the least letter of the class to which its move leads.
-pub record StepsFirst (board : Board) (keys : List Key) (certificate : CertificateData) (v q x letter : ℕ) : Type 0 where
-  pub chosen : ℕ
-  pub choice : choice_of certificate v ≡ Some chosen
-  pub stands : StandsAt keys chosen (Second q letter)
+pub record StepsFirst (board : Board) (keys : List Key) (certificate : CertificateData) (v q x letter : ℕ) : Type 0
+  where
+    pub chosen : ℕ
+    pub choice : choice_of certificate v ≡ Some chosen
+    pub stands : StandsAt keys chosen (Second q letter)
 
 -- A winner who moves second plays its least letter that leads the class to the pair to which its move leads.
-pub record StepsSecond (board : Board) (keys : List Key) (certificate : CertificateData) (v q x letter : ℕ) : Type 0 where
-  pub class : ℕ
-  pub is_class : IsClass board q class
-  pub same : SameSteps board q x class
-  pub at : ℕ
-  pub stands : StandsAt keys at (Second q class)
-  pub chosen : ℕ
-  pub choice : choice_of certificate at ≡ Some chosen
-  pub least : IsLeast (λ y. IsSecondLetter board y × GoesTo keys board q (class + y) chosen) letter
+pub record StepsSecond (board : Board) (keys : List Key) (certificate : CertificateData) (v q x letter : ℕ) : Type 0
+  where
+    pub class : ℕ
+    pub is_class : IsClass board q class
+    pub same : SameSteps board q x class
+    pub at : ℕ
+    pub stands : StandsAt keys at (Second q class)
+    pub chosen : ℕ
+    pub choice : choice_of certificate at ≡ Some chosen
+    pub least : IsLeast (λ y. IsSecondLetter board y × GoesTo keys board q (class + y) chosen) letter
 
 -- what is played at the vertex v of the state q, where the other player's letter is x
 abbrev pub IsPlayed : Bool → Board → List Key → CertificateData → ℕ → ℕ → ℕ → ℕ → Type 0
@@ -80,7 +84,8 @@ abbrev pub IsOther : Bool → Board → ℕ → Type 0
 IsOther true board x = IsSecondLetter board x
 IsOther false board x = IsFirstLetter board x
 
-pub record IsStep (board : Board) (keys : List Key) (kept : List ℕ) (certificate : CertificateData) (m : Behaviour) (memory x : ℕ) : Type 0 where
+pub record IsStep (board : Board) (keys : List Key) (kept : List ℕ) (certificate : CertificateData) (m : Behaviour)
+    (memory x : ℕ) : Type 0 where
   pub vertex : ℕ
   pub state : ℕ
   pub priority : ℕ
@@ -91,7 +96,8 @@ pub record IsStep (board : Board) (keys : List Key) (kept : List ℕ) (certifica
   pub goes : GoesTo keys board state (x + m.plays memory x) entered
   pub next : StandsFor m.is_first keys kept (m.next memory x) entered (board.auto.next state (x + m.plays memory x))
 
-pub record IsMachineOf (board : Board) (mover : ℕ) (keys : List Key) (game : ParityGame) (certificate : CertificateData) (m : Behaviour) : Type 0 where
+pub record IsMachineOf (board : Board) (mover : ℕ) (keys : List Key) (game : ParityGame) (certificate : CertificateData)
+    (m : Behaviour) : Type 0 where
   pub player : m.player ≡ winner certificate
   pub is_first : m.is_first ≡ (mover == winner certificate)
   pub kept : List ℕ
@@ -99,7 +105,8 @@ pub record IsMachineOf (board : Board) (mover : ℕ) (keys : List Key) (game : P
   pub each : All (IsKept m.is_first keys game certificate) kept
   pub complete : (v : ℕ) → IsKept m.is_first keys game certificate v → Contains kept v
   pub memories : m.memories ≡ length kept
-  pub steps : (memory x : ℕ) → memory < m.memories → IsOther m.is_first board x → IsStep board keys kept certificate m memory x
+  pub steps : (memory x : ℕ) → memory < m.memories → IsOther m.is_first board x →
+      IsStep board keys kept certificate m memory x
 
 -- the propositions that the player of the machine reads are those of the other one
 abbrev pub is_others : Bool → Board → ℕ → Bool

@@ -14,7 +14,12 @@ use Rattle.ps_machine.specs.declared.key.Order.{Order}
 
 abbrev pub board_of_file : Order → FileData → Auto → Board
 board_of_file order file auto =
-    record { auto = auto; states = file.states; propositions = length file.names; is_first = is_first_of order file.controllable }
+    record {
+      auto = auto;
+      states = file.states;
+      propositions = length file.names;
+      is_first = is_first_of order file.controllable;
+    }
 
 -- its vertices stand for these keys, of which they have the names
 pub record IsGameOfFile (order : Order) (file : FileData) (game : NamedGameData) : Type 0 where

@@ -3,7 +3,8 @@
 --     digits_of board x      a digit for each proposition of the player who moves first: whether it is true in x
 --     key_name board key      `q/p`, and `q:digits`
 --     AreNamed board keys game      each vertex has its number as id, and the name of its key
-use Rattle.std.specs.Prelude.{◌≡◌, ℕ, zero, suc, List, [], ◌∷◌, ◌++◌, length, map, Option, Some, decimal, codes, if◌then◌else◌, nat_eq}
+use Rattle.std.specs.Prelude.{◌≡◌, ℕ, zero, suc, List, [], ◌∷◌, ◌++◌, length, map, Option, Some, decimal, codes}
+use Rattle.std.specs.Prelude.{if◌then◌else◌, nat_eq}
 use Rattle.std.specs.List.{range_with_len}
 use Rattle.ps_label.specs.Truth.{is_in}
 use Rattle.ps_game.specs.Games.{NamedGameData}

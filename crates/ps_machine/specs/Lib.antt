@@ -1,5 +1,6 @@
 pub mod Assembling
 pub mod Behaviours
+pub mod Behaving
 pub mod Boards
 pub mod Building
 pub mod BuiltBoards

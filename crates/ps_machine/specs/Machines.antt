@@ -40,11 +40,15 @@ behaviour m =
       plays = λ memory x. (step_of m memory x).letter;
     }
 
--- each memory and letter leads to a leaf that names a row, by what is read alone; each row leads to a memory, and plays a letter
+-- each memory and letter leads to a leaf that names a row, by what is read alone; each row leads to a memory, and plays
+-- a letter
 pub record IsWholeMachine (m : MachineData) : Type 0 where
   pub is_machine : IsMachine (behaviour m)
   pub letters : m.store.propositions ≡ length m.names
   pub held : (memory : ℕ) → memory < length m.nodes → IsNode m.store (slice_index m.nodes memory)
-  pub leaves : (memory x : ℕ) → memory < length m.nodes → IsSomeAnd (leaf_of m.store (slice_index m.nodes memory) x) (λ leaf. leaf < length m.rows)
-  pub reads : (memory x y : ℕ) → memory < length m.nodes → AreSameOn m.inputs x y → leaf_of m.store (slice_index m.nodes memory) x ≡ leaf_of m.store (slice_index m.nodes memory) y
-  pub rows : (leaf : ℕ) → leaf < length m.rows → ((row_of m leaf).memory < length m.nodes) × IsOutput (behaviour m) (row_of m leaf).letter
+  pub leaves : (memory x : ℕ) → memory < length m.nodes → IsSomeAnd (leaf_of m.store (slice_index m.nodes memory) x)
+      (λ leaf. leaf < length m.rows)
+  pub reads : (memory x y : ℕ) → memory < length m.nodes → AreSameOn m.inputs x y →
+      leaf_of m.store (slice_index m.nodes memory) x ≡ leaf_of m.store (slice_index m.nodes memory) y
+  pub rows : (leaf : ℕ) → leaf < length m.rows → ((row_of m leaf).memory < length m.nodes) ×
+      IsOutput (behaviour m) (row_of m leaf).letter

@@ -1,6 +1,6 @@
--- Steps of a player who moves first, and the rows that are noted for them: each leaf of the automaton's diagram that such a
--- player's move can lead to has the place of its row, so that the machine's diagram is the automaton's with these places as leaves.
--- (Of private functions.)
+-- Steps of a player who moves first, and the rows that are noted for them: each leaf of the automaton's diagram that
+-- such a player's move can lead to has the place of its row, so that the machine's diagram is the automaton's with
+-- these places as leaves. (Of private functions.)
 --     PlaysClass board keys certificate v q letter      the letter that is played at the vertex v of the state q
 --     IsEntered .. leaf      the step that the leaf names can be taken
 --     IsPlaced .. letter leaf      the leaf's row is noted
@@ -25,15 +25,19 @@ pub record PlaysClass (board : Board) (keys : List Key) (certificate : Certifica
   pub is_class : IsClass board q letter
 
 -- the leaf names a step that leads to the used vertex of its pair
-pub record IsEntered (order : Order) (a : AutomatonData) (keys : List Key) (certificate : CertificateData) (is_first : Bool) (kept marks : List ℕ) (leaf : ℕ) : Type 0 where
+pub record IsEntered (order : Order) (a : AutomatonData) (keys : List Key) (certificate : CertificateData)
+    (is_first : Bool) (kept marks : List ℕ) (leaf : ℕ) : Type 0 where
   pub within : leaf < length a.steps
   pub enters : CanEnter order a keys certificate is_first kept marks (pair_of a leaf).state (pair_of a leaf).priority
 
--- the row at the place that is noted for the leaf plays the letter, and goes on with the memory of the pair that the leaf names
-pub record IsPlaced (a : AutomatonData) (keys : List Key) (is_first : Bool) (kept : List ℕ) (rows : List Row) (places : List ℕ) (letter leaf : ℕ) : Type 0 where
+-- the row at the place that is noted for the leaf plays the letter, and goes on with the memory of the pair that the
+-- leaf names
+pub record IsPlaced (a : AutomatonData) (keys : List Key) (is_first : Bool) (kept : List ℕ) (rows : List Row)
+    (places : List ℕ) (letter leaf : ℕ) : Type 0 where
   pub place : ℕ
   pub is_noted : slice_get places leaf ≡ Some place
   pub row : Row
   pub is_row : slice_get rows place ≡ Some row
   pub plays : row.letter ≡ letter
-  pub next : (v : ℕ) → StandsAt keys v (step_key (pair_of a leaf)) → StandsFor is_first keys kept row.memory v (pair_of a leaf).state
+  pub next : (v : ℕ) → StandsAt keys v (step_key (pair_of a leaf)) →
+      StandsFor is_first keys kept row.memory v (pair_of a leaf).state

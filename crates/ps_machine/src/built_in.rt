@@ -135,7 +135,8 @@ fn counts_of<A: Arena>(
     requires region { length region.now ≡ vertex_count (A.game arena.now) }
     requires strategy { length strategy.now ≡ vertex_count (A.game arena.now) }
     requires holds { Holds (A.game arena.now) player (has region.now) (move_at strategy.now) }
-    ensures ranks { IfOk result (λ r. AreRanks (A.game arena.now) player (has region.now) (move_at strategy.now) r.priorities.items r.counts) }
+    ensures ranks { IfOk result (λ r. AreRanks (A.game arena.now) player (has region.now) (move_at strategy.now)
+        r.priorities.items r.counts) }
     ensures memory { IfErr result (λ fault. fault ≡ faults.OutOfMemory) }
 {
     let mut counts = Counts::default();
@@ -164,7 +165,8 @@ fn entries_of<A: Arena>(
     requires first_rows { length first_rows.now ≡ vertex_count (A.game arena.now) }
     requires second_rows { length second_rows.now ≡ vertex_count (A.game arena.now) }
     ensures { IfOk result
-        (λ entries. AreEntries (A.game arena.now) won.now (move_at first.now) (move_at second.now) first_rows.now second_rows.now (vertex_count (A.game arena.now)) entries) }
+        (λ entries. AreEntries (A.game arena.now) won.now (move_at first.now) (move_at second.now) first_rows.now
+        second_rows.now (vertex_count (A.game arena.now)) entries) }
 {
     let mut entries = Entries::with_capacity(alloc, arena.count(), room)?;
     let mut row = Vec::new(alloc);
@@ -193,8 +195,12 @@ fn add_entry<A: Arena>(
     requires first_rows { length first.1.now ≡ vertex_count (A.game arena.now) }
     requires second { length second.0.now ≡ vertex_count (A.game arena.now) }
     requires second_rows { length second.1.now ≡ vertex_count (A.game arena.now) }
-    ensures won { has won.now vertex ≡ true → OnOk result (Adds (IsEntryAmong (A.game arena.now) 0 (move_at first.entry.0.now) first.entry.1.now vertex) entries.old entries.new) }
-    ensures lost { has won.now vertex ≡ false → OnOk result (Adds (IsEntryAmong (A.game arena.now) 1 (move_at second.entry.0.now) second.entry.1.now vertex) entries.old entries.new) }
+    ensures won { has won.now vertex ≡ true → OnOk result (Adds
+        (IsEntryAmong (A.game arena.now) 0 (move_at first.entry.0.now) first.entry.1.now vertex)
+        entries.old entries.new) }
+    ensures lost { has won.now vertex ≡ false → OnOk result (Adds
+        (IsEntryAmong (A.game arena.now) 1 (move_at second.entry.0.now) second.entry.1.now vertex)
+        entries.old entries.new) }
 {
     if won.contains(vertex) {
         let (strategy, rows) = first;
@@ -218,7 +224,8 @@ fn add_entry_among<A: Arena>(
     requires vertex { vertex < vertex_count (A.game arena.now) }
     requires strategy { length strategy.now ≡ vertex_count (A.game arena.now) }
     requires rows { length rows.now ≡ vertex_count (A.game arena.now) }
-    ensures { OnOk result (Adds (IsEntryAmong (A.game arena.now) player (move_at strategy.now) rows.now vertex) entries.old entries.new) }
+    ensures { OnOk result (Adds (IsEntryAmong (A.game arena.now) player (move_at strategy.now) rows.now vertex)
+        entries.old entries.new) }
 {
     rows.row_into(vertex, row)?;
     entries.push(&entry(arena, vertex, player, strategy, row))?;

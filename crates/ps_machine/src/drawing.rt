@@ -59,7 +59,8 @@ impl Plan<'_> {
     pub fn memory_behind(&self, state: u32, priority: u64) -> usize
         requires { CanEnterBy self.now state priority }
         ensures within { result < length self.now.memories.now.kept.items }
-        ensures stands { (v : ℕ) → StandsAt self.now.keys.now.keys v (First state priority) → StandsFor self.now.moves_first self.now.keys.now.keys self.now.memories.now.kept.items result v state }
+        ensures stands { (v : ℕ) → StandsAt self.now.keys.now.keys v (First state priority) →
+            StandsFor self.now.moves_first self.now.keys.now.keys self.now.memories.now.kept.items result v state }
     {
         let key = Key::First { state, priority };
         let vertex = self.keys.get_index_of(&key).unwrap();
@@ -179,7 +180,8 @@ fn rest_of(classes: &[Class], letter: u64) -> Node
 /// Notes the place of a leaf's row, where there may be none yet for lesser leaves.
 fn note(places: &mut Vec<u64>, leaf: u64, place: u64) -> Result<(), AllocError>
     ensures noted { OnOk result (slice_get places.new.items leaf ≡ Some place) }
-    ensures others { OnOk result ((other n : ℕ) → other ≢ leaf → slice_get places.old.items other ≡ Some n → slice_get places.new.items other ≡ Some n) }
+    ensures others { OnOk result ((other n : ℕ) → other ≢ leaf → slice_get places.old.items other ≡ Some n →
+        slice_get places.new.items other ≡ Some n) }
 {
     let leaf = leaf as usize;
     if places.len() < leaf {

@@ -52,10 +52,13 @@ pub fn extract(
     requires game { (keys : List Key) × IsGameOf (board_of order automaton.now) (mover_of order) keys game.now.game }
     requires fits { Fits game.now.game certificate.now }
     requires valid { IsValid game.now.game certificate.now }
-    ensures machine { IfOk result (λ m. (keys : List Key) → IsGameOf (board_of order automaton.now) (mover_of order) keys game.now.game →
+    ensures machine { IfOk result (λ m. (keys : List Key) → IsGameOf (board_of order automaton.now) (mover_of order)
+        keys game.now.game →
         IsMachineOf (board_of order automaton.now) (mover_of order) keys game.now.game certificate.now (behaviour m)) }
-    ensures propositions { IfOk result (λ m. HasPropositions automaton.now.names (board_of order automaton.now) (behaviour m)) }
-    ensures won { IfOk result (λ m. (file : FileData) (chain : Chain) → IsBuiltFrom file chain automaton.now → LassosWon file (behaviour m)) }
+    ensures propositions { IfOk result (λ m. HasPropositions automaton.now.names (board_of order automaton.now)
+        (behaviour m)) }
+    ensures won { IfOk result (λ m. (file : FileData) (chain : Chain) → IsBuiltFrom file chain automaton.now →
+        LassosWon file (behaviour m)) }
 {
     let keyed = AutomatonGame::build(alloc, automaton, order)?;
     machine_of_certificate(alloc, automaton, order, &keyed, certificate)
@@ -77,11 +80,14 @@ pub fn machine_of_certificate(
     requires classes { HasClasses order automaton.now game.now }
     requires fits { Fits game.now.game.game certificate.now }
     requires valid { IsValid game.now.game.game certificate.now }
-    ensures machine { IfOk result (λ m. IsMachineOf (board_of order automaton.now) (mover_of order) game.now.keys.keys game.now.game.game certificate.now (behaviour m)) }
-    ensures propositions { IfOk result (λ m. HasPropositions automaton.now.names (board_of order automaton.now) (behaviour m)) }
-    ensures won { IfOk result (λ m. (file : FileData) (chain : Chain) → IsBuiltFrom file chain automaton.now → LassosWon file (behaviour m)) }
+    ensures machine { IfOk result (λ m. IsMachineOf (board_of order automaton.now) (mover_of order) game.now.keys.keys
+        game.now.game.game certificate.now (behaviour m)) }
+    ensures propositions { IfOk result (λ m. HasPropositions automaton.now.names (board_of order automaton.now)
+        (behaviour m)) }
+    ensures won { IfOk result (λ m. (file : FileData) (chain : Chain) → IsBuiltFrom file chain automaton.now →
+        LassosWon file (behaviour m)) }
 {
-    let moves_first = order.mover() == certificate.winner(0);
+    let moves_first = order.mover().number() == certificate.winner(0);
     let memories = memories_of(
         alloc,
         game.keys.as_slice(),
@@ -112,7 +118,8 @@ fn memories_of(
     requires some { 0 < vertex_count game.now }
     requires fits { Fits game.now certificate.now }
     requires valid { IsValid game.now certificate.now }
-    ensures { IfOk result (λ memories. (used : List ℕ) × AreUsed game.now certificate.now used × AreMemories moves_first keys.now used memories.kept.items memories.marks.keys) }
+    ensures { IfOk result (λ memories. (used : List ℕ) × AreUsed game.now certificate.now used ×
+        AreMemories moves_first keys.now used memories.kept.items memories.marks.keys) }
 {
     let used = used_vertices(alloc, game, certificate)?;
     remembered(alloc, keys, &used, moves_first)
@@ -128,7 +135,8 @@ fn machine_by(alloc: Global, plan: &Plan<'_>) -> Result<Machine, AllocError>
         (behaviour m)) }
     ensures propositions { IfOk result
         (λ m. HasPropositions plan.now.automaton.now.names (board_by plan.now) (behaviour m)) }
-    ensures won { IfOk result (λ m. (file : FileData) (chain : Chain) → IsBuiltFrom file chain plan.now.automaton.now → LassosWon file (behaviour m)) }
+    ensures won { IfOk result (λ m. (file : FileData) (chain : Chain) → IsBuiltFrom file chain plan.now.automaton.now →
+        LassosWon file (behaviour m)) }
 {
     let diagrams = draw(alloc, plan)?;
     let propositions = roles(alloc, plan.automaton, plan.order, plan.moves_first)?;
@@ -184,7 +192,8 @@ fn roles(
     ensures few { length automaton.now.names ≤ 64 }
     ensures sound { AreNames automaton.now.names }
     ensures names { IfOk result (λ p. map bytes_of p.names.items ≡ automaton.now.names) }
-    ensures roles { IfOk result (λ p. HasRoles moves_first (board_of order automaton.now) p.inputs.items p.outputs.items) }
+    ensures roles { IfOk result (λ p. HasRoles moves_first (board_of order automaton.now) p.inputs.items
+        p.outputs.items) }
 {
     let mut inputs = Vec::new(alloc);
     let mut outputs = Vec::new(alloc);

@@ -9,10 +9,11 @@ ghost use Rattle.ps_automaton.specs.Chains.{Chain};
 ghost use Rattle.ps_game.specs.Games.{NamedGameData, ParityGame};
 ghost use Rattle.ps_certificate.specs.Certificates.{CertificateData, Fits, IsValid};
 ghost use Rattle.ps_machine.specs.Behaviours.{Behaviour, IsMachine, LassosWon};
+ghost use Rattle.ps_machine.specs.Behaving.{BehavesAs};
 ghost use Rattle.ps_machine.specs.Boards.{Board, IsGameOf};
 ghost use Rattle.ps_machine.specs.BuiltBoards.{board_of};
 ghost use Rattle.ps_machine.specs.Extracting.{HasPropositions, IsMachineOf};
-ghost use Rattle.ps_machine.specs.FileGames.{IsGameOfFile};
+ghost use Rattle.ps_machine.specs.FileGames.{IsGameOfFile, board_of_file};
 ghost use Rattle.ps_machine.specs.Keys.{mover_of};
 ghost use Rattle.ps_machine.specs.declared.key.Key.{Key};
 ghost use Rattle.ps_machine.specs.declared.key.Order.{Order};
@@ -20,9 +21,12 @@ ghost use Rattle.ps_machine.specs.declared.key.Order.{Order};
 /// Of the machine of a valid certificate of an automaton's game each word is won by the winner of vertex 0: the
 /// automaton accepts all of them if that is player 0, and else none.
 pub fn lassos_won()
-    ensures { (file : FileData) (chain : Chain) (a : AutomatonData) (order : Order) (keys : List Key) (game : ParityGame) (certificate : CertificateData) (m : Behaviour) →
-        IsBuiltFrom file chain a → IsGameOf (board_of order a) (mover_of order) keys game → Fits game certificate → IsValid game certificate →
-        IsMachine m → HasPropositions a.names (board_of order a) m → IsMachineOf (board_of order a) (mover_of order) keys game certificate m → LassosWon file m }
+    ensures { (file : FileData) (chain : Chain) (a : AutomatonData) (order : Order) (keys : List Key)
+        (game : ParityGame) (certificate : CertificateData) (m : Behaviour) →
+        IsBuiltFrom file chain a → IsGameOf (board_of order a) (mover_of order) keys game → Fits game certificate →
+        IsValid game certificate →
+        IsMachine m → HasPropositions a.names (board_of order a) m →
+        IsMachineOf (board_of order a) (mover_of order) keys game certificate m → LassosWon file m }
 {}
 
 /// A board has one game at most: two games of it have the same keys, and are the same.
@@ -34,7 +38,8 @@ pub fn one_game()
 /// A file has one game at most in each order of moves, names and ids too: its automata may differ only where no play
 /// comes.
 pub fn one_game_of_file()
-    ensures { (order : Order) (file : FileData) (game other : NamedGameData) → IsGameOfFile order file game → IsGameOfFile order file other → game ≡ other }
+    ensures { (order : Order) (file : FileData) (game other : NamedGameData) → IsGameOfFile order file game →
+        IsGameOfFile order file other → game ≡ other }
 {}
 
 /// Each file that was read and is admitted has a game, in each order of moves.
@@ -49,5 +54,27 @@ pub fn machine_is_there()
         (certificate : CertificateData) →
         length names ≤ 64 → AreNames names → length names ≡ board.propositions → mover < 2 →
         IsGameOf board mover keys game → Fits game certificate → IsValid game certificate →
-        (m : Behaviour) × IsMachine m × HasPropositions names board m × IsMachineOf board mover keys game certificate m }
+        (m : Behaviour) × IsMachine m × HasPropositions names board m ×
+        IsMachineOf board mover keys game certificate m }
+{}
+
+/// A certificate has one machine at most: any two of a board's game and one certificate have the same propositions and
+/// player, and do the same at each memory, whatever is read.
+pub fn one_machine()
+    ensures { (names : List (List ℕ)) (board : Board) (mover : ℕ) (keys : List Key) (game : ParityGame)
+        (certificate : CertificateData) → IsGameOf board mover keys game → (m o : Behaviour) →
+        IsMachine m → IsMachine o → HasPropositions names board m → HasPropositions names board o →
+        IsMachineOf board mover keys game certificate m → IsMachineOf board mover keys game certificate o →
+        BehavesAs m o }
+{}
+
+/// So has one of a file's game, although the automata of a file may differ where no play comes.
+pub fn one_machine_of_file()
+    ensures { (order : Order) (file : FileData) (game : NamedGameData) (first second : IsGameOfFile order file game)
+        (certificate : CertificateData) (m o : Behaviour) → IsMachine m → IsMachine o →
+        HasPropositions file.names (board_of_file order file first.auto) m →
+        HasPropositions file.names (board_of_file order file second.auto) o →
+        IsMachineOf (board_of_file order file first.auto) (mover_of order) first.keys game.game certificate m →
+        IsMachineOf (board_of_file order file second.auto) (mover_of order) second.keys game.game certificate o →
+        BehavesAs m o }
 {}

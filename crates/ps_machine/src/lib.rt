@@ -24,6 +24,7 @@
 //! | `one_game`, `one_game_of_file` | an automaton, and a file, have one game at most in each order of moves |
 //! | `game_is_there` | a file that is admitted has one |
 //! | `machine_is_there` | a valid certificate of an automaton's game has a machine |
+//! | `one_machine`, `one_machine_of_file` | and one only; so has one of a file's game |
 #![tactic(auto)]
 
 mod built_in;
@@ -48,7 +49,10 @@ pub use extracting::{extract, machine_of_certificate};
 pub use fault::SolveFault;
 pub use game::{AutomatonGame, game_of};
 pub use key::{Key, Order};
-pub use laws::{game_is_there, lassos_won, machine_is_there, one_game, one_game_of_file};
+pub use laws::{
+    game_is_there, lassos_won, machine_is_there, one_game, one_game_of_file, one_machine,
+    one_machine_of_file,
+};
 pub use machine::{Machine, Row};
 pub use numbering::{KeyedGame, Successors, game_by_keys};
 pub use replay::Replay;

@@ -64,9 +64,28 @@ impl Model for Machine {
 
     ghost Value = { MachineData };
 
-    ghost view = { λ m. record { names = map bytes_of m.names.items; inputs = m.inputs.items; outputs = m.outputs.items; player = m.player; is_first = m.moves_first; store = m.store; nodes = m.nodes.items; rows = m.rows.keys } };
+    ghost view = { λ m. record {
+      names = map bytes_of m.names.items;
+      inputs = m.inputs.items;
+      outputs = m.outputs.items;
+      player = m.player;
+      is_first = m.moves_first;
+      store = m.store;
+      nodes = m.nodes.items;
+      rows = m.rows.keys;
+    } };
 
-    ghost invariant = { λ m. IsWholeMachine (record { names = map bytes_of m.names.items; inputs = m.inputs.items; outputs = m.outputs.items; player = m.player; is_first = m.moves_first; store = m.store; nodes = m.nodes.items; rows = m.rows.keys }) };
+    ghost invariant = { λ m. IsWholeMachine (record {
+      names = map bytes_of m.names.items;
+      inputs = m.inputs.items;
+      outputs = m.outputs.items;
+      player =
+          m.player;
+      is_first = m.moves_first;
+      store = m.store;
+      nodes = m.nodes.items;
+      rows = m.rows.keys;
+    }) };
 }
 
 impl Machine {

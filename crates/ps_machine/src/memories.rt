@@ -23,7 +23,8 @@ pub(crate) fn remembered(
     used: &IndexSet<usize>,
     moves_first: bool,
 ) -> Result<Memories, AllocError>
-    ensures { IfOk result (λ memories. AreMemories moves_first keys.now used.now.keys memories.kept.items memories.marks.keys) }
+    ensures { IfOk result (λ memories. AreMemories moves_first keys.now used.now.keys memories.kept.items
+        memories.marks.keys) }
 {
     let mut memories = Memories {
         kept: Vec::new(alloc),
@@ -50,7 +51,8 @@ pub(crate) fn mark(moves_first: bool, vertex: usize, state: u32) -> usize
 impl Memories {
     /// Keeps a memory at a vertex, unless there is one with that mark.
     fn keep(&mut self, vertex: usize, mark: usize) -> Result<(), AllocError>
-        ensures { OnOk result (KeepsAt self.old.kept.items self.old.marks.keys vertex mark self.new.kept.items self.new.marks.keys) }
+        ensures { OnOk result (KeepsAt self.old.kept.items self.old.marks.keys vertex mark self.new.kept.items
+            self.new.marks.keys) }
     {
         if self.marks.insert(mark)? {
             self.kept.push(vertex)?;

@@ -31,7 +31,8 @@ pub trait Solver: Drop {
     /// none takes each.
     fn feed(&mut self, text: &[u8]) -> Result<(), AllocError>
         ensures steady { is_sure self.new ≡ is_sure self.old }
-        ensures same { (text : Option (List ℕ)) (game : NamedGameData) (answer : Result CertificateData SolveFault) → may_answer self.new text game answer → may_answer self.old text game answer }
+        ensures same { (text : Option (List ℕ)) (game : NamedGameData) (answer : Result CertificateData SolveFault) →
+            may_answer self.new text game answer → may_answer self.old text game answer }
         ensures unkept { fed self.old ≡ None → IsOk result }
         ensures ok { OnOk result (KeepsText text.now (fed self.old) (fed self.new)) }
         ensures err { OnErr result (fed self.new ≡ fed self.old) };
@@ -42,7 +43,8 @@ pub trait Solver: Drop {
         ensures surely { is_sure self.old ≡ true → AnswersSurely game.now result }
         ensures cycle { NamesVertices game.now result }
         ensures kept { fed self.new ≡ fed self.old }
-        ensures same { (text : Option (List ℕ)) (game : NamedGameData) (answer : Result CertificateData SolveFault) → may_answer self.new text game answer → may_answer self.old text game answer }
+        ensures same { (text : Option (List ℕ)) (game : NamedGameData) (answer : Result CertificateData SolveFault) →
+            may_answer self.new text game answer → may_answer self.old text game answer }
         ensures answered { may_answer self.old (fed self.old) game.now result }
         ensures recorded { gave self.new game.now result };
 }

@@ -1,20 +1,21 @@
 -- Least counts are there, or a cycle that is lost: counts are raised along the edges that remain until none has to be.
-use Rattle.std.proofs.Common.{◌≡◌, ℕ, zero, suc, ◌+◌, ◌-◌, ◌*◌, ◌%◌, ◌<◌, ◌≤◌, ◌⊎◌, ◌∙◌, List, [], ◌∷◌, ◌++◌, length, map, max, get_or, inl, inr, refl, sym, ap, subst, arith, add-one, Option, Some, Bool, true, false, cond, not, nat_le, nat_eq, ◌&&◌, ◌||◌, filter}
+use Rattle.std.proofs.Common.{◌≡◌, ℕ, zero, suc, ◌+◌, ◌-◌, ◌*◌, ◌%◌, ◌<◌, ◌≤◌, ◌⊎◌, ◌∙◌, List, [], ◌∷◌, ◌++◌, length}
+use Rattle.std.proofs.Common.{map, max, get_or, inl, inr, refl, sym, ap, subst, arith, add-one, Option, Some, Bool}
+use Rattle.std.proofs.Common.{true, false, cond, not, nat_le, nat_eq, ◌&&◌, ◌||◌}
 use Rattle.std.specs.Prelude.{slice_get, ◌==◌}
 use Rattle.std.specs.Cmp.{nat_eq_equiv}
 use Rattle.std.specs.List.{All, Contains, list_any, range_with_len}
-use Rattle.std.specs.List.Sorted.{IsStrictlyIncreasing}
 use Rattle.std.proofs.Math.Nat.{le-max_left, le-max_right}
-use Rattle.std.proofs.lemmas.Bool.{cases_Bool, cases_eq, cases_lt, eqb-true, eq-eqb, ne_eqb, and_parts, and_from, or_cases, or_left, or_right, leb-true, le-leb, not-true}
+use Rattle.std.proofs.lemmas.Bool.{cases_Bool, cases_eq, cases_lt, eqb-true, eq-eqb, ne_eqb, and_parts, and_from}
+use Rattle.std.proofs.lemmas.Bool.{or_cases, or_left, or_right, leb-true, le-leb, not-true}
 use Rattle.std.proofs.lemmas.List.{get_or_past}
-use Rattle.std.proofs.lemmas.List.Elements.{filter_passes}
-use Rattle.std.proofs.lemmas.List.FromFn.{get_or-map-range_with_len, get_or-range_with_len, length-map-range_with_len, length-range_with_len}
-use Rattle.std.proofs.lemmas.List.Kept.{IsStrictlyIncreasing-filter}
+use Rattle.std.proofs.lemmas.List.FromFn.{get_or-map-range_with_len, length-map-range_with_len}
 use Rattle.std.proofs.lemmas.Map.Views.{Contains-from_any, list_any-from_Contains}
 use Rattle.std.proofs.lemmas.Option.{slice_get-get_or, slice_get_past}
 use Rattle.ps_game.specs.Games.{ParityGame, HasEdge, vertex_count, owner_of, priority_of, successors_of, no_vertex}
 use Rattle.ps_game.specs.Plays.{Holds, greatest, other_player}
 use Rattle.ps_game.specs.Ranking.{RemainsWithin, KeepRuleWithin, ListsPriorities}
+use Rattle.ps_game.proofs.PriorityLists.{priorities_there}
 use Rattle.ps_measure.specs.Ranks.{AreLeastFor, AreRanks, IsLostCycle, count_in, count_of, count_with, width_in}
 use Rattle.ps_measure.specs.Remaining.{is_move}
 use Rattle.ps_measure.specs.Sums.{sum_below, count_below, counted}
@@ -59,18 +60,23 @@ fewer true false = omega arith
 fewer false c = omega arith
 
 -- different numbers below n that pass a test are no more than those that do
-fits : (h : ℕ → Bool) (n : ℕ) (us : List ℕ) → Distinct us → ((u : ℕ) → Contains us u → (h u ≡ true) × (u < n)) → length us ≤ count_below h n
+fits : (h : ℕ → Bool) (n : ℕ) (us : List ℕ) → Distinct us → ((u : ℕ) → Contains us u → (h u ≡ true) × (u < n)) →
+    length us ≤ count_below h n
 fits h n [] d each = omega arith
 fits h n (u ∷ us) d each =
     let others : ℕ → Bool = λ v. h v && not (v == u) in
     let rest : length us ≤ count_below others n = fits others n us d.1 (λ v c. (
-      and_from (h v) (not (v == u)) (each v (later_one u v us c)).0 (ap not (ne_eqb v u (λ e. d.0 (subst (Contains us) e c)))),
+      and_from (h v) (not (v == u)) (each v (later_one u v us c)).0
+          (ap not (ne_eqb v u (λ e. d.0 (subst (Contains us) e c)))),
       (each v (later_one u v us c)).1,
     )) in
     let here : h u ≡ true = (each u (first_one u us)).0 in
-    let left : counted (others u) ≡ 0 = ap (λ b. counted (b && not (u == u))) here ∙ ap (λ b. counted (not b)) (eq-eqb u u refl) in
+    let left : counted (others u) ≡ 0 = ap (λ b. counted (b && not (u == u))) here
+    ∙ ap (λ b. counted (not b)) (eq-eqb u u refl) in
     let right : counted (h u) ≡ 1 = ap counted here in
-    let more : count_below others n + 1 ≤ count_below h n = sum_below-more (λ v. counted (others v)) (λ v. counted (h v)) n u 1 (each u (first_one u us)).1 (λ v below. fewer (h v) (not (v == u))) (omega (arith, left, right)) in
+    let more : count_below others n + 1 ≤ count_below h n =
+    sum_below-more (λ v. counted (others v)) (λ v. counted (h v)) n u 1 (each u (first_one u us)).1
+    (λ v below. fewer (h v) (not (v == u))) (omega (arith, left, right)) in
     omega (arith, rest, more)
 
 module _ (game : ParityGame) (player : ℕ) (set : ℕ → Bool) (table : ℕ → Option ℕ) (p : ℕ) where
@@ -81,7 +87,9 @@ module _ (game : ParityGame) (player : ℕ) (set : ℕ → Bool) (table : ℕ �
   Goes v w = RemainsWithin game player set table v w × (priority_of game v ≤ p) × (priority_of game w ≤ p)
 
   goes : ℕ → ℕ → Bool
-  goes v w = (set v && set w) && ((not (owner_of game v == player) || is_move (table v) w) && (nat_le (priority_of game v) p && nat_le (priority_of game w) p))
+  goes v w =
+      (set v && set w) && ((not (owner_of game v == player) || is_move (table v) w) &&
+      (nat_le (priority_of game v) p && nat_le (priority_of game w) p))
 
   heavy : ℕ → Bool
   heavy v = (priority_of game v == p) && set v
@@ -92,9 +100,13 @@ module _ (game : ParityGame) (player : ℕ) (set : ℕ → Bool) (table : ℕ �
   goes_so : (v w : ℕ) → HasEdge game v w → goes v w ≡ true → Goes v w
   unfolding goes
   goes_so v w edge is =
-      let parts = and_parts (set v && set w) ((not (owner_of game v == player) || is_move (table v) w) && (nat_le (priority_of game v) p && nat_le (priority_of game w) p)) is in
+      let parts =
+      and_parts (set v && set w) ((not (owner_of game v == player) || is_move (table v) w) &&
+      (nat_le (priority_of game v) p && nat_le (priority_of game w) p)) is in
       let ends = and_parts (set v) (set w) parts.0 in
-      let more = and_parts (not (owner_of game v == player) || is_move (table v) w) (nat_le (priority_of game v) p && nat_le (priority_of game w) p) parts.1 in
+      let more =
+      and_parts (not (owner_of game v == player) || is_move (table v) w)
+      (nat_le (priority_of game v) p && nat_le (priority_of game w) p) parts.1 in
       let low = and_parts (nat_le (priority_of game v) p) (nat_le (priority_of game w) p) more.1 in (
         record {
           from = ends.0;
@@ -102,7 +114,8 @@ module _ (game : ParityGame) (player : ℕ) (set : ℕ → Bool) (table : ℕ �
           remains = record {
             edge = edge;
             chosen = λ own. elim (or_cases (not (owner_of game v == player)) (is_move (table v) w) more.0) [
-              | inl other ↦ absurd (clash (owner_of game v == player) (eq-eqb (owner_of game v) player own) (not-true (owner_of game v == player) other))
+              | inl other ↦ absurd (clash (owner_of game v == player) (eq-eqb (owner_of game v) player own)
+                  (not-true (owner_of game v == player) other))
               | inr chosen ↦ is_move-some (table v) w chosen
             ];
           };
@@ -114,15 +127,20 @@ module _ (game : ParityGame) (player : ℕ) (set : ℕ → Bool) (table : ℕ �
   so_goes : (v w : ℕ) → Goes v w → goes v w ≡ true
   unfolding goes
   so_goes v w g =
-      and_from (set v && set w) ((not (owner_of game v == player) || is_move (table v) w) && (nat_le (priority_of game v) p && nat_le (priority_of game w) p))
+      and_from (set v && set w) ((not (owner_of game v == player) || is_move (table v) w) &&
+      (nat_le (priority_of game v) p && nat_le (priority_of game w) p))
       (and_from (set v) (set w) g.0.from g.0.to)
-      (and_from (not (owner_of game v == player) || is_move (table v) w) (nat_le (priority_of game v) p && nat_le (priority_of game w) p) moves
-      (and_from (nat_le (priority_of game v) p) (nat_le (priority_of game w) p) (le-leb (priority_of game v) p g.1) (le-leb (priority_of game w) p g.2)))
+      (and_from (not (owner_of game v == player) || is_move (table v) w)
+      (nat_le (priority_of game v) p && nat_le (priority_of game w) p) moves
+      (and_from (nat_le (priority_of game v) p) (nat_le (priority_of game w) p) (le-leb (priority_of game v) p g.1)
+      (le-leb (priority_of game w) p g.2)))
     where
       moves : (not (owner_of game v == player) || is_move (table v) w) ≡ true
       moves = elim (cases_eq (owner_of game v) player) [
-        | inl own ↦ or_right (not (owner_of game v == player)) (is_move (table v) w) (some-is_move (table v) w (g.0.remains.chosen own))
-        | inr other ↦ or_left (not (owner_of game v == player)) (is_move (table v) w) (ap not (ne_eqb (owner_of game v) player other))
+        | inl own ↦ or_right (not (owner_of game v == player)) (is_move (table v) w)
+            (some-is_move (table v) w (g.0.remains.chosen own))
+        | inr other ↦ or_left (not (owner_of game v == player)) (is_move (table v) w)
+            (ap not (ne_eqb (owner_of game v) player other))
       ]
 
   -- such edges lead from v through the vertices of the list to u
@@ -130,7 +148,8 @@ module _ (game : ParityGame) (player : ℕ) (set : ℕ → Bool) (table : ℕ �
   IsRun v [] u = Goes v u
   IsRun v (w ∷ ws) u = Goes v w × IsRun w ws u
 
-  run_join : (v : ℕ) (ws : List ℕ) (x : ℕ) (xs : List ℕ) (u : ℕ) → IsRun v ws x → IsRun x xs u → IsRun v (ws ++ x ∷ xs) u
+  run_join : (v : ℕ) (ws : List ℕ) (x : ℕ) (xs : List ℕ) (u : ℕ) → IsRun v ws x → IsRun x xs u →
+      IsRun v (ws ++ x ∷ xs) u
   run_join v [] x xs u one other = (one, other)
   run_join v (w ∷ ws) x xs u one other = (one.0, run_join w ws x xs u one.1 other)
 
@@ -146,7 +165,8 @@ module _ (game : ParityGame) (player : ℕ) (set : ℕ → Bool) (table : ℕ �
   reaches_join v x u (inr a) (inl e) = inr (a.0, subst (IsRun v a.0) e a.1)
   reaches_join v x u (inr a) (inr b) = inr (a.0 ++ x ∷ b.0, run_join v a.0 x b.0 u a.1 b.1)
 
-  -- vertices of the set of priority p, the first of them reached from v, each later one behind an edge of the one before
+  -- vertices of the set of priority p, the first of them reached from v, each later one behind an edge of the one
+  -- before
   abbrev IsChain : ℕ → List ℕ → Type 0
   IsChain v [] = Unit {0}
   IsChain v (u ∷ us) = Reaches v u × (heavy u ≡ true) × ((w : ℕ) × Goes u w × IsChain w us)
@@ -159,11 +179,14 @@ module _ (game : ParityGame) (player : ℕ) (set : ℕ → Bool) (table : ℕ �
   chain_reaches v [] c k u within is = absurd (omega (arith, within))
   chain_reaches v (x ∷ us) c zero u within is = subst (Reaches v) is c.0
   chain_reaches v (x ∷ us) c (suc k) u within is =
-      reaches_join v x u c.0 (inr (run_from x c.2.0 u c.2.1 (chain_reaches c.2.0 us c.2.2 k u (omega (arith, within)) is)))
+      reaches_join v x u c.0 (inr (run_from x c.2.0 u c.2.1 (chain_reaches c.2.0 us c.2.2 k u
+      (omega (arith, within)) is)))
 
-  chain_heavy : (v : ℕ) (us : List ℕ) → IsChain v us → (k u : ℕ) → k < length us → get_or us k u ≡ u → (heavy u ≡ true) × (u < vertex_count game)
+  chain_heavy : (v : ℕ) (us : List ℕ) → IsChain v us → (k u : ℕ) → k < length us → get_or us k u ≡ u →
+      (heavy u ≡ true) × (u < vertex_count game)
   chain_heavy v [] c k u within is = absurd (omega (arith, within))
-  chain_heavy v (x ∷ us) c zero u within is = (ap heavy (sym is) ∙ c.1, subst (λ y. y < vertex_count game) is c.2.1.0.remains.edge.0)
+  chain_heavy v (x ∷ us) c zero u within is =
+      (ap heavy (sym is) ∙ c.1, subst (λ y. y < vertex_count game) is c.2.1.0.remains.edge.0)
   chain_heavy v (x ∷ us) c (suc k) u within is = chain_heavy c.2.0 us c.2.2 k u (omega (arith, within)) is
 
   -- ## A cycle that is lost
@@ -180,7 +203,11 @@ module _ (game : ParityGame) (player : ℕ) (set : ℕ → Bool) (table : ℕ �
           let at = Contains-from_any (λ x y h. eqb-true x y h) u us there in
           let run = run_from u c.2.0 u c.2.1 (chain_reaches c.2.0 us c.2.2 at.0 u at.1 at.2) in
           inr (u, run.0, c.1, run.1)
-      | inr absent ↦ inl ((λ again. clash (list_any (nat_eq u) us) (list_any-from_Contains nat_eq_equiv u us again) absent), d)
+      | inr absent ↦ inl (
+        (λ again. clash (list_any (nat_eq u) us)
+            (list_any-from_Contains nat_eq_equiv u us again) absent),
+        d,
+      )
     ]
   ]
 
@@ -192,7 +219,8 @@ module _ (game : ParityGame) (player : ℕ) (set : ℕ → Bool) (table : ℕ �
   ]
 
   -- each place of a run goes on, and the last one to its end
-  run_edges : (v : ℕ) (ws : List ℕ) (u k : ℕ) → IsRun v ws u → suc k < length (v ∷ ws) → Goes (get_or (v ∷ ws) k 0) (get_or (v ∷ ws) (suc k) 0)
+  run_edges : (v : ℕ) (ws : List ℕ) (u k : ℕ) → IsRun v ws u → suc k < length (v ∷ ws) →
+      Goes (get_or (v ∷ ws) k 0) (get_or (v ∷ ws) (suc k) 0)
   run_edges v [] u k r within = absurd (omega (arith, within))
   run_edges v (w ∷ ws) u zero r within = r.0
   run_edges v (w ∷ ws) u (suc k) r within = run_edges w ws u k r.1 (omega (arith, within))
@@ -212,8 +240,12 @@ module _ (game : ParityGame) (player : ℕ) (set : ℕ → Bool) (table : ℕ �
     record {
       some = omega arith;
       vertices = λ k within. (at k within).1.0.remains.edge.0;
-      edges = λ k within. subst (λ j. RemainsWithin game player set table (get_or cycle k 0) (get_or cycle j 0)) (sym (add-one k)) (run_edges l.0 l.1 l.0 k l.3 (omega (arith, within))).0;
-      closes = subst (λ k. RemainsWithin game player set table (get_or cycle k 0) l.0) (let e : length l.1 ≡ length cycle - 1 = omega arith in e) (run_ends l.0 l.1 l.0 l.3).0;
+      edges =
+          λ k within. subst (λ j. RemainsWithin game player set table (get_or cycle k 0) (get_or cycle j 0))
+          (sym (add-one k)) (run_edges l.0 l.1 l.0 k l.3 (omega (arith, within))).0;
+      closes =
+          subst (λ k. RemainsWithin game player set table (get_or cycle k 0) l.0)
+          (let e : length l.1 ≡ length cycle - 1 = omega arith in e) (run_ends l.0 l.1 l.0 l.3).0;
       lost = ap (λ n. n % 2) top ∙ parity;
     },
   )
@@ -246,11 +278,13 @@ module _ (game : ParityGame) (player : ℕ) (set : ℕ → Bool) (table : ℕ �
   counts zero v = 0
   counts (suc k) v = best (counts k) v (successors_of game v)
 
-  best_above : (d : ℕ → ℕ) (v : ℕ) (ws : List ℕ) (k w : ℕ) → k < length ws → get_or ws k w ≡ w → goes v w ≡ true → d w + weight v ≤ best d v ws
+  best_above : (d : ℕ → ℕ) (v : ℕ) (ws : List ℕ) (k w : ℕ) → k < length ws → get_or ws k w ≡ w → goes v w ≡ true →
+      d w + weight v ≤ best d v ws
   unfolding best
   best_above d v [] k w within is g = absurd (omega (arith, within))
   best_above d v (x ∷ ws) zero w within is g =
-      let term : cond (goes v x) (d x + weight v) 0 ≡ d w + weight v = ap (λ y. cond (goes v y) (d y + weight v) 0) is ∙ ap (λ b. cond b (d w + weight v) 0) g in
+      let term : cond (goes v x) (d x + weight v) 0 ≡ d w + weight v = ap (λ y. cond (goes v y) (d y + weight v) 0) is
+      ∙ ap (λ b. cond b (d w + weight v) 0) g in
       let left = le-max_left (cond (goes v x) (d x + weight v) 0) (best d v ws) in
       omega (arith, term, left)
   best_above d v (x ∷ ws) (suc k) w within is g =
@@ -258,7 +292,8 @@ module _ (game : ParityGame) (player : ℕ) (set : ℕ → Bool) (table : ℕ �
       let rest = best_above d v ws k w (omega (arith, within)) is g in
       omega (arith, right, rest)
 
-  best_of : (d : ℕ → ℕ) (v : ℕ) (ws : List ℕ) → 0 < best d v ws → (w : ℕ) × Contains ws w × (goes v w ≡ true) × (best d v ws ≡ d w + weight v)
+  best_of : (d : ℕ → ℕ) (v : ℕ) (ws : List ℕ) → 0 < best d v ws →
+      (w : ℕ) × Contains ws w × (goes v w ≡ true) × (best d v ws ≡ d w + weight v)
   unfolding best
   best_of d v [] some = absurd (omega (arith, some))
   best_of d v (x ∷ ws) some = elim (cases_lt (best d v ws) (cond (goes v x) (d x + weight v) 0)) [
@@ -268,13 +303,20 @@ module _ (game : ParityGame) (player : ℕ) (set : ℕ → Bool) (table : ℕ �
         (rest.0, later_one x rest.0 ws rest.1, rest.2, omega (arith, most, rest.3))
   ]
     where
-      by : (b : Bool) → goes v x ≡ b → best d v ws < cond (goes v x) (d x + weight v) 0 → (w : ℕ) × Contains (x ∷ ws) w × (goes v w ≡ true) × (max (cond (goes v x) (d x + weight v) 0) (best d v ws) ≡ d w + weight v)
-      by true e less = (let term : cond (goes v x) (d x + weight v) 0 ≡ d x + weight v = ap (λ c. cond c (d x + weight v) 0) e in (x, first_one x ws, e, omega (arith, term, less)))
-      by false e less = (let term : cond (goes v x) (d x + weight v) 0 ≡ 0 = ap (λ c. cond c (d x + weight v) 0) e in absurd (omega (arith, term, less)))
+      by : (b : Bool) → goes v x ≡ b → best d v ws < cond (goes v x) (d x + weight v) 0 →
+          (w : ℕ) × Contains (x ∷ ws) w × (goes v w ≡ true) × (max (cond (goes v x) (d x + weight v) 0) (best d v ws) ≡
+          d w + weight v)
+      by true e less =
+          (let term : cond (goes v x) (d x + weight v) 0 ≡ d x + weight v = ap (λ c. cond c (d x + weight v) 0) e in
+          (x, first_one x ws, e, omega (arith, term, less)))
+      by false e less =
+          (let term : cond (goes v x) (d x + weight v) 0 ≡ 0 = ap (λ c. cond c (d x + weight v) 0) e in
+          absurd (omega (arith, term, less)))
 
   asked : (k v w : ℕ) → Goes v w → counts k w + weight v ≤ counts (suc k) v
   unfolding counts
-  asked k v w g = (let at = g.0.remains.edge.1 in best_above (counts k) v (successors_of game v) at.0 w at.1 at.2 (so_goes v w g))
+  asked k v w g =
+      (let at = g.0.remains.edge.1 in best_above (counts k) v (successors_of game v) at.0 w at.1 at.2 (so_goes v w g))
 
   past : (k v : ℕ) → vertex_count game ≤ v → counts k v ≡ 0
   unfolding counts best successors_of vertex_count
@@ -284,7 +326,8 @@ module _ (game : ParityGame) (player : ℕ) (set : ℕ → Bool) (table : ℕ �
   asked_by : (k v : ℕ) → 0 < counts (suc k) v → (w : ℕ) × Goes v w × (counts (suc k) v ≡ counts k w + weight v)
   unfolding counts
   asked_by k v some = elim (cases_lt v (vertex_count game)) [
-    | inl below ↦ (let b = best_of (counts k) v (successors_of game v) some in (b.0, goes_so v b.0 (below, b.1) b.2, b.3))
+    | inl below ↦ (let b = best_of (counts k) v (successors_of game v) some in
+        (b.0, goes_so v b.0 (below, b.1) b.2, b.3))
     | inr far ↦ absurd (let none = past (suc k) v far in omega (arith, some, none))
   ]
 
@@ -299,9 +342,12 @@ module _ (game : ParityGame) (player : ℕ) (set : ℕ → Bool) (table : ℕ �
         by (heavy v) refl a.0 a.1 a.2 c.0 c.1 c.2
   ]
     where
-      by : (b : Bool) → heavy v ≡ b → (w : ℕ) → Goes v w → counts (suc k) v ≡ counts k w + weight v → (us : List ℕ) → length us ≡ counts k w → IsChain w us → (us : List ℕ) × (length us ≡ counts (suc k) v) × IsChain v us
-      by true e w g is us long c = (let one : weight v ≡ 1 = ap counted e in (v ∷ us, omega (arith, one, is, long), (inl refl, e, (w, g, c))))
-      by false e w g is us long c = (let none : weight v ≡ 0 = ap counted e in (us, omega (arith, none, is, long), chain_back v w us g c))
+      by : (b : Bool) → heavy v ≡ b → (w : ℕ) → Goes v w → counts (suc k) v ≡ counts k w + weight v → (us : List ℕ) →
+          length us ≡ counts k w → IsChain w us → (us : List ℕ) × (length us ≡ counts (suc k) v) × IsChain v us
+      by true e w g is us long c =
+          (let one : weight v ≡ 1 = ap counted e in (v ∷ us, omega (arith, one, is, long), (inl refl, e, (w, g, c))))
+      by false e w g is us long c =
+          (let none : weight v ≡ 0 = ap counted e in (us, omega (arith, none, is, long), chain_back v w us g c))
 
   rises : (k v : ℕ) → counts k v ≤ counts (suc k) v
   unfolding counts
@@ -347,7 +393,8 @@ module _ (game : ParityGame) (player : ℕ) (set : ℕ → Bool) (table : ℕ �
       | inr none ↦ inl (record { bounded = bounded; settled = none })
       | inl found ↦ inr (inr (
         sum_below-bound (counts k) (vertex_count game) (count_with game set p) (λ v _. bounded v),
-        sum_below-more (counts k) (counts (suc k)) (vertex_count game) found.0 1 found.1 (λ v _. rises k v) (omega (arith, found.2)),
+        sum_below-more (counts k) (counts (suc k)) (vertex_count game) found.0 1 found.1 (λ v _. rises k v)
+            (omega (arith, found.2)),
       ))
     ]
   ]
@@ -373,7 +420,8 @@ module _ (game : ParityGame) (player : ℕ) (set : ℕ → Bool) (table : ℕ �
     | inl some ↦ (let a = asked_by k v some in by (heavy v) refl a.0 a.1 a.2 (least other keep k a.0))
   ]
     where
-      by : (b : Bool) → heavy v ≡ b → (w : ℕ) → Goes v w → counts (suc k) v ≡ counts k w + weight v → counts k w ≤ other w → counts (suc k) v ≤ other v
+      by : (b : Bool) → heavy v ≡ b → (w : ℕ) → Goes v w → counts (suc k) v ≡ counts k w + weight v →
+          counts k w ≤ other w → counts (suc k) v ≤ other v
       by true e w g is below =
           let one : weight v ≡ 1 = ap counted e in
           let here = eqb-true (priority_of game v) p (and_parts (priority_of game v == p) (set v) e).0 in
@@ -397,11 +445,14 @@ module _ (game : ParityGame) (player : ℕ) (set : ℕ → Bool) (table : ℕ �
   unfolding weight heavy
   are_least k s = record {
     keep = λ v w r. record {
-      never_rises = λ from to. (let more = asked k v w (r, from, to) in let done = s.settled v r.remains.edge.0 in omega (arith, more, done));
+      never_rises =
+          λ from to. (let more = asked k v w (r, from, to) in let done = s.settled v r.remains.edge.0 in
+          omega (arith, more, done));
       falls = λ is to.
           (let more = asked k v w (r, omega (arith, is), to) in
           let done = s.settled v r.remains.edge.0 in
-          let one : weight v ≡ 1 = ap counted (and_from (priority_of game v == p) (set v) (eq-eqb (priority_of game v) p is) r.from) in
+          let one : weight v ≡ 1 =
+          ap counted (and_from (priority_of game v == p) (set v) (eq-eqb (priority_of game v) p is) r.from) in
           omega (arith, more, done, one));
     };
     least = λ other keep v. least other keep k v;
@@ -415,86 +466,12 @@ module _ (game : ParityGame) (player : ℕ) (set : ℕ → Bool) (table : ℕ �
     pub are_least : AreLeastFor game player set table p count
     pub none_past : (v : ℕ) → vertex_count game ≤ v → count v ≡ 0
 
-  pub column_or_cycle : p % 2 ≡ other_player player → Column ⊎ ((cycle : List ℕ) × IsLostCycle game player set table cycle)
+  pub column_or_cycle : p % 2 ≡ other_player player → Column ⊎
+      ((cycle : List ℕ) × IsLostCycle game player set table cycle)
   column_or_cycle parity = elim (settle (most + 1) 0 (omega arith)) [
     | inl done ↦ inl (record { count = counts done.0; are_least = are_least done.0 done.1; none_past = past done.0 })
     | inr lost ↦ inr (lost_cycle parity lost)
   ]
-
--- ## The priorities
-
--- one of the first n vertices has the priority
-has_priority : ParityGame → ℕ → ℕ → Bool
-has_priority game zero q = false
-has_priority game (suc n) q = (priority_of game n == q) || has_priority game n q
-
-priority_there : (game : ParityGame) (n q v : ℕ) → v < n → priority_of game v ≡ q → has_priority game n q ≡ true
-unfolding has_priority
-priority_there game zero q v below is = absurd (omega (arith, below))
-priority_there game (suc n) q v below is = elim (cases_eq v n) [
-  | inl same ↦ or_left (priority_of game n == q) (has_priority game n q) (eq-eqb (priority_of game n) q (ap (priority_of game) (sym same) ∙ is))
-  | inr apart ↦ or_right (priority_of game n == q) (has_priority game n q) (priority_there game n q v (omega (arith, below, apart)) is)
-]
-
-there_priority : (game : ParityGame) (n q : ℕ) → has_priority game n q ≡ true → (v : ℕ) × (v < n) × (priority_of game v ≡ q)
-unfolding has_priority
-there_priority game zero q e = absurd cc
-there_priority game (suc n) q e = elim (or_cases (priority_of game n == q) (has_priority game n q) e) [
-  | inl is ↦ (n, omega arith, eqb-true (priority_of game n) q is)
-  | inr before ↦ (let v = there_priority game n q before in (v.0, omega (arith, v.1), v.2))
-]
-
-in_filter : (test : ℕ → Bool) (xs : List ℕ) (k q : ℕ) → k < length xs → get_or xs k q ≡ q → test q ≡ true → Contains (filter test xs) q
-in_filter test [] k q within is passes = absurd (omega (arith, within))
-in_filter test (x ∷ xs) zero q within is passes =
-    subst (λ b. Contains (cond b (x ∷ filter test xs) (filter test xs)) q) (sym (ap test is ∙ passes)) (0, omega arith, is)
-in_filter test (x ∷ xs) (suc k) q within is passes = by (test x) (in_filter test xs k q (omega (arith, within)) is passes)
-  where
-    by : (b : Bool) → Contains (filter test xs) q → Contains (cond b (x ∷ filter test xs) (filter test xs)) q
-    by true c = later_one x q (filter test xs) c
-    by false c = c
-
-term_within : (f : ℕ → ℕ) (n v : ℕ) → v < n → f v ≤ sum_below f n
-term_within f zero v below = absurd (omega (arith, below))
-term_within f (suc n) v below = elim (cases_eq v n) [
-  | inl same ↦ (let e : f v ≡ f n = ap f same in omega (arith, e))
-  | inr apart ↦ (let before = term_within f n v (omega (arith, below, apart)) in omega (arith, before))
-]
-
-priorities_there : (game : ParityGame) (parity : ℕ) → (list : List ℕ) × ListsPriorities game parity list
-priorities_there game parity = (
-  filter test all,
-  record {
-    rising = IsStrictlyIncreasing-filter test all range_rises;
-    complete = λ v below right. in_filter test all (priority_of game v) (priority_of game v) (low v below) (omega (arith, get_or-range_with_len 0 many (priority_of game v) (priority_of game v) (lower v below)))
-        (and_from (has_priority game (vertex_count game) (priority_of game v)) (priority_of game v % 2 == parity) (priority_there game (vertex_count game) (priority_of game v) v below refl) (eq-eqb (priority_of game v % 2) parity right));
-    right_parity = λ k d within. eqb-true (get_or (filter test all) k d % 2) parity (passed k d within).1;
-    present = λ k d within. there_priority game (vertex_count game) (get_or (filter test all) k d) (passed k d within).0;
-  },
-)
-  where
-    many : ℕ
-    many = sum_below (priority_of game) (vertex_count game) + 1
-
-    all : List ℕ
-    all = range_with_len 0 many
-
-    test : ℕ → Bool
-    test q = has_priority game (vertex_count game) q && (q % 2 == parity)
-
-    lower : (v : ℕ) → v < vertex_count game → priority_of game v < many
-    lower v below = (let within = term_within (priority_of game) (vertex_count game) v below in omega (arith, within))
-
-    low : (v : ℕ) → v < vertex_count game → priority_of game v < length all
-    low v below = omega (arith, lower v below, length-range_with_len 0 many)
-
-    range_rises : IsStrictlyIncreasing all
-    range_rises k within =
-        let long = length-range_with_len 0 many in
-        omega (arith, get_or-range_with_len 0 many k 0 (omega (arith, within, long)), get_or-range_with_len 0 many (k + 1) 0 (omega (arith, within, long)))
-
-    passed : (k d : ℕ) → k < length (filter test all) → (has_priority game (vertex_count game) (get_or (filter test all) k d) ≡ true) × ((get_or (filter test all) k d % 2 == parity) ≡ true)
-    passed k d within = and_parts (has_priority game (vertex_count game) (get_or (filter test all) k d)) (get_or (filter test all) k d % 2 == parity) (filter_passes test all k d within)
 
 -- ## All columns
 
@@ -512,7 +489,8 @@ module _ (game : ParityGame) (player : ℕ) (set : ℕ → Bool) (table : ℕ �
     are_least : (k : ℕ) → k < length priorities → AreLeastFor game player set table (get_or priorities k 0) (count k)
     none_past : (k v : ℕ) → k < length priorities → vertex_count game ≤ v → count k v ≡ 0
 
-  columns_or_cycle : (priorities : List ℕ) → All (λ p. p % 2 ≡ other_player player) priorities → Columns priorities ⊎ SomeCycle
+  columns_or_cycle : (priorities : List ℕ) → All (λ p. p % 2 ≡ other_player player) priorities →
+      Columns priorities ⊎ SomeCycle
   columns_or_cycle [] parity = inl (record {
     count = λ k v. 0;
     are_least = λ k within. absurd (omega (arith, within));
@@ -522,19 +500,26 @@ module _ (game : ParityGame) (player : ℕ) (set : ℕ → Bool) (table : ℕ �
     | inr cycle ↦ inr cycle
     | inl first ↦ elim (columns_or_cycle ps (λ k d within. parity (suc k) d (omega (arith, within)))) [
       | inr cycle ↦ inr cycle
-      | inl rest ↦ inl (record { count = then_more first.count rest.count; are_least = each first rest; none_past = past_each first rest })
+      | inl rest ↦ inl (record {
+        count = then_more first.count rest.count;
+        are_least = each first rest;
+        none_past = past_each first rest;
+      })
     ]
   ]
     where
-      each : (first : Column game player set table p) (rest : Columns ps) (k : ℕ) → k < length (p ∷ ps) → AreLeastFor game player set table (get_or (p ∷ ps) k 0) (then_more first.count rest.count k)
+      each : (first : Column game player set table p) (rest : Columns ps) (k : ℕ) → k < length (p ∷ ps) →
+          AreLeastFor game player set table (get_or (p ∷ ps) k 0) (then_more first.count rest.count k)
       each first rest zero within = first.are_least
       each first rest (suc k) within = rest.are_least k (omega (arith, within))
 
-      past_each : (first : Column game player set table p) (rest : Columns ps) (k v : ℕ) → k < length (p ∷ ps) → vertex_count game ≤ v → then_more first.count rest.count k v ≡ 0
+      past_each : (first : Column game player set table p) (rest : Columns ps) (k v : ℕ) → k < length (p ∷ ps) →
+          vertex_count game ≤ v → then_more first.count rest.count k v ≡ 0
       past_each first rest zero v within far = first.none_past v far
       past_each first rest (suc k) v within far = rest.none_past k v (omega (arith, within)) far
 
-  module _ (priorities : List ℕ) (listed : ListsPriorities game (other_player player) priorities) (c : Columns priorities) where
+  module _ (priorities : List ℕ) (listed : ListsPriorities game (other_player player) priorities)
+      (c : Columns priorities) where
     row : ℕ → List ℕ
     row v = map (λ k. c.count k v) (range_with_len 0 (length priorities))
 
@@ -550,8 +535,10 @@ module _ (game : ParityGame) (player : ℕ) (set : ℕ → Bool) (table : ℕ �
     count_there : (k v : ℕ) → k < length priorities → count_of rows v k ≡ c.count k v
     unfolding row rows
     count_there k v within = elim (cases_lt v (vertex_count game)) [
-      | inl below ↦ ap (λ o. count_in o k) (row_there v below) ∙ get_or-map-range_with_len (λ i. c.count i v) 0 (length priorities) k k 0 within (omega arith)
-      | inr far ↦ ap (λ o. count_in o k) (slice_get_past rows v (omega (arith, far, as_many))) ∙ sym (c.none_past k v within far)
+      | inl below ↦ ap (λ o. count_in o k) (row_there v below) ∙ get_or-map-range_with_len (λ i. c.count i v) 0
+          (length priorities) k k 0 within (omega arith)
+      | inr far ↦ ap (λ o. count_in o k) (slice_get_past rows v (omega (arith, far, as_many)))
+          ∙ sym (c.none_past k v within far)
     ]
       where
         as_many : length rows ≡ vertex_count game
@@ -563,12 +550,17 @@ module _ (game : ParityGame) (player : ℕ) (set : ℕ → Bool) (table : ℕ �
       listed = listed;
       shape = record {
         each = length-map-range_with_len row 0 (vertex_count game);
-        wide = λ v below. ap width_in (row_there v below) ∙ length-map-range_with_len (λ k. c.count k v) 0 (length priorities);
+        wide =
+            λ v below. ap width_in (row_there v below) ∙ length-map-range_with_len (λ k. c.count k v) 0
+            (length priorities);
       };
-      columns = λ k within. least_same game player set table (get_or priorities k 0) (c.count k) (λ v. count_of rows v k) (λ v. count_there k v within) (c.are_least k within);
+      columns =
+          λ k within. least_same game player set table (get_or priorities k 0) (c.count k) (λ v. count_of rows v k)
+          (λ v. count_there k v within) (c.are_least k within);
     }
 
-  pub ranks_or_cycle : ((priorities : List ℕ) × (rows : List (List ℕ)) × AreRanks game player set table priorities rows) ⊎ ((cycle : List ℕ) × IsLostCycle game player set table cycle)
+  pub ranks_or_cycle : ((priorities : List ℕ) × (rows : List (List ℕ)) × AreRanks game player set table priorities rows)
+      ⊎ ((cycle : List ℕ) × IsLostCycle game player set table cycle)
   ranks_or_cycle =
       let l = priorities_there game (other_player player) in
       elim (columns_or_cycle l.0 l.1.right_parity) [
@@ -576,7 +568,8 @@ module _ (game : ParityGame) (player : ℕ) (set : ℕ → Bool) (table : ℕ �
         | inr cycle ↦ inr cycle
       ]
 
-  pub held_ranks : player < 2 → Holds game player set table → (priorities : List ℕ) × (rows : List (List ℕ)) × AreRanks game player set table priorities rows
+  pub held_ranks : player < 2 → Holds game player set table →
+      (priorities : List ℕ) × (rows : List (List ℕ)) × AreRanks game player set table priorities rows
   held_ranks is_player holds = elim ranks_or_cycle [
     | inl ranks ↦ ranks
     | inr lost ↦ absurd (not_held game player set table lost.0 lost.1 is_player holds)

@@ -1,5 +1,6 @@
 -- A player who holds a region by a table loses no cycle in it.
-use Rattle.std.proofs.Common.{◌≡◌, ℕ, ◌+◌, ◌-◌, ◌%◌, ◌<◌, ◌∙◌, List, [], ◌∷◌, ◌++◌, length, map, take, inl, inr, refl, sym, ap, subst, arith, Option, Bool}
+use Rattle.std.proofs.Common.{◌≡◌, ℕ, ◌+◌, ◌-◌, ◌%◌, ◌<◌, ◌∙◌, List, [], ◌∷◌, ◌++◌, length, map, take, inl, inr, refl}
+use Rattle.std.proofs.Common.{sym, ap, subst, arith, Option, Bool}
 use Rattle.std.specs.Prelude.{slice_index, IsTrue}
 use Rattle.std.proofs.lemmas.Bool.{cases_lt}
 use Rattle.std.proofs.lemmas.List.{get_or_append_left, get_or_push, length_push, take_at}
@@ -10,7 +11,8 @@ use Rattle.ps_measure.specs.declared.fault.MeasureFault.{MeasureFault}
 use Rattle.ps_measure.specs.declared.fault.MeasureFault.TheVariants.{BadCycle, OutOfMemory}
 use Rattle.ps_measure.specs.Ranks.{IsLostCycle, IsRefusal, IsOutOfMemory}
 
-module _ (game : ParityGame) (player : ℕ) (set : ℕ → Bool) (table : ℕ → Option ℕ) (cycle : List ℕ) (lost : IsLostCycle game player set table cycle) where
+module _ (game : ParityGame) (player : ℕ) (set : ℕ → Bool) (table : ℕ → Option ℕ) (cycle : List ℕ)
+    (lost : IsLostCycle game player set table cycle) where
   -- the cycle, with its first vertex once more
   abbrev round : List ℕ
   round = cycle ++ slice_index cycle 0 ∷ []
@@ -24,15 +26,20 @@ module _ (game : ParityGame) (player : ℕ) (set : ℕ → Bool) (table : ℕ �
   at_end : slice_index round (length cycle) ≡ slice_index cycle 0
   at_end = get_or_push cycle (slice_index cycle 0) 0 (length cycle) refl
 
-  step : (k : ℕ) → k + 1 < length round → RemainsWithin game player set table (slice_index round k) (slice_index round (k + 1))
+  step : (k : ℕ) → k + 1 < length round → RemainsWithin game player set table (slice_index round k)
+      (slice_index round (k + 1))
   step k within = elim (cases_lt (k + 1) (length cycle)) [
-    | inl less ↦ subst (λ x. RemainsWithin game player set table x (slice_index round (k + 1))) (sym (at_old k (omega arith))) (subst (RemainsWithin game player set table (slice_index cycle k)) (sym (at_old (k + 1) less)) (lost.edges k less))
+    | inl less ↦ subst (λ x. RemainsWithin game player set table x (slice_index round (k + 1)))
+        (sym (at_old k (omega arith))) (subst (RemainsWithin game player set table (slice_index cycle k))
+        (sym (at_old (k + 1) less)) (lost.edges k less))
     | inr more ↦
         let last : k ≡ length cycle - 1 = omega (arith, within, long, more, lost.some) in
         let after : k + 1 ≡ length cycle = omega (arith, last, lost.some) in
-        let from : slice_index round k ≡ slice_index cycle (length cycle - 1) = at_old k (omega (arith, last, lost.some)) ∙ ap (slice_index cycle) last in
+        let from : slice_index round k ≡ slice_index cycle (length cycle - 1) =
+        at_old k (omega (arith, last, lost.some)) ∙ ap (slice_index cycle) last in
         let to : slice_index round (k + 1) ≡ slice_index cycle 0 = ap (slice_index round) after ∙ at_end in
-        subst (λ x. RemainsWithin game player set table x (slice_index round (k + 1))) (sym from) (subst (RemainsWithin game player set table (slice_index cycle (length cycle - 1))) (sym to) lost.closes)
+        subst (λ x. RemainsWithin game player set table x (slice_index round (k + 1))) (sym from)
+        (subst (RemainsWithin game player set table (slice_index cycle (length cycle - 1))) (sym to) lost.closes)
   ]
 
   is_path : IsPath game round
@@ -58,15 +65,22 @@ module _ (game : ParityGame) (player : ℕ) (set : ℕ → Bool) (table : ℕ �
 
   priority_is : loop_priority game round 0 (length cycle) ≡ greatest (map (priority_of game) cycle)
   unfolding loop_priority
-  priority_is = ap (λ n. greatest (map (priority_of game) (take n round))) (let e : length cycle - 0 ≡ length cycle = omega arith in e) ∙ ap (λ l. greatest (map (priority_of game) l)) (take_at cycle (slice_index cycle 0 ∷ []) (length cycle) refl)
+  priority_is =
+      ap (λ n. greatest (map (priority_of game) (take n round)))
+      (let e : length cycle - 0 ≡ length cycle = omega arith in e)
+      ∙ ap (λ l. greatest (map (priority_of game) l)) (take_at cycle (slice_index cycle 0 ∷ []) (length cycle) refl)
 
   pub not_held : player < 2 → Holds game player set table → ⊥
   not_held is_player holds =
-      let won : loop_priority game round 0 (length cycle) % 2 ≡ player = holds.wins round 0 (length cycle) is_path begins follows is_loop in
+      let won : loop_priority game round 0 (length cycle) % 2 ≡ player =
+      holds.wins round 0 (length cycle) is_path begins follows is_loop in
       let of_other : greatest (map (priority_of game) cycle) % 2 ≡ 1 - player = lost.lost in
-      let same : loop_priority game round 0 (length cycle) % 2 ≡ greatest (map (priority_of game) cycle) % 2 = ap (λ n. n % 2) priority_is in
+      let same : loop_priority game round 0 (length cycle) % 2 ≡ greatest (map (priority_of game) cycle) % 2 =
+      ap (λ n. n % 2) priority_is in
       omega (arith, is_player, won, of_other, same)
 
-pub held_refusal : (game : ParityGame) (player : ℕ) (set : ℕ → Bool) (table : ℕ → Option ℕ) (fault : MeasureFault) → player < 2 → IsRefusal game player set table fault → Holds game player set table → IsOutOfMemory fault
-held_refusal game player set table (BadCycle cycle) is_player lost holds = not_held game player set table cycle.items lost is_player holds
+pub held_refusal : (game : ParityGame) (player : ℕ) (set : ℕ → Bool) (table : ℕ → Option ℕ) (fault : MeasureFault) →
+    player < 2 → IsRefusal game player set table fault → Holds game player set table → IsOutOfMemory fault
+held_refusal game player set table (BadCycle cycle) is_player lost holds =
+    not_held game player set table cycle.items lost is_player holds
 held_refusal game player set table OutOfMemory is_player lost holds = tt

@@ -1,3 +1,4 @@
+pub mod Cells
 pub mod Chaining
 pub mod Edges
 pub mod Existing
@@ -5,6 +6,7 @@ pub mod Growing
 pub mod Held
 pub mod Least
 pub mod Passing
+pub mod Placing
 pub mod Rows
 pub mod Steps
 pub mod Summing

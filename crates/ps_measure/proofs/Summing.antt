@@ -1,5 +1,6 @@
 -- Sums over the numbers below a bound, compared term by term.
-use Rattle.std.proofs.Common.{◌≡◌, ℕ, zero, suc, ◌+◌, ◌*◌, ◌<◌, ◌≤◌, inl, inr, refl, ap, add-one, arith, Bool, true, false}
+use Rattle.std.proofs.Common.{◌≡◌, ℕ, zero, suc, ◌+◌, ◌*◌, ◌<◌, ◌≤◌, inl, inr, refl, ap, add-one, arith, Bool, true}
+use Rattle.std.proofs.Common.{false}
 use Rattle.std.specs.Int.{from_bool}
 use Rattle.std.proofs.lemmas.Bool.{cases_eq}
 use Rattle.ps_measure.specs.Sums.{sum_below, counted, count_below}
@@ -12,7 +13,8 @@ sum_below-le f g (suc n) each =
     omega arith
 
 -- and by x less where one term is
-pub sum_below-more : (f g : ℕ → ℕ) (n u x : ℕ) → u < n → ((v : ℕ) → v < n → f v ≤ g v) → f u + x ≤ g u → sum_below f n + x ≤ sum_below g n
+pub sum_below-more : (f g : ℕ → ℕ) (n u x : ℕ) → u < n → ((v : ℕ) → v < n → f v ≤ g v) → f u + x ≤ g u →
+    sum_below f n + x ≤ sum_below g n
 sum_below-more f g zero u x below each more = absurd (omega arith)
 sum_below-more f g (suc n) u x below each more = elim (cases_eq u n) [
   | inl same ↦
@@ -21,7 +23,8 @@ sum_below-more f g (suc n) u x below each more = elim (cases_eq u n) [
       let right : g u ≡ g n = ap g same in
       omega arith
   | inr apart ↦
-      let before : sum_below f n + x ≤ sum_below g n = sum_below-more f g n u x (omega arith) (λ v less. each v (omega arith)) more in
+      let before : sum_below f n + x ≤ sum_below g n =
+      sum_below-more f g n u x (omega arith) (λ v less. each v (omega arith)) more in
       let last : f n ≤ g n = each n (omega arith) in
       omega arith
 ]
@@ -46,7 +49,9 @@ counted-bound true = omega arith
 counted-bound false = omega arith
 
 pub count_below-bound : (test : ℕ → Bool) (n : ℕ) → count_below test n ≤ n
-count_below-bound test n = (let h : count_below test n ≤ n * 1 = sum_below-bound (λ v. counted (test v)) n 1 (λ v _. counted-bound (test v)) in omega arith)
+count_below-bound test n =
+    (let h : count_below test n ≤ n * 1 = sum_below-bound (λ v. counted (test v)) n 1 (λ v _. counted-bound (test v)) in
+    omega arith)
 
 -- one number more
 pub sum_below-next : (f : ℕ → ℕ) (n : ℕ) → sum_below f (n + 1) ≡ sum_below f n + f n

@@ -1,5 +1,6 @@
 -- Counts along the links of a graph whose vertices have weights 0 or 1: one value for each component of what was met.
-use Rattle.std.specs.Prelude.{◌≡◌, ℕ, ◌+◌, ◌<◌, ◌≤◌, List, length, Option, None, Some, nat_le, if◌then◌else◌, slice_get, slice_index}
+use Rattle.std.specs.Prelude.{◌≡◌, ℕ, ◌+◌, ◌<◌, ◌≤◌, List, length, Option, None, Some, nat_le, if◌then◌else◌, slice_get}
+use Rattle.std.specs.Prelude.{slice_index}
 use Rattle.ps_components.specs.Graphs.{Digraph, Link}
 use Rattle.ps_components.specs.ComponentLists.{ComponentsData, AreComponents, IsIn}
 use Rattle.ps_measure.specs.Sums.{sum_below}
@@ -42,7 +43,8 @@ pub record IsCounting (g : Digraph) (weight : ℕ → ℕ) (c : ComponentsData) 
 -- end's component is great enough
 pub data IsPassed (weight : ℕ → ℕ) (c : ComponentsData) (values : List ℕ) (w v : ℕ) : Type 0 where
   inside : (k : ℕ) → IsIn c w k → IsIn c v k → weight v ≡ 0 → IsPassed weight c values w v
-  across : (k m : ℕ) → IsIn c w k → IsIn c v m → m < k → slice_index values k + weight v ≤ slice_index values m → IsPassed weight c values w v
+  across : (k m : ℕ) → IsIn c w k → IsIn c v m → m < k → slice_index values k + weight v ≤ slice_index values m →
+      IsPassed weight c values w v
 
 -- no value falls, and those from a place on stay
 pub record GrowsBelow (old new : List ℕ) (place : ℕ) : Type 0 where
@@ -51,7 +53,8 @@ pub record GrowsBelow (old new : List ℕ) (place : ℕ) : Type 0 where
 
 -- the links of each vertex in the order from place i on are taken into account
 abbrev pub ArePassedFrom : Digraph → (ℕ → ℕ) → ComponentsData → List ℕ → ℕ → Type 0
-ArePassedFrom g weight c values i = (j w v : ℕ) → i ≤ j → slice_get c.order j ≡ Some w → Link g w v → IsPassed weight c values w v
+ArePassedFrom g weight c values i =
+    (j w v : ℕ) → i ≤ j → slice_get c.order j ≡ Some w → Link g w v → IsPassed weight c values w v
 
 -- a link that stays in a component, to a vertex of weight 1
 pub record IsLost (g : Digraph) (weight : ℕ → ℕ) (c : ComponentsData) (w v : ℕ) : Type 0 where

@@ -1,4 +1,4 @@
--- Columns of counts, and cycles in a graph of low vertices.
+-- Rows of counts, filled place by place, and cycles in a graph of low vertices.
 use Rattle.std.specs.Prelude.{◌≡◌, ℕ, ◌<◌, ◌≤◌, Bool, List, length, Option, nat_lt, slice_index}
 use Rattle.ps_components.specs.Graphs.{Digraph}
 use Rattle.ps_components.specs.Trails.{IsTrail}
@@ -9,20 +9,15 @@ use Rattle.ps_measure.specs.Sums.{sum_below, count_below}
 use Rattle.ps_measure.specs.Remaining.{LowData, low_graph, low_weight}
 use Rattle.ps_measure.specs.Columns.{AreLeast}
 use Rattle.ps_measure.specs.Outcomes.{IsClosing}
-use Rattle.ps_measure.specs.Ranks.{AreLeastFor}
-use Rattle.ps_measure.specs.Tables.{count_at}
+use Rattle.ps_measure.specs.Ranks.{AreLeastFor, AreRows, count_of}
+use Rattle.ps_measure.specs.Tables.{HasColumn}
 
--- the counts of the vertices below n in order and nothing behind, and so many of them are not 0
-pub record AreWritten (counts : ℕ → ℕ) (column : List ℕ) (n raised : ℕ) : Type 0 where
-  pub here : (v : ℕ) → v < n → slice_index column v ≡ counts v
-  pub behind : (v : ℕ) → n ≤ v → slice_index column v ≡ 0
-  pub raised_is : raised ≡ count_below (λ v. nat_lt 0 (counts v)) n
-
--- the least counts were written
-pub record IsFilled (g : Digraph) (weight : ℕ → ℕ) (column : List ℕ) (raised : ℕ) : Type 0 where
+-- the least counts were put at a place, and so many of them are not 0
+pub record IsFilled (g : Digraph) (weight : ℕ → ℕ) (old new : List (List ℕ)) (place raised : ℕ) : Type 0 where
   pub counts : ℕ → ℕ
   pub least : AreLeast g weight counts
-  pub written : AreWritten counts column g.count raised
+  pub column : HasColumn old new place counts
+  pub raised_is : raised ≡ count_below (λ v. nat_lt 0 (counts v)) g.count
 
 -- a way from the source of a link back to it
 pub record IsLowCycle (low : LowData) (cycle : List ℕ) : Type 0 where
@@ -40,14 +35,11 @@ pub record AreLevels (game : ParityGame) (levels : List ℕ) : Type 0 where
   pub each : length levels ≡ vertex_count game
   pub is : (v : ℕ) → v < vertex_count game → slice_index levels v ≡ priority_of game v
 
--- so many columns of least counts, and so many counts are not 0
-pub record AreRanked (game : ParityGame) (player : ℕ) (set : ℕ → Bool) (table : ℕ → Option ℕ) (priorities : List ℕ) (columns : List (List ℕ)) (place raises : ℕ) : Type 0 where
-  pub each : length columns ≡ place
-  pub least : (k : ℕ) → k < place → AreLeastFor game player set table (slice_index priorities k) (count_at columns k)
-  pub behind : (k v : ℕ) → vertex_count game ≤ v → count_at columns k v ≡ 0
-  pub raises_is : raises ≡ sum_below (λ k. count_below (λ v. nat_lt 0 (count_at columns k v)) (vertex_count game)) place
-
--- so many columns without a count but 0
-pub record AreEmpty (columns : List (List ℕ)) (count : ℕ) : Type 0 where
-  pub each : length columns ≡ count
-  pub none : (k v : ℕ) → count_at columns k v ≡ 0
+-- rows of counts: the least ones for the priorities at the places before one, and 0 for the others; so many are not 0
+pub record AreRanked (game : ParityGame) (player : ℕ) (set : ℕ → Bool) (table : ℕ → Option ℕ) (priorities : List ℕ)
+    (rows : List (List ℕ)) (place raises : ℕ) : Type 0 where
+  pub shape : AreRows rows (vertex_count game) (length priorities)
+  pub least : (k : ℕ) → k < place →
+      AreLeastFor game player set table (slice_index priorities k) (λ v. count_of rows v k)
+  pub after : (v k : ℕ) → place ≤ k → count_of rows v k ≡ 0
+  pub raises_is : raises ≡ sum_below (λ k. count_below (λ v. nat_lt 0 (count_of rows v k)) (vertex_count game)) place

@@ -1,6 +1,7 @@
 -- What is found for one priority: the least counts, or a link back to where a way began.
-use Rattle.std.specs.Prelude.{◌≡◌, ℕ, length}
+use Rattle.std.specs.Prelude.{◌≡◌, ℕ}
 use Rattle.ps_components.specs.Graphs.{Digraph, Link, SameOrWay}
+use Rattle.ps_components.specs.ComponentLists.{AreComponents}
 use Rattle.ps_measure.specs.declared.column.Outcome.{Outcome}
 use Rattle.ps_measure.specs.declared.column.Outcome.TheVariants.{Counts, Lost}
 use Rattle.ps_measure.specs.Columns.{AreLeast, value_of}
@@ -12,5 +13,6 @@ pub record IsClosing (g : Digraph) (weight : ℕ → ℕ) (from to : ℕ) : Type
   pub back : SameOrWay g to from
 
 abbrev pub IsOutcome : Digraph → (ℕ → ℕ) → Outcome → Type 0
-IsOutcome g weight (Counts column) = (length column.components.numbers ≡ g.count) × AreLeast g weight (value_of column.components column.values.items)
+IsOutcome g weight (Counts column) = AreComponents g column.components × AreLeast g weight
+    (value_of column.components column.values.items)
 IsOutcome g weight (Lost from to) = IsClosing g weight from to

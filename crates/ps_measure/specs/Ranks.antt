@@ -1,5 +1,7 @@
--- The least counts of a player's region, by the priorities by which the player loses; and a cycle that the player loses.
-use Rattle.std.specs.Prelude.{◌≡◌, ℕ, ◌+◌, ◌-◌, ◌*◌, ◌%◌, ◌<◌, ◌≤◌, ◌&&◌, ◌==◌, List, length, map, Option, None, Some, Bool, IsTrue, nat_lt, slice_get, slice_index}
+-- The least counts of a player's region, by the priorities by which the player loses; and a cycle that the player
+-- loses.
+use Rattle.std.specs.Prelude.{◌≡◌, ℕ, ◌+◌, ◌-◌, ◌*◌, ◌%◌, ◌<◌, ◌≤◌, ◌&&◌, ◌==◌, List, length, map, Option, None, Some}
+use Rattle.std.specs.Prelude.{Bool, IsTrue, nat_lt, slice_get, slice_index}
 use Rattle.ps_game.specs.Games.{ParityGame, vertex_count, priority_of}
 use Rattle.ps_game.specs.Plays.{greatest, other_player}
 use Rattle.ps_game.specs.Ranking.{RemainsWithin, ListsPriorities, KeepRuleWithin}
@@ -11,9 +13,10 @@ use Rattle.ps_measure.specs.Sums.{sum_below, count_below}
 abbrev pub count_with : ParityGame → (ℕ → Bool) → ℕ → ℕ
 count_with game set p = count_below (λ v. (priority_of game v == p) && set v) (vertex_count game)
 
--- counts for one priority that keep the rule on each edge that remains within the set, the least that do; 0 outside the set
--- and above the priority; each at most the number of the set's vertices of that priority
-pub record AreLeastFor (game : ParityGame) (player : ℕ) (set : ℕ → Bool) (table : ℕ → Option ℕ) (p : ℕ) (count : ℕ → ℕ) : Type 0 where
+-- counts for one priority that keep the rule on each edge that remains within the set, the least that do; 0 outside the
+-- set and above the priority; each at most the number of the set's vertices of that priority
+pub record AreLeastFor (game : ParityGame) (player : ℕ) (set : ℕ → Bool) (table : ℕ → Option ℕ) (p : ℕ)
+    (count : ℕ → ℕ) : Type 0 where
   pub keep : KeepRuleWithin game player set table p count
   pub least : (other : ℕ → ℕ) → KeepRuleWithin game player set table p other → (v : ℕ) → count v ≤ other v
   pub outside : (v : ℕ) → ¬ IsTrue (set v) → count v ≡ 0
@@ -42,10 +45,12 @@ pub record AreRows (rows : List (List ℕ)) (count width : ℕ) : Type 0 where
   pub wide : (v : ℕ) → v < count → width_of rows v ≡ width
 
 -- the opposing priorities of the game, rising, and for each vertex a row with one count for each of them
-pub record AreRanks (game : ParityGame) (player : ℕ) (set : ℕ → Bool) (table : ℕ → Option ℕ) (priorities : List ℕ) (rows : List (List ℕ)) : Type 0 where
+pub record AreRanks (game : ParityGame) (player : ℕ) (set : ℕ → Bool) (table : ℕ → Option ℕ) (priorities : List ℕ)
+    (rows : List (List ℕ)) : Type 0 where
   pub listed : ListsPriorities game (other_player player) priorities
   pub shape : AreRows rows (vertex_count game) (length priorities)
-  pub columns : (k : ℕ) → k < length priorities → AreLeastFor game player set table (slice_index priorities k) (λ v. count_of rows v k)
+  pub columns : (k : ℕ) → k < length priorities → AreLeastFor game player set table (slice_index priorities k)
+      (λ v. count_of rows v k)
 
 -- the sum of all counts
 abbrev pub total_of : List (List ℕ) → ℕ → ℕ → ℕ
@@ -58,14 +63,17 @@ raised_of rows count width = sum_below (λ k. count_below (λ v. nat_lt 0 (count
 -- for each of the priorities, the vertices of the set times those of them that have the priority
 abbrev pub most_raises : ParityGame → (ℕ → Bool) → List ℕ → ℕ
 most_raises game set priorities =
-    sum_below (λ k. count_below set (vertex_count game) * count_with game set (slice_index priorities k)) (length priorities)
+    sum_below (λ k. count_below set (vertex_count game) * count_with game set (slice_index priorities k))
+    (length priorities)
 
--- a cycle of edges that remain within the set, each vertex leading to the next and the last to the first, whose greatest
--- priority is of the other player's parity
-pub record IsLostCycle (game : ParityGame) (player : ℕ) (set : ℕ → Bool) (table : ℕ → Option ℕ) (cycle : List ℕ) : Type 0 where
+-- a cycle of edges that remain within the set, each vertex leading to the next and the last to the first, whose
+-- greatest priority is of the other player's parity
+pub record IsLostCycle (game : ParityGame) (player : ℕ) (set : ℕ → Bool) (table : ℕ → Option ℕ)
+    (cycle : List ℕ) : Type 0 where
   pub some : 0 < length cycle
   pub vertices : (k : ℕ) → k < length cycle → slice_index cycle k < vertex_count game
-  pub edges : (k : ℕ) → k + 1 < length cycle → RemainsWithin game player set table (slice_index cycle k) (slice_index cycle (k + 1))
+  pub edges : (k : ℕ) → k + 1 < length cycle → RemainsWithin game player set table (slice_index cycle k)
+      (slice_index cycle (k + 1))
   pub closes : RemainsWithin game player set table (slice_index cycle (length cycle - 1)) (slice_index cycle 0)
   pub lost : greatest (map (priority_of game) cycle) % 2 ≡ other_player player
 

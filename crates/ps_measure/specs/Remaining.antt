@@ -1,5 +1,7 @@
--- The graph of the edges that remain within a region, and the links against them between vertices that do not pass a priority.
-use Rattle.std.specs.Prelude.{◌≡◌, ℕ, ◌+◌, ◌-◌, ◌<◌, ◌≤◌, List, length, Option, None, Some, Bool, not, ◌&&◌, ◌||◌, ◌==◌, nat_le, false, if◌then◌else◌, slice_index}
+-- The graph of the edges that remain within a region, and the links against them between vertices that do not pass a
+-- priority.
+use Rattle.std.specs.Prelude.{◌≡◌, ℕ, ◌+◌, ◌-◌, ◌<◌, ◌≤◌, List, length, Option, None, Some, Bool, not, ◌&&◌, ◌||◌, ◌==◌}
+use Rattle.std.specs.Prelude.{nat_le, false, if◌then◌else◌, slice_index}
 use Rattle.ps_components.specs.Graphs.{Digraph, Link}
 use Rattle.ps_game.specs.Games.{ParityGame, vertex_count, owner_of, successors_of}
 use Rattle.ps_game.specs.Regions.{has, move_at}
@@ -79,7 +81,8 @@ abbrev pub low_graph : LowData → Digraph
 low_graph low = record {
   count = low.star.count;
   degree = λ v. if nat_le (slice_index low.levels v) low.priority then (star_graph low.star).degree v else 0;
-  target = λ v k. let w = slice_index low.star.targets (slice_index low.star.starts v + k) in if nat_le (slice_index low.levels w) low.priority then Some w else None;
+  target = λ v k. let w = slice_index low.star.targets (slice_index low.star.starts v + k) in
+      if nat_le (slice_index low.levels w) low.priority then Some w else None;
 }
 
 -- 1 at each vertex of the region whose level is the priority

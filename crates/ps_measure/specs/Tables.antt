@@ -1,19 +1,60 @@
--- Rows of counts that are kept by columns.
-use Rattle.std.specs.Prelude.{ℕ, List, map, Option, None, Some, slice_get, slice_index}
+-- Rows of counts that are kept as chains of cells: the counts of a vertex lead on from the number of its first one.
+-- Cell i has
+-- the number i + 1, and 0 is the end.
+use Rattle.std.specs.Prelude.{◌≡◌, ℕ, zero, suc, ◌<◌, ◌≤◌, ◌==◌, List, length, map, max, Option, None, Some}
+use Rattle.std.specs.Prelude.{if◌then◌else◌, slice_get, slice_index}
 use Rattle.std.specs.List.{range_with_len}
+use Rattle.ps_measure.specs.declared.table.CountCell.{CountCell}
+use Rattle.ps_measure.specs.Ranks.{count_of, width_of, AreRows}
 
--- the counts of a vertex: one of each column, 0 behind its end
-abbrev pub row_in : List (List ℕ) → ℕ → List ℕ
-row_in columns v = map (λ column. slice_index column v) columns
+abbrev pub next_of : Option CountCell → ℕ
+next_of None = 0
+next_of (Some cell) = cell.next
 
--- a row for each of so many vertices
-unfoldable pub rows_in : ℕ → List (List ℕ) → List (List ℕ)
-rows_in count columns = map (row_in columns) (range_with_len 0 count)
+abbrev pub count_here : Option CountCell → ℕ → ℕ
+count_here None k = 0
+count_here (Some cell) k = if cell.place == k then cell.count else 0
 
--- the count of a vertex in the column at a place
-abbrev pub count_within : Option (List ℕ) → ℕ → ℕ
-count_within None v = 0
-count_within (Some column) v = slice_index column v
+-- the greatest count at a place, of the chain that begins with a number, up to so many cells
+unfoldable pub count_from : List CountCell → ℕ → ℕ → ℕ → ℕ
+count_from cells zero number k = 0
+count_from cells (suc fuel) zero k = 0
+count_from cells (suc fuel) (suc i) k =
+    max (count_here (slice_get cells i) k) (count_from cells fuel (next_of (slice_get cells i)) k)
 
-abbrev pub count_at : List (List ℕ) → ℕ → ℕ → ℕ
-count_at columns k v = count_within (slice_get columns k) v
+-- the counts of a chain
+abbrev pub row_from : ℕ → List CountCell → ℕ → List ℕ
+row_from width cells head = map (count_from cells head head) (range_with_len 0 width)
+
+-- a row for each chain
+unfoldable pub rows_in : ℕ → List ℕ → List CountCell → List (List ℕ)
+rows_in width heads cells = map (row_from width cells) heads
+
+-- chains lead to earlier cells, and the places are in the rows
+pub record AreChained (width : ℕ) (cells : List CountCell) : Type 0 where
+  pub falls : (i : ℕ) (cell : CountCell) → slice_get cells i ≡ Some cell → cell.next ≤ i
+  pub places : (i : ℕ) (cell : CountCell) → slice_get cells i ≡ Some cell → cell.place < width
+
+-- the chains begin with cells that are there
+pub record AreHeaded (width : ℕ) (heads : List ℕ) (cells : List CountCell) : Type 0 where
+  pub chained : AreChained width cells
+  pub first : (v : ℕ) → slice_index heads v ≤ length cells
+
+-- so many rows of so many counts, each of them 0
+pub record AreZero (rows : List (List ℕ)) (count width : ℕ) : Type 0 where
+  pub shape : AreRows rows count width
+  pub none : (v k : ℕ) → count_of rows v k ≡ 0
+
+-- a count of a vertex was raised
+pub record HasPut (old new : List (List ℕ)) (vertex place count : ℕ) : Type 0 where
+  pub each : length new ≡ length old
+  pub wide : (v : ℕ) → width_of new v ≡ width_of old v
+  pub here : count_of new vertex place ≡ max count (count_of old vertex place)
+  pub others : (v k : ℕ) → (v ≡ vertex → k ≡ place → ⊥) → count_of new v k ≡ count_of old v k
+
+-- the counts of all vertices at a place were put
+pub record HasColumn (old new : List (List ℕ)) (place : ℕ) (counts : ℕ → ℕ) : Type 0 where
+  pub each : length new ≡ length old
+  pub wide : (v : ℕ) → width_of new v ≡ width_of old v
+  pub here : (v : ℕ) → count_of new v place ≡ counts v
+  pub others : (v k : ℕ) → (k ≡ place → ⊥) → count_of new v k ≡ count_of old v k

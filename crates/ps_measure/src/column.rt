@@ -1,14 +1,19 @@
 //! The least counts for one priority, by the components of the links against the edges that remain.
 
-ghost use Rattle.std.specs.Prelude.{◌≡◌, ℕ, ◌<◌, length, IfOk, IfNone, IfSome};
+ghost use Rattle.std.specs.Prelude.{◌≡◌, ℕ, ◌<◌, length, nat_lt, IfOk, OnOk, IfNone, IfSome};
 ghost use Rattle.std.specs.Bool.{OnFalse, OnTrue};
-ghost use Rattle.ps_components.specs.Graphs.{Link};
-ghost use Rattle.ps_components.specs.ComponentLists.{AreMet, IsIn};
+ghost use Rattle.ps_components.specs.Graphs.{Digraph, Link};
+ghost use Rattle.ps_components.specs.ComponentLists.{AreComponents, AreMet, IsIn};
 ghost use Rattle.ps_measure.specs.Remaining.{low_graph, low_weight};
-ghost use Rattle.ps_measure.specs.Columns.{AreRoots, AreRaised, IsCounting, IsPassed, GrowsBelow, ArePassedFrom, IsLost, value_of};
+ghost use Rattle.ps_measure.specs.Columns.{AreRoots, AreRaised, IsCounting, IsPassed, GrowsBelow, ArePassedFrom};
+ghost use Rattle.ps_measure.specs.Columns.{IsLost, value_of};
 ghost use Rattle.ps_measure.specs.Outcomes.{IsOutcome};
+ghost use Rattle.ps_measure.specs.Ranks.{count_of, width_of};
+ghost use Rattle.ps_measure.specs.Tables.{HasColumn};
+ghost use Rattle.ps_measure.specs.Sums.{count_below};
 
 use crate::low::Low;
+use crate::table::CountTable;
 use ps_components::{Components, Graph, components_from};
 use std::alloc::{AllocError, Global};
 
@@ -42,7 +47,8 @@ impl Column {
     /// The components of what the roots lead to, with the values 1 at the roots and 0 else.
     fn of(alloc: Global, low: &Low, roots: &[usize]) -> Result<Self, AllocError>
         requires { AreRoots (low_graph low.now) (low_weight low.now) roots.now }
-        ensures counting { IfOk result (λ c. IsCounting (low_graph low.now) (low_weight low.now) c.components c.values.items) }
+        ensures counting { IfOk result (λ c. IsCounting (low_graph low.now) (low_weight low.now) c.components
+            c.values.items) }
         ensures met { IfOk result (λ c. AreMet (low_graph low.now) roots.now c.components) }
         ensures raised { IfOk result (λ c. AreRaised c.components c.values.items roots.now) }
     {
@@ -68,15 +74,42 @@ impl Column {
         }
     }
 
+    /// Puts the count of each vertex that was met, and is not 0, into a table, at the place of the priority, and says how
+    /// many these are.
+    pub(crate) fn put_into(&self, place: usize, table: &mut CountTable) -> Result<u64, AllocError>
+        requires components { (g : Digraph) × AreComponents g self.now.components }
+        requires each { length table.old ≡ length self.now.components.numbers }
+        requires wide { (v : ℕ) → v < length table.old → place < width_of table.old v }
+        requires none { (v : ℕ) → count_of table.old v place ≡ 0 }
+        ensures column { OnOk result
+            (HasColumn table.old table.new place (value_of self.now.components self.now.values.items)) }
+        ensures raised { IfOk result
+            (λ raised. let counts = value_of self.now.components self.now.values.items in
+            raised ≡ count_below (λ v. nat_lt 0 (counts v)) (length table.old)) }
+    {
+        let mut raised = 0;
+        for &vertex in self.components.order() {
+            let count = self.count(vertex);
+            if count > 0 {
+                table.put(vertex, place, count)?;
+                raised += 1;
+            }
+        }
+        Ok(raised)
+    }
+
     /// Takes a link into account. True where it stays in a component and leads to a vertex with the priority.
     fn pass(&mut self, low: &Low, from: usize, number: usize, to: usize) -> bool
-        requires counting { IsCounting (low_graph low.now) (low_weight low.now) self.old.components self.old.values.items }
+        requires counting { IsCounting (low_graph low.now) (low_weight low.now) self.old.components
+            self.old.values.items }
         requires link { Link (low_graph low.now) from to }
         requires number { IsIn self.old.components from number }
-        ensures counting { IsCounting (low_graph low.now) (low_weight low.now) self.new.components self.new.values.items }
+        ensures counting { IsCounting (low_graph low.now) (low_weight low.now) self.new.components
+            self.new.values.items }
         ensures components { self.new.components ≡ self.old.components }
         ensures grows { GrowsBelow self.old.values.items self.new.values.items number }
-        ensures passed { OnFalse result (IsPassed (low_weight low.now) self.new.components self.new.values.items from to) }
+        ensures passed { OnFalse result (IsPassed (low_weight low.now) self.new.components
+            self.new.values.items from to) }
         ensures lost { OnTrue result (IsLost (low_graph low.now) (low_weight low.now) self.new.components from to) }
     {
         let _vertices = low.count();
@@ -95,12 +128,15 @@ impl Column {
 
     /// Takes each link of a vertex into account, up to one that is lost, whose end is answered.
     fn pass_all(&mut self, low: &Low, from: usize, number: usize) -> Option<usize>
-        requires counting { IsCounting (low_graph low.now) (low_weight low.now) self.old.components self.old.values.items }
+        requires counting { IsCounting (low_graph low.now) (low_weight low.now) self.old.components
+            self.old.values.items }
         requires number { IsIn self.old.components from number }
-        ensures counting { IsCounting (low_graph low.now) (low_weight low.now) self.new.components self.new.values.items }
+        ensures counting { IsCounting (low_graph low.now) (low_weight low.now) self.new.components
+            self.new.values.items }
         ensures components { self.new.components ≡ self.old.components }
         ensures grows { GrowsBelow self.old.values.items self.new.values.items number }
-        ensures passed { IfNone result ((to : ℕ) → Link (low_graph low.now) from to → IsPassed (low_weight low.now) self.new.components self.new.values.items from to) }
+        ensures passed { IfNone result ((to : ℕ) → Link (low_graph low.now) from to →
+            IsPassed (low_weight low.now) self.new.components self.new.values.items from to) }
         ensures lost { IfSome result (IsLost (low_graph low.now) (low_weight low.now) self.new.components from) }
     {
         for place in 0..low.degree(from) {
@@ -116,11 +152,14 @@ impl Column {
     /// Takes all links into account, from the last vertex in the order to the first, up to one that is lost.
     fn settle(&mut self, low: &Low) -> Option<(usize, usize)>
         requires { IsCounting (low_graph low.now) (low_weight low.now) self.old.components self.old.values.items }
-        ensures counting { IsCounting (low_graph low.now) (low_weight low.now) self.new.components self.new.values.items }
+        ensures counting { IsCounting (low_graph low.now) (low_weight low.now) self.new.components
+            self.new.values.items }
         ensures components { self.new.components ≡ self.old.components }
         ensures grows { GrowsBelow self.old.values.items self.new.values.items (length self.old.components.order) }
-        ensures passed { IfNone result (ArePassedFrom (low_graph low.now) (low_weight low.now) self.new.components self.new.values.items 0) }
-        ensures lost { IfSome result (λ link. IsLost (low_graph low.now) (low_weight low.now) self.new.components link.0 link.1) }
+        ensures passed { IfNone result (ArePassedFrom (low_graph low.now) (low_weight low.now) self.new.components
+            self.new.values.items 0) }
+        ensures lost { IfSome result (λ link. IsLost (low_graph low.now) (low_weight low.now) self.new.components
+            link.0 link.1) }
     {
         let mut place = self.components.order().len();
         while place > 0 {

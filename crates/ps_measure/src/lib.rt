@@ -7,7 +7,7 @@
 //! Counts are what a progress measure (Jurdzinski) has for one priority; the least ones are not lifted step by step.
 //! For each priority one search goes against the edges, from the vertices of that priority, and one pass over the
 //! strong components in that order gives each vertex its count. That takes time in proportion to the vertices and edges
-//! for each priority, and memory for a count of each vertex and priority, besides the edges turned round.
+//! for each priority, and memory for each count that is not 0, besides the edges turned round.
 //!
 //! | Call | What it gives |
 //! |---|---|

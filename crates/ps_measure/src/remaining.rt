@@ -5,14 +5,14 @@ ghost use Rattle.ps_game.specs.Games.{vertex_count};
 ghost use Rattle.ps_measure.specs.Remaining.{remaining_graph, may_remain};
 
 use ps_components::Graph;
-use ps_game::{Arena, Region, Strategy};
+use ps_game::{Arena, Player, Region, Strategy};
 use std::marker::Model;
 
 /// The edges that remain for a player within a region.
 #[derive(Drop)]
 pub(crate) struct Remaining<'a, A: Arena> {
     pub(crate) arena: &'a A,
-    pub(crate) player: u8,
+    pub(crate) player: Player,
     pub(crate) region: &'a Region,
     pub(crate) strategy: &'a Strategy,
 }
@@ -24,7 +24,12 @@ impl<'a, A: Arena> Model for Remaining<'a, A> {
 
     ghost view = { λ r. record { game = A.game r.arena.now; player = r.player; region = r.region.now; strategy = r.strategy.now } };
 
-    ghost invariant = { λ r. IsRemaining (record { game = A.game r.arena.now; player = r.player; region = r.region.now; strategy = r.strategy.now }) };
+    ghost invariant = { λ r. IsRemaining (record {
+      game = A.game r.arena.now;
+      player = r.player;
+      region = r.region.now;
+      strategy = r.strategy.now;
+    }) };
 }
 
 impl<'a, A: Arena> Remaining<'a, A> {
@@ -36,7 +41,7 @@ impl<'a, A: Arena> Remaining<'a, A> {
     {
         self.region.contains(from)
             && self.region.contains(to)
-            && (self.arena.owner(from) != self.player || self.strategy.get(from) == Some(to))
+            && (!self.player.owns(self.arena, from) || self.strategy.get(from) == Some(to))
     }
 }
 

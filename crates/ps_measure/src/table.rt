@@ -1,97 +1,70 @@
 //! The counts that were found.
 
-ghost use Rattle.std.specs.Prelude.{◌≡◌, ◌<◌, ◌++◌, ◌∷◌, [], Some, IfOk, OnOk, length, slice_get, slice_index};
-ghost use Rattle.ps_measure.specs.Tables.{row_in};
+ghost use Rattle.std.specs.Prelude.{◌≡◌, ℕ, ◌<◌, ◌≤◌, Some, IfOk, OnOk, length, max, slice_get, slice_index};
+ghost use Rattle.ps_measure.specs.Ranks.{width_of};
+ghost use Rattle.ps_measure.specs.Tables.{AreZero, AreChained, HasPut, count_from};
 
 use std::alloc::{AllocError, Global};
 use std::marker::Model;
 
-/// The counts of the vertices for one priority, at one byte each up to the first that needs more. Behind the end there
-/// is no count but 0, so that a column without any takes no memory.
-#[derive(Debug, Drop)]
-pub(crate) struct CountColumn {
-    small: Vec<u8>,
-    large: Vec<u64>,
+/// A count of a vertex at the place of its priority, and the number of the next one of the same vertex: cells are
+/// numbered from 1, and 0 is none.
+#[derive(Clone, Copy, Debug)]
+pub struct CountCell {
+    place: usize,
+    count: u64,
+    next: usize,
 }
 
-impl Model for CountColumn {
-    ghost use Rattle.std.specs.Prelude.{List, ℕ, ◌++◌};
-
-    ghost Value = { List ℕ };
-
-    ghost view = { λ c. c.small.items ++ c.large.items };
-}
-
-impl CountColumn {
-    /// No count but 0.
-    pub(crate) fn empty(alloc: Global) -> Self
-        ensures { result ≡ [] }
-    {
-        CountColumn {
-            small: Vec::new(alloc),
-            large: Vec::new(alloc),
-        }
-    }
-
-    /// The counts of a list.
-    pub(crate) fn of(alloc: Global, counts: &[u64]) -> Result<Self, AllocError>
-        ensures { IfOk result (λ column. column ≡ counts.now) }
-    {
-        let mut small = Vec::with_capacity(alloc, counts.len())?;
-        let mut large = Vec::new(alloc);
-        for &count in counts {
-            put(&mut small, &mut large, count)?;
-        }
-        Ok(CountColumn { small, large })
-    }
-
-    /// The count of a vertex.
-    fn count(&self, vertex: usize) -> u64
-        ensures { result ≡ slice_index self.now vertex }
-    {
-        if vertex < self.small.len() {
-            return u64::from(self.small[vertex]);
-        }
-        match self.large.get(vertex - self.small.len()) {
-            Some(count) => *count,
-            None => 0,
-        }
-    }
-}
-
-/// Puts a count behind the small ones if it is small and none is large yet, and else behind the large ones.
-fn put(small: &mut Vec<u8>, large: &mut Vec<u64>, count: u64) -> Result<(), AllocError>
-    ensures { OnOk result (small.new.items ++ large.new.items ≡ (small.old.items ++ large.old.items) ++ count ∷ []) }
-{
-    match u8::try_from(count) {
-        Ok(byte) if large.is_empty() => small.push(byte)?,
-        _ => large.push(count)?,
-    }
-    Ok(())
-}
-
-/// A row of counts for each vertex, kept by columns: the counts of all vertices for one priority lie side by side.
+/// A row of counts for each vertex. Only counts that are not 0 take memory: those of a vertex are a chain of cells, by
+/// the number of its first one.
 #[derive(Debug, Drop)]
 pub struct CountTable {
-    pub(crate) count: usize,
-    pub(crate) columns: Vec<CountColumn>,
+    width: usize,
+    heads: Vec<usize>,
+    cells: Vec<CountCell>,
 }
 
 impl Model for CountTable {
     ghost use Rattle.std.specs.Prelude.{List, ℕ};
-    ghost use Rattle.ps_measure.specs.Tables.{rows_in};
+    ghost use Rattle.ps_measure.specs.Tables.{rows_in, AreHeaded};
 
     ghost Value = { List (List ℕ) };
 
-    ghost view = { λ t. rows_in t.count t.columns.items };
+    ghost view = { λ t. rows_in t.width t.heads.items t.cells.items };
+
+    ghost invariant = { λ t. AreHeaded t.width t.heads.items t.cells.items };
 }
 
 impl CountTable {
+    /// So many rows of so many counts, each of them 0.
+    pub(crate) fn new(alloc: Global, count: usize, width: usize) -> Result<Self, AllocError>
+        ensures { IfOk result (λ table. AreZero table count width) }
+    {
+        Ok(CountTable {
+            width,
+            heads: vec![in alloc; 0; count]?,
+            cells: Vec::new(alloc),
+        })
+    }
+
     /// How many rows there are, one for each vertex.
     pub fn len(&self) -> usize
         ensures { result ≡ length self.now }
     {
-        self.count
+        self.heads.len()
+    }
+
+    /// Raises a count of a vertex, if it is below.
+    pub(crate) fn put(&mut self, vertex: usize, place: usize, count: u64) -> Result<(), AllocError>
+        requires vertex { vertex < length self.old }
+        requires place { place < width_of self.old vertex }
+        ensures { OnOk result (HasPut self.old self.new vertex place count) }
+    {
+        let next = self.heads[vertex];
+        self.cells.push(CountCell { place, count, next })?;
+        self.heads[vertex] = self.cells.len();
+        Ok(())
     }
 
     /// Puts the counts of a vertex, one for each priority, into a list, in the place of what was in it.
@@ -103,20 +76,29 @@ impl CountTable {
         requires { vertex < length self.now }
         ensures { OnOk result (slice_get self.now vertex ≡ Some row.new.items) }
     {
-        row_in(&self.columns, vertex, row)?;
+        row.clear();
+        row.resize(self.width, 0)?;
+        raise_by(&self.cells, self.heads[vertex], row);
         Ok(())
     }
 }
 
-/// Puts the counts of a vertex in all columns into a list, in the place of what was in it.
-fn row_in(columns: &[CountColumn], vertex: usize, row: &mut Vec<u64>) -> Result<(), AllocError>
-    ensures { OnOk result (row.new.items ≡ row_in columns.now vertex) }
+/// Raises the counts of a row to those of a chain.
+fn raise_by(cells: &[CountCell], head: usize, row: &mut Vec<u64>)
+    requires chained { AreChained (length row.old.items) cells.now }
+    requires head { head ≤ length cells.now }
+    ensures long { length row.new.items ≡ length row.old.items }
+    ensures raised { (k : ℕ) → k < length row.old.items → slice_index row.new.items k ≡ max
+        (slice_index row.old.items k) (count_from cells.now head head k) }
 {
-    row.clear();
-    for column in columns {
-        row.push(column.count(vertex))?;
+    let mut next = head;
+    while next > 0 {
+        let cell = cells[next - 1];
+        if row[cell.place] < cell.count {
+            row[cell.place] = cell.count;
+        }
+        next = cell.next;
     }
-    Ok(())
 }
 
 /// The counts of each vertex for the priorities by which a player loses.

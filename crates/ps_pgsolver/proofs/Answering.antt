@@ -1,5 +1,7 @@
 -- The answer to a text, from its two readings.
-use Rattle.std.proofs.Common.{◌≡◌, ℕ, ◌≤◌, List, length, Option, None, Some, Result, Ok, Err, IsErrAnd, IfOk, refl, sym, ap, subst, ◌∙◌, zero, suc, ◌+◌, ◌-◌, Bool, true, false, cond, [], ◌∷◌, ◌++◌, arith, length-append}
+use Rattle.std.proofs.Common.{◌≡◌, ℕ, ◌≤◌, List, length, Option, None, Some, Result, Ok, Err, IsErrAnd, IfOk, refl, sym}
+use Rattle.std.proofs.Common.{ap, subst, ◌∙◌, zero, suc, ◌+◌, ◌-◌, Bool, true, false, cond, [], ◌∷◌, ◌++◌, arith}
+use Rattle.std.proofs.Common.{length-append}
 use Rattle.std.specs.Result.{IfErr}
 use Rattle.std.proofs.lemmas.Result.{err_from_is_err_and}
 use Rattle.ps_text.specs.Answers.{Piece, Stream, Found, signs, offset_of}
@@ -26,27 +28,35 @@ tokens text short = record { short = short; tokens = tokens_found text }
 module _ (text : List ℕ) (short : length text ≤ text_limit) where
   first_fault : (e : PgFault) → FaultAnswers None (stream_of text) (found_of e) → IsGameAnswer text (Err e)
   first_fault faults.OutOfMemory h = tt
-  first_fault (faults.Text cause offset) h = refused (stream_of text) (record { cause = cause; offset = offset }) (tokens text short) h refl
+  first_fault (faults.Text cause offset) h =
+      refused (stream_of text) (record { cause = cause; offset = offset }) (tokens text short) h refl
 
-  pub first_exit : (e : PgFault) (r : Result NamedGameData PgFault) → FaultAnswers None (stream_of text) (found_of e) → IsErrAnd r (λ y. y ≡ e) → IsGameAnswer text r
-  first_exit e r h i = let y = err_from_is_err_and r i in subst (IsGameAnswer text) (sym (y.1 ∙ ap Err y.2)) (first_fault e h)
+  pub first_exit : (e : PgFault) (r : Result NamedGameData PgFault) → FaultAnswers None (stream_of text) (found_of e) →
+      IsErrAnd r (λ y. y ≡ e) → IsGameAnswer text r
+  first_exit e r h i =
+      let y = err_from_is_err_and r i in subst (IsGameAnswer text) (sym (y.1 ∙ ap Err y.2)) (first_fault e h)
 
   module _ (nodes : List NodeData) (first : PartAnswers pg_causes (game None) (stream_of text) (Ok nodes)) where
-    pub unknown_answer : (e : PgFault) → FaultAnswers (Some (ids_of nodes)) (stream_of text) (found_of e) → IsGameAnswer text (Err e)
+    pub unknown_answer : (e : PgFault) → FaultAnswers (Some (ids_of nodes)) (stream_of text) (found_of e) →
+        IsGameAnswer text (Err e)
     unknown_answer faults.OutOfMemory h = tt
-    unknown_answer (faults.Text cause offset) h = unknown (stream_of text) nodes (record { cause = cause; offset = offset }) (tokens text short) first h refl
+    unknown_answer (faults.Text cause offset) h =
+        unknown (stream_of text) nodes (record { cause = cause; offset = offset }) (tokens text short) first h refl
 
     pub answer : PartAnswers pg_causes (game (Some (ids_of nodes))) (stream_of text) (Ok nodes) →
-        (r : Result NamedGameData PgFault) → IfOk r (λ named. named ≡ named_game_of nodes) → IfErr r (λ fault. fault ≡ faults.OutOfMemory) → IsGameAnswer text r
+        (r : Result NamedGameData PgFault) → IfOk r (λ named. named ≡ named_game_of nodes) →
+        IfErr r (λ fault. fault ≡ faults.OutOfMemory) → IsGameAnswer text r
     answer second (Ok named) v m = meaning (stream_of text) nodes (tokens text short) first second (ap Ok v)
     answer second (Err fault) v m = subst (λ f. IsGameAnswer text (Err f)) (sym m) tt
 
 -- a second reading, with the ids known, stops where a successor is no id
-pub none_unknown : (text : List ℕ) (nodes other : List NodeData) → PartAnswers pg_causes (game None) (stream_of text) (Ok nodes) →
+pub none_unknown : (text : List ℕ) (nodes other : List NodeData) →
+    PartAnswers pg_causes (game None) (stream_of text) (Ok nodes) →
     PartAnswers pg_causes (game (Some (ids_of nodes))) (stream_of text) (Ok other) → KnowsAll (ids_of nodes) nodes
 none_unknown text nodes other first second =
     let same = same_nodes (Some (ids_of nodes)) (signs (stream_of text).pieces) nodes other first.0 second.0 in
-    subst (KnowsAll (ids_of nodes)) (sym same) (knows_all (ids_of nodes) (signs (stream_of text).pieces) other second.0 second.1)
+    subst (KnowsAll (ids_of nodes)) (sym same) (knows_all (ids_of nodes) (signs (stream_of text).pieces) other
+    second.0 second.1)
 
 -- ## Each refusal stands within the text
 
@@ -58,27 +68,36 @@ chosen : (n : ℕ) (t : Bool) (xs ys : List (Piece Sign)) → AllWithin n xs →
 chosen n true xs ys x y = x
 chosen n false xs ys x y = y
 
-lex_within : (n skip : ℕ) (before bytes : List ℕ) → length before + length bytes ≤ n → AllWithin n (lex skip before bytes)
+lex_within : (n skip : ℕ) (before bytes : List ℕ) → length before + length bytes ≤ n →
+    AllWithin n (lex skip before bytes)
 unfolding lex
 lex_within n skip before [] h = tt
-lex_within n (suc skip) before (b ∷ bs) h = lex_within n skip (before ++ b ∷ []) bs (omega (arith, h, length-append before (b ∷ [])))
+lex_within n (suc skip) before (b ∷ bs) h =
+    lex_within n skip (before ++ b ∷ []) bs (omega (arith, h, length-append before (b ∷ [])))
 lex_within n zero before (b ∷ bs) h =
     let next : length (before ++ b ∷ []) + length bs ≤ n = omega (arith, h, length-append before (b ∷ [])) in
     chosen n (is_blank b) (lex zero (before ++ b ∷ []) bs)
-    ((record { sign = first_sign before (b ∷ bs); start = length before }) ∷ lex (first_size (b ∷ bs) - 1) (before ++ b ∷ []) bs)
-    (lex_within n zero (before ++ b ∷ []) bs next) (omega (arith, h), lex_within n (first_size (b ∷ bs) - 1) (before ++ b ∷ []) bs next)
+    ((record { sign = first_sign before (b ∷ bs); start = length before }) ∷ lex (first_size (b ∷ bs) - 1)
+    (before ++ b ∷ []) bs)
+    (lex_within n zero (before ++ b ∷ []) bs next) (
+      omega (arith, h),
+      lex_within n (first_size (b ∷ bs) - 1) (before ++ b ∷ []) bs next,
+    )
 
 offset_within : (n : ℕ) (front rest : List (Piece Sign)) → AllWithin n (front ++ rest) → offset_of rest n ≤ n
 offset_within n [] [] h = omega arith
 offset_within n [] (p ∷ rest) h = h.0
 offset_within n (p ∷ front) rest h = offset_within n front rest h.1
 
-refused_within : (text : List ℕ) (stream : Stream Sign) (found : Found PgCause) (known : Option (List ℕ)) → HasTokens text stream → PartAnswers pg_causes (game known) stream (Err found) → found.offset ≤ length text
+refused_within : (text : List ℕ) (stream : Stream Sign) (found : Found PgCause) (known : Option (List ℕ)) →
+    HasTokens text stream → PartAnswers pg_causes (game known) stream (Err found) → found.offset ≤ length text
 refused_within text stream found known t p =
     let same_stream : stream ≡ stream_of text = only_tokens text stream t.tokens in
     let split : lex 0 [] text ≡ p.front ++ p.rest = sym (ap (λ s. s.pieces) same_stream) ∙ p.split in
-    let offset : found.offset ≡ offset_of p.rest (length text) = p.offset ∙ ap (λ s. offset_of p.rest s.end) same_stream in
-    subst (λ n. n ≤ length text) (sym offset) (offset_within (length text) p.front p.rest (subst (AllWithin (length text)) split (lex_within (length text) 0 [] text (omega arith))))
+    let offset : found.offset ≡ offset_of p.rest (length text) = p.offset
+    ∙ ap (λ s. offset_of p.rest s.end) same_stream in
+    subst (λ n. n ≤ length text) (sym offset) (offset_within (length text) p.front p.rest
+    (subst (AllWithin (length text)) split (lex_within (length text) 0 [] text (omega arith))))
 
 abbrev refuses : Found PgCause → Result NamedGameData (Found PgCause)
 refuses f = Err f
@@ -89,11 +108,16 @@ same_refusal f g e = let x : refuses f ≡ refuses g = e in cc
 answer_within : (text : List ℕ) (found : Found PgCause) → Answer text (Err found) → found.offset ≤ length text
 answer_within text found (too_long l e) =
     let x : found.offset ≡ text_limit = ap (λ f. f.offset) (same_refusal found _ e) in omega (arith, x, l)
-answer_within text found (refused stream f t p e) = subst (λ g. g.offset ≤ length text) (sym (same_refusal found f e)) (refused_within text stream f None t p)
-answer_within text found (unknown stream nodes f t p q e) = subst (λ g. g.offset ≤ length text) (sym (same_refusal found f e)) (refused_within text stream f (Some (ids_of nodes)) t q)
-answer_within text found (meaning stream nodes t p q e) = absurd (let x : refuses found ≡ Ok (named_game_of nodes) = e in cc)
+answer_within text found (refused stream f t p e) =
+    subst (λ g. g.offset ≤ length text) (sym (same_refusal found f e)) (refused_within text stream f None t p)
+answer_within text found (unknown stream nodes f t p q e) =
+    subst (λ g. g.offset ≤ length text) (sym (same_refusal found f e))
+    (refused_within text stream f (Some (ids_of nodes)) t q)
+answer_within text found (meaning stream nodes t p q e) =
+    absurd (let x : refuses found ≡ Ok (named_game_of nodes) = e in cc)
 
-pub within_text : (text : List ℕ) (r : Result NamedGameData PgFault) → IsGameAnswer text r → IfErr r (StandsWithin (length text))
+pub within_text : (text : List ℕ) (r : Result NamedGameData PgFault) → IsGameAnswer text r →
+    IfErr r (StandsWithin (length text))
 within_text text (Ok named) h = tt
 within_text text (Err faults.OutOfMemory) h = tt
 within_text text (Err (faults.Text cause offset)) h = answer_within text (record { cause = cause; offset = offset }) h

@@ -1,5 +1,6 @@
 -- The parts that may be missing: a setting and a name. And where a loop goes on.
-use Rattle.std.proofs.Common.{◌≡◌, ℕ, ◌<◌, true, false, List, [], ◌∷◌, ◌++◌, length, Option, None, Some, Ok, Err, refl, sym, ap, subst, inl, ◌∙◌, arith}
+use Rattle.std.proofs.Common.{◌≡◌, ℕ, ◌<◌, true, false, List, [], ◌∷◌, ◌++◌, length, Option, None, Some, Ok, Err, refl}
+use Rattle.std.proofs.Common.{sym, ap, subst, inl, ◌∙◌, arith}
 use Rattle.ps_text.specs.Answers.{Stream, next_of}
 use Rattle.ps_text.specs.Parts.{one, NoBad}
 use Rattle.ps_text.specs.Readers.{tail}
@@ -8,38 +9,53 @@ use Rattle.ps_text.proofs.Covered.{Enters, Avoids, enters_then, enters_one, ente
 use Rattle.ps_text.proofs.Meeting.{left_entered, right_otherwise, meets_shrinks}
 use Rattle.ps_text.proofs.Meeting.{meets_give, meets_next}
 use Rattle.ps_pgsolver.specs.Answered.{found_of}
-use Rattle.ps_pgsolver.specs.GameTexts.{pg_causes, setting, keyword, keyword_in, value_line, name, name_in, number_in, comma, comma_in, BadId, more_successor, new_id, node, entry}
+use Rattle.ps_pgsolver.specs.GameTexts.{pg_causes, setting, keyword, keyword_in, value_line, name, name_in, number_in}
+use Rattle.ps_pgsolver.specs.GameTexts.{comma, comma_in, BadId, more_successor, new_id, node, entry}
 use Rattle.ps_pgsolver.specs.Heads.{is_number, is_comma, name_of}
 use Rattle.ps_pgsolver.specs.Nodes.{NodeData, ids_of}
 use Rattle.ps_pgsolver.specs.Signs.{Sign, Number, Word, Name, Comma, Semicolon, OpenName, Wrong}
 use Rattle.ps_pgsolver.specs.declared.fault.PgCause.{PgCause}
 use Rattle.ps_pgsolver.specs.Causes.{PgFault}
 use Rattle.ps_pgsolver.proofs.Exits.{Done, Halts, stops_right, done_then}
-use Rattle.ps_pgsolver.proofs.PartLaws.{IsKind, kind_of, laws_line, laws_no_line, joint_line, line, takes_word, laws_one_name, laws_no_name, joint_more, joint_id, from_priority, another, laws_more, laws_entry}
+use Rattle.ps_pgsolver.proofs.PartLaws.{IsKind, kind_of, laws_line, laws_no_line, joint_line, line, takes_word}
+use Rattle.ps_pgsolver.proofs.PartLaws.{laws_one_name, laws_no_name, joint_more, joint_id, from_priority, another}
+use Rattle.ps_pgsolver.proofs.PartLaws.{laws_more, laws_entry}
 
-keyword_done : (word : List ℕ) (old new : Stream Sign) → next_of old ≡ Some (Word word) → new ≡ tail old → Done (keyword word) old tt new
+keyword_done : (word : List ℕ) (old new : Stream Sign) → next_of old ≡ Some (Word word) → new ≡ tail old →
+    Done (keyword word) old tt new
 unfolding keyword
-keyword_done word old new e n = meets_next found_of pg_causes (keyword_in word) NoBad (λ u. u) old new (Word word) tt e n (takes_word word) (λ f b. b)
+keyword_done word old new e n =
+    meets_next found_of pg_causes (keyword_in word) NoBad (λ u. u) old new (Word word) tt e n
+    (takes_word word) (λ f b. b)
 
 line_entered : (word : List ℕ) (old : Stream Sign) → next_of old ≡ Some (Word word) → Enters (line word) (next_of old)
 unfolding keyword
 line_entered word old e = subst (λ there. Enters (line word) there) (sym e)
-    (enters_then (keyword word) (λ _. value_line) (joint_line word) (Some (Word word)) (enters_one (keyword_in word) NoBad (Word word) (inl (tt, takes_word word))))
+    (enters_then (keyword word) (λ _. value_line) (joint_line word) (Some (Word word))
+    (enters_one (keyword_in word) NoBad (Word word) (inl (tt, takes_word word))))
 
-pub setting_none : (word : List ℕ) (old : Stream Sign) → (next_of old ≡ Some (Word word) → ⊥) → Done (setting word) old tt old
+pub setting_none : (word : List ℕ) (old : Stream Sign) → (next_of old ≡ Some (Word word) → ⊥) →
+    Done (setting word) old tt old
 unfolding setting
-setting_none word old differs = right_otherwise found_of pg_causes (laws_line word) (laws_no_line word) (λ u. u) old old (Ok tt)
+setting_none word old differs =
+    right_otherwise found_of pg_causes (laws_line word) (laws_no_line word) (λ u. u) old old (Ok tt)
     (λ t e h. differs (e ∙ ap Some h)) (λ h. h) (meets_give found_of pg_causes (λ u. u) old tt tt refl)
 
-pub setting_done : (word : List ℕ) (old mid new : Stream Sign) → next_of old ≡ Some (Word word) → mid ≡ tail old → Done value_line mid tt new → Done (setting word) old tt new
+pub setting_done : (word : List ℕ) (old mid new : Stream Sign) → next_of old ≡ Some (Word word) → mid ≡ tail old →
+    Done value_line mid tt new → Done (setting word) old tt new
 unfolding setting
-setting_done word old mid new e n d = left_entered found_of pg_causes (laws_line word) (laws_no_line word) (λ u. u) old new (Ok tt)
-    (λ t h k. k) (line_entered word old e) (done_then (joint_line word) old mid new tt tt (keyword_done word old mid e n) d)
+setting_done word old mid new e n d =
+    left_entered found_of pg_causes (laws_line word) (laws_no_line word) (λ u. u) old new (Ok tt)
+    (λ t h k. k) (line_entered word old e) (done_then (joint_line word) old mid new tt tt
+    (keyword_done word old mid e n) d)
 
-pub setting_halts : (word : List ℕ) (old mid : Stream Sign) (f : PgFault) → next_of old ≡ Some (Word word) → mid ≡ tail old → Halts value_line mid f → Halts (setting word) old f
+pub setting_halts : (word : List ℕ) (old mid : Stream Sign) (f : PgFault) → next_of old ≡ Some (Word word) →
+    mid ≡ tail old → Halts value_line mid f → Halts (setting word) old f
 unfolding setting
-setting_halts word old mid f e n d = left_entered found_of pg_causes {X = Unit {0}} (laws_line word) (laws_no_line word) (λ u. u) old old (Err f)
-    (λ t h k. k) (line_entered word old e) (stops_right (joint_line word) old mid tt f (keyword_done word old mid e n) d)
+setting_halts word old mid f e n d =
+    left_entered found_of pg_causes {X = Unit {0}} (laws_line word) (laws_no_line word) (λ u. u) old old (Err f)
+    (λ t h k. k) (line_entered word old e) (stops_right (joint_line word) old mid tt f
+    (keyword_done word old mid e n) d)
 
 some_none : {T : Type 0} (t : T) → Some t ≡ None → ⊥
 some_none t e = none_is_some t (sym e)
@@ -69,12 +85,14 @@ unfolding name
 name_none old e = right_otherwise found_of pg_causes laws_one_name laws_no_name (λ n. n) old old (Ok None)
     (λ t h k. no_name t (sym (ap name_of h) ∙ e) k) (λ h. h) (meets_give found_of pg_causes (λ n. n) old None None refl)
 
-pub name_done : (old new : Stream Sign) (inner : List ℕ) → name_of (next_of old) ≡ Some inner → new ≡ tail old → Done name old (Some inner) new
+pub name_done : (old new : Stream Sign) (inner : List ℕ) → name_of (next_of old) ≡ Some inner → new ≡ tail old →
+    Done name old (Some inner) new
 unfolding name
 name_done old new inner e n =
     let is : next_of old ≡ Some (Name inner) = named (next_of old) inner e in
     left_entered found_of pg_causes laws_one_name laws_no_name (λ n. n) old new (Ok (Some inner)) (λ t h k. k)
-    (subst (λ there. Enters (one {F = PgCause} name_in NoBad) there) (sym is) (enters_one name_in NoBad (Name inner) (inl (Some inner, refl))))
+    (subst (λ there. Enters (one {F = PgCause} name_in NoBad) there) (sym is)
+    (enters_one name_in NoBad (Name inner) (inl (Some inner, refl))))
     (meets_next found_of pg_causes name_in NoBad (λ n. n) old new (Name inner) (Some inner) is n refl (λ f b. b))
 
 -- ## Loops
@@ -102,10 +120,13 @@ no_comma Wrong e h = absurd (omega (arith, h))
 pub comma_avoided : (old : Stream Sign) → is_comma (next_of old) ≡ false → Avoids (IsKind 3) (next_of old)
 comma_avoided old e t h k = no_comma t (sym (ap is_comma h) ∙ e) k
 
-pub comma_entered : (known : Option (List ℕ)) (list : List ℕ) (old : Stream Sign) → is_comma (next_of old) ≡ true → Enters (more_successor known list) (next_of old)
+pub comma_entered : (known : Option (List ℕ)) (list : List ℕ) (old : Stream Sign) → is_comma (next_of old) ≡ true →
+    Enters (more_successor known list) (next_of old)
 unfolding more_successor comma
-comma_entered known list old e = subst (λ there. Enters (more_successor known list) there) (sym (comma_is (next_of old) e))
-    (enters_then comma (λ _. another known list) (joint_more known list) (Some Comma) (enters_one comma_in NoBad Comma (inl (tt, refl))))
+comma_entered known list old e =
+    subst (λ there. Enters (more_successor known list) there) (sym (comma_is (next_of old) e))
+    (enters_then comma (λ _. another known list) (joint_more known list) (Some Comma)
+    (enters_one comma_in NoBad Comma (inl (tt, refl))))
 
 number_is : (o : Option Sign) → is_number o ≡ true → (n : ℕ) × (o ≡ Some (Number n))
 number_is (Some (Number x)) e = (x, refl)
@@ -134,17 +155,24 @@ id_entered : (ids : List ℕ) (n : ℕ) → Enters (new_id ids) (Some (Number n)
 unfolding new_id
 id_entered ids n = enters_one number_in (BadId ids) (Number n) (inl (n, refl))
 
-pub number_entered : (known : Option (List ℕ)) (nodes : List NodeData) (old : Stream Sign) → is_number (next_of old) ≡ true → Enters (entry known nodes) (next_of old)
+pub number_entered : (known : Option (List ℕ)) (nodes : List NodeData) (old : Stream Sign) →
+    is_number (next_of old) ≡ true → Enters (entry known nodes) (next_of old)
 unfolding entry node
 number_entered known nodes old e =
     let is = number_is (next_of old) e in
     subst (λ there. Enters (entry known nodes) there) (sym is.1)
     (enters_mapped (λ n. nodes ++ n ∷ []) (node known (ids_of nodes)) (Some (Number is.0))
-    (enters_then (new_id (ids_of nodes)) (from_priority known (ids_of nodes)) (joint_id known (ids_of nodes)) (Some (Number is.0)) (id_entered (ids_of nodes) is.0)))
+    (enters_then (new_id (ids_of nodes)) (from_priority known (ids_of nodes)) (joint_id known (ids_of nodes))
+    (Some (Number is.0)) (id_entered (ids_of nodes) is.0)))
 
 -- what was read leaves fewer pieces
-pub more_shrinks : (known : Option (List ℕ)) (list v : List ℕ) (old new : Stream Sign) → Done (more_successor known list) old v new → length new.pieces < length old.pieces
-more_shrinks known list v old new d = meets_shrinks found_of pg_causes (λ x. x) (more_successor known list) old new v (λ w h. (laws_more known list).null w h) d
+pub more_shrinks : (known : Option (List ℕ)) (list v : List ℕ) (old new : Stream Sign) →
+    Done (more_successor known list) old v new → length new.pieces < length old.pieces
+more_shrinks known list v old new d =
+    meets_shrinks found_of pg_causes (λ x. x) (more_successor known list) old new v
+    (λ w h. (laws_more known list).null w h) d
 
-pub entry_shrinks : (known : Option (List ℕ)) (nodes v : List NodeData) (old new : Stream Sign) → Done (entry known nodes) old v new → length new.pieces < length old.pieces
-entry_shrinks known nodes v old new d = meets_shrinks found_of pg_causes (λ x. x) (entry known nodes) old new v (λ w h. (laws_entry known nodes).null w h) d
+pub entry_shrinks : (known : Option (List ℕ)) (nodes v : List NodeData) (old new : Stream Sign) →
+    Done (entry known nodes) old v new → length new.pieces < length old.pieces
+entry_shrinks known nodes v old new d =
+    meets_shrinks found_of pg_causes (λ x. x) (entry known nodes) old new v (λ w h. (laws_entry known nodes).null w h) d

@@ -23,30 +23,38 @@ Done part old v new = IsSuffix old new × IsRead part (signs old.pieces) v (sign
 abbrev pub Halts : {V : Type 0} → Part Sign V PgCause → Stream Sign → PgFault → Type 0
 Halts part old e = Stops pg_causes part old (found_of e)
 
-pub done_then : {A B : Type 0} {P : Part Sign A PgCause} {Q : A → Part Sign B PgCause} → Joint P Q → (old mid new : Stream Sign) (a : A) (b : B) →
+pub done_then : {A B : Type 0} {P : Part Sign A PgCause} {Q : A → Part Sign B PgCause} → Joint P Q →
+    (old mid new : Stream Sign) (a : A) (b : B) →
     Done P old a mid → Done (Q a) mid b new → Done (then_by P Q) old b new
 done_then j old mid new a b m n = then_meets found_of pg_causes j (λ x. x) (λ x. x) old mid new a (Ok b) m n
 
-pub stops_left : {A B : Type 0} {P : Part Sign A PgCause} {Q : A → Part Sign B PgCause} → Joint P Q → (old : Stream Sign) (e : PgFault) →
+pub stops_left : {A B : Type 0} {P : Part Sign A PgCause} {Q : A → Part Sign B PgCause} → Joint P Q →
+    (old : Stream Sign) (e : PgFault) →
     Halts P old e → Halts (then_by P Q) old e
 stops_left {A} {B} j old e m = then_fails found_of pg_causes {X = A} {Y = B} j (λ x. x) (λ x. x) old old old e m
 
-pub stops_right : {A B : Type 0} {P : Part Sign A PgCause} {Q : A → Part Sign B PgCause} → Joint P Q → (old mid : Stream Sign) (a : A) (e : PgFault) →
+pub stops_right : {A B : Type 0} {P : Part Sign A PgCause} {Q : A → Part Sign B PgCause} → Joint P Q →
+    (old mid : Stream Sign) (a : A) (e : PgFault) →
     Done P old a mid → Halts (Q a) mid e → Halts (then_by P Q) old e
-stops_right {A} {B} j old mid a e m n = then_meets found_of pg_causes {X = A} {Y = B} j (λ x. x) (λ x. x) old mid mid a (Err e) m n
+stops_right {A} {B} j old mid a e m n =
+    then_meets found_of pg_causes {X = A} {Y = B} j (λ x. x) (λ x. x) old mid mid a (Err e) m n
 
-pub done_mapped : {A B : Type 0} (h : A → B) (P : Part Sign A PgCause) (old new : Stream Sign) (a : A) → Done P old a new → Done (mapped h P) old (h a) new
+pub done_mapped : {A B : Type 0} (h : A → B) (P : Part Sign A PgCause) (old new : Stream Sign) (a : A) →
+    Done P old a new → Done (mapped h P) old (h a) new
 done_mapped {A} {B} h P old new a m = meets_mapped found_of pg_causes (λ x. x) h P old new (Ok a) m
 
-pub stops_mapped : {A B : Type 0} (h : A → B) (P : Part Sign A PgCause) (old : Stream Sign) (e : PgFault) → Halts P old e → Halts (mapped h P) old e
+pub stops_mapped : {A B : Type 0} (h : A → B) (P : Part Sign A PgCause) (old : Stream Sign) (e : PgFault) →
+    Halts P old e → Halts (mapped h P) old e
 stops_mapped {A} {B} h P old e m = meets_mapped found_of pg_causes {X = A} (λ x. x) h P old old (Err e) m
 
-pub exit : {V X : Type 0} (view : X → V) (P : Part Sign V PgCause) (old new : Stream Sign) (e : PgFault) (r : Result X PgFault) →
+pub exit : {V X : Type 0} (view : X → V) (P : Part Sign V PgCause) (old new : Stream Sign) (e : PgFault)
+    (r : Result X PgFault) →
     Halts P old e → IsErrAnd r (λ y. y ≡ e) → ReadsAs view P old r new
 exit view P old new e r m i = exits found_of pg_causes view P old new e r m i
 
 -- the value of a part that was read, by an equation
-pub done_value : {V : Type 0} (P : Part Sign V PgCause) (old new : Stream Sign) (v w : V) → v ≡ w → Done P old v new → Done P old w new
+pub done_value : {V : Type 0} (P : Part Sign V PgCause) (old new : Stream Sign) (v w : V) → v ≡ w → Done P old v new →
+    Done P old w new
 done_value P old new v w e m = (m.0, subst (λ x. IsRead P (signs old.pieces) x (signs new.pieces)) e m.1)
 
 -- what is left to read: the whole is read from start on where rest is read from now on
@@ -54,26 +62,35 @@ pub record Continues {V : Type 0} (whole rest : Part Sign V PgCause) (start now 
   pub done : (v : V) (new : Stream Sign) → Done rest now v new → Done whole start v new
   pub stops : (e : PgFault) → Halts rest now e → Halts whole start e
 
-pub continues_start : {V : Type 0} (whole : Part Sign V PgCause) (start : Stream Sign) → Continues whole whole start start
+pub continues_start : {V : Type 0} (whole : Part Sign V PgCause) (start : Stream Sign) →
+    Continues whole whole start start
 continues_start whole start = record { done = λ v new m. m; stops = λ e m. m }
 
-pub continues_then : {A B : Type 0} {P : Part Sign A PgCause} {Q : A → Part Sign B PgCause} → Joint P Q → (whole : Part Sign B PgCause) (start now next : Stream Sign) (a : A) →
+pub continues_then : {A B : Type 0} {P : Part Sign A PgCause} {Q : A → Part Sign B PgCause} → Joint P Q →
+    (whole : Part Sign B PgCause) (start now next : Stream Sign) (a : A) →
     Continues whole (then_by P Q) start now → Done P now a next → Continues whole (Q a) start next
 continues_then j whole start now next a k m = record {
   done = λ v new n. k.done v new (done_then j now next new a v m n);
   stops = λ e n. k.stops e (stops_right j now next a e m n);
 }
 
-module _ {C : Type 0} {odd : Sign → Type 0} (item : C → Part Sign C PgCause) {First More : Sign → Type 0} (l : (c : C) → Laws odd (item c) First More ⊥) (apart : Apart More First) where
+module _ {C : Type 0} {odd : Sign → Type 0} (item : C → Part Sign C PgCause) {First More : Sign → Type 0}
+    (l : (c : C) → Laws odd (item c) First More ⊥) (apart : Apart More First) where
   pub continues_many : (whole : Part Sign C PgCause) (start now next : Stream Sign) (c d : C) →
       Continues whole (many item c) start now → Done (item c) now d next → Continues whole (many item d) start next
   continues_many whole start now next c d k m = record {
-    done = λ v new n. k.done v new (many_then found_of pg_causes {X = C} item l apart (λ x. x) (λ x. x) c now next new d (Ok v) m n);
-    stops = λ e n. k.stops e (many_then found_of pg_causes {X = C} item l apart (λ x. x) (λ x. x) c now next next d (Err e) m n);
+    done =
+        λ v new n. k.done v new (many_then found_of pg_causes {X = C} item l apart (λ x. x) (λ x. x) c now next
+        new d (Ok v) m n);
+    stops =
+        λ e n. k.stops e (many_then found_of pg_causes {X = C} item l apart (λ x. x) (λ x. x) c now next next
+        d (Err e) m n);
   }
 
-  pub many_halts : (c : C) (now : Stream Sign) (e : PgFault) → Enters (item c) (next_of now) → Halts (item c) now e → Halts (many item c) now e
-  many_halts c now e h m = many_fails found_of pg_causes {X = C} item l apart (λ x. x) {Y = C} (λ x. x) c now now now e h m
+  pub many_halts : (c : C) (now : Stream Sign) (e : PgFault) → Enters (item c) (next_of now) → Halts (item c) now e →
+      Halts (many item c) now e
+  many_halts c now e h m =
+      many_fails found_of pg_causes {X = C} item l apart (λ x. x) {Y = C} (λ x. x) c now now now e h m
 
   pub many_done : (c : C) (now : Stream Sign) → Avoids First (next_of now) → Done (many item c) now c now
   many_done c now a = many_ends found_of pg_causes item l apart (λ x. x) c now c a refl

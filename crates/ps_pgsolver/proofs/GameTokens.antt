@@ -1,5 +1,7 @@
 -- The tokens of a game text are those that the lexer finds, and no others.
-use Rattle.std.proofs.Common.{◌≡◌, ℕ, zero, suc, ◌+◌, ◌-◌, ◌<◌, ◌≤◌, Bool, true, false, cond, eqb, List, [], ◌∷◌, ◌++◌, length, get_or, take, drop, refl, sym, ap, subst, ◌∙◌, ⊎_elim, arith, append_assoc, append-nil, length-append}
+use Rattle.std.proofs.Common.{◌≡◌, ℕ, zero, suc, ◌+◌, ◌-◌, ◌<◌, ◌≤◌, Bool, true, false, cond, eqb, List, [], ◌∷◌, ◌++◌}
+use Rattle.std.proofs.Common.{length, get_or, take, drop, refl, sym, ap, subst, ◌∙◌, ⊎_elim, arith, append_assoc}
+use Rattle.std.proofs.Common.{append-nil, length-append}
 use Rattle.std.specs.List.{prefix_len, take_while}
 use Rattle.std.proofs.lemmas.List.{take_more, drop_all, length-drop}
 use Rattle.std.proofs.Math.Seq.{take-append_seam}
@@ -14,34 +16,43 @@ use Rattle.ps_text.specs.Tokens.{NextToken, TokensFrom, TokensDiffer}
 use Rattle.ps_text.proofs.OneTokenisation.{has_one_tokenisation}
 use Rattle.ps_pgsolver.specs.Bytes.{is_blank, is_digit, is_letter, is_inner, ends_in}
 use Rattle.ps_pgsolver.specs.Signs.{Sign, Number, Word, Name, Comma, Semicolon, OpenName, Wrong}
-use Rattle.ps_pgsolver.specs.Lexer.{lex, first_sign, first_size, number_sign, word_sign, name_sign, name_size, mark_sign, is_closed, stream_of}
-use Rattle.ps_pgsolver.specs.GameTokens.{AllOf, StopsBefore, IsRun, number_behind_word, word_behind_number, stray, IsToken, AreGameTokens}
-use Rattle.ps_pgsolver.proofs.TokenLemmas.{at_digit, at_letter, at_quote, at_mark, lex-blanks, lex-first, lex-end, prefix_len-behind, first_size-positive}
+use Rattle.ps_pgsolver.specs.Lexer.{lex, first_sign, first_size, number_sign, word_sign, name_sign, name_size}
+use Rattle.ps_pgsolver.specs.Lexer.{mark_sign, is_closed, stream_of}
+use Rattle.ps_pgsolver.specs.GameTokens.{AllOf, StopsBefore, IsRun, number_behind_word, word_behind_number, stray}
+use Rattle.ps_pgsolver.specs.GameTokens.{IsToken, AreGameTokens}
+use Rattle.ps_pgsolver.proofs.TokenLemmas.{at_digit, at_letter, at_quote, at_mark, lex-blanks, lex-first, lex-end}
+use Rattle.ps_pgsolver.proofs.TokenLemmas.{prefix_len-behind, first_size-positive}
 
 -- ## Runs
 
-run_len : (p : ℕ → Bool) (text rest : List ℕ) → AllOf p text → StopsBefore p rest → prefix_len p (text ++ rest) ≡ length text
+run_len : (p : ℕ → Bool) (text rest : List ℕ) → AllOf p text → StopsBefore p rest →
+    prefix_len p (text ++ rest) ≡ length text
 run_len p [] [] a s = refl
 run_len p [] (b ∷ bs) a s = rw s refl
-run_len p (b ∷ text) rest a s = let ih : prefix_len p (text ++ rest) ≡ length text = run_len p text rest a.1 s in rw a.0 (omega (arith, ih))
+run_len p (b ∷ text) rest a s =
+    let ih : prefix_len p (text ++ rest) ≡ length text = run_len p text rest a.1 s in rw a.0 (omega (arith, ih))
 
 run_all : (p : ℕ → Bool) (w : List ℕ) → AllOf p (take (prefix_len p w) w)
 run_all p [] = tt
 run_all p (b ∷ bs) = ⊎_elim
-    (λ yes. let size : prefix_len p (b ∷ bs) ≡ suc (prefix_len p bs) = rw yes (omega arith) in rw size (yes, run_all p bs))
+    (λ yes. let size : prefix_len p (b ∷ bs) ≡ suc (prefix_len p bs) = rw yes (omega arith) in
+    rw size (yes, run_all p bs))
     (λ no. let size : prefix_len p (b ∷ bs) ≡ 0 = rw no refl in rw size tt)
     (cases_Bool (p b))
 
 stops_at_zero : (p : ℕ → Bool) (w : List ℕ) → prefix_len p w ≡ 0 → StopsBefore p w
 stops_at_zero p [] e = tt
 stops_at_zero p (b ∷ bs) e = ⊎_elim
-    (λ yes. absurd (let size : prefix_len p (b ∷ bs) ≡ suc (prefix_len p bs) = rw yes (omega arith) in omega (arith, size, e)))
+    (λ yes. absurd (let size : prefix_len p (b ∷ bs) ≡ suc (prefix_len p bs) = rw yes (omega arith) in
+    omega (arith, size, e)))
     (λ no. no)
     (cases_Bool (p b))
 
-first_run : (p : ℕ → Bool) (b : ℕ) (bs : List ℕ) → p b ≡ true → IsRun p (take (prefix_len p (b ∷ bs)) (b ∷ bs)) (drop (prefix_len p (b ∷ bs)) (b ∷ bs))
+first_run : (p : ℕ → Bool) (b : ℕ) (bs : List ℕ) → p b ≡ true →
+    IsRun p (take (prefix_len p (b ∷ bs)) (b ∷ bs)) (drop (prefix_len p (b ∷ bs)) (b ∷ bs))
 first_run p b bs h = record {
-  some = let size : prefix_len p (b ∷ bs) ≡ suc (prefix_len p bs) = rw h (omega arith) in omega (arith, size, length-prefix_len p (b ∷ bs));
+  some = let size : prefix_len p (b ∷ bs) ≡ suc (prefix_len p bs) = rw h (omega arith) in
+      omega (arith, size, length-prefix_len p (b ∷ bs));
   all = run_all p (b ∷ bs);
   longest = stops_at_zero p (drop (prefix_len p (b ∷ bs)) (b ∷ bs)) (prefix_len-behind p (b ∷ bs));
 }
@@ -68,23 +79,27 @@ Found before w t n = IsToken before t (take n w) (drop n w)
 run_text : (p : ℕ → Bool) (w : List ℕ) → take (prefix_len p w) w ≡ take_while p w
 run_text p w = refl
 
-number_found : (before : List ℕ) (b : ℕ) (bs : List ℕ) → is_digit b ≡ true → Found before (b ∷ bs) (number_sign before (b ∷ bs)) (prefix_len is_digit (b ∷ bs))
+number_found : (before : List ℕ) (b : ℕ) (bs : List ℕ) → is_digit b ≡ true →
+    Found before (b ∷ bs) (number_sign before (b ∷ bs)) (prefix_len is_digit (b ∷ bs))
 number_found before b bs h = go (ends_in is_letter before) refl
   where
     n : ℕ
     n = prefix_len is_digit (b ∷ bs)
 
-    go : (e : Bool) → ends_in is_letter before ≡ e → IsToken before (cond e Wrong (Number (decimal_value (take_while is_digit (b ∷ bs))))) (take n (b ∷ bs)) (drop n (b ∷ bs))
+    go : (e : Bool) → ends_in is_letter before ≡ e → IsToken before
+        (cond e Wrong (Number (decimal_value (take_while is_digit (b ∷ bs))))) (take n (b ∷ bs)) (drop n (b ∷ bs))
     go true x = number_behind_word (first_run is_digit b bs h) x
     go false x = (first_run is_digit b bs h, refl, x)
 
-word_found : (before : List ℕ) (b : ℕ) (bs : List ℕ) → is_letter b ≡ true → Found before (b ∷ bs) (word_sign before (b ∷ bs)) (prefix_len is_letter (b ∷ bs))
+word_found : (before : List ℕ) (b : ℕ) (bs : List ℕ) → is_letter b ≡ true →
+    Found before (b ∷ bs) (word_sign before (b ∷ bs)) (prefix_len is_letter (b ∷ bs))
 word_found before b bs h = go (ends_in is_digit before) refl
   where
     n : ℕ
     n = prefix_len is_letter (b ∷ bs)
 
-    go : (e : Bool) → ends_in is_digit before ≡ e → IsToken before (cond e Wrong (Word (take_while is_letter (b ∷ bs)))) (take n (b ∷ bs)) (drop n (b ∷ bs))
+    go : (e : Bool) → ends_in is_digit before ≡ e → IsToken before (cond e Wrong (Word (take_while is_letter (b ∷ bs))))
+        (take n (b ∷ bs)) (drop n (b ∷ bs))
     go true x = word_behind_number (first_run is_letter b bs h) x
     go false x = (first_run is_letter b bs h, refl, x)
 
@@ -94,7 +109,8 @@ name_found before bs = go (is_closed bs) refl
     n : ℕ
     n = prefix_len is_inner bs
 
-    closed : n < length bs → IsToken before (Name (take_while is_inner bs)) (take (n + 2) (34 ∷ bs)) (drop (n + 2) (34 ∷ bs))
+    closed : n < length bs → IsToken before (Name (take_while is_inner bs)) (take (n + 2) (34 ∷ bs))
+        (drop (n + 2) (34 ∷ bs))
     closed l = (text, run_all is_inner bs)
       where
         size : n + 2 ≡ suc (n + 1)
@@ -104,19 +120,28 @@ name_found before bs = go (is_closed bs) refl
         quote = inner_no_quote (get_or bs n 0) (prefix_len_stops is_inner bs 0 l)
 
         text : take (n + 2) (34 ∷ bs) ≡ 34 ∷ (take n bs ++ 34 ∷ [])
-        text = ap (λ k. take k (34 ∷ bs)) size ∙ ap (λ z. 34 ∷ z) (take_more bs n 0 l) ∙ ap (λ z. 34 ∷ (take n bs ++ z ∷ [])) quote
+        text = ap (λ k. take k (34 ∷ bs)) size ∙ ap (λ z. 34 ∷ z) (take_more bs n 0 l)
+            ∙ ap (λ z. 34 ∷ (take n bs ++ z ∷ [])) quote
 
     open_name : length bs ≤ n → IsToken before OpenName (take (n + 1) (34 ∷ bs)) (drop (n + 1) (34 ∷ bs))
-    open_name l = (take n bs, ap (λ k. take k (34 ∷ bs)) size, run_all is_inner bs, ap (λ k. drop k (34 ∷ bs)) size ∙ drop_all n bs l)
+    open_name l = (
+      take n bs,
+      ap (λ k. take k (34 ∷ bs)) size,
+      run_all is_inner bs,
+      ap (λ k. drop k (34 ∷ bs)) size
+          ∙ drop_all n bs l,
+    )
       where
         size : n + 1 ≡ suc n
         size = omega arith
 
-    go : (e : Bool) → is_closed bs ≡ e → IsToken before (cond e (Name (take_while is_inner bs)) OpenName) (take (cond e (n + 2) (n + 1)) (34 ∷ bs)) (drop (cond e (n + 2) (n + 1)) (34 ∷ bs))
+    go : (e : Bool) → is_closed bs ≡ e → IsToken before (cond e (Name (take_while is_inner bs)) OpenName)
+        (take (cond e (n + 2) (n + 1)) (34 ∷ bs)) (drop (cond e (n + 2) (n + 1)) (34 ∷ bs))
     go true x = closed (ltb-true n (length bs) x)
     go false x = open_name (ltb-false n (length bs) x)
 
-mark_found : (before : List ℕ) (b : ℕ) (bs : List ℕ) → is_digit b ≡ false → is_letter b ≡ false → is_blank b ≡ false → eqb b 34 ≡ false → Found before (b ∷ bs) (mark_sign b) 1
+mark_found : (before : List ℕ) (b : ℕ) (bs : List ℕ) → is_digit b ≡ false → is_letter b ≡ false → is_blank b ≡ false →
+    eqb b 34 ≡ false → Found before (b ∷ bs) (mark_sign b) 1
 mark_found before b bs d l k q = go (eqb b 44) (eqb b 59) refl refl
   where
     go : (e f : Bool) → eqb b 44 ≡ e → eqb b 59 ≡ f → IsToken before (cond e Comma (cond f Semicolon Wrong)) (b ∷ []) bs
@@ -131,54 +156,68 @@ mark_found before b bs d l k q = go (eqb b 44) (eqb b 59) refl refl
       no_semicolon = eqb-false b 59 y;
     })
 
-moved : (before w : List ℕ) (t : Sign) (n : ℕ) → first_sign before w ≡ t → first_size w ≡ n → Found before w t n → Found before w (first_sign before w) (first_size w)
-moved before w t n e f h = subst (λ t. Found before w t (first_size w)) (sym e) (subst (λ n. Found before w t n) (sym f) h)
+moved : (before w : List ℕ) (t : Sign) (n : ℕ) → first_sign before w ≡ t → first_size w ≡ n → Found before w t n →
+    Found before w (first_sign before w) (first_size w)
+moved before w t n e f h =
+    subst (λ t. Found before w t (first_size w)) (sym e) (subst (λ n. Found before w t n) (sym f) h)
 
-found : (before : List ℕ) (b : ℕ) (bs : List ℕ) → is_blank b ≡ false → Found before (b ∷ bs) (first_sign before (b ∷ bs)) (first_size (b ∷ bs))
+found : (before : List ℕ) (b : ℕ) (bs : List ℕ) → is_blank b ≡ false →
+    Found before (b ∷ bs) (first_sign before (b ∷ bs)) (first_size (b ∷ bs))
 found before b bs k = go (is_digit b) (is_letter b) (eqb b 34) refl refl refl
   where
     w : List ℕ
     w = b ∷ bs
 
-    go : (d l q : Bool) → is_digit b ≡ d → is_letter b ≡ l → eqb b 34 ≡ q → Found before w (first_sign before w) (first_size w)
+    go : (d l q : Bool) → is_digit b ≡ d → is_letter b ≡ l → eqb b 34 ≡ q →
+        Found before w (first_sign before w) (first_size w)
     go true l q x y z = let p = at_digit before b bs w refl x in moved before w _ _ p.0 p.1 (number_found before b bs x)
-    go false true q x y z = let p = at_letter before b bs w refl x y in moved before w _ _ p.0 p.1 (word_found before b bs y)
+    go false true q x y z =
+        let p = at_letter before b bs w refl x y in moved before w _ _ p.0 p.1 (word_found before b bs y)
     go false false true x y z = let p = at_quote before b bs w refl (eqb-true b 34 z) in
-        moved before w _ _ p.0 p.1 (subst (λ c. Found before (c ∷ bs) (name_sign bs) (name_size bs)) (sym (eqb-true b 34 z)) (name_found before bs))
-    go false false false x y z = let p = at_mark before b bs w refl x y z in moved before w _ _ p.0 p.1 (mark_found before b bs x y k z)
+        moved before w _ _ p.0 p.1 (subst (λ c. Found before (c ∷ bs) (name_sign bs) (name_size bs))
+        (sym (eqb-true b 34 z)) (name_found before bs))
+    go false false false x y z =
+        let p = at_mark before b bs w refl x y z in moved before w _ _ p.0 p.1 (mark_found before b bs x y k z)
 
 -- ## What is a token is what the lexer finds
 
 abbrev IsFound : List ℕ → List ℕ → Sign → ℕ → Type 0
 IsFound before w t n = (first_sign before w ≡ t) × (first_size w ≡ n)
 
-run_begins : (p : ℕ → Bool) (text rest : List ℕ) → IsRun p text rest → (b : ℕ) × (bs : List ℕ) × (text ≡ b ∷ bs) × (p b ≡ true)
+run_begins : (p : ℕ → Bool) (text rest : List ℕ) → IsRun p text rest →
+    (b : ℕ) × (bs : List ℕ) × (text ≡ b ∷ bs) × (p b ≡ true)
 run_begins p text rest r = go text r.some r.all
   where
     go : (text : List ℕ) → 0 < length text → AllOf p text → (b : ℕ) × (bs : List ℕ) × (text ≡ b ∷ bs) × (p b ≡ true)
     go [] s a = absurd (omega (arith, s))
     go (b ∷ bs) s a = (b, bs, refl, a.0)
 
-run_taken : (p : ℕ → Bool) (text rest : List ℕ) → IsRun p text rest → (prefix_len p (text ++ rest) ≡ length text) × (take_while p (text ++ rest) ≡ text)
+run_taken : (p : ℕ → Bool) (text rest : List ℕ) → IsRun p text rest →
+    (prefix_len p (text ++ rest) ≡ length text) × (take_while p (text ++ rest) ≡ text)
 run_taken p text rest r =
     let n : prefix_len p (text ++ rest) ≡ length text = run_len p text rest r.all r.longest in
     (n, ap (λ k. take k (text ++ rest)) n ∙ take-append_seam text rest)
 
-digits_are : (before text rest : List ℕ) → IsRun is_digit text rest → IsFound before (text ++ rest) (number_sign before (text ++ rest)) (length text)
+digits_are : (before text rest : List ℕ) → IsRun is_digit text rest →
+    IsFound before (text ++ rest) (number_sign before (text ++ rest)) (length text)
 digits_are before text rest r =
     let s = run_begins is_digit text rest r in
     let p = at_digit before s.0 (s.1 ++ rest) (text ++ rest) (ap (λ z. z ++ rest) s.2) s.3 in
     (p.0, p.1 ∙ (run_taken is_digit text rest r).0)
 
-letters_are : (before text rest : List ℕ) → IsRun is_letter text rest → IsFound before (text ++ rest) (word_sign before (text ++ rest)) (length text)
+letters_are : (before text rest : List ℕ) → IsRun is_letter text rest →
+    IsFound before (text ++ rest) (word_sign before (text ++ rest)) (length text)
 letters_are before text rest r =
     let s = run_begins is_letter text rest r in
     let p = at_letter before s.0 (s.1 ++ rest) (text ++ rest) (ap (λ z. z ++ rest) s.2) (letter_no_digit s.0 s.3) s.3 in
     (p.0, p.1 ∙ (run_taken is_letter text rest r).0)
 
 closed_name : (inner rest : List ℕ) → AllOf is_inner inner →
-    (name_sign ((inner ++ 34 ∷ []) ++ rest) ≡ Name inner) × (name_size ((inner ++ 34 ∷ []) ++ rest) ≡ length (34 ∷ (inner ++ 34 ∷ [])))
-closed_name inner rest a = subst (λ bs. (name_sign bs ≡ Name inner) × (name_size bs ≡ length (34 ∷ (inner ++ 34 ∷ [])))) (sym (append_assoc inner (34 ∷ []) rest)) both
+    (name_sign ((inner ++ 34 ∷ []) ++ rest) ≡ Name inner) × (name_size ((inner ++ 34 ∷ []) ++ rest) ≡ length
+    (34 ∷ (inner ++ 34 ∷ [])))
+closed_name inner rest a =
+    subst (λ bs. (name_sign bs ≡ Name inner) × (name_size bs ≡ length (34 ∷ (inner ++ 34 ∷ []))))
+    (sym (append_assoc inner (34 ∷ []) rest)) both
   where
     bs : List ℕ
     bs = inner ++ 34 ∷ rest
@@ -187,49 +226,64 @@ closed_name inner rest a = subst (λ bs. (name_sign bs ≡ Name inner) × (name_
     n = run_len is_inner inner (34 ∷ rest) a refl
 
     closed : is_closed bs ≡ true
-    closed = let x : length bs ≡ length inner + suc (length rest) = length-append inner (34 ∷ rest) in lt-ltb (prefix_len is_inner bs) (length bs) (omega (arith, n, x))
+    closed = let x : length bs ≡ length inner + suc (length rest) = length-append inner (34 ∷ rest) in
+        lt-ltb (prefix_len is_inner bs) (length bs) (omega (arith, n, x))
 
     both : (name_sign bs ≡ Name inner) × (name_size bs ≡ length (34 ∷ (inner ++ 34 ∷ [])))
     both = (
-      ap (λ e. cond e (Name (take_while is_inner bs)) OpenName) closed ∙ ap (λ k. Name (take k bs)) n ∙ ap Name (take-append_seam inner (34 ∷ rest)),
+      ap (λ e. cond e (Name (take_while is_inner bs)) OpenName) closed ∙ ap (λ k. Name (take k bs)) n
+          ∙ ap Name (take-append_seam inner (34 ∷ rest)),
       ap (λ e. cond e (prefix_len is_inner bs + 2) (prefix_len is_inner bs + 1)) closed ∙
           (let x : length (inner ++ 34 ∷ []) ≡ length inner + 1 = length-append inner (34 ∷ []) in omega (arith, n, x)),
     )
 
-open_name_is : (inner rest : List ℕ) → AllOf is_inner inner → rest ≡ [] → (name_sign (inner ++ rest) ≡ OpenName) × (name_size (inner ++ rest) ≡ length (34 ∷ inner))
-open_name_is inner rest a e = subst (λ r. (name_sign (inner ++ r) ≡ OpenName) × (name_size (inner ++ r) ≡ length (34 ∷ inner))) (sym e) both
+open_name_is : (inner rest : List ℕ) → AllOf is_inner inner → rest ≡ [] →
+    (name_sign (inner ++ rest) ≡ OpenName) × (name_size (inner ++ rest) ≡ length (34 ∷ inner))
+open_name_is inner rest a e =
+    subst (λ r. (name_sign (inner ++ r) ≡ OpenName) × (name_size (inner ++ r) ≡ length (34 ∷ inner))) (sym e) both
   where
     n : prefix_len is_inner (inner ++ []) ≡ length inner
     n = run_len is_inner inner [] a tt
 
     closed : is_closed (inner ++ []) ≡ false
-    closed = let x : length (inner ++ []) ≡ length inner = ap length (append-nil inner) in le-ltb (prefix_len is_inner (inner ++ [])) (length (inner ++ [])) (omega (arith, n, x))
+    closed = let x : length (inner ++ []) ≡ length inner = ap length (append-nil inner) in
+        le-ltb (prefix_len is_inner (inner ++ [])) (length (inner ++ [])) (omega (arith, n, x))
 
     both : (name_sign (inner ++ []) ≡ OpenName) × (name_size (inner ++ []) ≡ length (34 ∷ inner))
     both = (
       ap (λ e. cond e (Name (take_while is_inner (inner ++ []))) OpenName) closed,
-      ap (λ e. cond e (prefix_len is_inner (inner ++ []) + 2) (prefix_len is_inner (inner ++ []) + 1)) closed ∙ omega (arith, n),
+      ap (λ e. cond e (prefix_len is_inner (inner ++ []) + 2) (prefix_len is_inner (inner ++ []) + 1)) closed
+          ∙ omega (arith, n),
     )
 
 not_both : (b : ℕ) → is_blank b ≡ false → is_blank b ≡ true → ⊥
 not_both b f t = let x : false ≡ true = sym f ∙ t in cc
 
-token_is : (before text rest : List ℕ) (t : Sign) → IsToken before t text rest → IsFound before (text ++ rest) t (length text)
+token_is : (before text rest : List ℕ) (t : Sign) → IsToken before t text rest →
+    IsFound before (text ++ rest) t (length text)
 token_is before text rest (Number n) h =
-    let p = digits_are before text rest h.0 in
-    (p.0 ∙ ap (λ e. cond e Wrong (Number (decimal_value (take_while is_digit (text ++ rest))))) h.2 ∙ ap (λ z. Number (decimal_value z)) (run_taken is_digit text rest h.0).1 ∙ ap Number (sym h.1), p.1)
+    let p = digits_are before text rest h.0 in (
+      p.0 ∙ ap (λ e. cond e Wrong (Number (decimal_value (take_while is_digit (text ++ rest))))) h.2
+          ∙ ap (λ z. Number (decimal_value z)) (run_taken is_digit text rest h.0).1 ∙ ap Number (sym h.1),
+      p.1,
+    )
 token_is before text rest (Word letters) h =
-    let p = letters_are before text rest h.0 in
-    (p.0 ∙ ap (λ e. cond e Wrong (Word (take_while is_letter (text ++ rest)))) h.2 ∙ ap Word (run_taken is_letter text rest h.0).1 ∙ ap Word (sym h.1), p.1)
+    let p = letters_are before text rest h.0 in (
+      p.0 ∙ ap (λ e. cond e Wrong (Word (take_while is_letter (text ++ rest)))) h.2
+          ∙ ap Word (run_taken is_letter text rest h.0).1 ∙ ap Word (sym h.1),
+      p.1,
+    )
 token_is before text rest (Name inner) h =
     let bs : List ℕ = (inner ++ 34 ∷ []) ++ rest in
     let p = at_quote before 34 bs (text ++ rest) (ap (λ z. z ++ rest) h.0) refl in
     let q = closed_name inner rest h.1 in
     (p.0 ∙ q.0, p.1 ∙ q.1 ∙ ap length (sym h.0))
 token_is before text rest Comma h =
-    let p = at_mark before 44 rest (text ++ rest) (ap (λ z. z ++ rest) h) refl refl refl in (p.0, p.1 ∙ ap length (sym h))
+    let p = at_mark before 44 rest (text ++ rest) (ap (λ z. z ++ rest) h) refl refl refl in
+    (p.0, p.1 ∙ ap length (sym h))
 token_is before text rest Semicolon h =
-    let p = at_mark before 59 rest (text ++ rest) (ap (λ z. z ++ rest) h) refl refl refl in (p.0, p.1 ∙ ap length (sym h))
+    let p = at_mark before 59 rest (text ++ rest) (ap (λ z. z ++ rest) h) refl refl refl in
+    (p.0, p.1 ∙ ap length (sym h))
 token_is before text rest OpenName h =
     let p = at_quote before 34 (h.0 ++ rest) (text ++ rest) (ap (λ z. z ++ rest) h.1) refl in
     let q = open_name_is h.0 rest h.2 h.3 in
@@ -241,35 +295,49 @@ token_is before text rest Wrong (word_behind_number r e) =
     let p = letters_are before text rest r in
     (p.0 ∙ ap (λ e. cond e Wrong (Word (take_while is_letter (text ++ rest)))) e, p.1)
 token_is before text rest Wrong (stray b x s) =
-    let p = at_mark before b rest (text ++ rest) (ap (λ z. z ++ rest) x) s.no_digit s.no_letter (ne_eqb b 34 s.no_quote) in (
-      p.0 ∙ ap (λ e. cond e Comma (cond (eqb b 59) Semicolon Wrong)) (ne_eqb b 44 s.no_comma) ∙ ap (λ e. cond e Semicolon Wrong) (ne_eqb b 59 s.no_semicolon),
+    let p =
+    at_mark before b rest (text ++ rest) (ap (λ z. z ++ rest) x) s.no_digit s.no_letter (ne_eqb b 34 s.no_quote) in (
+      p.0 ∙ ap (λ e. cond e Comma (cond (eqb b 59) Semicolon Wrong)) (ne_eqb b 44 s.no_comma)
+          ∙ ap (λ e. cond e Semicolon Wrong) (ne_eqb b 59 s.no_semicolon),
       p.1 ∙ ap length (sym x),
     )
 
 -- ## The whole text
 
-token_begins : (before text rest : List ℕ) (t : Sign) → IsToken before t text rest → (b : ℕ) × (bs : List ℕ) × (text ≡ b ∷ bs) × (is_blank b ≡ true → ⊥)
-token_begins before text rest (Number n) h = let s = run_begins is_digit text rest h.0 in (s.0, s.1, s.2, not_both s.0 (digit_no_blank s.0 s.3))
-token_begins before text rest (Word letters) h = let s = run_begins is_letter text rest h.0 in (s.0, s.1, s.2, not_both s.0 (letter_no_blank s.0 s.3))
+token_begins : (before text rest : List ℕ) (t : Sign) → IsToken before t text rest →
+    (b : ℕ) × (bs : List ℕ) × (text ≡ b ∷ bs) × (is_blank b ≡ true → ⊥)
+token_begins before text rest (Number n) h =
+    let s = run_begins is_digit text rest h.0 in (s.0, s.1, s.2, not_both s.0 (digit_no_blank s.0 s.3))
+token_begins before text rest (Word letters) h =
+    let s = run_begins is_letter text rest h.0 in (s.0, s.1, s.2, not_both s.0 (letter_no_blank s.0 s.3))
 token_begins before text rest (Name inner) h = (34, inner ++ 34 ∷ [], h.0, not_both 34 refl)
 token_begins before text rest Comma h = (44, [], h, not_both 44 refl)
 token_begins before text rest Semicolon h = (59, [], h, not_both 59 refl)
 token_begins before text rest OpenName h = (34, h.0, h.1, not_both 34 refl)
-token_begins before text rest Wrong (number_behind_word r e) = let s = run_begins is_digit text rest r in (s.0, s.1, s.2, not_both s.0 (digit_no_blank s.0 s.3))
-token_begins before text rest Wrong (word_behind_number r e) = let s = run_begins is_letter text rest r in (s.0, s.1, s.2, not_both s.0 (letter_no_blank s.0 s.3))
+token_begins before text rest Wrong (number_behind_word r e) =
+    let s = run_begins is_digit text rest r in (s.0, s.1, s.2, not_both s.0 (digit_no_blank s.0 s.3))
+token_begins before text rest Wrong (word_behind_number r e) =
+    let s = run_begins is_letter text rest r in (s.0, s.1, s.2, not_both s.0 (letter_no_blank s.0 s.3))
 token_begins before text rest Wrong (stray b x s) = (b, [], x, not_both b s.no_blank)
 
 pub tokens_differ : TokensDiffer (λ b. is_blank b ≡ true) IsToken
 tokens_differ = record { begins = token_begins; one = one }
   where
-    one : (before text rest text' rest' : List ℕ) (t u : Sign) → IsToken before t text rest → IsToken before u text' rest' → text ++ rest ≡ text' ++ rest' → (t ≡ u) × (text ≡ text')
+    one : (before text rest text' rest' : List ℕ) (t u : Sign) → IsToken before t text rest →
+        IsToken before u text' rest' → text ++ rest ≡ text' ++ rest' → (t ≡ u) × (text ≡ text')
     one before text rest text' rest' t u h k e =
         let p = token_is before text rest t h in
-        let q = token_is before text' rest' u k in
-        (sym p.0 ∙ ap (first_sign before) e ∙ q.0, (same_split text rest text' rest' e (sym p.1 ∙ ap first_size e ∙ q.1)).0)
+        let q = token_is before text' rest' u k in (
+          sym p.0 ∙ ap (first_sign before) e ∙ q.0,
+          (same_split text rest text' rest' e
+              (sym p.1 ∙ ap first_size e ∙ q.1)).0,
+        )
 
 all_blank : (w : List ℕ) → drop (prefix_len is_blank w) w ≡ [] → AllOf is_blank w
-all_blank w e = subst (AllOf is_blank) (sym (ap (λ z. take (prefix_len is_blank w) w ++ z) e) ∙ take-append-drop (prefix_len is_blank w) w) (subst (AllOf is_blank) (sym (append-nil (take (prefix_len is_blank w) w))) (run_all is_blank w))
+all_blank w e =
+    subst (AllOf is_blank) (sym (ap (λ z. take (prefix_len is_blank w) w ++ z) e)
+    ∙ take-append-drop (prefix_len is_blank w) w) (subst (AllOf is_blank)
+    (sym (append-nil (take (prefix_len is_blank w) w))) (run_all is_blank w))
 
 abbrev IsLexed : List ℕ → List ℕ → Type 0
 IsLexed before w = TokensFrom (λ b. is_blank b ≡ true) IsToken before w (lex 0 before w)
@@ -285,8 +353,13 @@ step before w ih = go (drop n w) refl
     front = before ++ take n w
 
     go : (rest : List ℕ) → drop n w ≡ rest → IsLexed before w
-    go [] e = subst (TokensFrom (λ b. is_blank b ≡ true) IsToken before w) (sym (lex-blanks before w ∙ ap (lex 0 front) e ∙ lex-end front)) (all_blank w e)
-    go (b ∷ bs) e = subst (TokensFrom (λ b. is_blank b ≡ true) IsToken before w) (sym (lex-blanks before w ∙ ap (lex 0 front) e ∙ lex-first front (b ∷ bs) zero_blanks (omega arith))) (next, later)
+    go [] e =
+        subst (TokensFrom (λ b. is_blank b ≡ true) IsToken before w)
+        (sym (lex-blanks before w ∙ ap (lex 0 front) e ∙ lex-end front)) (all_blank w e)
+    go (b ∷ bs) e =
+        subst (TokensFrom (λ b. is_blank b ≡ true) IsToken before w)
+        (sym (lex-blanks before w ∙ ap (lex 0 front) e ∙ lex-first front (b ∷ bs) zero_blanks (omega arith)))
+        (next, later)
       where
         s : ℕ
         s = first_size (b ∷ bs)
@@ -294,7 +367,8 @@ step before w ih = go (drop n w) refl
         zero_blanks : prefix_len is_blank (b ∷ bs) ≡ 0
         zero_blanks = ap (prefix_len is_blank) (sym e) ∙ prefix_len-behind is_blank w
 
-        next : NextToken (λ b. is_blank b ≡ true) IsToken before w (record { sign = first_sign front (b ∷ bs); start = length front })
+        next : NextToken (λ b. is_blank b ≡ true) IsToken before w
+            (record { sign = first_sign front (b ∷ bs); start = length front })
         next = record {
           blanks = take n w;
           text = take s (b ∷ bs);
@@ -325,4 +399,5 @@ pub tokens_found : (text : List ℕ) → AreGameTokens text (stream_of text)
 tokens_found text = (lexed (suc (length text)) [] text (omega arith), refl)
 
 pub only_tokens : (text : List ℕ) (s : Stream Sign) → AreGameTokens text s → s ≡ stream_of text
-only_tokens text s h = has_one_tokenisation (λ b. is_blank b ≡ true) IsToken tokens_differ text s (stream_of text) h (tokens_found text)
+only_tokens text s h =
+    has_one_tokenisation (λ b. is_blank b ≡ true) IsToken tokens_differ text s (stream_of text) h (tokens_found text)

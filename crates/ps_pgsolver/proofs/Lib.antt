@@ -1,4 +1,5 @@
 pub mod TokenLemmas
+pub mod TakenTokens
 pub mod NextSigns
 pub mod FewDigits
 pub mod GameLemmas
@@ -14,6 +15,7 @@ pub mod Wholes
 pub mod Sound
 pub mod Answering
 pub mod OneReading
+pub mod SomeReading
 pub mod WriterLemmas
 pub mod WrittenSigns
 pub mod WrittenParts

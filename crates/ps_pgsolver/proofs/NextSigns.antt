@@ -1,5 +1,6 @@
 -- The sign that comes next, by the first byte that is no blank.
-use Rattle.std.proofs.Common.{◌≡◌, ℕ, ◌+◌, Bool, true, false, eqb, List, [], ◌∷◌, take, drop, Option, Some, None, refl, sym, ap, ◌∙◌, ⊎_elim, arith}
+use Rattle.std.proofs.Common.{◌≡◌, ℕ, ◌+◌, Bool, true, false, eqb, List, [], ◌∷◌, take, drop, Option, Some, None, refl}
+use Rattle.std.proofs.Common.{sym, ap, ◌∙◌, ⊎_elim, arith}
 use Rattle.std.proofs.lemmas.List.{drop-drop}
 use Rattle.std.proofs.lemmas.Bool.{cases_Bool, eqb-true}
 use Rattle.std.specs.Prelude.{not, ◌&&◌}
@@ -7,7 +8,8 @@ use Rattle.std.specs.List.{prefix_len}
 use Rattle.ps_text.specs.Answers.{next_of, first_of, signs}
 use Rattle.ps_pgsolver.specs.Bytes.{is_blank, is_digit, is_letter, begins_in, ends_in}
 use Rattle.ps_pgsolver.specs.Heads.{is_number, is_comma, name_of}
-use Rattle.ps_pgsolver.specs.Lexer.{lex, first_sign, number_sign, word_sign, name_sign, mark_sign, is_closed, stream_from}
+use Rattle.ps_pgsolver.specs.Lexer.{lex, first_sign, number_sign, word_sign, name_sign, mark_sign, is_closed}
+use Rattle.ps_pgsolver.specs.Lexer.{stream_from}
 use Rattle.ps_pgsolver.specs.Signs.{Sign}
 use Rattle.ps_pgsolver.proofs.TokenLemmas.{stream_from-blanks, prefix_len-behind, lex-first, lex-end}
 

@@ -9,12 +9,14 @@ use Rattle.std.proofs.lemmas.List.{map-append}
 use Rattle.std.proofs.lemmas.List.Elements.{All-push, All-map, Contains-get_or}
 use Rattle.std.proofs.lemmas.List.Quantifiers.{all_pairs_push}
 use Rattle.ps_game.specs.Games.{HasNoQuote}
-use Rattle.ps_pgsolver.specs.Nodes.{NodeData, IsNode, AreNodes, KnowsEach, KnowsAll, knows_each, knows_all, is_member, ids_of, names_of}
+use Rattle.ps_pgsolver.specs.Nodes.{NodeData, IsNode, AreNodes, KnowsEach, KnowsAll, knows_each, knows_all, is_member}
+use Rattle.ps_pgsolver.specs.Nodes.{ids_of, names_of}
 
 pub ids_of-push : (nodes : List NodeData) (node : NodeData) → ids_of (nodes ++ node ∷ []) ≡ ids_of nodes ++ node.id ∷ []
 ids_of-push nodes node = map-append (λ n. n.id) nodes (node ∷ [])
 
-pub AreNodes-push : (nodes : List NodeData) (node : NodeData) → AreNodes nodes → ¬ Contains (ids_of nodes) node.id → IsNode node → AreNodes (nodes ++ node ∷ [])
+pub AreNodes-push : (nodes : List NodeData) (node : NodeData) → AreNodes nodes → ¬ Contains (ids_of nodes) node.id →
+    IsNode node → AreNodes (nodes ++ node ∷ [])
 AreNodes-push nodes node are new is = record {
   distinct = subst (λ ids. AllPairs (λ x y. x ≢ y) ids) (sym (ids_of-push nodes node))
       (all_pairs_push (λ x y. x ≢ y) (ids_of nodes) node.id are.distinct
@@ -22,13 +24,16 @@ AreNodes-push nodes node are new is = record {
   each = All-push IsNode nodes node are.each is;
 }
 
-pub names_plain : (nodes : List NodeData) (names : List (Option (List ℕ))) → names ≡ names_of nodes → AreNodes nodes → All HasNoQuote names
-names_plain nodes names e are = subst (λ ns. All HasNoQuote ns) (sym e) (All-map HasNoQuote (λ n. n.name) nodes (λ k d l. (are.each k d l).name))
+pub names_plain : (nodes : List NodeData) (names : List (Option (List ℕ))) → names ≡ names_of nodes → AreNodes nodes →
+    All HasNoQuote names
+names_plain nodes names e are =
+    subst (λ ns. All HasNoQuote ns) (sym e) (All-map HasNoQuote (λ n. n.name) nodes (λ k d l. (are.each k d l).name))
 
 -- ## All of a list with one more at its end
 
 pub all_before : {X : Type 0} (P : X → Type 0) (xs : List X) (x : X) → All P (xs ++ x ∷ []) → All P xs
-all_before P xs x h k d l = subst P (get_or_append_left xs (x ∷ []) d k l) (h k d (omega (arith, l, length-append xs (x ∷ []))))
+all_before P xs x h k d l =
+    subst P (get_or_append_left xs (x ∷ []) d k l) (h k d (omega (arith, l, length-append xs (x ∷ []))))
 
 pub all_last : {X : Type 0} (P : X → Type 0) (xs : List X) (x : X) → All P (xs ++ x ∷ []) → P x
 all_last P xs x h = subst P (get_or-append_seam xs x [] x) (h (length xs) x (omega (arith, length-append xs (x ∷ []))))
@@ -39,10 +44,13 @@ pub each_known : (ids list : List ℕ) → knows_each ids list ≡ true → Know
 each_known ids list e k d l = Contains-any _ ids (AllPass-from_list_all (λ id. is_member ids id) list e k d l)
 
 each_tested : (ids list : List ℕ) → KnowsEach ids list → knows_each ids list ≡ true
-each_tested ids list h = list_all-from_AllPass (λ id. is_member ids id) list (λ k d l. any-from_Contains _ ids (h k d l))
+each_tested ids list h =
+    list_all-from_AllPass (λ id. is_member ids id) list (λ k d l. any-from_Contains _ ids (h k d l))
 
 pub all_known : (ids : List ℕ) (nodes : List NodeData) → knows_all ids nodes ≡ true → KnowsAll ids nodes
-all_known ids nodes e k d l = each_known ids _ (AllPass-from_list_all (λ (n : NodeData). knows_each ids n.successors) nodes e k d l)
+all_known ids nodes e k d l =
+    each_known ids _ (AllPass-from_list_all (λ (n : NodeData). knows_each ids n.successors) nodes e k d l)
 
 pub all_tested : (ids : List ℕ) (nodes : List NodeData) → KnowsAll ids nodes → knows_all ids nodes ≡ true
-all_tested ids nodes h = list_all-from_AllPass (λ (n : NodeData). knows_each ids n.successors) nodes (λ k d l. each_tested ids _ (h k d l))
+all_tested ids nodes h =
+    list_all-from_AllPass (λ (n : NodeData). knows_each ids n.successors) nodes (λ k d l. each_tested ids _ (h k d l))

@@ -1,5 +1,6 @@
 -- The laws of the grammar's parts, and how they are joined.
-use Rattle.std.proofs.Common.{◌≡◌, ℕ, true, false, cond, List, [], ◌∷◌, ◌++◌, Option, None, Some, refl, sym, ap, inl, inr, ⊎_elim, ◌∙◌, arith}
+use Rattle.std.proofs.Common.{◌≡◌, ℕ, true, false, cond, List, [], ◌∷◌, ◌++◌, Option, None, Some, refl, sym, ap, inl}
+use Rattle.std.proofs.Common.{inr, ⊎_elim, ◌∙◌, arith}
 use Rattle.std.specs.Str.{bytes_eq}
 use Rattle.std.proofs.lemmas.Slice.Eq.{bytes_eq-Decides}
 use Rattle.std.proofs.lemmas.Bool.{cases_Bool}
@@ -11,7 +12,10 @@ use Rattle.ps_text.proofs.Simple.{Taken, BadSign, none_is_some, laws_one, laws_g
 use Rattle.ps_text.proofs.Covered.{laws_either}
 use Rattle.ps_text.proofs.Repeated.{laws_many}
 use Rattle.ps_text.proofs.Whole.{Own}
-use Rattle.ps_pgsolver.specs.GameTexts.{pg_causes, number_in, comma_in, semicolon_in, name_in, keyword_in, BadNumber, BadId, BadOwner, BadSuccessor, BadFirst, number, new_id, owner, successor, first_successor, comma, semicolon, more_successor, successors, name, node, entry, entries, keyword, value_line, setting, game}
+use Rattle.ps_pgsolver.specs.GameTexts.{pg_causes, number_in, comma_in, semicolon_in, name_in, keyword_in, BadNumber}
+use Rattle.ps_pgsolver.specs.GameTexts.{BadId, BadOwner, BadSuccessor, BadFirst, number, new_id, owner, successor}
+use Rattle.ps_pgsolver.specs.GameTexts.{first_successor, comma, semicolon, more_successor, successors, name, node}
+use Rattle.ps_pgsolver.specs.GameTexts.{entry, entries, keyword, value_line, setting, game}
 use Rattle.ps_pgsolver.specs.Nodes.{NodeData, ids_of}
 use Rattle.ps_pgsolver.specs.Signs.{Sign, Number, Word, Name, Comma, Semicolon, OpenName, Wrong}
 use Rattle.ps_pgsolver.specs.declared.fault.PgCause.{PgCause}
@@ -95,7 +99,8 @@ first_owner OpenName (inr h) = absurd h.1
 first_owner Wrong (inl h) = absurd (none_is_some h.0 h.1)
 first_owner Wrong (inr h) = absurd h.1
 
-first_more : (known : Option (List ℕ)) → Within (Or (Taken number_in) (BadSign {F = PgCause} (BadSuccessor known))) (IsKind 0)
+first_more : (known : Option (List ℕ)) → Within (Or (Taken number_in) (BadSign {F = PgCause} (BadSuccessor known)))
+    (IsKind 0)
 unfolding kind_of
 first_more z (Number x) h = refl
 first_more z (Word x) (inl h) = absurd (none_is_some h.0 h.1)
@@ -161,34 +166,48 @@ first_name Wrong (inr h) = absurd h.1
 
 pub laws_number : Laws Odd number (IsKind 0) Nothing ⊥
 unfolding number
-laws_number = weaker (laws_one number_in BadNumber Odd (Number 0) 0 refl (no_odd _) (no_odd _)) first_number (same Nothing) (λ h. h)
+laws_number =
+    weaker (laws_one number_in BadNumber Odd (Number 0) 0 refl (no_odd _) (no_odd _)) first_number
+    (same Nothing) (λ h. h)
 
 pub laws_id : (ids : List ℕ) → Laws Odd (new_id ids) (IsKind 0) Nothing ⊥
 unfolding new_id
-laws_id ids = weaker (laws_one number_in (BadId ids) Odd (Number 0) 0 refl (no_odd _) (no_odd _)) (first_id ids) (same Nothing) (λ h. h)
+laws_id ids =
+    weaker (laws_one number_in (BadId ids) Odd (Number 0) 0 refl (no_odd _) (no_odd _)) (first_id ids)
+    (same Nothing) (λ h. h)
 
 pub laws_owner : Laws Odd owner (IsKind 0) Nothing ⊥
 unfolding owner
-laws_owner = weaker (laws_one number_in BadOwner Odd (Number 0) 0 refl (no_odd _) (no_odd _)) first_owner (same Nothing) (λ h. h)
+laws_owner =
+    weaker (laws_one number_in BadOwner Odd (Number 0) 0 refl (no_odd _) (no_odd _)) first_owner (same Nothing) (λ h. h)
 
 pub laws_successor : (known : Option (List ℕ)) → Laws Odd (successor known) (IsKind 0) Nothing ⊥
 unfolding successor
-laws_successor known = weaker (laws_one number_in (BadSuccessor known) Odd (Number 0) 0 refl (no_odd _) (no_odd _)) (first_more known) (same Nothing) (λ h. h)
+laws_successor known =
+    weaker (laws_one number_in (BadSuccessor known) Odd (Number 0) 0 refl (no_odd _) (no_odd _)) (first_more known)
+    (same Nothing) (λ h. h)
 
 pub laws_first : (known : Option (List ℕ)) → Laws Odd (first_successor known) Anything Nothing ⊥
 unfolding first_successor
-laws_first known = weaker (laws_one number_in (BadFirst known) Odd (Number 0) 0 refl (no_odd _) (no_odd _)) (λ t h. tt) (same Nothing) (λ h. h)
+laws_first known =
+    weaker (laws_one number_in (BadFirst known) Odd (Number 0) 0 refl (no_odd _) (no_odd _)) (λ t h. tt)
+    (same Nothing) (λ h. h)
 
 pub laws_comma : Laws Odd comma (IsKind 3) Nothing ⊥
 unfolding comma
-laws_comma = weaker (laws_one comma_in NoBad Odd Comma tt refl (no_odd _) (no_odd _)) first_comma (same Nothing) (λ h. h)
+laws_comma =
+    weaker (laws_one comma_in NoBad Odd Comma tt refl (no_odd _) (no_odd _)) first_comma (same Nothing) (λ h. h)
 
 pub laws_semicolon : Laws Odd semicolon (IsKind 4) Nothing ⊥
 unfolding semicolon
-laws_semicolon = weaker (laws_one semicolon_in NoBad Odd Semicolon tt refl (no_odd _) (no_odd _)) first_semicolon (same Nothing) (λ h. h)
+laws_semicolon =
+    weaker (laws_one semicolon_in NoBad Odd Semicolon tt refl (no_odd _) (no_odd _)) first_semicolon
+    (same Nothing) (λ h. h)
 
 pub laws_one_name : Laws Odd (one {F = PgCause} name_in NoBad) (IsKind 2) Nothing ⊥
-laws_one_name = weaker (laws_one name_in NoBad Odd (Name []) (Some []) refl (no_odd _) (no_odd _)) first_name (same Nothing) (λ h. h)
+laws_one_name =
+    weaker (laws_one name_in NoBad Odd (Name []) (Some []) refl (no_odd _) (no_odd _)) first_name
+    (same Nothing) (λ h. h)
 
 first_of_two : (A B : Sign → Type 0) (t : Sign) → Or A (When ⊥ B) t → A t
 first_of_two A B t (inl h) = h
@@ -210,7 +229,9 @@ module _ (known : Option (List ℕ)) where
 
   pub laws_more : (list : List ℕ) → Laws Odd (more_successor known list) (IsKind 3) Nothing ⊥
   unfolding more_successor
-  laws_more list = weaker (laws_then laws_comma (λ _. laws_another list) (nothing_apart _)) (first_of_two _ _) (more_of_two _ _) (λ h. h.0)
+  laws_more list =
+      weaker (laws_then laws_comma (λ _. laws_another list) (nothing_apart _)) (first_of_two _ _)
+      (more_of_two _ _) (λ h. h.0)
 
   abbrev pub all_more : ℕ → Part Sign (List ℕ) PgCause
   all_more n = many (more_successor known) (n ∷ [])
@@ -220,7 +241,8 @@ module _ (known : Option (List ℕ)) where
   or_nothing t (inr h) = h
 
   laws_all_more : (n : ℕ) → Laws Odd (all_more n) (IsKind 3) (IsKind 3) (Unit {0})
-  laws_all_more n = weaker (laws_many (more_successor known) laws_more (nothing_apart _) (n ∷ [])) (same _) or_nothing (λ h. h)
+  laws_all_more n =
+      weaker (laws_many (more_successor known) laws_more (nothing_apart _) (n ∷ [])) (same _) or_nothing (λ h. h)
 
   pub joint_successors : Joint (first_successor known) all_more
   joint_successors = joint (laws_first known) laws_all_more (nothing_apart _)
@@ -231,7 +253,8 @@ module _ (known : Option (List ℕ)) where
 
   pub laws_successors : Laws Odd (successors known) Anything (IsKind 3) ⊥
   unfolding successors
-  laws_successors = weaker (laws_then (laws_first known) laws_all_more (nothing_apart _)) (λ t h. tt) more_successors (λ h. h.0)
+  laws_successors =
+      weaker (laws_then (laws_first known) laws_all_more (nothing_apart _)) (λ t h. tt) more_successors (λ h. h.0)
 
 more_name : (t : Sign) → Or (Or Nothing Nothing) (Or (When ⊥ Nothing) (When (Unit {0}) (IsKind 2))) t → IsKind 2 t
 more_name t (inl (inl h)) = absurd h
@@ -257,7 +280,8 @@ NodeEnd = Or (IsKind 2) (IsKind 4)
 
 module _ (known : Option (List ℕ)) (ids : List ℕ) where
   abbrev pub node_end : ℕ → ℕ → ℕ → List ℕ → Option (List ℕ) → Part Sign NodeData PgCause
-  node_end id priority owner' list name' = mapped (λ _. record { id = id; priority = priority; owner = owner'; successors = list; name = name' }) semicolon
+  node_end id priority owner' list name' =
+      mapped (λ _. record { id = id; priority = priority; owner = owner'; successors = list; name = name' }) semicolon
 
   abbrev pub from_name : ℕ → ℕ → ℕ → List ℕ → Part Sign NodeData PgCause
   from_name id priority owner' list = then_by name (node_end id priority owner' list)
@@ -271,7 +295,8 @@ module _ (known : Option (List ℕ)) (ids : List ℕ) where
   abbrev pub from_priority : ℕ → Part Sign NodeData PgCause
   from_priority id = then_by number (from_owner id)
 
-  laws_node_end : (id priority owner' : ℕ) (list : List ℕ) (name' : Option (List ℕ)) → Laws Odd (node_end id priority owner' list name') (IsKind 4) Nothing ⊥
+  laws_node_end : (id priority owner' : ℕ) (list : List ℕ) (name' : Option (List ℕ)) →
+      Laws Odd (node_end id priority owner' list name') (IsKind 4) Nothing ⊥
   laws_node_end id priority owner' list name' = laws_mapped _ semicolon laws_semicolon
 
   name_ends : Apart (IsKind 2) (IsKind 4)
@@ -284,8 +309,11 @@ module _ (known : Option (List ℕ)) (ids : List ℕ) where
   first_from_name t (inl h) = inl h
   first_from_name t (inr h) = inr h.1
 
-  laws_from_name : (id priority owner' : ℕ) (list : List ℕ) → Laws Odd (from_name id priority owner' list) NodeEnd Nothing ⊥
-  laws_from_name id priority owner' list = weaker (laws_then laws_name (laws_node_end id priority owner' list) name_ends) first_from_name (more_of_two _ _) (λ h. h.1)
+  laws_from_name : (id priority owner' : ℕ) (list : List ℕ) →
+      Laws Odd (from_name id priority owner' list) NodeEnd Nothing ⊥
+  laws_from_name id priority owner' list =
+      weaker (laws_then laws_name (laws_node_end id priority owner' list) name_ends) first_from_name
+      (more_of_two _ _) (λ h. h.1)
 
   comma_ends : Apart (IsKind 3) NodeEnd
   comma_ends t h (inl k) = kinds_apart 3 2 (λ e. omega (arith, e)) t h k
@@ -295,26 +323,34 @@ module _ (known : Option (List ℕ)) (ids : List ℕ) where
   joint_list id priority owner' = joint (laws_successors known) (laws_from_name id priority owner') comma_ends
 
   laws_from_successors : (id priority owner' : ℕ) → Laws Odd (from_successors id priority owner') Anything Nothing ⊥
-  laws_from_successors id priority owner' = weaker (laws_then (laws_successors known) (laws_from_name id priority owner') comma_ends) (λ t h. tt) (more_of_two _ _) (λ h. h.0)
+  laws_from_successors id priority owner' =
+      weaker (laws_then (laws_successors known) (laws_from_name id priority owner') comma_ends) (λ t h. tt)
+      (more_of_two _ _) (λ h. h.0)
 
   pub joint_owner : (id priority : ℕ) → Joint owner (from_successors id priority)
   joint_owner id priority = joint laws_owner (laws_from_successors id priority) (nothing_apart _)
 
   laws_from_owner : (id priority : ℕ) → Laws Odd (from_owner id priority) (IsKind 0) Nothing ⊥
-  laws_from_owner id priority = weaker (laws_then laws_owner (laws_from_successors id priority) (nothing_apart _)) (first_of_two _ _) (more_of_two _ _) (λ h. h.0)
+  laws_from_owner id priority =
+      weaker (laws_then laws_owner (laws_from_successors id priority) (nothing_apart _)) (first_of_two _ _)
+      (more_of_two _ _) (λ h. h.0)
 
   pub joint_priority : (id : ℕ) → Joint number (from_owner id)
   joint_priority id = joint laws_number (laws_from_owner id) (nothing_apart _)
 
   laws_from_priority : (id : ℕ) → Laws Odd (from_priority id) (IsKind 0) Nothing ⊥
-  laws_from_priority id = weaker (laws_then laws_number (laws_from_owner id) (nothing_apart _)) (first_of_two _ _) (more_of_two _ _) (λ h. h.0)
+  laws_from_priority id =
+      weaker (laws_then laws_number (laws_from_owner id) (nothing_apart _)) (first_of_two _ _)
+      (more_of_two _ _) (λ h. h.0)
 
   pub joint_id : Joint (new_id ids) from_priority
   joint_id = joint (laws_id ids) laws_from_priority (nothing_apart _)
 
   pub laws_node : Laws Odd (node known ids) (IsKind 0) Nothing ⊥
   unfolding node
-  laws_node = weaker (laws_then (laws_id ids) laws_from_priority (nothing_apart _)) (first_of_two _ _) (more_of_two _ _) (λ h. h.0)
+  laws_node =
+      weaker (laws_then (laws_id ids) laws_from_priority (nothing_apart _)) (first_of_two _ _)
+      (more_of_two _ _) (λ h. h.0)
 
 -- ## The whole text
 
@@ -331,7 +367,8 @@ module _ (known : Option (List ℕ)) where
   more_entries nodes = many (entry known) nodes
 
   laws_more_entries : (nodes : List NodeData) → Laws Odd (more_entries nodes) (IsKind 0) (IsKind 0) (Unit {0})
-  laws_more_entries nodes = weaker (laws_many (entry known) laws_entry (nothing_apart _) nodes) (same _) or_numbers (λ h. h)
+  laws_more_entries nodes =
+      weaker (laws_many (entry known) laws_entry (nothing_apart _) nodes) (same _) or_numbers (λ h. h)
 
   pub joint_entries : Joint (entry known []) more_entries
   joint_entries = joint (laws_entry []) laws_more_entries (nothing_apart _)
@@ -342,14 +379,18 @@ module _ (known : Option (List ℕ)) where
 
   pub laws_entries : Laws Odd (entries known) (IsKind 0) (IsKind 0) ⊥
   unfolding entries
-  laws_entries = weaker (laws_then (laws_entry []) laws_more_entries (nothing_apart _)) (first_of_two _ _) more_of_entries (λ h. h.0)
+  laws_entries =
+      weaker (laws_then (laws_entry []) laws_more_entries (nothing_apart _)) (first_of_two _ _)
+      more_of_entries (λ h. h.0)
 
 pub joint_value : Joint number (λ _. semicolon)
 joint_value = joint laws_number (λ _. laws_semicolon) (nothing_apart _)
 
 pub laws_value : Laws Odd value_line (IsKind 0) Nothing ⊥
 unfolding value_line
-laws_value = weaker (laws_then laws_number (λ _. laws_semicolon) (nothing_apart _)) (first_of_two _ _) (more_of_two _ _) (λ h. h.0)
+laws_value =
+    weaker (laws_then laws_number (λ _. laws_semicolon) (nothing_apart _)) (first_of_two _ _)
+    (more_of_two _ _) (λ h. h.0)
 
 abbrev pub IsWord : List ℕ → Sign → Type 0
 IsWord word t = t ≡ Word word
@@ -381,7 +422,9 @@ first_keyword word Wrong (inr h) = absurd h.1
 
 pub laws_keyword : (word : List ℕ) → Laws Odd (keyword word) (IsWord word) Nothing ⊥
 unfolding keyword
-laws_keyword word = weaker (laws_one (keyword_in word) NoBad Odd (Word word) tt (takes_word word) (no_odd _) (no_odd _)) (first_keyword word) (same Nothing) (λ h. h)
+laws_keyword word =
+    weaker (laws_one (keyword_in word) NoBad Odd (Word word) tt (takes_word word) (no_odd _) (no_odd _))
+    (first_keyword word) (same Nothing) (λ h. h)
 
 module _ (word : List ℕ) where
   pub joint_line : Joint (keyword word) (λ _. value_line)
@@ -391,7 +434,9 @@ module _ (word : List ℕ) where
   line = then_by (keyword word) (λ _. value_line)
 
   pub laws_line : Laws Odd line (IsWord word) Nothing ⊥
-  laws_line = weaker (laws_then (laws_keyword word) (λ _. laws_value) (nothing_apart _)) (first_of_two _ _) (more_of_two _ _) (λ h. h.0)
+  laws_line =
+      weaker (laws_then (laws_keyword word) (λ _. laws_value) (nothing_apart _)) (first_of_two _ _)
+      (more_of_two _ _) (λ h. h.0)
 
   pub laws_no_line : Laws Odd (give {T = Sign} {V = Unit {0}} {F = PgCause} tt) Nothing Nothing (Unit {0})
   laws_no_line = laws_give Odd tt
@@ -400,7 +445,8 @@ module _ (word : List ℕ) where
   first_setting t (inl h) = h
   first_setting t (inr h) = absurd h
 
-  more_setting : (t : Sign) → Or (Or Nothing Nothing) (Or (When ⊥ Nothing) (When (Unit {0}) (IsWord word))) t → IsWord word t
+  more_setting : (t : Sign) → Or (Or Nothing Nothing) (Or (When ⊥ Nothing) (When (Unit {0}) (IsWord word))) t →
+      IsWord word t
   more_setting t (inl (inl h)) = absurd h
   more_setting t (inl (inr h)) = absurd h
   more_setting t (inr (inl h)) = absurd h.0
@@ -408,7 +454,8 @@ module _ (word : List ℕ) where
 
   pub laws_setting : Laws Odd (setting word) (IsWord word) (IsWord word) (Unit {0})
   unfolding setting
-  laws_setting = weaker (laws_either laws_line laws_no_line (λ t h k. k) (λ h k. h)) first_setting more_setting (λ h. tt)
+  laws_setting =
+      weaker (laws_either laws_line laws_no_line (λ t h k. k) (λ h k. h)) first_setting more_setting (λ h. tt)
 
 word_kind : (word : List ℕ) (t : Sign) → IsWord word t → kind_of t ≡ 1
 unfolding kind_of
@@ -436,7 +483,9 @@ module _ (known : Option (List ℕ)) where
   more_start t (inr h) = absurd h.0
 
   laws_start : Laws Odd from_start Starts (IsKind 0) ⊥
-  laws_start = weaker (laws_then (laws_setting (codes "start")) (λ _. laws_entries known) start_apart) first_start more_start (λ h. h.1)
+  laws_start =
+      weaker (laws_then (laws_setting (codes "start")) (λ _. laws_entries known) start_apart) first_start
+      more_start (λ h. h.1)
 
   other_word : Word (codes "parity") ≡ Word (codes "start") → ⊥
   other_word e = let x : Word (codes "parity") ≡ Word (codes "start") = e in cc
@@ -450,7 +499,8 @@ module _ (known : Option (List ℕ)) where
 
   pub laws_game : Laws Odd (game known) Anything (IsKind 0) ⊥
   unfolding game
-  laws_game = weaker (laws_then (laws_setting (codes "parity")) (λ _. laws_start) parity_apart) (λ t h. tt) more_game (λ h. h.1)
+  laws_game =
+      weaker (laws_then (laws_setting (codes "parity")) (λ _. laws_start) parity_apart) (λ t h. tt) more_game (λ h. h.1)
     where
       more_game : (t : Sign) → Or (IsKind 0) (When ⊥ (IsWord (codes "parity"))) t → IsKind 0 t
       more_game t (inl h) = h

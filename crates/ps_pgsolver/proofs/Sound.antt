@@ -1,12 +1,16 @@
--- What is true of the value of a text in which no cause of the part stands; and that the ids that are known change no text.
-use Rattle.std.proofs.Common.{◌≡◌, ℕ, zero, suc, true, false, ltb, List, [], ◌∷◌, ◌++◌, Option, None, Some, refl, sym, ap, subst, inl, inr, ⊎_elim, ◌∙◌, append_assoc, arith}
+-- What is true of the value of a text in which no cause of the part stands; and that the ids that are known change no
+-- text.
+use Rattle.std.proofs.Common.{◌≡◌, ℕ, zero, suc, true, false, ltb, List, [], ◌∷◌, ◌++◌, Option, None, Some, refl, sym}
+use Rattle.std.proofs.Common.{ap, subst, inl, inr, ⊎_elim, ◌∙◌, append_assoc, arith}
 use Rattle.std.proofs.lemmas.Bool.{cases_Bool, ltb-true, ltb-false}
 use Rattle.std.proofs.lemmas.List.Elements.{All-push}
 use Rattle.std.specs.List.{All, Contains}
 use Rattle.std.specs.Prelude.{codes}
 use Rattle.ps_text.specs.Answers.{IsClean}
 use Rattle.ps_text.specs.Parts.{Part, IsWrong, by_part, one, then_by, times, many, mapped}
-use Rattle.ps_pgsolver.specs.GameTexts.{pg_causes, too_large, number_in, BadFirst, BadSuccessor, number, new_id, owner, successor, first_successor, more_successor, successors, name, node, entry, entries, setting, game, semicolon, comma}
+use Rattle.ps_pgsolver.specs.GameTexts.{pg_causes, too_large, number_in, BadFirst, BadSuccessor, number, new_id, owner}
+use Rattle.ps_pgsolver.specs.GameTexts.{successor, first_successor, more_successor, successors, name, node, entry}
+use Rattle.ps_pgsolver.specs.GameTexts.{entries, setting, game, semicolon, comma}
 use Rattle.ps_pgsolver.specs.Nodes.{NodeData, ids_of, is_member, KnowsAll}
 use Rattle.ps_pgsolver.specs.Signs.{Sign, Number, Word, Name, Comma, Semicolon, OpenName, Wrong}
 use Rattle.ps_pgsolver.specs.declared.fault.PgCause.{PgCause}
@@ -16,7 +20,8 @@ use Rattle.ps_pgsolver.proofs.PartLaws.{laws_game, from_priority, from_owner, fr
 use Rattle.ps_text.proofs.Simple.{none_is_some, same_some}
 
 abbrev pub Quiet : {V : Type 0} → Part Sign V PgCause → List Sign → Type 0
-Quiet part text = (front rest : List Sign) (t : Sign) (f : PgCause) → text ≡ front ++ t ∷ rest → part.IsCause front t f → ⊥
+Quiet part text =
+    (front rest : List Sign) (t : Sign) (f : PgCause) → text ≡ front ++ t ∷ rest → part.IsCause front t f → ⊥
 
 -- the value of each text without a cause is good
 pub record Sound {V : Type 0} (part : Part Sign V PgCause) (Good : V → Type 0) : Type 0 where
@@ -40,19 +45,28 @@ sound_then P Q G H l r = record {
       (h.split ∙ ap (λ x. x ++ h.right) e ∙ append_assoc front (t ∷ rest) h.right) (inl c) in
       let right_quiet : Quiet (Q h.value) h.right = λ front rest t f e c. q (h.left ++ front) rest t f
       (h.split ∙ ap (λ x. h.left ++ x) e ∙ sym (append_assoc h.left front (t ∷ rest)))
-      (inr (record { left = h.left; right = front; value = h.value; split = refl; is_left = h.is_left; is_cause = c })) in
+      (inr (record { left = h.left; right = front; value = h.value; split = refl; is_left = h.is_left; is_cause = c }))
+      in
       (r h.value (l.good h.left h.value h.is_left left_quiet)).good h.right v h.is_right right_quiet;
 }
 
-sound_mapped : {A B : Type 0} (h : A → B) (P : Part Sign A PgCause) (G : A → Type 0) (H : B → Type 0) → ((a : A) → G a → H (h a)) → Sound P G → Sound (mapped h P) H
+sound_mapped : {A B : Type 0} (h : A → B) (P : Part Sign A PgCause) (G : A → Type 0) (H : B → Type 0) →
+    ((a : A) → G a → H (h a)) → Sound P G → Sound (mapped h P) H
 sound_mapped h P G H on s = record { good = λ text v i q. subst H (sym i.2) (on i.0 (s.good text i.0 i.1 q)) }
 
-sound_times : {C : Type 0} (item : C → Part Sign C PgCause) (G : C → Type 0) → ((c : C) → G c → Sound (item c) G) → (n : ℕ) (c : C) → G c → Sound (times n item c) G
+sound_times : {C : Type 0} (item : C → Part Sign C PgCause) (G : C → Type 0) → ((c : C) → G c → Sound (item c) G) →
+    (n : ℕ) (c : C) → G c → Sound (times n item c) G
 sound_times item G s zero c g = record { good = λ text v h q. subst G (sym h.1) g }
-sound_times item G s (suc n) c g = sound_then (item c) (λ d. times n item d) G G (s c g) (λ d h. sound_times item G s n d h)
+sound_times item G s (suc n) c g =
+    sound_then (item c) (λ d. times n item d) G G (s c g) (λ d h. sound_times item G s n d h)
 
-sound_many : {C : Type 0} (item : C → Part Sign C PgCause) (G : C → Type 0) → ((c : C) → G c → Sound (item c) G) → (c : C) → G c → Sound (many item c) G
-sound_many item G s c g = record { good = λ text v h q. (sound_times item G s h.0 c g).good text v h.1 (λ front rest t f e k. q front rest t f e (h.0, k)) }
+sound_many : {C : Type 0} (item : C → Part Sign C PgCause) (G : C → Type 0) → ((c : C) → G c → Sound (item c) G) →
+    (c : C) → G c → Sound (many item c) G
+sound_many item G s c g =
+    record {
+      good = λ text v h q. (sound_times item G s h.0 c g).good text v h.1
+          (λ front rest t f e k. q front rest t f e (h.0, k));
+    }
 
 module _ (ids : List ℕ) where
   abbrev Known : List ℕ → Type 0
@@ -62,7 +76,8 @@ module _ (ids : List ℕ) where
   good_number n q = ⊎_elim
       (λ (yes : is_member ids n ≡ true). Contains-any n ids yes)
       (λ (new : is_member ids n ≡ false). absurd (⊎_elim
-      (λ (small : ltb n too_large ≡ true). q causes.UnknownSuccessor (inr (ltb-true n too_large small, (λ h. true_false (sym (any-from_Contains n ids h) ∙ new)), refl)))
+      (λ (small : ltb n too_large ≡ true). q causes.UnknownSuccessor
+      (inr (ltb-true n too_large small, (λ h. true_false (sym (any-from_Contains n ids h) ∙ new)), refl)))
       (λ (large : ltb n too_large ≡ false). q causes.Number (inl (ltb-false n too_large large, refl)))
       (cases_Bool (ltb n too_large))))
       (cases_Bool (is_member ids n))
@@ -70,7 +85,8 @@ module _ (ids : List ℕ) where
       true_false : true ≡ false → ⊥
       true_false e = let x : true ≡ false = e in cc
 
-  good_successor : (t : Sign) (v : ℕ) → number_in t ≡ Some v → ((f : PgCause) → BadSuccessor (Some ids) t f → ⊥) → Contains ids v
+  good_successor : (t : Sign) (v : ℕ) → number_in t ≡ Some v →
+      ((f : PgCause) → BadSuccessor (Some ids) t f → ⊥) → Contains ids v
   good_successor (Number n) v e q = subst (λ x. Contains ids x) (same_some n v e) (good_number n q)
   good_successor (Word x) v e q = absurd (none_is_some v e)
   good_successor (Name x) v e q = absurd (none_is_some v e)
@@ -79,7 +95,8 @@ module _ (ids : List ℕ) where
   good_successor OpenName v e q = absurd (none_is_some v e)
   good_successor Wrong v e q = absurd (none_is_some v e)
 
-  good_first : (t : Sign) (v : ℕ) → number_in t ≡ Some v → ((f : PgCause) → BadFirst (Some ids) t f → ⊥) → Contains ids v
+  good_first : (t : Sign) (v : ℕ) → number_in t ≡ Some v → ((f : PgCause) → BadFirst (Some ids) t f → ⊥) →
+      Contains ids v
   good_first (Number n) v e q = subst (λ x. Contains ids x) (same_some n v e) (good_number n q)
   good_first (Word x) v e q = absurd (none_is_some v e)
   good_first (Name x) v e q = absurd (none_is_some v e)
@@ -98,15 +115,20 @@ module _ (ids : List ℕ) where
 
   sound_more : (list : List ℕ) → Known list → Sound (more_successor (Some ids) list) Known
   unfolding more_successor
-  sound_more list k = sound_then comma (λ _. mapped (λ n. list ++ n ∷ []) (successor (Some ids))) (λ _. Unit {0}) Known (sound_any comma)
-      (λ _ _. sound_mapped (λ n. list ++ n ∷ []) (successor (Some ids)) (λ n. Contains ids n) Known (λ n h. All-push (λ n. Contains ids n) list n k h) sound_successor)
+  sound_more list k =
+      sound_then comma (λ _. mapped (λ n. list ++ n ∷ []) (successor (Some ids))) (λ _. Unit {0}) Known
+      (sound_any comma)
+      (λ _ _. sound_mapped (λ n. list ++ n ∷ []) (successor (Some ids)) (λ n. Contains ids n) Known
+      (λ n h. All-push (λ n. Contains ids n) list n k h) sound_successor)
 
   one_known : (n : ℕ) → Contains ids n → Known (n ∷ [])
   one_known n h = All-push (λ m. Contains ids m) [] n (λ k d l. absurd (omega (arith, l))) h
 
   sound_successors : Sound (successors (Some ids)) Known
   unfolding successors
-  sound_successors = sound_then (first_successor (Some ids)) (λ n. many (more_successor (Some ids)) (n ∷ [])) (λ n. Contains ids n) Known sound_first
+  sound_successors =
+      sound_then (first_successor (Some ids)) (λ n. many (more_successor (Some ids)) (n ∷ [])) (λ n. Contains ids n)
+      Known sound_first
       (λ n h. sound_many (more_successor (Some ids)) Known sound_more (n ∷ []) (one_known n h))
 
   abbrev KnownNode : NodeData → Type 0
@@ -124,11 +146,15 @@ module _ (ids : List ℕ) where
 
   sound_entry : (nodes : List NodeData) → KnowsAll ids nodes → Sound (entry (Some ids) nodes) (KnowsAll ids)
   unfolding entry
-  sound_entry nodes k = sound_mapped (λ n. nodes ++ n ∷ []) (node (Some ids) (ids_of nodes)) KnownNode (KnowsAll ids) (λ n h. All-push KnownNode nodes n k h) (sound_node (ids_of nodes))
+  sound_entry nodes k =
+      sound_mapped (λ n. nodes ++ n ∷ []) (node (Some ids) (ids_of nodes)) KnownNode (KnowsAll ids)
+      (λ n h. All-push KnownNode nodes n k h) (sound_node (ids_of nodes))
 
   sound_entries : Sound (entries (Some ids)) (KnowsAll ids)
   unfolding entries
-  sound_entries = sound_then (entry (Some ids) []) (λ nodes. many (entry (Some ids)) nodes) (KnowsAll ids) (KnowsAll ids) (sound_entry [] (λ k d l. absurd (omega (arith, l))))
+  sound_entries =
+      sound_then (entry (Some ids) []) (λ nodes. many (entry (Some ids)) nodes) (KnowsAll ids) (KnowsAll ids)
+      (sound_entry [] (λ k d l. absurd (omega (arith, l))))
       (λ nodes k. sound_many (entry (Some ids)) (KnowsAll ids) sound_entry nodes k)
 
   sound_game : Sound (game (Some ids)) (KnowsAll ids)
@@ -136,25 +162,40 @@ module _ (ids : List ℕ) where
   sound_game = sound_then _ _ (λ _. Unit {0}) (KnowsAll ids) (sound_any (setting _)) (λ _ _.
       sound_then _ _ (λ _. Unit {0}) (KnowsAll ids) (sound_any (setting _)) (λ _ _. sound_entries))
 
-  pub knows_all : (text : List Sign) (nodes : List NodeData) → (game (Some ids)).IsText text nodes → IsClean (IsWrong pg_causes (game (Some ids))) text → KnowsAll ids nodes
-  knows_all text nodes h clean = sound_game.good text nodes h (λ front rest t f e c. clean front (t ∷ rest) f e (by_part t refl c))
+  pub knows_all : (text : List Sign) (nodes : List NodeData) → (game (Some ids)).IsText text nodes →
+      IsClean (IsWrong pg_causes (game (Some ids))) text → KnowsAll ids nodes
+  knows_all text nodes h clean =
+      sound_game.good text nodes h (λ front rest t f e c. clean front (t ∷ rest) f e (by_part t refl c))
 
 -- ## The ids that are known change no text
 
 abbrev Same : {V : Type 0} → Part Sign V PgCause → Part Sign V PgCause → Type 0
 Same {V} P Q = (text : List Sign) (v : V) → P.IsText text v → Q.IsText text v
 
-same_then : {A B : Type 0} (P P' : Part Sign A PgCause) (Q Q' : A → Part Sign B PgCause) → Same P P' → ((a : A) → Same (Q a) (Q' a)) → Same (then_by P Q) (then_by P' Q')
-same_then P P' Q Q' l r text v h = record { left = h.left; right = h.right; value = h.value; split = h.split; is_left = l h.left h.value h.is_left; is_right = r h.value h.right v h.is_right }
+same_then : {A B : Type 0} (P P' : Part Sign A PgCause) (Q Q' : A → Part Sign B PgCause) → Same P P' →
+    ((a : A) → Same (Q a) (Q' a)) → Same (then_by P Q) (then_by P' Q')
+same_then P P' Q Q' l r text v h =
+    record {
+      left = h.left;
+      right = h.right;
+      value = h.value;
+      split = h.split;
+      is_left = l h.left h.value h.is_left;
+      is_right = r h.value h.right v h.is_right;
+    }
 
 same_mapped : {A B : Type 0} (h : A → B) (P P' : Part Sign A PgCause) → Same P P' → Same (mapped h P) (mapped h P')
 same_mapped h P P' s text v i = (i.0, s text i.0 i.1, i.2)
 
-same_times : {C : Type 0} (item item' : C → Part Sign C PgCause) → ((c : C) → Same (item c) (item' c)) → (n : ℕ) (c : C) → Same (times n item c) (times n item' c)
+same_times : {C : Type 0} (item item' : C → Part Sign C PgCause) → ((c : C) → Same (item c) (item' c)) →
+    (n : ℕ) (c : C) → Same (times n item c) (times n item' c)
 same_times item item' s zero c text v h = h
-same_times item item' s (suc n) c text v h = same_then (item c) (item' c) (λ d. times n item d) (λ d. times n item' d) (s c) (λ d. same_times item item' s n d) text v h
+same_times item item' s (suc n) c text v h =
+    same_then (item c) (item' c) (λ d. times n item d) (λ d. times n item' d) (s c)
+    (λ d. same_times item item' s n d) text v h
 
-same_many : {C : Type 0} (item item' : C → Part Sign C PgCause) → ((c : C) → Same (item c) (item' c)) → (c : C) → Same (many item c) (many item' c)
+same_many : {C : Type 0} (item item' : C → Part Sign C PgCause) → ((c : C) → Same (item c) (item' c)) → (c : C) →
+    Same (many item c) (many item' c)
 same_many item item' s c text v h = (h.0, same_times item item' s h.0 c text v h.1)
 
 module _ (k : Option (List ℕ)) where
@@ -168,12 +209,16 @@ module _ (k : Option (List ℕ)) where
 
   same_more : (list : List ℕ) → Same (more_successor k list) (more_successor None list)
   unfolding more_successor
-  same_more list = same_then comma comma (λ _. mapped (λ n. list ++ n ∷ []) (successor k)) (λ _. mapped (λ n. list ++ n ∷ []) (successor None)) (λ text v h. h)
+  same_more list =
+      same_then comma comma (λ _. mapped (λ n. list ++ n ∷ []) (successor k))
+      (λ _. mapped (λ n. list ++ n ∷ []) (successor None)) (λ text v h. h)
       (λ _. same_mapped (λ n. list ++ n ∷ []) (successor k) (successor None) same_successor)
 
   same_successors : Same (successors k) (successors None)
   unfolding successors
-  same_successors = same_then (first_successor k) (first_successor None) (λ n. many (more_successor k) (n ∷ [])) (λ n. many (more_successor None) (n ∷ [])) same_first
+  same_successors =
+      same_then (first_successor k) (first_successor None) (λ n. many (more_successor k) (n ∷ []))
+      (λ n. many (more_successor None) (n ∷ [])) same_first
       (λ n. same_many (more_successor k) (more_successor None) same_more (n ∷ []))
 
   same_node : (ids : List ℕ) → Same (node k ids) (node None ids)
@@ -181,21 +226,30 @@ module _ (k : Option (List ℕ)) where
   same_node ids =
       same_then (new_id ids) (new_id ids) (from_priority k ids) (from_priority None ids) (λ text v h. h) (λ id.
       same_then number number (from_owner k ids id) (from_owner None ids id) (λ text v h. h) (λ priority.
-      same_then owner owner (from_successors k ids id priority) (from_successors None ids id priority) (λ text v h. h) (λ owner'.
-      same_then (successors k) (successors None) (from_name k ids id priority owner') (from_name None ids id priority owner') same_successors (λ list. λ text v h. h))))
+      same_then owner owner (from_successors k ids id priority) (from_successors None ids id priority)
+      (λ text v h. h) (λ owner'.
+      same_then (successors k) (successors None) (from_name k ids id priority owner')
+      (from_name None ids id priority owner') same_successors (λ list. λ text v h. h))))
 
   same_entry : (nodes : List NodeData) → Same (entry k nodes) (entry None nodes)
   unfolding entry
-  same_entry nodes = same_mapped (λ n. nodes ++ n ∷ []) (node k (ids_of nodes)) (node None (ids_of nodes)) (same_node (ids_of nodes))
+  same_entry nodes =
+      same_mapped (λ n. nodes ++ n ∷ []) (node k (ids_of nodes)) (node None (ids_of nodes)) (same_node (ids_of nodes))
 
   same_entries : Same (entries k) (entries None)
   unfolding entries
-  same_entries = same_then (entry k []) (entry None []) (λ nodes. many (entry k) nodes) (λ nodes. many (entry None) nodes) (same_entry []) (λ nodes. same_many (entry k) (entry None) same_entry nodes)
+  same_entries =
+      same_then (entry k []) (entry None []) (λ nodes. many (entry k) nodes) (λ nodes. many (entry None) nodes)
+      (same_entry []) (λ nodes. same_many (entry k) (entry None) same_entry nodes)
 
   same_game : Same (game k) (game None)
   unfolding game
-  same_game = same_then (setting (codes "parity")) (setting (codes "parity")) (λ _. from_start k) (λ _. from_start None) (λ text v h. h)
-      (λ _. same_then (setting (codes "start")) (setting (codes "start")) (λ _. entries k) (λ _. entries None) (λ text v h. h) (λ _. same_entries))
+  same_game =
+      same_then (setting (codes "parity")) (setting (codes "parity")) (λ _. from_start k) (λ _. from_start None)
+      (λ text v h. h)
+      (λ _. same_then (setting (codes "start")) (setting (codes "start")) (λ _. entries k) (λ _. entries None)
+      (λ text v h. h) (λ _. same_entries))
 
-  pub same_nodes : (text : List Sign) (nodes other : List NodeData) → (game None).IsText text nodes → (game k).IsText text other → nodes ≡ other
+  pub same_nodes : (text : List Sign) (nodes other : List NodeData) → (game None).IsText text nodes →
+      (game k).IsText text other → nodes ≡ other
   same_nodes text nodes other h g = (laws_game None).one_value text nodes other h (same_game text other g)

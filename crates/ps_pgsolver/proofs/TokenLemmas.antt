@@ -1,22 +1,26 @@
 -- The lexer, token by token.
-use Rattle.std.proofs.Common.{◌≡◌, ℕ, zero, suc, ◌+◌, ◌-◌, ◌<◌, ◌≤◌, Bool, true, false, eqb, List, [], ◌∷◌, ◌++◌, length, get_or, take, drop, Some, None, refl, sym, ap, subst, ◌∙◌, ⊎_elim, arith, append_assoc}
+use Rattle.std.proofs.Common.{◌≡◌, ℕ, zero, suc, ◌+◌, ◌-◌, ◌<◌, ◌≤◌, Bool, true, false, eqb, List, [], ◌∷◌, ◌++◌}
+use Rattle.std.proofs.Common.{length, get_or, take, drop, Some, None, refl, sym, ap, subst, ◌∙◌, ⊎_elim, arith}
+use Rattle.std.proofs.Common.{append_assoc}
 use Rattle.std.proofs.lemmas.List.{append-nil, drop-drop, length-take-le, length-drop}
 use Rattle.std.proofs.lemmas.Bool.{cases_Bool, cases_lt}
 use Rattle.std.proofs.Math.Seq.{take-add}
 use Rattle.std.specs.List.{prefix_len}
 use Rattle.ps_pgsolver.specs.Bytes.{is_blank, is_digit, is_letter, ends_in}
-use Rattle.ps_text.specs.Answers.{Stream}
+use Rattle.ps_text.specs.Answers.{Stream, offset_of}
 use Rattle.ps_pgsolver.specs.Signs.{Sign}
 use Rattle.ps_pgsolver.specs.Heads.{IsHead, sign_of}
 use Rattle.ps_text.specs.Readers.{tail}
 use Rattle.ps_pgsolver.specs.declared.token.Kind.{Kind}
-use Rattle.ps_pgsolver.specs.Lexer.{lex, first_sign, first_size, number_sign, word_sign, name_sign, name_size, mark_sign, is_closed, stream_from}
+use Rattle.ps_pgsolver.specs.Lexer.{lex, first_sign, first_size, number_sign, word_sign, name_sign, name_size}
+use Rattle.ps_pgsolver.specs.Lexer.{mark_sign, is_closed, stream_from}
 
 nil_of : (xs : List ℕ) → length xs ≤ 0 → xs ≡ []
 nil_of [] h = refl
 nil_of (x ∷ xs) h = absurd (omega arith)
 
-pub ends_in-last : (p : ℕ → Bool) (text : List ℕ) → 0 < length text → ends_in p text ≡ p (get_or text (length text - 1) 0)
+pub ends_in-last : (p : ℕ → Bool) (text : List ℕ) → 0 < length text →
+    ends_in p text ≡ p (get_or text (length text - 1) 0)
 ends_in-last p [] h = absurd (omega arith)
 ends_in-last p (b ∷ []) h = refl
 ends_in-last p (b ∷ c ∷ cs) h =
@@ -39,7 +43,8 @@ pub at_quote : (before : List ℕ) (b : ℕ) (bs rest : List ℕ) → rest ≡ b
 unfolding first_sign first_size
 at_quote before b bs rest e q = rw (e, q) (refl, refl)
 
-pub at_mark : (before : List ℕ) (b : ℕ) (bs rest : List ℕ) → rest ≡ b ∷ bs → is_digit b ≡ false → is_letter b ≡ false → eqb b 34 ≡ false →
+pub at_mark : (before : List ℕ) (b : ℕ) (bs rest : List ℕ) → rest ≡ b ∷ bs → is_digit b ≡ false → is_letter b ≡ false →
+    eqb b 34 ≡ false →
     (first_sign before rest ≡ mark_sign b) × (first_size rest ≡ 1)
 unfolding first_sign first_size
 at_mark before b bs rest e d l q = rw e (rw (d, l, q) refl, rw (d, l, q) refl)
@@ -50,24 +55,30 @@ unfolding lex
 lex-skip zero before bs = ap (λ front. lex 0 front bs) (sym (append-nil before))
 lex-skip (suc skip) before [] = refl
 lex-skip (suc skip) before (b ∷ bs) =
-    lex-skip skip (before ++ b ∷ []) bs ∙ ap (λ front. lex 0 front (drop skip bs)) (append_assoc before (b ∷ []) (take skip bs))
+    lex-skip skip (before ++ b ∷ []) bs ∙ ap (λ front. lex 0 front (drop skip bs))
+    (append_assoc before (b ∷ []) (take skip bs))
 
-lex-blank : (before : List ℕ) (b : ℕ) (bs : List ℕ) → is_blank b ≡ true → lex 0 before (b ∷ bs) ≡ lex 0 (before ++ b ∷ []) bs
+lex-blank : (before : List ℕ) (b : ℕ) (bs : List ℕ) → is_blank b ≡ true →
+    lex 0 before (b ∷ bs) ≡ lex 0 (before ++ b ∷ []) bs
 unfolding lex
 lex-blank before b bs h = rw h refl
 
 lex-token : (before : List ℕ) (b : ℕ) (bs : List ℕ) → is_blank b ≡ false →
-    lex 0 before (b ∷ bs) ≡ (record { sign = first_sign before (b ∷ bs); start = length before }) ∷ lex (first_size (b ∷ bs) - 1) (before ++ b ∷ []) bs
+    lex 0 before (b ∷ bs) ≡ (record { sign = first_sign before (b ∷ bs); start = length before }) ∷ lex
+    (first_size (b ∷ bs) - 1) (before ++ b ∷ []) bs
 unfolding lex
 lex-token before b bs h = rw h refl
 
 -- blanks are passed over
-pub lex-blanks : (before bs : List ℕ) → lex 0 before bs ≡ lex 0 (before ++ take (prefix_len is_blank bs) bs) (drop (prefix_len is_blank bs) bs)
+pub lex-blanks : (before bs : List ℕ) → lex 0 before bs ≡ lex 0 (before ++ take (prefix_len is_blank bs) bs)
+    (drop (prefix_len is_blank bs) bs)
 lex-blanks before [] = ap (λ front. lex 0 front []) (sym (append-nil before))
 lex-blanks before (b ∷ bs) = ⊎_elim
     (λ yes.
     let size : prefix_len is_blank (b ∷ bs) ≡ suc (prefix_len is_blank bs) = rw yes (omega arith) in
-    rw size (lex-blank before b bs yes ∙ lex-blanks (before ++ b ∷ []) bs ∙ ap (λ front. lex 0 front (drop (prefix_len is_blank bs) bs)) (append_assoc before (b ∷ []) (take (prefix_len is_blank bs) bs))))
+    rw size (lex-blank before b bs yes ∙ lex-blanks (before ++ b ∷ []) bs
+    ∙ ap (λ front. lex 0 front (drop (prefix_len is_blank bs) bs))
+    (append_assoc before (b ∷ []) (take (prefix_len is_blank bs) bs))))
     (λ no.
     let size : prefix_len is_blank (b ∷ bs) ≡ 0 = rw no refl in
     rw size (ap (λ front. lex 0 front (b ∷ bs)) (sym (append-nil before))))
@@ -77,11 +88,13 @@ lex-blanks before (b ∷ bs) = ⊎_elim
 pub prefix_len-behind : (p : ℕ → Bool) (xs : List ℕ) → prefix_len p (drop (prefix_len p xs) xs) ≡ 0
 prefix_len-behind p [] = refl
 prefix_len-behind p (x ∷ xs) = ⊎_elim
-    (λ yes. let size : prefix_len p (x ∷ xs) ≡ suc (prefix_len p xs) = rw yes (omega arith) in rw size (prefix_len-behind p xs))
+    (λ yes. let size : prefix_len p (x ∷ xs) ≡ suc (prefix_len p xs) = rw yes (omega arith) in
+    rw size (prefix_len-behind p xs))
     (λ no. let size : prefix_len p (x ∷ xs) ≡ 0 = rw no refl in rw size size)
     (cases_Bool (p x))
 
-pub stream_from-blanks : (text : List ℕ) (at : ℕ) → stream_from text at ≡ stream_from text (at + prefix_len is_blank (drop at text))
+pub stream_from-blanks : (text : List ℕ) (at : ℕ) → stream_from text at ≡ stream_from text
+    (at + prefix_len is_blank (drop at text))
 stream_from-blanks text at =
     let n = prefix_len is_blank (drop at text) in
     let e : lex 0 (take at text) (drop at text) ≡ lex 0 (take (at + n) text) (drop (at + n) text) =
@@ -114,16 +127,24 @@ first_size-none (b ∷ bs) e = absurd (omega (arith, e))
 
 -- the first token of a text that begins with no blank
 pub lex-first : (before rest : List ℕ) → prefix_len is_blank rest ≡ 0 → 0 < length rest →
-    lex 0 before rest ≡ (record { sign = first_sign before rest; start = length before }) ∷ lex 0 (before ++ take (first_size rest) rest) (drop (first_size rest) rest)
+    lex 0 before rest ≡ (record { sign = first_sign before rest; start = length before }) ∷ lex 0
+    (before ++ take (first_size rest) rest) (drop (first_size rest) rest)
 lex-first before [] none some = absurd (omega arith)
 lex-first before (b ∷ bs) none some = ⊎_elim
-    (λ yes. let size : prefix_len is_blank (b ∷ bs) ≡ suc (prefix_len is_blank bs) = rw yes (omega arith) in absurd (omega (arith, size, none)))
+    (λ yes. let size : prefix_len is_blank (b ∷ bs) ≡ suc (prefix_len is_blank bs) = rw yes (omega arith) in
+    absurd (omega (arith, size, none)))
     (λ no.
     let one : first_size (b ∷ bs) ≡ suc (first_size (b ∷ bs) - 1) = omega (arith, first_size-positive b bs) in
-    let more : lex (first_size (b ∷ bs) - 1) (before ++ b ∷ []) bs ≡ lex 0 (before ++ take (suc (first_size (b ∷ bs) - 1)) (b ∷ bs)) (drop (suc (first_size (b ∷ bs) - 1)) (b ∷ bs)) =
-    lex-skip (first_size (b ∷ bs) - 1) (before ++ b ∷ []) bs ∙ ap (λ front. lex 0 front (drop (first_size (b ∷ bs) - 1) bs)) (append_assoc before (b ∷ []) (take (first_size (b ∷ bs) - 1) bs)) in
-    let P : ℕ → Type 0 = λ n. lex 0 before (b ∷ bs) ≡ (record { sign = first_sign before (b ∷ bs); start = length before }) ∷ lex 0 (before ++ take n (b ∷ bs)) (drop n (b ∷ bs)) in
-    subst P (sym one) (lex-token before b bs no ∙ ap (λ ps. (record { sign = first_sign before (b ∷ bs); start = length before }) ∷ ps) more))
+    let more : lex (first_size (b ∷ bs) - 1) (before ++ b ∷ []) bs ≡ lex 0
+    (before ++ take (suc (first_size (b ∷ bs) - 1)) (b ∷ bs)) (drop (suc (first_size (b ∷ bs) - 1)) (b ∷ bs)) =
+    lex-skip (first_size (b ∷ bs) - 1) (before ++ b ∷ []) bs ∙ ap
+    (λ front. lex 0 front (drop (first_size (b ∷ bs) - 1) bs))
+    (append_assoc before (b ∷ []) (take (first_size (b ∷ bs) - 1) bs)) in
+    let P : ℕ → Type 0 =
+    λ n. lex 0 before (b ∷ bs) ≡ (record { sign = first_sign before (b ∷ bs); start = length before }) ∷ lex 0
+    (before ++ take n (b ∷ bs)) (drop n (b ∷ bs)) in
+    subst P (sym one) (lex-token before b bs no ∙ ap (λ ps. (record
+    { sign = first_sign before (b ∷ bs); start = length before }) ∷ ps) more))
     (cases_Bool (is_blank b))
 
 -- at the end of a text no token is left
@@ -139,11 +160,13 @@ pub record Reads (text : List ℕ) (start size : ℕ) (kind : Kind) (stream : St
 reads_end : (text : List ℕ) (start size : ℕ) (kind : Kind) → start ≤ length text → drop start text ≡ [] →
     sign_of kind ≡ None → size ≡ first_size (drop start text) → Reads text start size kind (stream_from text start)
 reads_end text start size kind within ended none sized =
-    let left : lex 0 (take start text) (drop start text) ≡ [] = ap (λ rest. lex 0 (take start text) rest) ended ∙ lex-end (take start text) in
+    let left : lex 0 (take start text) (drop start text) ≡ [] = ap (λ rest. lex 0 (take start text) rest) ended
+    ∙ lex-end (take start text) in
     let nothing : length (drop start text) ≡ 0 = ap length ended in
     let at_end : start ≡ length text = omega (arith, length-drop start text) in
     let empty : size ≡ 0 = sized ∙ first_size-none (drop start text) nothing in
-    let whole : stream_from text start ≡ (record { pieces = []; end = length text }) = ap (λ ps. record { pieces = ps; end = length text }) left in
+    let whole : stream_from text start ≡ (record { pieces = []; end = length text }) =
+    ap (λ ps. record { pieces = ps; end = length text }) left in
     let same : start + size ≡ start = omega arith in
     let P : Stream Sign → Type 0 = λ stream. Reads text start size kind stream in
     subst P (sym whole) (record {
@@ -157,27 +180,37 @@ reads_token : (text : List ℕ) (start size : ℕ) (kind : Kind) → start ≤ l
 reads_token text start size kind within some no_blank is_sign sized =
     let before = take start text in
     let rest = drop start text in
-    let more : lex 0 (before ++ take (first_size rest) rest) (drop (first_size rest) rest) ≡ lex 0 (take (start + size) text) (drop (start + size) text) =
+    let more : lex 0 (before ++ take (first_size rest) rest) (drop (first_size rest) rest) ≡ lex 0
+    (take (start + size) text) (drop (start + size) text) =
     rw (← sized, take-add start size text, drop-drop size start text) refl in
-    let whole : stream_from text start ≡ (record { pieces = (record { sign = first_sign before rest; start = length before }) ∷ lex 0 (take (start + size) text) (drop (start + size) text); end = length text }) =
-    ap (λ ps. record { pieces = ps; end = length text }) (lex-first before rest no_blank some ∙ ap (λ ps. (record { sign = first_sign before rest; start = length before }) ∷ ps) more) in
+    let whole : stream_from text start ≡ (record {
+      pieces = (record
+          { sign = first_sign before rest; start = length before }) ∷ lex 0 (take (start + size) text)
+          (drop (start + size) text);
+      end = length text;
+    }) =
+    ap (λ ps. record { pieces = ps; end = length text }) (lex-first before rest no_blank some
+    ∙ ap (λ ps. (record { sign = first_sign before rest; start = length before }) ∷ ps) more) in
     let P : Stream Sign → Type 0 = λ stream. Reads text start size kind stream in
     subst P (sym whole) (record {
       head = record { sign = is_sign; start = sym (length-take-le start text within) };
       rest = refl;
     })
 
-pub reads : (text : List ℕ) (at start size : ℕ) (kind : Kind) → start ≡ at + prefix_len is_blank (drop at text) → start ≤ length text →
+pub reads : (text : List ℕ) (at start size : ℕ) (kind : Kind) → start ≡ at + prefix_len is_blank (drop at text) →
+    start ≤ length text →
     (drop start text ≡ [] → sign_of kind ≡ None) →
     (0 < length (drop start text) → sign_of kind ≡ Some (first_sign (take start text) (drop start text))) →
     size ≡ first_size (drop start text) → Reads text start size kind (stream_from text at)
 reads text at start size kind begins within ended some sized =
-    let e : stream_from text at ≡ stream_from text start = stream_from-blanks text at ∙ ap (stream_from text) (sym begins) in
+    let e : stream_from text at ≡ stream_from text start = stream_from-blanks text at
+    ∙ ap (stream_from text) (sym begins) in
     let none : prefix_len is_blank (drop start text) ≡ 0 =
     rw (begins, ← drop-drop (prefix_len is_blank (drop at text)) at text) (prefix_len-behind is_blank (drop at text)) in
     let P : Stream Sign → Type 0 = λ stream. Reads text start size kind stream in
     subst P (sym e) (⊎_elim
-    (λ (some_left : 0 < length (drop start text)). reads_token text start size kind within some_left none (some some_left) sized)
+    (λ (some_left : 0 < length (drop start text)). reads_token text start size kind within some_left none
+    (some some_left) sized)
     (λ (none_left : length (drop start text) ≤ 0).
     let empty : drop start text ≡ [] = nil_of (drop start text) none_left in
     reads_end text start size kind within empty (ended empty) sized)
@@ -185,8 +218,10 @@ reads text at start size kind begins within ended some sized =
 
 -- the same, of a text that was cut where the token begins
 pub reads_split : (text before rest : List ℕ) (at start size : ℕ) (kind : Kind) (stream : Stream Sign) →
-    start ≡ at + prefix_len is_blank (drop at text) → start ≤ length text → before ≡ take start text → rest ≡ drop start text →
-    (rest ≡ [] → sign_of kind ≡ None) → (0 < length rest → sign_of kind ≡ Some (first_sign before rest)) → size ≡ first_size rest →
+    start ≡ at + prefix_len is_blank (drop at text) → start ≤ length text → before ≡ take start text →
+    rest ≡ drop start text →
+    (rest ≡ [] → sign_of kind ≡ None) → (0 < length rest → sign_of kind ≡ Some (first_sign before rest)) →
+    size ≡ first_size rest →
     stream_from text at ≡ stream → Reads text start size kind stream
 reads_split text before rest at start size kind stream begins within front back ended some sized is =
     let P : Stream Sign → Type 0 = λ s. Reads text start size kind s in
@@ -195,3 +230,23 @@ reads_split text before rest at start size kind stream begins within front back 
     (λ left. let long : 0 < length rest = omega (arith, ap length back) in
     some long ∙ ap (λ b. Some (first_sign b rest)) front ∙ ap (λ r. Some (first_sign (take start text) r)) back)
     (sized ∙ ap first_size back))
+
+-- where the next token begins is the offset of what is left
+pub offset_ahead : (text : List ℕ) (at start : ℕ) → start ≡ at + prefix_len is_blank (drop at text) →
+    start ≤ length text →
+    start ≡ offset_of (stream_from text at).pieces (length text)
+offset_ahead text at start begins within =
+    let e : stream_from text at ≡ stream_from text start = stream_from-blanks text at
+    ∙ ap (stream_from text) (sym begins) in
+    let none : prefix_len is_blank (drop start text) ≡ 0 =
+    rw (begins, ← drop-drop (prefix_len is_blank (drop at text)) at text) (prefix_len-behind is_blank (drop at text)) in
+    let here : offset_of (lex 0 (take start text) (drop start text)) (length text) ≡ start = ⊎_elim
+    (λ (some : 0 < length (drop start text)).
+    ap (λ ps. offset_of ps (length text)) (lex-first (take start text) (drop start text) none some)
+    ∙ length-take-le start text within)
+    (λ (none_left : length (drop start text) ≤ 0).
+    let at_end : length text ≡ start = omega (arith, length-drop start text) in
+    ap (λ rest. offset_of (lex 0 (take start text) rest) (length text)) (nil_of (drop start text) none_left)
+    ∙ ap (λ ps. offset_of ps (length text)) (lex-end (take start text)) ∙ at_end)
+    (cases_lt 0 (length (drop start text))) in
+    sym (ap (λ (s : Stream Sign). offset_of s.pieces (length text)) e ∙ here)

@@ -2,17 +2,22 @@
 --     game_kept      the nodes that the lines write make the same game
 --     readable      nodes of different ids can be read, one behind the other
 --     reads_again      the whole text
-use Rattle.std.proofs.Common.{◌≡◌, ℕ, suc, ◌+◌, ◌<◌, ◌≤◌, Bool, true, cond, eqb, ltb, List, [], ◌∷◌, ◌++◌, length, get_or, map, drop, Option, Some, None, Ok, refl, sym, ap, ap₂, subst, ⊎_elim, ◌∙◌, arith, append_assoc, length-append}
+use Rattle.std.proofs.Common.{◌≡◌, ℕ, suc, ◌+◌, ◌<◌, ◌≤◌, Bool, true, cond, eqb, ltb, List, [], ◌∷◌, ◌++◌, length}
+use Rattle.std.proofs.Common.{get_or, map, drop, Option, Some, None, Ok, refl, sym, ap, ap₂, subst, ⊎_elim, ◌∙◌, arith}
+use Rattle.std.proofs.Common.{append_assoc, length-append}
 use Rattle.std.specs.Prelude.{not}
 use Rattle.std.specs.Option.{unwrap_or}
 use Rattle.std.specs.List.{All, Contains, filter}
 use Rattle.std.proofs.Math.Seq.{get_or-append_seam}
 use Rattle.std.proofs.lemmas.Bool.{cases_lt, eq-eqb, lt-ltb, ne_eqb}
-use Rattle.std.proofs.lemmas.List.{drop_all, drop_more, get_or_append_left, get_or_default, get_or_past, length-map, map-append}
-use Rattle.std.proofs.lemmas.List.Elements.{All-nil, All-cons, All-head, All-tail, All-map, All-from_get_or, Contains-get_or}
+use Rattle.std.proofs.lemmas.List.{drop_all, drop_more, get_or_append_left, get_or_default, get_or_past, length-map}
+use Rattle.std.proofs.lemmas.List.{map-append}
+use Rattle.std.proofs.lemmas.List.Elements.{All-nil, All-cons, All-head, All-tail, All-map, All-from_get_or}
+use Rattle.std.proofs.lemmas.List.Elements.{Contains-get_or}
 use Rattle.std.proofs.lemmas.List.Sums.{position_or_len_is}
 use Rattle.ps_game.specs.Drafts.{distinct, without_repeats}
-use Rattle.ps_game.specs.Games.{VertexData, ParityGame, NamedGameData, IsNamedGame, HasNoQuote, no_vertex, vertex_count, owner_of, successors_of}
+use Rattle.ps_game.specs.Games.{VertexData, ParityGame, NamedGameData, IsNamedGame, HasNoQuote, no_vertex, vertex_count}
+use Rattle.ps_game.specs.Games.{owner_of, successors_of}
 use Rattle.ps_game.specs.Plays.{greatest}
 use Rattle.ps_pgsolver.specs.GameTexts.{too_large, IsUnknown}
 use Rattle.ps_pgsolver.specs.GamesOf.{place_of, draft_of, named_game_of}
@@ -28,29 +33,37 @@ use Rattle.ps_pgsolver.proofs.WrittenSigns.{IsPlainVertex, id_at, node_made, nod
 filter_keeps : (p : ℕ → Bool) (xs : List ℕ) → All (λ x. p x ≡ true) xs → filter p xs ≡ xs
 filter_keeps p [] h = refl
 filter_keeps p (x ∷ xs) h =
-    ap (λ b. cond b (x ∷ filter p xs) (filter p xs)) (All-head (λ y. p y ≡ true) x xs h) ∙ ap (λ ys. x ∷ ys) (filter_keeps p xs (All-tail (λ y. p y ≡ true) x xs h))
+    ap (λ b. cond b (x ∷ filter p xs) (filter p xs)) (All-head (λ y. p y ≡ true) x xs h)
+    ∙ ap (λ ys. x ∷ ys) (filter_keeps p xs (All-tail (λ y. p y ≡ true) x xs h))
 
 distinct_same : (xs : List ℕ) → IsDistinct xs → distinct xs ≡ xs
 distinct_same [] h = refl
 distinct_same (x ∷ xs) h =
-    let others : All (λ y. not (eqb x y) ≡ true) xs = λ k d lt. ap not (ne_eqb x (get_or xs k d) (h 0 (suc k) d (omega arith) (omega (arith, lt)))) in
-    ap (λ ys. x ∷ filter (λ y. not (eqb x y)) ys) (distinct_same xs (λ i j d l m. h (suc i) (suc j) d (omega (arith, l)) (omega (arith, m))))
+    let others : All (λ y. not (eqb x y) ≡ true) xs =
+    λ k d lt. ap not (ne_eqb x (get_or xs k d) (h 0 (suc k) d (omega arith) (omega (arith, lt)))) in
+    ap (λ ys. x ∷ filter (λ y. not (eqb x y)) ys) (distinct_same xs
+    (λ i j d l m. h (suc i) (suc j) d (omega (arith, l)) (omega (arith, m))))
     ∙ ap (λ ys. x ∷ ys) (filter_keeps (λ y. not (eqb x y)) xs others)
 
 not_before : (xs ys : List ℕ) (y : ℕ) → IsDistinct (xs ++ y ∷ ys) → Contains xs y → ⊥
 not_before xs ys y h c =
-    h c.0 (length xs) y c.1 (omega (arith, length-append xs (y ∷ ys))) (get_or_append_left xs (y ∷ ys) y c.0 c.1 ∙ c.2 ∙ sym (get_or-append_seam xs y ys y))
+    h c.0 (length xs) y c.1 (omega (arith, length-append xs (y ∷ ys)))
+    (get_or_append_left xs (y ∷ ys) y c.0 c.1 ∙ c.2 ∙ sym (get_or-append_seam xs y ys y))
 
 -- ## The nodes
 
 module _ (ids : List ℕ) (names : List (Option (List ℕ))) where
-  made_ids : (v : ℕ) (vertices : ParityGame) → v + length vertices ≡ length ids → ids_of (nodes_made ids names v vertices) ≡ drop v ids
+  made_ids : (v : ℕ) (vertices : ParityGame) → v + length vertices ≡ length ids →
+      ids_of (nodes_made ids names v vertices) ≡ drop v ids
   made_ids v [] e = sym (drop_all v ids (omega (arith, e)))
-  made_ids v (x ∷ vertices) e = ap (λ xs. id_at ids v ∷ xs) (made_ids (v + 1) vertices (omega (arith, e))) ∙ sym (drop_more ids v 0 (omega (arith, e)))
+  made_ids v (x ∷ vertices) e = ap (λ xs. id_at ids v ∷ xs) (made_ids (v + 1) vertices (omega (arith, e)))
+      ∙ sym (drop_more ids v 0 (omega (arith, e)))
 
-  made_names : (v : ℕ) (vertices : ParityGame) → v + length vertices ≡ length names → names_of (nodes_made ids names v vertices) ≡ drop v names
+  made_names : (v : ℕ) (vertices : ParityGame) → v + length vertices ≡ length names →
+      names_of (nodes_made ids names v vertices) ≡ drop v names
   made_names v [] e = sym (drop_all v names (omega (arith, e)))
-  made_names v (x ∷ vertices) e = ap (λ xs. get_or names v None ∷ xs) (made_names (v + 1) vertices (omega (arith, e))) ∙ sym (drop_more names v None (omega (arith, e)))
+  made_names v (x ∷ vertices) e = ap (λ xs. get_or names v None ∷ xs) (made_names (v + 1) vertices (omega (arith, e)))
+      ∙ sym (drop_more names v None (omega (arith, e)))
 
   made_count : (v : ℕ) (vertices : ParityGame) → length (nodes_made ids names v vertices) ≡ length vertices
   made_count v [] = refl
@@ -65,18 +78,25 @@ module _ (ids : List ℕ) (differ : IsDistinct ids) where
   found_at : (w : ℕ) → w < length ids → place_of ids (id_at ids w) ≡ w
   found_at w within =
       let id = id_at ids w in
-      let e = position_or_len_is (λ other. eqb id other) ids w 0 (omega (arith, within)) (λ k lt. ne_eqb id (get_or ids k 0) (λ x. differ k w 0 lt within (sym x))) (λ _. eq-eqb id id refl) in
-      ap (λ i. unwrap_or (cond (ltb i (length ids)) (Some i) None) 0) e ∙ ap (λ (b : Bool). unwrap_or (cond b (Some w) None) 0) (lt-ltb w (length ids) within)
+      let e =
+      position_or_len_is (λ other. eqb id other) ids w 0 (omega (arith, within))
+      (λ k lt. ne_eqb id (get_or ids k 0) (λ x. differ k w 0 lt within (sym x))) (λ _. eq-eqb id id refl) in
+      ap (λ i. unwrap_or (cond (ltb i (length ids)) (Some i) None) 0) e
+      ∙ ap (λ (b : Bool). unwrap_or (cond b (Some w) None) 0) (lt-ltb w (length ids) within)
 
   places : (ws : List ℕ) → All (λ w. w < length ids) ws → map (place_of ids) (map (id_at ids) ws) ≡ ws
   places [] h = refl
-  places (w ∷ ws) h = ap₂ (λ x xs. x ∷ xs) (found_at w (All-head (λ z. z < length ids) w ws h)) (places ws (All-tail (λ z. z < length ids) w ws h))
+  places (w ∷ ws) h =
+      ap₂ (λ x xs. x ∷ xs) (found_at w (All-head (λ z. z < length ids) w ws h))
+      (places ws (All-tail (λ z. z < length ids) w ws h))
 
-  game_kept : (names : List (Option (List ℕ))) (v : ℕ) (vertices : ParityGame) → All (IsKept (length ids)) vertices → without_repeats (draft_of ids (nodes_made ids names v vertices)) ≡ vertices
+  game_kept : (names : List (Option (List ℕ))) (v : ℕ) (vertices : ParityGame) → All (IsKept (length ids)) vertices →
+      without_repeats (draft_of ids (nodes_made ids names v vertices)) ≡ vertices
   game_kept names v [] h = refl
   game_kept names v (x ∷ vertices) h =
       let is = All-head (IsKept (length ids)) x vertices h in
-      ap₂ (λ ws xs. record { owner = x.owner; priority = x.priority; successors = ws } ∷ xs) (ap distinct (places x.successors is.within) ∙ distinct_same x.successors is.different)
+      ap₂ (λ ws xs. record { owner = x.owner; priority = x.priority; successors = ws } ∷ xs)
+      (ap distinct (places x.successors is.within) ∙ distinct_same x.successors is.different)
       (game_kept names (v + 1) vertices (All-tail (IsKept (length ids)) x vertices h))
 
 -- ## What can be read
@@ -88,23 +108,29 @@ record IsPlainNode (known : Option (List ℕ)) (node : NodeData) : Type 0 where
   some : 0 < length node.successors
   successors : All (IsKnown known) node.successors
 
-readable : (known : Option (List ℕ)) (before nodes : List NodeData) → IsDistinct (ids_of (before ++ nodes)) → All (IsPlainNode known) nodes → AreReadable known before nodes
+readable : (known : Option (List ℕ)) (before nodes : List NodeData) → IsDistinct (ids_of (before ++ nodes)) →
+    All (IsPlainNode known) nodes → AreReadable known before nodes
 readable known before [] differ h = tt
 readable known before (n ∷ nodes) differ h =
     let is = All-head (IsPlainNode known) n nodes h in (
       record {
         id = is.id;
-        new = not_before (ids_of before) (ids_of nodes) n.id (subst IsDistinct (map-append (λ m. m.id) before (n ∷ nodes)) differ);
+        new =
+            not_before (ids_of before) (ids_of nodes) n.id (subst IsDistinct
+            (map-append (λ m. m.id) before (n ∷ nodes)) differ);
         priority = is.priority;
         owner = is.owner;
         some = is.some;
         successors = is.successors;
       },
-      readable known (before ++ n ∷ []) nodes (subst (λ ns. IsDistinct (ids_of ns)) (sym (append_assoc before (n ∷ []) nodes)) differ) (All-tail (IsPlainNode known) n nodes h),
+      readable known (before ++ n ∷ []) nodes (subst (λ ns. IsDistinct (ids_of ns))
+          (sym (append_assoc before (n ∷ []) nodes)) differ) (All-tail (IsPlainNode known) n nodes h),
     )
 
-module _ (ids : List ℕ) (names : List (Option (List ℕ))) (small : (w : ℕ) → IsWord (id_at ids w)) (known : Option (List ℕ)) (knows : (w : ℕ) → w < length ids → IsUnknown known (id_at ids w) → ⊥) where
-  made_plain : (v : ℕ) (vertices : ParityGame) → All IsPlainVertex vertices → All (IsKept (length ids)) vertices → All (IsPlainNode known) (nodes_made ids names v vertices)
+module _ (ids : List ℕ) (names : List (Option (List ℕ))) (small : (w : ℕ) → IsWord (id_at ids w))
+    (known : Option (List ℕ)) (knows : (w : ℕ) → w < length ids → IsUnknown known (id_at ids w) → ⊥) where
+  made_plain : (v : ℕ) (vertices : ParityGame) → All IsPlainVertex vertices → All (IsKept (length ids)) vertices →
+      All (IsPlainNode known) (nodes_made ids names v vertices)
   made_plain v [] h k = All-nil (IsPlainNode known)
   made_plain v (x ∷ vertices) h k =
       let is = All-head IsPlainVertex x vertices h in
@@ -114,29 +140,44 @@ module _ (ids : List ℕ) (names : List (Option (List ℕ))) (small : (w : ℕ) 
         priority = omega (arith, is.priority);
         owner = is.owner;
         some = omega (arith, is.some, length-map x.successors (id_at ids));
-        successors = All-map (IsKnown known) (id_at ids) x.successors (λ i d lt. (omega (arith, small (get_or x.successors i d)), knows (get_or x.successors i d) (kept.within i d lt)));
+        successors =
+            All-map (IsKnown known) (id_at ids) x.successors (λ i d lt.
+            (omega (arith, small (get_or x.successors i d)), knows (get_or x.successors i d) (kept.within i d lt)));
       } in
       All-cons (IsPlainNode known) (node_made ids names v x) (nodes_made ids names (v + 1) vertices) one
       (made_plain (v + 1) vertices (All-tail IsPlainVertex x vertices h) (All-tail (IsKept (length ids)) x vertices k))
 
 -- ## The whole text
 
-module _ (named : NamedGameData) (is : IsNamedGame named) (some : 0 < vertex_count named.game) (words : All IsWord named.ids) (priorities : All (λ vertex. IsWord vertex.priority) named.game) (word : IsWord (greatest named.ids)) where
+module _ (named : NamedGameData) (is : IsNamedGame named) (some : 0 < vertex_count named.game)
+    (words : All IsWord named.ids) (priorities : All (λ vertex. IsWord vertex.priority) named.game)
+    (word : IsWord (greatest named.ids)) where
   small : (w : ℕ) → IsWord (id_at named.ids w)
-  small w = ⊎_elim (λ lt. words w 0 lt) (λ le. let e = get_or_past named.ids w 0 le in omega (arith, e)) (cases_lt w (length named.ids))
+  small w =
+      ⊎_elim (λ lt. words w 0 lt) (λ le. let e = get_or_past named.ids w 0 le in omega (arith, e))
+      (cases_lt w (length named.ids))
 
   plain : (v : ℕ) → HasNoQuote (get_or named.names v None)
-  plain v = ⊎_elim (λ lt. is.names_plain v None lt) (λ le. subst HasNoQuote (sym (get_or_past named.names v None le)) tt) (cases_lt v (length named.names))
+  plain v =
+      ⊎_elim (λ lt. is.names_plain v None lt) (λ le. subst HasNoQuote (sym (get_or_past named.names v None le)) tt)
+      (cases_lt v (length named.names))
 
   vertices_plain : All IsPlainVertex named.game
   unfolding vertex_count owner_of successors_of
-  vertices_plain = All-from_get_or IsPlainVertex named.game no_vertex (λ v lt. record { priority = priorities v no_vertex lt; owner = is.is_game.owners v lt; some = is.is_game.has_successor v lt })
+  vertices_plain =
+      All-from_get_or IsPlainVertex named.game no_vertex (λ v lt.
+      record {
+        priority = priorities v no_vertex lt;
+        owner = is.is_game.owners v lt;
+        some = is.is_game.has_successor v lt;
+      })
 
   vertices_kept : All (IsKept (length named.ids)) named.game
   unfolding vertex_count successors_of
   vertices_kept = All-from_get_or (IsKept (length named.ids)) named.game no_vertex (λ v lt. record {
     within = λ k d l. let ws = (get_or named.game v no_vertex).successors in
-        let x : get_or ws k 0 < length named.game = is.is_game.within v (get_or ws k 0) (lt, Contains-get_or ws k 0 l) in
+        let x : get_or ws k 0 < length named.game =
+        is.is_game.within v (get_or ws k 0) (lt, Contains-get_or ws k 0 l) in
         let e = get_or_default ws k d 0 l in
         omega (arith, x, e, is.id_each);
     different = is.is_game.different v lt;
@@ -157,18 +198,25 @@ module _ (named : NamedGameData) (is : IsNamedGame named) (some : 0 < vertex_cou
   unfolding nodes
   game_is =
       let kept = game_kept named.ids is.ids_differ named.names 0 named.game vertices_kept in
-      same_named named nodes (sym (ap (λ ids. without_repeats (draft_of ids nodes)) ids_are ∙ kept)) (sym ids_are) (sym names_are)
+      same_named named nodes (sym (ap (λ ids. without_repeats (draft_of ids nodes)) ids_are ∙ kept)) (sym ids_are)
+      (sym names_are)
 
-  nodes_readable : (known : Option (List ℕ)) → ((w : ℕ) → w < length named.ids → IsUnknown known (id_at named.ids w) → ⊥) → AreReadable known [] nodes
+  nodes_readable : (known : Option (List ℕ)) → ((w : ℕ) → w < length named.ids → IsUnknown known (id_at named.ids w) →
+      ⊥) → AreReadable known [] nodes
   unfolding nodes
-  nodes_readable known knows = readable known [] nodes (subst IsDistinct (sym ids_are) is.ids_differ) (made_plain named.ids named.names small known knows 0 named.game vertices_plain vertices_kept)
+  nodes_readable known knows =
+      readable known [] nodes (subst IsDistinct (sym ids_are) is.ids_differ)
+      (made_plain named.ids named.names small known knows 0 named.game vertices_plain vertices_kept)
 
   pub reads_again : length (game_text named) ≤ text_limit → IsGameAnswer (game_text named) (Ok named)
   unfolding nodes vertex_count
   reads_again short =
       let t = written_tokens named.ids named.names small plain (greatest named.ids) named.game word vertices_plain in
       let count : 0 < length nodes = omega (arith, some, made_count named.ids named.names 0 named.game) in
-      let first = written_answers None t.0 (greatest named.ids) nodes t.2 (omega (arith, word)) count (nodes_readable None (λ w lt u. u)) in
+      let first =
+      written_answers None t.0 (greatest named.ids) nodes t.2 (omega (arith, word)) count
+      (nodes_readable None (λ w lt u. u)) in
       let second = written_answers (Some (ids_of nodes)) t.0 (greatest named.ids) nodes t.2 (omega (arith, word)) count
-      (nodes_readable (Some (ids_of nodes)) (λ w lt u. u (subst (λ ids. Contains ids (id_at named.ids w)) (sym ids_are) (Contains-get_or named.ids w 0 lt)))) in
+      (nodes_readable (Some (ids_of nodes)) (λ w lt u. u (subst (λ ids. Contains ids (id_at named.ids w)) (sym ids_are)
+      (Contains-get_or named.ids w 0 lt)))) in
       meaning t.0 nodes (record { short = short; tokens = t.1 }) first second (ap Ok game_is)

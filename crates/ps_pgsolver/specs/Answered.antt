@@ -14,16 +14,21 @@ use Rattle.ps_pgsolver.specs.Causes.{PgFault}
 use Rattle.ps_text.specs.declared.faults.Fault.TheVariants as faults
 
 -- the part was read from old, and new is left, or its first fault was found
-abbrev pub ReadsAs : {V X : Type 0} → (X → V) → Part Sign V PgCause → Stream Sign → Result X PgFault → Stream Sign → Type 0
+abbrev pub ReadsAs : {V X : Type 0} → (X → V) → Part Sign V PgCause → Stream Sign → Result X PgFault →
+    Stream Sign → Type 0
 ReadsAs view part old result new = Meets found_of pg_causes view part old result new
 
 -- where all ids that the value names are among some ids, the part with these known was read too
-abbrev pub ReadsKnown : {V X : Type 0} → (List ℕ → V → Type 0) → (X → V) → (Option (List ℕ) → Part Sign V PgCause) → Stream Sign → Result X PgFault → Stream Sign → Type 0
-ReadsKnown Knows view part old result new = IfOk result (λ x. (ids : List ℕ) → Knows ids (view x) → WasRead (part (Some ids)) old (view x) new)
+abbrev pub ReadsKnown : {V X : Type 0} → (List ℕ → V → Type 0) → (X → V) → (Option (List ℕ) → Part Sign V PgCause) →
+    Stream Sign → Result X PgFault → Stream Sign → Type 0
+ReadsKnown Knows view part old result new =
+    IfOk result (λ x. (ids : List ℕ) → Knows ids (view x) → WasRead (part (Some ids)) old (view x) new)
 
 -- the same of a part that adds to a value; what it names now, it named before
-abbrev pub AddsKnown : {V X : Type 0} → (List ℕ → V → Type 0) → V → V → (Option (List ℕ) → Part Sign V PgCause) → Stream Sign → Result X PgFault → Stream Sign → Type 0
-AddsKnown Knows before after part old result new = IfOk result (λ _. (ids : List ℕ) → Knows ids after → Knows ids before × WasRead (part (Some ids)) old after new)
+abbrev pub AddsKnown : {V X : Type 0} → (List ℕ → V → Type 0) → V → V → (Option (List ℕ) → Part Sign V PgCause) →
+    Stream Sign → Result X PgFault → Stream Sign → Type 0
+AddsKnown Knows before after part old result new =
+    IfOk result (λ _. (ids : List ℕ) → Knows ids after → Knows ids before × WasRead (part (Some ids)) old after new)
 
 abbrev pub is_known : Option (List ℕ) → ℕ → Bool
 is_known None n = true
@@ -86,4 +91,6 @@ TextAnswers known stream (Err fault) = FaultAnswers known stream (found_of fault
 
 -- what the text answers once ids are known among which are all that its value names
 abbrev pub KnownAnswers : Stream Sign → Result (List NodeData) PgFault → Type 0
-KnownAnswers stream result = IfOk result (λ nodes. (ids : List ℕ) → KnowsAll ids nodes → PartAnswers pg_causes (game (Some ids)) stream (Ok nodes))
+KnownAnswers stream result =
+    IfOk result (λ nodes. (ids : List ℕ) → KnowsAll ids nodes →
+    PartAnswers pg_causes (game (Some ids)) stream (Ok nodes))

@@ -33,7 +33,8 @@ BadNumber _ cause = ⊥
 
 -- an id that an earlier node has
 abbrev pub BadId : List ℕ → Sign → PgCause → Type 0
-BadId ids (Number n) cause = ((too_large ≤ n) × (cause ≡ causes.Number)) ⊎ ((n < too_large) × Contains ids n × (cause ≡ causes.NodeTwice))
+BadId ids (Number n) cause =
+    ((too_large ≤ n) × (cause ≡ causes.Number)) ⊎ ((n < too_large) × Contains ids n × (cause ≡ causes.NodeTwice))
 BadId ids _ cause = ⊥
 
 -- an owner is 0 or 1
@@ -47,7 +48,9 @@ IsUnknown None n = ⊥
 IsUnknown (Some ids) n = ¬ Contains ids n
 
 abbrev pub BadSuccessor : Option (List ℕ) → Sign → PgCause → Type 0
-BadSuccessor known (Number n) cause = ((too_large ≤ n) × (cause ≡ causes.Number)) ⊎ ((n < too_large) × IsUnknown known n × (cause ≡ causes.UnknownSuccessor))
+BadSuccessor known (Number n) cause =
+    ((too_large ≤ n) × (cause ≡ causes.Number)) ⊎ ((n < too_large) × IsUnknown known n ×
+    (cause ≡ causes.UnknownSuccessor))
 BadSuccessor known _ cause = ⊥
 
 -- where the first successor is wanted: the end of the node, or its name, closed or not
@@ -113,7 +116,8 @@ node known ids =
     then_by owner (λ owner'.
     then_by (successors known) (λ list.
     then_by name (λ name'.
-    mapped (λ _. record { id = id; priority = priority; owner = owner'; successors = list; name = name' }) semicolon)))))
+    mapped (λ _. record { id = id; priority = priority; owner = owner'; successors = list; name = name' })
+    semicolon)))))
 
 -- one more node behind the nodes that were read
 unfoldable pub entry : Option (List ℕ) → List NodeData → Part Sign (List NodeData) PgCause

@@ -2,8 +2,8 @@
 --     IsRun p text rest      text is a run of bytes that pass p, the longest where rest stands behind it
 --     IsToken before sign text rest      behind the bytes `before`, text is that token and rest stands behind it
 --     AreGameTokens text stream      the tokens of a whole text, with blanks between them
--- A number is a longest run of digits, a word a longest run of letters, a name stands between quotes. What can't stand is a word
--- directly behind a number, a number directly behind a word, a name that is not closed, and any other byte.
+-- A number is a longest run of digits, a word a longest run of letters, a name stands between quotes. What can't stand
+-- is a word directly behind a number, a number directly behind a word, a name that is not closed, and any other byte.
 use Rattle.std.specs.Prelude.{◌≡◌, ◌≢◌, ℕ, ◌<◌, Bool, true, false, List, [], ◌∷◌, ◌++◌, length}
 use Rattle.std.specs.List.{AllByRecursion}
 use Rattle.ps_text.specs.Answers.{Stream}
@@ -39,8 +39,10 @@ pub data IsWrong (before text rest : List ℕ) : Type 0 where
   stray : (b : ℕ) → text ≡ b ∷ [] → IsStray b → IsWrong before text rest
 
 abbrev pub IsToken : List ℕ → Sign → List ℕ → List ℕ → Type 0
-IsToken before (Number n) text rest = IsRun is_digit text rest × (n ≡ decimal_value text) × (ends_in is_letter before ≡ false)
-IsToken before (Word letters) text rest = IsRun is_letter text rest × (letters ≡ text) × (ends_in is_digit before ≡ false)
+IsToken before (Number n) text rest =
+    IsRun is_digit text rest × (n ≡ decimal_value text) × (ends_in is_letter before ≡ false)
+IsToken before (Word letters) text rest =
+    IsRun is_letter text rest × (letters ≡ text) × (ends_in is_digit before ≡ false)
 IsToken before (Name inner) text rest = (text ≡ 34 ∷ (inner ++ 34 ∷ [])) × AllOf is_inner inner
 IsToken before Comma text rest = text ≡ 44 ∷ []
 IsToken before Semicolon text rest = text ≡ 59 ∷ []

@@ -1,13 +1,10 @@
--- The game of the nodes of a text: vertices are numbered in the order of the nodes, and a repeated successor counts once.
-use Rattle.std.specs.Prelude.{ℕ, ◌==◌, List, map, position}
-use Rattle.std.specs.Option.{unwrap_or}
+-- The game of the nodes of a text: vertices are numbered in the order of the nodes, and a repeated successor counts
+-- once.
+use Rattle.std.specs.Prelude.{ℕ, List, map}
+pub use Rattle.ps_ids.specs.Ids.{place_of}
 use Rattle.ps_game.specs.Games.{VertexData, ParityGame, NamedGameData}
 use Rattle.ps_game.specs.Drafts.{without_repeats}
 use Rattle.ps_pgsolver.specs.Nodes.{NodeData, ids_of, names_of}
-
--- the place of an id in the list of all ids
-abbrev pub place_of : List ℕ → ℕ → ℕ
-place_of ids id = unwrap_or (position (λ other. id == other) ids) 0
 
 abbrev pub vertex_made : ℕ → ℕ → List ℕ → VertexData
 vertex_made owner priority successors = record { owner = owner; priority = priority; successors = successors }

@@ -48,6 +48,17 @@ IsPlain (kinds.LargeNumber digits) = too_large ≤ decimal_value digits.now
 IsPlain (kinds.Name inner) = AllPass is_inner inner.now
 IsPlain _ = Unit {0}
 
+-- a number that a word holds was the next sign, and was read
+pub record IsNumberTaken (number : ℕ) (old new : Stream Sign) : Type 0 where
+  pub sign : next_of old ≡ Some (Number number)
+  pub small : number < too_large
+  pub rest : new ≡ tail old
+
+-- the sign was the next one and was read, or it was not and nothing was
+abbrev pub IsTaken : Sign → Stream Sign → Bool → Stream Sign → Type 0
+IsTaken sign old true new = (next_of old ≡ Some sign) × (new ≡ tail old)
+IsTaken sign old false new = new ≡ old
+
 -- the token was read from a text, and the tokens behind it begin at that offset
 pub record IsAhead (text : List ℕ) (token : Token) (behind : ℕ) : Type 0 where
   pub head : IsHead token (stream_from text token.start)

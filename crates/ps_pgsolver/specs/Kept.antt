@@ -1,34 +1,43 @@
--- How nodes are kept: their ids, their heads and their names in three lists, and the successors of all nodes, one behind
--- the other, in a fourth. The head of a node says how many of these are its own.
-use Rattle.std.specs.Prelude.{◌≡◌, ℕ, ◌+◌, List, [], ◌∷◌, length, map, take, drop, Option}
-use Rattle.ps_game.specs.Games.{ParityGame}
-use Rattle.ps_pgsolver.specs.GamesOf.{place_of, vertex_made}
+-- How nodes are kept: their ids, their vertices and their names in three lists. The successors of these vertices are
+-- ids.
+use Rattle.std.specs.Prelude.{◌≡◌, ℕ, List, [], ◌∷◌, ◌++◌, length, Option, Some, None, Vec}
+use Rattle.std.specs.Global.{Global}
+use Rattle.ps_game.specs.Games.{VertexData, ParityGame}
+use Rattle.ps_game.specs.Names.{name_bytes}
+use Rattle.ps_pgsolver.specs.GamesOf.{vertex_made}
 use Rattle.ps_pgsolver.specs.Nodes.{NodeData, AreNodes}
-use Rattle.ps_pgsolver.specs.declared.node.Head.{Head}
+use Rattle.ps_pgsolver.specs.declared.node.Node.{Node}
 
-abbrev pub node_kept : ℕ → Head → Option (List ℕ) → List ℕ → NodeData
-node_kept id head name successors =
-    record { id = id; priority = head.priority; owner = head.owner; successors = successors; name = name }
+abbrev pub node_kept : ℕ → VertexData → Option (List ℕ) → NodeData
+node_kept id v name = record { id = id; priority = v.priority; owner = v.owner; successors = v.successors; name = name }
 
 -- the nodes that are kept in these lists
-unfoldable pub nodes_kept : List ℕ → List Head → List (Option (List ℕ)) → List ℕ → List NodeData
-nodes_kept (id ∷ ids) (head ∷ heads) (name ∷ names) all = node_kept id head name (take head.degree all) ∷ nodes_kept
-    ids heads names (drop head.degree all)
-nodes_kept _ _ _ all = []
+unfoldable pub nodes_kept : List ℕ → ParityGame → List (Option (List ℕ)) → List NodeData
+nodes_kept (id ∷ ids) (v ∷ vertices) (name ∷ names) = node_kept id v name ∷ nodes_kept ids vertices names
+nodes_kept _ _ _ = []
 
-abbrev pub degrees : List Head → ℕ
-degrees [] = 0
-degrees (head ∷ heads) = head.degree + degrees heads
+-- the vertex of a node, before its successors give way to their places
+abbrev pub vertex_kept : NodeData → VertexData
+vertex_kept node = vertex_made node.owner node.priority node.successors
 
--- the draft of their game, where the ids of all nodes are known
-abbrev pub draft_kept : List ℕ → List Head → List ℕ → ParityGame
-draft_kept ids [] all = []
-draft_kept ids (head ∷ heads) all = vertex_made head.owner head.priority
-    (map (place_of ids) (take head.degree all)) ∷ draft_kept ids heads (drop head.degree all)
+-- a node that was read, with its successors
+abbrev pub node_with : Node → List ℕ → NodeData
+node_with node successors =
+    record {
+      id = node.id;
+      priority = node.priority;
+      owner = node.owner;
+      successors = successors;
+      name = name_bytes node.name;
+    }
 
--- the lists are of one length, and each successor is some node's
-pub record AreKept (ids : List ℕ) (heads : List Head) (names : List (Option (List ℕ))) (all : List ℕ) : Type 0 where
-  pub id_each : length ids ≡ length heads
-  pub name_each : length names ≡ length heads
-  pub whole : degrees heads ≡ length all
-  pub well_formed : AreNodes (nodes_kept ids heads names all)
+-- one more name at the end, if there is one
+abbrev pub names_with : List (Option (Vec ℕ Global)) → Option (Vec ℕ Global) → List (Option (Vec ℕ Global))
+names_with names None = names
+names_with names (Some name) = names ++ Some name ∷ []
+
+-- the lists are of one length
+pub record AreKept (ids : List ℕ) (vertices : ParityGame) (names : List (Option (List ℕ))) : Type 0 where
+  pub id_each : length ids ≡ length vertices
+  pub name_each : length names ≡ length ids
+  pub well_formed : AreNodes (nodes_kept ids vertices names)

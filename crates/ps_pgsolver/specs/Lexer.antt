@@ -1,5 +1,6 @@
 -- What the reading of tokens goes by: one token after the other, from the left.
-use Rattle.std.specs.Prelude.{ℕ, zero, suc, Bool, List, [], ◌∷◌, ◌++◌, ◌+◌, ◌-◌, ◌==◌, nat_lt, length, take, drop, if◌then◌else◌}
+use Rattle.std.specs.Prelude.{ℕ, zero, suc, Bool, List, [], ◌∷◌, ◌++◌, ◌+◌, ◌-◌, ◌==◌, nat_lt, length, take, drop}
+use Rattle.std.specs.Prelude.{if◌then◌else◌}
 use Rattle.std.specs.List.{prefix_len, take_while}
 use Rattle.ps_text.specs.Answers.{Piece, Stream}
 use Rattle.ps_text.specs.Digits.{decimal_value}
@@ -50,7 +51,8 @@ lex skip before [] = []
 lex (suc skip) before (b ∷ bs) = lex skip (before ++ b ∷ []) bs
 lex zero before (b ∷ bs) =
     if is_blank b then lex zero (before ++ b ∷ []) bs
-    else ((record { sign = first_sign before (b ∷ bs); start = length before }) ∷ lex (first_size (b ∷ bs) - 1) (before ++ b ∷ []) bs)
+    else ((record { sign = first_sign before (b ∷ bs); start = length before }) ∷ lex (first_size (b ∷ bs) - 1)
+    (before ++ b ∷ []) bs)
 
 -- the pieces of a whole text
 abbrev pub stream_of : List ℕ → Stream Sign

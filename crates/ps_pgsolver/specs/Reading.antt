@@ -25,15 +25,20 @@ pub record HasTokens (text : List ℕ) (stream : Stream Sign) : Type 0 where
 -- the answer to a text
 pub data Answer (text : List ℕ) (answer : Result NamedGameData (Found PgCause)) : Type 0 where
   -- before all: the text is too long
-  too_long : text_limit < length text → answer ≡ Err (record { cause = causes.Limit; offset = text_limit }) → Answer text answer
+  too_long : text_limit < length text → answer ≡ Err (record { cause = causes.Limit; offset = text_limit }) →
+      Answer text answer
   -- the first cause in text order
-  refused : (stream : Stream Sign) (found : Found PgCause) → HasTokens text stream → PartAnswers pg_causes (game None) stream (Err found) → answer ≡ Err found → Answer text answer
+  refused : (stream : Stream Sign) (found : Found PgCause) → HasTokens text stream →
+      PartAnswers pg_causes (game None) stream (Err found) → answer ≡ Err found → Answer text answer
   -- behind the end, where there is none: the first successor that is no id
-  unknown : (stream : Stream Sign) (nodes : List NodeData) (found : Found PgCause) → HasTokens text stream → PartAnswers pg_causes (game None) stream (Ok nodes) →
+  unknown : (stream : Stream Sign) (nodes : List NodeData) (found : Found PgCause) → HasTokens text stream →
+      PartAnswers pg_causes (game None) stream (Ok nodes) →
       PartAnswers pg_causes (game (Some (ids_of nodes))) stream (Err found) → answer ≡ Err found → Answer text answer
   -- the text has no cause
-  meaning : (stream : Stream Sign) (nodes : List NodeData) → HasTokens text stream → PartAnswers pg_causes (game None) stream (Ok nodes) →
-      PartAnswers pg_causes (game (Some (ids_of nodes))) stream (Ok nodes) → answer ≡ Ok (named_game_of nodes) → Answer text answer
+  meaning : (stream : Stream Sign) (nodes : List NodeData) → HasTokens text stream →
+      PartAnswers pg_causes (game None) stream (Ok nodes) →
+      PartAnswers pg_causes (game (Some (ids_of nodes))) stream (Ok nodes) → answer ≡ Ok (named_game_of nodes) →
+      Answer text answer
 
 -- what a call answers is that, unless memory ran out
 abbrev pub IsGameAnswer : List ℕ → Result NamedGameData PgFault → Type 0

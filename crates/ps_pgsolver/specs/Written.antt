@@ -6,7 +6,8 @@
 --     vertex_lines ids names v vertices      the lines of the vertices from v on
 --     game_text game      the greatest id, and a line for each vertex
 --     IsWord n      a number that the code holds in a word
-use Rattle.std.specs.Prelude.{ℕ, ◌+◌, ◌^◌, ◌<◌, List, [], ◌∷◌, ◌++◌, decimal, codes, Option, Some, None, slice_index, slice_index_or}
+use Rattle.std.specs.Prelude.{ℕ, ◌+◌, ◌^◌, ◌<◌, List, [], ◌∷◌, ◌++◌, decimal, codes, Option, Some, None, slice_index}
+use Rattle.std.specs.Prelude.{slice_index_or}
 use Rattle.ps_game.specs.Games.{VertexData, ParityGame, NamedGameData, quote}
 use Rattle.ps_game.specs.Plays.{greatest}
 
@@ -28,7 +29,8 @@ name_text (Some bytes) = 32 ∷ quote ∷ bytes ++ quote ∷ []
 
 abbrev pub vertex_line : List ℕ → ℕ → VertexData → Option (List ℕ) → List ℕ
 vertex_line ids id vertex name =
-    decimal id ++ 32 ∷ decimal vertex.priority ++ 32 ∷ decimal vertex.owner ++ 32 ∷ list_text ids vertex.successors ++ name_text name ++ codes ";\n"
+    decimal id ++ 32 ∷ decimal vertex.priority ++ 32 ∷ decimal vertex.owner ++ 32 ∷ list_text ids vertex.successors ++
+    name_text name ++ codes ";\n"
 
 abbrev pub vertex_lines : List ℕ → List (Option (List ℕ)) → ℕ → ParityGame → List ℕ
 vertex_lines ids names v [] = []

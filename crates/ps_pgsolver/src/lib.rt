@@ -7,9 +7,10 @@
 //! | `write(game)` | a text, which `read` reads as that game again |
 //! | `PgCause::number`, `name` | a cause as psyn's list of faults has it |
 //!
-//! Two laws say that a text has tokens and no others (`one_list_of_tokens`), and one answer (`one_answer`). Reading
-//! takes time in proportion to the text, but for a search of each id that is not the next one in order, in a tree;
-//! where a successor is no node's id, the text is read a second time, to find the first such.
+//! Three laws say that a text has tokens and no others (`one_list_of_tokens`), one answer at most (`one_answer`), and
+//! an answer (`some_answer`). Reading takes time in proportion to the text, but for a search of each id that is not
+//! the next one in order, in a tree; where a successor is no node's id, the text is read a second time, to find the
+//! first such.
 #![tactic(auto)]
 
 mod fault;
@@ -21,6 +22,6 @@ mod token;
 mod writer;
 
 pub use fault::{PgCause, PgFault};
-pub use laws::{one_answer, one_list_of_tokens};
+pub use laws::{one_answer, one_list_of_tokens, some_answer};
 pub use reader::read;
 pub use writer::write;

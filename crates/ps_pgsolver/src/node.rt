@@ -1,19 +1,18 @@
 //! Nodes of game texts.
 
-ghost use Rattle.std.specs.Prelude.{◌≡◌, ◌++◌, ◌∷◌, ◌<◌, ◌≤◌, ◌+◌, [], List, OnOk, OnErr, IfOk, Contains, length, map, vec_len, vec_capacity};
-ghost use Rattle.std.specs.List.{All};
-ghost use Rattle.ps_game.specs.Names.{name_bytes};
-ghost use Rattle.ps_pgsolver.specs.GamesOf.{draft_of, place_of, vertex_made};
-ghost use Rattle.ps_pgsolver.specs.Kept.{AreKept, nodes_kept, degrees, draft_kept};
-ghost use Rattle.ps_pgsolver.specs.Nodes.{NodeData, IsNode, AreNodes, KnowsEach, KnowsAll, ids_of, names_of, is_member, knows_each, knows_all};
+ghost use Rattle.std.specs.Prelude.{◌≡◌, ◌++◌, ◌∷◌, ◌<◌, ◌≤◌, [], List, true, OnOk, OnErr, IfOk, Contains, is_some};
+ghost use Rattle.std.specs.Prelude.{length, map, vec_len, vec_capacity};
+ghost use Rattle.ps_game.specs.Names.{name_bytes, with_none};
+ghost use Rattle.ps_pgsolver.specs.GamesOf.{named_game_of};
+ghost use Rattle.ps_pgsolver.specs.Kept.{AreKept, nodes_kept, node_with, names_with};
+ghost use Rattle.ps_pgsolver.specs.Nodes.{NodeData, IsNode, AreNodes, KnowsAll, ids_of, is_member, knows_all};
 
-use ps_game::GameBuilder;
+use ps_game::{NamedGame, Vertices};
 use ps_ids::Ids;
-use smallvec::SmallVec;
 use std::alloc::{AllocError, Global};
 use std::marker::Model;
 
-/// A node as it stands in the text.
+/// A node as it stands in the text, without its successors.
 #[derive(Drop)]
 pub struct Node {
     /// The id, which no other node has.
@@ -22,57 +21,42 @@ pub struct Node {
     pub priority: u64,
     /// The owner, 0 or 1.
     pub owner: u8,
-    /// The ids of its successors, as they stand, repeated ones too.
-    pub successors: SmallVec<u64, 4>,
     /// The bytes between the quotes, if there is a name.
     pub name: Option<Vec<u8>>,
 }
 
-impl Model for Node {
-    ghost Value = { NodeData };
-
-    ghost view = { λ n. record { id = n.id; priority = n.priority; owner = n.owner; successors = n.successors.items; name = name_bytes n.name } };
-}
-
-/// What is kept of a node beside its id, its name and its successors.
-#[derive(Clone, Copy)]
-pub struct Head {
-    /// The priority.
-    pub priority: u64,
-    /// The owner, 0 or 1.
-    pub owner: u8,
-    /// How many successors it has.
-    pub degree: usize,
-}
-
-/// The nodes of a text, with a table of their ids. The successors of all nodes stand one behind the other.
+/// The nodes of a text: a table of their ids; vertices, whose successors are ids; and names up to the last node that has
+/// one.
 #[derive(Drop)]
 pub struct Nodes {
     ids: Ids,
-    heads: Vec<Head>,
+    vertices: Vertices,
     names: Vec<Option<Vec<u8>>>,
-    successors: Vec<u64>,
 }
 
 impl Model for Nodes {
     ghost Value = { List NodeData };
 
-    ghost view = { λ n. nodes_kept n.ids n.heads.items (map name_bytes n.names.items) n.successors.items };
+    ghost view = { λ n. nodes_kept n.ids n.vertices (with_none (length n.ids) (map name_bytes n.names.items)) };
 
-    ghost invariant = { λ n. AreKept n.ids n.heads.items (map name_bytes n.names.items) n.successors.items };
+    ghost invariant = { λ n. AreKept n.ids n.vertices (with_none (length n.ids) (map name_bytes n.names.items)) };
 }
 
 impl Nodes {
     /// No nodes.
-    pub fn new(alloc: Global) -> Self
-        ensures { result ≡ [] }
+    ///
+    /// # Errors
+    ///
+    /// Fails where a growth was refused.
+    pub fn new(alloc: Global) -> Result<Self, AllocError>
+        ensures { IfOk result (λ nodes. nodes ≡ []) }
     {
-        Nodes {
+        let vertices = Vertices::new(alloc)?;
+        Ok(Nodes {
             ids: Ids::new(alloc),
-            heads: Vec::new(alloc),
+            vertices,
             names: Vec::new(alloc),
-            successors: Vec::new(alloc),
-        }
+        })
     }
 
     /// The ids of the nodes, in order.
@@ -94,134 +78,77 @@ impl Nodes {
     pub fn know_successors(&self) -> bool
         ensures { result ≡ knows_all (ids_of self.now) self.now }
     {
-        are_ids(&self.ids, &self.successors)
+        self.vertices.know_successors(&self.ids)
     }
 
-    /// Adds a node of a new id.
+    /// Adds a node of a new id with these successors.
     ///
     /// # Errors
     ///
     /// Fails where a growth was refused.
-    pub fn push(&mut self, node: Node) -> Result<(), AllocError>
+    pub fn push(&mut self, node: Node, successors: &[usize]) -> Result<(), AllocError>
         requires new { ¬ Contains (ids_of self.old) node.id }
-        requires node { IsNode node }
-        ensures { OnOk result (self.new ≡ self.old ++ node ∷ []) }
+        requires node { IsNode (node_with node successors.now) }
+        ensures { OnOk result (self.new ≡ self.old ++ node_with node successors.now ∷ []) }
     {
-        let degree = node.successors.len();
-        make_room(
-            &mut self.heads,
-            &mut self.names,
-            &mut self.successors,
-            degree,
-        )?;
-        self.ids.push(node.id)?;
-        self.heads.push_reserved(Head {
-            priority: node.priority,
-            owner: node.owner,
-            degree,
-        });
-        self.names.push_reserved(node.name);
-        put_all(&mut self.successors, &node.successors);
+        let count = self.vertices.len();
+        make_room(&mut self.names, count, node.name.is_some())?;
+        self.vertices.push(node.owner, node.priority, successors)?;
+        if let Err(refused) = self.ids.push(node.id) {
+            self.vertices.truncate(count);
+            return Err(refused);
+        }
+        keep_name(&mut self.names, node.name);
         Ok(())
     }
 
-    /// A draft of the game: a vertex for each node, with an edge to the vertex of each of its successors.
+    /// The game of the nodes, with their ids and names.
     ///
     /// # Errors
     ///
     /// Fails where a growth was refused.
-    pub fn draft(&self, alloc: Global) -> Result<GameBuilder, AllocError>
-        requires { KnowsAll (ids_of self.now) self.now }
-        ensures { IfOk result (λ draft. draft ≡ draft_of (ids_of self.now) self.now) }
+    pub fn into_game(self, alloc: Global) -> Result<NamedGame, AllocError>
+        requires { KnowsAll (ids_of self) self }
+        ensures { IfOk result (λ named. named ≡ named_game_of self) }
     {
-        vertices(alloc, &self.ids, &self.heads, &self.successors)
-    }
-
-    /// The ids and the names of the nodes.
-    pub fn into_labels(self) -> (Vec<u64>, Vec<Option<Vec<u8>>>)
-        ensures ids { result.0.items ≡ ids_of self }
-        ensures names { map name_bytes result.1.items ≡ names_of self }
-        ensures well_formed { AreNodes self }
-    {
-        let Nodes { ids, names, .. } = self;
-        (ids.into_list(), names)
+        let Nodes {
+            ids,
+            mut vertices,
+            names,
+        } = self;
+        vertices.resolve(&ids);
+        let game = vertices.into_game(alloc)?;
+        Ok(NamedGame::with_first_names(game, ids.into_list(), names))
     }
 }
 
-/// Makes room for one more head, one more name, and so many more successors.
+/// Makes room for the name of the node behind so many others, if it has one: those without a name get a place.
 fn make_room(
-    heads: &mut Vec<Head>,
     names: &mut Vec<Option<Vec<u8>>>,
-    successors: &mut Vec<u64>,
-    degree: usize,
+    count: usize,
+    is_named: bool,
 ) -> Result<(), AllocError>
-    ensures heads { heads.new.items ≡ heads.old.items }
-    ensures names { names.new.items ≡ names.old.items }
-    ensures successors { successors.new.items ≡ successors.old.items }
-    ensures head { OnOk result (vec_len heads.new < vec_capacity heads.new) }
-    ensures name { OnOk result (vec_len names.new < vec_capacity names.new) }
-    ensures more { OnOk result (vec_len successors.new + degree ≤ vec_capacity successors.new) }
+    requires { vec_len names.old ≤ count }
+    ensures few { vec_len names.new ≤ count }
+    ensures same { with_none count (map name_bytes names.new.items) ≡ with_none count (map name_bytes names.old.items) }
+    ensures full { OnOk result (is_named ≡ true → vec_len names.new ≡ count) }
+    ensures room { OnOk result (is_named ≡ true → vec_len names.new < vec_capacity names.new) }
 {
-    heads.reserve(1)?;
-    names.reserve(1)?;
-    successors.reserve(degree)
-}
-
-/// Puts numbers at the end of others, where there is room.
-fn put_all(numbers: &mut Vec<u64>, more: &[u64])
-    requires { vec_len numbers.old + length more.now ≤ vec_capacity numbers.old }
-    ensures { numbers.new.items ≡ numbers.old.items ++ more.now }
-{
-    for number in more {
-        numbers.push_reserved(*number);
+    if !is_named {
+        return Ok(());
     }
-}
-
-/// The vertices of nodes that are kept so.
-fn vertices(
-    alloc: Global,
-    ids: &Ids,
-    heads: &[Head],
-    successors: &[u64],
-) -> Result<GameBuilder, AllocError>
-    requires whole { degrees heads.now ≡ length successors.now }
-    requires owners { All (λ head. head.owner < 2) heads.now }
-    requires known { KnowsEach ids.now successors.now }
-    ensures { IfOk result (λ draft. draft ≡ draft_kept ids.now heads.now successors.now) }
-{
-    let mut builder = GameBuilder::new(alloc);
-    let mut rest = successors;
-    for head in heads {
-        let (own, others) = rest.split_at(head.degree);
-        vertex(&mut builder, head.owner, head.priority, own, ids)?;
-        rest = others;
+    'pad: while names.len() < count {
+        names.push(None)?;
     }
-    Ok(builder)
+    names.reserve(1)
 }
 
-/// Adds a vertex, with an edge to the vertex of each of these ids.
-fn vertex(
-    builder: &mut GameBuilder,
-    owner: u8,
-    priority: u64,
-    successors: &[u64],
-    ids: &Ids,
-) -> Result<(), AllocError>
-    requires owner { owner < 2 }
-    requires known { All (λ id. Contains ids.now id) successors.now }
-    ensures { OnOk result (builder.new ≡ builder.old ++ vertex_made owner priority (map (place_of ids.now) successors.now) ∷ []) }
+/// Keeps a name, if there is one, where there is room.
+fn keep_name(names: &mut Vec<Option<Vec<u8>>>, name: Option<Vec<u8>>)
+    requires { is_some name ≡ true → vec_len names.old < vec_capacity names.old }
+    ensures { names.new.items ≡ names_with names.old.items name }
 {
-    let vertex = builder.vertex(owner, priority)?;
-    for id in successors {
-        let place = ids.place(*id).unwrap();
-        builder.edge(vertex, place)?;
+    if name.is_some() {
+        names.push_reserved(name);
     }
-    Ok(())
-}
-
-/// Whether each number of a list is one of the ids.
-fn are_ids(ids: &Ids, list: &[u64]) -> bool
-    ensures { result ≡ knows_each ids.now list.now }
-{
-    list.iter().all(|id| ids.has(*id))
 }

@@ -1,18 +1,22 @@
 //! The reading of a game text.
 
-ghost use Rattle.std.specs.Prelude.{◌≡◌, ◌≤◌, ◌<◌, Some, None, Ok, IfOk, option_copied, IfErr, length};
+ghost use Rattle.std.specs.Prelude.{◌≡◌, ◌≤◌, ◌<◌, Some, None, Ok, IfOk, OnOk, option_copied, IfErr, length, vec_len};
 ghost use Rattle.ps_text.specs.declared.faults.Fault.TheVariants as faults;
 ghost use Rattle.std.specs.List.{Contains};
-ghost use Rattle.smallvec.specs.SmallVec.{small_vec_len};
 ghost use Rattle.ps_text.specs.Answers.{next_of, offset_of};
+ghost use Rattle.ps_text.specs.Readers.{tail};
 ghost use Rattle.ps_game.specs.Games.{HasNoQuote};
 ghost use Rattle.ps_game.specs.Names.{name_bytes};
-ghost use Rattle.ps_pgsolver.specs.Answered.{ReadsAs, ReadsKnown, AddsKnown, TextAnswers, FaultAnswers, KnownAnswers, found_of, number_answer, id_answer, owner_answer, successor_answer, first_answer, comma_answer, semicolon_answer, end_answer};
+ghost use Rattle.ps_pgsolver.specs.Answered.{ReadsAs, ReadsKnown, AddsKnown, TextAnswers, FaultAnswers, KnownAnswers};
+ghost use Rattle.ps_pgsolver.specs.Answered.{found_of, number_answer, id_of_number, owner_of_number};
+ghost use Rattle.ps_pgsolver.specs.Answered.{successor_of_number, successor_answer, first_answer, comma_answer};
+ghost use Rattle.ps_pgsolver.specs.Answered.{semicolon_answer, end_answer};
 ghost use Rattle.ps_pgsolver.specs.GameTexts as parts;
 ghost use Rattle.ps_pgsolver.specs.Causes.{StandsWithin};
 ghost use Rattle.ps_pgsolver.specs.Heads.{IsPlain, sign_of};
 ghost use Rattle.ps_pgsolver.specs.Lexer.{stream_of};
 ghost use Rattle.ps_pgsolver.specs.Reading.{IsGameAnswer};
+ghost use Rattle.ps_pgsolver.specs.Kept.{node_with};
 ghost use Rattle.ps_pgsolver.specs.Nodes.{IsNewNode, KnowsEach, KnowsNode, KnowsAll, ids_of};
 
 use crate::fault::{PgCause, PgFault};
@@ -21,7 +25,6 @@ use crate::node::{Node, Nodes};
 use crate::token::{Kind, Token, Tokens};
 use ps_game::NamedGame;
 use ps_ids::Ids;
-use smallvec::SmallVec;
 use std::alloc::Global;
 
 /// The greatest length of a text, in bytes.
@@ -105,15 +108,16 @@ fn value_line(tokens: &mut Tokens) -> Result<(), PgFault>
     semicolon(tokens)
 }
 
-/// Reads the nodes.
+/// Reads the nodes. The successors of each are read into one list, which is used again.
 fn entries(alloc: Global, tokens: &mut Tokens, known: Option<&Ids>) -> Result<Nodes, PgFault>
     ensures part { ReadsAs (λ nodes. nodes) (parts.entries (option_copied known.entry)) tokens.old result tokens.new }
     ensures later { ReadsKnown KnowsAll (λ nodes. nodes) parts.entries tokens.old result tokens.new }
 {
-    let mut nodes = Nodes::new(alloc);
-    entry(alloc, tokens, known, &mut nodes)?;
+    let mut nodes = Nodes::new(alloc)?;
+    let mut list = Vec::new(alloc);
+    entry(alloc, tokens, known, &mut nodes, &mut list)?;
     'more: while tokens.is_at_number() {
-        entry(alloc, tokens, known, &mut nodes)?;
+        entry(alloc, tokens, known, &mut nodes, &mut list)?;
     }
     Ok(nodes)
 }
@@ -124,48 +128,55 @@ fn entry(
     tokens: &mut Tokens,
     known: Option<&Ids>,
     nodes: &mut Nodes,
+    list: &mut Vec<usize>,
 ) -> Result<(), PgFault>
-    ensures part { ReadsAs (λ _. nodes.new) (parts.entry (option_copied known.entry) nodes.old) tokens.old result tokens.new }
-    ensures later { AddsKnown KnowsAll nodes.old nodes.new (λ ids. parts.entry ids nodes.old) tokens.old result tokens.new }
+    ensures part { ReadsAs (λ _. nodes.new) (parts.entry (option_copied known.entry) nodes.old) tokens.old
+        result tokens.new }
+    ensures later { AddsKnown KnowsAll nodes.old nodes.new (λ ids. parts.entry ids nodes.old) tokens.old
+        result tokens.new }
 {
-    let node = node(alloc, tokens, known, nodes)?;
-    nodes.push(node)?;
+    let node = node(alloc, tokens, known, nodes, list)?;
+    nodes.push(node, list)?;
     Ok(())
 }
 
-/// Reads a node, of which no other has the id.
+/// Reads a node, of which no other has the id, and its successors into the list.
 fn node(
     alloc: Global,
     tokens: &mut Tokens,
     known: Option<&Ids>,
     nodes: &Nodes,
+    list: &mut Vec<usize>,
 ) -> Result<Node, PgFault>
-    ensures part { ReadsAs (λ node. node) (parts.node (option_copied known.entry) (ids_of nodes.now)) tokens.old result tokens.new }
-    ensures later { ReadsKnown KnowsNode (λ node. node) (λ ids. parts.node ids (ids_of nodes.now)) tokens.old result tokens.new }
-    ensures node { IfOk result (λ node. IsNewNode (ids_of nodes.now) node) }
+    ensures part { ReadsAs (λ node. node_with node list.new.items)
+        (parts.node (option_copied known.entry) (ids_of nodes.now)) tokens.old result tokens.new }
+    ensures later { ReadsKnown KnowsNode (λ node. node_with node list.new.items)
+        (λ ids. parts.node ids (ids_of nodes.now)) tokens.old result tokens.new }
+    ensures node { IfOk result (λ node. IsNewNode (ids_of nodes.now) (node_with node list.new.items)) }
 {
     let id = new_id(tokens, nodes)?;
     let priority = number(tokens)?;
     let owner = owner(tokens)?;
-    let successors = successors(alloc, tokens, known)?;
+    successors(tokens, known, list)?;
     let name = name(alloc, tokens)?;
     semicolon(tokens)?;
     Ok(Node {
         id,
         priority,
         owner,
-        successors,
         name,
     })
 }
 
 /// Reads an id that no node has.
+#[inline(always)]
 fn new_id(tokens: &mut Tokens, nodes: &Nodes) -> Result<u64, PgFault>
     ensures part { ReadsAs (λ id. id) (parts.new_id (ids_of nodes.now)) tokens.old result tokens.new }
     ensures new { IfOk result (λ id. ¬ Contains (ids_of nodes.now) id) }
 {
-    let token = tokens.next();
-    id_of(token, nodes)
+    let start = tokens.start();
+    let id = any_number(tokens)?;
+    unless_twice(id, start, nodes)
 }
 
 /// Reads a number.
@@ -173,48 +184,66 @@ fn new_id(tokens: &mut Tokens, nodes: &Nodes) -> Result<u64, PgFault>
 fn number(tokens: &mut Tokens) -> Result<u64, PgFault>
     ensures { ReadsAs (λ n. n) parts.number tokens.old result tokens.new }
 {
-    number_of(tokens.next())
+    any_number(tokens)
+}
+
+/// Reads a number, whatever it stands for.
+#[inline(always)]
+fn any_number(tokens: &mut Tokens) -> Result<u64, PgFault>
+    ensures answer { result ≡ number_answer (next_of tokens.old) (offset_of tokens.old.pieces tokens.old.end) }
+    ensures rest { tokens.new ≡ tail tokens.old }
+{
+    match tokens.take_number() {
+        Some(number) => Ok(number),
+        None => number_of(tokens.next()),
+    }
 }
 
 /// Reads an owner.
+#[inline(always)]
 fn owner(tokens: &mut Tokens) -> Result<u8, PgFault>
     ensures part { ReadsAs (λ n. n) parts.owner tokens.old result tokens.new }
     ensures player { IfOk result (λ owner. owner < 2) }
 {
-    owner_of(tokens.next())
+    let start = tokens.start();
+    let owner = any_number(tokens)?;
+    one_of_two(owner, start)
 }
 
-/// Reads a list of successors.
+/// Reads the successors of a node in place of those in the list.
 fn successors(
-    alloc: Global,
     tokens: &mut Tokens,
     known: Option<&Ids>,
-) -> Result<SmallVec<u64, 4>, PgFault>
-    ensures part { ReadsAs (λ list. list.items) (parts.successors (option_copied known.entry)) tokens.old result tokens.new }
-    ensures later { ReadsKnown KnowsEach (λ list. list.items) parts.successors tokens.old result tokens.new }
-    ensures some { IfOk result (λ list. 0 < small_vec_len list) }
+    list: &mut Vec<usize>,
+) -> Result<(), PgFault>
+    ensures part { ReadsAs (λ _. list.new.items) (parts.successors (option_copied known.entry)) tokens.old
+        result tokens.new }
+    ensures later { ReadsKnown KnowsEach (λ _. list.new.items) parts.successors tokens.old result tokens.new }
+    ensures some { OnOk result (0 < vec_len list.new) }
 {
-    let mut list = SmallVec::new(alloc);
-    list.push(first_successor(tokens, known)?)?;
+    list.clear();
+    list.push(first_successor(tokens, known)? as usize)?;
     'more: while tokens.is_at_comma() {
-        more_successor(tokens, known, &mut list)?;
+        more_successor(tokens, known, list)?;
     }
-    Ok(list)
+    Ok(())
 }
 
 /// Reads a comma and one more successor.
 fn more_successor(
     tokens: &mut Tokens,
     known: Option<&Ids>,
-    list: &mut SmallVec<u64, 4>,
+    list: &mut Vec<usize>,
 ) -> Result<(), PgFault>
-    ensures part { ReadsAs (λ _. list.new.items) (parts.more_successor (option_copied known.entry) list.old.items) tokens.old result tokens.new }
-    ensures later { AddsKnown KnowsEach list.old.items list.new.items (λ ids. parts.more_successor ids list.old.items) tokens.old result tokens.new }
-    ensures longer { small_vec_len list.old ≤ small_vec_len list.new }
+    ensures part { ReadsAs (λ _. list.new.items) (parts.more_successor (option_copied known.entry) list.old.items)
+        tokens.old result tokens.new }
+    ensures later { AddsKnown KnowsEach list.old.items list.new.items (λ ids. parts.more_successor ids list.old.items)
+        tokens.old result tokens.new }
+    ensures longer { vec_len list.old ≤ vec_len list.new }
 {
     comma(tokens)?;
     let id = successor(tokens, known)?;
-    list.push(id)?;
+    list.push(id as usize)?;
     Ok(())
 }
 
@@ -223,15 +252,22 @@ fn first_successor(tokens: &mut Tokens, known: Option<&Ids>) -> Result<u64, PgFa
     ensures part { ReadsAs (λ n. n) (parts.first_successor (option_copied known.entry)) tokens.old result tokens.new }
     ensures later { ReadsKnown Contains (λ n. n) parts.first_successor tokens.old result tokens.new }
 {
-    first_of(tokens.next(), known)
+    let start = tokens.start();
+    match tokens.take_number() {
+        Some(id) => if_known(id, start, known),
+        None => first_of(tokens.next(), known),
+    }
 }
 
 /// Reads a successor.
+#[inline(always)]
 fn successor(tokens: &mut Tokens, known: Option<&Ids>) -> Result<u64, PgFault>
     ensures part { ReadsAs (λ n. n) (parts.successor (option_copied known.entry)) tokens.old result tokens.new }
     ensures later { ReadsKnown Contains (λ n. n) parts.successor tokens.old result tokens.new }
 {
-    successor_of(tokens.next(), known)
+    let start = tokens.start();
+    let id = any_number(tokens)?;
+    if_known(id, start, known)
 }
 
 /// Reads a name, if one stands here.
@@ -252,6 +288,9 @@ fn name(alloc: Global, tokens: &mut Tokens) -> Result<Option<Vec<u8>>, PgFault>
 fn comma(tokens: &mut Tokens) -> Result<(), PgFault>
     ensures { ReadsAs (λ u. u) parts.comma tokens.old result tokens.new }
 {
+    if tokens.take_comma() {
+        return Ok(());
+    }
     comma_of(tokens.next())
 }
 
@@ -260,6 +299,9 @@ fn comma(tokens: &mut Tokens) -> Result<(), PgFault>
 fn semicolon(tokens: &mut Tokens) -> Result<(), PgFault>
     ensures { ReadsAs (λ u. u) parts.semicolon tokens.old result tokens.new }
 {
+    if tokens.take_semicolon() {
+        return Ok(());
+    }
     semicolon_of(tokens.next())
 }
 
@@ -274,29 +316,51 @@ fn finish(tokens: &Tokens) -> Result<(), PgFault>
     }
 }
 
-/// The new id that a token is.
-fn id_of(token: Token, nodes: &Nodes) -> Result<u64, PgFault>
-    requires { IsPlain token.kind }
-    ensures answer { result ≡ id_answer (ids_of nodes.now) (sign_of token.entry.kind) token.entry.start }
+/// A number that was read at a place, as a new id.
+#[inline(always)]
+fn unless_twice(id: u64, start: usize, nodes: &Nodes) -> Result<u64, PgFault>
+    ensures answer { result ≡ id_of_number (ids_of nodes.now) start id }
     ensures new { IfOk result (λ id. ¬ Contains (ids_of nodes.now) id) }
 {
-    let id = number_of(token)?;
     if nodes.has(id) {
-        return Err(fault(PgCause::NodeTwice, token));
+        return Err(PgFault::Text {
+            cause: PgCause::NodeTwice,
+            offset: start,
+        });
     }
     Ok(id)
 }
 
-/// The owner that a token is.
-fn owner_of(token: Token) -> Result<u8, PgFault>
-    requires { IsPlain token.kind }
-    ensures { result ≡ owner_answer (sign_of token.entry.kind) token.entry.start }
+/// A number that was read at a place, as an owner.
+#[inline(always)]
+fn one_of_two(owner: u64, start: usize) -> Result<u8, PgFault>
+    ensures answer { result ≡ owner_of_number start owner }
+    ensures player { IfOk result (λ owner. owner < 2) }
 {
-    match number_of(token)? {
+    match owner {
         0 => Ok(0),
         1 => Ok(1),
-        _ => Err(fault(PgCause::Number, token)),
+        _ => Err(PgFault::Text {
+            cause: PgCause::Number,
+            offset: start,
+        }),
     }
+}
+
+/// A number that was read at a place, as a successor.
+#[inline(always)]
+fn if_known(id: u64, start: usize, known: Option<&Ids>) -> Result<u64, PgFault>
+    ensures { result ≡ successor_of_number (option_copied known.entry) start id }
+{
+    if let Some(ids) = known
+        && !ids.has(id)
+    {
+        return Err(PgFault::Text {
+            cause: PgCause::UnknownSuccessor,
+            offset: start,
+        });
+    }
+    Ok(id)
 }
 
 /// The successor that a token is.
@@ -305,12 +369,7 @@ fn successor_of(token: Token, known: Option<&Ids>) -> Result<u64, PgFault>
     ensures { result ≡ successor_answer (option_copied known.entry) (sign_of token.entry.kind) token.entry.start }
 {
     let id = number_of(token)?;
-    if let Some(ids) = known
-        && !ids.has(id)
-    {
-        return Err(fault(PgCause::UnknownSuccessor, token));
-    }
-    Ok(id)
+    if_known(id, token.start, known)
 }
 
 /// The successor that a token is, where a node's first one is wanted.

@@ -9,7 +9,8 @@ ghost use Rattle.ps_text.specs.Answers.{Stream};
 ghost use Rattle.ps_text.specs.Digits.{decimal_value};
 ghost use Rattle.ps_pgsolver.specs.Signs.{Sign, Number};
 ghost use Rattle.ps_pgsolver.specs.Heads.{sign_of, IsPlain, IsAhead};
-ghost use Rattle.ps_pgsolver.specs.Lexer.{stream_of, stream_from, first_sign, first_size, number_sign, word_sign, name_sign, name_size, mark_sign};
+ghost use Rattle.ps_pgsolver.specs.Lexer.{stream_of, stream_from, first_sign, first_size, number_sign, word_sign};
+ghost use Rattle.ps_pgsolver.specs.Lexer.{name_sign, name_size, mark_sign};
 
 use ps_text::numbers::{LeadingNumber, leading_number};
 use std::marker::Model;
@@ -32,6 +33,8 @@ pub enum Class {
     Quote,
     /// A comma.
     Comma,
+    /// A semicolon.
+    Semicolon,
 }
 
 impl Class {
@@ -46,6 +49,7 @@ impl Class {
             Class::Inner => byte != b'"',
             Class::Quote => byte == b'"',
             Class::Comma => byte == b',',
+            Class::Semicolon => byte == b';',
         }
     }
 }
@@ -107,12 +111,13 @@ impl<'a> Model for Tokens<'a> {
 }
 
 impl<'a> Tokens<'a> {
-    ghost use Rattle.std.specs.Prelude.{◌↔◌, IsTrue, IfSome, option_copied};
+    ghost use Rattle.std.specs.Prelude.{◌↔◌, IsTrue, IfSome, IfNone, option_copied};
     ghost use Rattle.ps_text.specs.Answers.{next_of};
     ghost use Rattle.ps_text.specs.Readers.{tail};
-    ghost use Rattle.ps_pgsolver.specs.Heads.{IsHead, is_number, is_comma, name_of};
+    ghost use Rattle.ps_text.specs.Answers.{offset_of};
+    ghost use Rattle.ps_pgsolver.specs.Heads.{IsHead, IsNumberTaken, IsTaken, is_number, is_comma, name_of};
     ghost use Rattle.ps_pgsolver.specs.Bytes.{is_inner};
-    ghost use Rattle.ps_pgsolver.specs.Signs.{Word};
+    ghost use Rattle.ps_pgsolver.specs.Signs.{Word, Comma, Semicolon};
 
     /// The tokens of a text.
     pub fn new(text: &'a [u8]) -> Self
@@ -143,6 +148,58 @@ impl<'a> Tokens<'a> {
         let (token, behind) = token_from(self.text, self.at);
         self.at = behind;
         token
+    }
+
+    /// Where the next token begins, or the text ends.
+    #[inline(always)]
+    pub fn start(&self) -> usize
+        ensures { result ≡ offset_of self.now.pieces self.now.end }
+    {
+        next_start(self.text, self.at)
+    }
+
+    /// Reads the next token if it is a number of few digits, which most are: no token is made of it.
+    #[inline(always)]
+    pub fn take_number(&mut self) -> Option<u64>
+        ensures some { IfSome result (λ number. IsNumberTaken number self.old self.new) }
+        ensures none { IfNone result (self.new ≡ self.old) }
+    {
+        let start = next_start(self.text, self.at);
+        let (before, rest) = self.text.split_at(start);
+        let number = few_digits(rest)?;
+        if number.digits == 0 || ends_in_class(before, Class::Letter) {
+            return None;
+        }
+        self.at = start + number.digits;
+        Some(number.value)
+    }
+
+    /// Reads the next token if it is a comma.
+    #[inline(always)]
+    pub fn take_comma(&mut self) -> bool
+        ensures { IsTaken Comma self.old result self.new }
+    {
+        let start = next_start(self.text, self.at);
+        let (_, rest) = self.text.split_at(start);
+        if !begins_with(rest, Class::Comma) {
+            return false;
+        }
+        self.at = start + 1;
+        true
+    }
+
+    /// Reads the next token if it is a semicolon.
+    #[inline(always)]
+    pub fn take_semicolon(&mut self) -> bool
+        ensures { IsTaken Semicolon self.old result self.new }
+    {
+        let start = next_start(self.text, self.at);
+        let (_, rest) = self.text.split_at(start);
+        if !begins_with(rest, Class::Semicolon) {
+            return false;
+        }
+        self.at = start + 1;
+        true
     }
 
     /// Whether a number comes next.

@@ -1,11 +1,13 @@
 //! Writing the text of a game.
 
-ghost use Rattle.std.specs.Prelude.{◌≡◌, ◌++◌, ◌<◌, ◌≤◌, decimal, OnOk, IfOk, Ok, None, slice_index, slice_index_or, vec_len, option_copied};
+ghost use Rattle.std.specs.Prelude.{◌≡◌, ◌++◌, ◌<◌, ◌≤◌, decimal, OnOk, IfOk, Ok, None, slice_index, slice_index_or};
+ghost use Rattle.std.specs.Prelude.{vec_len, option_copied};
 ghost use Rattle.std.specs.List.{All};
 ghost use Rattle.ps_game.specs.Games.{IsNamedGame, vertex_count, priority_of, successors_of, no_vertex};
 ghost use Rattle.ps_game.specs.Plays.{greatest};
 ghost use Rattle.ps_pgsolver.specs.Reading.{IsGameAnswer, text_limit};
-ghost use Rattle.ps_pgsolver.specs.Written.{IsWord, list_text, name_text, vertex_line, vertex_lines, head_text, game_text};
+ghost use Rattle.ps_pgsolver.specs.Written.{IsWord, list_text, name_text, vertex_line, vertex_lines, head_text};
+ghost use Rattle.ps_pgsolver.specs.Written.{game_text};
 
 use ps_game::{Arena, NamedGame};
 use ps_text::numbers::write_number;
@@ -50,7 +52,8 @@ fn write_head(out: &mut Vec<u8>, id: u64) -> Result<(), AllocError>
 
 /// Writes a line for each vertex.
 fn write_vertices(out: &mut Vec<u8>, game: &NamedGame) -> Result<(), AllocError>
-    ensures bytes { OnOk result (out.new.items ≡ out.old.items ++ vertex_lines game.now.ids game.now.names 0 game.now.game) }
+    ensures bytes { OnOk result (out.new.items ≡ out.old.items ++
+        vertex_lines game.now.ids game.now.names 0 game.now.game) }
     ensures ids { OnOk result (All IsWord game.now.ids) }
     ensures priorities { OnOk result (All (λ vertex. IsWord vertex.priority) game.now.game) }
     ensures well_formed { OnOk result (IsNamedGame game.now) }
@@ -63,7 +66,9 @@ fn write_vertices(out: &mut Vec<u8>, game: &NamedGame) -> Result<(), AllocError>
 
 fn write_vertex(out: &mut Vec<u8>, named: &NamedGame, vertex: usize) -> Result<(), AllocError>
     requires { vertex < vertex_count named.now.game }
-    ensures bytes { OnOk result (out.new.items ≡ out.old.items ++ vertex_line named.now.ids (slice_index named.now.ids vertex) (slice_index_or named.now.game vertex no_vertex) (slice_index_or named.now.names vertex None)) }
+    ensures bytes { OnOk result (out.new.items ≡ out.old.items ++
+        vertex_line named.now.ids (slice_index named.now.ids vertex) (slice_index_or named.now.game vertex no_vertex)
+        (slice_index_or named.now.names vertex None)) }
     ensures id { OnOk result (IsWord (slice_index named.now.ids vertex)) }
     ensures priority { OnOk result (IsWord (priority_of named.now.game vertex)) }
 {
@@ -83,7 +88,8 @@ fn write_vertex(out: &mut Vec<u8>, named: &NamedGame, vertex: usize) -> Result<(
 /// Writes the ids of the successors of a vertex, with commas between them.
 fn write_successors(out: &mut Vec<u8>, named: &NamedGame, vertex: usize) -> Result<(), AllocError>
     requires { vertex < vertex_count named.now.game }
-    ensures { OnOk result (out.new.items ≡ out.old.items ++ list_text named.now.ids (successors_of named.now.game vertex)) }
+    ensures { OnOk result (out.new.items ≡ out.old.items ++ list_text named.now.ids
+        (successors_of named.now.game vertex)) }
 {
     let game = named.game();
     write_number(out, named.id(game.successor(vertex, 0)))?;

@@ -1,18 +1,19 @@
 -- What two reports on one text have in common, and what two certificates of one game.
-use Rattle.std.proofs.Common.{◌≡◌, ◌∙◌, ◌-◌, ◌<◌, ◌⊎◌, ◌↔◌, ℕ, Bool, true, false, List, Option, None, Some, Result, Ok, Err, refl, sym, ap, subst, inl, inr, arith, IsTrue}
+use Rattle.std.proofs.Common.{◌≡◌, ◌∙◌, ◌<◌, ◌↔◌, ℕ, Bool, true, false, List, Result, Ok, refl, sym, ap, subst, arith}
+use Rattle.std.proofs.Common.{IsTrue}
 use Rattle.std.proofs.lemmas.Option.{slice_get_within}
 use Rattle.ps_text.specs.Answers.{Found}
 use Rattle.ps_certificate.specs.Certificates.{CertificateData, Fits, IsValid, winner_of}
 use Rattle.ps_certificate.specs.Texts as certificate_text
 use Rattle.ps_certificate.specs.Written.{text_in}
 use Rattle.ps_certificate.specs.declared.fault.CertCause.{CertCause}
-use Rattle.ps_game.specs.Games.{ParityGame, NamedGameData, IsGame, owner_of, vertex_count}
+use Rattle.ps_game.specs.Games.{ParityGame, NamedGameData, owner_of, vertex_count}
 use Rattle.ps_hoa.specs.Files.{FileData}
 use Rattle.ps_hoa.specs.Texts.{ReadsFile}
 use Rattle.ps_hoa.specs.declared.fault.HoaCause.{HoaCause}
 use Rattle.ps_machine.specs.FileGames.{IsGameOfFile}
 use Rattle.ps_machine.specs.Keys.{mover_of, owner_of_key}
-use Rattle.ps_machine.specs.Solving.{IsCertified, Replays}
+use Rattle.ps_machine.specs.Solving.{IsCertified}
 use Rattle.ps_machine.specs.declared.key.Key.{Key}
 use Rattle.ps_machine.specs.declared.key.Key.TheVariants.{First, Second}
 use Rattle.ps_machine.specs.declared.key.Order.{Order}
@@ -21,8 +22,7 @@ use Rattle.ps_pgsolver.specs.Written.{game_text}
 use Rattle.ps_synthesis.specs.Promises.{MayAnswer}
 use Rattle.ps_synthesis.specs.Reports.{IsReport}
 use Rattle.ps_synthesis.specs.declared.report.Report.{Report}
-use Rattle.ps_program.specs.Determined.{AgreeInWinners, IsReplaying}
-use Rattle.ps_program.specs.Solvers.{SolverData, answers_now}
+use Rattle.ps_program.specs.Determined.{AgreeInWinners}
 use Rattle.ps_program.specs.Replies.{Reply, text_reply}
 
 -- the laws that are taken
@@ -30,20 +30,24 @@ abbrev pub OneFile : Type 0
 OneFile = (text : List ℕ) (a b : Result FileData (Found HoaCause)) → ReadsFile text a → ReadsFile text b → a ≡ b
 
 abbrev pub OneFileGame : Type 0
-OneFileGame = (order : Order) (file : FileData) (game other : NamedGameData) → IsGameOfFile order file game → IsGameOfFile order file other → game ≡ other
+OneFileGame = (order : Order) (file : FileData) (game other : NamedGameData) → IsGameOfFile order file game →
+    IsGameOfFile order file other → game ≡ other
 
 abbrev pub OneWinner : Type 0
-OneWinner = (game : ParityGame) (one other : CertificateData) → ((v : ℕ) → v < vertex_count game → owner_of game v < 2) →
-    Fits game one → IsValid game one → Fits game other → IsValid game other → (v : ℕ) → v < vertex_count game → winner_of one v ≡ winner_of other v
+OneWinner =
+    (game : ParityGame) (one other : CertificateData) → ((v : ℕ) → v < vertex_count game → owner_of game v < 2) →
+    Fits game one → IsValid game one → Fits game other → IsValid game other → (v : ℕ) → v < vertex_count game →
+    winner_of one v ≡ winner_of other v
 
 abbrev pub OneCertificate : Type 0
-OneCertificate = (named : NamedGameData) (text : List ℕ) (a b : Result CertificateData (Found CertCause)) → certificate_text.ReadsCertificate named text a
+OneCertificate = (named : NamedGameData) (text : List ℕ) (a b : Result CertificateData (Found CertCause)) →
+    certificate_text.ReadsCertificate named text a
     → certificate_text.ReadsCertificate named text b → a ≡ b
 
-abbrev ok_of : {V E : Type 0} → V → Result V E
+abbrev pub ok_of : {V E : Type 0} → V → Result V E
 ok_of v = Ok v
 
-ok_same : {V E : Type 0} (v w : V) → ok_of {V = V} {E = E} v ≡ Ok w → v ≡ w
+pub ok_same : {V E : Type 0} (v w : V) → ok_of {V = V} {E = E} v ≡ Ok w → v ≡ w
 ok_same v w e = cc
 
 -- the players of a file's game are 0 and 1
@@ -53,27 +57,23 @@ owner_below Mealy (Second state letter) = omega arith
 owner_below Moore (First state priority) = omega arith
 owner_below Moore (Second state letter) = omega arith
 
-owners_below : (order : Order) (file : FileData) (game : NamedGameData) → IsGameOfFile order file game → (v : ℕ) → v < vertex_count game.game → owner_of game.game v < 2
+owners_below : (order : Order) (file : FileData) (game : NamedGameData) → IsGameOfFile order file game → (v : ℕ) →
+    v < vertex_count game.game → owner_of game.game v < 2
 owners_below order file game is v within =
     let vertex = is.is_game.by_keys.vertices v within in
     subst (λ owner. owner < 2) (sym vertex.owner) (owner_below order vertex.key)
 
-first_there : (order : Order) (file : FileData) (game : NamedGameData) → IsGameOfFile order file game → 0 < vertex_count game.game
-first_there order file game is = (let first = slice_get_within is.keys 0 _ is.is_game.by_keys.begins in omega (arith, first, is.is_game.by_keys.count))
+first_there : (order : Order) (file : FileData) (game : NamedGameData) → IsGameOfFile order file game →
+    0 < vertex_count game.game
+first_there order file game is =
+    (let first = slice_get_within is.keys 0 _ is.is_game.by_keys.begins in
+    omega (arith, first, is.is_game.by_keys.count))
 
-tests_agree : (a b : Bool) (n m : ℕ) → IsTrue a ↔ (n ≡ 0) → IsTrue b ↔ (m ≡ 0) → n ≡ m → a ≡ b
+pub tests_agree : (a b : Bool) (n m : ℕ) → IsTrue a ↔ (n ≡ 0) → IsTrue b ↔ (m ≡ 0) → n ≡ m → a ≡ b
 tests_agree true true n m h k e = refl
 tests_agree false false n m h k e = refl
 tests_agree true false n m h k e = sym (k.1 (sym e ∙ h.0 refl))
 tests_agree false true n m h k e = h.1 (e ∙ k.0 refl)
-
--- a solver that replays a text may answer one certificate for a game
-pub answered_once : OneCertificate → (solver : SolverData) → IsReplaying solver → (game : NamedGameData) (one other : CertificateData) → answers_now solver game (Ok one) → answers_now solver game (Ok other) → one ≡ other
-answered_once certificates solver replaying game one other h k = by solver.fed (replaying solver.fed game (Ok one) h) (replaying solver.fed game (Ok other) k)
-  where
-    by : (fed : Option (List ℕ)) → Replays game fed (Ok one) → Replays game fed (Ok other) → one ≡ other
-    by None h k = absurd h
-    by (Some text) h k = ok_same one other (certificates game text (Ok one) (Ok other) h k)
 
 -- what two reports are compared by
 pub record Facts (May : MayAnswer) (order : Order) (compact : Bool) (text : List ℕ) (report : Report) : Type 0 where
@@ -83,12 +83,11 @@ pub record Facts (May : MayAnswer) (order : Order) (compact : Bool) (text : List
   pub is_game : IsGameOfFile order file game
   pub printed : report.game_text.items ≡ game_text game
   pub certificate : CertificateData
-  pub answered : May game (Ok certificate)
   pub certified : IsCertified game certificate
-  pub certificate_printed : report.certificate_text.items ≡ text_in compact game certificate
   pub realizable : IsTrue report.realizable ↔ (winner_of certificate 0 ≡ 0)
 
-facts_of : (May : MayAnswer) (order : Order) (compact : Bool) (text : List ℕ) (report : Report) → IsReport May order compact text report → Facts May order compact text report
+facts_of : (May : MayAnswer) (order : Order) (compact : Bool) (text : List ℕ) (report : Report) →
+    IsReport May order compact text report → Facts May order compact text report
 facts_of May order compact text report r = let p = r.promise in record {
   file = p.file;
   reads = p.accepted.reads;
@@ -96,14 +95,13 @@ facts_of May order compact text report r = let p = r.promise in record {
   is_game = p.is_game;
   printed = p.game_text.written;
   certificate = p.certificate;
-  answered = p.answered;
   certified = p.certified;
-  certificate_printed = p.certificate_text.written;
   realizable = p.realizable;
 }
 
 module _ (files : OneFile) (file_games : OneFileGame) (winners : OneWinner) where
-  module _ (May : MayAnswer) (order : Order) (compact : Bool) (text : List ℕ) (a b : Report) (r : IsReport May order compact text a) (s : IsReport May order compact text b) where
+  module _ (May : MayAnswer) (order : Order) (compact : Bool) (text : List ℕ) (a b : Report)
+      (r : IsReport May order compact text a) (s : IsReport May order compact text b) where
     f : Facts May order compact text a
     f = facts_of May order compact text a r
 
@@ -114,28 +112,28 @@ module _ (files : OneFile) (file_games : OneFileGame) (winners : OneWinner) wher
     same_file = ok_same f.file g.file (files text (Ok f.file) (Ok g.file) f.reads g.reads)
 
     same_game : f.game ≡ g.game
-    same_game = file_games order g.file f.game g.game (subst (λ file. IsGameOfFile order file f.game) same_file f.is_game) g.is_game
+    same_game =
+        file_games order g.file f.game g.game (subst (λ file. IsGameOfFile order file f.game) same_file f.is_game)
+        g.is_game
 
     -- who wins
     pub reports-winner : a.realizable ≡ b.realizable
     reports-winner =
-        let certified : IsCertified f.game g.certificate = subst (λ game. IsCertified game g.certificate) (sym same_game) g.certified in
+        let certified : IsCertified f.game g.certificate =
+        subst (λ game. IsCertified game g.certificate) (sym same_game) g.certified in
         let same_winner : winner_of f.certificate 0 ≡ winner_of g.certificate 0 =
-        winners f.game.game f.certificate g.certificate (owners_below order f.file f.game f.is_game) f.certified.fits f.certified.valid certified.fits certified.valid 0 (first_there order f.file f.game f.is_game) in
+        winners f.game.game f.certificate g.certificate (owners_below order f.file f.game f.is_game) f.certified.fits
+        f.certified.valid certified.fits certified.valid 0 (first_there order f.file f.game f.is_game) in
         tests_agree a.realizable b.realizable _ _ f.realizable g.realizable same_winner
 
     pub reports-game : a.game_text.items ≡ b.game_text.items
     reports-game = f.printed ∙ ap game_text same_game ∙ sym g.printed
 
-    -- the certificate, where only one can be answered
-    pub reports-certificate : ((game : NamedGameData) (one other : CertificateData) → May game (Ok one) → May game (Ok other) → one ≡ other) → a.certificate_text.items ≡ b.certificate_text.items
-    reports-certificate once =
-        let same : f.certificate ≡ g.certificate = once g.game f.certificate g.certificate (subst (λ game. May game (Ok f.certificate)) same_game f.answered) g.answered in
-        f.certificate_printed ∙ ap (λ game. text_in compact game f.certificate) same_game ∙ ap (text_in compact g.game) same ∙ sym g.certificate_printed
-
   -- any two certificates of one game
-  pub certificates_agree : (compact : Bool) (game : NamedGameData) (one other : CertificateData) (a b : Reply) → IsCertified game one → IsCertified game other
-      → a ≡ text_reply (text_in compact game one) → b ≡ text_reply (text_in compact game other) → AgreeInWinners compact a b
+  pub certificates_agree : (compact : Bool) (game : NamedGameData) (one other : CertificateData) (a b : Reply) →
+      IsCertified game one → IsCertified game other
+      → a ≡ text_reply (text_in compact game one) → b ≡ text_reply (text_in compact game other) →
+      AgreeInWinners compact a b
   certificates_agree compact game one other a b c d is_one is_other = record {
     game = game;
     one = one;

@@ -46,16 +46,25 @@ no_fault : {reply : Reply} {line : List ℕ} → Err line ≡ Ok reply → ⊥
 no_fault same = cc
 
 -- the flaw speaks of vertices of the game
-pub outcome_names_vertices : (game : ParityGame) (given : CertificateData) (outcome : Result (Unit {0}) Flaw) → IsGame game → Fits game given → IfErr outcome (IsFirstFlaw game given) → IfErr outcome (NamesVertices (vertex_count game))
+pub outcome_names_vertices : (game : ParityGame) (given : CertificateData) (outcome : Result (Unit {0}) Flaw) →
+    IsGame game → Fits game given → IfErr outcome (IsFirstFlaw game given) →
+    IfErr outcome (NamesVertices (vertex_count game))
 outcome_names_vertices game given (Ok done) is_game fits first = tt
-outcome_names_vertices game given (Err flaw) is_game fits first = flaw_names_vertices game given flaw is_game fits first.is_flaw
+outcome_names_vertices game given (Err flaw) is_game fits first =
+    flaw_names_vertices game given flaw is_game fits first.is_flaw
 
 -- what is told is the answer of the test
-pub tests_told : (IsGood : ParityGame → CertificateData → Type 0) (word : List ℕ) (named : NamedGameData) (given : CertificateData) (outcome : Result (Unit {0}) Flaw) (result : Result Answer Refusal) → IsGame named.game
-    → (IsOk outcome ↔ IsGood named.game given) → IfErr outcome (IsFirstFlaw named.game given) → Gives reply_of (λ told. told ≡ test_told word named outcome) result → Gives reply_of (Tests IsGood word named given) result
-tests_told IsGood word named given (Ok done) (Ok answer) is_game exact first told = (exact.0 refl, same_reply (reply_of answer) (line_reply word) told)
-tests_told IsGood word named given (Ok done) (Err (refusal.Fault fault)) is_game exact first told = absurd (no_fault told)
+pub tests_told : (IsGood : ParityGame → CertificateData → Type 0) (word : List ℕ) (named : NamedGameData)
+    (given : CertificateData) (outcome : Result (Unit {0}) Flaw) (result : Result Answer Refusal) → IsGame named.game
+    → (IsOk outcome ↔ IsGood named.game given) → IfErr outcome (IsFirstFlaw named.game given) →
+    Gives reply_of (λ told. told ≡ test_told word named outcome) result →
+    Gives reply_of (Tests IsGood word named given) result
+tests_told IsGood word named given (Ok done) (Ok answer) is_game exact first told =
+    (exact.0 refl, same_reply (reply_of answer) (line_reply word) told)
+tests_told IsGood word named given (Ok done) (Err (refusal.Fault fault)) is_game exact first told =
+    absurd (no_fault told)
 tests_told IsGood word named given (Ok done) (Err refusal.OutOfMemory) is_game exact first told = tt
 tests_told IsGood word named given (Err flaw) (Ok answer) is_game exact first told = absurd (no_reply told)
-tests_told IsGood word named given (Err flaw) (Err (refusal.Fault fault)) is_game exact first told = (is_game, (λ good. no_ok (exact.1 good)), (flaw, first, same_line (fault_text fault) (flaw_text named flaw) told))
+tests_told IsGood word named given (Err flaw) (Err (refusal.Fault fault)) is_game exact first told =
+    (is_game, (λ good. no_ok (exact.1 good)), (flaw, first, same_line (fault_text fault) (flaw_text named flaw) told))
 tests_told IsGood word named given (Err flaw) (Err refusal.OutOfMemory) is_game exact first told = tt

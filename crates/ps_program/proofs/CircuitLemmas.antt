@@ -22,19 +22,26 @@ run_view both = (both.0, stem_of both.1)
 
 -- the fault of a circuit's text is the fault of both texts
 pub simulated_circuit_fault : (texts first second : List ℕ) (fault : Refusal) → CutsInTwo texts (Ok (first, second))
-    → Gives {X = CircuitData} (λ given. given) (ReadsCircuitText first) (Err fault) → Gives run_view (ReadsSimulated texts) (Err fault)
-simulated_circuit_fault texts first second (refusal.Fault fault) cuts h = inr ((first, second), cuts, inl (fault_text fault, h, refl))
+    → Gives {X = CircuitData} (λ given. given) (ReadsCircuitText first) (Err fault) →
+    Gives run_view (ReadsSimulated texts) (Err fault)
+simulated_circuit_fault texts first second (refusal.Fault fault) cuts h =
+    inr ((first, second), cuts, inl (fault_text fault, h, refl))
 simulated_circuit_fault texts first second refusal.OutOfMemory cuts h = tt
 
 -- so is the fault of a stimulus behind the text of a circuit
-pub simulated_stimulus_fault : (texts first second : List ℕ) (c : CircuitData) (fault : Refusal) → CutsInTwo texts (Ok (first, second)) → ReadsCircuitText first (Ok c)
-    → Gives {X = List (List Bool)} stem_of (ReadsStimulusText (length c.inputs) false second) (Err fault) → Gives run_view (ReadsSimulated texts) (Err fault)
-simulated_stimulus_fault texts first second c (refusal.Fault fault) cuts reads h = inr ((first, second), cuts, inr (c, reads, inl (fault_text fault, h, refl)))
+pub simulated_stimulus_fault : (texts first second : List ℕ) (c : CircuitData) (fault : Refusal) →
+    CutsInTwo texts (Ok (first, second)) → ReadsCircuitText first (Ok c)
+    → Gives {X = List (List Bool)} stem_of (ReadsStimulusText (length c.inputs) false second) (Err fault) →
+    Gives run_view (ReadsSimulated texts) (Err fault)
+simulated_stimulus_fault texts first second c (refusal.Fault fault) cuts reads h =
+    inr ((first, second), cuts, inr (c, reads, inl (fault_text fault, h, refl)))
 simulated_stimulus_fault texts first second c refusal.OutOfMemory cuts reads h = tt
 
 -- what is refused of the text of a stem alone is refused of its stimulus
-pub letters_fault : (text : List ℕ) (width : ℕ) (given : StimulusFault) (refused : Refusal) → IsLettersAnswer text width (Err given)
-    → IsRefusalOf cause_number cause_name given refused → Gives {X = List (List Bool)} stem_of (ReadsStimulusText width false text) (Err refused)
+pub letters_fault : (text : List ℕ) (width : ℕ) (given : StimulusFault) (refused : Refusal) →
+    IsLettersAnswer text width (Err given)
+    → IsRefusalOf cause_number cause_name given refused → Gives {X = List (List Bool)} stem_of
+    (ReadsStimulusText width false text) (Err refused)
 letters_fault text width (Text cause offset) refused answer same =
     gives_fault cause_number cause_name (ReadsStimulus text width false) stem_of (Text cause offset) refused answer same
 letters_fault text width OutOfMemory refused answer same =

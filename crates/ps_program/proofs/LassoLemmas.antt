@@ -1,5 +1,6 @@
 -- A lasso's outcome, text by text.
-use Rattle.std.proofs.Common.{◌≡◌, ◌≢◌, ◌∙◌, ◌<◌, ℕ, Bool, true, List, All, length, Result, Ok, Err, refl, inl, inr, subst, sym}
+use Rattle.std.proofs.Common.{◌≡◌, ◌≢◌, ◌∙◌, ◌<◌, ℕ, Bool, true, List, All, length, Result, Ok, Err, refl, inl, inr}
+use Rattle.std.proofs.Common.{subst, sym}
 use Rattle.ps_circuit.specs.Circuits.{CircuitData, IsCircuit}
 use Rattle.ps_automaton.specs.Automata.{AutomatonData, IsBuiltFrom}
 use Rattle.ps_automaton.specs.Chains.{Chain}
@@ -24,32 +25,40 @@ use Rattle.ps_program.specs.Texts.{CutsInThree, ReadsCircuitText, ReadsStimulusT
 
 module _ (role : Role) (texts first second third : List ℕ) (cuts : CutsInThree texts (Ok (first, second, third))) where
   -- the fault of an automaton
-  pub lasso_automaton_fault : (fault : Refusal) → GivesAutomaton first (Err fault) → Gives {X = Answer} reply_of (AnswersLasso role texts) (Err fault)
+  pub lasso_automaton_fault : (fault : Refusal) → GivesAutomaton first (Err fault) →
+      Gives {X = Answer} reply_of (AnswersLasso role texts) (Err fault)
   lasso_automaton_fault (refusal.Fault fault) h = inr ((first, second, third), cuts, inl (fault_text fault, h, refl))
   lasso_automaton_fault refusal.OutOfMemory h = tt
 
   -- what the circuit's text and the stimulus give behind it
-  pub lasso_run : (file : FileData) → ReadsAutomaton first (Ok file) → (outcome : Result Answer Refusal) → Gives reply_of (RunsCircuit role file second third) outcome → Gives reply_of (AnswersLasso role texts) outcome
+  pub lasso_run : (file : FileData) → ReadsAutomaton first (Ok file) → (outcome : Result Answer Refusal) →
+      Gives reply_of (RunsCircuit role file second third) outcome → Gives reply_of (AnswersLasso role texts) outcome
   lasso_run file is_file (Ok answer) h = inr ((first, second, third), cuts, inr (file, is_file, h))
   lasso_run file is_file (Err (refusal.Fault fault)) h = inr ((first, second, third), cuts, inr (file, is_file, h))
   lasso_run file is_file (Err refusal.OutOfMemory) h = tt
 
 module _ (role : Role) (file : FileData) (text letters : List ℕ) where
   -- the fault of a circuit's text
-  pub run_circuit_fault : (fault : Refusal) → Gives {X = CircuitData} (λ circuit. circuit) (ReadsCircuitText text) (Err fault) → Gives {X = Answer} reply_of (RunsCircuit role file text letters) (Err fault)
+  pub run_circuit_fault : (fault : Refusal) → Gives {X = CircuitData} (λ circuit. circuit) (ReadsCircuitText text)
+      (Err fault) → Gives {X = Answer} reply_of (RunsCircuit role file text letters) (Err fault)
   run_circuit_fault (refusal.Fault fault) h = inl (fault_text fault, h, refl)
   run_circuit_fault refusal.OutOfMemory h = tt
 
-  module _ (c : CircuitData) (is_circuit : ReadsCircuitText text (Ok c)) (width : ℕ) (is_width : width ≡ length c.inputs) where
+  module _ (c : CircuitData) (is_circuit : ReadsCircuitText text (Ok c)) (width : ℕ)
+      (is_width : width ≡ length c.inputs) where
     -- the fault of a stimulus behind it
-    pub run_stimulus_fault : (fault : Refusal) → Gives {X = StimulusData} (λ stimulus. stimulus) (ReadsStimulusText width true letters) (Err fault) → Gives {X = Answer} reply_of (RunsCircuit role file text letters) (Err fault)
+    pub run_stimulus_fault : (fault : Refusal) → Gives {X = StimulusData} (λ stimulus. stimulus)
+        (ReadsStimulusText width true letters) (Err fault) → Gives {X = Answer} reply_of
+        (RunsCircuit role file text letters) (Err fault)
     run_stimulus_fault (refusal.Fault fault) h =
         let same = subst (λ (n : ℕ). ReadsStimulusText n true letters (Err (fault_text fault))) is_width h in
         inr (c, is_circuit, inl (fault_text fault, same, refl))
     run_stimulus_fault refusal.OutOfMemory h = tt
 
     -- the verdict
-    pub run_told : (s : StimulusData) → ReadsStimulusText width true letters (Ok s) → (outcome : Result Answer Refusal) → Gives reply_of (TellsVerdict role file c s) outcome → Gives reply_of (RunsCircuit role file text letters) outcome
+    pub run_told : (s : StimulusData) → ReadsStimulusText width true letters (Ok s) →
+        (outcome : Result Answer Refusal) → Gives reply_of (TellsVerdict role file c s) outcome →
+        Gives reply_of (RunsCircuit role file text letters) outcome
     run_told s is_stimulus (Ok answer) h =
         let same = subst (λ (n : ℕ). ReadsStimulusText n true letters (Ok s)) is_width is_stimulus in
         inr (c, is_circuit, inr (s, same, h))
@@ -60,17 +69,24 @@ module _ (role : Role) (file : FileData) (text letters : List ℕ) where
 
 -- ---- the verdict
 
-module _ (role : Role) (file : FileData) (chain : Chain) (a : AutomatonData) (c : CircuitData) (s : StimulusData) (stem lap : List (List Bool)) (built : IsBuiltFrom file chain a) (same_stem : stem ≡ s.stem) (same_lap : lap ≡ s.lap) where
+module _ (role : Role) (file : FileData) (chain : Chain) (a : AutomatonData) (c : CircuitData) (s : StimulusData)
+    (stem lap : List (List Bool)) (built : IsBuiltFrom file chain a) (same_stem : stem ≡ s.stem)
+    (same_lap : lap ≡ s.lap) where
   symbols_of_file : HasSymbols role a.names a.controllable c → HasSymbols role file.names file.controllable c
-  symbols_of_file has = subst (λ (ps : List ℕ). HasSymbols role file.names ps c) built.controllable (subst (λ (names : List (List ℕ)). HasSymbols role names a.controllable c) built.names has)
+  symbols_of_file has =
+      subst (λ (ps : List ℕ). HasSymbols role file.names ps c) built.controllable
+      (subst (λ (names : List (List ℕ)). HasSymbols role names a.controllable c) built.names has)
 
   symbols_of_automaton : HasSymbols role file.names file.controllable c → HasSymbols role a.names a.controllable c
-  symbols_of_automaton has = subst (λ (names : List (List ℕ)). HasSymbols role names a.controllable c) (sym built.names) (subst (λ (ps : List ℕ). HasSymbols role file.names ps c) (sym built.controllable) has)
+  symbols_of_automaton has =
+      subst (λ (names : List (List ℕ)). HasSymbols role names a.controllable c) (sym built.names)
+      (subst (λ (ps : List ℕ). HasSymbols role file.names ps c) (sym built.controllable) has)
 
   some_of_lap : 0 < length lap → 0 < length s.lap
   some_of_lap some = subst (λ (ls : List (List Bool)). 0 < length ls) same_lap some
 
-  pub tells : (verdict : Verdict) (reply : Reply) → IsCircuit c → HasNoLassoFault role a c stem lap → IsVerdictOf file c stem lap verdict → reply ≡ line_reply (verdict_text verdict) →
+  pub tells : (verdict : Verdict) (reply : Reply) → IsCircuit c → HasNoLassoFault role a c stem lap →
+      IsVerdictOf file c stem lap verdict → reply ≡ line_reply (verdict_text verdict) →
       TellsVerdict role file c s (Ok reply)
   tells verdict reply is_circuit sound is_verdict is = (
     is_circuit,
@@ -78,27 +94,33 @@ module _ (role : Role) (file : FileData) (chain : Chain) (a : AutomatonData) (c 
     symbols_of_file sound.symbols,
     (
       verdict,
-      subst (λ (ls : List (List Bool)). IsVerdictOf file c s.stem ls verdict) same_lap (subst (λ (ls : List (List Bool)). IsVerdictOf file c ls lap verdict) same_stem is_verdict),
+      subst (λ (ls : List (List Bool)). IsVerdictOf file c s.stem ls verdict) same_lap
+          (subst (λ (ls : List (List Bool)). IsVerdictOf file c ls lap verdict) same_stem is_verdict),
       is,
     ),
   )
 
-  tells_no_lap : (line : List ℕ) → Stands role a c stem lap EmptyLap → line ≡ lasso_line EmptyLap → TellsVerdict role file c s (Err line)
+  tells_no_lap : (line : List ℕ) → Stands role a c stem lap EmptyLap → line ≡ lasso_line EmptyLap →
+      TellsVerdict role file c s (Err line)
   tells_no_lap line stands is = inl (sym same_lap ∙ stands.1, is)
 
-  tells_no_symbols : (line : List ℕ) → Stands role a c stem lap Symbols → line ≡ lasso_line Symbols → TellsVerdict role file c s (Err line)
+  tells_no_symbols : (line : List ℕ) → Stands role a c stem lap Symbols → line ≡ lasso_line Symbols →
+      TellsVerdict role file c s (Err line)
   tells_no_symbols line stands is = inr (some_of_lap stands.1, (λ has. stands.2 (symbols_of_automaton has)), is)
 
-  pub tells_fault : (fault : LassoFault) (line : List ℕ) → fault ≢ Width → fault ≢ OutOfMemory → Stands role a c stem lap fault → line ≡ lasso_line fault → TellsVerdict role file c s (Err line)
+  pub tells_fault : (fault : LassoFault) (line : List ℕ) → fault ≢ Width → fault ≢ OutOfMemory →
+      Stands role a c stem lap fault → line ≡ lasso_line fault → TellsVerdict role file c s (Err line)
   tells_fault Width line not_width some stands is = absurd (not_width refl)
   tells_fault EmptyLap line not_width some stands is = tells_no_lap line stands is
   tells_fault Symbols line not_width some stands is = tells_no_symbols line stands is
   tells_fault OutOfMemory line not_width some stands is = absurd (some refl)
 
 -- each letter of a stimulus has a bit for each input
-pub is_wide : (role : Role) (a : AutomatonData) (c : CircuitData) (s : StimulusData) (stem lap : List (List Bool)) → stem ≡ s.stem → lap ≡ s.lap → All (λ letter. length letter ≡ length c.inputs) s.stem
+pub is_wide : (role : Role) (a : AutomatonData) (c : CircuitData) (s : StimulusData) (stem lap : List (List Bool)) →
+    stem ≡ s.stem → lap ≡ s.lap → All (λ letter. length letter ≡ length c.inputs) s.stem
     → All (λ letter. length letter ≡ length c.inputs) s.lap → Stands role a c stem lap Width → ⊥
 is_wide role a c s stem lap same_stem same_lap in_stem in_lap narrow = narrow (record {
-  stem_is = subst (λ (ls : List (List Bool)). All (λ letter. length letter ≡ length c.inputs) ls) (sym same_stem) in_stem;
+  stem_is =
+      subst (λ (ls : List (List Bool)). All (λ letter. length letter ≡ length c.inputs) ls) (sym same_stem) in_stem;
   lap_is = subst (λ (ls : List (List Bool)). All (λ letter. length letter ≡ length c.inputs) ls) (sym same_lap) in_lap;
 })

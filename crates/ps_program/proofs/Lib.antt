@@ -7,6 +7,7 @@ pub mod KindLemmas
 pub mod LassoLemmas
 pub mod LongWords
 pub mod OneAnswer
+pub mod OneCertified
 pub mod OneCut
 pub mod OneLine
 pub mod OneStage

@@ -1,5 +1,6 @@
 -- Two answers to one input are one.
-use Rattle.std.proofs.Common.{◌≡◌, ◌⊎◌, ◌∙◌, ℕ, Bool, true, false, List, length, Result, Ok, Err, refl, sym, ap, subst, inl, inr, arith}
+use Rattle.std.proofs.Common.{◌≡◌, ◌⊎◌, ◌∙◌, ℕ, Bool, true, false, List, length, Result, Ok, Err, refl, sym, ap, subst}
+use Rattle.std.proofs.Common.{inl, inr, arith}
 use Rattle.std.specs.Prelude.{codes}
 use Rattle.ps_game.specs.Games.{ParityGame, NamedGameData}
 use Rattle.ps_pgsolver.specs.Reading.{Answer}
@@ -12,7 +13,6 @@ use Rattle.ps_circuit.specs.CauseNames as circuit_names
 use Rattle.ps_circuit.specs.Causes as circuit
 use Rattle.ps_circuit.specs.Texts as circuit_text
 use Rattle.ps_machine.specs.declared.key.Order.{Order}
-use Rattle.ps_synthesis.specs.declared.report.Report.{Report}
 use Rattle.ps_simulate.specs.Faults as stimulus
 use Rattle.ps_simulate.specs.declared.role.Role.{Role}
 use Rattle.ps_simulate.specs.StimulusTexts as stimulus_text
@@ -21,7 +21,8 @@ use Rattle.ps_program.specs.declared.command_line.Line.TheVariants as line
 use Rattle.ps_program.specs.Checks.{Tests}
 use Rattle.ps_program.specs.CommandLine.{IsLine}
 use Rattle.ps_program.specs.Cut.{first_line, behind_line}
-use Rattle.ps_program.specs.Determined.{Agree, AgreeAsReports, AgreeInWinners, SameCertificate, AsksFor, HasAutomaton, HasOneAnswer, IsFault, IsOpen}
+use Rattle.ps_program.specs.Determined.{Agree, AgreeAsReports, AgreeInWinners, AsksFor, HasAutomaton, HasOneAnswer}
+use Rattle.ps_program.specs.Determined.{IsFault, IsOpen}
 use Rattle.ps_program.specs.Games.{AnswersCert, AnswersGameText, ReadsGameOf}
 use Rattle.ps_program.specs.Lassos.{AnswersLasso}
 use Rattle.ps_program.specs.Outcomes.{printed}
@@ -33,39 +34,57 @@ use Rattle.ps_program.specs.Solving.{AnswersGame, AnswersSolve}
 use Rattle.ps_program.specs.Synthesis.{AnswersBy, AnswersReport}
 use Rattle.ps_program.specs.Texts.{CutsInTwo, ReadsCertified, ReadsGameText, ReadsSimulated, flaw_text}
 use Rattle.ps_program.specs.declared.command_line.SynthLine.{SynthLine}
-use Rattle.ps_program.proofs.Agreeing.{OneCertificate, OneFile, OneFileGame, OneWinner, answered_once, reports-winner, reports-game, reports-certificate, certificates_agree}
+use Rattle.ps_program.proofs.Agreeing.{OneCertificate, OneFile, OneFileGame, OneWinner, reports-winner, reports-game}
+use Rattle.ps_program.proofs.Agreeing.{certificates_agree}
 use Rattle.ps_program.proofs.OneTrace.{traces_agree}
 use Rattle.ps_program.proofs.OneStep.{IsOne, ok_of, err_of, err_or, then_one, then_one_or, ended_one, reading_one}
 use Rattle.ps_program.proofs.OneCut.{cut_one, cut_three_one}
-use Rattle.ps_program.proofs.OneStage.{OneGame, OneFlaw, OneCircuit, OneStimulus, OneRefusal, OneOutcome, OneVerdict, OneValues, automaton_one, makes_one, tells_one, game_accepted, RefusedOr, report_refused}
+use Rattle.ps_program.proofs.OneStage.{OneGame, OneFlaw, OneCircuit, OneStimulus, OneRefusal, OneOutcome, OneVerdict}
+use Rattle.ps_program.proofs.OneStage.{OneValues, automaton_one, makes_one, tells_one, game_accepted, RefusedOr}
+use Rattle.ps_program.proofs.OneStage.{report_refused}
 use Rattle.ps_program.proofs.OneLine.{is_line_one}
 
-module _ (games : OneGame) (certificates : OneCertificate) (flaws : OneFlaw) (circuits : OneCircuit) (stimuli : OneStimulus) (files : OneFile) (refusals : OneRefusal) (outcomes : OneOutcome) (verdicts : OneVerdict) (values : OneValues) (file_games : OneFileGame) (winners : OneWinner) where
+module _ (games : OneGame) (certificates : OneCertificate) (flaws : OneFlaw) (circuits : OneCircuit)
+    (stimuli : OneStimulus) (files : OneFile) (refusals : OneRefusal) (outcomes : OneOutcome) (verdicts : OneVerdict)
+    (values : OneValues) (file_games : OneFileGame) (winners : OneWinner) where
   certified_one : (texts : List ℕ) → IsOne (ReadsCertified texts)
-  certified_one texts = then_one _ _ (cut_one texts) (λ parts. then_one _ _ (reading_one game.cause_number game.cause_name (Answer parts.0) (games parts.0))
-      (λ named. then_one _ _ (reading_one certificate.cause_number certificate.cause_name (certificate_text.ReadsCertificate named parts.1) (certificates named parts.1))
+  certified_one texts =
+      then_one _ _ (cut_one texts) (λ parts. then_one _ _ (reading_one game.cause_number game.cause_name
+      (Answer parts.0) (games parts.0))
+      (λ named. then_one _ _ (reading_one certificate.cause_number certificate.cause_name
+      (certificate_text.ReadsCertificate named parts.1) (certificates named parts.1))
       (λ given. ended_one (Ok (named, given)))))
 
-  tests_one : (IsGood : ParityGame → CertificateData → Type 0) (word : List ℕ) (named : NamedGameData) (given : CertificateData) → IsOne (Tests IsGood word named given)
+  tests_one : (IsGood : ParityGame → CertificateData → Type 0) (word : List ℕ) (named : NamedGameData)
+      (given : CertificateData) → IsOne (Tests IsGood word named given)
   tests_one IsGood word named given (Ok r) (Ok s) h k = ap (ok_of {V = Reply} {E = List ℕ}) (h.1 ∙ sym k.1)
   tests_one IsGood word named given (Ok r) (Err m) h k = absurd (k.1 h.0)
   tests_one IsGood word named given (Err l) (Ok s) h k = absurd (h.1 k.0)
-  tests_one IsGood word named given (Err l) (Err m) (is_game, bad, (flaw, first, e)) (is_game', bad', (flaw', first', e')) =
-      ap (err_of {V = Reply}) (e ∙ ap (flaw_text named) (flaws named.game given flaw flaw' is_game first first') ∙ sym e')
+  tests_one IsGood word named given (Err l) (Err m) (is_game, bad, (flaw, first, e))
+      (is_game', bad', (flaw', first', e')) =
+      ap (err_of {V = Reply}) (e ∙ ap (flaw_text named) (flaws named.game given flaw flaw' is_game first first')
+      ∙ sym e')
 
   simulated_one : (texts : List ℕ) → IsOne (ReadsSimulated texts)
-  simulated_one texts = then_one _ _ (cut_one texts) (λ parts. then_one _ _ (reading_one circuit.cause_number circuit_names.cause_name (circuit_text.ReadsCircuit parts.0) (circuits parts.0))
-      (λ c. then_one _ _ (reading_one stimulus.cause_number stimulus.cause_name (stimulus_text.ReadsStimulus parts.1 (length c.inputs) false) (stimuli parts.1 (length c.inputs) false))
+  simulated_one texts =
+      then_one _ _ (cut_one texts) (λ parts. then_one _ _ (reading_one circuit.cause_number circuit_names.cause_name
+      (circuit_text.ReadsCircuit parts.0) (circuits parts.0))
+      (λ c. then_one _ _ (reading_one stimulus.cause_number stimulus.cause_name
+      (stimulus_text.ReadsStimulus parts.1 (length c.inputs) false) (stimuli parts.1 (length c.inputs) false))
       (λ s. ended_one (Ok (c, s)))))
 
   sim_one : (texts : List ℕ) → IsOne (AnswersSim texts)
   sim_one texts = then_one _ _ (simulated_one texts) (λ both x y h k.
-      h.1.2 ∙ ap (λ (text : List ℕ). ok_of {V = Reply} {E = List ℕ} (text_reply text)) (traces_agree both.0 h.0 (values both.0 h.0) both.1.stem h.1.0 k.1.0 h.1.1 k.1.1) ∙ sym k.1.2)
+      h.1.2 ∙ ap (λ (text : List ℕ). ok_of {V = Reply} {E = List ℕ} (text_reply text))
+      (traces_agree both.0 h.0 (values both.0 h.0) both.1.stem h.1.0 k.1.0 h.1.1 k.1.1) ∙ sym k.1.2)
 
   lasso_one : (role : Role) (texts : List ℕ) → IsOne (AnswersLasso role texts)
-  lasso_one role texts = then_one _ _ (cut_three_one texts) (λ parts. then_one _ _ (automaton_one files refusals outcomes parts.0)
-      (λ file. then_one _ _ (reading_one circuit.cause_number circuit_names.cause_name (circuit_text.ReadsCircuit parts.1) (circuits parts.1))
-      (λ c. then_one _ _ (reading_one stimulus.cause_number stimulus.cause_name (stimulus_text.ReadsStimulus parts.2 (length c.inputs) true) (stimuli parts.2 (length c.inputs) true))
+  lasso_one role texts =
+      then_one _ _ (cut_three_one texts) (λ parts. then_one _ _ (automaton_one files refusals outcomes parts.0)
+      (λ file. then_one _ _ (reading_one circuit.cause_number circuit_names.cause_name
+      (circuit_text.ReadsCircuit parts.1) (circuits parts.1))
+      (λ c. then_one _ _ (reading_one stimulus.cause_number stimulus.cause_name
+      (stimulus_text.ReadsStimulus parts.2 (length c.inputs) true) (stimuli parts.2 (length c.inputs) true))
       (tells_one verdicts role file c))))
 
   game_of_one : (order : Order) (text : List ℕ) → IsOne (ReadsGameOf order text)
@@ -83,37 +102,44 @@ module _ (games : OneGame) (certificates : OneCertificate) (flaws : OneFlaw) (ci
   fault_is : (x : Result Reply (List ℕ)) (l : List ℕ) → x ≡ Err l → IsFault (printed x)
   fault_is x l e = (l, ap printed e)
 
-  games_alike : (solver : SolverData) (compact : Bool) (named : NamedGameData) (x y : Result Reply (List ℕ)) → AnswersGame solver compact named x → AnswersGame solver compact named y → Alike (AgreeInWinners compact) x y
+  games_alike : (solver : SolverData) (compact : Bool) (named : NamedGameData) (x y : Result Reply (List ℕ)) →
+      AnswersGame solver compact named x → AnswersGame solver compact named y → Alike (AgreeInWinners compact) x y
   games_alike solver compact named x y (inl (l, s, e)) k = inl (fault_is x l e)
   games_alike solver compact named x y (inr (c, s, e)) (inl (m, t, f)) = inr (inl (fault_is y m f))
-  games_alike solver compact named x y (inr (c, s, e)) (inr (d, t, f)) = inr (inr (certificates_agree files file_games winners compact named c d (printed x) (printed y) s.0 t.0 (ap printed e) (ap printed f)))
+  games_alike solver compact named x y (inr (c, s, e)) (inr (d, t, f)) =
+      inr (inr (certificates_agree files file_games winners compact named c d (printed x) (printed y) s.0 t.0
+      (ap printed e) (ap printed f)))
 
-  solve_one_or : (solver : SolverData) (compact : Bool) (text : List ℕ) (x y : Result Reply (List ℕ)) → AnswersSolve solver compact text x → AnswersSolve solver compact text y
+  solve_one_or : (solver : SolverData) (compact : Bool) (text : List ℕ) (x y : Result Reply (List ℕ)) →
+      AnswersSolve solver compact text x → AnswersSolve solver compact text y
       → (x ≡ y) ⊎ (IsOpen (line.Solve compact) text × Alike (AgreeInWinners compact) x y)
-  solve_one_or solver compact text x y h k = by (then_one_or (ReadsGameText text) (AnswersGame solver compact) (λ _. Alike (AgreeInWinners compact) x y) (reading_one game.cause_number game.cause_name (Answer text) (games text)) x y (λ v n m. inr (games_alike solver compact v x y n m)) h k)
+  solve_one_or solver compact text x y h k =
+      by (then_one_or (ReadsGameText text) (AnswersGame solver compact) (λ _. Alike (AgreeInWinners compact) x y)
+      (reading_one game.cause_number game.cause_name (Answer text) (games text)) x y
+      (λ v n m. inr (games_alike solver compact v x y n m)) h k)
     where
-      by : (x ≡ y) ⊎ ((v : NamedGameData) × ReadsGameText text (Ok v) × Alike (AgreeInWinners compact) x y) → (x ≡ y) ⊎ (IsOpen (line.Solve compact) text × Alike (AgreeInWinners compact) x y)
+      by : (x ≡ y) ⊎ ((v : NamedGameData) × ReadsGameText text (Ok v) × Alike (AgreeInWinners compact) x y) →
+          (x ≡ y) ⊎ (IsOpen (line.Solve compact) text × Alike (AgreeInWinners compact) x y)
       by (inl same) = inl same
       by (inr (v, reads, alike)) = inr ((v, reads), alike)
 
-  cert_one_or : (solver : SolverData) (order : Order) (compact : Bool) (text : List ℕ) (x y : Result Reply (List ℕ)) → AnswersCert solver order compact text x → AnswersCert solver order compact text y
+  cert_one_or : (solver : SolverData) (order : Order) (compact : Bool) (text : List ℕ) (x y : Result Reply (List ℕ)) →
+      AnswersCert solver order compact text x → AnswersCert solver order compact text y
       → (x ≡ y) ⊎ (IsOpen (line.Cert order compact) text × Alike (AgreeInWinners compact) x y)
-  cert_one_or solver order compact text x y h k = by (then_one_or (ReadsGameOf order text) (AnswersGame solver compact) (λ _. Alike (AgreeInWinners compact) x y) (game_of_one order text) x y (λ v n m. inr (games_alike solver compact v x y n m)) h k)
+  cert_one_or solver order compact text x y h k =
+      by (then_one_or (ReadsGameOf order text) (AnswersGame solver compact) (λ _. Alike (AgreeInWinners compact) x y)
+      (game_of_one order text) x y (λ v n m. inr (games_alike solver compact v x y n m)) h k)
     where
-      by : (x ≡ y) ⊎ ((v : NamedGameData) × ReadsGameOf order text (Ok v) × Alike (AgreeInWinners compact) x y) → (x ≡ y) ⊎ (IsOpen (line.Cert order compact) text × Alike (AgreeInWinners compact) x y)
+      by : (x ≡ y) ⊎ ((v : NamedGameData) × ReadsGameOf order text (Ok v) × Alike (AgreeInWinners compact) x y) →
+          (x ≡ y) ⊎ (IsOpen (line.Cert order compact) text × Alike (AgreeInWinners compact) x y)
       by (inl same) = inl same
       by (inr (v, reads, alike)) = inr (game_accepted order text v reads, alike)
 
-  -- by a solver, of which it is known when the certificate is decided
-  abbrev Decides : SolverData → Solvers → Bool → Type 0
-  Decides solver solvers cert = (one other : Report)
-      → (((game : NamedGameData) (c d : CertificateData) → answers_now solver game (Ok c) → answers_now solver game (Ok d) → c ≡ d) → one.certificate_text.items ≡ other.certificate_text.items)
-      → SameCertificate cert solvers one other
-
-  reports_alike : (solvers : Solvers) (cert : Bool) (solver : SolverData) (by_certificate : Decides solver solvers cert) (asked : SynthLine) (text : List ℕ) (x y : Result Reply (List ℕ)) → AnswersReport solver asked text x → AnswersReport solver asked text y → Alike (AgreeAsReports solvers cert asked.full) x y
-  reports_alike solvers cert solver by_certificate asked text x y (inl (l, s, e)) k = inl (fault_is x l e)
-  reports_alike solvers cert solver by_certificate asked text x y (inr (r, s, e)) (inl (m, t, f)) = inr (inl (fault_is y m f))
-  reports_alike solvers cert solver by_certificate asked text x y (inr (r, s, e)) (inr (r', t, f)) =
+  reports_alike : (solver : SolverData) (asked : SynthLine) (text : List ℕ) (x y : Result Reply (List ℕ)) →
+      AnswersReport solver asked text x → AnswersReport solver asked text y → Alike (AgreeAsReports asked.full) x y
+  reports_alike solver asked text x y (inl (l, s, e)) k = inl (fault_is x l e)
+  reports_alike solver asked text x y (inr (r, s, e)) (inl (m, t, f)) = inr (inl (fault_is y m f))
+  reports_alike solver asked text x y (inr (r, s, e)) (inr (r', t, f)) =
       inr (inr (record {
         one = r;
         other = r';
@@ -121,39 +147,53 @@ module _ (games : OneGame) (certificates : OneCertificate) (flaws : OneFlaw) (ci
         is_other = ap printed f;
         winner = reports-winner files file_games winners (answers_now solver) asked.order asked.compact text r r' s t;
         game = reports-game files file_games winners (answers_now solver) asked.order asked.compact text r r' s t;
-        certificate = by_certificate r r' (reports-certificate files file_games winners (answers_now solver) asked.order asked.compact text r r' s t);
       }))
 
-  report_one_or : (solvers : Solvers) (cert : Bool) (solver : SolverData) → Decides solver solvers cert → (asked : SynthLine) (text : List ℕ) (x y : Result Reply (List ℕ)) → AnswersReport solver asked text x → AnswersReport solver asked text y
-      → (x ≡ y) ⊎ (HasAutomaton text × Alike (AgreeAsReports solvers cert asked.full) x y)
-  report_one_or solvers cert solver decides asked text x y h k = by (report_refused solver asked text x h) (report_refused solver asked text y k)
+  report_one_or : (solver : SolverData) (asked : SynthLine) (text : List ℕ) (x y : Result Reply (List ℕ)) →
+      AnswersReport solver asked text x → AnswersReport solver asked text y
+      → (x ≡ y) ⊎ (HasAutomaton text × Alike (AgreeAsReports asked.full) x y)
+  report_one_or solver asked text x y h k =
+      by (report_refused solver asked text x h) (report_refused solver asked text y k)
     where
-      by : RefusedOr text x → RefusedOr text y → (x ≡ y) ⊎ (HasAutomaton text × Alike (AgreeAsReports solvers cert asked.full) x y)
-      by (inr choice) other = inr (choice, reports_alike solvers cert solver decides asked text x y h k)
-      by (inl refused) (inr choice) = inr (choice, reports_alike solvers cert solver decides asked text x y h k)
+      by : RefusedOr text x → RefusedOr text y → (x ≡ y) ⊎ (HasAutomaton text × Alike (AgreeAsReports asked.full) x y)
+      by (inr choice) other = inr (choice, reports_alike solver asked text x y h k)
+      by (inl refused) (inr choice) = inr (choice, reports_alike solver asked text x y h k)
       by (inl (l, reads, e)) (inl (m, reads', e')) =
-          let same : l ≡ m = ap (err_or l) (automaton_one files refusals outcomes text (Err l) (Err m) reads reads') in inl (e ∙ ap (err_of {V = Reply}) same ∙ sym e')
+          let same : l ≡ m = ap (err_or l) (automaton_one files refusals outcomes text (Err l) (Err m) reads reads') in
+          inl (e ∙ ap (err_of {V = Reply}) same ∙ sym e')
 
-  synth_one_or : (solvers : Solvers) (asked : SynthLine) (texts : List ℕ) (cert : Bool) (x y : Result Reply (List ℕ)) → AnswersBy cert solvers asked texts x → AnswersBy cert solvers asked texts y
-      → (x ≡ y) ⊎ (((text : List ℕ) × AsksFor cert texts text × HasAutomaton text) × Alike (AgreeAsReports solvers cert asked.full) x y)
-  synth_one_or solvers asked texts false x y h k = by (report_one_or solvers false solvers.built_in (λ one other same. tt) asked texts x y h k)
+  synth_one_or : (solvers : Solvers) (asked : SynthLine) (texts : List ℕ) (cert : Bool) (x y : Result Reply (List ℕ)) →
+      AnswersBy cert solvers asked texts x → AnswersBy cert solvers asked texts y
+      → (x ≡ y) ⊎ (((text : List ℕ) × AsksFor cert texts text × HasAutomaton text) ×
+      Alike (AgreeAsReports asked.full) x y)
+  synth_one_or solvers asked texts false x y h k = by (report_one_or solvers.built_in asked texts x y h k)
     where
-      by : (x ≡ y) ⊎ (HasAutomaton texts × Alike (AgreeAsReports solvers false asked.full) x y) → (x ≡ y) ⊎ (((text : List ℕ) × (texts ≡ text) × HasAutomaton text) × Alike (AgreeAsReports solvers false asked.full) x y)
+      by : (x ≡ y) ⊎ (HasAutomaton texts × Alike (AgreeAsReports asked.full) x y) →
+          (x ≡ y) ⊎ (((text : List ℕ) × (texts ≡ text) × HasAutomaton text) × Alike (AgreeAsReports asked.full) x y)
       by (inl same) = inl same
       by (inr (choice, alike)) = inr ((texts, refl, choice), alike)
   synth_one_or solvers asked texts true x y h k =
-      by (then_one_or (CutsInTwo texts) (λ (parts : List ℕ × List ℕ). AnswersReport (feed parts.1 solvers.replay) asked parts.0) (λ (parts : List ℕ × List ℕ). HasAutomaton parts.0 × Alike (AgreeAsReports solvers true asked.full) x y) (cut_one texts) x y (λ parts n m. report_one_or solvers true (feed parts.1 solvers.replay) (λ one other same replaying. same (answered_once certificates (feed parts.1 solvers.replay) replaying)) asked parts.0 x y n m) h k)
+      by (then_one_or (CutsInTwo texts) (λ (parts : List ℕ × List ℕ).
+      AnswersReport (feed parts.1 solvers.replay) asked parts.0)
+      (λ (parts : List ℕ × List ℕ). HasAutomaton parts.0 × Alike (AgreeAsReports asked.full) x y) (cut_one texts) x
+      y (λ parts n m. report_one_or (feed parts.1 solvers.replay) asked parts.0 x y n m) h k)
     where
-      by : (x ≡ y) ⊎ ((parts : List ℕ × List ℕ) × CutsInTwo texts (Ok parts) × (HasAutomaton parts.0 × Alike (AgreeAsReports solvers true asked.full) x y)) → (x ≡ y) ⊎ (((text : List ℕ) × AsksFor true texts text × HasAutomaton text) × Alike (AgreeAsReports solvers true asked.full) x y)
+      by : (x ≡ y) ⊎ ((parts : List ℕ × List ℕ) × CutsInTwo texts (Ok parts) ×
+          (HasAutomaton parts.0 × Alike (AgreeAsReports asked.full) x y)) →
+          (x ≡ y) ⊎ (((text : List ℕ) × AsksFor true texts text × HasAutomaton text) ×
+          Alike (AgreeAsReports asked.full) x y)
       by (inl same) = inl same
       by (inr (parts, cuts, (choice, alike))) = inr ((parts.0, (parts.1, cuts), choice), alike)
 
   -- each line: one outcome, or it is open and they are alike
-  line_one : (solvers : Solvers) (l : Line) (texts : List ℕ) (x y : Result Reply (List ℕ)) → AnswersLine solvers l texts x → AnswersLine solvers l texts y → (x ≡ y) ⊎ (IsOpen l texts × Alike (Agree solvers l) x y)
+  line_one : (solvers : Solvers) (l : Line) (texts : List ℕ) (x y : Result Reply (List ℕ)) →
+      AnswersLine solvers l texts x → AnswersLine solvers l texts y → (x ≡ y) ⊎ (IsOpen l texts × Alike (Agree l) x y)
   line_one solvers line.Refused texts x y h k = inl (ended_one _ x y h k)
   line_one solvers line.Help texts x y h k = inl (ended_one _ x y h k)
-  line_one solvers line.Closed texts x y h k = inl (then_one _ _ (certified_one texts) (λ both. tests_one IsClosed (codes "closed") both.0 both.1) x y h k)
-  line_one solvers line.Check texts x y h k = inl (then_one _ _ (certified_one texts) (λ both. tests_one IsValid (codes "valid") both.0 both.1) x y h k)
+  line_one solvers line.Closed texts x y h k =
+      inl (then_one _ _ (certified_one texts) (λ both. tests_one IsClosed (codes "closed") both.0 both.1) x y h k)
+  line_one solvers line.Check texts x y h k =
+      inl (then_one _ _ (certified_one texts) (λ both. tests_one IsValid (codes "valid") both.0 both.1) x y h k)
   line_one solvers line.Sim texts x y h k = inl (sim_one texts x y h k)
   line_one solvers (line.Lasso role) texts x y h k = inl (lasso_one role texts x y h k)
   line_one solvers (line.Solve compact) texts x y h k = solve_one_or solvers.built_in compact texts x y h k
@@ -161,18 +201,26 @@ module _ (games : OneGame) (certificates : OneCertificate) (flaws : OneFlaw) (ci
   line_one solvers (line.Cert order compact) texts x y h k = cert_one_or solvers.built_in order compact texts x y h k
   line_one solvers (line.Synth asked) texts x y h k = synth_one_or solvers asked texts asked.cert x y h k
 
-  answers_one : (solvers : Solvers) (input : List ℕ) (a b : Reply) → AnswersInput solvers input a → AnswersInput solvers input b
-      → (a ≡ b) ⊎ ((l : Line) × IsLine (first_line input) l × IsOpen l (behind_line input) × (IsFault a ⊎ IsFault b ⊎ Agree solvers l a b))
+  answers_one : (solvers : Solvers) (input : List ℕ) (a b : Reply) → AnswersInput solvers input a →
+      AnswersInput solvers input b
+      → (a ≡ b) ⊎ ((l : Line) × IsLine (first_line input) l × IsOpen l (behind_line input) ×
+      (IsFault a ⊎ IsFault b ⊎ Agree l a b))
   answers_one solvers input a b (l, is_line, (outcome, answers, e)) (l', is_line', (outcome', answers', e')) =
-      by (line_one solvers l (behind_line input) outcome outcome' answers (subst (λ (k : Line). AnswersLine solvers k (behind_line input) outcome') (sym same) answers'))
+      by (line_one solvers l (behind_line input) outcome outcome' answers
+      (subst (λ (k : Line). AnswersLine solvers k (behind_line input) outcome') (sym same) answers'))
     where
       same : l ≡ l'
       same = is_line_one (first_line input) l l' is_line is_line'
 
-      printed_so : IsFault (printed outcome) ⊎ IsFault (printed outcome') ⊎ Agree solvers l (printed outcome) (printed outcome') → IsFault a ⊎ IsFault b ⊎ Agree solvers l a b
-      printed_so alike = subst (λ (r : Reply). IsFault r ⊎ IsFault b ⊎ Agree solvers l r b) (sym e) (subst (λ (r : Reply). IsFault (printed outcome) ⊎ IsFault r ⊎ Agree solvers l (printed outcome) r) (sym e') alike)
+      printed_so : IsFault (printed outcome) ⊎ IsFault (printed outcome') ⊎
+          Agree l (printed outcome) (printed outcome') → IsFault a ⊎ IsFault b ⊎ Agree l a b
+      printed_so alike =
+          subst (λ (r : Reply). IsFault r ⊎ IsFault b ⊎ Agree l r b) (sym e)
+          (subst (λ (r : Reply). IsFault (printed outcome) ⊎ IsFault r ⊎ Agree l (printed outcome) r) (sym e') alike)
 
-      by : (outcome ≡ outcome') ⊎ (IsOpen l (behind_line input) × Alike (Agree solvers l) outcome outcome') → (a ≡ b) ⊎ ((k : Line) × IsLine (first_line input) k × IsOpen k (behind_line input) × (IsFault a ⊎ IsFault b ⊎ Agree solvers k a b))
+      by : (outcome ≡ outcome') ⊎ (IsOpen l (behind_line input) × Alike (Agree l) outcome outcome') →
+          (a ≡ b) ⊎ ((k : Line) × IsLine (first_line input) k × IsOpen k (behind_line input) ×
+          (IsFault a ⊎ IsFault b ⊎ Agree k a b))
       by (inl one) = inl (e ∙ ap printed one ∙ sym e')
       by (inr (choice, alike)) = inr (l, is_line, choice, printed_so alike)
 

@@ -1,11 +1,13 @@
 -- A text is cut at its marks in one way.
-use Rattle.std.proofs.Common.{◌≡◌, ◌∙◌, ◌+◌, ℕ, true, false, List, [], ◌∷◌, take, drop, Ok, Err, sym, ap, ap₂, subst, inl, inr}
+use Rattle.std.proofs.Common.{◌≡◌, ◌∙◌, ◌+◌, ℕ, true, false, List, [], ◌∷◌, take, drop, Ok, Err, sym, ap, ap₂, subst}
+use Rattle.std.proofs.Common.{inl, inr}
 use Rattle.std.proofs.lemmas.Bool.{cases_order}
 use Rattle.ps_program.specs.Cut.{AreTexts, Cuts, HasFewerMarks, HasNoMark}
 use Rattle.ps_program.specs.Texts.{CutsInTwo, CutsInThree}
 use Rattle.ps_program.proofs.OneStep.{IsOne, ok_of, err_of}
 
-marks_one : (input first rest first' rest' : List ℕ) (a : Cuts input first rest) (b : Cuts input first' rest') → a.mark ≡ b.mark
+marks_one : (input first rest first' rest' : List ℕ) (a : Cuts input first rest) (b : Cuts input first' rest') →
+    a.mark ≡ b.mark
 marks_one input first rest first' rest' a b = elim (cases_order a.mark b.mark) [
   | inl equal ↦ equal
   | inr (inl below) ↦ let bad : true ≡ false = sym a.stands ∙ b.none_before a.mark below in cc
@@ -28,13 +30,16 @@ cut_one texts (Err l) (Ok q) (inr (first, rest, cuts, none), e) h = absurd none
 cut_one texts (Err l) (Err m) h k = ap (err_of {V = List ℕ × List ℕ}) (h.1 ∙ sym k.1)
 
 firsts_one : (input first rest first' rest' : List ℕ) → Cuts input first rest → Cuts input first' rest' → first ≡ first'
-firsts_one input first rest first' rest' a b = a.before ∙ ap (λ (n : ℕ). take n input) (marks_one input first rest first' rest' a b) ∙ sym b.before
+firsts_one input first rest first' rest' a b =
+    a.before ∙ ap (λ (n : ℕ). take n input) (marks_one input first rest first' rest' a b) ∙ sym b.before
 
 rests_one : (input first rest first' rest' : List ℕ) → Cuts input first rest → Cuts input first' rest' → rest ≡ rest'
-rests_one input first rest first' rest' a b = a.behind ∙ ap (λ (n : ℕ). drop (n + 3) input) (marks_one input first rest first' rest' a b) ∙ sym b.behind
+rests_one input first rest first' rest' a b =
+    a.behind ∙ ap (λ (n : ℕ). drop (n + 3) input) (marks_one input first rest first' rest' a b) ∙ sym b.behind
 
 -- two marks, and fewer
-two_marks : (texts first second third : List ℕ) → AreTexts texts (first ∷ second ∷ third ∷ []) → HasFewerMarks 2 texts → ⊥
+two_marks : (texts first second third : List ℕ) → AreTexts texts (first ∷ second ∷ third ∷ []) →
+    HasFewerMarks 2 texts → ⊥
 two_marks texts first second third (rest, a, (rest', b, last)) (inl none) = no_cut texts first rest none a
 two_marks texts first second third (rest, a, (rest', b, last)) (inr (other, behind, cuts, inl none)) =
     let same : behind ≡ rest = rests_one texts other behind first rest cuts a in
@@ -48,7 +53,8 @@ cut_three_one texts (Ok p) (Ok q) (rest, a, (behind, b, last)) (rest', a', (behi
     let c : Cuts rest q.1 behind' = subst (λ (input : List ℕ). Cuts input q.1 behind') (sym rests) b' in
     let seconds : p.1 ≡ q.1 = firsts_one rest p.1 behind q.1 behind' b c in
     let thirds : p.2 ≡ q.2 = last ∙ rests_one rest p.1 behind q.1 behind' b c ∙ sym last' in
-    ap₂ (λ (first second : List ℕ). ok_of {V = List ℕ × List ℕ × List ℕ} {E = List ℕ} (first, second, p.2)) firsts seconds
+    ap₂ (λ (first second : List ℕ). ok_of {V = List ℕ × List ℕ × List ℕ} {E = List ℕ} (first, second, p.2)) firsts
+    seconds
     ∙ ap (λ (third : List ℕ). ok_of {V = List ℕ × List ℕ × List ℕ} {E = List ℕ} (q.0, q.1, third)) thirds
 cut_three_one texts (Ok p) (Err l) h (fewer, e) = absurd (two_marks texts p.0 p.1 p.2 h fewer)
 cut_three_one texts (Err l) (Ok q) (fewer, e) k = absurd (two_marks texts q.0 q.1 q.2 k fewer)

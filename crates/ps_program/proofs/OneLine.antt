@@ -12,7 +12,8 @@ no_help_command : (built table).top.disable_help_subcommand ≡ true
 unfolding table clap_on_literals
 no_help_command = refl
 
-none_among : (words : List Text) (kind : ErrorKind) → fault_of table words ≡ [] → IsAmong kind (fault_of table words) → ⊥
+none_among : (words : List Text) (kind : ErrorKind) → fault_of table words ≡ [] →
+    IsAmong kind (fault_of table words) → ⊥
 none_among words kind none among = subst (IsAmong kind) none among
 
 said_one : (words : List Text) → IsOne (Says words)

@@ -1,5 +1,6 @@
 -- An automaton, its game and the verdict of a lasso have one outcome at most, by laws; and which texts are refused.
-use Rattle.std.proofs.Common.{◌≡◌, ◌≢◌, ◌⊎◌, ◌∙◌, ◌<◌, ℕ, Bool, List, [], None, Some, length, Result, Ok, Err, sym, ap, inl, inr, arith}
+use Rattle.std.proofs.Common.{◌≡◌, ◌≢◌, ◌⊎◌, ◌∙◌, ◌<◌, ℕ, Bool, List, [], None, Some, length, Result, Ok, Err, sym, ap}
+use Rattle.std.proofs.Common.{inl, inr, arith}
 use Rattle.std.specs.Prelude.{Option}
 use Rattle.ps_text.specs.Answers.{Found}
 use Rattle.ps_game.specs.Games.{ParityGame, NamedGameData, IsGame}
@@ -47,22 +48,26 @@ abbrev pub OneGame : Type 0
 OneGame = (text : List ℕ) (a b : Result NamedGameData (Found PgCause)) → Answer text a → Answer text b → a ≡ b
 
 abbrev pub OneFlaw : Type 0
-OneFlaw = (arena : ParityGame) (given : CertificateData) (flaw other : Flaw) → IsGame arena → IsFirstFlaw arena given flaw → IsFirstFlaw arena given other → flaw ≡ other
+OneFlaw = (arena : ParityGame) (given : CertificateData) (flaw other : Flaw) → IsGame arena →
+    IsFirstFlaw arena given flaw → IsFirstFlaw arena given other → flaw ≡ other
 
 abbrev pub OneCircuit : Type 0
-OneCircuit = (text : List ℕ) (a b : Result CircuitData (Found AigCause)) → circuit_text.ReadsCircuit text a → circuit_text.ReadsCircuit text b → a ≡ b
+OneCircuit = (text : List ℕ) (a b : Result CircuitData (Found AigCause)) → circuit_text.ReadsCircuit text a →
+    circuit_text.ReadsCircuit text b → a ≡ b
 
 abbrev pub OneStimulus : Type 0
 OneStimulus = (text : List ℕ) (width : ℕ) (split : Bool) → stimulus_text.HasOneAnswer text width split
 
 abbrev pub OneRefusal : Type 0
-OneRefusal = (file : FileData) (fault other : AutomatonFault) → fault ≢ no_memory → other ≢ no_memory → IsRefused file fault → IsRefused file other → fault ≡ other
+OneRefusal = (file : FileData) (fault other : AutomatonFault) → fault ≢ no_memory → other ≢ no_memory →
+    IsRefused file fault → IsRefused file other → fault ≡ other
 
 abbrev pub OneOutcome : Type 0
 OneOutcome = (file : FileData) (fault : AutomatonFault) → fault ≢ no_memory → IsAdmitted file → ¬ IsRefused file fault
 
 abbrev pub OneVerdict : Type 0
-OneVerdict = (role : Role) (file : FileData) (c : CircuitData) (stem lap : List (List Bool)) → IsCircuit c → HasSymbols role file.names file.controllable c
+OneVerdict = (role : Role) (file : FileData) (c : CircuitData) (stem lap : List (List Bool)) → IsCircuit c →
+    HasSymbols role file.names file.controllable c
     → HasOneVerdict file c stem lap
 
 abbrev pub OneValues : Type 0
@@ -80,15 +85,20 @@ is_told fault line told none = let bad : None ≡ Some line = ap automaton_line 
 
 builds_one : OneRefusal → OneOutcome → (file : FileData) → IsOne (Builds file)
 builds_one refusals outcomes file (Ok a) (Ok b) h k = ap (ok_of {V = FileData} {E = List ℕ}) (h.1 ∙ sym k.1)
-builds_one refusals outcomes file (Ok a) (Err m) h (fault, bad, told) = absurd (outcomes file fault (is_told fault m told) h.0 bad)
-builds_one refusals outcomes file (Err l) (Ok b) (fault, bad, told) k = absurd (outcomes file fault (is_told fault l told) k.0 bad)
+builds_one refusals outcomes file (Ok a) (Err m) h (fault, bad, told) =
+    absurd (outcomes file fault (is_told fault m told) h.0 bad)
+builds_one refusals outcomes file (Err l) (Ok b) (fault, bad, told) k =
+    absurd (outcomes file fault (is_told fault l told) k.0 bad)
 builds_one refusals outcomes file (Err l) (Err m) (fault, bad, told) (fault', bad', told') =
-    let same : Some l ≡ Some m = sym told ∙ ap automaton_line (refusals file fault fault' (is_told fault l told) (is_told fault' m told') bad bad') ∙ told' in
+    let same : Some l ≡ Some m =
+    sym told ∙ ap automaton_line (refusals file fault fault' (is_told fault l told) (is_told fault' m told') bad
+    bad') ∙ told' in
     ap (err_of {V = FileData}) (ap (some_or l) same)
 
 pub automaton_one : OneFile → OneRefusal → OneOutcome → (text : List ℕ) → IsOne (ReadsAutomaton text)
 automaton_one files refusals outcomes text =
-    then_one _ _ (reading_one hoa.cause_number hoa_names.cause_name (hoa_text.ReadsFile text) (files text)) (builds_one refusals outcomes)
+    then_one _ _ (reading_one hoa.cause_number hoa_names.cause_name (hoa_text.ReadsFile text) (files text))
+    (builds_one refusals outcomes)
 
 -- ---- games of automata
 
@@ -103,7 +113,8 @@ makes_one games order file (Err l) (Err m) h k = absurd h
 no_empty_lap : (lap : List (List Bool)) → lap ≡ [] → 0 < length lap → ⊥
 no_empty_lap lap none some = omega (arith, some, ap length none)
 
-pub tells_one : OneVerdict → (role : Role) (file : FileData) (c : CircuitData) (s : StimulusData) → IsOne (TellsVerdict role file c s)
+pub tells_one : OneVerdict → (role : Role) (file : FileData) (c : CircuitData) (s : StimulusData) →
+    IsOne (TellsVerdict role file c s)
 tells_one verdicts role file c s (Ok r) (Ok t) h k =
     let same = verdicts role file c s.stem s.lap h.0 h.2 h.3.0 k.3.0 h.3.1 k.3.1 in
     ap (ok_of {V = Reply} {E = List ℕ}) (h.3.2 ∙ ap (λ (v : Verdict). line_reply (verdict_text v)) same ∙ sym k.3.2)
@@ -111,32 +122,43 @@ tells_one verdicts role file c s (Ok r) (Err m) h (inl empty) = absurd (no_empty
 tells_one verdicts role file c s (Ok r) (Err m) h (inr other) = absurd (other.1 h.2)
 tells_one verdicts role file c s (Err l) (Ok t) (inl empty) k = absurd (no_empty_lap s.lap empty.0 k.1)
 tells_one verdicts role file c s (Err l) (Ok t) (inr other) k = absurd (other.1 k.2)
-tells_one verdicts role file c s (Err l) (Err m) (inl empty) (inl empty') = ap (err_of {V = Reply}) (empty.1 ∙ sym empty'.1)
+tells_one verdicts role file c s (Err l) (Err m) (inl empty) (inl empty') =
+    ap (err_of {V = Reply}) (empty.1 ∙ sym empty'.1)
 tells_one verdicts role file c s (Err l) (Err m) (inl empty) (inr other') = absurd (no_empty_lap s.lap empty.0 other'.0)
 tells_one verdicts role file c s (Err l) (Err m) (inr other) (inl empty') = absurd (no_empty_lap s.lap empty'.0 other.0)
-tells_one verdicts role file c s (Err l) (Err m) (inr other) (inr other') = ap (err_of {V = Reply}) (other.2 ∙ sym other'.2)
+tells_one verdicts role file c s (Err l) (Err m) (inr other) (inr other') =
+    ap (err_of {V = Reply}) (other.2 ∙ sym other'.2)
 
 -- ---- texts that are refused
 
-pub game_accepted : (order : Order) (text : List ℕ) (v : NamedGameData) → ReadsGameOf order text (Ok v) → HasAutomaton text
+pub game_accepted : (order : Order) (text : List ℕ) (v : NamedGameData) → ReadsGameOf order text (Ok v) →
+    HasAutomaton text
 game_accepted order text v (inl (l, refused, e)) = absurd (ok_is_not_err v l e)
 game_accepted order text v (inr (file, inl (l, refused, e), made)) = absurd (ok_is_not_err file l e)
-game_accepted order text v (inr (file, inr (read, reads, (admitted, same)), made)) = (read, record { reads = reads; admitted = admitted })
+game_accepted order text v (inr (file, inr (read, reads, (admitted, same)), made)) =
+    (read, record { reads = reads; admitted = admitted })
 
 -- the text is refused by a line, which is the outcome, or it is accepted
 abbrev pub RefusedOr : List ℕ → Result Reply (List ℕ) → Type 0
 RefusedOr text outcome = ((line : List ℕ) × ReadsAutomaton text (Err line) × (outcome ≡ Err line)) ⊎ HasAutomaton text
 
-fault_refused : (solver : SolverData) (order : Order) (text line : List ℕ) (outcome : Result Reply (List ℕ)) (fault : SynthFault) → IsSynthFault (answers_now solver) order text fault → stage_line fault ≡ Some line → outcome ≡ Err line
+fault_refused : (solver : SolverData) (order : Order) (text line : List ℕ) (outcome : Result Reply (List ℕ))
+    (fault : SynthFault) → IsSynthFault (answers_now solver) order text fault → stage_line fault ≡ Some line →
+    outcome ≡ Err line
     → RefusedOr text outcome
-fault_refused solver order text line outcome (stage.Text cause offset) h told e = inl (line, text_refused text (stage.Text cause offset) line h told, e)
-fault_refused solver order text line outcome (stage.Automaton fault) h told e = inl (line, text_refused text (stage.Automaton fault) line h told, e)
+fault_refused solver order text line outcome (stage.Text cause offset) h told e =
+    inl (line, text_refused text (stage.Text cause offset) line h told, e)
+fault_refused solver order text line outcome (stage.Automaton fault) h told e =
+    inl (line, text_refused text (stage.Automaton fault) line h told, e)
 fault_refused solver order text line outcome (stage.BadCycle ids) h told e = inr (h.file, h.accepted)
 fault_refused solver order text line outcome (stage.Certificate cause offset) h told e = inr (h.file, h.accepted)
 fault_refused solver order text line outcome stage.NotCertified h told e = inr (h.file, h.accepted)
 fault_refused solver order text line outcome stage.CircuitTooLarge h told e = inr (h.file, h.accepted)
 fault_refused solver order text line outcome stage.OutOfMemory h told e = absurd (no_line told)
 
-pub report_refused : (solver : SolverData) (asked : SynthLine) (text : List ℕ) (outcome : Result Reply (List ℕ)) → AnswersReport solver asked text outcome → RefusedOr text outcome
-report_refused solver asked text outcome (inl (line, (fault, cause, lies, told), e)) = fault_refused solver asked.order text line outcome fault cause told e
-report_refused solver asked text outcome (inr (report, is_report, e)) = inr (is_report.promise.file, is_report.promise.accepted)
+pub report_refused : (solver : SolverData) (asked : SynthLine) (text : List ℕ) (outcome : Result Reply (List ℕ)) →
+    AnswersReport solver asked text outcome → RefusedOr text outcome
+report_refused solver asked text outcome (inl (line, (fault, cause, lies, told), e)) =
+    fault_refused solver asked.order text line outcome fault cause told e
+report_refused solver asked text outcome (inr (report, is_report, e)) =
+    inr (is_report.promise.file, is_report.promise.accepted)

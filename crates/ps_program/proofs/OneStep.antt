@@ -1,5 +1,6 @@
 -- A step has one outcome at most, where what it reads has, and what comes next.
-use Rattle.std.proofs.Common.{◌≡◌, ◌⊎◌, ◌∙◌, ℕ, Bool, true, false, List, Result, Ok, Err, refl, sym, ap, subst, inl, inr}
+use Rattle.std.proofs.Common.{◌≡◌, ◌⊎◌, ◌∙◌, ℕ, Bool, true, false, List, Result, Ok, Err, refl, sym, ap, subst, inl}
+use Rattle.std.proofs.Common.{inr}
 use Rattle.ps_text.specs.Answers.{Found}
 use Rattle.ps_program.specs.Faults.{text_line}
 use Rattle.ps_program.specs.Outcomes.{Then, Reading}
@@ -31,7 +32,8 @@ err_or other (Err e) = e
 
 -- ---- steps
 
-pub then_one : {V W : Type 0} (step : Result V (List ℕ) → Type 0) (next : V → Result W (List ℕ) → Type 0) → IsOne step → ((v : V) → IsOne (next v))
+pub then_one : {V W : Type 0} (step : Result V (List ℕ) → Type 0) (next : V → Result W (List ℕ) → Type 0) → IsOne step →
+    ((v : V) → IsOne (next v))
     → IsOne (Then step next)
 then_one {V} {W} step next one more x y (inl (l, s, e)) (inl (m, t, f)) =
     let same : l ≡ m = ap (err_or l) (one (Err l) (Err m) s t) in e ∙ ap (err_of {V = W}) same ∙ sym f
@@ -42,13 +44,16 @@ then_one {V} {W} step next one more x y (inr (v, s, n)) (inr (w, t, m)) =
     more v x y n (subst (λ (u : V). next u y) (sym same) m)
 
 -- the same, where what comes next may be open
-pub then_one_or : {V W : Type 0} (step : Result V (List ℕ) → Type 0) (next : V → Result W (List ℕ) → Type 0) (Open : V → Type 0) → IsOne step
+pub then_one_or : {V W : Type 0} (step : Result V (List ℕ) → Type 0) (next : V → Result W (List ℕ) → Type 0)
+    (Open : V → Type 0) → IsOne step
     → (x y : Result W (List ℕ)) → ((v : V) → next v x → next v y → (x ≡ y) ⊎ Open v)
     → Then step next x → Then step next y → (x ≡ y) ⊎ ((v : V) × step (Ok v) × Open v)
 then_one_or {V} {W} step next Open one x y more (inl (l, s, e)) (inl (m, t, f)) =
     let same : l ≡ m = ap (err_or l) (one (Err l) (Err m) s t) in inl (e ∙ ap (err_of {V = W}) same ∙ sym f)
-then_one_or step next Open one x y more (inl (l, s, e)) (inr (v, t, n)) = absurd (ok_is_not_err v l (one (Ok v) (Err l) t s))
-then_one_or step next Open one x y more (inr (v, s, n)) (inl (l, t, e)) = absurd (ok_is_not_err v l (one (Ok v) (Err l) s t))
+then_one_or step next Open one x y more (inl (l, s, e)) (inr (v, t, n)) =
+    absurd (ok_is_not_err v l (one (Ok v) (Err l) t s))
+then_one_or step next Open one x y more (inr (v, s, n)) (inl (l, t, e)) =
+    absurd (ok_is_not_err v l (one (Ok v) (Err l) s t))
 then_one_or {V} {W} step next Open one x y more (inr (v, s, n)) (inr (w, t, m)) =
     let same : v ≡ w = ap (ok_or v) (one (Ok v) (Ok w) s t) in
     by (more v n (subst (λ (u : V). next u y) (sym same) m))
@@ -67,7 +72,8 @@ module _ {V C : Type 0} (number : C → ℕ) (name : C → List ℕ) (reads : Re
   lined (Ok v) = Ok v
   lined (Err found) = Err (text_line (number found.cause) (name found.cause) found.offset)
 
-  as_read : (outcome : Result V (List ℕ)) → Reading number name reads outcome → (answer : Result V (Found C)) × reads answer × (outcome ≡ lined answer)
+  as_read : (outcome : Result V (List ℕ)) → Reading number name reads outcome →
+      (answer : Result V (Found C)) × reads answer × (outcome ≡ lined answer)
   as_read (Ok v) h = (Ok v, h, refl)
   as_read (Err l) (found, h, e) = (Err found, h, ap (err_of {V = V}) e)
 

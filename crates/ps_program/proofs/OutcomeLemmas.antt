@@ -15,46 +15,58 @@ use Rattle.ps_program.specs.Replies.{Reply, reply_of}
 
 -- what is printed for an outcome that the command may give
 settles_gives : (step : Result Reply (List ℕ) → Type 0) (outcome : Result Answer Refusal) (answer : Answer)
-    → Gives reply_of step outcome → Settles outcome answer → (told : Result Reply (List ℕ)) × step told × (reply_of answer ≡ printed told)
+    → Gives reply_of step outcome → Settles outcome answer → (told : Result Reply (List ℕ)) × step told ×
+    (reply_of answer ≡ printed told)
 settles_gives step (Ok given) answer h same = (Ok (reply_of given), h, same)
 settles_gives step (Err (refusal.Fault fault)) answer h same = (Err (fault_text fault), h, same)
 settles_gives step (Err refusal.OutOfMemory) answer h same = absurd same
 
 -- the same, of what settling gives
-pub settled : {E : Type 0} (step : Result Reply (List ℕ) → Type 0) (outcome : Result Answer Refusal) (result : Result Answer E) (P : Answer → Type 0)
-    → Gives reply_of step outcome → IfOk result (Settles outcome) → ((answer : Answer) (told : Result Reply (List ℕ)) → step told → reply_of answer ≡ printed told → P answer) → IfOk result P
-settled step outcome (Ok answer) P gives settles from = let told = settles_gives step outcome answer gives settles in from answer told.0 told.1 told.2
+pub settled : {E : Type 0} (step : Result Reply (List ℕ) → Type 0) (outcome : Result Answer Refusal)
+    (result : Result Answer E) (P : Answer → Type 0)
+    → Gives reply_of step outcome → IfOk result (Settles outcome) →
+    ((answer : Answer) (told : Result Reply (List ℕ)) → step told → reply_of answer ≡ printed told → P answer) →
+    IfOk result P
+settled step outcome (Ok answer) P gives settles from =
+    let told = settles_gives step outcome answer gives settles in from answer told.0 told.1 told.2
 settled step outcome (Err e) P gives settles from = tt
 
 -- a fault that is passed on
-pub gives_passed : {X V : Type 0} (view : X → V) (step : Result V (List ℕ) → Type 0) (outcome : Result X Refusal) (fault : Refusal)
+pub gives_passed : {X V : Type 0} (view : X → V) (step : Result V (List ℕ) → Type 0) (outcome : Result X Refusal)
+    (fault : Refusal)
     → IsErrAnd outcome (λ given. given ≡ fault) → Gives view step (Err fault) → Gives view step outcome
 gives_passed view step (Ok given) fault passed h = absurd passed
 gives_passed {X} view step (Err given) fault passed h =
     subst (λ (refusal : Refusal). Gives {X = X} view step (Err refusal)) (sym passed) h
 
 -- a fault that is handed on as another
-pub gives_handed : {X V : Type 0} (view : X → V) (step : Result V (List ℕ) → Type 0) (outcome : Result X Refusal) (P : Refusal → Type 0)
+pub gives_handed : {X V : Type 0} (view : X → V) (step : Result V (List ℕ) → Type 0) (outcome : Result X Refusal)
+    (P : Refusal → Type 0)
     → IsErrAnd outcome P → ((fault : Refusal) → P fault → Gives {X = X} view step (Err fault)) → Gives view step outcome
 gives_handed view step (Ok given) P handed from = absurd handed
 gives_handed view step (Err given) P handed from = from given handed
 
 -- what is refused by a reader is refused by its line
-pub gives_fault : {C X V : Type 0} (number : C → ℕ) (name : C → List ℕ) (reads : Result V (Found C) → Type 0) (view : X → V) (given : Fault C) (refused : Refusal)
-    → UnlessMemory reads (Err given) → IsRefusalOf number name given refused → Gives view (Reading number name reads) (Err refused)
-gives_fault number name reads view (fault.Text cause offset) (refusal.Fault line) answer same = (record { cause = cause; offset = offset }, answer, same)
+pub gives_fault : {C X V : Type 0} (number : C → ℕ) (name : C → List ℕ) (reads : Result V (Found C) → Type 0)
+    (view : X → V) (given : Fault C) (refused : Refusal)
+    → UnlessMemory reads (Err given) → IsRefusalOf number name given refused →
+    Gives view (Reading number name reads) (Err refused)
+gives_fault number name reads view (fault.Text cause offset) (refusal.Fault line) answer same =
+    (record { cause = cause; offset = offset }, answer, same)
 gives_fault number name reads view (fault.Text cause offset) refusal.OutOfMemory answer same = absurd same
 gives_fault number name reads view fault.OutOfMemory (refusal.Fault line) answer same = absurd same
 gives_fault number name reads view fault.OutOfMemory refusal.OutOfMemory answer same = tt
 
 -- a step that fails, whatever would come next
-pub gives_failed : {X V Y W : Type 0} (view : X → V) (step : Result V (List ℕ) → Type 0) (after : Y → W) (next : V → Result W (List ℕ) → Type 0) (refused : Refusal)
+pub gives_failed : {X V Y W : Type 0} (view : X → V) (step : Result V (List ℕ) → Type 0) (after : Y → W)
+    (next : V → Result W (List ℕ) → Type 0) (refused : Refusal)
     → Gives {X = X} view step (Err refused) → Gives {X = Y} after (Then step next) (Err refused)
 gives_failed view step after next (refusal.Fault fault) h = inl (fault_text fault, h, refl)
 gives_failed view step after next refusal.OutOfMemory h = tt
 
 -- a step that succeeds, and what is given behind it
-pub gives_after : {V Y W : Type 0} (step : Result V (List ℕ) → Type 0) (after : Y → W) (next : V → Result W (List ℕ) → Type 0) (value : V) (outcome : Result Y Refusal)
+pub gives_after : {V Y W : Type 0} (step : Result V (List ℕ) → Type 0) (after : Y → W)
+    (next : V → Result W (List ℕ) → Type 0) (value : V) (outcome : Result Y Refusal)
     → step (Ok value) → Gives after (next value) outcome → Gives after (Then step next) outcome
 gives_after step after next value (Ok given) was h = inr (value, was, h)
 gives_after step after next value (Err (refusal.Fault fault)) was h = inr (value, was, h)

@@ -19,8 +19,14 @@ unsure false never = refl
 unsure true never = absurd (never refl)
 
 -- what is answered in the place of a certificate
-pub certifies_refused : (solver : SolverData) (named : NamedGameData) (fault : SynthFault) (refused : Refusal) → IsSolverFault (answers_now solver) named fault → (solver.is_sure ≡ true → fault ≡ OutOfMemory)
+pub certifies_refused : (solver : SolverData) (named : NamedGameData) (fault : SynthFault) (refused : Refusal) →
+    IsSolverFault (answers_now solver) named fault → (solver.is_sure ≡ true → fault ≡ OutOfMemory)
     → IsTold fault refused → Gives (λ (c : CertificateData). c) (Certifies solver named) (Err refused)
-certifies_refused solver named fault (refusal.Fault line) cause surely told =
-    (fault, cause, unsure solver.is_sure (λ t. no_line {line = fault_text line} (sym (ap stage_line (surely t)) ∙ told)), told)
+certifies_refused solver named fault (refusal.Fault line) cause surely told = (
+  fault,
+  cause,
+  unsure solver.is_sure (λ t. no_line {line = fault_text line}
+      (sym (ap stage_line (surely t)) ∙ told)),
+  told,
+)
 certifies_refused solver named fault refusal.OutOfMemory cause surely told = tt

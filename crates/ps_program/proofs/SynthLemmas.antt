@@ -23,17 +23,24 @@ use Rattle.ps_program.specs.Synthesis.{AnswersReport, Synthesises}
 use Rattle.ps_program.proofs.SolverLemmas.{unsure}
 
 -- a fault that lies with a solver is no sure solver's
-pub unsure_of : (May : MayAnswer) (order : Order) (compact : Bool) (text : List ℕ) (sure : Bool) (fault : SynthFault) → IsSynthFault May order text fault
-    → (sure ≡ true → (file : FileData) → IsAcceptedText text file → IsOutcome May order compact text (Err fault)) → IsOfSolver fault → sure ≡ false
-unsure_of May order compact text sure (BadCycle ids) cause surely lies = unsure sure (λ t. sure_in May order compact text (Err (BadCycle ids)) (surely t cause.file cause.accepted))
-unsure_of May order compact text sure (Certificate c offset) cause surely lies = unsure sure (λ t. sure_in May order compact text (Err (Certificate c offset)) (surely t cause.file cause.accepted))
-unsure_of May order compact text sure NotCertified cause surely lies = unsure sure (λ t. sure_in May order compact text (Err NotCertified) (surely t cause.file cause.accepted))
+pub unsure_of : (May : MayAnswer) (order : Order) (compact : Bool) (text : List ℕ) (sure : Bool) (fault : SynthFault) →
+    IsSynthFault May order text fault
+    → (sure ≡ true → (file : FileData) → IsAcceptedText text file → IsOutcome May order compact text (Err fault)) →
+    IsOfSolver fault → sure ≡ false
+unsure_of May order compact text sure (BadCycle ids) cause surely lies =
+    unsure sure (λ t. sure_in May order compact text (Err (BadCycle ids)) (surely t cause.file cause.accepted))
+unsure_of May order compact text sure (Certificate c offset) cause surely lies =
+    unsure sure (λ t. sure_in May order compact text (Err (Certificate c offset)) (surely t cause.file cause.accepted))
+unsure_of May order compact text sure NotCertified cause surely lies =
+    unsure sure (λ t. sure_in May order compact text (Err NotCertified) (surely t cause.file cause.accepted))
 unsure_of May order compact text sure _ cause surely lies = absurd lies
 
 -- what is answered where there is no report
-pub gives_told : (solver : SolverData) (order : Order) (compact : Bool) (text : List ℕ) (fault : SynthFault) (refused : Refusal)
+pub gives_told : (solver : SolverData) (order : Order) (compact : Bool) (text : List ℕ) (fault : SynthFault)
+    (refused : Refusal)
     → IsSynthFault (answers_now solver) order text fault
-    → (solver.is_sure ≡ true → (file : FileData) → IsAcceptedText text file → IsOutcome (answers_now solver) order compact text (Err fault))
+    → (solver.is_sure ≡ true → (file : FileData) → IsAcceptedText text file →
+    IsOutcome (answers_now solver) order compact text (Err fault))
     → IsTold fault refused → Gives (λ (report : Report). report) (Synthesises solver order compact text) (Err refused)
 gives_told solver order compact text fault (refusal.Fault line) cause surely told =
     (fault, cause, unsure_of (answers_now solver) order compact text solver.is_sure fault cause surely, told)
@@ -41,27 +48,35 @@ gives_told solver order compact text fault refusal.OutOfMemory cause surely told
 
 -- ---- a solver that was fed
 
-module _ (sure sure' : Bool) (held held' : Option (List ℕ)) (may may' : Option (List ℕ) → MayAnswer) (steady : sure' ≡ sure) (fed : held' ≡ held) (same : (text : Option (List ℕ)) → AnswersMore (may' text) (may text)) where
-  synthesises_fed : (order : Order) (compact : Bool) (text : List ℕ) (outcome : Result Report (List ℕ))
-      → Synthesises (solver_of sure' held' may') order compact text outcome → Synthesises (solver_of sure held may) order compact text outcome
-  synthesises_fed order compact text (Ok report) h =
-      report_more (may' held) (may held) (same held) order text compact report
-      (subst (λ (fed : Option (List ℕ)). IsReport (may' fed) order compact text report) fed h)
-  synthesises_fed order compact text (Err line) (fault, cause, lies, told) = (
-    fault,
-    fault_more (may' held) (may held) (same held) order text fault (subst (λ (fed : Option (List ℕ)). IsSynthFault (may' fed) order text fault) fed cause),
-    (λ h. sym steady ∙ lies h),
-    told,
-  )
+module _ (sure sure' : Bool) (held held' : Option (List ℕ)) (may may' : Option (List ℕ) → MayAnswer)
+    (steady : sure' ≡ sure) (fed : held' ≡ held) (same : (text : Option (List ℕ)) → AnswersMore (may' text) (may text))
+  where
+    synthesises_fed : (order : Order) (compact : Bool) (text : List ℕ) (outcome : Result Report (List ℕ))
+        → Synthesises (solver_of sure' held' may') order compact text outcome →
+        Synthesises (solver_of sure held may) order compact text outcome
+    synthesises_fed order compact text (Ok report) h =
+        report_more (may' held) (may held) (same held) order text compact report
+        (subst (λ (fed : Option (List ℕ)). IsReport (may' fed) order compact text report) fed h)
+    synthesises_fed order compact text (Err line) (fault, cause, lies, told) = (
+      fault,
+      fault_more (may' held) (may held) (same held) order text fault
+          (subst (λ (fed : Option (List ℕ)). IsSynthFault (may' fed) order text fault) fed cause),
+      (λ h. sym steady ∙ lies h),
+      told,
+    )
 
-  answers_fed : (asked : SynthLine) (text : List ℕ) (outcome : Result Reply (List ℕ))
-      → AnswersReport (solver_of sure' held' may') asked text outcome → AnswersReport (solver_of sure held may) asked text outcome
-  answers_fed asked text outcome (inl (line, h, e)) = inl (line, synthesises_fed asked.order asked.compact text (Err line) h, e)
-  answers_fed asked text outcome (inr (report, h, e)) = inr (report, synthesises_fed asked.order asked.compact text (Ok report) h, e)
+    answers_fed : (asked : SynthLine) (text : List ℕ) (outcome : Result Reply (List ℕ))
+        → AnswersReport (solver_of sure' held' may') asked text outcome →
+        AnswersReport (solver_of sure held may) asked text outcome
+    answers_fed asked text outcome (inl (line, h, e)) =
+        inl (line, synthesises_fed asked.order asked.compact text (Err line) h, e)
+    answers_fed asked text outcome (inr (report, h, e)) =
+        inr (report, synthesises_fed asked.order asked.compact text (Ok report) h, e)
 
-  -- what is given by the solver as it is now is given by the one that it was, once fed
-  pub gives_fed : (asked : SynthLine) (text : List ℕ) (result : Result Answer Refusal)
-      → Gives reply_of (AnswersReport (solver_of sure' held' may') asked text) result → Gives reply_of (AnswersReport (solver_of sure held may) asked text) result
-  gives_fed asked text (Ok answer) h = answers_fed asked text (Ok (reply_of answer)) h
-  gives_fed asked text (Err (refusal.Fault fault)) h = answers_fed asked text (Err (fault_text fault)) h
-  gives_fed asked text (Err refusal.OutOfMemory) h = h
+    -- what is given by the solver as it is now is given by the one that it was, once fed
+    pub gives_fed : (asked : SynthLine) (text : List ℕ) (result : Result Answer Refusal)
+        → Gives reply_of (AnswersReport (solver_of sure' held' may') asked text) result →
+        Gives reply_of (AnswersReport (solver_of sure held may) asked text) result
+    gives_fed asked text (Ok answer) h = answers_fed asked text (Ok (reply_of answer)) h
+    gives_fed asked text (Err (refusal.Fault fault)) h = answers_fed asked text (Err (fault_text fault)) h
+    gives_fed asked text (Err refusal.OutOfMemory) h = h

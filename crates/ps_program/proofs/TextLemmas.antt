@@ -31,13 +31,17 @@ both_view both = (both.0, both.1)
 
 -- the fault of a game text is the fault of both texts
 pub certified_game_fault : (texts first second : List ℕ) (fault : Refusal) → CutsInTwo texts (Ok (first, second))
-    → Gives {X = NamedGameData} (λ named. named) (ReadsGameText first) (Err fault) → Gives both_view (ReadsCertified texts) (Err fault)
-certified_game_fault texts first second (refusal.Fault fault) cuts h = inr ((first, second), cuts, inl (fault_text fault, h, refl))
+    → Gives {X = NamedGameData} (λ named. named) (ReadsGameText first) (Err fault) →
+    Gives both_view (ReadsCertified texts) (Err fault)
+certified_game_fault texts first second (refusal.Fault fault) cuts h =
+    inr ((first, second), cuts, inl (fault_text fault, h, refl))
 certified_game_fault texts first second refusal.OutOfMemory cuts h = tt
 
 -- so is the fault of a certificate text behind a game text
-pub certified_certificate_fault : (texts first second : List ℕ) (named : NamedGameData) (fault : Refusal) → CutsInTwo texts (Ok (first, second))
-    → ReadsGameText first (Ok named) → Gives {X = CertificateData} (λ given. given) (ReadsCertificateText named second) (Err fault)
+pub certified_certificate_fault : (texts first second : List ℕ) (named : NamedGameData) (fault : Refusal) →
+    CutsInTwo texts (Ok (first, second))
+    → ReadsGameText first (Ok named) → Gives {X = CertificateData} (λ given. given)
+    (ReadsCertificateText named second) (Err fault)
     → Gives both_view (ReadsCertified texts) (Err fault)
 certified_certificate_fault texts first second named (refusal.Fault fault) cuts reads h =
     inr ((first, second), cuts, inr (named, reads, inl (fault_text fault, h, refl)))

@@ -13,7 +13,8 @@ test_told word named (Ok done) = Ok (line_reply word)
 test_told word named (Err flaw) = Err (flaw_text named flaw)
 
 -- one word where the certificate is good, and else its first flaw in the game
-abbrev pub Tests : (ParityGame → CertificateData → Type 0) → List ℕ → NamedGameData → CertificateData → Result Reply (List ℕ) → Type 0
+abbrev pub Tests : (ParityGame → CertificateData → Type 0) → List ℕ → NamedGameData → CertificateData →
+    Result Reply (List ℕ) → Type 0
 Tests IsGood word named certificate (Ok reply) = IsGood named.game certificate × (reply ≡ line_reply word)
 Tests IsGood word named certificate (Err line) = IsGame named.game × ¬ (IsGood named.game certificate)
     × ((flaw : Flaw) × IsFirstFlaw named.game certificate flaw × (line ≡ flaw_text named flaw))

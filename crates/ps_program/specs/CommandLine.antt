@@ -1,9 +1,11 @@
 -- What the input's first line asks for.
-use Rattle.std.specs.Prelude.{◌≡◌, ◌≢◌, ◌<◌, ◌⊎◌, ◌==◌, ℕ, Bool, true, false, List, [], length, slice_index, Option, None, Some, codes, filter, not, IsUtf8, if◌then◌else◌, ◌∷◌, ◌++◌, map, flat_map}
+use Rattle.std.specs.Prelude.{◌≡◌, ◌≢◌, ◌<◌, ◌⊎◌, ◌==◌, ℕ, Bool, true, false, List, [], length, slice_index, Option}
+use Rattle.std.specs.Prelude.{None, Some, codes, filter, not, IsUtf8, if◌then◌else◌, ◌∷◌, ◌++◌, map, flat_map}
 use Rattle.std.specs.List.{slice_split, AllByRecursion}
 use Rattle.std.specs.Option.{option_map_or}
 use Rattle.std.specs.Str.{bytes_eq}
-use Rattle.clap.specs.Words.{App, Row, Rule, Shape, Text, app_of, first_of, new_app, new_rule, with_subcommand, subcommand_of, fault_of, IsAmong}
+use Rattle.clap.specs.Words.{App, Row, Rule, Shape, Text, app_of, first_of, new_app, new_rule, with_subcommand}
+use Rattle.clap.specs.Words.{subcommand_of, fault_of, IsAmong}
 use Rattle.clap.specs.Simple.{new_shape, on_top}
 use Rattle.clap.specs.declared.builder.action.ArgAction.TheVariants.{SetTrue}
 use Rattle.clap.specs.declared.builder.command.Command.{Command}
@@ -15,7 +17,8 @@ use Rattle.ps_machine.specs.declared.key.Order.TheVariants.{Mealy, Moore}
 use Rattle.ps_simulate.specs.declared.role.Role.{Role}
 use Rattle.ps_simulate.specs.declared.role.Role.TheVariants.{Controller, Environment}
 use Rattle.ps_program.specs.declared.command_line.Line.{Line}
-use Rattle.ps_program.specs.declared.command_line.Line.TheVariants.{Refused, Help, Closed, Check, Sim, Lasso, Solve, Game, Cert, Synth}
+use Rattle.ps_program.specs.declared.command_line.Line.TheVariants.{Refused, Help, Closed, Check, Sim, Lasso, Solve}
+use Rattle.ps_program.specs.declared.command_line.Line.TheVariants.{Game, Cert, Synth}
 use Rattle.ps_program.specs.declared.command_line.SynthLine.{SynthLine}
 
 -- what stands between runs of spaces
@@ -169,7 +172,11 @@ usages = record { name = codes "help"; flags = []; line = λ _. Help }
     ∷ record { name = codes "solve"; flags = codes "compact" ∷ []; line = solve_line }
     ∷ record { name = codes "game"; flags = codes "moore" ∷ []; line = game_line }
     ∷ record { name = codes "cert"; flags = codes "moore" ∷ codes "compact" ∷ []; line = cert_line }
-    ∷ record { name = codes "synth"; flags = codes "full" ∷ codes "cert" ∷ codes "moore" ∷ codes "compact" ∷ []; line = synth_line } ∷ []
+    ∷ record {
+      name = codes "synth";
+      flags = codes "full" ∷ codes "cert" ∷ codes "moore" ∷ codes "compact" ∷ [];
+      line = synth_line;
+    } ∷ []
 
 -- a word put at each place of a list
 abbrev pub insertions : Text → List Text → List (List Text)
@@ -191,9 +198,11 @@ AreRead words line = (fault_of table words ≡ []) × (line_said (subcommand_of 
 
 -- a command with different flags of its own, in any order, is read as that command
 abbrev pub LinesAreRead : Type 0
-LinesAreRead = AllByRecursion (λ usage. AllByRecursion (λ flags. AreRead (words_with usage.name flags) (usage.line flags))
+LinesAreRead =
+    AllByRecursion (λ usage. AllByRecursion (λ flags. AreRead (words_with usage.name flags) (usage.line flags))
     (arrangements usage.flags)) usages
 
 -- words that ask for help, and are nothing else
 abbrev pub AskForHelp : Type 0
-AskForHelp = (fault_of table (codes "--help" ∷ []) ≡ DisplayHelp ∷ []) × (fault_of table (codes "-h" ∷ []) ≡ DisplayHelp ∷ [])
+AskForHelp =
+    (fault_of table (codes "--help" ∷ []) ≡ DisplayHelp ∷ []) × (fault_of table (codes "-h" ∷ []) ≡ DisplayHelp ∷ [])

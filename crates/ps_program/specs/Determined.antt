@@ -1,9 +1,11 @@
 -- The program's answer is determined, but for the choice that a solver has; and of that, how much is decided.
 --     IsOpen line texts      more than one answer to the line may be right
 --     IsReplaying solver      the solver may answer only what reading the text that it was fed answers
---     AgreeAsReports solvers cert full a b      two reports: the same winner, and the same printed game and fed certificate
+--     AgreeAsReports full a b      two reports: the same winner, and the same printed game
 --     AgreeInWinners compact a b      two certificates of one game: each vertex has the same winner
 --     HasOneAnswer solvers      any two answers are one, or are such, or one is the line of a fault
+--     HasOneCertified solvers      by a certificate that is given `synth` has one answer, where it replays
+--               what it is fed
 use Rattle.std.specs.Prelude.{◌≡◌, ◌<◌, ◌⊎◌, ℕ, Bool, true, false, List, Option, Result, Ok}
 use Rattle.ps_certificate.specs.Certificates.{CertificateData, winner_of}
 use Rattle.ps_certificate.specs.Written.{text_in}
@@ -40,22 +42,17 @@ IsOpen (Synth asked) texts = (text : List ℕ) × AsksFor asked.cert texts text 
 IsOpen line texts = ⊥
 
 abbrev pub IsReplaying : SolverData → Type 0
-IsReplaying solver = (fed : Option (List ℕ)) (game : NamedGameData) (answer : Result CertificateData SolveFault) → solver.may_answer fed game answer → Replays game fed answer
-
--- the certificate that was fed is the one that is printed
-abbrev pub SameCertificate : (cert : Bool) → Solvers → Report → Report → Type 0
-SameCertificate false solvers one other = Unit {0}
-SameCertificate true solvers one other = IsReplaying solvers.replay → one.certificate_text.items ≡ other.certificate_text.items
+IsReplaying solver = (fed : Option (List ℕ)) (game : NamedGameData) (answer : Result CertificateData SolveFault) →
+    solver.may_answer fed game answer → Replays game fed answer
 
 -- two reports, as they are printed: who wins, and the game, are the same; so the status and the first line are
-pub record AgreeAsReports (solvers : Solvers) (cert full : Bool) (a b : Reply) : Type 0 where
+pub record AgreeAsReports (full : Bool) (a b : Reply) : Type 0 where
   pub one : Report
   pub other : Report
   pub is_one : a ≡ report_reply full one
   pub is_other : b ≡ report_reply full other
   pub winner : one.realizable ≡ other.realizable
   pub game : one.game_text.items ≡ other.game_text.items
-  pub certificate : SameCertificate cert solvers one other
 
 -- two certificates of a game, as they are printed: each vertex has the same winner
 pub record AgreeInWinners (compact : Bool) (a b : Reply) : Type 0 where
@@ -67,11 +64,11 @@ pub record AgreeInWinners (compact : Bool) (a b : Reply) : Type 0 where
   pub winners : IsGame game.game → (v : ℕ) → v < vertex_count game.game → winner_of one v ≡ winner_of other v
 
 -- what two answers to a line have in common, if neither is the line of a fault
-abbrev pub Agree : Solvers → Line → Reply → Reply → Type 0
-Agree solvers (Solve compact) a b = AgreeInWinners compact a b
-Agree solvers (Cert order compact) a b = AgreeInWinners compact a b
-Agree solvers (Synth asked) a b = AgreeAsReports solvers asked.cert asked.full a b
-Agree solvers line a b = a ≡ b
+abbrev pub Agree : Line → Reply → Reply → Type 0
+Agree (Solve compact) a b = AgreeInWinners compact a b
+Agree (Cert order compact) a b = AgreeInWinners compact a b
+Agree (Synth asked) a b = AgreeAsReports asked.full a b
+Agree line a b = a ≡ b
 
 abbrev pub IsFault : Reply → Type 0
 IsFault reply = (line : List ℕ) × (reply ≡ fault_reply line)
@@ -79,4 +76,11 @@ IsFault reply = (line : List ℕ) × (reply ≡ fault_reply line)
 -- any two answers to one input are one, unless its line is open; and then they agree, unless one is the line of a fault
 abbrev pub HasOneAnswer : Solvers → Type 0
 HasOneAnswer solvers = (input : List ℕ) (a b : Reply) → AnswersWhole solvers input a → AnswersWhole solvers input b
-    → (a ≡ b) ⊎ ((line : Line) × IsLine (first_line input) line × IsOpen line (behind_line input) × (IsFault a ⊎ IsFault b ⊎ Agree solvers line a b))
+    → (a ≡ b) ⊎ ((line : Line) × IsLine (first_line input) line × IsOpen line (behind_line input) ×
+    (IsFault a ⊎ IsFault b ⊎ Agree line a b))
+
+-- by a certificate that stands behind the text, and a solver that answers what reading it answers: the whole reply
+abbrev pub HasOneCertified : Solvers → Type 0
+HasOneCertified solvers = IsReplaying solvers.replay → (asked : SynthLine) → asked.cert ≡ true → (input : List ℕ) →
+    IsLine (first_line input) (Synth asked)
+    → (a b : Reply) → AnswersWhole solvers input a → AnswersWhole solvers input b → a ≡ b

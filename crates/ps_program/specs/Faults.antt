@@ -1,5 +1,5 @@
--- The lines that stand in the place of an answer where there is a fault: `fault`, its number, its name, and where it stands.
--- Number and name are said once, where the fault arises; the program's own is that of a text that is missing.
+-- The lines that stand in the place of an answer where there is a fault: `fault`, its number, its name, and where it
+-- stands. Number and name are said once, where the fault arises; the program's own is that of a text that is missing.
 use Rattle.std.specs.Prelude.{ℕ, List, [], ◌++◌, Option, Some, None, codes, decimal, flat_map}
 use Rattle.ps_program.specs.declared.fault.FaultLine.{FaultLine}
 use Rattle.ps_program.specs.declared.fault.Place.{Place}

@@ -18,23 +18,30 @@ use Rattle.ps_program.specs.Texts.{CutsInThree, ReadsCircuitText, ReadsStimulusT
 
 -- whether the lasso is accepted, and how long its stem and its lap are
 abbrev pub verdict_text : Verdict → List ℕ
-verdict_text v = (if v.accepted then codes "accepted" else codes "rejected") ++ codes " stem" ++ spaced v.stem ++ codes " lap" ++ spaced v.lap
+verdict_text v =
+    (if v.accepted then codes "accepted" else codes "rejected") ++ codes " stem" ++ spaced v.stem ++
+    codes " lap" ++ spaced v.lap
 
 -- the line of what is wrong with the lap or the symbols
 abbrev pub lasso_line : LassoFault → List ℕ
 lasso_line fault = line_text (fault_number fault) (fault_name fault) []
 
--- the verdict, where the lap has a letter and the symbols are those of the role, or else the first of these that is wrong
+-- the verdict, where the lap has a letter and the symbols are those of the role, or else the first of these that is
+-- wrong
 abbrev pub TellsVerdict : Role → FileData → CircuitData → StimulusData → Result Reply (List ℕ) → Type 0
-TellsVerdict role file c s (Ok reply) = IsCircuit c × (0 < length s.lap) × HasSymbols role file.names file.controllable c
+TellsVerdict role file c s (Ok reply) =
+    IsCircuit c × (0 < length s.lap) × HasSymbols role file.names file.controllable c
     × ((v : Verdict) × IsVerdictOf file c s.stem s.lap v × (reply ≡ line_reply (verdict_text v)))
 TellsVerdict role file c s (Err line) = ((s.lap ≡ []) × (line ≡ lasso_line EmptyLap))
     ⊎ ((0 < length s.lap) × ¬ HasSymbols role file.names file.controllable c × (line ≡ lasso_line Symbols))
 
 -- the circuit of a text in that role, on the stimulus of another text, which has a divider
 abbrev pub RunsCircuit : Role → FileData → List ℕ → List ℕ → Result Reply (List ℕ) → Type 0
-RunsCircuit role file text letters = Then (ReadsCircuitText text) (λ c. Then (ReadsStimulusText (length c.inputs) true letters) (TellsVerdict role file c))
+RunsCircuit role file text letters =
+    Then (ReadsCircuitText text) (λ c. Then (ReadsStimulusText (length c.inputs) true letters)
+    (TellsVerdict role file c))
 
 -- `lasso` of an automaton, a circuit of that role and a stimulus with a divider
 abbrev pub AnswersLasso : Role → List ℕ → Result Reply (List ℕ) → Type 0
-AnswersLasso role texts = Then (CutsInThree texts) (λ parts. Then (ReadsAutomaton parts.0) (λ file. RunsCircuit role file parts.1 parts.2))
+AnswersLasso role texts =
+    Then (CutsInThree texts) (λ parts. Then (ReadsAutomaton parts.0) (λ file. RunsCircuit role file parts.1 parts.2))

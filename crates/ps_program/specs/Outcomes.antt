@@ -8,12 +8,14 @@ use Rattle.ps_program.specs.Faults.{fault_text, text_line}
 use Rattle.ps_program.specs.Replies.{Reply, reply_of, fault_reply}
 
 -- a step, and then the next with its value; a fault of the step is the fault of both
-abbrev pub Then : {V W : Type 0} → (Result V (List ℕ) → Type 0) → (V → Result W (List ℕ) → Type 0) → Result W (List ℕ) → Type 0
+abbrev pub Then : {V W : Type 0} → (Result V (List ℕ) → Type 0) → (V → Result W (List ℕ) → Type 0) →
+    Result W (List ℕ) → Type 0
 Then {V} {W} step next outcome = ((line : List ℕ) × step (Err line) × (outcome ≡ Err line))
     ⊎ ((value : V) × step (Ok value) × next value outcome)
 
 -- a text as its reader answers it, with the line of a fault: the number and the name of its cause, and where it stands
-abbrev pub Reading : {V C : Type 0} → (C → ℕ) → (C → List ℕ) → (Result V (Found C) → Type 0) → Result V (List ℕ) → Type 0
+abbrev pub Reading : {V C : Type 0} → (C → ℕ) → (C → List ℕ) → (Result V (Found C) → Type 0) →
+    Result V (List ℕ) → Type 0
 Reading number name reads (Ok value) = reads (Ok value)
 Reading {V} {C} number name reads (Err line) =
     (found : Found C) × reads (Err found) × (line ≡ text_line (number found.cause) (name found.cause) found.offset)

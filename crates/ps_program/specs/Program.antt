@@ -2,7 +2,8 @@
 use Rattle.std.specs.Prelude.{◌≡◌, ◌≤◌, ◌<◌, ◌⊎◌, ℕ, Bool, true, false, List, length, Option, Result, Ok}
 use Rattle.std.specs.Io.KnownBytes.{Appends}
 use Rattle.ps_program.specs.declared.command_line.Line.{Line}
-use Rattle.ps_program.specs.declared.command_line.Line.TheVariants.{Refused, Help, Closed, Check, Sim, Lasso, Solve, Game, Cert, Synth}
+use Rattle.ps_program.specs.declared.command_line.Line.TheVariants.{Refused, Help, Closed, Check, Sim, Lasso, Solve}
+use Rattle.ps_program.specs.declared.command_line.Line.TheVariants.{Game, Cert, Synth}
 use Rattle.ps_program.specs.CommandLine.{IsLine}
 use Rattle.ps_program.specs.Checks.{AnswersClosed, AnswersCheck}
 use Rattle.ps_program.specs.Cut.{first_line, behind_line}
@@ -34,7 +35,8 @@ AnswersLine solvers (Synth asked) texts outcome = AnswersSynth solvers asked tex
 abbrev pub AnswersInput : Solvers → List ℕ → Reply → Type 0
 AnswersInput solvers input reply =
     (line : Line) × IsLine (first_line input) line
-    × ((outcome : Result Reply (List ℕ)) × AnswersLine solvers line (behind_line input) outcome × (reply ≡ printed outcome))
+    × ((outcome : Result Reply (List ℕ)) × AnswersLine solvers line (behind_line input) outcome ×
+    (reply ≡ printed outcome))
 
 -- the same, of an input that may be too long
 abbrev pub AnswersWhole : Solvers → List ℕ → Reply → Type 0

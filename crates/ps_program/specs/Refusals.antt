@@ -8,6 +8,7 @@ use Rattle.ps_program.specs.Faults.{fault_text, text_line}
 
 -- a cause is refused by the line of its number and its name, and want of memory as such
 abbrev pub IsRefusalOf : {C : Type 0} → (C → ℕ) → (C → List ℕ) → Fault C → Refusal → Type 0
-IsRefusalOf number name (fault.Text cause offset) (refusal.Fault line) = fault_text line ≡ text_line (number cause) (name cause) offset
+IsRefusalOf number name (fault.Text cause offset) (refusal.Fault line) =
+    fault_text line ≡ text_line (number cause) (name cause) offset
 IsRefusalOf number name fault.OutOfMemory refusal.OutOfMemory = ⊤
 IsRefusalOf number name given other = ⊥

@@ -27,14 +27,16 @@ AnswersSim texts = Then (ReadsSimulated texts) (λ both outcome. IsCircuit both.
 -- ---- while it runs
 
 -- the letters so far, their lines, and the latches behind them
-pub record HasPrinted (c : CircuitData) (letters : List (List Bool)) (text : List ℕ) (latches : List Bool) : Type 0 where
-  pub moments : List Moment
-  pub goes_on : GoesOn c (resets c) moments latches
-  pub inputs_are : map (λ m. m.inputs) moments ≡ letters
-  pub text_is : text ≡ flat_map moment_line moments
+pub record HasPrinted (c : CircuitData) (letters : List (List Bool)) (text : List ℕ) (latches : List Bool) : Type 0
+  where
+    pub moments : List Moment
+    pub goes_on : GoesOn c (resets c) moments latches
+    pub inputs_are : map (λ m. m.inputs) moments ≡ letters
+    pub text_is : text ≡ flat_map moment_line moments
 
 -- a letter was taken, and its line stands behind the text
 pub record PrintsStep (before after : Simulation) (inputs : List Bool) (text_before text_after : List ℕ) : Type 0 where
   pub outputs : List Bool
   pub steps : Steps before.circuit before.latches inputs outputs after.latches
-  pub text_is : text_after ≡ text_before ++ moment_line (record { latches = before.latches; inputs = inputs; outputs = outputs })
+  pub text_is : text_after ≡ text_before ++ moment_line (record
+      { latches = before.latches; inputs = inputs; outputs = outputs })

@@ -12,7 +12,8 @@ use Rattle.ps_program.specs.Solvers.{SolverData, answers_now}
 use Rattle.ps_program.specs.StageFaults.{stage_line}
 use Rattle.ps_program.specs.Texts.{ReadsGameText}
 
--- a certificate that the solver may answer, which fits the game and is valid; or the line of its fault, which a sure solver has not
+-- a certificate that the solver may answer, which fits the game and is valid; or the line of its fault, which a sure
+-- solver has not
 abbrev pub Certifies : SolverData → NamedGameData → Result CertificateData (List ℕ) → Type 0
 Certifies solver named (Ok certificate) = IsCertified named certificate × answers_now solver named (Ok certificate)
 Certifies solver named (Err line) = (fault : SynthFault) × IsSolverFault (answers_now solver) named fault
@@ -20,7 +21,8 @@ Certifies solver named (Err line) = (fault : SynthFault) × IsSolverFault (answe
 
 -- the text of such a certificate, with all counts or as a compact one
 abbrev pub AnswersGame : SolverData → Bool → NamedGameData → Result Reply (List ℕ) → Type 0
-AnswersGame solver compact named = Then (Certifies solver named) (λ certificate outcome. outcome ≡ Ok (text_reply (text_in compact named certificate)))
+AnswersGame solver compact named =
+    Then (Certifies solver named) (λ certificate outcome. outcome ≡ Ok (text_reply (text_in compact named certificate)))
 
 -- `solve`, and whether `--compact` is given
 abbrev pub AnswersSolve : SolverData → Bool → List ℕ → Result Reply (List ℕ) → Type 0

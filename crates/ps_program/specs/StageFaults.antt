@@ -7,7 +7,8 @@ use Rattle.ps_automaton.specs.declared.fault.AutomatonFault.{AutomatonFault}
 use Rattle.ps_automaton.specs.declared.fault.AutomatonFault.TheVariants as automaton
 use Rattle.ps_synthesis.specs.SynthFaultNames as synth_faults
 use Rattle.ps_synthesis.specs.declared.fault.SynthFault.{SynthFault}
-use Rattle.ps_synthesis.specs.declared.fault.SynthFault.TheVariants.{Text, Automaton, BadCycle, Certificate, NotCertified, CircuitTooLarge, OutOfMemory}
+use Rattle.ps_synthesis.specs.declared.fault.SynthFault.TheVariants.{Text, Automaton, BadCycle, Certificate}
+use Rattle.ps_synthesis.specs.declared.fault.SynthFault.TheVariants.{NotCertified, CircuitTooLarge, OutOfMemory}
 use Rattle.ps_program.specs.declared.answer.Refusal.{Refusal}
 use Rattle.ps_program.specs.declared.answer.Refusal.TheVariants as refusal
 use Rattle.ps_program.specs.Faults.{byte_text, edges_text, fault_text, ids_text, line_text}
@@ -33,7 +34,8 @@ line_at number name None = None
 line_at number name (Some place) = Some (line_text number name place)
 
 abbrev pub automaton_line : AutomatonFault → Option (List ℕ)
-automaton_line fault = line_at (automaton_faults.fault_number fault) (automaton_faults.fault_name fault) (automaton_place fault)
+automaton_line fault =
+    line_at (automaton_faults.fault_number fault) (automaton_faults.fault_name fault) (automaton_place fault)
 
 abbrev pub stage_line : SynthFault → Option (List ℕ)
 stage_line fault = line_at (synth_faults.fault_number fault) (synth_faults.fault_name fault) (stage_place fault)

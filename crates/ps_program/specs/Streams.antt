@@ -14,7 +14,8 @@ AppendsSome before after text = (sent : List ℕ) × StartsWith text sent × App
 
 -- a call failed, or a write took no bytes; not both, since nothing is written after either
 abbrev pub Breaks : (has_failed has_stalled : Bool) → Type 0
-Breaks has_failed has_stalled = ((has_failed ≡ true) × (has_stalled ≡ false)) ⊎ ((has_failed ≡ false) × (has_stalled ≡ true))
+Breaks has_failed has_stalled =
+    ((has_failed ≡ true) × (has_stalled ≡ false)) ⊎ ((has_failed ≡ false) × (has_stalled ≡ true))
 
 -- what a sink tells of itself
 pub record SinkState : Type 0 where

@@ -43,16 +43,20 @@ report_reply full report = record { text = report_text full report; status = ver
 -- a report, or the line of the fault for which there is none; no such fault lies with a solver that is sure
 abbrev pub Synthesises : SolverData → Order → Bool → List ℕ → Result Report (List ℕ) → Type 0
 Synthesises solver order compact text (Ok report) = IsReport (answers_now solver) order compact text report
-Synthesises solver order compact text (Err line) = (fault : SynthFault) × IsSynthFault (answers_now solver) order text fault
+Synthesises solver order compact text (Err line) =
+    (fault : SynthFault) × IsSynthFault (answers_now solver) order text fault
     × (IsOfSolver fault → solver.is_sure ≡ false) × (stage_line fault ≡ Some line)
 
 -- the circuit of an HOA text, by this solver
 abbrev pub AnswersReport : SolverData → SynthLine → List ℕ → Result Reply (List ℕ) → Type 0
-AnswersReport solver asked text = Then (Synthesises solver asked.order asked.compact text) (λ report outcome. outcome ≡ Ok (report_reply asked.full report))
+AnswersReport solver asked text =
+    Then (Synthesises solver asked.order asked.compact text) (λ report outcome.
+    outcome ≡ Ok (report_reply asked.full report))
 
 -- the same, by this solver once it was fed the certificate that stands behind the text
 abbrev pub AnswersCertified : SolverData → SynthLine → List ℕ → Result Reply (List ℕ) → Type 0
-AnswersCertified solver asked texts = Then (CutsInTwo texts) (λ parts. AnswersReport (feed parts.1 solver) asked parts.0)
+AnswersCertified solver asked texts =
+    Then (CutsInTwo texts) (λ parts. AnswersReport (feed parts.1 solver) asked parts.0)
 
 -- `synth`: by the second solver where a certificate is given, and else by the first
 abbrev pub AnswersBy : (cert : Bool) → Solvers → SynthLine → List ℕ → Result Reply (List ℕ) → Type 0

@@ -1,5 +1,6 @@
 -- The texts of the commands, as their readers answer them.
-use Rattle.std.specs.Prelude.{◌≡◌, ◌<◌, ℕ, Bool, false, IfSome, List, [], ◌∷◌, ◌++◌, codes, length, Result, Ok, Err, option_map, slice_index}
+use Rattle.std.specs.Prelude.{◌≡◌, ◌<◌, ℕ, Bool, false, IfSome, List, [], ◌∷◌, ◌++◌, codes, length, Result, Ok, Err}
+use Rattle.std.specs.Prelude.{option_map, slice_index}
 use Rattle.ps_game.specs.Games.{NamedGameData}
 use Rattle.ps_pgsolver.specs.Causes as game
 use Rattle.ps_pgsolver.specs.Reading.{Answer}
@@ -60,7 +61,8 @@ ReadsCircuitText text = Reading circuit.cause_number circuit_names.cause_name (c
 
 -- the text of a stimulus for so many inputs, with a divider or without
 abbrev pub ReadsStimulusText : ℕ → Bool → List ℕ → Result StimulusData (List ℕ) → Type 0
-ReadsStimulusText width split text = Reading stimulus.cause_number stimulus.cause_name (stimulus_text.ReadsStimulus text width split)
+ReadsStimulusText width split text =
+    Reading stimulus.cause_number stimulus.cause_name (stimulus_text.ReadsStimulus text width split)
 
 -- the text of a circuit, and that of a stimulus that is all stem
 abbrev pub ReadsSimulated : List ℕ → Result (CircuitData × StimulusData) (List ℕ) → Type 0

@@ -173,7 +173,8 @@ fn with_command<'a>(
     name: &'a str,
     flags: &[&'a str],
 ) -> Result<Command<'a>, AllocError>
-    ensures { IfOk result (λ command. app_of command ≡ with_subcommand (app_of psyn.entry) (words.command_with name.now (map (λ flag. flag.now) flags.now))) }
+    ensures { IfOk result (λ command. app_of command ≡ with_subcommand (app_of psyn.entry)
+        (words.command_with name.now (map (λ flag. flag.now) flags.now))) }
 {
     psyn.subcommand(command_with(alloc, name, flags)?)
 }

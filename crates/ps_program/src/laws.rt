@@ -1,6 +1,6 @@
 //! The law that the program's answer is determined, but for the choice of a solver.
 
-ghost use Rattle.ps_program.specs.Determined.{HasOneAnswer};
+ghost use Rattle.ps_program.specs.Determined.{HasOneAnswer, HasOneCertified};
 ghost use Rattle.ps_program.specs.Solvers.{solver_of, solvers_of};
 
 use ps_machine::Solver;
@@ -8,9 +8,13 @@ use ps_machine::Solver;
 /// An input has one answer at most, whatever the solvers, unless its line is `solve`, `cert` or `synth` and its text is
 /// accepted: whoever meets the definitions writes the same bytes and ends with the same status, or wants memory. There
 /// two answers that are no lines of faults have the same winners: `synth` the same status, first line and game, `solve`
-/// and `cert` the same regions.
+/// and `cert` the same regions. With `synth --cert` there is one answer too, to the last byte, where the second solver
+/// answers only what reading the certificate that it was fed answers.
 pub fn one_answer<S: Solver, T: Solver>(built_in: &S, replay: &T)
-    ensures { HasOneAnswer (solvers_of
+    ensures answer { HasOneAnswer (solvers_of
+        (solver_of (S.is_sure built_in.now) (S.fed built_in.now) (S.may_answer built_in.now))
+        (solver_of (T.is_sure replay.now) (T.fed replay.now) (T.may_answer replay.now))) }
+    ensures certified { HasOneCertified (solvers_of
         (solver_of (S.is_sure built_in.now) (S.fed built_in.now) (S.may_answer built_in.now))
         (solver_of (T.is_sure replay.now) (T.fed replay.now) (T.may_answer replay.now))) }
 {
@@ -22,6 +26,7 @@ pub fn one_answer<S: Solver, T: Solver>(built_in: &S, replay: &T)
     ps_hoa::one_answer();
     ps_automaton::refusal_is_one();
     ps_machine::one_game_of_file();
+    ps_synthesis::winners_circuit_is_one();
     ps_simulate::verdict_is_one();
     ps_simulate::circuit_has_one_values();
     ps_simulate::stimulus_text_has_one_answer();

@@ -7,7 +7,9 @@ ghost use Rattle.ps_game.specs.Games.{vertex_count};
 ghost use Rattle.ps_simulate.specs.Stimuli.{stem_of};
 ghost use Rattle.ps_program.specs.Faults.{fault_text};
 ghost use Rattle.ps_program.specs.Outcomes.{Gives};
-ghost use Rattle.ps_program.specs.Texts.{CutsInTwo, CutsInThree, ReadsGameText, ReadsCertificateText, ReadsCertified, ReadsCircuitText, ReadsStimulusText, ReadsSimulated, NamesVertices, flaw_text, missing_text};
+ghost use Rattle.ps_program.specs.Texts.{CutsInTwo, CutsInThree, ReadsGameText, ReadsCertificateText, ReadsCertified};
+ghost use Rattle.ps_program.specs.Texts.{ReadsCircuitText, ReadsStimulusText, ReadsSimulated, NamesVertices, flaw_text};
+ghost use Rattle.ps_program.specs.Texts.{missing_text};
 
 use crate::answer::Refusal;
 use crate::cut::cut;

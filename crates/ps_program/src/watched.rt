@@ -106,9 +106,11 @@ impl<R: Reader> Source for Watched<R> {
 
     fn read(&mut self, buf: &mut [u8]) -> io::Result<usize>
         ensures bound { ReadsAtMost result buf.new }
-        ensures bytes { ReadConsumes (R.remaining (watched_inner self.old)) (R.remaining (watched_inner self.new)) result buf.new }
+        ensures bytes { ReadConsumes (R.remaining (watched_inner self.old)) (R.remaining (watched_inner self.new))
+            result buf.new }
         ensures told { watched_failed self.new ≡ is_err result }
-        ensures call { R.read_gives (watched_inner self.old) buf.old (answered result) (watched_inner self.new) buf.new }
+        ensures call { R.read_gives (watched_inner self.old) buf.old (answered result)
+            (watched_inner self.new) buf.new }
     {
         let result = self.inner.read_once(buf);
         self.has_failed = result.is_err();
@@ -131,7 +133,8 @@ impl<W: Writer> Sink for Watched<W> {
 
     fn write(&mut self, buf: &[u8]) -> io::Result<usize>
         ensures bound { WritesAtMost result buf.now }
-        ensures bytes { WriteAppends (W.contents (watched_inner self.old)) (W.contents (watched_inner self.new)) result buf.now }
+        ensures bytes { WriteAppends (W.contents (watched_inner self.old)) (W.contents (watched_inner self.new))
+            result buf.now }
         ensures told { watched_failed self.new ≡ is_err result }
         ensures stalled { watched_stalled self.new ≡ stalls result buf.now }
         ensures unflushed { self.new.is_flushed ≡ false }

@@ -1,5 +1,6 @@
 -- Lists of bits that differ are no more than the numbers of as many bits.
-use Rattle.std.proofs.Common.{◌≡◌, ◌≢◌, ℕ, suc, ◌+◌, ◌*◌, ◌^◌, ◌<◌, ◌≤◌, Bool, true, false, List, [], ◌∷◌, length, get_or, map, refl, ap, sym, ◌∙◌, subst, arith}
+use Rattle.std.proofs.Common.{◌≡◌, ◌≢◌, ℕ, suc, ◌+◌, ◌*◌, ◌^◌, ◌<◌, ◌≤◌, Bool, true, false, List, [], ◌∷◌, length}
+use Rattle.std.proofs.Common.{get_or, map, refl, ap, sym, ◌∙◌, subst, arith}
 use Rattle.std.specs.Prelude.{◌||◌}
 use Rattle.std.proofs.Math.Nat.{pow-suc}
 use Rattle.std.proofs.Math.Dec.{eqb}
@@ -49,7 +50,8 @@ code_same (x ∷ xs) (y ∷ ys) l e =
     let rest : xs ≡ ys = code_same xs ys (omega arith) tails in
     ap (λ (z : Bool). z ∷ xs) same ∙ ap (λ (zs : List Bool). y ∷ zs) rest
 
-below : (n : ℕ) (xs : List ℕ) → ((k : ℕ) → k < length xs → get_or xs k 0 < n) → (q : ℕ) → list_any (eqb q) xs ≡ true → q < n
+below : (n : ℕ) (xs : List ℕ) → ((k : ℕ) → k < length xs → get_or xs k 0 < n) → (q : ℕ) →
+    list_any (eqb q) xs ≡ true → q < n
 below n [] all q e = absurd (cc)
 below n (x ∷ xs) all q e = go (eqb q x) refl e (λ h. below n xs (λ k lt. all (suc k) (omega arith)) q h)
   where
@@ -58,19 +60,24 @@ below n (x ∷ xs) all q e = go (eqb q x) refl e (λ h. below n xs (λ k lt. all
     go false d h rest = rest h
 
 -- different numbers below n are no more than n
-pub few_below : (n : ℕ) (xs : List ℕ) → ((k : ℕ) → k < length xs → get_or xs k 0 < n) → ((k l d : ℕ) → k < l → l < length xs → get_or xs k d ≢ get_or xs l d) → length xs ≤ n
+pub few_below : (n : ℕ) (xs : List ℕ) → ((k : ℕ) → k < length xs → get_or xs k 0 < n) →
+    ((k l d : ℕ) → k < l → l < length xs → get_or xs k d ≢ get_or xs l d) → length xs ≤ n
 few_below n xs all differ =
-    length-le_from_distinct_below xs n (IsDistinct-from_apart eqb xs (λ i j d lt within. ne_eqb (get_or xs i d) (get_or xs j d) (differ i j d lt within))) (below n xs all)
+    length-le_from_distinct_below xs n (IsDistinct-from_apart eqb xs
+    (λ i j d lt within. ne_eqb (get_or xs i d) (get_or xs j d) (differ i j d lt within))) (below n xs all)
 
 pub few_seen : (n : ℕ) (seen : List (List Bool)) → ((k : ℕ) → k < length seen → length (get_or seen k []) ≡ n)
     → ((k l : ℕ) → k < l → l < length seen → get_or seen k [] ≢ get_or seen l []) → length seen ≤ 2 ^ n
 few_seen n seen wide differ =
     let codes = map code seen in
     let size : length codes ≡ length seen = length-map seen code in
-    let at : (k : ℕ) → k < length seen → (d : ℕ) → get_or codes k d ≡ code (get_or seen k []) = λ k lt d. get_or-map code seen k [] d lt in
+    let at : (k : ℕ) → k < length seen → (d : ℕ) → get_or codes k d ≡ code (get_or seen k []) =
+    λ k lt d. get_or-map code seen k [] d lt in
     let apart : (i j d : ℕ) → i < j → j < length codes → eqb (get_or codes i d) (get_or codes j d) ≡ false =
     λ i j d lt within. ne_eqb (get_or codes i d) (get_or codes j d) (λ e. differ i j lt (omega arith)
-    (code_same (get_or seen i []) (get_or seen j []) (wide i (omega arith) ∙ sym (wide j (omega arith))) (sym (at i (omega arith) d) ∙ e ∙ at j (omega arith) d))) in
+    (code_same (get_or seen i []) (get_or seen j []) (wide i (omega arith) ∙ sym (wide j (omega arith)))
+    (sym (at i (omega arith) d) ∙ e ∙ at j (omega arith) d))) in
     let le : length codes ≤ 2 ^ n = length-le_from_distinct_below codes (2 ^ n) (IsDistinct-from_apart eqb codes apart)
-    (below (2 ^ n) codes (λ k lt. subst (λ m. m < 2 ^ n) (sym (at k (omega arith) 0)) (subst (λ m. code (get_or seen k []) < 2 ^ m) (wide k (omega arith)) (code_lt (get_or seen k []))))) in
+    (below (2 ^ n) codes (λ k lt. subst (λ m. m < 2 ^ n) (sym (at k (omega arith) 0))
+    (subst (λ m. code (get_or seen k []) < 2 ^ m) (wide k (omega arith)) (code_lt (get_or seen k []))))) in
     omega arith

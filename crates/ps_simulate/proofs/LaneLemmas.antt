@@ -1,5 +1,6 @@
 -- Lanes of words: each goes as the plain table goes.
-use Rattle.std.proofs.Common.{◌≡◌, ℕ, zero, suc, ◌+◌, ◌/◌, ◌%◌, ◌<◌, ◌&&◌, ◌==◌, Bool, true, false, not, cond, List, [], ◌∷◌, ◌++◌, map, take, drop, length, get_or, refl, sym, ap, ap₂, ◌∙◌, arith}
+use Rattle.std.proofs.Common.{◌≡◌, ℕ, zero, suc, ◌+◌, ◌/◌, ◌%◌, ◌<◌, ◌&&◌, ◌==◌, Bool, true, false, not, cond, List, []}
+use Rattle.std.proofs.Common.{◌∷◌, ◌++◌, map, take, drop, length, get_or, refl, sym, ap, ap₂, ◌∙◌, arith}
 use Rattle.std.specs.Prelude.{◌^◌, replicate, slice_set, slice_get, Some}
 use Rattle.std.specs.Option.{option_map}
 use Prim.Native.Nat.{min}
@@ -47,7 +48,8 @@ bit_in-and a b lane lt la lb =
     let i = lane % 64 in
     ap (λ n. bit_at n i == 1) (get_or-zip2 bit_and a b word 0 0 0 (omega (arith, la)) (omega (arith, lb)))
     ∙ ap (λ n. n == 1) (bit_at_and (get_or a word 0) (get_or b word 0) i)
-    ∙ both (bit_at (get_or a word 0) i) (bit_at (get_or b word 0) i) (bit_at-lt (get_or a word 0) i) (bit_at-lt (get_or b word 0) i)
+    ∙ both (bit_at (get_or a word 0) i) (bit_at (get_or b word 0) i) (bit_at-lt (get_or a word 0) i)
+    (bit_at-lt (get_or b word 0) i)
 
 pub bit_in-mask : (b : Bool) (lane : ℕ) → lane < 256 → bit_in (replicate 4 (all_or_none b)) lane ≡ b
 bit_in-mask b lane lt =
@@ -58,7 +60,8 @@ bit_in-mask b lane lt =
     one true = refl
     one false = refl
 
-pub take_more : {A : Type 0} (xs : List A) (k : ℕ) (d : A) → k < length xs → take (k + 1) xs ≡ take k xs ++ get_or xs k d ∷ []
+pub take_more : {A : Type 0} (xs : List A) (k : ℕ) (d : A) → k < length xs →
+    take (k + 1) xs ≡ take k xs ++ get_or xs k d ∷ []
 take_more xs k d lt = ap (λ n. take n xs) (let e : k + 1 ≡ suc k = omega arith in e) ∙ take-suc xs k d lt
 
 -- words, all of them changed by a mask
@@ -75,38 +78,48 @@ bit_in-flipped a b lane lt le =
     ∙ flipped b (bit_at x i) (bit_at m i) (bit_at-lt x i) (mask_bit b i (omega arith))
 
 -- the words of a literal
-pub bit_in-read : (values : List (List ℕ)) (wire : Wire) (m lane : ℕ) → lane < 256 → wire.place < length values → length (get_or values wire.place []) ≡ 4
+pub bit_in-read : (values : List (List ℕ)) (wire : Wire) (m lane : ℕ) → lane < 256 → wire.place < length values →
+    length (get_or values wire.place []) ≡ 4
     → m ≡ all_or_none wire.is_negated
     → bit_in (zip2 bit_xor (get_or values wire.place []) (replicate 4 m)) lane ≡ read (lane_of values lane) wire
 bit_in-read values wire m lane lt place four e =
     let a = get_or values wire.place [] in
     ap (λ n. bit_in (zip2 bit_xor a (replicate 4 n)) lane) e ∙ bit_in-flipped a wire.is_negated lane lt four
-    ∙ sym (ap (λ (bit : Bool). cond wire.is_negated (not bit) bit) (get_or-map (λ ws. bit_in ws lane) values wire.place [] false place))
+    ∙ sym (ap (λ (bit : Bool). cond wire.is_negated (not bit) bit)
+    (get_or-map (λ ws. bit_in ws lane) values wire.place [] false place))
 
 -- a row that is worked out in all lanes
-pub worked_on : (rows : List Row) (values initial : List (List ℕ)) (a b : List ℕ) (k lane : ℕ) → lane < 256 → k < length rows → length a ≡ 4 → length b ≡ 4
-    → bit_in a lane ≡ read (lane_of values lane) (get_or rows k no_row).first → bit_in b lane ≡ read (lane_of values lane) (get_or rows k no_row).second
+pub worked_on : (rows : List Row) (values initial : List (List ℕ)) (a b : List ℕ) (k lane : ℕ) → lane < 256 →
+    k < length rows → length a ≡ 4 → length b ≡ 4
+    → bit_in a lane ≡ read (lane_of values lane) (get_or rows k no_row).first →
+    bit_in b lane ≡ read (lane_of values lane) (get_or rows k no_row).second
     → work_out (drop k rows) (lane_of values lane) ≡ work_out rows (lane_of initial lane)
-    → work_out (drop (k + 1) rows) (lane_of (slice_set values (get_or rows k no_row).target (zip2 bit_and a b)) lane) ≡ work_out rows (lane_of initial lane)
+    → work_out (drop (k + 1) rows) (lane_of (slice_set values (get_or rows k no_row).target (zip2 bit_and a b)) lane) ≡
+    work_out rows (lane_of initial lane)
 worked_on rows values initial a b k lane less lt la lb first second before =
     let row = get_or rows k no_row in
     let f : List ℕ → Bool = λ ws. bit_in ws lane in
     let next : k + 1 ≡ suc k = omega arith in
-    let here : bit_in (zip2 bit_and a b) lane ≡ (read (lane_of values lane) row.first && read (lane_of values lane) row.second) =
+    let here : bit_in (zip2 bit_and a b) lane ≡ (read (lane_of values lane) row.first &&
+    read (lane_of values lane) row.second) =
     bit_in-and a b lane less la lb ∙ ap₂ ◌&&◌ first second in
     ap (λ n. work_out (drop n rows) (lane_of (slice_set values row.target (zip2 bit_and a b)) lane)) next
-    ∙ ap (work_out (drop (suc k) rows)) (map-set f values row.target (zip2 bit_and a b) ∙ ap (slice_set (lane_of values lane) row.target) here)
+    ∙ ap (work_out (drop (suc k) rows)) (map-set f values row.target (zip2 bit_and a b)
+    ∙ ap (slice_set (lane_of values lane) row.target) here)
     ∙ sym (ap (λ (all : List Row). work_out all (lane_of values lane)) (drop-cons rows k no_row lt)) ∙ before
 
 -- the literals in front of a place, and one more
-pub read_on : (literals : List ℕ) (values table : List (List ℕ)) (words : List ℕ) (k lane : ℕ) → k < length literals → k < length table
+pub read_on : (literals : List ℕ) (values table : List (List ℕ)) (words : List ℕ) (k lane : ℕ) → k < length literals →
+    k < length table
     → bit_in words lane ≡ read (lane_of values lane) (wire_in (get_or literals k 0))
     → take k (lane_of table lane) ≡ map (λ l. read (lane_of values lane) (wire_in l)) (take k literals)
-    → take (k + 1) (lane_of (slice_set table k words) lane) ≡ map (λ l. read (lane_of values lane) (wire_in l)) (take (k + 1) literals)
+    → take (k + 1) (lane_of (slice_set table k words) lane) ≡ map (λ l. read (lane_of values lane) (wire_in l))
+    (take (k + 1) literals)
 read_on literals values table words k lane lt room here before =
     let f : List ℕ → Bool = λ ws. bit_in ws lane in
     let bit : ℕ → Bool = λ l. read (lane_of values lane) (wire_in l) in
-    ap (take (k + 1)) (map-set f table k words) ∙ take_more_set (lane_of table lane) k (f words) (omega (arith, length-map table f))
+    ap (take (k + 1)) (map-set f table k words) ∙ take_more_set (lane_of table lane) k (f words)
+    (omega (arith, length-map table f))
     ∙ ap₂ (λ (xs : List Bool) (x : Bool). xs ++ x ∷ []) before here
     ∙ sym (ap (map bit) (take_more literals k 0 lt) ∙ map-append bit (take k literals) (get_or literals k 0 ∷ []))
 
@@ -119,8 +132,10 @@ reset_on latches words more m k lane lt room is grown before =
     let f : List ℕ → Bool = λ ws. bit_in ws lane in
     let reset : Latch → Bool = λ l. l.reset in
     ap (map f) grown ∙ map-append f words (replicate 4 m ∷ [])
-    ∙ ap₂ (λ (xs : List Bool) (x : Bool). xs ++ x ∷ []) before (ap (λ n. bit_in (replicate 4 n) lane) is ∙ bit_in-mask (get_or latches k no_latch).reset lane lt)
-    ∙ sym (ap (map reset) (take_more latches k no_latch room) ∙ map-append reset (take k latches) (get_or latches k no_latch ∷ []))
+    ∙ ap₂ (λ (xs : List Bool) (x : Bool). xs ++ x ∷ []) before
+    (ap (λ n. bit_in (replicate 4 n) lane) is ∙ bit_in-mask (get_or latches k no_latch).reset lane lt)
+    ∙ sym (ap (map reset) (take_more latches k no_latch room) ∙ map-append reset (take k latches)
+    (get_or latches k no_latch ∷ []))
 
 -- the lanes of two tables agree where their words do
 pub same_lane : (xs ys : List (List ℕ)) (p q lane : ℕ) → p < length xs → q < length ys → get_or xs p [] ≡ get_or ys q []
@@ -133,7 +148,8 @@ pub length-lane : (xs : List (List ℕ)) (lane : ℕ) → length (lane_of xs lan
 length-lane xs lane = let f : List ℕ → Bool = λ ws. bit_in ws lane in length-map xs f
 
 -- a bit that a shift leaves in front
-pub latch_is : (rows : List (List ℕ)) (words : List ℕ) (number lane : ℕ) → number < length rows → words ≡ get_or rows number words
+pub latch_is : (rows : List (List ℕ)) (words : List ℕ) (number lane : ℕ) → number < length rows →
+    words ≡ get_or rows number words
     → slice_get (lane_of rows lane) number ≡ Some (bit_and (get_or words (lane / 64) 0 / 2 ^ (lane % 64)) 1 == 1)
 latch_is rows words number lane lt e =
     let f : List ℕ → Bool = λ ws. bit_in ws lane in

@@ -1,5 +1,7 @@
 -- The plan of the lanes: where a circuit's rows are moved.
-use Rattle.std.proofs.Common.{◌≡◌, ℕ, zero, suc, ◌+◌, ◌-◌, ◌/◌, ◌^◌, ◌⊎◌, ◌<◌, ◌≤◌, Bool, inl, inr, List, [], ◌∷◌, ◌++◌, map, take, drop, length, get_or, refl, sym, ap, ap₂, subst, ◌∙◌, arith, All, Some, get_or-set_same, get_or-set_other}
+use Rattle.std.proofs.Common.{◌≡◌, ℕ, zero, suc, ◌+◌, ◌-◌, ◌/◌, ◌^◌, ◌⊎◌, ◌<◌, ◌≤◌, Bool, inl, inr, List, [], ◌∷◌, ◌++◌}
+use Rattle.std.proofs.Common.{map, take, drop, length, get_or, refl, sym, ap, ap₂, subst, ◌∙◌, arith, All, Some}
+use Rattle.std.proofs.Common.{get_or-set_same, get_or-set_other}
 use Rattle.std.specs.Prelude.{slice_set}
 use Rattle.std.specs.Int.Bits.{bit_and}
 use Rattle.std.specs.Simd.Lanes.{zip2}
@@ -14,11 +16,13 @@ use Rattle.ps_simulate.specs.declared.plan.Row.{Row}
 use Rattle.ps_simulate.specs.declared.lane_plan.Operands.{Operands}
 use Rattle.ps_simulate.specs.Lanes.{bit_in, lane_of}
 use Rattle.ps_simulate.specs.Plans.{variables, read, work_out, AreRows, IsWithin}
-use Rattle.ps_simulate.specs.LanePlans.{wire_in, rows_from, moved, move_wire, move_row, AreKept, AreInOrder, AreOnce, IsGateRow, AreMoved}
+use Rattle.ps_simulate.specs.LanePlans.{wire_in, rows_from, moved, move_wire, move_row, AreKept, AreInOrder, AreOnce}
+use Rattle.ps_simulate.specs.LanePlans.{IsGateRow, AreMoved}
 use Rattle.ps_simulate.proofs.CountLemmas.{few_below}
 use Rattle.ps_simulate.proofs.LaneLemmas.{take_more, worked_on}
 use Rattle.ps_simulate.proofs.PlacesLemmas.{variables_once, variables_at}
-use Rattle.ps_simulate.proofs.RowLemmas.{length-variables, gate_within, length-rows, row_of_gate, target_is, IsScheduled-rows}
+use Rattle.ps_simulate.proofs.RowLemmas.{length-variables, gate_within, length-rows, row_of_gate, target_is}
+use Rattle.ps_simulate.proofs.RowLemmas.{IsScheduled-rows}
 use Rattle.ps_simulate.proofs.WorkLemmas.{row, no_row}
 
 module _ (c : CircuitData) (is : IsCircuit c) where
@@ -32,7 +36,9 @@ module _ (c : CircuitData) (is : IsCircuit c) where
 
   pub few_variables : length (variables c) ≤ 2 ^ 31
   few_variables =
-      let le : length (variables c) ≤ c.most + 1 = few_below (c.most + 1) (variables c) variables_below (λ k l d lt within. variables_once c is k l d lt within) in
+      let le : length (variables c) ≤ c.most + 1 =
+      few_below (c.most + 1) (variables c) variables_below (λ k l d lt within. variables_once c is k l d lt within)
+      in
       omega (arith, is.draft.limit)
 
   module _ (rows : List Row) (are : AreRows c rows) where
@@ -44,7 +50,9 @@ module _ (c : CircuitData) (is : IsCircuit c) where
     few_rows =
         let le : length are.order ≤ length c.gates =
         few_below (length c.gates) are.order (λ k lt. are.is_order.within k _ (slice_get-get_or are.order k 0 lt))
-        (λ k l d lt within e. absurd (let same : k ≡ l = are.is_order.once k l (get_or are.order l d) (slice_get-get_or are.order k d (omega arith) ∙ ap Some e) (slice_get-get_or are.order l d within) in omega arith)) in
+        (λ k l d lt within e. absurd (let same : k ≡ l = are.is_order.once k l (get_or are.order l d)
+        (slice_get-get_or are.order k d (omega arith) ∙ ap Some e) (slice_get-get_or are.order l d within) in
+        omega arith)) in
         omega (arith, length-rows c is rows are)
 
     pub gate_row : (k : ℕ) → k < length rows → IsGateRow front (length (variables c)) (row rows k)
@@ -57,7 +65,9 @@ module _ (c : CircuitData) (is : IsCircuit c) where
     gate_rows = All-from_get_or (IsGateRow front (length (variables c))) rows no_row gate_row
 
     pub rows_once : AreOnce rows
-    rows_once k l d lt within e = absurd (let same = (IsScheduled-rows c is rows are).once k l (omega arith) within (at k (omega arith) ∙ e ∙ sym (at l within)) in omega arith)
+    rows_once k l d lt within e =
+        absurd (let same = (IsScheduled-rows c is rows are).once k l (omega arith) within
+        (at k (omega arith) ∙ e ∙ sym (at l within)) in omega arith)
       where
         at : (k : ℕ) → k < length rows → (row rows k).target ≡ (get_or rows k d).target
         at k lt = ap (λ (r : Row). r.target) (get_or_default rows k no_row d lt)
@@ -73,32 +83,38 @@ module _ (c : CircuitData) (is : IsCircuit c) where
             let there = row_of_gate c is rows are i (omega (arith, length-variables c)) in
             inr (there.0, there.1, omega (arith, target_is c is rows are there.0 there.1, there.2)))
 
-    module _ (places : List ℕ) (each : length places ≡ length (variables c)) (kept : AreKept front places) (in_order : AreInOrder front places rows) where
+    module _ (places : List ℕ) (each : length places ≡ length (variables c)) (kept : AreKept front places)
+        (in_order : AreInOrder front places rows) where
       goes : (p k : ℕ) → k < length rows → p ≡ (row rows k).target → moved places p ≡ front + k
       goes p k lt e = ap (moved places) e ∙ in_order k no_row lt
 
       within_table : (p : ℕ) → p < length (variables c) → moved places p < length (variables c)
       within_table p lt = go (whose p lt)
         where
-          go : (p < front) ⊎ ((k : ℕ) × (k < length rows) × (p ≡ (row rows k).target)) → moved places p < length (variables c)
+          go : (p < front) ⊎ ((k : ℕ) × (k < length rows) × (p ≡ (row rows k).target)) →
+              moved places p < length (variables c)
           go (inl less) = omega (arith, kept p less)
           go (inr (k, less, e)) = omega (arith, goes p k less e, few_rows, length-variables c)
 
-      one_each : (p q : ℕ) → p < length (variables c) → q < length (variables c) → moved places p ≡ moved places q → p ≡ q
+      one_each : (p q : ℕ) → p < length (variables c) → q < length (variables c) →
+          moved places p ≡ moved places q → p ≡ q
       one_each p q hp hq same = go (whose p hp) (whose q hq)
         where
-          go : (p < front) ⊎ ((k : ℕ) × (k < length rows) × (p ≡ (row rows k).target)) → (q < front) ⊎ ((k : ℕ) × (k < length rows) × (q ≡ (row rows k).target)) → p ≡ q
+          go : (p < front) ⊎ ((k : ℕ) × (k < length rows) × (p ≡ (row rows k).target)) →
+              (q < front) ⊎ ((k : ℕ) × (k < length rows) × (q ≡ (row rows k).target)) → p ≡ q
           go (inl lp) (inl lq) = sym (kept p lp) ∙ same ∙ kept q lq
           go (inl lp) (inr (l, less, e)) = absurd (omega (arith, kept p lp, goes q l less e, same))
           go (inr (k, less, e)) (inl lq) = absurd (omega (arith, kept q lq, goes p k less e, same))
           go (inr (k, hk, ek)) (inr (l, hl, el)) =
-              (let h : k ≡ l = omega (arith, goes p k hk ek, goes q l hl el, same) in ek ∙ ap (λ n. (row rows n).target) h ∙ sym el)
+              (let h : k ≡ l = omega (arith, goes p k hk ek, goes q l hl el, same) in ek
+              ∙ ap (λ n. (row rows n).target) h ∙ sym el)
 
       pub AreMoved-rows : AreMoved (length (variables c)) front places
       AreMoved-rows = record { each = each; within = within_table; once = one_each; kept = kept }
 
     -- the same for what stands for the circuit's
-    pub gate_rows_at : (size f : ℕ) (given : List Row) → size ≡ length (variables c) → f ≡ front → given ≡ rows → All (IsGateRow f size) given
+    pub gate_rows_at : (size f : ℕ) (given : List Row) → size ≡ length (variables c) → f ≡ front → given ≡ rows →
+        All (IsGateRow f size) given
     gate_rows_at size f given size_is front_is e k d lt =
         let r = gate_rows k d (omega (arith, ap length e)) in
         let same = ap (λ (rs : List Row). (get_or rs k d).target) e in
@@ -107,15 +123,20 @@ module _ (c : CircuitData) (is : IsCircuit c) where
     pub rows_once_at : (given : List Row) → given ≡ rows → AreOnce given
     rows_once_at given e = subst (λ (rs : List Row). AreOnce rs) (sym e) rows_once
 
-    pub AreMoved_at : (size f : ℕ) (given : List Row) (places : List ℕ) → size ≡ length (variables c) → f ≡ front → given ≡ rows → length places ≡ size → AreKept f places → AreInOrder f places given
+    pub AreMoved_at : (size f : ℕ) (given : List Row) (places : List ℕ) → size ≡ length (variables c) → f ≡ front →
+        given ≡ rows → length places ≡ size → AreKept f places → AreInOrder f places given
         → AreMoved size f places
     AreMoved_at size f given places size_is front_is e each kept in_order =
-        subst (λ (n : ℕ). AreMoved n f places) (sym size_is) (subst (λ (n : ℕ). AreMoved (length (variables c)) n places) (sym front_is)
+        subst (λ (n : ℕ). AreMoved n f places) (sym size_is) (subst
+        (λ (n : ℕ). AreMoved (length (variables c)) n places) (sym front_is)
         (AreMoved-rows places (each ∙ size_is) (subst (λ (n : ℕ). AreKept n places) front_is kept)
-        (subst (λ (rs : List Row). AreInOrder front places rs) e (subst (λ (n : ℕ). AreInOrder n places given) front_is in_order))))
+        (subst (λ (rs : List Row). AreInOrder front places rs) e
+        (subst (λ (n : ℕ). AreInOrder n places given) front_is in_order))))
 
-pub moved_small : (size front : ℕ) (places : List ℕ) → AreMoved size front places → size ≤ 2 ^ 31 → All (λ p. p < 2 ^ 31) places
-moved_small size front places are few k d lt = omega (arith, are.within k (omega (arith, are.each)), get_or_default places k d 0 lt)
+pub moved_small : (size front : ℕ) (places : List ℕ) → AreMoved size front places → size ≤ 2 ^ 31 →
+    All (λ p. p < 2 ^ 31) places
+moved_small size front places are few k d lt =
+    omega (arith, are.within k (omega (arith, are.each)), get_or_default places k d 0 lt)
 
 -- gates that stand one behind another
 pub length-rows_from : (place : ℕ) (gates : List Operands) → length (rows_from place gates) ≡ length gates
@@ -128,43 +149,56 @@ no_operands = record { first = 0; second = 0 }
 abbrev pub row_of_operands : ℕ → Operands → Row
 row_of_operands place g = record { target = place; first = wire_in g.first; second = wire_in g.second }
 
-pub rows_from_at : (place : ℕ) (gates : List Operands) (k : ℕ) → k < length gates → get_or (rows_from place gates) k no_row ≡ row_of_operands (place + k) (get_or gates k no_operands)
+pub rows_from_at : (place : ℕ) (gates : List Operands) (k : ℕ) → k < length gates →
+    get_or (rows_from place gates) k no_row ≡ row_of_operands (place + k) (get_or gates k no_operands)
 rows_from_at place [] k lt = absurd (omega arith)
 rows_from_at place (g ∷ gates) zero lt = ap (λ n. row_of_operands n g) (let e : place ≡ place + 0 = omega arith in e)
 rows_from_at place (g ∷ gates) (suc k) lt =
-    rows_from_at (place + 1) gates k (omega arith) ∙ ap (λ n. row_of_operands n (get_or gates k no_operands)) (let e : place + 1 + k ≡ place + suc k = omega arith in e)
+    rows_from_at (place + 1) gates k (omega arith) ∙ ap (λ n. row_of_operands n (get_or gates k no_operands))
+    (let e : place + 1 + k ≡ place + suc k = omega arith in e)
 
 abbrev row_of_wires : ℕ → Wire → Wire → Row
 row_of_wires place a b = record { target = place; first = a; second = b }
 
-rows_from-append : (place : ℕ) (gates : List Operands) (g : Operands) → rows_from place (gates ++ g ∷ []) ≡ rows_from place gates ++ row_of_operands (place + length gates) g ∷ []
+rows_from-append : (place : ℕ) (gates : List Operands) (g : Operands) →
+    rows_from place (gates ++ g ∷ []) ≡ rows_from place gates ++ row_of_operands (place + length gates) g ∷ []
 rows_from-append place [] g = ap (λ n. row_of_operands n g ∷ []) (let e : place ≡ place + 0 = omega arith in e)
 rows_from-append place (h ∷ gates) g =
     ap (λ rs. row_of_operands place h ∷ rs) (rows_from-append (place + 1) gates g
-    ∙ ap (λ n. rows_from (place + 1) gates ++ row_of_operands n g ∷ []) (let e : place + 1 + length gates ≡ place + length (h ∷ gates) = omega arith in e))
+    ∙ ap (λ n. rows_from (place + 1) gates ++ row_of_operands n g ∷ [])
+    (let e : place + 1 + length gates ≡ place + length (h ∷ gates) = omega arith in e))
 
 -- one more row that is moved
-pub rows_more : (rows : List Row) (places : List ℕ) (gates more : List Operands) (first second front k : ℕ) → k < length rows → AreInOrder front places rows
-    → wire_in first ≡ move_wire places (get_or rows k no_row).first → wire_in second ≡ move_wire places (get_or rows k no_row).second
-    → more ≡ gates ++ record { first = first; second = second } ∷ [] → rows_from front gates ≡ map (move_row places) (take k rows)
+pub rows_more : (rows : List Row) (places : List ℕ) (gates more : List Operands) (first second front k : ℕ) →
+    k < length rows → AreInOrder front places rows
+    → wire_in first ≡ move_wire places (get_or rows k no_row).first →
+    wire_in second ≡ move_wire places (get_or rows k no_row).second
+    → more ≡ gates ++ record { first = first; second = second } ∷ [] →
+    rows_from front gates ≡ map (move_row places) (take k rows)
     → rows_from front more ≡ map (move_row places) (take (k + 1) rows)
 rows_more rows places gates more first second front k lt in_order at_first at_second grown before =
     let r = get_or rows k no_row in
     let g : Operands = record { first = first; second = second } in
-    let many : length gates ≡ k = sym (length-rows_from front gates) ∙ ap length before ∙ length-map (take k rows) (move_row places) ∙ length-take-le k rows (omega arith) in
+    let many : length gates ≡ k = sym (length-rows_from front gates) ∙ ap length before
+    ∙ length-map (take k rows) (move_row places) ∙ length-take-le k rows (omega arith) in
     let here : row_of_operands (front + length gates) g ≡ move_row places r =
-    ap (λ n. row_of_operands n g) (ap (λ n. front + n) many ∙ sym (in_order k no_row lt)) ∙ ap₂ (λ a b. row_of_wires (moved places r.target) a b) at_first at_second in
-    ap (rows_from front) grown ∙ rows_from-append front gates g ∙ ap₂ (λ (xs : List Row) (x : Row). xs ++ x ∷ []) before here
-    ∙ sym (ap (map (move_row places)) (take_more rows k no_row lt) ∙ map-append (move_row places) (take k rows) (r ∷ []))
+    ap (λ n. row_of_operands n g) (ap (λ n. front + n) many ∙ sym (in_order k no_row lt))
+    ∙ ap₂ (λ a b. row_of_wires (moved places r.target) a b) at_first at_second in
+    ap (rows_from front) grown ∙ rows_from-append front gates g
+    ∙ ap₂ (λ (xs : List Row) (x : Row). xs ++ x ∷ []) before here
+    ∙ sym (ap (map (move_row places)) (take_more rows k no_row lt)
+    ∙ map-append (move_row places) (take k rows) (r ∷ []))
 
 -- one more place that is moved
-module _ (rows : List Row) (places : List ℕ) (front size n target : ℕ) (lt : n < length rows) (e : target ≡ (get_or rows n no_row).target) (gates : All (IsGateRow front size) rows)
+module _ (rows : List Row) (places : List ℕ) (front size n target : ℕ) (lt : n < length rows)
+    (e : target ≡ (get_or rows n no_row).target) (gates : All (IsGateRow front size) rows)
     (many : length places ≡ size) where
   this_row : IsGateRow front size (get_or rows n no_row)
   this_row = gates n no_row lt
 
   pub kept_more : AreKept front places → AreKept front (slice_set places target (front + n))
-  kept_more kept p less = get_or-set_other places target p (front + n) 0 (λ same. omega (arith, this_row.behind, e, same)) ∙ kept p less
+  kept_more kept p less =
+      get_or-set_other places target p (front + n) 0 (λ same. omega (arith, this_row.behind, e, same)) ∙ kept p less
 
   pub order_more : AreOnce rows → ((k : ℕ) (d : Row) → k < n → moved places (get_or rows k d).target ≡ front + k)
       → (k : ℕ) (d : Row) → k < n + 1 → moved (slice_set places target (front + n)) (get_or rows k d).target ≡ front + k
@@ -175,40 +209,57 @@ module _ (rows : List Row) (places : List ℕ) (front size n target : ℕ) (lt :
 
       go : (k < n) ⊎ (n ≤ k) → moved (slice_set places target (front + n)) (get_or rows k d).target ≡ front + k
       go (inl first) =
-          get_or-set_other places target _ (front + n) 0 (λ same. once k n d first lt (same ∙ e ∙ sym (default n lt))) ∙ before k d first
+          get_or-set_other places target _ (front + n) 0 (λ same. once k n d first lt (same ∙ e ∙ sym (default n lt)))
+          ∙ before k d first
       go (inr last) =
           (let here : k ≡ n = omega arith in
           ap (λ m. moved (slice_set places target (front + n)) (get_or rows m d).target) here
           ∙ ap (moved (slice_set places target (front + n))) (default n lt ∙ sym e)
-          ∙ get_or-set_same places target (front + n) 0 (omega (arith, this_row.within, e, many)) ∙ ap (λ m. front + m) (sym here))
+          ∙ get_or-set_same places target (front + n) 0 (omega (arith, this_row.within, e, many))
+          ∙ ap (λ m. front + m) (sym here))
 
 -- a gate that is worked out in all lanes
-pub gate_on : (front : ℕ) (gates : List Operands) (values initial : List (List ℕ)) (a b : List ℕ) (k lane : ℕ) → lane < 256 → k < length gates → length a ≡ 4 → length b ≡ 4
-    → bit_in a lane ≡ read (lane_of values lane) (wire_in (get_or gates k no_operands).first) → bit_in b lane ≡ read (lane_of values lane) (wire_in (get_or gates k no_operands).second)
-    → work_out (drop k (rows_from front gates)) (lane_of values lane) ≡ work_out (rows_from front gates) (lane_of initial lane)
-    → work_out (drop (k + 1) (rows_from front gates)) (lane_of (slice_set values (front + k) (zip2 bit_and a b)) lane) ≡ work_out (rows_from front gates) (lane_of initial lane)
+pub gate_on : (front : ℕ) (gates : List Operands) (values initial : List (List ℕ)) (a b : List ℕ) (k lane : ℕ) →
+    lane < 256 → k < length gates → length a ≡ 4 → length b ≡ 4
+    → bit_in a lane ≡ read (lane_of values lane) (wire_in (get_or gates k no_operands).first) →
+    bit_in b lane ≡ read (lane_of values lane) (wire_in (get_or gates k no_operands).second)
+    → work_out (drop k (rows_from front gates)) (lane_of values lane) ≡ work_out (rows_from front gates)
+    (lane_of initial lane)
+    → work_out (drop (k + 1) (rows_from front gates)) (lane_of (slice_set values (front + k) (zip2 bit_and a b)) lane) ≡
+    work_out (rows_from front gates) (lane_of initial lane)
 gate_on front gates values initial a b k lane less lt la lb first second before =
     let rows = rows_from front gates in
-    let at : get_or rows k no_row ≡ row_of_operands (front + k) (get_or gates k no_operands) = rows_from_at front gates k lt in
-    subst (λ t. work_out (drop (k + 1) rows) (lane_of (slice_set values t (zip2 bit_and a b)) lane) ≡ work_out rows (lane_of initial lane)) (ap (λ (r : Row). r.target) at)
+    let at : get_or rows k no_row ≡ row_of_operands (front + k) (get_or gates k no_operands) =
+    rows_from_at front gates k lt in
+    subst (λ t. work_out (drop (k + 1) rows) (lane_of (slice_set values t (zip2 bit_and a b)) lane) ≡ work_out rows
+    (lane_of initial lane)) (ap (λ (r : Row). r.target) at)
     (worked_on rows values initial a b k lane less (omega (arith, length-rows_from front gates)) la lb
-    (first ∙ ap (λ (r : Row). read (lane_of values lane) r.first) (sym at)) (second ∙ ap (λ (r : Row). read (lane_of values lane) r.second) (sym at)) before)
+    (first ∙ ap (λ (r : Row). read (lane_of values lane) r.first) (sym at))
+    (second ∙ ap (λ (r : Row). read (lane_of values lane) r.second) (sym at)) before)
 
 -- the literals of a gate within the table
-pub gate_fits : (front size : ℕ) (gates : List Operands) (k : ℕ) → k < length gates → All (IsWithin size) (rows_from front gates)
+pub gate_fits : (front size : ℕ) (gates : List Operands) (k : ℕ) → k < length gates →
+    All (IsWithin size) (rows_from front gates)
     → ((get_or gates k no_operands).first / 2 < size) × ((get_or gates k no_operands).second / 2 < size)
 gate_fits front size gates k lt within =
-    let there : IsWithin size (get_or (rows_from front gates) k no_row) = within k no_row (omega (arith, length-rows_from front gates)) in
-    let e = rows_from_at front gates k lt in
-    (omega (arith, there.first, ap (λ (r : Row). r.first.place) e), omega (arith, there.second, ap (λ (r : Row). r.second.place) e))
+    let there : IsWithin size (get_or (rows_from front gates) k no_row) =
+    within k no_row (omega (arith, length-rows_from front gates)) in
+    let e = rows_from_at front gates k lt in (
+      omega (arith, there.first, ap (λ (r : Row). r.first.place) e),
+      omega (arith, there.second, ap (λ (r : Row). r.second.place) e),
+    )
 
 -- the gates have their places in the table
-pub gates_end : (front size : ℕ) (gates : List Operands) (rows : List Row) (places : List ℕ) → rows_from front gates ≡ map (move_row places) rows → front + length rows ≤ size
+pub gates_end : (front size : ℕ) (gates : List Operands) (rows : List Row) (places : List ℕ) →
+    rows_from front gates ≡ map (move_row places) rows → front + length rows ≤ size
     → front + length gates ≤ size
-gates_end front size gates rows places e fit = omega (arith, ap length e, length-rows_from front gates, length-map rows (move_row places))
+gates_end front size gates rows places e fit =
+    omega (arith, ap length e, length-rows_from front gates, length-map rows (move_row places))
 
 -- behind the last gate
 pub all_done : (front : ℕ) (gates : List Operands) (k : ℕ) → length gates ≤ k → (values initial : List Bool)
-    → work_out (drop k (rows_from front gates)) values ≡ work_out (rows_from front gates) initial → values ≡ work_out (rows_from front gates) initial
+    → work_out (drop k (rows_from front gates)) values ≡ work_out (rows_from front gates) initial →
+    values ≡ work_out (rows_from front gates) initial
 all_done front gates k le values initial e =
-    sym (ap (λ (rows : List Row). work_out rows values) (drop_all k (rows_from front gates) (omega (arith, length-rows_from front gates)))) ∙ e
+    sym (ap (λ (rows : List Row). work_out rows values) (drop_all k (rows_from front gates)
+    (omega (arith, length-rows_from front gates)))) ∙ e

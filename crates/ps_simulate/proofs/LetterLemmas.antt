@@ -1,5 +1,6 @@
 -- Bits of letters.
-use Rattle.std.proofs.Common.{◌≡◌, ◌≢◌, ℕ, ◌*◌, ◌^◌, ◌%◌, ◌<◌, Bool, true, false, cond, [], refl, ap, sym, ◌∙◌, subst, bit_or, nat_eq}
+use Rattle.std.proofs.Common.{◌≡◌, ◌≢◌, ℕ, ◌*◌, ◌^◌, ◌%◌, ◌<◌, Bool, true, false, cond, [], refl, ap, sym, ◌∙◌, subst}
+use Rattle.std.proofs.Common.{bit_or, nat_eq}
 use Rattle.std.specs.Prelude.{◌||◌}
 use Rattle.std.proofs.lemmas.Bool.{eq-eqb, ne_eqb}
 use Rattle.std.proofs.lemmas.Nat.{one_shl, or_lt, pow_below}
@@ -10,7 +11,8 @@ or_false : (b : Bool) → (b || false) ≡ b
 or_false true = refl
 or_false false = refl
 
-with_one : (letter p q : ℕ) (b : Bool) → p < 64 → nat_eq q p ≡ b → is_in q (bit_or letter (1 * 2 ^ p % 2 ^ 64)) ≡ (is_in q letter || b)
+with_one : (letter p q : ℕ) (b : Bool) → p < 64 → nat_eq q p ≡ b →
+    is_in q (bit_or letter (1 * 2 ^ p % 2 ^ 64)) ≡ (is_in q letter || b)
 with_one letter p q b small e =
     sym (or_false (is_in q (bit_or letter (1 * 2 ^ p % 2 ^ 64)))) ∙ one_set_more q letter p [] small
     ∙ ap (λ (x : Bool). is_in q letter || cond x true false) e ∙ ap (λ (x : Bool). is_in q letter || x) (one b)
@@ -25,6 +27,8 @@ bit_put letter p small e = with_one letter p p true small (eq-eqb p p refl) ∙ 
 pub bit_kept : (letter p q : ℕ) → p < 64 → q ≢ p → is_in q (bit_or letter (1 * 2 ^ p % 2 ^ 64)) ≡ is_in q letter
 bit_kept letter p q small other = with_one letter p q false small (ne_eqb q p other) ∙ or_false (is_in q letter)
 
-pub bit_few : (letter p count : ℕ) → p < 64 → p < count → letter < 2 ^ count → bit_or letter (1 * 2 ^ p % 2 ^ 64) < 2 ^ count
+pub bit_few : (letter p count : ℕ) → p < 64 → p < count → letter < 2 ^ count →
+    bit_or letter (1 * 2 ^ p % 2 ^ 64) < 2 ^ count
 bit_few letter p count small lt few =
-    or_lt count letter (1 * 2 ^ p % 2 ^ 64) few (subst (λ n. n < 2 ^ count) (sym (one_shl p 64 small)) (pow_below p count lt))
+    or_lt count letter (1 * 2 ^ p % 2 ^ 64) few (subst (λ n. n < 2 ^ count) (sym (one_shl p 64 small))
+    (pow_below p count lt))

@@ -1,5 +1,7 @@
 -- Letters whose bits stand one behind another.
-use Rattle.std.proofs.Common.{◌≡◌, ℕ, zero, suc, ◌+◌, ◌*◌, ◌<◌, ◌≤◌, Bool, List, [], ◌∷◌, ◌++◌, map, length, take, drop, refl, sym, ap, ap₂, ◌∙◌, arith, Some, slice_get, length-drop, length-append, zero-mul, false, inr, Err}
+use Rattle.std.proofs.Common.{◌≡◌, ℕ, zero, suc, ◌+◌, ◌*◌, ◌<◌, ◌≤◌, Bool, List, [], ◌∷◌, ◌++◌, map, length, take, drop}
+use Rattle.std.proofs.Common.{refl, sym, ap, ap₂, ◌∙◌, arith, Some, slice_get, length-drop, length-append, zero-mul}
+use Rattle.std.proofs.Common.{false, inr, Err}
 use Rattle.std.proofs.Math.Nat.{mul-le-mul_right}
 use Rattle.std.proofs.lemmas.List.{take-append-le, drop-append-le, take_all, drop-drop, nil_from_length}
 use Rattle.std.proofs.lemmas.List.Sums.{sum_by-cons}
@@ -18,11 +20,14 @@ mul_suc : (m n : ℕ) → suc m * n ≡ n + m * n
 mul_suc m n = grind arith
 
 -- the bits behind the first letter are those of the others
-rest_length : (width count : ℕ) (bits : List Bool) → length bits ≡ suc count * width → (length (drop width bits) ≡ count * width) × (width ≤ length bits)
-rest_length width count bits whole = (omega (arith, mul_suc count width, length-drop width bits), omega (arith, mul_suc count width))
+rest_length : (width count : ℕ) (bits : List Bool) → length bits ≡ suc count * width →
+    (length (drop width bits) ≡ count * width) × (width ≤ length bits)
+rest_length width count bits whole =
+    (omega (arith, mul_suc count width, length-drop width bits), omega (arith, mul_suc count width))
 
 -- the bits of one more letter
-pub whole-push : (width count : ℕ) (bits letter : List Bool) → length bits ≡ count * width → length letter ≡ width → length (bits ++ letter) ≡ suc count * width
+pub whole-push : (width count : ℕ) (bits letter : List Bool) → length bits ≡ count * width → length letter ≡ width →
+    length (bits ++ letter) ≡ suc count * width
 whole-push width count bits letter whole fits = omega (arith, length-append bits letter, mul_suc count width)
 
 -- one more letter
@@ -30,16 +35,20 @@ pub letters_in-push : (width count : ℕ) (bits letter : List Bool) → length b
     → letters_in width (suc count) (bits ++ letter) ≡ letters_in width count bits ++ letter ∷ []
 letters_in-push width zero bits letter whole fits =
     let none : bits ≡ [] = nil_from_length bits (whole ∙ zero-mul width) in
-    ap (λ (front : List Bool). take width (front ++ letter) ∷ []) none ∙ ap (λ (l : List Bool). l ∷ []) (take_all width letter (omega arith))
+    ap (λ (front : List Bool). take width (front ++ letter) ∷ []) none
+    ∙ ap (λ (l : List Bool). l ∷ []) (take_all width letter (omega arith))
 letters_in-push width (suc count) bits letter whole fits =
     let rest = rest_length width count bits whole in
     ap₂ ◌∷◌ (take-append-le width bits letter rest.1)
-    (ap (letters_in width (suc count)) (drop-append-le width bits letter rest.1) ∙ letters_in-push width count (drop width bits) letter rest.0 fits)
+    (ap (letters_in width (suc count)) (drop-append-le width bits letter rest.1)
+    ∙ letters_in-push width count (drop width bits) letter rest.0 fits)
 
 -- a letter of them
-pub slice_get-letters_in : (width count : ℕ) (bits : List Bool) (i : ℕ) → i < count → slice_get (letters_in width count bits) i ≡ Some (take width (drop (i * width) bits))
+pub slice_get-letters_in : (width count : ℕ) (bits : List Bool) (i : ℕ) → i < count →
+    slice_get (letters_in width count bits) i ≡ Some (take width (drop (i * width) bits))
 slice_get-letters_in width zero bits i lt = absurd (omega arith)
-slice_get-letters_in width (suc count) bits zero lt = ap (λ (n : ℕ). Some (take width (drop n bits))) (sym (zero-mul width))
+slice_get-letters_in width (suc count) bits zero lt =
+    ap (λ (n : ℕ). Some (take width (drop n bits))) (sym (zero-mul width))
 slice_get-letters_in width (suc count) bits (suc i) lt =
     let next : width + i * width ≡ suc i * width = grind arith in
     slice_get-letters_in width count (drop width bits) i (omega arith)
@@ -48,7 +57,13 @@ slice_get-letters_in width (suc count) bits (suc i) lt =
 -- a text has no fewer bytes than lines
 pub few : (letters : List (List Bool)) → length letters ≤ extent (map digits_of letters)
 few [] = omega arith
-few (letter ∷ letters) = omega (arith, few letters, sum_by-cons (λ (bytes : List ℕ). length bytes + 1) (digits_of letter) (map digits_of letters))
+few (letter ∷ letters) =
+    omega (
+      arith,
+      few letters,
+      sum_by-cons (λ (bytes : List ℕ). length bytes + 1) (digits_of letter)
+          (map digits_of letters),
+    )
 
 -- a letter's bits stand within those of all
 pub letter_within : (place count width size : ℕ) → place < count → size ≡ count * width → place * width + width ≤ size
@@ -58,9 +73,12 @@ letter_within place count width size lt is =
     omega arith
 
 -- the fault of a line is the answer to the text
-pub IsLettersAnswer-line : (text : List ℕ) (width start end : ℕ) (s : StimulusData) → HasRead text width false false start s → (line : List ℕ)
-    → lines_of (drop start text) ≡ line ∷ lines_of (drop (end + 1) text) → start + length line ≡ end → start < length text → end ≤ length text
+pub IsLettersAnswer-line : (text : List ℕ) (width start end : ℕ) (s : StimulusData) →
+    HasRead text width false false start s → (line : List ℕ)
+    → lines_of (drop start text) ≡ line ∷ lines_of (drop (end + 1) text) → start + length line ≡ end →
+    start < length text → end ≤ length text
     → (fault : StimulusFault) → ReadsLine line start width (Err fault) → IsLettersAnswer text width (Err fault)
 IsLettersAnswer-line text width start end s h line next length_is some within (Text cause offset) first =
-    IsStimulusAnswer-line text width false false start end s h line next length_is some within (inr (inr refl)) (Text cause offset) first
+    IsStimulusAnswer-line text width false false start end s h line next length_is some within (inr (inr refl))
+    (Text cause offset) first
 IsLettersAnswer-line text width start end s h line next length_is some within OutOfMemory first = tt

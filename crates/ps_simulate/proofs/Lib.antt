@@ -3,6 +3,8 @@ pub mod LaneLemmas
 pub mod MoveLemmas
 pub mod LanePlanLemmas
 pub mod LaneStepLemmas
+pub mod OneTrace
+pub mod OneLetter
 pub mod RunLemmas
 pub mod WorkLemmas
 pub mod RowLemmas

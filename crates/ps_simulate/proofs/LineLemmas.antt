@@ -1,13 +1,17 @@
 -- The lines of a text, and what is wrong in one line.
-use Rattle.std.proofs.Common.{◌≡◌, ◌≢◌, ℕ, zero, suc, ◌+◌, ◌-◌, ◌<◌, ◌≤◌, ◌==◌, ◌⊎◌, inl, inr, Bool, true, false, cond, List, [], ◌∷◌, ◌++◌, length, get_or, take, drop, refl, sym, ap, subst, ◌∙◌, arith, Some, None, Option, slice_get, option_map, All, length-take, length-drop}
-use Rattle.std.proofs.lemmas.List.{length-map, get_or-take, get_or-drop, take-append-drop, drop-drop, drop_more, drop_all, take_all}
+use Rattle.std.proofs.Common.{◌≡◌, ◌≢◌, ℕ, zero, suc, ◌+◌, ◌-◌, ◌<◌, ◌≤◌, ◌==◌, ◌⊎◌, inl, inr, Bool, true, false, cond}
+use Rattle.std.proofs.Common.{List, [], ◌∷◌, ◌++◌, length, get_or, take, drop, refl, sym, ap, subst, ◌∙◌, arith, Some}
+use Rattle.std.proofs.Common.{None, Option, slice_get, option_map, All, length-take, length-drop}
+use Rattle.std.proofs.lemmas.List.{length-map, get_or-take, get_or-drop, take-append-drop, drop-drop, drop_more}
+use Rattle.std.proofs.lemmas.List.{drop_all, take_all}
 use Rattle.std.proofs.lemmas.List.Elements.{All-head, All-tail, All-from_get_or}
 use Rattle.std.proofs.lemmas.List.Sums.{sum_by-cons}
 use Rattle.std.proofs.lemmas.Option.{slice_get-map, slice_get_within}
 use Rattle.std.proofs.lemmas.Bool.{ne_eqb}
 use Rattle.ps_simulate.specs.declared.fault.StimulusCause.{StimulusCause}
 use Rattle.ps_simulate.specs.declared.fault.StimulusCause.TheVariants.{Width, Stimulus}
-use Rattle.ps_simulate.specs.StimulusTexts.{put_byte, lines_of, start_of, digit_of, digits_of, divider, IsDigit, StandsInLine}
+use Rattle.ps_simulate.specs.StimulusTexts.{put_byte, lines_of, start_of, digit_of, digits_of, divider, IsDigit}
+use Rattle.ps_simulate.specs.StimulusTexts.{StandsInLine}
 
 -- ## Lines
 
@@ -17,13 +21,15 @@ NoNewline b = b ≢ 10
 lines_of-ended : (front rest : List ℕ) → All NoNewline front → lines_of (front ++ 10 ∷ rest) ≡ front ∷ lines_of rest
 lines_of-ended [] rest none = refl
 lines_of-ended (b ∷ front) rest none =
-    ap (λ t. cond t ([] ∷ lines_of (front ++ 10 ∷ rest)) (put_byte b (lines_of (front ++ 10 ∷ rest)))) (ne_eqb b 10 (All-head NoNewline b front none))
+    ap (λ t. cond t ([] ∷ lines_of (front ++ 10 ∷ rest)) (put_byte b (lines_of (front ++ 10 ∷ rest))))
+    (ne_eqb b 10 (All-head NoNewline b front none))
     ∙ ap (put_byte b) (lines_of-ended front rest (All-tail NoNewline b front none))
 
 lines_of-last : (b : ℕ) (front : List ℕ) → All NoNewline (b ∷ front) → lines_of (b ∷ front) ≡ (b ∷ front) ∷ []
 lines_of-last b [] none = ap (λ t. cond t ([] ∷ []) (put_byte b [])) (ne_eqb b 10 (All-head NoNewline b [] none))
 lines_of-last b (c ∷ front) none =
-    ap (λ t. cond t ([] ∷ lines_of (c ∷ front)) (put_byte b (lines_of (c ∷ front)))) (ne_eqb b 10 (All-head NoNewline b (c ∷ front) none))
+    ap (λ t. cond t ([] ∷ lines_of (c ∷ front)) (put_byte b (lines_of (c ∷ front))))
+    (ne_eqb b 10 (All-head NoNewline b (c ∷ front) none))
     ∙ ap (put_byte b) (lines_of-last c front (All-tail NoNewline b (c ∷ front) none))
 
 module _ (text : List ℕ) (start end : ℕ) (from : start ≤ end) (within : end ≤ length text)
@@ -31,36 +37,45 @@ module _ (text : List ℕ) (start end : ℕ) (from : start ≤ end) (within : en
   front_has_none : All NoNewline (take (end - start) (drop start text))
   front_has_none = All-from_get_or NoNewline (take (end - start) (drop start text)) 0
       (λ k lt e. (let less : k < end - start = omega (arith, lt, length-take (end - start) (drop start text)) in
-      none (start + k) (omega arith) (omega arith) (sym (get_or-drop start text k 0) ∙ sym (get_or-take (end - start) (drop start text) k 0 less) ∙ e)))
+      none (start + k) (omega arith) (omega arith) (sym (get_or-drop start text k 0)
+      ∙ sym (get_or-take (end - start) (drop start text) k 0 less) ∙ e)))
 
   split_here : take (end - start) (drop start text) ++ drop end text ≡ drop start text
   split_here =
-      ap (λ rest. take (end - start) (drop start text) ++ rest) (let e : start + (end - start) ≡ end = omega arith in ap (λ n. drop n text) (sym e) ∙ sym (drop-drop (end - start) start text))
+      ap (λ rest. take (end - start) (drop start text) ++ rest)
+      (let e : start + (end - start) ≡ end = omega arith in ap (λ n. drop n text) (sym e)
+      ∙ sym (drop-drop (end - start) start text))
       ∙ take-append-drop (end - start) (drop start text)
 
   -- a line that a newline ends
   pub lines_of-drop_ended : end < length text → get_or text end 0 ≡ 10
       → lines_of (drop start text) ≡ take (end - start) (drop start text) ∷ lines_of (drop (end + 1) text)
   lines_of-drop_ended lt newline =
-      ap lines_of (sym split_here ∙ ap (λ rest. take (end - start) (drop start text) ++ rest) (drop_more text end 0 lt ∙ ap (λ b. b ∷ drop (end + 1) text) newline))
+      ap lines_of (sym split_here ∙ ap (λ rest. take (end - start) (drop start text) ++ rest)
+      (drop_more text end 0 lt ∙ ap (λ b. b ∷ drop (end + 1) text) newline))
       ∙ lines_of-ended (take (end - start) (drop start text)) (drop (end + 1) text) front_has_none
 
 -- the last line, which no newline ends
-pub lines_of-drop_last : (text : List ℕ) (start : ℕ) → start < length text → ((k : ℕ) → start ≤ k → k < length text → get_or text k 0 ≢ 10)
+pub lines_of-drop_last : (text : List ℕ) (start : ℕ) → start < length text →
+    ((k : ℕ) → start ≤ k → k < length text → get_or text k 0 ≢ 10)
     → lines_of (drop start text) ≡ take (length text - start) (drop start text) ∷ lines_of (drop (length text + 1) text)
 lines_of-drop_last text start lt none =
-    let whole : take (length text - start) (drop start text) ≡ drop start text = take_all (length text - start) (drop start text) (omega (arith, length-drop start text)) in
+    let whole : take (length text - start) (drop start text) ≡ drop start text =
+    take_all (length text - start) (drop start text) (omega (arith, length-drop start text)) in
     let past : drop (length text + 1) text ≡ [] = drop_all (length text + 1) text (omega arith) in
     last (drop start text) (omega (arith, length-drop start text))
-    (subst (λ (bytes : List ℕ). All NoNewline bytes) whole (front_has_none text start (length text) (omega arith) (omega arith) none))
-    ∙ ap (λ line. line ∷ []) (sym whole) ∙ ap (λ rest. take (length text - start) (drop start text) ∷ lines_of rest) (sym past)
+    (subst (λ (bytes : List ℕ). All NoNewline bytes) whole (front_has_none text start (length text) (omega arith)
+    (omega arith) none))
+    ∙ ap (λ line. line ∷ []) (sym whole) ∙ ap (λ rest. take (length text - start) (drop start text) ∷ lines_of rest)
+    (sym past)
   where
     last : (bytes : List ℕ) → 0 < length bytes → All NoNewline bytes → lines_of bytes ≡ bytes ∷ []
     last [] some none = absurd (omega arith)
     last (b ∷ bytes) some none = lines_of-last b bytes none
 
 -- a line ends before each later one begins
-pub start_of-later : (lines : List (List ℕ)) (k m : ℕ) (line : List ℕ) → slice_get lines k ≡ Some line → k < m → m ≤ length lines
+pub start_of-later : (lines : List (List ℕ)) (k m : ℕ) (line : List ℕ) → slice_get lines k ≡ Some line → k < m →
+    m ≤ length lines
     → start_of lines k + length line + 1 ≤ start_of lines m
 start_of-later [] k m line there less within = absurd (omega arith)
 start_of-later (l ∷ lines) k zero line there less within = absurd (omega arith)
@@ -95,18 +110,21 @@ pub letter_none : (letter : List Bool) (line : List ℕ) (start width : ℕ) (ca
     → line ≡ digits_of letter → length letter ≡ width → StandsInLine line start width cause offset → ⊥
 letter_none letter line start width Width offset is each h = h.0 (ap length is ∙ length-map letter digit_of ∙ each)
 letter_none letter line start width Stimulus offset is each (j, byte, there, wrong, at) =
-    found (slice_get letter j) (sym (slice_get-map digit_of letter j) ∙ ap (λ (l : List ℕ). slice_get l j) (sym is) ∙ there)
+    found (slice_get letter j) (sym (slice_get-map digit_of letter j)
+    ∙ ap (λ (l : List ℕ). slice_get l j) (sym is) ∙ there)
   where
     found : (o : Option Bool) → option_map digit_of o ≡ Some byte → ⊥
     found None e = cc
     found (Some bit) e = wrong (let same : digit_of bit ≡ byte = cc in subst IsDigit same (digit_is bit))
 
 -- where the causes of a line stand
-pub in_line_from : (line : List ℕ) (start width : ℕ) (cause : StimulusCause) (offset : ℕ) → StandsInLine line start width cause offset → start ≤ offset
+pub in_line_from : (line : List ℕ) (start width : ℕ) (cause : StimulusCause) (offset : ℕ) →
+    StandsInLine line start width cause offset → start ≤ offset
 in_line_from line start width Width offset h = omega (arith, h.1)
 in_line_from line start width Stimulus offset h = omega (arith, h.4)
 
-pub in_line_within : (line : List ℕ) (start width : ℕ) (cause : StimulusCause) (offset : ℕ) → StandsInLine line start width cause offset
+pub in_line_within : (line : List ℕ) (start width : ℕ) (cause : StimulusCause) (offset : ℕ) →
+    StandsInLine line start width cause offset
     → (offset ≡ start) ⊎ (offset < start + length line)
 in_line_within line start width Width offset h = inl h.1
 in_line_within line start width Stimulus offset h = inr (omega (arith, h.4, slice_get_within line h.0 h.1 h.2))

@@ -1,5 +1,7 @@
 -- Rows that are worked out in a table whose places were moved.
-use Rattle.std.proofs.Common.{◌≡◌, ◌≢◌, ℕ, suc, ◌+◌, ◌⊎◌, ◌<◌, ◌≤◌, ◌&&◌, Bool, false, not, cond, inl, inr, List, [], ◌∷◌, map, length, get_or, refl, sym, ap, ap₂, ◌∙◌, arith, All, length-set, get_or-set_same, get_or-set_other}
+use Rattle.std.proofs.Common.{◌≡◌, ◌≢◌, ℕ, suc, ◌+◌, ◌⊎◌, ◌<◌, ◌≤◌, ◌&&◌, Bool, false, not, cond, inl, inr, List, []}
+use Rattle.std.proofs.Common.{◌∷◌, map, length, get_or, refl, sym, ap, ap₂, ◌∙◌, arith, All, length-set}
+use Rattle.std.proofs.Common.{get_or-set_same, get_or-set_other}
 use Rattle.std.specs.Prelude.{slice_set}
 use Rattle.std.proofs.lemmas.Bool.{cases_eq}
 use Rattle.std.proofs.lemmas.List.{length-map, get_or-map, ext_get_or}
@@ -12,40 +14,52 @@ length-unmoved : (places : List ℕ) (values : List Bool) → length (unmoved pl
 length-unmoved places values = length-map places (λ p. get_or values p false)
 
 -- a place has the value of the one to which it is moved
-pub unmoved_at : (places : List ℕ) (values : List Bool) (p : ℕ) → p < length places → get_or (unmoved places values) p false ≡ get_or values (moved places p) false
+pub unmoved_at : (places : List ℕ) (values : List Bool) (p : ℕ) → p < length places →
+    get_or (unmoved places values) p false ≡ get_or values (moved places p) false
 unmoved_at places values p lt = get_or-map (λ q. get_or values q false) places p 0 false lt
 
-pub read-unmoved : (places : List ℕ) (values : List Bool) (w : Wire) → w.place < length places → read (unmoved places values) w ≡ read values (move_wire places w)
+pub read-unmoved : (places : List ℕ) (values : List Bool) (w : Wire) → w.place < length places →
+    read (unmoved places values) w ≡ read values (move_wire places w)
 read-unmoved places values w lt = ap (λ (b : Bool). cond w.is_negated (not b) b) (unmoved_at places values w.place lt)
 
-pub reads-unmoved : (places : List ℕ) (values : List Bool) (wires : List Wire) → All (λ w. w.place < length places) wires
+pub reads-unmoved : (places : List ℕ) (values : List Bool) (wires : List Wire) →
+    All (λ w. w.place < length places) wires
     → map (read values) (map (move_wire places) wires) ≡ map (read (unmoved places values)) wires
 reads-unmoved places values [] within = refl
 reads-unmoved places values (w ∷ ws) within =
-    ap₂ ◌∷◌ (sym (read-unmoved places values w (within 0 w (omega arith)))) (reads-unmoved places values ws (λ k d lt. within (suc k) d (omega arith)))
+    ap₂ ◌∷◌ (sym (read-unmoved places values w (within 0 w (omega arith))))
+    (reads-unmoved places values ws (λ k d lt. within (suc k) d (omega arith)))
 
 module _ (size front : ℕ) (places : List ℕ) (are : AreMoved size front places) where
   -- a value that is put at the place to which a place is moved
   unmoved-set : (values : List Bool) (t : ℕ) (x : Bool) → t < size → length values ≡ size
       → unmoved places (slice_set values (moved places t) x) ≡ slice_set (unmoved places values) t x
   unmoved-set values t x lt many =
-      ext_get_or false _ _ (length-unmoved places (slice_set values (moved places t) x) ∙ sym (length-set (unmoved places values) t x ∙ length-unmoved places values))
+      ext_get_or false _ _ (length-unmoved places (slice_set values (moved places t) x)
+      ∙ sym (length-set (unmoved places values) t x ∙ length-unmoved places values))
       (λ k less. at k (omega (arith, are.each, length-unmoved places (slice_set values (moved places t) x))))
     where
-      at : (k : ℕ) → k < size → get_or (unmoved places (slice_set values (moved places t) x)) k false ≡ get_or (slice_set (unmoved places values) t x) k false
+      at : (k : ℕ) → k < size → get_or (unmoved places (slice_set values (moved places t) x)) k false ≡ get_or
+          (slice_set (unmoved places values) t x) k false
       at k less = go (cases_eq k t)
         where
-          there : get_or (unmoved places (slice_set values (moved places t) x)) k false ≡ get_or (slice_set values (moved places t) x) (moved places k) false
+          there : get_or (unmoved places (slice_set values (moved places t) x)) k false ≡ get_or
+              (slice_set values (moved places t) x) (moved places k) false
           there = unmoved_at places (slice_set values (moved places t) x) k (omega (arith, are.each))
 
-          go : (k ≡ t) ⊎ (k ≢ t) → get_or (unmoved places (slice_set values (moved places t) x)) k false ≡ get_or (slice_set (unmoved places values) t x) k false
+          go : (k ≡ t) ⊎ (k ≢ t) → get_or (unmoved places (slice_set values (moved places t) x)) k false ≡ get_or
+              (slice_set (unmoved places values) t x) k false
           go (inl e) =
               there ∙ ap (λ n. get_or (slice_set values (moved places t) x) (moved places n) false) e
               ∙ get_or-set_same values (moved places t) x false (omega (arith, are.within t lt))
-              ∙ sym (ap (λ n. get_or (slice_set (unmoved places values) t x) n false) e ∙ get_or-set_same (unmoved places values) t x false (omega (arith, are.each, length-unmoved places values)))
+              ∙ sym (ap (λ n. get_or (slice_set (unmoved places values) t x) n false) e
+              ∙ get_or-set_same (unmoved places values) t x false
+              (omega (arith, are.each, length-unmoved places values)))
           go (inr differ) =
-              there ∙ get_or-set_other values (moved places t) (moved places k) x false (λ e. differ (are.once k t less lt e))
-              ∙ sym (get_or-set_other (unmoved places values) t k x false differ ∙ unmoved_at places values k (omega (arith, are.each)))
+              there ∙ get_or-set_other values (moved places t) (moved places k) x false
+              (λ e. differ (are.once k t less lt e))
+              ∙ sym (get_or-set_other (unmoved places values) t k x false differ
+              ∙ unmoved_at places values k (omega (arith, are.each)))
 
   pub work_out-unmoved : (rows : List Row) (values : List Bool) → length values ≡ size → All (IsWithin size) rows
       → unmoved places (work_out (map (move_row places) rows) values) ≡ work_out rows (unmoved places values)
@@ -53,15 +67,19 @@ module _ (size front : ℕ) (places : List ℕ) (are : AreMoved size front place
   work_out-unmoved (r ∷ rows) values many within =
       let here : IsWithin size r = within 0 r (omega arith) in
       let next = work_row values (move_row places r) in
-      work_out-unmoved rows next (length-set values (moved places r.target) _ ∙ many) (λ k d lt. within (suc k) d (omega arith))
+      work_out-unmoved rows next (length-set values (moved places r.target) _ ∙ many)
+      (λ k d lt. within (suc k) d (omega arith))
       ∙ ap (work_out rows)
       (unmoved-set values r.target _ here.target many
       ∙ ap (slice_set (unmoved places values) r.target)
-      (sym (ap₂ ◌&&◌ (read-unmoved places values r.first (omega (arith, here.first, are.each))) (read-unmoved places values r.second (omega (arith, here.second, are.each))))))
+      (sym (ap₂ ◌&&◌ (read-unmoved places values r.first (omega (arith, here.first, are.each)))
+      (read-unmoved places values r.second (omega (arith, here.second, are.each))))))
 
   -- a table in its moved form is worked out where it is in its first form
-  pub IsWorkedOut-unmoved : (rows moved_rows : List Row) (inputs latches values : List Bool) → moved_rows ≡ map (move_row places) rows → All (IsWithin size) rows
-      → 1 + length inputs + length latches ≤ front → front ≤ size → IsWorkedOut moved_rows inputs latches size values → IsWorkedOut rows inputs latches size (unmoved places values)
+  pub IsWorkedOut-unmoved : (rows moved_rows : List Row) (inputs latches values : List Bool) →
+      moved_rows ≡ map (move_row places) rows → All (IsWithin size) rows
+      → 1 + length inputs + length latches ≤ front → front ≤ size → IsWorkedOut moved_rows inputs latches size values →
+      IsWorkedOut rows inputs latches size (unmoved places values)
   IsWorkedOut-unmoved rows moved_rows inputs latches values e within room fit worked = record {
     table = unmoved places worked.table;
     each = length-unmoved places worked.table ∙ are.each;
@@ -70,8 +88,10 @@ module _ (size front : ℕ) (places : List ℕ) (are : AreMoved size front place
       inputs_there = λ k lt. at (1 + k) (omega arith) ∙ worked.holds.inputs_there k lt;
       latches_there = λ k lt. at (1 + length inputs + k) (omega arith) ∙ worked.holds.latches_there k lt;
     };
-    done = ap (unmoved places) (worked.done ∙ ap (λ rs. work_out rs worked.table) e) ∙ work_out-unmoved rows worked.table worked.each within;
+    done = ap (unmoved places) (worked.done ∙ ap (λ rs. work_out rs worked.table) e)
+        ∙ work_out-unmoved rows worked.table worked.each within;
   }
     where
       at : (p : ℕ) → p < front → get_or (unmoved places worked.table) p false ≡ get_or worked.table p false
-      at p lt = unmoved_at places worked.table p (omega (arith, are.each)) ∙ ap (λ q. get_or worked.table q false) (are.kept p lt)
+      at p lt = unmoved_at places worked.table p (omega (arith, are.each))
+          ∙ ap (λ q. get_or worked.table q false) (are.kept p lt)

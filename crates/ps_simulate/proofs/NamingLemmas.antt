@@ -1,5 +1,7 @@
 -- The places of symbols at the propositions that they name.
-use Rattle.std.proofs.Common.{◌≡◌, ◌≢◌, ℕ, zero, suc, ◌+◌, ◌<◌, ◌⊎◌, inl, inr, Bool, true, false, not, cond, List, [], ◌∷◌, length, get_or, set, Option, None, Some, Vec, Bor, map, refl, ap, sym, ◌∙◌, subst, arith}
+use Rattle.std.proofs.Common.{◌≡◌, ◌≢◌, ℕ, zero, suc, ◌+◌, ◌<◌, ◌⊎◌, inl, inr, Bool, true, false, not, cond, List, []}
+use Rattle.std.proofs.Common.{◌∷◌, length, get_or, set, Option, None, Some, Vec, Bor, map, refl, ap, sym, ◌∙◌, subst}
+use Rattle.std.proofs.Common.{arith}
 use Rattle.std.proofs.Math.Bool.{beq}
 use Rattle.std.specs.Global.{Global}
 use Rattle.std.specs.Option.{option_copied, is_some}
@@ -7,7 +9,8 @@ use Rattle.ps_hoa.specs.Memory.{bytes_of}
 use Rattle.std.proofs.lemmas.Bool.{cases_eq, cases_lt}
 use Rattle.std.specs.Str.{bytes_eq}
 use Rattle.std.proofs.lemmas.Slice.Eq.{bytes_eq-Decides}
-use Rattle.std.proofs.lemmas.List.{get_or-set_same, get_or-set_other, length-set, get_or_past, get_or_default, get_or-map}
+use Rattle.std.proofs.lemmas.List.{get_or-set_same, get_or-set_other, length-set, get_or_past, get_or_default}
+use Rattle.std.proofs.lemmas.List.{get_or-map}
 use Rattle.ps_hoa.specs.Files.{is_among}
 use Rattle.ps_hoa.specs.Header.{is_name_among}
 use Rattle.ps_hoa.specs.Sound.{AreNames}
@@ -18,31 +21,34 @@ use Rattle.ps_simulate.specs.Namings.{ArePut, ArePlacesOf, IsPropositionOf}
 
 -- ## Names that differ
 
-not_among : (names : List (List ℕ)) (name : List ℕ) (p : ℕ) → p < length names → is_name_among name names ≡ false → get_or names p [] ≢ name
+not_among : (names : List (List ℕ)) (name : List ℕ) (p : ℕ) → p < length names → is_name_among name names ≡ false →
+    get_or names p [] ≢ name
 not_among [] name p lt h e = absurd (omega arith)
 not_among (x ∷ xs) name p lt h e = go (bytes_eq name x) refl h p lt e (λ q lq hq. not_among xs name q lq hq)
   where
-    go : (b : Bool) → bytes_eq name x ≡ b → cond b true (is_name_among name xs) ≡ false → (p : ℕ) → p < length (x ∷ xs) → get_or (x ∷ xs) p [] ≡ name
+    go : (b : Bool) → bytes_eq name x ≡ b → cond b true (is_name_among name xs) ≡ false → (p : ℕ) →
+        p < length (x ∷ xs) → get_or (x ∷ xs) p [] ≡ name
         → ((q : ℕ) → q < length xs → is_name_among name xs ≡ false → get_or xs q [] ≢ name) → ⊥
     go true d h p lt e rest = absurd (cc)
     go false d h zero lt e rest = let t : bytes_eq name x ≡ true = (bytes_eq-Decides name x).1 (sym e) in cc
     go false d h (suc p) lt e rest = rest p (omega arith) h e
 
-pub names_differ : (names : List (List ℕ)) → AreNames names → (p q : ℕ) → p < length names → q < length names → get_or names p [] ≡ get_or names q [] → p ≡ q
+pub names_differ : (names : List (List ℕ)) → AreNames names → (p q : ℕ) → p < length names → q < length names →
+    get_or names p [] ≡ get_or names q [] → p ≡ q
 names_differ [] all p q lp lq e = absurd (omega arith)
 names_differ (x ∷ xs) all zero zero lp lq e = refl
 names_differ (x ∷ xs) all zero (suc q) lp lq e = absurd (not_among xs x q (omega arith) all.1 (sym e))
 names_differ (x ∷ xs) all (suc p) zero lp lq e = absurd (not_among xs x p (omega arith) all.1 e)
 names_differ (x ∷ xs) all (suc p) (suc q) lp lq e = ap suc (names_differ xs all.2 p q (omega arith) (omega arith) e)
 
-some_same : {X : Type 0} (x y : X) → Some x ≡ Some y → x ≡ y
+pub some_same : {X : Type 0} (x y : X) → Some x ≡ Some y → x ≡ y
 some_same x y e = cc
 
 none_some : {X : Type 0} (x : X) → None ≡ Some x → ⊥
 none_some x e = cc
 
 -- what is there stands within
-within : {X : Type 0} (xs : List (Option X)) (k : ℕ) (x : X) → get_or xs k None ≡ Some x → k < length xs
+pub within : {X : Type 0} (xs : List (Option X)) (k : ℕ) (x : X) → get_or xs k None ≡ Some x → k < length xs
 within xs k x e = elim (cases_lt k (length xs)) [
   | inl lt ↦ lt
   | inr le ↦ absurd (none_some x (sym (get_or_past xs k None le) ∙ e))
@@ -51,31 +57,47 @@ within xs k x e = elim (cases_lt k (length xs)) [
 module _ (names : List (List ℕ)) (controllable : List ℕ) (wanted : Bool) (symbols : List (Option (List ℕ))) where
   -- ## One symbol more
 
-  set_cases : (places : List (Option ℕ)) (p k q j : ℕ) → p < length places → get_or (set places p (Some k)) q None ≡ Some j → ((q ≡ p) × (j ≡ k)) ⊎ (get_or places q None ≡ Some j)
+  set_cases : (places : List (Option ℕ)) (p k q j : ℕ) → p < length places →
+      get_or (set places p (Some k)) q None ≡ Some j → ((q ≡ p) × (j ≡ k)) ⊎ (get_or places q None ≡ Some j)
   set_cases places p k q j lt e = elim (cases_eq q p) [
-    | inl same ↦ inl (same, some_same j k (sym e ∙ ap (λ n. get_or (set places p (Some k)) n None) same ∙ get_or-set_same places p (Some k) None lt))
+    | inl same ↦ inl (
+      same,
+      some_same j k (sym e ∙ ap (λ n. get_or (set places p (Some k)) n None) same
+          ∙ get_or-set_same places p (Some k) None lt),
+    )
     | inr other ↦ inr (sym (get_or-set_other places p q (Some k) None other) ∙ e)
   ]
 
-  pub put_step : (k p : ℕ) (name : List ℕ) (places : List (Option ℕ)) → ArePut names controllable wanted symbols k places → get_or symbols k None ≡ Some name
+  pub put_step : (k p : ℕ) (name : List ℕ) (places : List (Option ℕ)) →
+      ArePut names controllable wanted symbols k places → get_or symbols k None ≡ Some name
       → p < length names → get_or names p [] ≡ name → is_among p controllable ≡ wanted → get_or places p None ≡ None
       → ArePut names controllable wanted symbols (k + 1) (set places p (Some k))
   put_step k p name places h there lp named sides free =
       let lt : p < length places = omega (arith, h.size) in
-      let sym_k : IsSymbol names symbols k p = record { within = lp; is = there ∙ ap (λ (n : List ℕ). Some n) (sym named) } in
+      let sym_k : IsSymbol names symbols k p =
+      record { within = lp; is = there ∙ ap (λ (n : List ℕ). Some n) (sym named) } in
       record {
         size = length-set places p (Some k) ∙ h.size;
         put = λ j lj. elim (cases_eq j k) [
-          | inl same ↦ (p, subst (λ n. IsSymbol names symbols n p) (sym same) sym_k, get_or-set_same places p (Some k) None lt ∙ ap (λ n. Some n) (sym same))
-          | inr other ↦ let old = h.put j (omega arith) in
-              (old.0, old.1, get_or-set_other places p old.0 (Some k) None (λ e. none_some j (sym free ∙ sym (ap (λ n. get_or places n None) e) ∙ old.2)) ∙ old.2)
+          | inl same ↦ (
+            p,
+            subst (λ n. IsSymbol names symbols n p) (sym same) sym_k,
+            get_or-set_same places p (Some k) None lt ∙ ap (λ n. Some n) (sym same),
+          )
+          | inr other ↦ let old = h.put j (omega arith) in (
+            old.0,
+            old.1,
+            get_or-set_other places p old.0 (Some k) None
+                (λ e. none_some j (sym free ∙ sym (ap (λ n. get_or places n None) e) ∙ old.2)) ∙ old.2,
+          )
         ];
         before = λ q j e. elim (set_cases places p k q j lt e) [
           | inl same ↦ omega (arith, same.1)
           | inr old ↦ let l = h.before q j old in omega (arith, l)
         ];
         is = λ q j e. elim (set_cases places p k q j lt e) [
-          | inl same ↦ subst (λ n. IsSymbol names symbols n q) (sym same.1) (subst (λ n. IsSymbol names symbols k n) (sym same.0) sym_k)
+          | inl same ↦ subst (λ n. IsSymbol names symbols n q) (sym same.1)
+              (subst (λ n. IsSymbol names symbols k n) (sym same.0) sym_k)
           | inr old ↦ h.is q j old
         ];
         side = λ q j e. elim (set_cases places p k q j lt e) [
@@ -86,49 +108,64 @@ module _ (names : List (List ℕ)) (controllable : List ℕ) (wanted : Bool) (sy
 
   -- ## Symbols that are not the names, each once
 
-  pub nameless : (k : ℕ) → k < length symbols → get_or symbols k None ≡ None → ¬ AreNamesOnce names controllable wanted symbols
+  pub nameless : (k : ℕ) → k < length symbols → get_or symbols k None ≡ None →
+      ¬ AreNamesOnce names controllable wanted symbols
   nameless k lt e once = let s = once.some k lt in none_some (get_or names s.0 []) (sym e ∙ s.1.is)
 
-  pub unknown : (k : ℕ) (name : List ℕ) → k < length symbols → get_or symbols k None ≡ Some name → IsPropositionOf names controllable wanted name None → ¬ AreNamesOnce names controllable wanted symbols
+  pub unknown : (k : ℕ) (name : List ℕ) → k < length symbols → get_or symbols k None ≡ Some name →
+      IsPropositionOf names controllable wanted name None → ¬ AreNamesOnce names controllable wanted symbols
   unknown k name lt e no_one once = let s = once.some k lt in
       no_one s.0 s.1.within s.2 (some_same (get_or names s.0 []) name (sym s.1.is ∙ e))
 
-  pub taken : (k p : ℕ) (name : List ℕ) (places : List (Option ℕ)) → ArePut names controllable wanted symbols k places → get_or symbols k None ≡ Some name
-      → p < length names → get_or names p [] ≡ name → get_or places p None ≢ None → ¬ AreNamesOnce names controllable wanted symbols
+  pub taken : (k p : ℕ) (name : List ℕ) (places : List (Option ℕ)) → ArePut names controllable wanted symbols k places →
+      get_or symbols k None ≡ Some name
+      → p < length names → get_or names p [] ≡ name → get_or places p None ≢ None →
+      ¬ AreNamesOnce names controllable wanted symbols
   taken k p name places h there lp named full once = go (get_or places p None) refl
     where
       go : (o : Option ℕ) → get_or places p None ≡ o → ⊥
       go None e = full e
       go (Some j) e =
           let lt = h.before p j e in
-          let same : j ≡ k = once.once j k p (h.is p j e) (record { within = lp; is = there ∙ ap (λ (n : List ℕ). Some n) (sym named) }) in
+          let same : j ≡ k =
+          once.once j k p (h.is p j e) (record {
+            within = lp;
+            is = there
+                ∙ ap (λ (n : List ℕ). Some n) (sym named);
+          }) in
           absurd (omega (arith, lt, same))
 
   -- ## All symbols
 
-  module _ (differ : AreNames names) (places : List (Option ℕ)) (h : ArePut names controllable wanted symbols (length symbols) places) where
+  module _ (differ : AreNames names) (places : List (Option ℕ))
+      (h : ArePut names controllable wanted symbols (length symbols) places) where
     placed : (p k : ℕ) → IsSymbol names symbols k p → get_or places p None ≡ Some k
     placed p k s =
         let at = h.put k (within symbols k (get_or names p []) s.is) in
-        let same : at.0 ≡ p = names_differ names differ at.0 p at.1.within s.within (some_same (get_or names at.0 []) (get_or names p []) (sym at.1.is ∙ s.is)) in
+        let same : at.0 ≡ p =
+        names_differ names differ at.0 p at.1.within s.within (some_same (get_or names at.0 []) (get_or names p [])
+        (sym at.1.is ∙ s.is)) in
         ap (λ n. get_or places n None) (sym same) ∙ at.2
 
     pub all_placed : ArePlacesOf names controllable wanted symbols places
     all_placed = record { size = h.size; placed = placed; within = h.before; side = h.side }
 
-    pub missing : (p : ℕ) → p < length places → is_among p controllable ≡ wanted → get_or places p None ≡ None → ¬ AreNamesOnce names controllable wanted symbols
+    pub missing : (p : ℕ) → p < length places → is_among p controllable ≡ wanted → get_or places p None ≡ None →
+        ¬ AreNamesOnce names controllable wanted symbols
     missing p lt sides e once =
         let s = once.each p (omega (arith, h.size)) sides in
         none_some s.0 (sym e ∙ placed p s.0 s.1)
 
-    pub all_once : ((p : ℕ) → p < length places → is_among p controllable ≡ wanted → get_or places p None ≢ None) → AreNamesOnce names controllable wanted symbols
+    pub all_once : ((p : ℕ) → p < length places → is_among p controllable ≡ wanted → get_or places p None ≢ None) →
+        AreNamesOnce names controllable wanted symbols
     all_once full = record {
       each = λ p lt sides. go p (get_or places p None) refl (full p (omega (arith, h.size)) sides);
       some = λ k lt. let at = h.put k lt in (at.0, at.1, h.side at.0 k at.2);
       once = λ j k p a b. some_same j k (sym (placed p j a) ∙ placed p k b);
     }
       where
-        go : (p : ℕ) (o : Option ℕ) → get_or places p None ≡ o → get_or places p None ≢ None → (k : ℕ) × IsSymbol names symbols k p
+        go : (p : ℕ) (o : Option ℕ) → get_or places p None ≡ o → get_or places p None ≢ None →
+            (k : ℕ) × IsSymbol names symbols k p
         go p None e full = absurd (full e)
         go p (Some k) e full = (k, h.is p k e)
 
@@ -146,25 +183,33 @@ beq_other false false e same = absurd (cc)
 beq_other true false e same = absurd (cc)
 beq_other false true e same = absurd (cc)
 
-pub is_free : (places : List (Option ℕ)) (p : ℕ) (there : Option ℕ) (b : Bool) → p < length places → there ≡ get_or places p there → is_some there ≡ not b → b ≡ true → get_or places p None ≡ None
+pub is_free : (places : List (Option ℕ)) (p : ℕ) (there : Option ℕ) (b : Bool) → p < length places →
+    there ≡ get_or places p there → is_some there ≡ not b → b ≡ true → get_or places p None ≡ None
 is_free places p None b lt at e free = sym at
 is_free places p (Some k) b lt at e free = absurd (cc)
 
-pub is_full : (places : List (Option ℕ)) (p : ℕ) (there : Option ℕ) (b : Bool) → p < length places → there ≡ get_or places p there → is_some there ≡ not b → b ≡ false → get_or places p None ≢ None
+pub is_full : (places : List (Option ℕ)) (p : ℕ) (there : Option ℕ) (b : Bool) → p < length places →
+    there ≡ get_or places p there → is_some there ≡ not b → b ≡ false → get_or places p None ≢ None
 is_full places p None b lt at e no_one free = absurd (cc)
-is_full places p (Some k) b lt at e no_one free = let same : get_or places p None ≡ get_or places p (Some k) = get_or_default places p None (Some k) lt in absurd (cc)
+is_full places p (Some k) b lt at e no_one free = let same : get_or places p None ≡ get_or places p (Some k) =
+    get_or_default places p None (Some k) lt in absurd (cc)
 
-pub name_at : (names : List (Vec ℕ Global)) (p : ℕ) (name : Vec ℕ Global) → p < length names → name ≡ get_or names p name → get_or (map bytes_of names) p [] ≡ name.items
+pub name_at : (names : List (Vec ℕ Global)) (p : ℕ) (name : Vec ℕ Global) → p < length names →
+    name ≡ get_or names p name → get_or (map bytes_of names) p [] ≡ name.items
 name_at names p name lt at = get_or-map bytes_of names p name [] lt ∙ ap bytes_of (sym at)
 
-pub symbol_at : (symbols : List (Option (Bor (List ℕ)))) (k : ℕ) (symbol : Option (Bor (List ℕ))) → k < length symbols → get_or symbols k None ≡ symbol
+pub symbol_at : (symbols : List (Option (Bor (List ℕ)))) (k : ℕ) (symbol : Option (Bor (List ℕ))) → k < length symbols →
+    get_or symbols k None ≡ symbol
     → get_or (map (option_copied {T = List ℕ}) symbols) k None ≡ option_copied {T = List ℕ} symbol
-symbol_at symbols k symbol lt at = get_or-map (option_copied {T = List ℕ}) symbols k None None lt ∙ ap (option_copied {T = List ℕ}) at
+symbol_at symbols k symbol lt at =
+    get_or-map (option_copied {T = List ℕ}) symbols k None None lt ∙ ap (option_copied {T = List ℕ}) at
 
 -- ## Both sides
 
-pub apart : (names : List (List ℕ)) (controllable : List ℕ) (one other : Bool) (symbols others : List (Option (List ℕ))) (places rest : List (Option ℕ)) → one ≢ other
-    → ArePlacesOf names controllable one symbols places → ArePlacesOf names controllable other others rest → (p k : ℕ) → IsSymbol names symbols k p → get_or rest p None ≡ None
+pub apart : (names : List (List ℕ)) (controllable : List ℕ) (one other : Bool) (symbols others : List (Option (List ℕ)))
+    (places rest : List (Option ℕ)) → one ≢ other
+    → ArePlacesOf names controllable one symbols places → ArePlacesOf names controllable other others rest → (p k : ℕ) →
+    IsSymbol names symbols k p → get_or rest p None ≡ None
 apart names controllable one other symbols others places rest differ a b p k s = go (get_or rest p None) refl
   where
     go : (o : Option ℕ) → get_or rest p None ≡ o → o ≡ None

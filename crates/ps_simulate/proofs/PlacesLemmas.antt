@@ -1,5 +1,6 @@
 -- The places of a circuit's variables.
-use Rattle.std.proofs.Common.{◌≡◌, ◌≢◌, ℕ, zero, suc, ◌<◌, inl, inr, List, [], ◌∷◌, ◌++◌, map, length, get_or, refl, sym, ap, subst, ◌∙◌, arith, nat_eq, AllPairs, Contains}
+use Rattle.std.proofs.Common.{◌≡◌, ◌≢◌, ℕ, zero, suc, ◌<◌, inl, inr, List, [], ◌∷◌, ◌++◌, map, length, get_or, refl}
+use Rattle.std.proofs.Common.{sym, ap, subst, ◌∙◌, arith, nat_eq, AllPairs, Contains}
 use Rattle.std.specs.List.{flat_map}
 use Rattle.std.proofs.lemmas.List.{length-map, get_or-map, get_or_default}
 use Rattle.std.proofs.lemmas.List.Sums.{position_or_len_is}
@@ -15,7 +16,8 @@ module _ (c : CircuitData) (is : IsCircuit c) where
   defined : (k d : ℕ) → k < length (definitions c) → IsDefinition c.most (get_or (definitions c) k d)
   defined k d lt = is.draft.defined k d lt
 
-  pub variables_at : (k d : ℕ) → k < length (definitions c) → get_or (variables c) (suc k) d ≡ variable (get_or (definitions c) k d)
+  pub variables_at : (k d : ℕ) → k < length (definitions c) →
+      get_or (variables c) (suc k) d ≡ variable (get_or (definitions c) k d)
   variables_at k d lt = get_or-map variable (definitions c) k d d lt
 
   many : length (map variable (definitions c)) ≡ length (definitions c)
@@ -40,7 +42,8 @@ module _ (c : CircuitData) (is : IsCircuit c) where
       (λ j less. ne_eqb _ _ (λ e. variables_once j k 0 less lt e)) (λ _. eq-eqb _ _ refl)
 
   known_at : (literal k : ℕ) → k < length (variables c) → get_or (variables c) k 0 ≡ variable literal
-      → (place_of c (variable literal) < length (variables c)) × (get_or (variables c) (place_of c (variable literal)) 0 ≡ variable literal)
+      → (place_of c (variable literal) < length (variables c)) ×
+      (get_or (variables c) (place_of c (variable literal)) 0 ≡ variable literal)
   known_at literal k lt e =
       let P : ℕ → Type 0 = λ v. (place_of c v < length (variables c)) × (get_or (variables c) (place_of c v) 0 ≡ v) in
       let here = place_of-at k lt in
@@ -48,30 +51,37 @@ module _ (c : CircuitData) (is : IsCircuit c) where
 
   -- the place of a literal whose variable is 0 or defined
   pub place_known : (literal : ℕ) → IsKnown (definitions c) literal
-      → (place_of c (variable literal) < length (variables c)) × (get_or (variables c) (place_of c (variable literal)) 0 ≡ variable literal)
+      → (place_of c (variable literal) < length (variables c)) ×
+      (get_or (variables c) (place_of c (variable literal)) 0 ≡ variable literal)
   place_known literal (inl zero_is) = known_at literal 0 (omega arith) (sym zero_is)
   place_known literal (inr (k, lt, e)) =
-      known_at literal (suc k) (omega arith) (get_or_default (map variable (definitions c)) k 0 (variable literal) lt ∙ e)
+      known_at literal (suc k) (omega arith) (get_or_default (map variable (definitions c)) k 0 (variable literal) lt
+      ∙ e)
 
   contains_variable : (literal : ℕ) → Contains (definitions c) literal → IsKnown (definitions c) literal
   contains_variable literal (k, lt, e) =
       inr (k, omega (arith, many), get_or-map variable (definitions c) k literal (variable literal) lt ∙ ap variable e)
 
-  contains_mapped : {A : Type 0} (f : A → ℕ) (xs : List A) (i : ℕ) (d : A) → i < length xs → Contains (map f xs) (f (get_or xs i d))
+  contains_mapped : {A : Type 0} (f : A → ℕ) (xs : List A) (i : ℕ) (d : A) → i < length xs →
+      Contains (map f xs) (f (get_or xs i d))
   contains_mapped f xs i d lt = (i, omega (arith, length-map xs f), get_or-map f xs i d (f (get_or xs i d)) lt)
 
   -- the literals of a gate are known
   pub gate_known : (i : ℕ) (d : Gate) → i < length c.gates → IsKnown (definitions c) (get_or c.gates i d).literal
   gate_known i d lt =
-      contains_variable _ (Contains-append_right (c.inputs ++ map (λ l. l.literal) c.latches) _ _ (contains_mapped (λ g. g.literal) c.gates i d lt))
+      contains_variable _ (Contains-append_right (c.inputs ++ map (λ l. l.literal) c.latches) _ _
+      (contains_mapped (λ g. g.literal) c.gates i d lt))
 
   reads_contain : (gates : List Gate) (i : ℕ) (d : Gate) → i < length gates
-      → Contains (flat_map (λ g. g.first ∷ g.second ∷ []) gates) (get_or gates i d).first × Contains (flat_map (λ g. g.first ∷ g.second ∷ []) gates) (get_or gates i d).second
+      → Contains (flat_map (λ g. g.first ∷ g.second ∷ []) gates) (get_or gates i d).first ×
+      Contains (flat_map (λ g. g.first ∷ g.second ∷ []) gates) (get_or gates i d).second
   reads_contain [] i d lt = absurd (omega arith)
   reads_contain (g ∷ gates) zero d lt = ((0, omega arith, refl), (1, omega arith, refl))
   reads_contain (g ∷ gates) (suc i) d lt =
-      let rest = reads_contain gates i d (omega arith) in
-      (Contains-append_right (g.first ∷ g.second ∷ []) _ _ rest.0, Contains-append_right (g.first ∷ g.second ∷ []) _ _ rest.1)
+      let rest = reads_contain gates i d (omega arith) in (
+        Contains-append_right (g.first ∷ g.second ∷ []) _ _ rest.0,
+        Contains-append_right (g.first ∷ g.second ∷ []) _ _ rest.1,
+      )
 
   pub sides_known : (i : ℕ) (d : Gate) → i < length c.gates
       → IsKnown (definitions c) (get_or c.gates i d).first × IsKnown (definitions c) (get_or c.gates i d).second
@@ -85,9 +95,11 @@ module _ (c : CircuitData) (is : IsCircuit c) where
   pub output_known : (i d : ℕ) → i < length c.outputs → IsKnown (definitions c) (get_or c.outputs i d)
   output_known i d lt =
       All-contains (IsKnown (definitions c)) (readings c) _ is.draft.known
-      (Contains-append_left (map (λ l. l.next) c.latches ++ c.outputs) _ _ (Contains-append_right (map (λ l. l.next) c.latches) _ _ (Contains-get_or c.outputs i d lt)))
+      (Contains-append_left (map (λ l. l.next) c.latches ++ c.outputs) _ _
+      (Contains-append_right (map (λ l. l.next) c.latches) _ _ (Contains-get_or c.outputs i d lt)))
 
   pub next_known : (i : ℕ) (d : Latch) → i < length c.latches → IsKnown (definitions c) (get_or c.latches i d).next
   next_known i d lt =
       All-contains (IsKnown (definitions c)) (readings c) _ is.draft.known
-      (Contains-append_left (map (λ l. l.next) c.latches ++ c.outputs) _ _ (Contains-append_left (map (λ l. l.next) c.latches) _ _ (contains_mapped (λ l. l.next) c.latches i d lt)))
+      (Contains-append_left (map (λ l. l.next) c.latches ++ c.outputs) _ _
+      (Contains-append_left (map (λ l. l.next) c.latches) _ _ (contains_mapped (λ l. l.next) c.latches i d lt)))

@@ -1,5 +1,6 @@
 -- The rows of a circuit.
-use Rattle.std.proofs.Common.{◌≡◌, ◌≢◌, ℕ, zero, suc, ◌+◌, ◌/◌, ◌<◌, ◌≤◌, inl, inr, List, [], ◌∷◌, ◌++◌, map, length, get_or, refl, sym, ap, subst, ◌∙◌, arith, Some, length-append}
+use Rattle.std.proofs.Common.{◌≡◌, ◌≢◌, ℕ, zero, suc, ◌+◌, ◌/◌, ◌<◌, ◌≤◌, inl, inr, List, [], ◌∷◌, ◌++◌, map, length}
+use Rattle.std.proofs.Common.{get_or, refl, sym, ap, subst, ◌∙◌, arith, Some, length-append}
 use Rattle.std.proofs.lemmas.List.{length-map, get_or-map, get_or_append_left, get_or-append-add}
 use Rattle.std.proofs.lemmas.Option.{slice_get-get_or, get_or_from_slice_get, slice_get_within}
 use Rattle.ps_circuit.specs.declared.parts.Latch.{Latch}
@@ -17,42 +18,56 @@ module _ (c : CircuitData) where
   pub definitions_input : (k : ℕ) → k < length c.inputs → get_or (definitions c) k 0 ≡ get_or c.inputs k 0
   definitions_input k lt =
       let latches = map (λ l. l.literal) c.latches in
-      get_or_append_left (c.inputs ++ latches) (map (λ g. g.literal) c.gates) 0 k (omega (arith, length-append c.inputs latches))
+      get_or_append_left (c.inputs ++ latches) (map (λ g. g.literal) c.gates) 0 k
+      (omega (arith, length-append c.inputs latches))
       ∙ get_or_append_left c.inputs latches 0 k lt
 
-  pub definitions_latch : (k : ℕ) → k < length c.latches → get_or (definitions c) (length c.inputs + k) 0 ≡ (get_or c.latches k no_latch).literal
+  pub definitions_latch : (k : ℕ) → k < length c.latches → get_or (definitions c) (length c.inputs + k) 0 ≡
+      (get_or c.latches k no_latch).literal
   definitions_latch k lt =
       let latches = map (λ l. l.literal) c.latches in
       get_or_append_left (c.inputs ++ latches) (map (λ g. g.literal) c.gates) 0 (length c.inputs + k)
       (omega (arith, length-append c.inputs latches, length-map c.latches (λ l. l.literal)))
       ∙ get_or-append-add c.inputs latches k 0 ∙ get_or-map (λ l. l.literal) c.latches k no_latch 0 lt
 
-  pub definitions_gate : (i : ℕ) → i < length c.gates → get_or (definitions c) (length c.inputs + length c.latches + i) 0 ≡ (get_or c.gates i no_gate).literal
+  pub definitions_gate : (i : ℕ) → i < length c.gates → get_or (definitions c) (length c.inputs + length c.latches + i)
+      0 ≡ (get_or c.gates i no_gate).literal
   definitions_gate i lt =
       let front = c.inputs ++ map (λ l. l.literal) c.latches in
-      let many : length front ≡ length c.inputs + length c.latches = omega (arith, length-append c.inputs (map (λ l. l.literal) c.latches), length-map c.latches (λ l. l.literal)) in
+      let many : length front ≡ length c.inputs + length c.latches =
+      omega (arith, length-append c.inputs (map (λ l. l.literal) c.latches), length-map c.latches (λ l. l.literal))
+      in
       ap (λ n. get_or (definitions c) (n + i) 0) (sym many)
       ∙ get_or-append-add front (map (λ g. g.literal) c.gates) i 0 ∙ get_or-map (λ g. g.literal) c.gates i no_gate 0 lt
 
   pub length-definitions : length (definitions c) ≡ length c.inputs + length c.latches + length c.gates
   length-definitions =
       let latches = map (λ l. l.literal) c.latches in
-      omega (arith, length-append (c.inputs ++ latches) (map (λ g. g.literal) c.gates), length-append c.inputs latches, length-map c.latches (λ l. l.literal), length-map c.gates (λ g. g.literal))
+      omega (
+        arith,
+        length-append (c.inputs ++ latches) (map (λ g. g.literal) c.gates),
+        length-append c.inputs latches,
+        length-map c.latches (λ l. l.literal),
+        length-map c.gates (λ g. g.literal),
+      )
 
   pub length-variables : length (variables c) ≡ length c.inputs + length c.latches + length c.gates + 1
   length-variables = omega (arith, length-definitions, length-map (definitions c) variable)
 
 module _ (c : CircuitData) (is : IsCircuit c) where
-  pub place_of-definition : (k literal : ℕ) → k < length (definitions c) → get_or (definitions c) k 0 ≡ literal → place_of c (variable literal) ≡ suc k
+  pub place_of-definition : (k literal : ℕ) → k < length (definitions c) → get_or (definitions c) k 0 ≡ literal →
+      place_of c (variable literal) ≡ suc k
   place_of-definition k literal lt e =
       ap (place_of c) (ap variable (sym e) ∙ sym (variables_at c is k 0 lt))
       ∙ place_of-at c is (suc k) (omega (arith, length-map (definitions c) variable))
 
-  pub place_of-gate : (i : ℕ) → i < length c.gates → place_of c (variable (get_or c.gates i no_gate).literal) ≡ suc (length c.inputs + length c.latches + i)
+  pub place_of-gate : (i : ℕ) → i < length c.gates → place_of c (variable (get_or c.gates i no_gate).literal) ≡ suc
+      (length c.inputs + length c.latches + i)
   place_of-gate i lt = place_of-definition _ _ (omega (arith, length-definitions c)) (definitions_gate c i lt)
 
   -- two literals at one place have one variable
-  pub place_of-same : (l m : ℕ) → IsKnown (definitions c) l → IsKnown (definitions c) m → place_of c (variable l) ≡ place_of c (variable m) → variable l ≡ variable m
+  pub place_of-same : (l m : ℕ) → IsKnown (definitions c) l → IsKnown (definitions c) m →
+      place_of c (variable l) ≡ place_of c (variable m) → variable l ≡ variable m
   place_of-same l m kl km e =
       sym (place_known c is l kl).1 ∙ ap (λ p. get_or (variables c) p 0) e ∙ (place_known c is m km).1
 
@@ -65,7 +80,8 @@ module _ (c : CircuitData) (is : IsCircuit c) where
     length-rows = ap length are.each ∙ length-map are.order (row_at c)
 
     pub row_is : (k : ℕ) → k < length rows → row rows k ≡ row_at c (gate_place k)
-    row_is k lt = ap (λ rs. get_or rs k no_row) are.each ∙ get_or-map (row_at c) are.order k 0 no_row (omega (arith, length-rows))
+    row_is k lt =
+        ap (λ rs. get_or rs k no_row) are.each ∙ get_or-map (row_at c) are.order k 0 no_row (omega (arith, length-rows))
 
     pub gate_within : (k : ℕ) → k < length rows → gate_place k < length c.gates
     gate_within k lt = are.is_order.within k _ (slice_get-get_or are.order k 0 (omega (arith, length-rows)))
@@ -73,21 +89,28 @@ module _ (c : CircuitData) (is : IsCircuit c) where
     -- each gate has a row
     pub row_of_gate : (i : ℕ) → i < length c.gates → (k : ℕ) × (k < length rows) × (gate_place k ≡ i)
     row_of_gate i lt =
-        let there = are.is_order.each i lt in
-        (there.0, omega (arith, length-rows, slice_get_within are.order there.0 i there.1), get_or_from_slice_get are.order there.0 i 0 there.1)
+        let there = are.is_order.each i lt in (
+          there.0,
+          omega (arith, length-rows, slice_get_within are.order there.0 i there.1),
+          get_or_from_slice_get are.order there.0 i 0 there.1,
+        )
 
-    pub target_is : (k : ℕ) → k < length rows → (row rows k).target ≡ suc (length c.inputs + length c.latches + gate_place k)
+    pub target_is : (k : ℕ) → k < length rows → (row rows k).target ≡ suc
+        (length c.inputs + length c.latches + gate_place k)
     target_is k lt = ap (λ (r : Row). r.target) (row_is k lt) ∙ place_of-gate (gate_place k) (gate_within k lt)
 
     reads : (k l literal : ℕ) → k < length rows → l < length rows → IsKnown (definitions c) literal
-        → place_of c (variable literal) ≡ (row rows l).target → variable literal ≡ variable (get_or c.gates (gate_place l) no_gate).literal
+        → place_of c (variable literal) ≡ (row rows l).target → variable literal ≡ variable
+        (get_or c.gates (gate_place l) no_gate).literal
     reads k l literal hk hl known e =
-        place_of-same literal _ known (gate_known c is (gate_place l) no_gate (gate_within l hl)) (e ∙ ap (λ (r : Row). r.target) (row_is l hl))
+        place_of-same literal _ known (gate_known c is (gate_place l) no_gate (gate_within l hl))
+        (e ∙ ap (λ (r : Row). r.target) (row_is l hl))
 
     at : (k : ℕ) → k < length rows → Rattle.std.specs.Prelude.slice_get are.order k ≡ Some (gate_place k)
     at k lt = slice_get-get_or are.order k 0 (omega (arith, length-rows))
 
-    gate_at : (k : ℕ) → k < length rows → Rattle.std.specs.Prelude.slice_get c.gates (gate_place k) ≡ Some (get_or c.gates (gate_place k) no_gate)
+    gate_at : (k : ℕ) → k < length rows → Rattle.std.specs.Prelude.slice_get c.gates (gate_place k) ≡ Some
+        (get_or c.gates (gate_place k) no_gate)
     gate_at k lt = slice_get-get_or c.gates (gate_place k) no_gate (gate_within k lt)
 
     pub IsScheduled-rows : IsScheduled rows
@@ -100,7 +123,9 @@ module _ (c : CircuitData) (is : IsCircuit c) where
             read = _;
             at_i = gate_at k hk;
             at_j = gate_at l hl;
-            side = inl (reads k l _ hk hl (sides_known c is (gate_place k) no_gate (gate_within k hk)).0 (sym (ap (λ (r : Row). r.first.place) (row_is k hk)) ∙ e));
+            side =
+                inl (reads k l _ hk hl (sides_known c is (gate_place k) no_gate (gate_within k hk)).0
+                (sym (ap (λ (r : Row). r.first.place) (row_is k hk)) ∙ e));
           });
       second_behind = λ k l hk hl e. are.is_order.behind k l (gate_place k) (gate_place l) (at k hk) (at l hl)
           (record {
@@ -108,7 +133,9 @@ module _ (c : CircuitData) (is : IsCircuit c) where
             read = _;
             at_i = gate_at k hk;
             at_j = gate_at l hl;
-            side = inr (reads k l _ hk hl (sides_known c is (gate_place k) no_gate (gate_within k hk)).1 (sym (ap (λ (r : Row). r.second.place) (row_is k hk)) ∙ e));
+            side =
+                inr (reads k l _ hk hl (sides_known c is (gate_place k) no_gate (gate_within k hk)).1
+                (sym (ap (λ (r : Row). r.second.place) (row_is k hk)) ∙ e));
           });
     }
 

@@ -1,5 +1,6 @@
 -- Rows that are worked out, one after another.
-use Rattle.std.proofs.Common.{◌≡◌, ◌≢◌, ℕ, zero, suc, ◌<◌, ◌&&◌, Bool, false, not, cond, List, [], ◌∷◌, length, get_or, refl, sym, ap, ap₂, ◌∙◌, arith, length-set, get_or-set_same, get_or-set_other}
+use Rattle.std.proofs.Common.{◌≡◌, ◌≢◌, ℕ, zero, suc, ◌<◌, ◌&&◌, Bool, false, not, cond, List, [], ◌∷◌, length, get_or}
+use Rattle.std.proofs.Common.{refl, sym, ap, ap₂, ◌∙◌, arith, length-set, get_or-set_same, get_or-set_other}
 use Rattle.ps_simulate.specs.declared.plan.Wire.{Wire}
 use Rattle.ps_simulate.specs.declared.plan.Row.{Row}
 use Rattle.ps_simulate.specs.Plans.{read, work_row, work_out}
@@ -16,14 +17,20 @@ row rows k = get_or rows k no_row
 -- no two rows have one target, and what a row reads is the target of none but an earlier one
 pub record IsScheduled (rows : List Row) : Type 0 where
   pub once : (k l : ℕ) → k < length rows → l < length rows → (row rows k).target ≡ (row rows l).target → k ≡ l
-  pub first_behind : (k l : ℕ) → k < length rows → l < length rows → (row rows k).first.place ≡ (row rows l).target → l < k
-  pub second_behind : (k l : ℕ) → k < length rows → l < length rows → (row rows k).second.place ≡ (row rows l).target → l < k
+  pub first_behind : (k l : ℕ) → k < length rows → l < length rows →
+      (row rows k).first.place ≡ (row rows l).target → l < k
+  pub second_behind : (k l : ℕ) → k < length rows → l < length rows →
+      (row rows k).second.place ≡ (row rows l).target → l < k
 
 IsScheduled-tail : (r : Row) (rows : List Row) → IsScheduled (r ∷ rows) → IsScheduled rows
 IsScheduled-tail r rows s = record {
   once = λ k l hk hl e. (let h : suc k ≡ suc l = s.once (suc k) (suc l) (omega arith) (omega arith) e in omega arith);
-  first_behind = λ k l hk hl e. (let h : suc l < suc k = s.first_behind (suc k) (suc l) (omega arith) (omega arith) e in omega arith);
-  second_behind = λ k l hk hl e. (let h : suc l < suc k = s.second_behind (suc k) (suc l) (omega arith) (omega arith) e in omega arith);
+  first_behind =
+      λ k l hk hl e. (let h : suc l < suc k = s.first_behind (suc k) (suc l) (omega arith) (omega arith) e in
+      omega arith);
+  second_behind =
+      λ k l hk hl e. (let h : suc l < suc k = s.second_behind (suc k) (suc l) (omega arith) (omega arith) e in
+      omega arith);
 }
 
 pub length-work_out : (rows : List Row) (values : List Bool) → length (work_out rows values) ≡ length values
@@ -31,29 +38,37 @@ length-work_out [] values = refl
 length-work_out (r ∷ rows) values = length-work_out rows (work_row values r) ∙ length-set values r.target _
 
 -- what is no target stays
-pub work_out-other : (rows : List Row) (values : List Bool) (p : ℕ) → ((k : ℕ) → k < length rows → (row rows k).target ≢ p)
+pub work_out-other : (rows : List Row) (values : List Bool) (p : ℕ) →
+    ((k : ℕ) → k < length rows → (row rows k).target ≢ p)
     → get_or (work_out rows values) p false ≡ get_or values p false
 work_out-other [] values p none = refl
 work_out-other (r ∷ rows) values p none =
     work_out-other rows (work_row values r) p (λ k lt. none (suc k) (omega arith))
     ∙ get_or-set_other values r.target p _ false (λ e. none 0 (omega arith) (sym e))
 
-pub read-same : (values others : List Bool) (w : Wire) → get_or values w.place false ≡ get_or others w.place false → read values w ≡ read others w
+pub read-same : (values others : List Bool) (w : Wire) → get_or values w.place false ≡ get_or others w.place false →
+    read values w ≡ read others w
 read-same values others w e = ap (λ (b : Bool). cond w.is_negated (not b) b) e
 
 -- each row's target has what the row's literals give
-pub work_out-row : (rows : List Row) (values : List Bool) (k : ℕ) → IsScheduled rows → ((l : ℕ) → l < length rows → (row rows l).target < length values)
-    → k < length rows → get_or (work_out rows values) (row rows k).target false ≡ (read (work_out rows values) (row rows k).first && read (work_out rows values) (row rows k).second)
+pub work_out-row : (rows : List Row) (values : List Bool) (k : ℕ) → IsScheduled rows →
+    ((l : ℕ) → l < length rows → (row rows l).target < length values)
+    → k < length rows → get_or (work_out rows values) (row rows k).target false ≡
+    (read (work_out rows values) (row rows k).first && read (work_out rows values) (row rows k).second)
 work_out-row [] values k s within lt = absurd (omega arith)
 work_out-row (r ∷ rows) values zero s within lt =
     let all = work_out (r ∷ rows) values in
     let first : read all r.first ≡ read values r.first =
-    read-same all values r.first (work_out-other (r ∷ rows) values r.first.place (λ l less e. absurd (omega (arith, s.first_behind 0 l lt less (sym e))))) in
+    read-same all values r.first (work_out-other (r ∷ rows) values r.first.place
+    (λ l less e. absurd (omega (arith, s.first_behind 0 l lt less (sym e))))) in
     let second : read all r.second ≡ read values r.second =
-    read-same all values r.second (work_out-other (r ∷ rows) values r.second.place (λ l less e. absurd (omega (arith, s.second_behind 0 l lt less (sym e))))) in
+    read-same all values r.second (work_out-other (r ∷ rows) values r.second.place
+    (λ l less e. absurd (omega (arith, s.second_behind 0 l lt less (sym e))))) in
     let kept : get_or all r.target false ≡ get_or (work_row values r) r.target false =
-    work_out-other rows (work_row values r) r.target (λ l less e. absurd (let h : suc l ≡ 0 = s.once (suc l) 0 (omega arith) lt e in omega arith)) in
+    work_out-other rows (work_row values r) r.target (λ l less e.
+    absurd (let h : suc l ≡ 0 = s.once (suc l) 0 (omega arith) lt e in omega arith)) in
     kept ∙ get_or-set_same values r.target _ false (within 0 lt) ∙ ap₂ ◌&&◌ (sym first) (sym second)
 work_out-row (r ∷ rows) values (suc k) s within lt =
     work_out-row rows (work_row values r) k (IsScheduled-tail r rows s)
-    (λ l less. let h : (row rows l).target < length values = within (suc l) (omega arith) in omega (arith, length-set values r.target (read values r.first && read values r.second))) (omega arith)
+    (λ l less. let h : (row rows l).target < length values = within (suc l) (omega arith) in
+    omega (arith, length-set values r.target (read values r.first && read values r.second))) (omega arith)

@@ -1,4 +1,5 @@
--- What may be wrong with the text of a stimulus: the number and the name of each cause, and which goes first at one byte.
+-- What may be wrong with the text of a stimulus: the number and the name of each cause, and which goes first at one
+-- byte.
 use Rattle.std.specs.Prelude.{ℕ, List, codes}
 use Rattle.ps_text.specs.declared.faults.Fault.{Fault}
 use Rattle.ps_simulate.specs.declared.fault.StimulusCause.{StimulusCause}

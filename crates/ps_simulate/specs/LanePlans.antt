@@ -1,5 +1,5 @@
--- The table that 256 runs at once work through: a plain run's, whose places are moved so that the gates stand in the order in
--- which they are worked out.
+-- The table that 256 runs at once work through: a plain run's, whose places are moved so that the gates stand in the
+-- order in which they are worked out.
 use Rattle.std.specs.Prelude.{◌≡◌, ◌≢◌, ℕ, ◌+◌, ◌<◌, ◌≤◌, Bool, false, List, [], ◌∷◌, map, length, slice_index_or}
 use Rattle.ps_circuit.specs.Circuits.{CircuitData}
 use Rattle.ps_circuit.specs.Literals.{is_negated, variable}
@@ -17,7 +17,8 @@ wire_in literal = record { place = variable literal; is_negated = is_negated lit
 -- gates that stand one behind another from that place on
 abbrev pub rows_from : ℕ → List Operands → List Row
 rows_from place [] = []
-rows_from place (g ∷ gates) = record { target = place; first = wire_in g.first; second = wire_in g.second } ∷ rows_from (place + 1) gates
+rows_from place (g ∷ gates) =
+    record { target = place; first = wire_in g.first; second = wire_in g.second } ∷ rows_from (place + 1) gates
 
 -- ---- places that are moved: the list has for each the one to which it goes
 
@@ -28,7 +29,8 @@ abbrev pub move_wire : List ℕ → Wire → Wire
 move_wire places w = record { place = moved places w.place; is_negated = w.is_negated }
 
 abbrev pub move_row : List ℕ → Row → Row
-move_row places r = record { target = moved places r.target; first = move_wire places r.first; second = move_wire places r.second }
+move_row places r =
+    record { target = moved places r.target; first = move_wire places r.first; second = move_wire places r.second }
 
 -- the values by the places before they were moved
 abbrev pub unmoved : List ℕ → List Bool → List Bool
@@ -40,7 +42,8 @@ AreKept front places = (p : ℕ) → p < front → moved places p ≡ p
 
 -- each row's place goes behind that of the row before it
 abbrev pub AreInOrder : ℕ → List ℕ → List Row → Type 0
-AreInOrder front places rows = (k : ℕ) (d : Row) → k < length rows → moved places (slice_index_or rows k d).target ≡ front + k
+AreInOrder front places rows =
+    (k : ℕ) (d : Row) → k < length rows → moved places (slice_index_or rows k d).target ≡ front + k
 
 -- the row is of a place behind those in front
 pub record IsGateRow (front size : ℕ) (r : Row) : Type 0 where
@@ -49,7 +52,8 @@ pub record IsGateRow (front size : ℕ) (r : Row) : Type 0 where
 
 -- no two rows are of one place
 abbrev pub AreOnce : List Row → Type 0
-AreOnce rows = (k l : ℕ) (d : Row) → k < l → l < length rows → (slice_index_or rows k d).target ≢ (slice_index_or rows l d).target
+AreOnce rows =
+    (k l : ℕ) (d : Row) → k < l → l < length rows → (slice_index_or rows k d).target ≢ (slice_index_or rows l d).target
 
 -- each place of a table goes to a place of the table, and no two go to one
 pub record AreMoved (size front : ℕ) (places : List ℕ) : Type 0 where

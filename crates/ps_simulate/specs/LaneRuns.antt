@@ -12,24 +12,28 @@ pub record LaneMoment : Type 0 where
 
 -- the bits of a lane
 abbrev pub moment_in : ℕ → LaneMoment → Moment
-moment_in lane m = record { latches = lane_of m.latches lane; inputs = lane_of m.inputs lane; outputs = lane_of m.outputs lane }
+moment_in lane m =
+    record { latches = lane_of m.latches lane; inputs = lane_of m.inputs lane; outputs = lane_of m.outputs lane }
 
 -- a step in each lane
 abbrev pub StepsInLanes : CircuitData → List (List ℕ) → List (List ℕ) → List (List ℕ) → List (List ℕ) → Type 0
 StepsInLanes c latches inputs outputs next =
-    (lane : ℕ) → lane < 256 → Steps c (lane_of latches lane) (lane_of inputs lane) (lane_of outputs lane) (lane_of next lane)
+    (lane : ℕ) → lane < 256 → Steps c (lane_of latches lane) (lane_of inputs lane) (lane_of outputs lane)
+    (lane_of next lane)
 
 -- the moments, one after another, lead from these latches to those
 abbrev pub GoOnInLanes : CircuitData → List (List ℕ) → List LaneMoment → List (List ℕ) → Type 0
 GoOnInLanes c latches [] last = latches ≡ last
 GoOnInLanes c latches (m ∷ ms) last =
-    (next : List (List ℕ)) × (m.latches ≡ latches) × StepsInLanes c latches m.inputs m.outputs next × GoOnInLanes c next ms last
+    (next : List (List ℕ)) × (m.latches ≡ latches) × StepsInLanes c latches m.inputs m.outputs next ×
+    GoOnInLanes c next ms last
 
--- for every list of steps each lane's moments are a run from that lane's latches, and they are those of each plain run from there
--- on that lane's letters: it has the same outputs, and the same latches before each step and behind the last
+-- for every list of steps each lane's moments are a run from that lane's latches, and they are those of each plain run
+-- from there on that lane's letters: it has the same outputs, and the same latches before each step and behind the last
 abbrev pub AreLanesPlain : CircuitData → Type 0
 AreLanesPlain c =
     (latches last : List (List ℕ)) (ms : List LaneMoment) → GoOnInLanes c latches ms last →
     (lane : ℕ) → lane < 256 → GoesOn c (lane_of latches lane) (map (moment_in lane) ms) (lane_of last lane) ×
     ((plain : List Moment) (end : List Bool) → GoesOn c (lane_of latches lane) plain end →
-    map (λ m. m.inputs) plain ≡ map (λ m. lane_of m.inputs lane) ms → (plain ≡ map (moment_in lane) ms) × (end ≡ lane_of last lane))
+    map (λ m. m.inputs) plain ≡ map (λ m. lane_of m.inputs lane) ms →
+    (plain ≡ map (moment_in lane) ms) × (end ≡ lane_of last lane))

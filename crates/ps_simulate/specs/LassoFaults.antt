@@ -1,5 +1,6 @@
 -- Why a lasso has no verdict.
---     Stands fault role names controllable c stem lap      what is said by the fault: of width, then of an empty lap, then of symbols
+--     Stands fault role names controllable c stem lap      what is said by the fault: of width, then of an empty lap,
+--               then of symbols
 use Rattle.std.specs.Prelude.{◌≡◌, ⊤, ◌<◌, Bool, List, [], length, All}
 use Rattle.ps_circuit.specs.Circuits.{CircuitData}
 use Rattle.ps_automaton.specs.Automata.{AutomatonData}
@@ -14,10 +15,11 @@ pub record AreWide (c : CircuitData) (stem lap : List (List Bool)) : Type 0 wher
   pub lap_is : All (λ letter. length letter ≡ length c.inputs) lap
 
 -- no fault stands
-pub record HasNoLassoFault (role : Role) (a : AutomatonData) (c : CircuitData) (stem lap : List (List Bool)) : Type 0 where
-  pub wide : AreWide c stem lap
-  pub some : 0 < length lap
-  pub symbols : HasSymbols role a.names a.controllable c
+pub record HasNoLassoFault (role : Role) (a : AutomatonData) (c : CircuitData) (stem lap : List (List Bool)) : Type 0
+  where
+    pub wide : AreWide c stem lap
+    pub some : 0 < length lap
+    pub symbols : HasSymbols role a.names a.controllable c
 
 -- the first fault that stands; any growth may have been refused
 abbrev pub Stands : Role → AutomatonData → CircuitData → List (List Bool) → List (List Bool) → LassoFault → Type 0

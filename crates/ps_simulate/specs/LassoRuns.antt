@@ -1,5 +1,6 @@
 -- A run of a circuit through letters. (Of private functions.)
-use Rattle.std.specs.Prelude.{◌≡◌, ◌≢◌, ℕ, ◌<◌, ◌++◌, Bool, List, [], ◌∷◌, Option, None, Some, length, map, slice_get, slice_index_or, Vec}
+use Rattle.std.specs.Prelude.{◌≡◌, ◌≢◌, ℕ, ◌<◌, ◌++◌, Bool, List, [], ◌∷◌, Option, None, Some, length, map, slice_get}
+use Rattle.std.specs.Prelude.{slice_index_or, Vec}
 use Rattle.std.specs.BTreeMap.{BTreeMap, btree_map_len, get}
 use Rattle.std.specs.Cmp.Lexicographic.{slice_cmp}
 use Rattle.std.specs.Global.{Global}
@@ -10,7 +11,8 @@ use Rattle.ps_circuit.specs.Values.{Moment, GoesOn, resets}
 use Rattle.ps_simulate.specs.Lassos.{AreLetters, Repeats, laps_of, latches_before}
 
 -- letters are read from these latches to those, and as many letters of an automaton stand behind the earlier ones
-pub record ReadsWord (names : List (List ℕ)) (c : CircuitData) (from : List Bool) (word : List (List Bool)) (old new : List ℕ) (last : List Bool) : Type 0 where
+pub record ReadsWord (names : List (List ℕ)) (c : CircuitData) (from : List Bool) (word : List (List Bool))
+    (old new : List ℕ) (last : List Bool) : Type 0 where
   pub trace : List Moment
   pub goes_on : GoesOn c from trace last
   pub reads : map (λ m. m.inputs) trace ≡ word
@@ -19,14 +21,16 @@ pub record ReadsWord (names : List (List ℕ)) (c : CircuitData) (from : List Bo
   pub new_is : new ≡ old ++ letters
 
 -- the first repetition, with the letters of its trace
-pub record RepeatsBy (names : List (List ℕ)) (c : CircuitData) (stem lap : List (List Bool)) (i : ℕ) (letters : List ℕ) : Type 0 where
+pub record RepeatsBy (names : List (List ℕ)) (c : CircuitData) (stem lap : List (List Bool)) (i : ℕ)
+    (letters : List ℕ) : Type 0 where
   pub j : ℕ
   pub trace : List Moment
   pub repeats : Repeats c stem lap i j trace
   pub are_letters : AreLetters names c trace letters
 
 -- laps were read, one for each of the latches seen, which stand before them in turn and differ
-pub record HasRead (names : List (List ℕ)) (c : CircuitData) (stem lap : List (List Bool)) (seen : List (List Bool)) (letters : List ℕ) (last : List Bool) : Type 0 where
+pub record HasRead (names : List (List ℕ)) (c : CircuitData) (stem lap : List (List Bool)) (seen : List (List Bool))
+    (letters : List ℕ) (last : List Bool) : Type 0 where
   pub trace : List Moment
   pub goes_on : GoesOn c (resets c) trace last
   pub reads : map (λ m. m.inputs) trace ≡ stem ++ laps_of lap (length seen)
@@ -38,7 +42,8 @@ pub record HasRead (names : List (List ℕ)) (c : CircuitData) (stem lap : List 
 -- the place of latches that were seen before; new ones go behind the others
 abbrev pub IsSeen : List (List Bool) → List (List Bool) → List Bool → Option ℕ → Type 0
 IsSeen old new latches (Some i) = (i < length old) × (slice_index_or old i [] ≡ latches) × (new ≡ old)
-IsSeen old new latches None = ((k : ℕ) → k < length old → slice_index_or old k [] ≢ latches) × (new ≡ old ++ latches ∷ [])
+IsSeen old new latches None =
+    ((k : ℕ) → k < length old → slice_index_or old k [] ≢ latches) × (new ≡ old ++ latches ∷ [])
 
 -- the order of lists of bits
 abbrev pub bits_cmp : Vec Bool Global → Vec Bool Global → Ordering
@@ -47,5 +52,7 @@ bits_cmp one other = slice_cmp bool_cmp one.items other.items
 -- a map has the place of each of the latches seen, and of nothing else
 pub record HavePlaces (seen : List (List Bool)) (places : BTreeMap (Vec Bool Global) ℕ) : Type 0 where
   pub each : btree_map_len places ≡ length seen
-  pub sound : (key : Vec Bool Global) (place : ℕ) → get bits_cmp places key ≡ Some place → slice_get seen place ≡ Some key.items
-  pub whole : (key : Vec Bool Global) (place : ℕ) → slice_get seen place ≡ Some key.items → get bits_cmp places key ≡ Some place
+  pub sound : (key : Vec Bool Global) (place : ℕ) → get bits_cmp places key ≡ Some place →
+      slice_get seen place ≡ Some key.items
+  pub whole : (key : Vec Bool Global) (place : ℕ) → slice_get seen place ≡ Some key.items →
+      get bits_cmp places key ≡ Some place

@@ -1,8 +1,10 @@
 -- What a circuit and an automaton make of a stem that is read once and a lap that is read again and again.
---     IsLetterOf names c m letter      the letter of a step: a proposition's bit is that of the input or output with its name
+--     IsLetterOf names c m letter      the letter of a step: a proposition's bit is that of the input or output with
+--               its name
 --     Repeats c stem lap i j trace      the first repetition: before lap j the latches are those before lap i
 --     IsVerdictOf file c stem lap verdict      whether the trace so far is accepted, as a lasso that goes back to lap i
-use Rattle.std.specs.Prelude.{◌≡◌, ◌≢◌, ℕ, zero, suc, ◌+◌, ◌-◌, ◌*◌, ◌^◌, ◌<◌, ◌↔◌, Bool, false, IsTrue, List, [], ◌∷◌, ◌++◌, length, map, take, drop, slice_index_or}
+use Rattle.std.specs.Prelude.{◌≡◌, ◌≢◌, ℕ, zero, suc, ◌+◌, ◌-◌, ◌*◌, ◌^◌, ◌<◌, ◌↔◌, Bool, false, IsTrue, List, [], ◌∷◌}
+use Rattle.std.specs.Prelude.{◌++◌, length, map, take, drop, slice_index_or}
 use Rattle.ps_label.specs.Truth.{is_in}
 use Rattle.ps_hoa.specs.Files.{FileData}
 use Rattle.ps_automaton.specs.Acceptance.{IsAccepted}
@@ -39,8 +41,8 @@ latches_along trace last = map (λ m. m.latches) trace ++ last ∷ []
 abbrev pub latches_before : List (List Bool) → List (List Bool) → List Moment → List Bool → ℕ → List Bool
 latches_before stem lap trace last k = slice_index_or (latches_along trace last) (length stem + k * length lap) []
 
--- A trace reads the stem and then j laps, each with a letter or more. The latches behind it are those before lap i, and those before the
--- laps so far differ.
+-- A trace reads the stem and then j laps, each with a letter or more. The latches behind it are those before lap i, and
+-- those before the laps so far differ.
 pub record Repeats (c : CircuitData) (stem lap : List (List Bool)) (i j : ℕ) (trace : List Moment) : Type 0 where
   pub has_letter : 0 < length lap
   pub last : List Bool
@@ -52,17 +54,19 @@ pub record Repeats (c : CircuitData) (stem lap : List (List Bool)) (i j : ℕ) (
 
 -- ## The verdict
 
-pub record IsVerdictOf (file : FileData) (c : CircuitData) (stem lap : List (List Bool)) (verdict : Verdict) : Type 0 where
-  pub i : ℕ
-  pub j : ℕ
-  pub trace : List Moment
-  pub letters : List ℕ
-  pub repeats : Repeats c stem lap i j trace
-  pub are_letters : AreLetters file.names c trace letters
-  pub stem_is : verdict.stem ≡ length stem + i * length lap
-  pub lap_is : verdict.lap ≡ (j - i) * length lap
-  pub accepted : IsTrue verdict.accepted ↔ IsAccepted file (take verdict.stem letters) (drop verdict.stem letters)
+pub record IsVerdictOf (file : FileData) (c : CircuitData) (stem lap : List (List Bool)) (verdict : Verdict) : Type 0
+  where
+    pub i : ℕ
+    pub j : ℕ
+    pub trace : List Moment
+    pub letters : List ℕ
+    pub repeats : Repeats c stem lap i j trace
+    pub are_letters : AreLetters file.names c trace letters
+    pub stem_is : verdict.stem ≡ length stem + i * length lap
+    pub lap_is : verdict.lap ≡ (j - i) * length lap
+    pub accepted : IsTrue verdict.accepted ↔ IsAccepted file (take verdict.stem letters) (drop verdict.stem letters)
 
 -- any two verdicts are one
 abbrev pub HasOneVerdict : FileData → CircuitData → List (List Bool) → List (List Bool) → Type 0
-HasOneVerdict file c stem lap = (verdict other : Verdict) → IsVerdictOf file c stem lap verdict → IsVerdictOf file c stem lap other → verdict ≡ other
+HasOneVerdict file c stem lap = (verdict other : Verdict) → IsVerdictOf file c stem lap verdict →
+    IsVerdictOf file c stem lap other → verdict ≡ other

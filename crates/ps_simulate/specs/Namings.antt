@@ -8,11 +8,14 @@ use Rattle.ps_simulate.specs.declared.naming.Naming.{Naming}
 
 -- the proposition that is searched, or that there is none
 abbrev pub IsPropositionOf : List (List ℕ) → List ℕ → Bool → List ℕ → Option ℕ → Type 0
-IsPropositionOf names controllable wanted symbol (Some p) = (p < length names) × (slice_index_or names p [] ≡ symbol) × (is_among p controllable ≡ wanted)
-IsPropositionOf names controllable wanted symbol None = (p : ℕ) → p < length names → is_among p controllable ≡ wanted → ¬ (slice_index_or names p [] ≡ symbol)
+IsPropositionOf names controllable wanted symbol (Some p) =
+    (p < length names) × (slice_index_or names p [] ≡ symbol) × (is_among p controllable ≡ wanted)
+IsPropositionOf names controllable wanted symbol None =
+    (p : ℕ) → p < length names → is_among p controllable ≡ wanted → ¬ (slice_index_or names p [] ≡ symbol)
 
 -- so many symbols have their places
-pub record ArePut (names : List (List ℕ)) (controllable : List ℕ) (wanted : Bool) (symbols : List (Option (List ℕ))) (count : ℕ) (places : List (Option ℕ)) : Type 0 where
+pub record ArePut (names : List (List ℕ)) (controllable : List ℕ) (wanted : Bool) (symbols : List (Option (List ℕ)))
+    (count : ℕ) (places : List (Option ℕ)) : Type 0 where
   pub size : length places ≡ length names
   pub put : (k : ℕ) → k < count → (p : ℕ) × IsSymbol names symbols k p × (slice_index_or places p None ≡ Some k)
   pub before : (p k : ℕ) → slice_index_or places p None ≡ Some k → k < count
@@ -20,7 +23,8 @@ pub record ArePut (names : List (List ℕ)) (controllable : List ℕ) (wanted : 
   pub side : (p k : ℕ) → slice_index_or places p None ≡ Some k → is_among p controllable ≡ wanted
 
 -- a proposition has the place of the symbol that is its name, and it has one only on that side
-pub record ArePlacesOf (names : List (List ℕ)) (controllable : List ℕ) (wanted : Bool) (symbols : List (Option (List ℕ))) (places : List (Option ℕ)) : Type 0 where
+pub record ArePlacesOf (names : List (List ℕ)) (controllable : List ℕ) (wanted : Bool)
+    (symbols : List (Option (List ℕ))) (places : List (Option ℕ)) : Type 0 where
   pub size : length places ≡ length names
   pub placed : (p k : ℕ) → IsSymbol names symbols k p → slice_index_or places p None ≡ Some k
   pub within : (p k : ℕ) → slice_index_or places p None ≡ Some k → k < length symbols
@@ -36,10 +40,14 @@ pub record IsNaming (c : CircuitData) (naming : Naming) : Type 0 where
   pub outputs_size : length naming.outputs.items ≡ length naming.names.now
   pub inputs_within : (p k : ℕ) → slice_index_or naming.inputs.items p None ≡ Some k → k < length c.inputs
   pub outputs_within : (p k : ℕ) → slice_index_or naming.outputs.items p None ≡ Some k → k < length c.outputs
-  pub inputs_placed : (p k : ℕ) → IsSymbol (names_of naming) c.input_names k p → slice_index_or naming.inputs.items p None ≡ Some k
-  pub outputs_placed : (p k : ℕ) → IsSymbol (names_of naming) c.output_names k p → slice_index_or naming.outputs.items p None ≡ Some k
-  pub inputs_alone : (p k : ℕ) → IsSymbol (names_of naming) c.input_names k p → slice_index_or naming.outputs.items p None ≡ None
-  pub outputs_alone : (p k : ℕ) → IsSymbol (names_of naming) c.output_names k p → slice_index_or naming.inputs.items p None ≡ None
+  pub inputs_placed : (p k : ℕ) → IsSymbol (names_of naming) c.input_names k p →
+      slice_index_or naming.inputs.items p None ≡ Some k
+  pub outputs_placed : (p k : ℕ) → IsSymbol (names_of naming) c.output_names k p →
+      slice_index_or naming.outputs.items p None ≡ Some k
+  pub inputs_alone : (p k : ℕ) → IsSymbol (names_of naming) c.input_names k p →
+      slice_index_or naming.outputs.items p None ≡ None
+  pub outputs_alone : (p k : ℕ) → IsSymbol (names_of naming) c.output_names k p →
+      slice_index_or naming.inputs.items p None ≡ None
 
 abbrev pub bit_at_place : List Bool → Option ℕ → Bool
 bit_at_place bits None = false

@@ -1,6 +1,7 @@
--- The table of gates that a simulator works through. A place is that of a variable in a list: 0, and then the variables of
--- the inputs, the latches and the gates.
-use Rattle.std.specs.Prelude.{◌≡◌, ℕ, ◌+◌, ◌<◌, ◌==◌, ◌&&◌, Bool, false, not, if◌then◌else◌, List, [], ◌∷◌, map, length, slice_index_or, slice_set}
+-- The table of gates that a simulator works through. A place is that of a variable in a list: 0, and then the variables
+-- of the inputs, the latches and the gates.
+use Rattle.std.specs.Prelude.{◌≡◌, ℕ, ◌+◌, ◌<◌, ◌==◌, ◌&&◌, Bool, false, not, if◌then◌else◌, List, [], ◌∷◌, map, length}
+use Rattle.std.specs.Prelude.{slice_index_or, slice_set}
 use Rattle.std.specs.List.{position_or_len}
 use Rattle.ps_circuit.specs.declared.parts.Gate.{Gate}
 use Rattle.ps_circuit.specs.Circuits.{CircuitData, definitions, ReadsGate}
@@ -65,7 +66,8 @@ pub record IsWithin (size : ℕ) (row : Row) : Type 0 where
 pub record Holds (inputs latches values : List Bool) : Type 0 where
   pub constant : slice_index_or values 0 false ≡ false
   pub inputs_there : (k : ℕ) → k < length inputs → slice_index_or values (1 + k) false ≡ slice_index_or inputs k false
-  pub latches_there : (k : ℕ) → k < length latches → slice_index_or values (1 + length inputs + k) false ≡ slice_index_or latches k false
+  pub latches_there : (k : ℕ) → k < length latches → slice_index_or values (1 + length inputs + k) false ≡
+      slice_index_or latches k false
 
 -- a table of that size that held these bits, with its rows worked out
 pub record IsWorkedOut (rows : List Row) (inputs latches : List Bool) (size : ℕ) (values : List Bool) : Type 0 where

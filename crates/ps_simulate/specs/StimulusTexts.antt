@@ -1,11 +1,13 @@
--- The text of a stimulus: a line of digits for each letter, as many as there are inputs. Where stem and lap are split, one line
--- `-` stands between them.
+-- The text of a stimulus: a line of digits for each letter, as many as there are inputs. Where stem and lap are split,
+-- one line `-` stands between them.
 --     lines_of text, start_of lines k      the lines without their newlines; the offset of the first byte of line k
 --     IsStimulus text width split s      the lines spell the letters
 --     Stands text width split cause offset      a cause stands there
---     IsFirst S cause offset      of the causes that S has, this one stands first; at one offset `Stimulus` goes before `Width`
+--     IsFirst S cause offset      of the causes that S has, this one stands first; at one offset `Stimulus` goes before
+--               `Width`
 --     ReadsStimulus text width split answer      the stimulus of a text without a cause, and else the first cause
-use Rattle.std.specs.Prelude.{◌≡◌, ◌≢◌, ℕ, ◌+◌, ◌<◌, ◌≤◌, ◌⊎◌, ◌==◌, Bool, true, false, if◌then◌else◌, List, [], ◌∷◌, ◌++◌, length, map, take, slice_get, sum_by, All, Some, Result, Ok, Err}
+use Rattle.std.specs.Prelude.{◌≡◌, ◌≢◌, ℕ, ◌+◌, ◌<◌, ◌≤◌, ◌⊎◌, ◌==◌, Bool, true, false, if◌then◌else◌, List, [], ◌∷◌}
+use Rattle.std.specs.Prelude.{◌++◌, length, map, take, slice_get, sum_by, All, Some, Result, Ok, Err}
 use Rattle.ps_text.specs.Answers.{Found}
 use Rattle.ps_simulate.specs.declared.fault.StimulusCause.{StimulusCause}
 use Rattle.ps_simulate.specs.declared.fault.StimulusCause.TheVariants.{Width, Stimulus}
@@ -92,13 +94,15 @@ pub record MissesDivider (text : List ℕ) (split : Bool) (cause : StimulusCause
   pub offset_is : offset ≡ length text
 
 abbrev pub Stands : List ℕ → ℕ → Bool → StimulusCause → ℕ → Type 0
-Stands text width split cause offset = StandsInLetter text width split cause offset ⊎ MissesDivider text split cause offset
+Stands text width split cause offset =
+    StandsInLetter text width split cause offset ⊎ MissesDivider text split cause offset
 
 -- ## The answer
 
 pub record IsFirst (S : StimulusCause → ℕ → Type 0) (cause : StimulusCause) (offset : ℕ) : Type 0 where
   pub stands : S cause offset
-  pub least : (other : StimulusCause) (there : ℕ) → S other there → (offset < there) ⊎ ((offset ≡ there) × (rank cause ≤ rank other))
+  pub least : (other : StimulusCause) (there : ℕ) → S other there →
+      (offset < there) ⊎ ((offset ≡ there) × (rank cause ≤ rank other))
 
 abbrev pub ReadsStimulus : List ℕ → ℕ → Bool → Result StimulusData (Found StimulusCause) → Type 0
 ReadsStimulus text width split (Ok s) = IsStimulus text width split s
@@ -118,4 +122,5 @@ IsLettersAnswer text width result = UnlessMemory (ReadsLetters text width) resul
 
 abbrev pub HasOneAnswer : List ℕ → ℕ → Bool → Type 0
 HasOneAnswer text width split =
-    (answer other : Result StimulusData (Found StimulusCause)) → ReadsStimulus text width split answer → ReadsStimulus text width split other → answer ≡ other
+    (answer other : Result StimulusData (Found StimulusCause)) → ReadsStimulus text width split answer →
+    ReadsStimulus text width split other → answer ≡ other

@@ -1,6 +1,7 @@
 -- Which input and output of a circuit is which proposition of an automaton, by name.
 --     IsSymbol names symbols k p      symbol k is the name of proposition p
---     AreNamesOnce names controllable wanted symbols      the symbols are the names of the propositions that are controllable (or of
+--     AreNamesOnce names controllable wanted symbols      the symbols are the names of the propositions that are
+--               controllable (or of
 --                                                         those that are not), each exactly once, in any order
 --     HasSymbols role names controllable c      the circuit has the inputs and outputs of its role
 use Rattle.std.specs.Prelude.{◌≡◌, ℕ, ◌<◌, Bool, true, false, List, [], length, Option, None, Some, slice_index_or}
@@ -13,7 +14,8 @@ pub record IsSymbol (names : List (List ℕ)) (symbols : List (Option (List ℕ)
   pub within : p < length names
   pub is : slice_index_or symbols k None ≡ Some (slice_index_or names p [])
 
-pub record AreNamesOnce (names : List (List ℕ)) (controllable : List ℕ) (wanted : Bool) (symbols : List (Option (List ℕ))) : Type 0 where
+pub record AreNamesOnce (names : List (List ℕ)) (controllable : List ℕ) (wanted : Bool)
+    (symbols : List (Option (List ℕ))) : Type 0 where
   pub each : (p : ℕ) → p < length names → is_among p controllable ≡ wanted → (k : ℕ) × IsSymbol names symbols k p
   pub some : (k : ℕ) → k < length symbols → (p : ℕ) × IsSymbol names symbols k p × (is_among p controllable ≡ wanted)
   pub once : (j k p : ℕ) → IsSymbol names symbols j p → IsSymbol names symbols k p → j ≡ k

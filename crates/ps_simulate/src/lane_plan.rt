@@ -1,7 +1,8 @@
 //! The table of gates that 256 runs at once work through.
 
 ghost use Rattle.std.specs.Prelude.{◌≡◌, ℕ, ◌+◌, ◌^◌, ◌<◌, ◌≤◌, length, map, All, IfOk};
-ghost use Rattle.ps_simulate.specs.LanePlans.{AreInOrder, AreKept, AreOnce, IsGateRow, move_row, move_wire, rows_from, wire_in};
+ghost use Rattle.ps_simulate.specs.LanePlans.{AreInOrder, AreKept, AreOnce, IsGateRow, move_row, move_wire, rows_from};
+ghost use Rattle.ps_simulate.specs.LanePlans.{wire_in};
 ghost use Rattle.ps_simulate.specs.Plans.{IsWithin};
 
 use crate::plan::{Plan, Row, Wire};
@@ -128,7 +129,8 @@ fn literals(alloc: Global, places: &[usize], wires: &[Wire]) -> Result<Vec<Liter
 fn gates_of(alloc: Global, places: &[usize], rows: &[Row]) -> Result<Vec<Operands>, AllocError>
     requires places { All (λ p. p < 2 ^ 31) places.now }
     requires within { All (IsWithin (length places.now)) rows.now }
-    ensures { IfOk result (λ gates. (front : ℕ) → AreInOrder front places.now rows.now → rows_from front gates.items ≡ map (move_row places.now) rows.now) }
+    ensures { IfOk result (λ gates. (front : ℕ) → AreInOrder front places.now rows.now →
+        rows_from front gates.items ≡ map (move_row places.now) rows.now) }
 {
     let mut gates = Vec::new(alloc);
     for row in rows {

@@ -1,6 +1,7 @@
 //! A circuit that is run on 256 stimuli at once.
 
-ghost use Rattle.std.specs.Prelude.{◌≡◌, ℕ, ◌+◌, ◌<◌, ◌≤◌, ◌⊎◌, [], length, map, slice_get, slice_index_or, All, IfOk, Some, false};
+ghost use Rattle.std.specs.Prelude.{◌≡◌, ℕ, ◌+◌, ◌<◌, ◌≤◌, ◌⊎◌, [], length, map, slice_get, slice_index_or, All, IfOk};
+ghost use Rattle.std.specs.Prelude.{Some, false};
 ghost use Rattle.ps_circuit.specs.Circuits.{IsCircuit};
 ghost use Rattle.ps_circuit.specs.Literals.{variable};
 ghost use Rattle.ps_circuit.specs.Values.{resets};
@@ -107,8 +108,10 @@ fn mask(is_set: bool) -> u64
 /// Puts words into a table, from a place on.
 fn put_words(values: &mut [[u64; 4]], start: usize, words: &[[u64; 4]])
     requires { start + length words.now ≤ length values.old }
-    ensures put { (k : ℕ) → k < length words.now → slice_index_or values.new (start + k) [] ≡ slice_index_or words.now k [] }
-    ensures others { (p : ℕ) → (p < start) ⊎ (start + length words.now ≤ p) → slice_index_or values.new p [] ≡ slice_index_or values.old p [] }
+    ensures put { (k : ℕ) → k < length words.now → slice_index_or values.new (start + k) [] ≡ slice_index_or
+        words.now k [] }
+    ensures others { (p : ℕ) → (p < start) ⊎ (start + length words.now ≤ p) →
+        slice_index_or values.new p [] ≡ slice_index_or values.old p [] }
 {
     for (place, word) in words.iter().enumerate() {
         values[start + place] = *word;
@@ -128,7 +131,8 @@ fn bits(values: &[[u64; 4]], literal: Literal) -> u64x4
 fn work_words(gates: &[Operands], front: usize, values: &mut [[u64; 4]])
     requires within { All (IsWithin (length values.old)) (rows_from front gates.now) }
     requires fit { front + length gates.now ≤ length values.old }
-    ensures { (lane : ℕ) → lane < 256 → lane_of values.new lane ≡ work_out (rows_from front gates.now) (lane_of values.old lane) }
+    ensures { (lane : ℕ) → lane < 256 → lane_of values.new lane ≡ work_out (rows_from front gates.now)
+        (lane_of values.old lane) }
 {
     for (number, &gate) in gates.iter().enumerate() {
         let words = bits(values, gate.first) & bits(values, gate.second);
@@ -148,7 +152,8 @@ fn fill_words(
     requires fit { front + length gates.now ≤ length values.old }
     requires room { 1 + length inputs.now + length latches.now ≤ length values.old }
     requires constant { (lane : ℕ) → lane < 256 → slice_index_or (lane_of values.old lane) 0 false ≡ false }
-    ensures { (lane : ℕ) → lane < 256 → IsWorkedOut (rows_from front gates.now) (lane_of inputs.now lane) (lane_of latches.now lane) (length values.old) (lane_of values.new lane) }
+    ensures { (lane : ℕ) → lane < 256 → IsWorkedOut (rows_from front gates.now) (lane_of inputs.now lane)
+        (lane_of latches.now lane) (length values.old) (lane_of values.new lane) }
 {
     put_words(values, 1, inputs);
     put_words(values, 1 + inputs.len(), latches);
@@ -159,7 +164,8 @@ fn fill_words(
 fn read_words(literals: &[Literal], values: &[[u64; 4]], words: &mut [[u64; 4]])
     requires within { All (λ literal. variable literal < length values.now) literals.now }
     requires fit { length words.old ≡ length literals.now }
-    ensures { (lane : ℕ) → lane < 256 → lane_of words.new lane ≡ map (λ literal. read (lane_of values.now lane) (wire_in literal)) literals.now }
+    ensures { (lane : ℕ) → lane < 256 → lane_of words.new lane ≡ map
+        (λ literal. read (lane_of values.now lane) (wire_in literal)) literals.now }
 {
     for (place, &literal) in literals.iter().enumerate() {
         words[place] = bits(values, literal).to_array();

@@ -1,6 +1,7 @@
 //! Lassos: a stem that is read once and a lap that is read again and again, until the latches repeat themselves.
 
-ghost use Rattle.std.specs.Prelude.{◌≡◌, ◌+◌, ◌*◌, ◌^◌, ◌<◌, ◌≤◌, Bool, List, [], ℕ, false, length, All, IfOk, IfErr, IsTrue, IsOk, OnOk, vec_len};
+ghost use Rattle.std.specs.Prelude.{◌≡◌, ◌+◌, ◌*◌, ◌^◌, ◌<◌, ◌≤◌, Bool, List, [], ℕ, false, length, All, IfOk, IfErr};
+ghost use Rattle.std.specs.Prelude.{IsTrue, IsOk, OnOk, vec_len};
 ghost use Rattle.ps_circuit.specs.Values.{resets};
 ghost use Rattle.ps_hoa.specs.Files.{FileData};
 ghost use Rattle.ps_automaton.specs.Automata.{IsBuiltFrom};
@@ -102,8 +103,10 @@ pub fn lasso(
     stem: &[Vec<bool>],
     lap: &[Vec<bool>],
 ) -> Result<Verdict, LassoFault>
-    ensures verdict { IfOk result (λ verdict. (file : FileData) (chain : Chain) → IsBuiltFrom file chain automaton.now → IsVerdictOf file circuit.now (letters_of stem.now) (letters_of lap.now) verdict) }
-    ensures sound { IfOk result (λ _. HasNoLassoFault role automaton.now circuit.now (letters_of stem.now) (letters_of lap.now)) }
+    ensures verdict { IfOk result (λ verdict. (file : FileData) (chain : Chain) → IsBuiltFrom file chain automaton.now →
+        IsVerdictOf file circuit.now (letters_of stem.now) (letters_of lap.now) verdict) }
+    ensures sound { IfOk result (λ _. HasNoLassoFault role automaton.now circuit.now (letters_of stem.now)
+        (letters_of lap.now)) }
     ensures fault { IfErr result (Stands role automaton.now circuit.now (letters_of stem.now) (letters_of lap.now)) }
 {
     let width = circuit.inputs().len();
@@ -133,7 +136,8 @@ fn verdict_of(
     requires some { 0 < length lap.now }
     requires naming { IsNaming circuit.now naming.now }
     requires names { names_of naming.now ≡ automaton.now.names }
-    ensures { IfOk result (λ verdict. (file : FileData) (chain : Chain) → IsBuiltFrom file chain automaton.now → IsVerdictOf file circuit.now (letters_of stem.now) (letters_of lap.now) verdict) }
+    ensures { IfOk result (λ verdict. (file : FileData) (chain : Chain) → IsBuiltFrom file chain automaton.now →
+        IsVerdictOf file circuit.now (letters_of stem.now) (letters_of lap.now) verdict) }
 {
     let repetition = first_repetition(alloc, circuit, naming, stem, lap)?;
     let letters = repetition.letters.as_slice();
@@ -179,7 +183,8 @@ fn first_repetition(
     requires lap { All (λ letter. length letter ≡ length circuit.now.inputs) (letters_of lap.now) }
     requires some { 0 < length lap.now }
     requires naming { IsNaming circuit.now naming.now }
-    ensures { IfOk result (λ r. RepeatsBy (names_of naming.now) circuit.now (letters_of stem.now) (letters_of lap.now) r.first r.letters.items) }
+    ensures { IfOk result (λ r. RepeatsBy (names_of naming.now) circuit.now (letters_of stem.now) (letters_of lap.now)
+        r.first r.letters.items) }
 {
     let mut run = Run::new(alloc, circuit)?;
     let first = run.first_repetition(alloc, naming, stem, lap)?;
@@ -230,7 +235,8 @@ impl<'a> Run<'a> {
         requires latches { self.old.simulator.latches ≡ resets self.old.simulator.circuit }
         requires outputs { vec_len self.old.outputs ≡ length self.old.simulator.circuit.outputs }
         requires letters { self.old.letters.items ≡ [] }
-        ensures { IfOk result (λ first. RepeatsBy (names_of naming.now) self.old.simulator.circuit (letters_of stem.now) (letters_of lap.now) first self.new.letters.items) }
+        ensures { IfOk result (λ first. RepeatsBy (names_of naming.now) self.old.simulator.circuit (letters_of stem.now)
+            (letters_of lap.now) first self.new.letters.items) }
     {
         read_word(
             naming,
@@ -286,7 +292,8 @@ fn read_word(
     requires outputs_fit { length outputs.old ≡ length simulator.old.circuit.outputs }
     requires naming { IsNaming simulator.old.circuit naming.now }
     ensures circuit { simulator.new.circuit ≡ simulator.old.circuit }
-    ensures reads { OnOk result (ReadsWord (names_of naming.now) simulator.old.circuit simulator.old.latches (letters_of word.now) letters.old.items letters.new.items simulator.new.latches) }
+    ensures reads { OnOk result (ReadsWord (names_of naming.now) simulator.old.circuit simulator.old.latches
+        (letters_of word.now) letters.old.items letters.new.items simulator.new.latches) }
 {
     for letter in word {
         simulator.step(letter, outputs);

@@ -29,7 +29,8 @@ pub fn lanes_are_plain_runs(circuit: &Circuit)
 /// A law: of a circuit with the inputs and the outputs of a role, there is one verdict at most for an automaton, a stem
 /// and a lap.
 pub fn verdict_is_one()
-    ensures { (role : Role) (file : FileData) (c : CircuitData) (stem lap : List (List Bool)) → IsCircuit c → HasSymbols role file.names file.controllable c → HasOneVerdict file c stem lap }
+    ensures { (role : Role) (file : FileData) (c : CircuitData) (stem lap : List (List Bool)) → IsCircuit c →
+        HasSymbols role file.names file.controllable c → HasOneVerdict file c stem lap }
 {
     circuit_has_one_values();
 }

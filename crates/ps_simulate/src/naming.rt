@@ -1,6 +1,7 @@
 //! Which input and output of a circuit is which proposition of an automaton.
 
-ghost use Rattle.std.specs.Prelude.{◌≡◌, ◌≢◌, ◌^◌, ◌<◌, ◌≤◌, ◌||◌, ℕ, true, false, None, Some, IfOk, IfSome, IfNone, length, map, slice_index_or};
+ghost use Rattle.std.specs.Prelude.{◌≡◌, ◌≢◌, ◌^◌, ◌<◌, ◌≤◌, ◌||◌, ℕ, true, false, None, Some, IfOk, IfSome, IfNone};
+ghost use Rattle.std.specs.Prelude.{length, map, slice_index_or};
 ghost use Rattle.std.specs.Option.{option_copied};
 ghost use Rattle.ps_label.specs.Truth.{is_in};
 ghost use Rattle.ps_hoa.specs.Files.{is_among};
@@ -39,8 +40,10 @@ impl<'a> Naming<'a> {
     ) -> Result<Option<Self>, AllocError>
         ensures some { IfOk result (λ naming. IfSome naming (IsNaming circuit.now)) }
         ensures names { IfOk result (λ naming. IfSome naming (λ n. names_of n ≡ automaton.now.names)) }
-        ensures fits { IfOk result (λ naming. IfSome naming (λ _. HasSymbols role automaton.now.names automaton.now.controllable circuit.now)) }
-        ensures none { IfOk result (λ naming. IfNone naming (¬ HasSymbols role automaton.now.names automaton.now.controllable circuit.now)) }
+        ensures fits { IfOk result (λ naming. IfSome naming (λ _.
+            HasSymbols role automaton.now.names automaton.now.controllable circuit.now)) }
+        ensures none { IfOk result (λ naming. IfNone naming (¬ HasSymbols role automaton.now.names
+            automaton.now.controllable circuit.now)) }
     {
         let names = automaton.names();
         let controllable = automaton.controllable();
@@ -64,12 +67,15 @@ impl<'a> Naming<'a> {
     /// The letter of a step.
     pub fn letter(&self, inputs: &[bool], outputs: &[bool]) -> u64
         requires few { length self.now.names.now ≤ 64 }
-        requires inputs_within { (p k : ℕ) → slice_index_or self.now.inputs.items p None ≡ Some k → k < length inputs.now }
-        requires outputs_within { (p k : ℕ) → slice_index_or self.now.outputs.items p None ≡ Some k → k < length outputs.now }
+        requires inputs_within { (p k : ℕ) → slice_index_or self.now.inputs.items p None ≡ Some k →
+            k < length inputs.now }
+        requires outputs_within { (p k : ℕ) → slice_index_or self.now.outputs.items p None ≡ Some k →
+            k < length outputs.now }
         requires inputs_size { length self.now.inputs.items ≡ length self.now.names.now }
         requires outputs_size { length self.now.outputs.items ≡ length self.now.names.now }
         ensures few { result < 2 ^ length self.now.names.now }
-        ensures bits { (p : ℕ) → is_in p result ≡ (bit_at_place inputs.now (slice_index_or self.now.inputs.items p None) || bit_at_place outputs.now (slice_index_or self.now.outputs.items p None)) }
+        ensures bits { (p : ℕ) → is_in p result ≡ (bit_at_place inputs.now (slice_index_or self.now.inputs.items p None)
+            || bit_at_place outputs.now (slice_index_or self.now.outputs.items p None)) }
     {
         part_of(&self.inputs, inputs) | part_of(&self.outputs, outputs)
     }
@@ -138,9 +144,12 @@ fn places_of(
     symbols: &[Option<&[u8]>],
 ) -> Result<Option<Vec<Option<usize>>>, AllocError>
     requires { AreNames (map bytes_of names.now) }
-    ensures places { IfOk result (λ places. IfSome places (λ table. ArePlacesOf (map bytes_of names.now) controllable.now wanted (map option_copied symbols.now) table.items)) }
-    ensures names { IfOk result (λ places. IfSome places (λ _. AreNamesOnce (map bytes_of names.now) controllable.now wanted (map option_copied symbols.now))) }
-    ensures none { IfOk result (λ places. IfNone places (¬ AreNamesOnce (map bytes_of names.now) controllable.now wanted (map option_copied symbols.now))) }
+    ensures places { IfOk result (λ places. IfSome places (λ table.
+        ArePlacesOf (map bytes_of names.now) controllable.now wanted (map option_copied symbols.now) table.items)) }
+    ensures names { IfOk result (λ places. IfSome places (λ _.
+        AreNamesOnce (map bytes_of names.now) controllable.now wanted (map option_copied symbols.now))) }
+    ensures none { IfOk result (λ places. IfNone places (¬ AreNamesOnce (map bytes_of names.now) controllable.now wanted
+        (map option_copied symbols.now))) }
 {
     match put_places(alloc, names, controllable, wanted, symbols)? {
         Some(places) if is_full(controllable, wanted, &places) => Ok(Some(places)),
@@ -156,8 +165,11 @@ fn put_places(
     wanted: bool,
     symbols: &[Option<&[u8]>],
 ) -> Result<Option<Vec<Option<usize>>>, AllocError>
-    ensures put { IfOk result (λ places. IfSome places (λ table. ArePut (map bytes_of names.now) controllable.now wanted (map option_copied symbols.now) (length symbols.now) table.items)) }
-    ensures none { IfOk result (λ places. IfNone places (¬ AreNamesOnce (map bytes_of names.now) controllable.now wanted (map option_copied symbols.now))) }
+    ensures put { IfOk result (λ places. IfSome places (λ table.
+        ArePut (map bytes_of names.now) controllable.now wanted (map option_copied symbols.now) (length symbols.now)
+        table.items)) }
+    ensures none { IfOk result (λ places. IfNone places (¬ AreNamesOnce (map bytes_of names.now) controllable.now wanted
+        (map option_copied symbols.now))) }
 {
     let mut places = vec![in alloc; None; names.len()]?;
     for (k, symbol) in symbols.iter().enumerate() {
@@ -174,8 +186,10 @@ fn put_places(
 
 /// Whether each proposition that is controllable (or each that is not) has a place.
 fn is_full(controllable: &[u32], wanted: bool, places: &[Option<usize>]) -> bool
-    ensures full { result ≡ true → (p : ℕ) → p < length places.now → is_among p controllable.now ≡ wanted → slice_index_or places.now p None ≢ None }
-    ensures missing { result ≡ false → (p : ℕ) × (p < length places.now) × (is_among p controllable.now ≡ wanted) × (slice_index_or places.now p None ≡ None) }
+    ensures full { result ≡ true → (p : ℕ) → p < length places.now → is_among p controllable.now ≡ wanted →
+        slice_index_or places.now p None ≢ None }
+    ensures missing { result ≡ false → (p : ℕ) × (p < length places.now) × (is_among p controllable.now ≡ wanted) ×
+        (slice_index_or places.now p None ≡ None) }
 {
     for (p, place) in places.iter().enumerate() {
         if place.is_none() && is_controllable(controllable, p) == wanted {

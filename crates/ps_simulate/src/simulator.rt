@@ -1,6 +1,7 @@
 //! A circuit that is run.
 
-ghost use Rattle.std.specs.Prelude.{◌≡◌, ℕ, ◌+◌, ◌<◌, ◌≤◌, ◌⊎◌, length, map, slice_get, slice_index_or, All, IfOk, Some, false};
+ghost use Rattle.std.specs.Prelude.{◌≡◌, ℕ, ◌+◌, ◌<◌, ◌≤◌, ◌⊎◌, length, map, slice_get, slice_index_or, All, IfOk};
+ghost use Rattle.std.specs.Prelude.{Some, false};
 ghost use Rattle.ps_circuit.specs.Circuits.{IsCircuit};
 ghost use Rattle.ps_simulate.specs.Plans.{IsWithin, IsWorkedOut, read, work_out};
 
@@ -97,8 +98,10 @@ fn first_latches(alloc: Global, circuit: &Circuit) -> Result<Vec<bool>, AllocErr
 /// Puts bits into a table, from a place on.
 fn put(values: &mut [bool], start: usize, bits: &[bool])
     requires { start + length bits.now ≤ length values.old }
-    ensures put { (k : ℕ) → k < length bits.now → slice_index_or values.new (start + k) false ≡ slice_index_or bits.now k false }
-    ensures others { (p : ℕ) → (p < start) ⊎ (start + length bits.now ≤ p) → slice_index_or values.new p false ≡ slice_index_or values.old p false }
+    ensures put { (k : ℕ) → k < length bits.now → slice_index_or values.new (start + k) false ≡ slice_index_or
+        bits.now k false }
+    ensures others { (p : ℕ) → (p < start) ⊎ (start + length bits.now ≤ p) →
+        slice_index_or values.new p false ≡ slice_index_or values.old p false }
 {
     for (place, &bit) in bits.iter().enumerate() {
         values[start + place] = bit;

@@ -1,7 +1,9 @@
 //! Stimuli: the letters that a circuit is given, read from their texts.
 
-ghost use Rattle.std.specs.Prelude.{◌≡◌, ◌+◌, ◌-◌, ◌^◌, ◌<◌, ◌≤◌, ◌↔◌, ◌∷◌, ℕ, Bool, List, length, take, drop, slice_index, All, IsTrue, IfOk, IfSome, IfNone};
-ghost use Rattle.ps_simulate.specs.StimulusTexts.{IsDigit, lines_of, digits_of, divider, IsStimulusAnswer, HasOneAnswer};
+ghost use Rattle.std.specs.Prelude.{◌≡◌, ◌+◌, ◌-◌, ◌^◌, ◌<◌, ◌≤◌, ◌↔◌, ◌∷◌, ℕ, Bool, List, length, take, drop};
+ghost use Rattle.std.specs.Prelude.{slice_index, All, IsTrue, IfOk, IfSome, IfNone};
+ghost use Rattle.ps_simulate.specs.StimulusTexts.{IsDigit, lines_of, digits_of, divider, IsStimulusAnswer};
+ghost use Rattle.ps_simulate.specs.StimulusTexts.{HasOneAnswer};
 ghost use Rattle.ps_simulate.specs.StimulusReading.{ReadsLine};
 
 use crate::fault::{StimulusCause, StimulusFault};
@@ -74,7 +76,8 @@ pub(crate) fn line_end(text: &[u8], start: usize) -> usize
     requires { start < length text.now }
     ensures from { start ≤ result }
     ensures within { result ≤ length text.now }
-    ensures lines { lines_of (drop start text.now) ≡ take (result - start) (drop start text.now) ∷ lines_of (drop (result + 1) text.now) }
+    ensures lines { lines_of (drop start text.now) ≡ take (result - start) (drop start text.now) ∷ lines_of
+        (drop (result + 1) text.now) }
 {
     for end in start..text.len() {
         if text[end] == b'\n' {

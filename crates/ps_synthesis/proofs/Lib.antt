@@ -1,3 +1,4 @@
 pub mod CircuitFaults
 pub mod Outcomes
 pub mod Reporting
+mod OneCircuit

@@ -1,5 +1,5 @@
--- What is said of a report, a fault or an outcome by what one solver may answer holds by what another one may, that may answer as much;
--- and what an outcome says of the report, or of the fault.
+-- What is said of a report, a fault or an outcome by what one solver may answer holds by what another one may, that may
+-- answer as much; and what an outcome says of the report, or of the fault.
 use Rattle.std.proofs.Common.{ℕ, Bool, List, Result, Ok, Err, refl, subst, sym}
 use Rattle.std.specs.Prelude.{IfErr, IfOk}
 use Rattle.ps_certificate.specs.Certificates.{CertificateData}
@@ -10,17 +10,21 @@ use Rattle.ps_machine.specs.declared.fault.SolveFault.TheVariants as solver
 use Rattle.ps_machine.specs.declared.key.Order.{Order}
 use Rattle.ps_synthesis.specs.Promises.{KeepsPromise, MayAnswer}
 use Rattle.ps_synthesis.specs.Reports.{IsReport}
-use Rattle.ps_synthesis.specs.SynthFaults.{IsOutcome, Reported, TooLarge, LacksMemory, IsLost, IsNotCertified, IsSynthFault, IsTooLarge, OfGame}
+use Rattle.ps_synthesis.specs.SynthFaults.{IsOutcome, Reported, TooLarge, LacksMemory, IsLost, IsNotCertified}
+use Rattle.ps_synthesis.specs.SynthFaults.{IsSynthFault, IsTooLarge, OfGame}
 use Rattle.ps_synthesis.specs.declared.fault.SynthFault.{SynthFault}
-use Rattle.ps_synthesis.specs.declared.fault.SynthFault.TheVariants.{Text, Automaton, BadCycle, Certificate, NotCertified, CircuitTooLarge, OutOfMemory}
+use Rattle.ps_synthesis.specs.declared.fault.SynthFault.TheVariants.{Text, Automaton, BadCycle, Certificate}
+use Rattle.ps_synthesis.specs.declared.fault.SynthFault.TheVariants.{NotCertified, CircuitTooLarge, OutOfMemory}
 use Rattle.ps_synthesis.specs.declared.report.Report.{Report}
 
 -- whatever the first solver may answer, the other may
 abbrev pub AnswersMore : MayAnswer → MayAnswer → Type 0
-AnswersMore May Other = (game : NamedGameData) (answer : Result CertificateData SolveFault) → May game answer → Other game answer
+AnswersMore May Other =
+    (game : NamedGameData) (answer : Result CertificateData SolveFault) → May game answer → Other game answer
 
 module _ (May Other : MayAnswer) (more : AnswersMore May Other) (order : Order) (text : List ℕ) where
-  promise_more : (compact : Bool) (report : Report) → KeepsPromise May order compact text report → KeepsPromise Other order compact text report
+  promise_more : (compact : Bool) (report : Report) → KeepsPromise May order compact text report →
+      KeepsPromise Other order compact text report
   promise_more compact report p = record {
     file = p.file;
     accepted = p.accepted;
@@ -39,12 +43,21 @@ module _ (May Other : MayAnswer) (more : AnswersMore May Other) (order : Order) 
     answers = p.answers;
   }
 
-  pub report_more : (compact : Bool) (report : Report) → IsReport May order compact text report → IsReport Other order compact text report
+  pub report_more : (compact : Bool) (report : Report) → IsReport May order compact text report →
+      IsReport Other order compact text report
   unfolding promise_more
   report_more compact report r = record { promise = promise_more compact report r.promise; circuit = r.circuit }
 
-  of_game : (P Q : FileData → NamedGameData → Type 0) → OfGame order text P → ((file : FileData) (game : NamedGameData) → P file game → Q file game) → OfGame order text Q
-  of_game P Q h f = record { file = h.file; accepted = h.accepted; game = h.game; is_game = h.is_game; holds = f h.file h.game h.holds }
+  of_game : (P Q : FileData → NamedGameData → Type 0) → OfGame order text P →
+      ((file : FileData) (game : NamedGameData) → P file game → Q file game) → OfGame order text Q
+  of_game P Q h f =
+      record {
+        file = h.file;
+        accepted = h.accepted;
+        game = h.game;
+        is_game = h.is_game;
+        holds = f h.file h.game h.holds;
+      }
 
   too_large_more : OfGame order text (IsTooLarge May order) → OfGame order text (IsTooLarge Other order)
   too_large_more h = of_game (IsTooLarge May order) (IsTooLarge Other order) h (λ file game t. record {
@@ -60,22 +73,31 @@ module _ (May Other : MayAnswer) (more : AnswersMore May Other) (order : Order) 
   pub fault_more : (fault : SynthFault) → IsSynthFault May order text fault → IsSynthFault Other order text fault
   fault_more (Text cause offset) h = h
   fault_more (Automaton fault) h = h
-  fault_more (BadCycle ids) h = of_game (λ file game. IsLost May game ids.items) (λ file game. IsLost Other game ids.items) h (λ file game l. record {
-    cycle = l.cycle;
-    answered = more game (Err (solver.BadCycle l.cycle)) l.answered;
-    some = l.some;
-    vertices = l.vertices;
-    ids_are = l.ids_are;
-  })
+  fault_more (BadCycle ids) h =
+      of_game (λ file game. IsLost May game ids.items) (λ file game. IsLost Other game ids.items) h
+      (λ file game l. record {
+        cycle = l.cycle;
+        answered = more game (Err (solver.BadCycle l.cycle)) l.answered;
+        some = l.some;
+        vertices = l.vertices;
+        ids_are = l.ids_are;
+      })
   fault_more (Certificate cause offset) h =
-      of_game (λ file game. May game (Err (solver.Text cause offset))) (λ file game. Other game (Err (solver.Text cause offset))) h (λ file game may. more game (Err (solver.Text cause offset)) may)
+      of_game (λ file game. May game (Err (solver.Text cause offset)))
+      (λ file game. Other game (Err (solver.Text cause offset))) h
+      (λ file game may. more game (Err (solver.Text cause offset)) may)
   fault_more NotCertified h =
       of_game (λ file game. IsNotCertified May game) (λ file game. IsNotCertified Other game) h
-      (λ file game n. record { certificate = n.certificate; answered = more game (Ok n.certificate) n.answered; wrong = n.wrong })
+      (λ file game n. record {
+        certificate = n.certificate;
+        answered = more game (Ok n.certificate) n.answered;
+        wrong = n.wrong;
+      })
   fault_more CircuitTooLarge h = too_large_more h
   fault_more OutOfMemory h = h
 
-  pub outcome_more : (compact : Bool) (answer : Result Report SynthFault) → IsOutcome May order compact text answer → IsOutcome Other order compact text answer
+  pub outcome_more : (compact : Bool) (answer : Result Report SynthFault) → IsOutcome May order compact text answer →
+      IsOutcome Other order compact text answer
   outcome_more compact answer (Reported report e is) = Reported report e (report_more compact report is)
   outcome_more compact answer (TooLarge e is) = TooLarge e (too_large_more is)
   outcome_more compact answer (LacksMemory e) = LacksMemory e
@@ -89,7 +111,8 @@ IsSureFault OutOfMemory = Unit {0}
 IsSureFault fault = ⊥
 
 module _ (May : MayAnswer) (order : Order) (compact : Bool) (text : List ℕ) where
-  pub outcome : (answer : Result Report SynthFault) → IfOk answer (IsReport May order compact text) → IfErr answer (IsSynthFault May order text) → IfErr answer IsSureFault → IsOutcome May order compact text answer
+  pub outcome : (answer : Result Report SynthFault) → IfOk answer (IsReport May order compact text) →
+      IfErr answer (IsSynthFault May order text) → IfErr answer IsSureFault → IsOutcome May order compact text answer
   outcome (Ok report) is cause sure = Reported report refl is
   outcome (Err CircuitTooLarge) is cause sure = TooLarge refl cause
   outcome (Err OutOfMemory) is cause sure = LacksMemory refl
@@ -99,15 +122,23 @@ module _ (May : MayAnswer) (order : Order) (compact : Bool) (text : List ℕ) wh
   outcome (Err (Certificate c offset)) is cause sure = absurd sure
   outcome (Err NotCertified) is cause sure = absurd sure
 
-  pub report_in : (answer : Result Report SynthFault) → IsOutcome May order compact text answer → IfOk answer (IsReport May order compact text)
-  report_in answer (Reported report e is) = subst (λ (a : Result Report SynthFault). IfOk a (IsReport May order compact text)) (sym e) is
-  report_in answer (TooLarge e is) = subst (λ (a : Result Report SynthFault). IfOk a (IsReport May order compact text)) (sym e) tt
-  report_in answer (LacksMemory e) = subst (λ (a : Result Report SynthFault). IfOk a (IsReport May order compact text)) (sym e) tt
+  pub report_in : (answer : Result Report SynthFault) → IsOutcome May order compact text answer →
+      IfOk answer (IsReport May order compact text)
+  report_in answer (Reported report e is) =
+      subst (λ (a : Result Report SynthFault). IfOk a (IsReport May order compact text)) (sym e) is
+  report_in answer (TooLarge e is) =
+      subst (λ (a : Result Report SynthFault). IfOk a (IsReport May order compact text)) (sym e) tt
+  report_in answer (LacksMemory e) =
+      subst (λ (a : Result Report SynthFault). IfOk a (IsReport May order compact text)) (sym e) tt
 
-  pub cause_in : (answer : Result Report SynthFault) → IsOutcome May order compact text answer → IfErr answer (IsSynthFault May order text)
-  cause_in answer (Reported report e is) = subst (λ (a : Result Report SynthFault). IfErr a (IsSynthFault May order text)) (sym e) tt
-  cause_in answer (TooLarge e is) = subst (λ (a : Result Report SynthFault). IfErr a (IsSynthFault May order text)) (sym e) is
-  cause_in answer (LacksMemory e) = subst (λ (a : Result Report SynthFault). IfErr a (IsSynthFault May order text)) (sym e) tt
+  pub cause_in : (answer : Result Report SynthFault) → IsOutcome May order compact text answer →
+      IfErr answer (IsSynthFault May order text)
+  cause_in answer (Reported report e is) =
+      subst (λ (a : Result Report SynthFault). IfErr a (IsSynthFault May order text)) (sym e) tt
+  cause_in answer (TooLarge e is) =
+      subst (λ (a : Result Report SynthFault). IfErr a (IsSynthFault May order text)) (sym e) is
+  cause_in answer (LacksMemory e) =
+      subst (λ (a : Result Report SynthFault). IfErr a (IsSynthFault May order text)) (sym e) tt
 
   pub sure_in : (answer : Result Report SynthFault) → IsOutcome May order compact text answer → IfErr answer IsSureFault
   sure_in answer (Reported report e is) = subst (λ (a : Result Report SynthFault). IfErr a IsSureFault) (sym e) tt

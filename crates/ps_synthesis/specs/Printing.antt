@@ -1,6 +1,7 @@
 -- What a report prints. Each text is that of its value, and is read again as that value.
 --     PrintsGame text game      the text of a game
---     PrintsCertificate compact text game certificate      the text of a certificate, with all counts or as a compact one
+--     PrintsCertificate compact text game certificate      the text of a certificate, with all counts or as a compact
+--               one
 --     PrintsCircuit text circuit      the text of a circuit
 use Rattle.std.specs.Prelude.{◌≡◌, ℕ, ◌≤◌, Bool, List, length, Ok}
 use Rattle.ps_circuit.specs.Circuits.{CircuitData}
@@ -18,7 +19,8 @@ pub record PrintsGame (text : List ℕ) (game : NamedGameData) : Type 0 where
   pub written : text ≡ game_text game
   pub read_again : length text ≤ games.text_limit → games.Answer text (Ok game)
 
-pub record PrintsCertificate (compact : Bool) (text : List ℕ) (game : NamedGameData) (certificate : CertificateData) : Type 0 where
+pub record PrintsCertificate (compact : Bool) (text : List ℕ) (game : NamedGameData)
+    (certificate : CertificateData) : Type 0 where
   pub written : text ≡ text_in compact game certificate
   pub read_again : certificates.ReadsCertificate game text (Ok certificate)
 

@@ -42,6 +42,7 @@ Gives game certificate asked answer = (asked ≡ game) × (answer ≡ Ok certifi
 
 abbrev pub IsReportFault : ProblemData → CertificateData → SynthFault → Type 0
 IsReportFault p certificate NotCertified = ¬ IsCertified p.game certificate
-IsReportFault p certificate CircuitTooLarge = IsCertified p.game certificate × HasNoCircuit p.order p.automaton p.game.game certificate
+IsReportFault p certificate CircuitTooLarge =
+    IsCertified p.game certificate × HasNoCircuit p.order p.automaton p.game.game certificate
 IsReportFault p certificate OutOfMemory = IsCertified p.game certificate
 IsReportFault p certificate fault = ⊥

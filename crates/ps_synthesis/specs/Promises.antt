@@ -1,9 +1,10 @@
 -- What a report promises of the text that it is made of.
 --     IsAcceptedText text file      the text is that of a file that has an automaton
 --     MayAnswer      what a solver may answer for a game
---     KeepsPromise May order compact text report      the printed game is the automaton's; the printed certificate parts its vertices in
---                                                     two regions, each won by the moves that are printed; the printed circuit is the answer
---                                                     of the player who wins vertex 0
+--     KeepsPromise May order compact text report      the printed game is the automaton's; the printed certificate
+--               parts its vertices in
+--                                                     two regions, each won by the moves that are printed; the printed
+--                                                     circuit is the answer of the player who wins vertex 0
 use Rattle.std.specs.Prelude.{◌≡◌, ◌↔◌, ℕ, Bool, IsTrue, List, Result, Ok}
 use Rattle.ps_automaton.specs.Answers.{IsAdmitted}
 use Rattle.ps_certificate.specs.Certificates.{CertificateData}
@@ -27,23 +28,24 @@ pub record IsAcceptedText (text : List ℕ) (file : FileData) : Type 0 where
 abbrev pub MayAnswer : Type 1
 MayAnswer = NamedGameData → Result CertificateData SolveFault → Type 0
 
-pub record KeepsPromise (May : MayAnswer) (order : Order) (compact : Bool) (text : List ℕ) (report : Report) : Type 0 where
-  pub file : FileData
-  pub accepted : IsAcceptedText text file
-  -- the game that is printed
-  pub game : NamedGameData
-  pub is_game : IsGameOfFile order file game
-  pub game_text : PrintsGame report.game_text.items game
-  -- the certificate that is printed, which the solver gave
-  pub certificate : CertificateData
-  pub answered : May game (Ok certificate)
-  pub certified : IsCertified game certificate
-  pub certificate_text : PrintsCertificate compact report.certificate_text.items game certificate
-  -- each player wins every loop of every play from its region by the moves that are printed, and nothing outside it
-  pub both_hold : BothHold game.game certificate
-  pub none_wins_outside : NoneWinsOutside game.game certificate
-  -- the circuit that is printed, a controller's where player 0 wins vertex 0, and else an environment's
-  pub realizable : IsTrue report.realizable ↔ (winner certificate ≡ 0)
-  pub circuit : CircuitData
-  pub circuit_text : PrintsCircuit report.circuit_text.items circuit
-  pub answers : IsWitness order file (winner certificate) circuit
+pub record KeepsPromise (May : MayAnswer) (order : Order) (compact : Bool) (text : List ℕ) (report : Report) : Type 0
+  where
+    pub file : FileData
+    pub accepted : IsAcceptedText text file
+    -- the game that is printed
+    pub game : NamedGameData
+    pub is_game : IsGameOfFile order file game
+    pub game_text : PrintsGame report.game_text.items game
+    -- the certificate that is printed, which the solver gave
+    pub certificate : CertificateData
+    pub answered : May game (Ok certificate)
+    pub certified : IsCertified game certificate
+    pub certificate_text : PrintsCertificate compact report.certificate_text.items game certificate
+    -- each player wins every loop of every play from its region by the moves that are printed, and nothing outside it
+    pub both_hold : BothHold game.game certificate
+    pub none_wins_outside : NoneWinsOutside game.game certificate
+    -- the circuit that is printed, a controller's where player 0 wins vertex 0, and else an environment's
+    pub realizable : IsTrue report.realizable ↔ (winner certificate ≡ 0)
+    pub circuit : CircuitData
+    pub circuit_text : PrintsCircuit report.circuit_text.items circuit
+    pub answers : IsWitness order file (winner certificate) circuit

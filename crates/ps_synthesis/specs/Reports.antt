@@ -1,6 +1,7 @@
 -- What is known of a report: what it promises, and how its circuit comes about.
 --     IsWinners order file game is_game certificate m      the machine of the winner by that certificate
---     IsWinnersCircuit order file game is_game certificate circuit      the circuit is that of such a machine, with just the gates that it has
+--     IsWinnersCircuit order file game is_game certificate circuit      the circuit is that of such a machine, with
+--               just the gates that it has
 --     IsReport May order compact text report      both
 use Rattle.std.specs.Prelude.{ℕ, Bool, List}
 use Rattle.ps_aiger.specs.Encoded.{Encodes, IsTidy}
@@ -17,12 +18,15 @@ use Rattle.ps_machine.specs.declared.key.Order.{Order}
 use Rattle.ps_synthesis.specs.Promises.{KeepsPromise, MayAnswer}
 use Rattle.ps_synthesis.specs.declared.report.Report.{Report}
 
-pub record IsWinners (order : Order) (file : FileData) (game : NamedGameData) (is_game : IsGameOfFile order file game) (certificate : CertificateData) (m : Behaviour) : Type 0 where
+pub record IsWinners (order : Order) (file : FileData) (game : NamedGameData) (is_game : IsGameOfFile order file game)
+    (certificate : CertificateData) (m : Behaviour) : Type 0 where
   pub is_machine : IsMachine m
   pub propositions : HasPropositions file.names (board_of_file order file is_game.auto) m
-  pub machine_of : IsMachineOf (board_of_file order file is_game.auto) (mover_of order) is_game.keys game.game certificate m
+  pub machine_of : IsMachineOf (board_of_file order file is_game.auto) (mover_of order) is_game.keys
+      game.game certificate m
 
-pub record IsWinnersCircuit (order : Order) (file : FileData) (game : NamedGameData) (is_game : IsGameOfFile order file game) (certificate : CertificateData) (circuit : CircuitData) : Type 0 where
+pub record IsWinnersCircuit (order : Order) (file : FileData) (game : NamedGameData)
+    (is_game : IsGameOfFile order file game) (certificate : CertificateData) (circuit : CircuitData) : Type 0 where
   pub machine : Behaviour
   pub winners : IsWinners order file game is_game certificate machine
   pub encodes : Encodes machine circuit

@@ -4,7 +4,8 @@
 --     IsSolverFault May game fault      why a solver's answer is no certificate
 --     IsRefusedAs game given fault      what a solver's fault is; memory may run out where vertices are named
 --     IsCircuitOf order a game certificate circuit      the circuit of the machine of the certificate
---     HasNoCircuit order a game certificate      the machine of the certificate has no circuit of so many variables as can be named
+--     HasNoCircuit order a game certificate      the machine of the certificate has no circuit of so many variables as
+--               can be named
 --     IsCircuitFault order a game certificate fault      why there is no circuit
 --     of_text, of_automaton, of_circuit      the faults of the layers below
 use Rattle.std.specs.Prelude.{◌≡◌, ℕ, List, Err, map, slice_index}
@@ -35,7 +36,8 @@ use Rattle.ps_text.specs.declared.faults.Fault.TheVariants as hoa
 use Rattle.ps_synthesis.specs.Promises.{IsAcceptedText, MayAnswer}
 use Rattle.ps_synthesis.specs.SynthFaults.{HasNoAutomaton, IsLost, IsNotCertified}
 use Rattle.ps_synthesis.specs.declared.fault.SynthFault.{SynthFault}
-use Rattle.ps_synthesis.specs.declared.fault.SynthFault.TheVariants.{Text, Automaton, BadCycle, Certificate, NotCertified, CircuitTooLarge, OutOfMemory}
+use Rattle.ps_synthesis.specs.declared.fault.SynthFault.TheVariants.{Text, Automaton, BadCycle, Certificate}
+use Rattle.ps_synthesis.specs.declared.fault.SynthFault.TheVariants.{NotCertified, CircuitTooLarge, OutOfMemory}
 
 pub record IsAutomatonOf (text : List ℕ) (a : AutomatonData) : Type 0 where
   pub file : FileData
@@ -62,17 +64,21 @@ IsRefusedAs game (solver.Text cause offset) fault = fault ≡ Certificate cause 
 IsRefusedAs game given fault = fault ≡ OutOfMemory
 
 -- the machine of the winner by a certificate of the automaton's game
-pub record IsExtracted (order : Order) (a : AutomatonData) (game : ParityGame) (certificate : CertificateData) (m : Behaviour) : Type 0 where
+pub record IsExtracted (order : Order) (a : AutomatonData) (game : ParityGame) (certificate : CertificateData)
+    (m : Behaviour) : Type 0 where
   pub is_machine : IsMachine m
   pub propositions : HasPropositions a.names (board_of order a) m
-  pub machine_of : (keys : List Key) → IsGameOf (board_of order a) (mover_of order) keys game → IsMachineOf (board_of order a) (mover_of order) keys game certificate m
+  pub machine_of : (keys : List Key) → IsGameOf (board_of order a) (mover_of order) keys game →
+      IsMachineOf (board_of order a) (mover_of order) keys game certificate m
 
-pub record HasNoCircuit (order : Order) (a : AutomatonData) (game : ParityGame) (certificate : CertificateData) : Type 0 where
-  pub machine : Behaviour
-  pub extracted : IsExtracted order a game certificate machine
-  pub out_of_literals : IsOutOfLiterals machine
+pub record HasNoCircuit (order : Order) (a : AutomatonData) (game : ParityGame) (certificate : CertificateData) : Type 0
+  where
+    pub machine : Behaviour
+    pub extracted : IsExtracted order a game certificate machine
+    pub out_of_literals : IsOutOfLiterals machine
 
-pub record IsCircuitOf (order : Order) (a : AutomatonData) (game : ParityGame) (certificate : CertificateData) (circuit : CircuitData) : Type 0 where
+pub record IsCircuitOf (order : Order) (a : AutomatonData) (game : ParityGame) (certificate : CertificateData)
+    (circuit : CircuitData) : Type 0 where
   pub machine : Behaviour
   pub extracted : IsExtracted order a game certificate machine
   pub encodes : Encodes machine circuit

@@ -10,7 +10,8 @@ use Rattle.ps_machine.specs.FaultNames as solver
 use Rattle.ps_machine.specs.declared.fault.SolveFault.TheVariants as solving
 use Rattle.ps_text.specs.Faults.{memory_number, memory_name}
 use Rattle.ps_synthesis.specs.declared.fault.SynthFault.{SynthFault}
-use Rattle.ps_synthesis.specs.declared.fault.SynthFault.TheVariants.{Text, Automaton, BadCycle, Certificate, NotCertified, CircuitTooLarge, OutOfMemory}
+use Rattle.ps_synthesis.specs.declared.fault.SynthFault.TheVariants.{Text, Automaton, BadCycle, Certificate}
+use Rattle.ps_synthesis.specs.declared.fault.SynthFault.TheVariants.{NotCertified, CircuitTooLarge, OutOfMemory}
 
 abbrev pub fault_number : SynthFault → ℕ
 fault_number (Text cause offset) = hoa.cause_number cause

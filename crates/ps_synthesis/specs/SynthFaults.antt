@@ -3,9 +3,11 @@
 --     OfGame order text P      a text that is accepted has a game for which P stands
 --     IsLost May game ids      the solver gave a cycle of the game's vertices, which have these ids
 --     IsNotCertified May game      the solver gave a certificate that does not fit, or is not valid
---     IsTooLarge May order file game      the machine of a valid certificate has no circuit of so many variables as can be named
+--     IsTooLarge May order file game      the machine of a valid certificate has no circuit of so many variables as can
+--               be named
 --     IsSynthFault May order text fault      the cause of that fault
---     IsOutcome May order compact text answer      what is answered to a text that is accepted, where the solver is sure
+--     IsOutcome May order compact text answer      what is answered to a text that is accepted, where the solver is
+--               sure
 use Rattle.std.specs.Prelude.{◌≡◌, ◌≢◌, ℕ, ◌<◌, Bool, List, length, map, slice_index, Result, Ok, Err, Vec}
 use Rattle.std.specs.Global.{Global}
 use Rattle.std.specs.List.{All}
@@ -25,7 +27,8 @@ use Rattle.ps_machine.specs.declared.key.Order.{Order}
 use Rattle.ps_synthesis.specs.Reports.{IsReport, IsWinners}
 use Rattle.ps_synthesis.specs.Promises.{IsAcceptedText, MayAnswer}
 use Rattle.ps_synthesis.specs.declared.fault.SynthFault.{SynthFault}
-use Rattle.ps_synthesis.specs.declared.fault.SynthFault.TheVariants.{Text, Automaton, BadCycle, Certificate, NotCertified, CircuitTooLarge, OutOfMemory}
+use Rattle.ps_synthesis.specs.declared.fault.SynthFault.TheVariants.{Text, Automaton, BadCycle, Certificate}
+use Rattle.ps_synthesis.specs.declared.fault.SynthFault.TheVariants.{NotCertified, CircuitTooLarge, OutOfMemory}
 use Rattle.ps_synthesis.specs.declared.report.Report.{Report}
 
 pub record HasNoAutomaton (text : List ℕ) (fault : AutomatonFault) : Type 0 where
@@ -66,13 +69,17 @@ abbrev pub IsSynthFault : MayAnswer → Order → List ℕ → SynthFault → Ty
 IsSynthFault May order text (Text cause offset) = ReadsFile text (Err (record { cause = cause; offset = offset }))
 IsSynthFault May order text (Automaton fault) = HasNoAutomaton text fault
 IsSynthFault May order text (BadCycle ids) = OfGame order text (λ file game. IsLost May game ids.items)
-IsSynthFault May order text (Certificate cause offset) = OfGame order text (λ file game. May game (Err (solver.Text cause offset)))
+IsSynthFault May order text (Certificate cause offset) =
+    OfGame order text (λ file game. May game (Err (solver.Text cause offset)))
 IsSynthFault May order text NotCertified = OfGame order text (λ file game. IsNotCertified May game)
 IsSynthFault May order text CircuitTooLarge = OfGame order text (IsTooLarge May order)
 IsSynthFault May order text OutOfMemory = Unit {0}
 
 -- a report; or the circuit is too large, or memory ran out
-pub data IsOutcome (May : MayAnswer) (order : Order) (compact : Bool) (text : List ℕ) (answer : Result Report SynthFault) : Type 0 where
-  Reported : (report : Report) → answer ≡ Ok report → IsReport May order compact text report → IsOutcome May order compact text answer
-  TooLarge : answer ≡ Err CircuitTooLarge → OfGame order text (IsTooLarge May order) → IsOutcome May order compact text answer
+pub data IsOutcome (May : MayAnswer) (order : Order) (compact : Bool) (text : List ℕ)
+    (answer : Result Report SynthFault) : Type 0 where
+  Reported : (report : Report) → answer ≡ Ok report → IsReport May order compact text report →
+      IsOutcome May order compact text answer
+  TooLarge : answer ≡ Err CircuitTooLarge → OfGame order text (IsTooLarge May order) →
+      IsOutcome May order compact text answer
   LacksMemory : answer ≡ Err OutOfMemory → IsOutcome May order compact text answer

@@ -37,7 +37,8 @@ pub fn circuit_of_certificate(
     requires classes { HasClasses order automaton.now game.now }
     requires certified { IsCertified game.now.game certificate.now }
     ensures made { IfOk result (IsCircuitOf order automaton.now game.now.game.game certificate.now) }
-    ensures answers { IfOk result (λ circuit. (file : FileData) (chain : Chain) → IsBuiltFrom file chain automaton.now → IsWitness order file (winner certificate.now) circuit) }
+    ensures answers { IfOk result (λ circuit. (file : FileData) (chain : Chain) → IsBuiltFrom file chain automaton.now →
+        IsWitness order file (winner certificate.now) circuit) }
     ensures refused { IfErr result (IsCircuitFault order automaton.now game.now.game.game certificate.now) }
 {
     one_game();

@@ -21,16 +21,19 @@
 //! | `circuit_of_certificate` | the circuit of the player who wins the start, by a valid certificate |
 //! | `report_of`, `certificate_text` | the three texts of a report, and that of a certificate alone |
 //! | `SynthFault::number`, `name` | a fault as psyn's list has it |
+//! | `winners_circuit_is_one` | a law: a certificate of a game has one circuit at most |
 #![tactic(auto)]
 
 mod automata;
 mod circuits;
 mod fault;
+mod laws;
 mod problem;
 mod report;
 
 pub use automata::read_automaton;
 pub use circuits::circuit_of_certificate;
 pub use fault::SynthFault;
+pub use laws::winners_circuit_is_one;
 pub use problem::Problem;
 pub use report::{Report, certificate_text, report_of};

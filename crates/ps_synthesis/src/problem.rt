@@ -66,7 +66,8 @@ impl Problem {
     pub fn read(alloc: Global, text: &[u8], order: Order) -> Result<Problem, SynthFault>
         ensures problem { IfOk result (IsProblemOf order text.now) }
         ensures refused { IfErr result (IsTextFault text.now) }
-        ensures accepted { (file : FileData) → IsAcceptedText text.now file → IfErr result (λ fault. fault ≡ OutOfMemory) }
+        ensures accepted { (file : FileData) → IsAcceptedText text.now file →
+            IfErr result (λ fault. fault ≡ OutOfMemory) }
     {
         let automaton = read_automaton(alloc, text)?;
         let game = AutomatonGame::build(alloc, &automaton, order)?;
@@ -98,10 +99,14 @@ impl Problem {
         certificate: &Certificate,
         compact: bool,
     ) -> Result<Report, SynthFault>
-        ensures report { (order : Order) (text : List ℕ) → IsProblemOf order text self.now → IfOk result (IsReport (Gives self.now.game certificate.now) order compact text) }
+        ensures report { (order : Order) (text : List ℕ) → IsProblemOf order text self.now →
+            IfOk result (IsReport (Gives self.now.game certificate.now) order compact text) }
         ensures refused { IfErr result (IsReportFault self.now certificate.now) }
-        ensures not_certified { ¬ IsCertified self.now.game certificate.now → IsErrAnd result (λ fault. fault ≡ NotCertified) }
-        ensures outcome { IsCertified self.now.game certificate.now → (order : Order) (text : List ℕ) → IsProblemOf order text self.now → IsOutcome (Gives self.now.game certificate.now) order compact text result }
+        ensures not_certified { ¬ IsCertified self.now.game certificate.now →
+            IsErrAnd result (λ fault. fault ≡ NotCertified) }
+        ensures outcome { IsCertified self.now.game certificate.now → (order : Order) (text : List ℕ) →
+            IsProblemOf order text self.now → IsOutcome (Gives self.now.game certificate.now) order
+            compact text result }
     {
         if !is_certified(self.game(), certificate) {
             return Err(SynthFault::NotCertified);
@@ -121,8 +126,10 @@ impl Problem {
         compact: bool,
     ) -> Result<Report, SynthFault>
         requires { IsCertified self.now.game certificate.now }
-        ensures outcome { (order : Order) (text : List ℕ) → IsProblemOf order text self.now → IsOutcome (Gives self.now.game certificate.now) order compact text result }
-        ensures cause { IfErr result (IsCircuitFault self.now.order self.now.automaton self.now.game.game certificate.now) }
+        ensures outcome { (order : Order) (text : List ℕ) → IsProblemOf order text self.now →
+            IsOutcome (Gives self.now.game certificate.now) order compact text result }
+        ensures cause { IfErr result (IsCircuitFault self.now.order self.now.automaton self.now.game.game
+            certificate.now) }
     {
         valid_regions_are_held();
         no_strategy_wins_outside();
@@ -162,9 +169,11 @@ fn report_of_certificate(
     ensures circuit { IfOk result (λ report. (circuit : CircuitData)
         × PrintsCircuit report.circuit_text.items circuit
         × IsCircuitOf order automaton.now game.now.game.game certificate.now circuit
-        × ((file : FileData) (chain : Chain) → IsBuiltFrom file chain automaton.now → IsWitness order file (winner certificate.now) circuit)) }
+        × ((file : FileData) (chain : Chain) → IsBuiltFrom file chain automaton.now →
+        IsWitness order file (winner certificate.now) circuit)) }
     ensures game { IfOk result (λ report. PrintsGame report.game_text.items game.now.game) }
-    ensures certificate { IfOk result (λ report. PrintsCertificate compact report.certificate_text.items game.now.game certificate.now) }
+    ensures certificate { IfOk result (λ report. PrintsCertificate compact report.certificate_text.items game.now.game
+        certificate.now) }
     ensures refused { IfErr result (IsCircuitFault order automaton.now game.now.game.game certificate.now) }
 {
     let circuit = circuit_of_certificate(alloc, automaton, order, game, certificate)?;

@@ -41,7 +41,8 @@ pub fn report_of(
     ensures realizable { IfOk result (λ report. IsTrue report.realizable ↔ (winner certificate.now ≡ 0)) }
     ensures circuit { IfOk result (λ report. PrintsCircuit report.circuit_text.items circuit.now) }
     ensures game { IfOk result (λ report. PrintsGame report.game_text.items game.now) }
-    ensures certificate { IfOk result (λ report. PrintsCertificate compact report.certificate_text.items game.now certificate.now) }
+    ensures certificate { IfOk result (λ report. PrintsCertificate compact report.certificate_text.items game.now
+        certificate.now) }
 {
     Ok(Report {
         realizable: certificate.winner(0) == 0,

@@ -1,27 +1,33 @@
--- The exits of a reading function. Its contract is `Meets found causes view part old result new`, which is a `Reads` at an Ok and
--- a `Stops` at an Err; the contracts of its callees are such facts too, `c.call.ensures` and `c.in_err-call.ensures`.
---     reads_then j m n      the first call read its part (m), and the rest read what is left (n): nest these for calls one
---               behind another. j is the `Joint` of the two (proofs/Laws.antt)
+-- The exits of a reading function. Its contract is `Meets found causes view part old result new`, which is a `Reads` at
+-- an Ok and a `Stops` at an Err; the contracts of its callees are such facts too, `c.call.ensures` and
+-- `c.in_err-call.ensures`.
+--     reads_then j m n      the first call read its part (m), and the rest read what is left (n): nest these for calls
+--               one behind another. j is the `Joint` of the two (proofs/Laws.antt)
 --     stops_first causes j old o s      the first call failed: so does the function
 --     stops_behind causes j m o s      the first call read its part, and the rest failed
---     reads_next, stops_bad, stops_refusal      one sign: the next one is taken; it is bad; it can't stand there, or there is none
+--     reads_next, stops_bad, stops_refusal      one sign: the next one is taken; it is bad; it can't stand there, or
+--               there is none
 --     reads_give, reads_mapped, stops_mapped      nothing was taken; the value is seen by another function
---     exits found causes view part old new e r s c      at the exit of a `?`: s is the Stops of the error that was met, and c says
---               that the result r is that error, `c.from_residual.ensures.1`
---               So for `let n = number(tokens)?; semicolon(tokens)?; Ok(n)`, which reads `line = then_by number (λ n. mapped (λ _. n)
---               semicolon)`, with the joint j of the two:
---               returns-in_err-n c = exits found causes view line _ _ _ _ (stops_first causes j _ _ c.in_err-n.ensures) c.from_residual.ensures.1
---               returns c = reads_then j c.in_ok-n.ensures (reads_mapped _ c.in_ok-semicolon.ensures)
+--     exits found causes view part old new e r s c      at the exit of a `?`: s is the Stops of the error that was met,
+--               and c says that the result r is that error, `c.from_residual.ensures.1`
+--               So for `let n = number(tokens)?; semicolon(tokens)?; Ok(n)`, which reads `line = then_by number (λ n.
+--               mapped (λ _. n) semicolon)`, with the joint j of the two:
+--               returns-in_err-n c = exits found causes view line _ _ _ _ (stops_first causes j _ _ c.in_err-n.ensures)
+--               c.from_residual.ensures.1 returns c = reads_then j c.in_ok-n.ensures (reads_mapped _
+--               c.in_ok-semicolon.ensures)
 --     then_meets      a last call whose result is returned as it is
---     carries_start, carries_then, carries_reads, carries_stops      the invariant of a loop: before it, behind a call, and at its exits
-use Rattle.std.proofs.Common.{◌≡◌, ◌≤◌, List, [], ◌∷◌, ◌++◌, Option, None, Some, Result, Ok, Err, IsErrAnd, refl, sym, ap, subst, ◌∙◌, append_assoc}
+--     carries_start, carries_then, carries_reads, carries_stops      the invariant of a loop: before it, behind a call,
+--               and at its exits
+use Rattle.std.proofs.Common.{◌≡◌, ◌≤◌, List, [], ◌∷◌, ◌++◌, Option, None, Some, Result, Ok, Err, IsErrAnd, refl, sym}
+use Rattle.std.proofs.Common.{ap, subst, ◌∙◌, append_assoc}
 use Rattle.std.proofs.lemmas.Result.{err_from_is_err_and}
 use Rattle.ps_text.specs.Answers.{Piece, Stream, Found, first_of, next_of, signs, offset_of}
 use Rattle.ps_text.specs.Parts.{Part, Causes, IsRead, IsFault, give, one, then_by, mapped, refusal_of}
 use Rattle.ps_text.specs.Readers.{refusal_at, tail, tail_of, IsSuffix, StopsWith, Stops, Reads, Meets, Carries}
 use Rattle.ps_text.proofs.Laws.{Joint}
 use Rattle.ps_text.proofs.Joined.{read_then, fault_left, fault_right}
-use Rattle.ps_text.proofs.Simple.{none_is_some, same_some, read_give, read_one, bad_one, refused_one, ended_one, read_mapped, fault_mapped}
+use Rattle.ps_text.proofs.Simple.{none_is_some, same_some, read_give, read_one, bad_one, refused_one, ended_one}
+use Rattle.ps_text.proofs.Simple.{read_mapped, fault_mapped}
 
 pub suffix_refl : {T : Type 0} (s : Stream T) → IsSuffix s s
 suffix_refl s = record { taken = []; split = refl; end = refl }
@@ -34,7 +40,8 @@ suffix_trans a b c x y = record {
 }
 
 -- the next piece
-pub piece_next : {T : Type 0} (s : Stream T) (t : T) → next_of s ≡ Some t → (p : Piece T) × (s.pieces ≡ p ∷ (tail s).pieces) × (p.sign ≡ t)
+pub piece_next : {T : Type 0} (s : Stream T) (t : T) → next_of s ≡ Some t →
+    (p : Piece T) × (s.pieces ≡ p ∷ (tail s).pieces) × (p.sign ≡ t)
 piece_next {T} s t e = go s.pieces e
   where
     go : (ps : List (Piece T)) → first_of (signs ps) ≡ Some t → (p : Piece T) × (ps ≡ p ∷ tail_of ps) × (p.sign ≡ t)
@@ -43,14 +50,24 @@ piece_next {T} s t e = go s.pieces e
 
 -- what is a fault of P is one of Q
 pub stops_as : {T A B F : Type 0} (causes : Causes T F) (P : Part T A F) (Q : Part T B F) (old : Stream T) →
-    ((f : F) (rest : List T) → IsFault causes P (signs old.pieces) f rest → IsFault causes Q (signs old.pieces) f rest) →
+    ((f : F) (rest : List T) → IsFault causes P (signs old.pieces) f rest → IsFault causes Q (signs old.pieces) f rest)
+    →
     (o : Option (Found F)) → Stops causes P old o → Stops causes Q old o
 stops_as causes P Q old h None s = tt
-stops_as causes P Q old h (Some g) s = record { front = s.front; rest = s.rest; split = s.split; fault = h g.cause (signs s.rest) s.fault; offset = s.offset }
+stops_as causes P Q old h (Some g) s =
+    record {
+      front = s.front;
+      rest = s.rest;
+      split = s.split;
+      fault = h g.cause (signs s.rest) s.fault;
+      offset = s.offset;
+    }
 
 -- and so from an earlier place on
-pub stops_later : {T A B F : Type 0} (causes : Causes T F) (P : Part T A F) (Q : Part T B F) (old mid : Stream T) → IsSuffix old mid →
-    ((f : F) (rest : List T) → IsFault causes P (signs mid.pieces) f rest → IsFault causes Q (signs old.pieces) f rest) →
+pub stops_later : {T A B F : Type 0} (causes : Causes T F) (P : Part T A F) (Q : Part T B F) (old mid : Stream T) →
+    IsSuffix old mid →
+    ((f : F) (rest : List T) → IsFault causes P (signs mid.pieces) f rest → IsFault causes Q (signs old.pieces) f rest)
+    →
     (o : Option (Found F)) → Stops causes P mid o → Stops causes Q old o
 stops_later causes P Q old mid x h None s = tt
 stops_later causes P Q old mid x h (Some g) s = record {
@@ -66,84 +83,124 @@ stops_later causes P Q old mid x h (Some g) s = record {
 pub reads_give : {T V F : Type 0} (s : Stream T) (v : V) → Reads (give {T = T} {V = V} {F = F} v) s v s
 reads_give s v = (suffix_refl s, read_give (signs s.pieces) v)
 
-pub reads_mapped : {T A B F : Type 0} (h : A → B) {P : Part T A F} {old new : Stream T} {a : A} → Reads P old a new → Reads (mapped h P) old (h a) new
+pub reads_mapped : {T A B F : Type 0} (h : A → B) {P : Part T A F} {old new : Stream T} {a : A} → Reads P old a new →
+    Reads (mapped h P) old (h a) new
 reads_mapped h {P} {old} {new} {a} m = (m.0, read_mapped h P (signs old.pieces) (signs new.pieces) a m.1)
 
-pub reads_then : {T A B F : Type 0} {P : Part T A F} {Q : A → Part T B F} {old mid new : Stream T} {a : A} {b : B} → Joint P Q →
+pub reads_then : {T A B F : Type 0} {P : Part T A F} {Q : A → Part T B F} {old mid new : Stream T} {a : A} {b : B} →
+    Joint P Q →
     Reads P old a mid → Reads (Q a) mid b new → Reads (then_by P Q) old b new
-reads_then {P = P} {Q = Q} {old = old} {mid = mid} {new = new} {a = a} {b = b} j m n =
-    (suffix_trans old mid new m.0 n.0, read_then P Q j (signs old.pieces) (signs mid.pieces) (signs new.pieces) a b m.1 n.1)
+reads_then {P = P} {Q = Q} {old = old} {mid = mid} {new = new} {a = a} {b = b} j m n = (
+  suffix_trans old mid new m.0 n.0,
+  read_then P Q j (signs old.pieces) (signs mid.pieces)
+      (signs new.pieces) a b m.1 n.1,
+)
 
-pub reads_next : {T V F : Type 0} (take : T → Option V) (Bad : T → F → Type 0) (old new : Stream T) (t : T) (v : V) → next_of old ≡ Some t → new ≡ tail old → take t ≡ Some v →
+pub reads_next : {T V F : Type 0} (take : T → Option V) (Bad : T → F → Type 0) (old new : Stream T) (t : T) (v : V) →
+    next_of old ≡ Some t → new ≡ tail old → take t ≡ Some v →
     ((f : F) → Bad t f → ⊥) → Reads (one take Bad) old v new
-reads_next {T} take Bad old new t v n z k good = let p = piece_next old t n in go p.0 (p.1 ∙ ap (λ s. p.0 ∷ s.pieces) (sym z)) (ap (λ s. s.end) z) p.2
+reads_next {T} take Bad old new t v n z k good =
+    let p = piece_next old t n in go p.0 (p.1 ∙ ap (λ s. p.0 ∷ s.pieces) (sym z)) (ap (λ s. s.end) z) p.2
   where
     go : (p : Piece T) → old.pieces ≡ p ∷ new.pieces → new.end ≡ old.end → p.sign ≡ t → Reads (one take Bad) old v new
     go p e l x = (
       record { taken = p ∷ []; split = e; end = l },
-      subst (λ ps. IsRead (one take Bad) (signs ps) v (signs new.pieces)) (sym e) (read_one take Bad p.sign (signs new.pieces) v (ap take x ∙ k) (λ f b. good f (subst (λ u. Bad u f) x b))),
+      subst (λ ps. IsRead (one take Bad) (signs ps) v (signs new.pieces)) (sym e)
+          (read_one take Bad p.sign (signs new.pieces) v (ap take x ∙ k) (λ f b. good f (subst (λ u. Bad u f) x b))),
     )
 
 -- ## A fault was found
 
 module _ {T F : Type 0} (causes : Causes T F) where
-  pub stops_mapped : {A B : Type 0} (h : A → B) (P : Part T A F) (old : Stream T) (o : Option (Found F)) → Stops causes P old o → Stops causes (mapped h P) old o
-  stops_mapped h P old o s = stops_as causes P (mapped h P) old (λ f rest p. fault_mapped h P causes (signs old.pieces) rest f p) o s
+  pub stops_mapped : {A B : Type 0} (h : A → B) (P : Part T A F) (old : Stream T) (o : Option (Found F)) →
+      Stops causes P old o → Stops causes (mapped h P) old o
+  stops_mapped h P old o s =
+      stops_as causes P (mapped h P) old (λ f rest p. fault_mapped h P causes (signs old.pieces) rest f p) o s
 
-  pub stops_first : {A B : Type 0} {P : Part T A F} {Q : A → Part T B F} → Joint P Q → (old : Stream T) (o : Option (Found F)) → Stops causes P old o → Stops causes (then_by P Q) old o
-  stops_first {P = P} {Q = Q} j old o s = stops_as causes P (then_by P Q) old (λ f rest p. fault_left P Q j causes (signs old.pieces) rest f p) o s
+  pub stops_first : {A B : Type 0} {P : Part T A F} {Q : A → Part T B F} → Joint P Q →
+      (old : Stream T) (o : Option (Found F)) → Stops causes P old o → Stops causes (then_by P Q) old o
+  stops_first {P = P} {Q = Q} j old o s =
+      stops_as causes P (then_by P Q) old (λ f rest p. fault_left P Q j causes (signs old.pieces) rest f p) o s
 
-  pub stops_behind : {A B : Type 0} {P : Part T A F} {Q : A → Part T B F} {old mid : Stream T} {a : A} → Joint P Q → Reads P old a mid → (o : Option (Found F)) →
+  pub stops_behind : {A B : Type 0} {P : Part T A F} {Q : A → Part T B F} {old mid : Stream T} {a : A} → Joint P Q →
+      Reads P old a mid → (o : Option (Found F)) →
       Stops causes (Q a) mid o → Stops causes (then_by P Q) old o
-  stops_behind {P = P} {Q = Q} {old = old} {mid = mid} {a = a} j m o s = stops_later causes (Q a) (then_by P Q) old mid m.0
+  stops_behind {P = P} {Q = Q} {old = old} {mid = mid} {a = a} j m o s =
+      stops_later causes (Q a) (then_by P Q) old mid m.0
       (λ f rest p. fault_right P Q j causes (signs old.pieces) (signs mid.pieces) rest a f m.1 p) o s
 
   module _ {V : Type 0} (take : T → Option V) (Bad : T → F → Type 0) (old : Stream T) where
-    stops_there : (ps : List (Piece T)) (f : F) → old.pieces ≡ ps → IsFault causes (one take Bad) (signs ps) f (signs ps) → StopsWith causes (one take Bad) old (record { cause = f; offset = offset_of ps old.end })
-    stops_there ps f x h = record { front = []; rest = ps; split = x; fault = subst (λ z. IsFault causes (one take Bad) (signs z) f (signs ps)) (sym x) h; offset = refl }
+    stops_there : (ps : List (Piece T)) (f : F) → old.pieces ≡ ps →
+        IsFault causes (one take Bad) (signs ps) f (signs ps) → StopsWith causes (one take Bad) old
+        (record { cause = f; offset = offset_of ps old.end })
+    stops_there ps f x h =
+        record {
+          front = [];
+          rest = ps;
+          split = x;
+          fault = subst
+              (λ z. IsFault causes (one take Bad) (signs z) f (signs ps)) (sym x) h;
+          offset = refl;
+        }
 
-    pub stops_bad : (t : T) (f : F) (o : Option (Found F)) → next_of old ≡ Some t → Bad t f → ((g : F) → Bad t g → causes.number f ≤ causes.number g) →
+    pub stops_bad : (t : T) (f : F) (o : Option (Found F)) → next_of old ≡ Some t → Bad t f →
+        ((g : F) → Bad t g → causes.number f ≤ causes.number g) →
         o ≡ Some (record { cause = f; offset = offset_of old.pieces old.end }) → Stops causes (one take Bad) old o
     stops_bad t f o n b least k = let p = piece_next old t n in
-        subst (Stops causes (one take Bad) old) (sym (k ∙ ap (λ ps. Some (record { cause = f; offset = offset_of ps old.end })) p.1))
-        (stops_there (p.0 ∷ (tail old).pieces) f p.1 (bad_one take Bad causes p.0.sign (signs (tail old).pieces) f (subst (λ u. Bad u f) (sym p.2) b) (λ g c. least g (subst (λ u. Bad u g) p.2 c))))
+        subst (Stops causes (one take Bad) old) (sym (k ∙ ap (λ ps.
+        Some (record { cause = f; offset = offset_of ps old.end })) p.1))
+        (stops_there (p.0 ∷ (tail old).pieces) f p.1 (bad_one take Bad causes p.0.sign (signs (tail old).pieces) f
+        (subst (λ u. Bad u f) (sym p.2) b) (λ g c. least g (subst (λ u. Bad u g) p.2 c))))
 
     -- s is any sign that may stand there
-    pub stops_refusal : (s : T) (w : V) → take s ≡ Some w → ((t : T) → next_of old ≡ Some t → take t ≡ None) → ((t : T) (f : F) → next_of old ≡ Some t → Bad t f → ⊥) →
+    pub stops_refusal : (s : T) (w : V) → take s ≡ Some w → ((t : T) → next_of old ≡ Some t → take t ≡ None) →
+        ((t : T) (f : F) → next_of old ≡ Some t → Bad t f → ⊥) →
         (o : Option (Found F)) → o ≡ Some (refusal_at causes old) → Stops causes (one take Bad) old o
     stops_refusal s w y none good o k = subst (Stops causes (one take Bad) old) (sym k) (go old.pieces refl)
       where
         go : (ps : List (Piece T)) → old.pieces ≡ ps → StopsWith causes (one take Bad) old (refusal_at causes old)
-        go [] x = subst (StopsWith causes (one take Bad) old) (ap (λ z. record { cause = refusal_of causes (first_of (signs z)); offset = offset_of z old.end }) (sym x))
+        go [] x =
+            subst (StopsWith causes (one take Bad) old) (ap (λ z. record
+            { cause = refusal_of causes (first_of (signs z)); offset = offset_of z old.end }) (sym x))
             (stops_there [] causes.syntax x (ended_one take Bad causes s w y))
-        go (p ∷ ps) x = subst (StopsWith causes (one take Bad) old) (ap (λ z. record { cause = refusal_of causes (first_of (signs z)); offset = offset_of z old.end }) (sym x))
+        go (p ∷ ps) x =
+            subst (StopsWith causes (one take Bad) old) (ap (λ z. record
+            { cause = refusal_of causes (first_of (signs z)); offset = offset_of z old.end }) (sym x))
             (stops_there (p ∷ ps) (refusal_of causes (Some p.sign)) x
-            (refused_one take Bad causes s w y p.sign (signs ps) (none p.sign (ap (λ z. first_of (signs z)) x)) (λ f b. good p.sign f (ap (λ z. first_of (signs z)) x) b)))
+            (refused_one take Bad causes s w y p.sign (signs ps) (none p.sign (ap (λ z. first_of (signs z)) x))
+            (λ f b. good p.sign f (ap (λ z. first_of (signs z)) x) b)))
 
 -- ## Results
 
-pub exits : {T V F X E : Type 0} (found : E → Option (Found F)) (causes : Causes T F) (view : X → V) (P : Part T V F) (old new : Stream T) (e : E) (r : Result X E) →
+pub exits : {T V F X E : Type 0} (found : E → Option (Found F)) (causes : Causes T F) (view : X → V) (P : Part T V F)
+    (old new : Stream T) (e : E) (r : Result X E) →
     Stops causes P old (found e) → IsErrAnd r (λ y. y ≡ e) → Meets found causes view P old r new
 exits found causes view P old new e r s i = let y = err_from_is_err_and r i in
     subst (λ z. Meets found causes view P old z new) (sym (y.1 ∙ ap Err y.2)) s
 
-pub then_meets : {T F E A B Y : Type 0} (found : E → Option (Found F)) (causes : Causes T F) (view : Y → B) {P : Part T A F} {Q : A → Part T B F} {old mid : Stream T} {a : A} (new : Stream T) (r : Result Y E) →
-    Joint P Q → Reads P old a mid → Meets found causes view (Q a) mid r new → Meets found causes view (then_by P Q) old r new
+pub then_meets : {T F E A B Y : Type 0} (found : E → Option (Found F)) (causes : Causes T F) (view : Y → B)
+    {P : Part T A F} {Q : A → Part T B F} {old mid : Stream T} {a : A} (new : Stream T) (r : Result Y E) →
+    Joint P Q → Reads P old a mid → Meets found causes view (Q a) mid r new →
+    Meets found causes view (then_by P Q) old r new
 then_meets found causes view new (Ok y) j m n = reads_then j m n
 then_meets found causes view new (Err e) j m n = stops_behind causes j m (found e) n
 
 -- ## Loops
 
-pub carries_start : {T V F : Type 0} (causes : Causes T F) (whole : Part T V F) (start : Stream T) → Carries causes whole start whole start
+pub carries_start : {T V F : Type 0} (causes : Causes T F) (whole : Part T V F) (start : Stream T) →
+    Carries causes whole start whole start
 carries_start causes whole start r new m = m
 
-pub carries_reads : {T V F : Type 0} (causes : Causes T F) {whole rest : Part T V F} {start now new : Stream T} {v : V} → Carries causes whole start rest now → Reads rest now v new → Reads whole start v new
+pub carries_reads : {T V F : Type 0} (causes : Causes T F) {whole rest : Part T V F} {start now new : Stream T} {v : V}
+    → Carries causes whole start rest now → Reads rest now v new → Reads whole start v new
 carries_reads causes {new = new} {v = v} c m = c (Ok v) new m
 
-pub carries_stops : {T V F : Type 0} (causes : Causes T F) (whole rest : Part T V F) (start now : Stream T) (o : Option (Found F)) → Carries causes whole start rest now → Stops causes rest now o → Stops causes whole start o
+pub carries_stops : {T V F : Type 0} (causes : Causes T F) (whole rest : Part T V F) (start now : Stream T)
+    (o : Option (Found F)) → Carries causes whole start rest now → Stops causes rest now o → Stops causes whole start o
 carries_stops causes whole rest start now o c s = c (Err o) now s
 
-pub carries_then : {T A B F : Type 0} (causes : Causes T F) {whole : Part T B F} {P : Part T A F} {Q : A → Part T B F} {start now next : Stream T} {a : A} → Joint P Q →
+pub carries_then : {T A B F : Type 0} (causes : Causes T F) {whole : Part T B F} {P : Part T A F} {Q : A → Part T B F}
+    {start now next : Stream T} {a : A} → Joint P Q →
     Carries causes whole start (then_by P Q) now → Reads P now a next → Carries causes whole start (Q a) next
 carries_then {T} {A} {B} {F} causes {whole} {P} {Q} {start} {now} {next} {a} j c m = go
   where

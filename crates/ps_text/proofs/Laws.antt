@@ -1,22 +1,26 @@
 -- The laws of a part, as a record, and the laws of two parts that stand one behind the other.
---     Laws odd part First More Null      a list of signs has one value; First holds of a sign that begins a text of the part, or
---               at which a cause stands before any sign of it; More holds of a sign with which a text of the part goes on, or
---               at which a cause stands behind a text of it; Null holds if the empty list is a text. The sets may be larger
---               than that (`weaker`). Causes stand behind a beginning. `odd` are the signs that stand in no text and at
---               which no part's cause stands: those that are a cause by themselves. Some text of the part there is
---     Joint P Q      what `then_by P Q` needs: no sign both goes on with P and begins Q. It follows from the laws, by `joint`
--- For each production of a grammar state its laws once, `laws_entry : Laws odd entry EntryFirst EntryMore ⊥`, by the lemma of its
--- outermost combinator (proofs/Combined.antt) and `weaker`, with sets of the format's own names.
+--     Laws odd part First More Null      a list of signs has one value; First holds of a sign that begins a text of the
+--               part, or at which a cause stands before any sign of it; More holds of a sign with which a text of the
+--               part goes on, or at which a cause stands behind a text of it; Null holds if the empty list is a text.
+--               The sets may be larger than that (`weaker`). Causes stand behind a beginning. `odd` are the signs that
+--               stand in no text and at which no part's cause stands: those that are a cause by themselves. Some text
+--               of the part there is
+--     Joint P Q      what `then_by P Q` needs: no sign both goes on with P and begins Q. It follows from the laws, by
+--               `joint`
+-- For each production of a grammar state its laws once, `laws_entry : Laws odd entry EntryFirst EntryMore ⊥`, by the
+-- lemma of its outermost combinator (proofs/Combined.antt) and `weaker`, with sets of the format's own names.
 use Rattle.std.proofs.Common.{◌≡◌, ◌⊎◌, List, [], ◌∷◌, ◌++◌}
 use Rattle.ps_text.specs.Answers.{Begins}
 use Rattle.ps_text.specs.Parts.{Part}
 
-pub record Laws {T V F : Type 0} (odd : T → Type 0) (part : Part T V F) (First More : T → Type 0) (Null : Type 0) : Type 0 where
+pub record Laws {T V F : Type 0} (odd : T → Type 0) (part : Part T V F) (First More : T → Type 0)
+    (Null : Type 0) : Type 0 where
   pub some : Begins part.IsText []
   pub one_value : (text : List T) (v w : V) → part.IsText text v → part.IsText text w → v ≡ w
   pub first_text : (t : T) (text : List T) (v : V) → part.IsText (t ∷ text) v → First t
   pub first_cause : (t : T) (f : F) → part.IsCause [] t f → First t
-  pub more_text : (text more : List T) (t : T) (v w : V) → part.IsText text v → part.IsText (text ++ t ∷ more) w → More t
+  pub more_text : (text more : List T) (t : T) (v w : V) → part.IsText text v →
+      part.IsText (text ++ t ∷ more) w → More t
   pub more_cause : (text : List T) (t : T) (v : V) (f : F) → part.IsText text v → part.IsCause text t f → More t
   pub null : (v : V) → part.IsText [] v → Null
   pub behind : (front : List T) (t : T) (f : F) → part.IsCause front t f → Begins part.IsText front
@@ -40,8 +44,10 @@ abbrev pub Apart : {T : Type 0} → (T → Type 0) → (T → Type 0) → Type 0
 Apart {T} A B = (t : T) → A t → B t → ⊥
 
 -- the same laws with larger sets
-pub weaker : {T V F : Type 0} {odd : T → Type 0} {part : Part T V F} {First More First' More' : T → Type 0} {Null Null' : Type 0} →
-    Laws odd part First More Null → Within First First' → Within More More' → (Null → Null') → Laws odd part First' More' Null'
+pub weaker : {T V F : Type 0} {odd : T → Type 0} {part : Part T V F} {First More First' More' : T → Type 0}
+    {Null Null' : Type 0} →
+    Laws odd part First More Null → Within First First' → Within More More' → (Null → Null') →
+    Laws odd part First' More' Null'
 weaker l f m n = record {
   some = l.some;
   one_value = l.one_value;
@@ -60,6 +66,9 @@ pub record Joint {T A B F : Type 0} (P : Part T A F) (Q : A → Part T B F) : Ty
   pub behind_left : (front : List T) (t : T) (f : F) → P.IsCause front t f → Begins P.IsText front
   pub behind_right : (a : A) (front : List T) (t : T) (f : F) → (Q a).IsCause front t f → Begins (Q a).IsText front
   pub some_right : (a : A) → Begins (Q a).IsText []
-  pub text_apart : (left more text : List T) (t : T) (a : A) → P.IsText left a → Begins P.IsText (left ++ t ∷ more) → Begins (Q a).IsText (t ∷ text) → ⊥
-  pub cause_apart : (left more : List T) (t : T) (a : A) (f : F) → P.IsText left a → Begins P.IsText (left ++ t ∷ more) → (Q a).IsCause [] t f → ⊥
-  pub causes_apart : (left : List T) (t : T) (a : A) (f g : F) → P.IsText left a → P.IsCause left t f → (Q a).IsCause [] t g → ⊥
+  pub text_apart : (left more text : List T) (t : T) (a : A) → P.IsText left a → Begins P.IsText (left ++ t ∷ more) →
+      Begins (Q a).IsText (t ∷ text) → ⊥
+  pub cause_apart : (left more : List T) (t : T) (a : A) (f : F) → P.IsText left a →
+      Begins P.IsText (left ++ t ∷ more) → (Q a).IsCause [] t f → ⊥
+  pub causes_apart : (left : List T) (t : T) (a : A) (f g : F) → P.IsText left a → P.IsCause left t f →
+      (Q a).IsCause [] t g → ⊥

@@ -11,5 +11,7 @@ pub mod Whole
 pub mod Branches
 pub mod Choices
 pub mod Barred
+pub mod Outcomes
+pub mod Decisions
 pub mod OneTokenisation
 pub mod LeadingDigits

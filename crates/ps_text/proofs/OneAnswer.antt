@@ -1,18 +1,23 @@
 -- Any two answers to one text are one.
-use Rattle.std.proofs.Common.{◌≡◌, ℕ, ◌<◌, ◌≤◌, ◌⊎◌, List, ◌++◌, length, Option, Ok, Err, sym, ap, ap₂, inl, inr, ◌∙◌, arith}
+use Rattle.std.proofs.Common.{◌≡◌, ℕ, ◌<◌, ◌≤◌, ◌⊎◌, List, ◌++◌, length, Option, Ok, Err, sym, ap, ap₂, inl, inr, ◌∙◌}
+use Rattle.std.proofs.Common.{arith}
 use Rattle.std.proofs.lemmas.List.{map-append, length-map}
-use Rattle.ps_text.specs.Answers.{Piece, Stream, Found, signs, offset_of, IsClean, IsFirstAt, HasOneMeaning, AreNumbered, HasOneAnswer}
+use Rattle.ps_text.specs.Answers.{Piece, Stream, Found, signs, offset_of, IsClean, IsFirstAt, HasOneMeaning}
+use Rattle.ps_text.specs.Answers.{AreNumbered, HasOneAnswer}
 use Rattle.ps_text.proofs.Splits.{same_split}
 
-pub signs_split : {T : Type 0} (all front rest : List (Piece T)) → all ≡ front ++ rest → signs all ≡ signs front ++ signs rest
+pub signs_split : {T : Type 0} (all front rest : List (Piece T)) → all ≡ front ++ rest →
+    signs all ≡ signs front ++ signs rest
 signs_split all front rest e = ap signs e ∙ map-append (λ p. p.sign) front rest
 
 not_both : {T V F : Type 0} (IsText : List T → V → Type 0) (IsCause : List T → Option T → F → Type 0) (number : F → ℕ)
     (stream : Stream T) (f : Found F) → IsClean IsCause (signs stream.pieces) → IsFirstAt number IsCause stream f → ⊥
-not_both IsText IsCause number stream f c h = c (signs h.front) (signs h.rest) f.cause (signs_split stream.pieces h.front h.rest h.split) h.first.stands
+not_both IsText IsCause number stream f c h =
+    c (signs h.front) (signs h.rest) f.cause (signs_split stream.pieces h.front h.rest h.split) h.first.stands
 
 -- the fronts of two first causes are as long, and the numbers are the same
-tied : (m n i j : ℕ) (P Q : Type 0) → (m < n) ⊎ (P × (i ≤ j)) → (n < m) ⊎ (Q × (j ≤ i)) → (P → m ≡ n) → (Q → n ≡ m) → (m ≡ n) × (i ≡ j)
+tied : (m n i j : ℕ) (P Q : Type 0) → (m < n) ⊎ (P × (i ≤ j)) → (n < m) ⊎ (Q × (j ≤ i)) → (P → m ≡ n) → (Q → n ≡ m) →
+    (m ≡ n) × (i ≡ j)
 tied m n i j P Q (inl a) (inl b) p q = absurd (omega arith)
 tied m n i j P Q (inl a) (inr b) p q = absurd (let h : n ≡ m = q b.0 in omega arith)
 tied m n i j P Q (inr a) (inl b) p q = absurd (let h : m ≡ n = p a.0 in omega arith)
@@ -23,7 +28,8 @@ same_found f g c o = ap₂ (λ x y. record { cause = x; offset = y }) c o
 
 same_first : {T F : Type 0} (number : F → ℕ) (IsCause : List T → Option T → F → Type 0) → AreNumbered number →
     (stream : Stream T) (f g : Found F) → IsFirstAt number IsCause stream f → IsFirstAt number IsCause stream g → f ≡ g
-same_first {T} {F} number IsCause numbered stream f g h k = same_found f g (numbered f.cause g.cause ties.1) (h.offset ∙ ap (λ r. offset_of r stream.end) rests ∙ sym k.offset)
+same_first {T} {F} number IsCause numbered stream f g h k =
+    same_found f g (numbered f.cause g.cause ties.1) (h.offset ∙ ap (λ r. offset_of r stream.end) rests ∙ sym k.offset)
   where
     lengths : (a : List (Piece T)) → length (signs a) ≡ length a
     lengths a = length-map a (λ p. p.sign)
@@ -38,11 +44,17 @@ same_first {T} {F} number IsCause numbered stream f g h k = same_found f g (numb
         (ap length) (ap length)
 
     rests : h.rest ≡ k.rest
-    rests = (same_split h.front h.rest k.front k.rest (sym h.split ∙ k.split) (sym (lengths h.front) ∙ ties.0 ∙ lengths k.front)).1
+    rests =
+        (same_split h.front h.rest k.front k.rest (sym h.split ∙ k.split)
+        (sym (lengths h.front) ∙ ties.0 ∙ lengths k.front)).1
 
-pub has_one_answer : {T V F : Type 0} (IsText : List T → V → Type 0) (IsCause : List T → Option T → F → Type 0) (number : F → ℕ) →
+pub has_one_answer : {T V F : Type 0} (IsText : List T → V → Type 0) (IsCause : List T → Option T → F → Type 0)
+    (number : F → ℕ) →
     HasOneMeaning IsText → AreNumbered number → HasOneAnswer IsText IsCause number
 has_one_answer IsText IsCause number m n stream (Ok v) (Ok w) a b = ap Ok (m (signs stream.pieces) v w a.0 b.0)
-has_one_answer IsText IsCause number m n stream (Ok v) (Err g) a b = absurd (not_both IsText IsCause number stream g a.1 b)
-has_one_answer IsText IsCause number m n stream (Err f) (Ok w) a b = absurd (not_both IsText IsCause number stream f b.1 a)
-has_one_answer IsText IsCause number m n stream (Err f) (Err g) a b = ap Err (same_first number IsCause n stream f g a b)
+has_one_answer IsText IsCause number m n stream (Ok v) (Err g) a b =
+    absurd (not_both IsText IsCause number stream g a.1 b)
+has_one_answer IsText IsCause number m n stream (Err f) (Ok w) a b =
+    absurd (not_both IsText IsCause number stream f b.1 a)
+has_one_answer IsText IsCause number m n stream (Err f) (Err g) a b =
+    ap Err (same_first number IsCause n stream f g a b)

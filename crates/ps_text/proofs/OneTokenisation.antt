@@ -10,24 +10,31 @@ pub all_at : (P : ℕ → Type 0) (xs ys : List ℕ) (b : ℕ) → AllByRecursio
 all_at P [] ys b h = h.0
 all_at P (x ∷ xs) ys b h = all_at P xs ys b h.1
 
-module _ {T : Type 0} (IsBlank : ℕ → Type 0) (IsToken : List ℕ → T → List ℕ → List ℕ → Type 0) (d : TokensDiffer IsBlank IsToken) where
+module _ {T : Type 0} (IsBlank : ℕ → Type 0) (IsToken : List ℕ → T → List ℕ → List ℕ → Type 0)
+    (d : TokensDiffer IsBlank IsToken) where
   -- no token begins where a blank stands
-  no_blank : (before text rest ys : List ℕ) (t : T) (b : ℕ) → IsToken before t text rest → text ++ rest ≡ b ∷ ys → IsBlank b → ⊥
+  no_blank : (before text rest ys : List ℕ) (t : T) (b : ℕ) → IsToken before t text rest →
+      text ++ rest ≡ b ∷ ys → IsBlank b → ⊥
   no_blank before text rest ys t b h e k = let s = d.begins before text rest t h in
       s.3 (subst IsBlank (sym (same_head s.0 b (s.1 ++ rest) ys (ap (λ z. z ++ rest) (sym s.2) ∙ e))) k)
 
-  not_done : (before bytes : List ℕ) (p : Piece T) → NextToken IsBlank IsToken before bytes p → AllByRecursion IsBlank bytes → ⊥
+  not_done : (before bytes : List ℕ) (p : Piece T) → NextToken IsBlank IsToken before bytes p →
+      AllByRecursion IsBlank bytes → ⊥
   not_done before bytes p n h = let s = d.begins (before ++ n.blanks) n.text n.rest p.sign n.is_token in
-      s.3 (all_at IsBlank n.blanks (s.1 ++ n.rest) s.0 (subst (AllByRecursion IsBlank) (n.split ∙ ap (λ z. n.blanks ++ (z ++ n.rest)) s.2) h))
+      s.3 (all_at IsBlank n.blanks (s.1 ++ n.rest) s.0 (subst (AllByRecursion IsBlank)
+      (n.split ∙ ap (λ z. n.blanks ++ (z ++ n.rest)) s.2) h))
 
   same_pieces : (p q : Piece T) → p.sign ≡ q.sign → p.start ≡ q.start → p ≡ q
   same_pieces p q e f = ap₂ (λ x y. record { sign = x; start = y }) e f
 
-  pub only_from : (before bytes : List ℕ) (ps qs : List (Piece T)) → TokensFrom IsBlank IsToken before bytes ps → TokensFrom IsBlank IsToken before bytes qs → ps ≡ qs
+  pub only_from : (before bytes : List ℕ) (ps qs : List (Piece T)) → TokensFrom IsBlank IsToken before bytes ps →
+      TokensFrom IsBlank IsToken before bytes qs → ps ≡ qs
   only_from before bytes [] [] a b = refl
   only_from before bytes [] (q ∷ qs) a b = absurd (not_done before bytes q b.0 a)
   only_from before bytes (p ∷ ps) [] a b = absurd (not_done before bytes p a.0 b)
-  only_from before bytes (p ∷ ps) (q ∷ qs) a b = go (only_from (before ++ n.blanks ++ n.text) n.rest ps qs a.1) (compared n.blanks (n.text ++ n.rest) m.blanks (m.text ++ m.rest) (sym n.split ∙ m.split))
+  only_from before bytes (p ∷ ps) (q ∷ qs) a b =
+      go (only_from (before ++ n.blanks ++ n.text) n.rest ps qs a.1)
+      (compared n.blanks (n.text ++ n.rest) m.blanks (m.text ++ m.rest) (sym n.split ∙ m.split))
     where
       n : NextToken IsBlank IsToken before bytes p
       n = a.0
@@ -53,10 +60,13 @@ module _ {T : Type 0} (IsBlank : ℕ → Type 0) (IsToken : List ℕ → T → L
           later = subst (λ z. TokensFrom IsBlank IsToken (before ++ z ++ n.text) n.rest qs) (sym e)
               (subst (λ z. TokensFrom IsBlank IsToken (before ++ m.blanks ++ z) n.rest qs) (sym both.1)
               (subst (λ z. TokensFrom IsBlank IsToken (before ++ m.blanks ++ m.text) z qs) (sym rests) b.1))
-      go ih (shorter t w e f) = absurd (no_blank (before ++ n.blanks) n.text n.rest (w ++ (m.text ++ m.rest)) p.sign t n.is_token f
+      go ih (shorter t w e f) =
+          absurd (no_blank (before ++ n.blanks) n.text n.rest (w ++ (m.text ++ m.rest)) p.sign t n.is_token f
           (all_at IsBlank n.blanks w t (subst (AllByRecursion IsBlank) e m.are_blanks)))
-      go ih (longer t w e f) = absurd (no_blank (before ++ m.blanks) m.text m.rest (w ++ (n.text ++ n.rest)) q.sign t m.is_token f
+      go ih (longer t w e f) =
+          absurd (no_blank (before ++ m.blanks) m.text m.rest (w ++ (n.text ++ n.rest)) q.sign t m.is_token f
           (all_at IsBlank m.blanks w t (subst (AllByRecursion IsBlank) e n.are_blanks)))
 
   pub has_one_tokenisation : HasOneTokenisation IsBlank IsToken
-  has_one_tokenisation bytes a b h k = ap₂ (λ x y. record { pieces = x; end = y }) (only_from [] bytes a.pieces b.pieces h.0 k.0) (h.1 ∙ sym k.1)
+  has_one_tokenisation bytes a b h k =
+      ap₂ (λ x y. record { pieces = x; end = y }) (only_from [] bytes a.pieces b.pieces h.0 k.0) (h.1 ∙ sym k.1)

@@ -1,12 +1,15 @@
 -- `give`, `one` and `mapped`: their laws, and when they are read and stop. And the laws of `then_by`.
 --     laws_give, laws_one, laws_mapped, laws_then
 --     read_give      nothing is taken
---     read_one, bad_one, refused_one, ended_one      one sign is taken; it is bad; it is none that may stand there; there is none
+--     read_one, bad_one, refused_one, ended_one      one sign is taken; it is bad; it is none that may stand there;
+--               there is none
 --     read_mapped, fault_mapped
-use Rattle.std.proofs.Common.{◌≡◌, zero, suc, ◌+◌, ◌≤◌, List, [], ◌∷◌, ◌++◌, length, Option, None, Some, refl, sym, ap, subst, inl, inr, ◌∙◌, append_assoc, append-nil, arith}
+use Rattle.std.proofs.Common.{◌≡◌, zero, suc, ◌+◌, ◌≤◌, List, [], ◌∷◌, ◌++◌, length, Option, None, Some, refl, sym, ap}
+use Rattle.std.proofs.Common.{subst, inl, inr, ◌∙◌, append_assoc, append-nil, arith}
 use Rattle.std.specs.Option.{unwrap_or}
 use Rattle.ps_text.specs.Answers.{Begins, first_of}
-use Rattle.ps_text.specs.Parts.{Part, Causes, IsRead, IsFault, IsFaultAt, is_cause, is_refusal, CleanUpTo, StopsAt, NoCauseAt, give, one, then_by, mapped, refusal_of}
+use Rattle.ps_text.specs.Parts.{Part, Causes, IsRead, IsFault, IsFaultAt, is_cause, is_refusal, CleanUpTo, StopsAt}
+use Rattle.ps_text.specs.Parts.{NoCauseAt, give, one, then_by, mapped, refusal_of}
 use Rattle.ps_text.proofs.Splits.{Compared, shorter, same, longer, compared, same_head, same_tail, length_more}
 use Rattle.ps_text.proofs.Laws.{Laws, Nothing, Or, When, Apart}
 use Rattle.ps_text.proofs.Joined.{begins_left, begins_right, joint}
@@ -25,13 +28,17 @@ append_nil_left [] b e = refl
 append_nil_left (t ∷ a) b e = absurd (nil_is_cons t (a ++ b) (sym e))
 
 -- a list with something behind it is no single sign, unless it is empty
-pub single_split : {T : Type 0} (front rest : List T) (t s : T) → front ++ t ∷ rest ≡ s ∷ [] → (front ≡ []) × (t ≡ s) × (rest ≡ [])
+pub single_split : {T : Type 0} (front rest : List T) (t s : T) → front ++ t ∷ rest ≡ s ∷ [] →
+    (front ≡ []) × (t ≡ s) × (rest ≡ [])
 single_split [] rest t s e = (refl, same_head t s rest [] e, same_tail t s rest [] e)
-single_split (u ∷ front) rest t s e = absurd (let z : length front + suc (length rest) ≡ zero = sym (length_more front rest t) ∙ ap length (same_tail u s (front ++ t ∷ rest) [] e) in omega (arith, z))
+single_split (u ∷ front) rest t s e =
+    absurd (let z : length front + suc (length rest) ≡ zero = sym (length_more front rest t)
+    ∙ ap length (same_tail u s (front ++ t ∷ rest) [] e) in omega (arith, z))
 
 -- ## give
 
-pub laws_give : {T V F : Type 0} (odd : T → Type 0) (v : V) → Laws odd (give {T = T} {V = V} {F = F} v) Nothing Nothing (Unit {0})
+pub laws_give : {T V F : Type 0} (odd : T → Type 0) (v : V) →
+    Laws odd (give {T = T} {V = V} {F = F} v) Nothing Nothing (Unit {0})
 laws_give {T} odd v = record {
   some = record { more = []; value = v; is_text = (refl, refl) };
   one_value = λ text x y h k. h.1 ∙ sym k.1;
@@ -72,7 +79,8 @@ abbrev pub BadSign : {T F : Type 0} → (T → F → Type 0) → T → Type 0
 BadSign {T} {F} Bad t = (f : F) × Bad t f
 
 module _ {T V F : Type 0} (take : T → Option V) (Bad : T → F → Type 0) where
-  pub laws_one : (odd : T → Type 0) (t : T) (v : V) → take t ≡ Some v → Apart (Taken take) odd → Apart (BadSign Bad) odd →
+  pub laws_one : (odd : T → Type 0) (t : T) (v : V) → take t ≡ Some v → Apart (Taken take) odd →
+      Apart (BadSign Bad) odd →
       Laws odd (one take Bad) (Or (Taken take) (BadSign Bad)) Nothing ⊥
   laws_one odd t v e plain plain_bad = record {
     some = record { more = t ∷ []; value = v; is_text = (t, refl, e) };
@@ -87,7 +95,8 @@ module _ {T V F : Type 0} (take : T → Option V) (Bad : T → F → Type 0) whe
     plain_cause = λ front s f c o. plain_bad s (f, c.1) o;
   }
 
-  pub read_one : (t : T) (rest : List T) (v : V) → take t ≡ Some v → ((f : F) → Bad t f → ⊥) → IsRead (one take Bad) (t ∷ rest) v rest
+  pub read_one : (t : T) (rest : List T) (v : V) → take t ≡ Some v → ((f : F) → Bad t f → ⊥) →
+      IsRead (one take Bad) (t ∷ rest) v rest
   read_one t rest v e good = record {
     text = t ∷ [];
     split = refl;
@@ -101,12 +110,14 @@ module _ {T V F : Type 0} (take : T → Option V) (Bad : T → F → Type 0) whe
       stops (Some u) = λ b. nil_is_cons u b.more (sym (same_tail t b.is_text.0 (u ∷ b.more) [] b.is_text.1))
 
       clean : CleanUpTo (one take Bad) (t ∷ rest) 2
-      clean front more s f x l c = good f (subst (λ z. Bad z f) (sym (same_head t s rest more (x ∙ ap (λ z. z ++ s ∷ more) c.0))) c.1)
+      clean front more s f x l c =
+          good f (subst (λ z. Bad z f) (sym (same_head t s rest more (x ∙ ap (λ z. z ++ s ∷ more) c.0))) c.1)
 
   nothing_before : (all : List T) → CleanUpTo (one take Bad) all 0
   nothing_before all front more s f x l c = absurd (omega (arith, l))
 
-  pub bad_one : (causes : Causes T F) (t : T) (rest : List T) (f : F) → Bad t f → ((g : F) → Bad t g → causes.number f ≤ causes.number g) → IsFault causes (one take Bad) (t ∷ rest) f (t ∷ rest)
+  pub bad_one : (causes : Causes T F) (t : T) (rest : List T) (f : F) → Bad t f →
+      ((g : F) → Bad t g → causes.number f ≤ causes.number g) → IsFault causes (one take Bad) (t ∷ rest) f (t ∷ rest)
   bad_one causes t rest f b least = record {
     front = [];
     split = refl;
@@ -117,7 +128,8 @@ module _ {T V F : Type 0} (take : T → Option V) (Bad : T → F → Type 0) whe
   no_empty : (v : V) → (one take Bad).IsText [] v → ⊥
   no_empty v h = nil_is_cons h.0 [] h.1
 
-  pub refused_one : (causes : Causes T F) (s : T) (w : V) → take s ≡ Some w → (t : T) (rest : List T) → take t ≡ None → ((f : F) → Bad t f → ⊥) →
+  pub refused_one : (causes : Causes T F) (s : T) (w : V) → take s ≡ Some w → (t : T) (rest : List T) → take t ≡ None →
+      ((f : F) → Bad t f → ⊥) →
       IsFault causes (one take Bad) (t ∷ rest) (refusal_of causes (Some t)) (t ∷ rest)
   refused_one causes s w x t rest e good = record {
     front = [];
@@ -131,7 +143,8 @@ module _ {T V F : Type 0} (take : T → Option V) (Bad : T → F → Type 0) whe
     }) refl;
   }
 
-  pub ended_one : (causes : Causes T F) (s : T) (w : V) → take s ≡ Some w → IsFault causes (one take Bad) [] causes.syntax []
+  pub ended_one : (causes : Causes T F) (s : T) (w : V) → take s ≡ Some w →
+      IsFault causes (one take Bad) [] causes.syntax []
   ended_one causes s w x = record {
     front = [];
     split = refl;
@@ -153,7 +166,8 @@ module _ {T A B F : Type 0} (h : A → B) (P : Part T A F) where
   pub mapped_begins : (text : List T) → Begins P.IsText text → Begins (mapped h P).IsText text
   mapped_begins text b = record { more = b.more; value = h b.value; is_text = (b.value, b.is_text, refl) }
 
-  pub laws_mapped : {odd : T → Type 0} {First More : T → Type 0} {Null : Type 0} → Laws odd P First More Null → Laws odd (mapped h P) First More Null
+  pub laws_mapped : {odd : T → Type 0} {First More : T → Type 0} {Null : Type 0} → Laws odd P First More Null →
+      Laws odd (mapped h P) First More Null
   laws_mapped l = record {
     some = mapped_begins [] l.some;
     one_value = λ text x y a b. a.2 ∙ ap h (l.one_value text a.0 b.0 a.1 b.1) ∙ sym b.2;
@@ -184,8 +198,10 @@ module _ {T A B F : Type 0} (h : A → B) (P : Part T A F) where
     clean = p.clean;
   }
 
-  pub fault_mapped : (causes : Causes T F) (all rest : List T) (f : F) → IsFault causes P all f rest → IsFault causes (mapped h P) all f rest
-  fault_mapped causes all rest f p = record { front = p.front; split = p.split; clean = p.clean; fault = fault (first_of rest) p.fault }
+  pub fault_mapped : (causes : Causes T F) (all rest : List T) (f : F) → IsFault causes P all f rest →
+      IsFault causes (mapped h P) all f rest
+  fault_mapped causes all rest f p =
+      record { front = p.front; split = p.split; clean = p.clean; fault = fault (first_of rest) p.fault }
     where
       fault : (there : Option T) → IsFaultAt causes P p.front there f → IsFaultAt causes (mapped h P) p.front there f
       fault there (is_cause t e c l) = is_cause t e c l
@@ -198,10 +214,12 @@ module _ {T A B F : Type 0} (h : A → B) (P : Part T A F) where
 
 -- ## then_by
 
-module _ {T A B F : Type 0} {odd : T → Type 0} {P : Part T A F} {Q : A → Part T B F} {F1 M1 F2 M2 : T → Type 0} {N1 N2 : Type 0}
+module _ {T A B F : Type 0} {odd : T → Type 0} {P : Part T A F} {Q : A → Part T B F} {F1 M1 F2 M2 : T → Type 0}
+    {N1 N2 : Type 0}
     (l : Laws odd P F1 M1 N1) (r : (a : A) → Laws odd (Q a) F2 M2 N2) (apart : Apart M1 F2) where
   -- P goes on with a sign with which Q begins
-  never : (left m y : List T) (t : T) (a b : A) (w : B) → P.IsText left a → P.IsText (left ++ t ∷ m) b → (c : A) → (Q c).IsText (t ∷ y) w → ⊥
+  never : (left m y : List T) (t : T) (a b : A) (w : B) → P.IsText left a → P.IsText (left ++ t ∷ m) b → (c : A) →
+      (Q c).IsText (t ∷ y) w → ⊥
   never left m y t a b w h k c i = apart t (l.more_text left m t a b h k) ((r c).first_text t y w i)
 
   values_then : (text : List T) (x y : B) → (then_by P Q).IsText text x → (then_by P Q).IsText text y → x ≡ y
@@ -209,14 +227,23 @@ module _ {T A B F : Type 0} {odd : T → Type 0} {P : Part T A F} {Q : A → Par
     where
       go : Compared i.left i.right k.left k.right → x ≡ y
       go (same e f) =
-          let v : k.value ≡ i.value = l.one_value i.left k.value i.value (subst (λ z. P.IsText z k.value) (sym e) k.is_left) i.is_left in
-          (r i.value).one_value i.right x y i.is_right (subst (λ z. (Q i.value).IsText z y) (sym f) (subst (λ c. (Q c).IsText k.right y) v k.is_right))
-      go (shorter t m e f) = absurd (never i.left m (m ++ k.right) t i.value k.value x i.is_left (subst (λ z. P.IsText z k.value) e k.is_left) i.value (subst (λ z. (Q i.value).IsText z x) f i.is_right))
-      go (longer t m e f) = absurd (never k.left m (m ++ i.right) t k.value i.value y k.is_left (subst (λ z. P.IsText z i.value) e i.is_left) k.value (subst (λ z. (Q k.value).IsText z y) f k.is_right))
+          let v : k.value ≡ i.value =
+          l.one_value i.left k.value i.value (subst (λ z. P.IsText z k.value) (sym e) k.is_left) i.is_left in
+          (r i.value).one_value i.right x y i.is_right (subst (λ z. (Q i.value).IsText z y) (sym f)
+          (subst (λ c. (Q c).IsText k.right y) v k.is_right))
+      go (shorter t m e f) =
+          absurd (never i.left m (m ++ k.right) t i.value k.value x i.is_left
+          (subst (λ z. P.IsText z k.value) e k.is_left) i.value (subst (λ z. (Q i.value).IsText z x) f i.is_right))
+      go (longer t m e f) =
+          absurd (never k.left m (m ++ i.right) t k.value i.value y k.is_left
+          (subst (λ z. P.IsText z i.value) e i.is_left) k.value (subst (λ z. (Q k.value).IsText z y) f k.is_right))
 
-  first_then : (left right text : List T) (t : T) (a : A) (b : B) → t ∷ text ≡ left ++ right → P.IsText left a → (Q a).IsText right b → Or F1 (When N1 F2) t
-  first_then [] right text t a b e h k = inr (l.null a h, (r a).first_text t text b (subst (λ z. (Q a).IsText z b) (sym e) k))
-  first_then (s ∷ left) right text t a b e h k = inl (l.first_text t left a (subst (λ z. P.IsText (z ∷ left) a) (sym (same_head t s text (left ++ right) e)) h))
+  first_then : (left right text : List T) (t : T) (a : A) (b : B) → t ∷ text ≡ left ++ right → P.IsText left a →
+      (Q a).IsText right b → Or F1 (When N1 F2) t
+  first_then [] right text t a b e h k =
+      inr (l.null a h, (r a).first_text t text b (subst (λ z. (Q a).IsText z b) (sym e) k))
+  first_then (s ∷ left) right text t a b e h k =
+      inl (l.first_text t left a (subst (λ z. P.IsText (z ∷ left) a) (sym (same_head t s text (left ++ right) e)) h))
 
   nil_right : (a b : List T) → [] ≡ a ++ b → b ≡ []
   nil_right [] b e = sym e
@@ -229,46 +256,80 @@ module _ {T A B F : Type 0} {odd : T → Type 0} {P : Part T A F} {Q : A → Par
     (r k.value).first_cause t f (subst (λ z. (Q k.value).IsCause z t f) (nil_right k.left k.right k.split) k.is_cause),
   )
 
-  more_then : (text more : List T) (t : T) (x y : B) → (then_by P Q).IsText text x → (then_by P Q).IsText (text ++ t ∷ more) y → Or M2 (When N2 M1) t
-  more_then text more t x y i k = go (compared i.left (i.right ++ t ∷ more) k.left k.right (sym (append_assoc i.left i.right (t ∷ more)) ∙ ap (λ z. z ++ t ∷ more) (sym i.split) ∙ k.split))
+  more_then : (text more : List T) (t : T) (x y : B) → (then_by P Q).IsText text x →
+      (then_by P Q).IsText (text ++ t ∷ more) y → Or M2 (When N2 M1) t
+  more_then text more t x y i k =
+      go (compared i.left (i.right ++ t ∷ more) k.left k.right (sym (append_assoc i.left i.right (t ∷ more))
+      ∙ ap (λ z. z ++ t ∷ more) (sym i.split) ∙ k.split))
     where
-      first_sign : (right w : List T) (s : T) (m : List T) → (Q i.value).IsText right x → P.IsText (i.left ++ s ∷ m) k.value → right ++ t ∷ more ≡ s ∷ w → Or M2 (When N2 M1) t
-      first_sign [] w s m h g e = inr ((r i.value).null x h, subst M1 (sym (same_head t s more w e)) (l.more_text i.left m s i.value k.value i.is_left g))
-      first_sign (u ∷ right) w s m h g e = absurd (never i.left m right u i.value k.value x i.is_left (subst (λ z. P.IsText (i.left ++ z ∷ m) k.value) (sym (same_head u s (right ++ t ∷ more) w e)) g) i.value h)
+      first_sign : (right w : List T) (s : T) (m : List T) → (Q i.value).IsText right x →
+          P.IsText (i.left ++ s ∷ m) k.value → right ++ t ∷ more ≡ s ∷ w → Or M2 (When N2 M1) t
+      first_sign [] w s m h g e =
+          inr (
+            (r i.value).null x h,
+            subst M1 (sym (same_head t s more w e))
+                (l.more_text i.left m s i.value k.value i.is_left g),
+          )
+      first_sign (u ∷ right) w s m h g e =
+          absurd (never i.left m right u i.value k.value x i.is_left
+          (subst (λ z. P.IsText (i.left ++ z ∷ m) k.value) (sym (same_head u s (right ++ t ∷ more) w e)) g) i.value h)
 
       go : Compared i.left (i.right ++ t ∷ more) k.left k.right → Or M2 (When N2 M1) t
       go (same e f) =
-          let v : k.value ≡ i.value = l.one_value i.left k.value i.value (subst (λ z. P.IsText z k.value) (sym e) k.is_left) i.is_left in
-          inl ((r i.value).more_text i.right more t x y i.is_right (subst (λ z. (Q i.value).IsText z y) (sym f) (subst (λ c. (Q c).IsText k.right y) v k.is_right)))
-      go (shorter s m e f) = first_sign i.right (m ++ k.right) s m i.is_right (subst (λ z. P.IsText z k.value) e k.is_left) f
-      go (longer s m e f) = absurd (never k.left m (m ++ (i.right ++ t ∷ more)) s k.value i.value y k.is_left (subst (λ z. P.IsText z i.value) e i.is_left) k.value (subst (λ z. (Q k.value).IsText z y) f k.is_right))
+          let v : k.value ≡ i.value =
+          l.one_value i.left k.value i.value (subst (λ z. P.IsText z k.value) (sym e) k.is_left) i.is_left in
+          inl ((r i.value).more_text i.right more t x y i.is_right
+          (subst (λ z. (Q i.value).IsText z y) (sym f) (subst (λ c. (Q c).IsText k.right y) v k.is_right)))
+      go (shorter s m e f) =
+          first_sign i.right (m ++ k.right) s m i.is_right (subst (λ z. P.IsText z k.value) e k.is_left) f
+      go (longer s m e f) =
+          absurd (never k.left m (m ++ (i.right ++ t ∷ more)) s k.value i.value y k.is_left
+          (subst (λ z. P.IsText z i.value) e i.is_left) k.value (subst (λ z. (Q k.value).IsText z y) f k.is_right))
 
   begins_more : (left m : List T) (t : T) (a : A) → P.IsText left a → Begins P.IsText (left ++ t ∷ m) → M1 t
-  begins_more left m t a h b = l.more_text left (m ++ b.more) t a b.value h (subst (λ z. P.IsText z b.value) (append_assoc left (t ∷ m) b.more) b.is_text)
+  begins_more left m t a h b =
+      l.more_text left (m ++ b.more) t a b.value h (subst (λ z. P.IsText z b.value)
+      (append_assoc left (t ∷ m) b.more) b.is_text)
 
-  more_cause_then : (text : List T) (t : T) (x : B) (f : F) → (then_by P Q).IsText text x → (then_by P Q).IsCause text t f → Or M2 (When N2 M1) t
+  more_cause_then : (text : List T) (t : T) (x : B) (f : F) → (then_by P Q).IsText text x →
+      (then_by P Q).IsCause text t f → Or M2 (When N2 M1) t
   more_cause_then text t x f i (inl c) = go i.right i.split i.is_right
     where
       go : (right : List T) → text ≡ i.left ++ right → (Q i.value).IsText right x → Or M2 (When N2 M1) t
-      go [] e h = inr ((r i.value).null x h, l.more_cause text t i.value f (subst (λ z. P.IsText z i.value) (sym (e ∙ append-nil i.left)) i.is_left) c)
-      go (u ∷ right) e h = absurd (apart u (begins_more i.left right u i.value i.is_left (subst (Begins P.IsText) e (l.behind text t f c))) ((r i.value).first_text u right x h))
+      go [] e h =
+          inr (
+            (r i.value).null x h,
+            l.more_cause text t i.value f
+                (subst (λ z. P.IsText z i.value) (sym (e ∙ append-nil i.left)) i.is_left) c,
+          )
+      go (u ∷ right) e h =
+          absurd (apart u (begins_more i.left right u i.value i.is_left
+          (subst (Begins P.IsText) e (l.behind text t f c))) ((r i.value).first_text u right x h))
   more_cause_then text t x f i (inr k) = go (compared i.left i.right k.left k.right (sym i.split ∙ k.split))
     where
       go : Compared i.left i.right k.left k.right → Or M2 (When N2 M1) t
       go (same e g) =
-          let v : k.value ≡ i.value = l.one_value i.left k.value i.value (subst (λ z. P.IsText z k.value) (sym e) k.is_left) i.is_left in
-          inl ((r i.value).more_cause i.right t x f i.is_right (subst (λ z. (Q i.value).IsCause z t f) (sym g) (subst (λ c. (Q c).IsCause k.right t f) v k.is_cause)))
-      go (shorter s m e g) = absurd (never i.left m (m ++ k.right) s i.value k.value x i.is_left (subst (λ z. P.IsText z k.value) e k.is_left) i.value (subst (λ z. (Q i.value).IsText z x) g i.is_right))
+          let v : k.value ≡ i.value =
+          l.one_value i.left k.value i.value (subst (λ z. P.IsText z k.value) (sym e) k.is_left) i.is_left in
+          inl ((r i.value).more_cause i.right t x f i.is_right (subst (λ z. (Q i.value).IsCause z t f) (sym g)
+          (subst (λ c. (Q c).IsCause k.right t f) v k.is_cause)))
+      go (shorter s m e g) =
+          absurd (never i.left m (m ++ k.right) s i.value k.value x i.is_left
+          (subst (λ z. P.IsText z k.value) e k.is_left) i.value (subst (λ z. (Q i.value).IsText z x) g i.is_right))
       go (longer s m e g) =
           let b = (r k.value).behind k.right t f k.is_cause in
-          absurd (never k.left m ((m ++ i.right) ++ b.more) s k.value i.value b.value k.is_left (subst (λ z. P.IsText z i.value) e i.is_left) k.value (subst (λ z. (Q k.value).IsText (z ++ b.more) b.value) g b.is_text))
+          absurd (never k.left m ((m ++ i.right) ++ b.more) s k.value i.value b.value k.is_left
+          (subst (λ z. P.IsText z i.value) e i.is_left) k.value
+          (subst (λ z. (Q k.value).IsText (z ++ b.more) b.value) g b.is_text))
 
   plain_then : (front rest : List T) (t : T) (v : B) → (then_by P Q).IsText (front ++ t ∷ rest) v → odd t → ⊥
   plain_then front rest t v i o = go (compared front (t ∷ rest) i.left i.right i.split)
     where
       go : Compared front (t ∷ rest) i.left i.right → ⊥
       go (same e f) = (r i.value).plain_text [] rest t v (subst (λ z. (Q i.value).IsText z v) (sym f) i.is_right) o
-      go (shorter s m e f) = l.plain_text front m t i.value (subst (λ z. P.IsText (front ++ z ∷ m) i.value) (sym (same_head t s rest (m ++ i.right) f)) (subst (λ z. P.IsText z i.value) e i.is_left)) o
+      go (shorter s m e f) =
+          l.plain_text front m t i.value (subst (λ z. P.IsText (front ++ z ∷ m) i.value)
+          (sym (same_head t s rest (m ++ i.right) f)) (subst (λ z. P.IsText z i.value) e i.is_left)) o
       go (longer s m e f) = (r i.value).plain_text (s ∷ m) rest t v (subst (λ z. (Q i.value).IsText z v) f i.is_right) o
 
   plain_cause_then : (front : List T) (t : T) (f : F) → (then_by P Q).IsCause front t f → odd t → ⊥

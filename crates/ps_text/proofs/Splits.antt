@@ -1,5 +1,6 @@
 -- Two splits of one list, compared: the fronts are the same, or one goes on where the other ends.
-use Rattle.std.proofs.Common.{◌≡◌, suc, ◌+◌, List, [], ◌∷◌, ◌++◌, length, get_or, drop, refl, sym, ap, ap₂, ◌∙◌, arith, length-append}
+use Rattle.std.proofs.Common.{◌≡◌, suc, ◌+◌, List, [], ◌∷◌, ◌++◌, length, get_or, drop, refl, sym, ap, ap₂, ◌∙◌, arith}
+use Rattle.std.proofs.Common.{length-append}
 
 pub data Compared {T : Type 0} (a b c d : List T) : Type 0 where
   shorter : (t : T) (middle : List T) → c ≡ a ++ t ∷ middle → b ≡ t ∷ (middle ++ d) → Compared a b c d
@@ -33,5 +34,7 @@ same_split {T} a b c d e l = go (compared a b c d e)
   where
     go : Compared a b c d → (a ≡ c) × (b ≡ d)
     go (same f g) = (f, g)
-    go (shorter t m f g) = absurd (let h : length c ≡ length a + suc (length m) = ap length f ∙ length_more a m t in omega (arith, h, l))
-    go (longer t m f g) = absurd (let h : length a ≡ length c + suc (length m) = ap length f ∙ length_more c m t in omega (arith, h, l))
+    go (shorter t m f g) =
+        absurd (let h : length c ≡ length a + suc (length m) = ap length f ∙ length_more a m t in omega (arith, h, l))
+    go (longer t m f g) =
+        absurd (let h : length a ≡ length c + suc (length m) = ap length f ∙ length_more c m t in omega (arith, h, l))

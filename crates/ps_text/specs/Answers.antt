@@ -1,5 +1,6 @@
 -- The answer of a reader, whatever the format: the meaning of the text, or the first cause that stands in it.
---     Piece, Stream      a sign of a text with the offset of its first byte; the pieces of a text, and where the text ends
+--     Piece, Stream      a sign of a text with the offset of its first byte; the pieces of a text, and where the text
+--               ends
 --     Begins IsText front      some text of the grammar begins with these signs
 --     NoneGoesOn IsText front there      and none goes on with that sign, or, at None, ends there
 --     IsRefused IsText front there      both: the grammar does not allow that sign, or that end, behind these signs
@@ -7,10 +8,11 @@
 --     IsFirst number IsCause front rest f      f stands between front and rest, and no other stands before it
 --     IsFirstAt number IsCause stream found      the same, where the signs have offsets
 --     Answers IsText IsCause number stream answer      the answer is Ok with the meaning, or the first cause
--- A format says what its signs are (a token, a byte or a line, with what a reader sees ahead of it), when a list of signs is
--- a text of its grammar and what the text means, IsText, and when a cause stands behind some signs and at a next sign or
--- at the end, IsCause. Of two causes at one sign the one with the smaller number is answered.
-use Rattle.std.specs.Prelude.{◌≡◌, ℕ, ◌<◌, ◌≤◌, ◌⊎◌, List, [], ◌∷◌, ◌++◌, map, length, Option, None, Some, Result, Ok, Err}
+-- A format says what its signs are (a token, a byte or a line, with what a reader sees ahead of it), when a list of
+-- signs is a text of its grammar and what the text means, IsText, and when a cause stands behind some signs and at a
+-- next sign or at the end, IsCause. Of two causes at one sign the one with the smaller number is answered.
+use Rattle.std.specs.Prelude.{◌≡◌, ℕ, ◌<◌, ◌≤◌, ◌⊎◌, List, [], ◌∷◌, ◌++◌, map, length, Option, None, Some, Result, Ok}
+use Rattle.std.specs.Prelude.{Err}
 
 -- a sign of a text, and the offset of its first byte
 pub record Piece (T : Type 0) : Type 0 where
@@ -66,13 +68,15 @@ abbrev pub IsClean : {T F : Type 0} → (List T → Option T → F → Type 0) �
 IsClean {T} {F} IsCause all = (front rest : List T) (f : F) → all ≡ front ++ rest → IsCause front (first_of rest) f → ⊥
 
 -- f stands between front and rest, and each cause that stands in the text stands later, or there with no smaller number
-pub record IsFirst {T F : Type 0} (number : F → ℕ) (IsCause : List T → Option T → F → Type 0) (front rest : List T) (f : F) : Type 0 where
+pub record IsFirst {T F : Type 0} (number : F → ℕ) (IsCause : List T → Option T → F → Type 0) (front rest : List T)
+    (f : F) : Type 0 where
   pub stands : IsCause front (first_of rest) f
   pub least : (front' rest' : List T) (g : F) → front ++ rest ≡ front' ++ rest' → IsCause front' (first_of rest') g →
       (length front < length front') ⊎ ((front ≡ front') × (number f ≤ number g))
 
 -- the same in a text whose signs have offsets
-pub record IsFirstAt {T F : Type 0} (number : F → ℕ) (IsCause : List T → Option T → F → Type 0) (stream : Stream T) (found : Found F) : Type 0 where
+pub record IsFirstAt {T F : Type 0} (number : F → ℕ) (IsCause : List T → Option T → F → Type 0) (stream : Stream T)
+    (found : Found F) : Type 0 where
   pub front : List (Piece T)
   pub rest : List (Piece T)
   pub split : stream.pieces ≡ front ++ rest

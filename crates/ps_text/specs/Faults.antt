@@ -1,5 +1,5 @@
--- What a fault says of a text: where it is a cause, the cause and the place; nothing, where memory ran out. And its number and
--- its name in psyn's list of faults: those of the cause, or of want of memory.
+-- What a fault says of a text: where it is a cause, the cause and the place; nothing, where memory ran out. And its
+-- number and its name in psyn's list of faults: those of the cause, or of want of memory.
 use Rattle.std.specs.Prelude.{ℕ, List, Option, None, Some, Result, Ok, Err, codes}
 use Rattle.ps_text.specs.declared.faults.Fault.{Fault}
 use Rattle.ps_text.specs.declared.faults.Fault.TheVariants.{Text, OutOfMemory}

@@ -5,3 +5,4 @@ pub mod Choices
 pub mod Readers
 pub mod Digits
 pub mod Tokens
+pub mod Outcomes

@@ -1,11 +1,12 @@
--- A grammar by parts. A part is a grammar together with what may be wrong inside it; parts are joined by combinators, so that
--- a grammar written in them reads like the standard's own.
---     Part      IsText: these signs are a text of the part, of that value; IsCause: behind these signs of the part, that
---               cause stands at that sign. What the grammar itself refuses is no cause of a part
---     Causes      what a format says of its causes: their numbers, the cause that a sign is by itself, wherever it stands,
---               and the one for a sign (or an end) that the grammar does not allow
+-- A grammar by parts. A part is a grammar together with what may be wrong inside it; parts are joined by combinators,
+-- so that a grammar written in them reads like the standard's own.
+--     Part      IsText: these signs are a text of the part, of that value; IsCause: behind these signs of the part,
+--               that cause stands at that sign. What the grammar itself refuses is no cause of a part
+--     Causes      what a format says of its causes: their numbers, the cause that a sign is by itself, wherever it
+--               stands, and the one for a sign (or an end) that the grammar does not allow
 --     IsWrong causes part      what is wrong with a whole text: the IsCause of `Answers`, where the text is one part
---     IsRead part all v rest      the part was read from the front of all: its longest text, with no cause up to the next sign
+--     IsRead part all v rest      the part was read from the front of all: its longest text, with no cause up to the
+--               next sign
 --     IsFault causes part all f rest      the part's first fault was found in all, and rest is what stands from it on
 -- The combinators:
 --     give v      no sign, the value v
@@ -13,17 +14,18 @@
 --               whether take knows it or not
 --     then_by P (λ a. Q a)      P and then Q, which may depend on the value a; the value is that of Q
 --     either P Q      P or Q
---     times n item c, many item c      n items, or any number of them, one behind another: `item c` is the item behind the
---               context c, its value is the next context, and the last one is the value of the whole
+--     times n item c, many item c      n items, or any number of them, one behind another: `item c` is the item behind
+--               the context c, its value is the next context, and the last one is the value of the whole
 --     mapped h P      P with the value h v in place of v
 --     barred P Bad      P, and a cause at the sign behind it, which Bad says by P's value
 -- So a list of numbers as `1, 2, 3;` is
 --     number = one number_of IsTooLarge
 --     more ns = then_by comma (λ _. mapped (λ n. ns ++ n ∷ []) number)
 --     list = then_by number (λ n. then_by (many more (n ∷ [])) (λ ns. mapped (λ _. ns) semicolon))
--- A reader of the code says of each production, in a private clause, that it read its part or stopped at its first fault
--- (specs/Readers.antt); proofs/ has the theorems that join parts, and lead from the whole part to `Answers`.
-use Rattle.std.specs.Prelude.{◌≡◌, ℕ, zero, suc, ◌+◌, ◌<◌, ◌≤◌, ◌⊎◌, List, [], ◌∷◌, ◌++◌, length, Option, None, Some, Result}
+-- A reader of the code says of each production, in a private clause, that it read its part or stopped at its first
+-- fault (specs/Readers.antt); proofs/ has the theorems that join parts, and lead from the whole part to `Answers`.
+use Rattle.std.specs.Prelude.{◌≡◌, ℕ, zero, suc, ◌+◌, ◌<◌, ◌≤◌, ◌⊎◌, List, [], ◌∷◌, ◌++◌, length, Option, None, Some}
+use Rattle.std.specs.Prelude.{Result}
 use Rattle.std.specs.Option.{unwrap_or}
 use Rattle.ps_text.specs.Answers.{Begins, IsRefused, Stream, Found, Answers, first_of}
 
@@ -42,7 +44,8 @@ refusal_of causes None = causes.syntax
 refusal_of causes (Some t) = unwrap_or (causes.own t) causes.syntax
 
 -- f is wrong behind front, at that sign or at the end: a cause of the part, or the sign's own, or else the grammar's
-pub data IsWrong {T V F : Type 0} (causes : Causes T F) (part : Part T V F) (front : List T) (there : Option T) (f : F) : Type 0 where
+pub data IsWrong {T V F : Type 0} (causes : Causes T F) (part : Part T V F) (front : List T) (there : Option T)
+    (f : F) : Type 0 where
   by_part : (t : T) → there ≡ Some t → part.IsCause front t f → IsWrong causes part front there f
   by_sign : (t : T) → there ≡ Some t → causes.own t ≡ Some f → IsWrong causes part front there f
   by_grammar : IsRefused part.IsText front there → ((t : T) (g : F) → there ≡ Some t → part.IsCause front t g → ⊥)
@@ -54,7 +57,8 @@ PartAnswers causes part = Answers part.IsText (IsWrong causes part) causes.numbe
 
 -- no cause of the part stands behind fewer than n signs
 abbrev pub CleanUpTo : {T V F : Type 0} → Part T V F → List T → ℕ → Type 0
-CleanUpTo {T} {V} {F} part all n = (front rest : List T) (t : T) (f : F) → all ≡ front ++ t ∷ rest → length front < n → part.IsCause front t f → ⊥
+CleanUpTo {T} {V} {F} part all n =
+    (front rest : List T) (t : T) (f : F) → all ≡ front ++ t ∷ rest → length front < n → part.IsCause front t f → ⊥
 
 -- no text of the part goes on with the next sign
 abbrev pub StopsAt : {T V F : Type 0} → Part T V F → List T → Option T → Type 0
@@ -65,8 +69,8 @@ abbrev pub NoCauseAt : {T V F : Type 0} → Part T V F → List T → Option T �
 NoCauseAt part front None = Unit {0}
 NoCauseAt {T} {V} {F} part front (Some t) = (f : F) → part.IsCause front t f → ⊥
 
--- all begins with a text of the part, of that value, and rest stands behind it. No text of the part goes on with the next
--- sign, and no cause of the part stands in the text or at that sign
+-- all begins with a text of the part, of that value, and rest stands behind it. No text of the part goes on with the
+-- next sign, and no cause of the part stands in the text or at that sign
 pub record IsRead {T V F : Type 0} (part : Part T V F) (all : List T) (v : V) (rest : List T) : Type 0 where
   pub text : List T
   pub split : all ≡ text ++ rest
@@ -82,13 +86,16 @@ pub record IsBroken {T V F : Type 0} (part : Part T V F) (front : List T) (there
   pub no_cause : NoCauseAt part front there
 
 -- f is the fault there: the part's cause with the least number, or the refusal
-pub data IsFaultAt {T V F : Type 0} (causes : Causes T F) (part : Part T V F) (front : List T) (there : Option T) (f : F) : Type 0 where
-  is_cause : (t : T) → there ≡ Some t → part.IsCause front t f → ((g : F) → part.IsCause front t g → causes.number f ≤ causes.number g)
+pub data IsFaultAt {T V F : Type 0} (causes : Causes T F) (part : Part T V F) (front : List T) (there : Option T)
+    (f : F) : Type 0 where
+  is_cause : (t : T) → there ≡ Some t → part.IsCause front t f →
+      ((g : F) → part.IsCause front t g → causes.number f ≤ causes.number g)
       → IsFaultAt causes part front there f
   is_refusal : IsBroken part front there → f ≡ refusal_of causes there → IsFaultAt causes part front there f
 
 -- the first fault of the part in all: no cause of the part stands before it, and rest stands from it on
-pub record IsFault {T V F : Type 0} (causes : Causes T F) (part : Part T V F) (all : List T) (f : F) (rest : List T) : Type 0 where
+pub record IsFault {T V F : Type 0} (causes : Causes T F) (part : Part T V F) (all : List T) (f : F)
+    (rest : List T) : Type 0 where
   pub front : List T
   pub split : all ≡ front ++ rest
   pub clean : CleanUpTo part all (length front)
@@ -109,7 +116,8 @@ one {T} take Bad = record {
 abbrev pub NoBad : {T F : Type 0} → T → F → Type 0
 NoBad _ _ = ⊥
 
-pub record IsJoined {T A B : Type 0} (P : List T → A → Type 0) (Q : A → List T → B → Type 0) (text : List T) (b : B) : Type 0 where
+pub record IsJoined {T A B : Type 0} (P : List T → A → Type 0) (Q : A → List T → B → Type 0) (text : List T)
+    (b : B) : Type 0 where
   pub left : List T
   pub right : List T
   pub value : A
@@ -117,7 +125,8 @@ pub record IsJoined {T A B : Type 0} (P : List T → A → Type 0) (Q : A → Li
   pub is_left : P left value
   pub is_right : Q value right b
 
-pub record IsBehind {T A F : Type 0} (P : List T → A → Type 0) (Q : A → List T → T → F → Type 0) (front : List T) (t : T) (f : F) : Type 0 where
+pub record IsBehind {T A F : Type 0} (P : List T → A → Type 0) (Q : A → List T → T → F → Type 0) (front : List T)
+    (t : T) (f : F) : Type 0 where
   pub left : List T
   pub right : List T
   pub value : A

@@ -1,11 +1,11 @@
--- What a reading function of the code says of the part that it reads: it was read, or its first fault was found. `old` and
--- `new` are the pieces still to come as the function begins and as it returns, the Model of the code's tokens.
---     Meets found causes view part old result new      the function's contract, where `view` is what the grammar sees of its
---               value and `found` is what an error says of the text: nothing, where memory ran out. At an Ok it is
---               `Reads part old (view x) new`, at an Err `Stops causes part old (found e)`
+-- What a reading function of the code says of the part that it reads: it was read, or its first fault was found. `old`
+-- and `new` are the pieces still to come as the function begins and as it returns, the Model of the code's tokens.
+--     Meets found causes view part old result new      the function's contract, where `view` is what the grammar sees
+--               of its value and `found` is what an error says of the text: nothing, where memory ran out. At an Ok it
+--               is `Reads part old (view x) new`, at an Err `Stops causes part old (found e)`
 --     Goes causes part old result new      the same, where the value is the grammar's own and the error is what it says
---     Carries causes whole start rest now      the invariant of a loop: what reading rest from now on gives, reading whole
---               from start gives
+--     Carries causes whole start rest now      the invariant of a loop: what reading rest from now on gives, reading
+--               whole from start gives
 --     tail stream      what is left behind the next piece
 --     refusal_at causes stream      the cause where the grammar does not allow what comes next, and where that stands
 use Rattle.std.specs.Prelude.{◌≡◌, List, [], ◌∷◌, ◌++◌, Option, None, Some, Result, Ok, Err}
@@ -21,7 +21,8 @@ abbrev pub tail : {T : Type 0} → Stream T → Stream T
 tail stream = record { pieces = tail_of stream.pieces; end = stream.end }
 
 abbrev pub refusal_at : {T F : Type 0} → Causes T F → Stream T → Found F
-refusal_at causes stream = record { cause = refusal_of causes (next_of stream); offset = offset_of stream.pieces stream.end }
+refusal_at causes stream =
+    record { cause = refusal_of causes (next_of stream); offset = offset_of stream.pieces stream.end }
 
 -- new is what is left of old once some pieces were taken
 pub record IsSuffix {T : Type 0} (old new : Stream T) : Type 0 where
@@ -30,7 +31,8 @@ pub record IsSuffix {T : Type 0} (old new : Stream T) : Type 0 where
   pub end : new.end ≡ old.end
 
 -- the part's first fault in the pieces of old stands at the first of rest, or at the end
-pub record StopsWith {T V F : Type 0} (causes : Causes T F) (part : Part T V F) (old : Stream T) (found : Found F) : Type 0 where
+pub record StopsWith {T V F : Type 0} (causes : Causes T F) (part : Part T V F) (old : Stream T)
+    (found : Found F) : Type 0 where
   pub front : List (Piece T)
   pub rest : List (Piece T)
   pub split : old.pieces ≡ front ++ rest
@@ -45,12 +47,14 @@ Stops causes part old (Some found) = StopsWith causes part old found
 abbrev pub Reads : {T V F : Type 0} → Part T V F → Stream T → V → Stream T → Type 0
 Reads part old v new = IsSuffix old new × IsRead part (signs old.pieces) v (signs new.pieces)
 
-abbrev pub Meets : {T V F X E : Type 0} → (E → Option (Found F)) → Causes T F → (X → V) → Part T V F → Stream T → Result X E → Stream T → Type 0
+abbrev pub Meets : {T V F X E : Type 0} → (E → Option (Found F)) → Causes T F → (X → V) → Part T V F → Stream T →
+    Result X E → Stream T → Type 0
 Meets found causes view part old (Ok x) new = Reads part old (view x) new
 Meets found causes view part old (Err e) new = Stops causes part old (found e)
 
 -- the part was read, or its first fault was found; the value is the grammar's own
-abbrev pub Goes : {T V F : Type 0} → Causes T F → Part T V F → Stream T → Result V (Option (Found F)) → Stream T → Type 0
+abbrev pub Goes : {T V F : Type 0} → Causes T F → Part T V F → Stream T → Result V (Option (Found F)) →
+    Stream T → Type 0
 Goes causes part old (Ok v) new = Reads part old v new
 Goes causes part old (Err o) new = Stops causes part old o
 

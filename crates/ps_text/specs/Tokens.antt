@@ -1,17 +1,20 @@
--- The tokens of a text, as a relation between its bytes and its pieces, where the blanks between tokens are single bytes.
+-- The tokens of a text, as a relation between its bytes and its pieces, where the blanks between tokens are single
+-- bytes.
 --     IsBlank b      a byte that may stand between tokens
---     IsToken before sign text rest      behind the bytes `before`, text is that token and rest stands behind it. A format says
---               here that a token is the longest, what can't stand, and what depends on the bytes around a token
---     AreTokens IsBlank IsToken bytes stream      these are the tokens of the bytes, in order, with blanks between, before and
---               behind them
---     TokensDiffer IsBlank IsToken      at one place at most one token stands, and none begins with a blank: then a text has
---               one list of tokens at most, which is the law of `one_tokenisation`
+--     IsToken before sign text rest      behind the bytes `before`, text is that token and rest stands behind it. A
+--               format says here that a token is the longest, what can't stand, and what depends on the bytes around a
+--               token
+--     AreTokens IsBlank IsToken bytes stream      these are the tokens of the bytes, in order, with blanks between,
+--               before and behind them
+--     TokensDiffer IsBlank IsToken      at one place at most one token stands, and none begins with a blank: then a
+--               text has one list of tokens at most, which is the law of `one_tokenisation`
 use Rattle.std.specs.Prelude.{◌≡◌, ℕ, List, [], ◌∷◌, ◌++◌, length}
 use Rattle.std.specs.List.{AllByRecursion}
 use Rattle.ps_text.specs.Answers.{Piece, Stream}
 
 -- the first token of these bytes, with the blanks before it and what stands behind it
-pub record NextToken {T : Type 0} (IsBlank : ℕ → Type 0) (IsToken : List ℕ → T → List ℕ → List ℕ → Type 0) (before bytes : List ℕ) (piece : Piece T) : Type 0 where
+pub record NextToken {T : Type 0} (IsBlank : ℕ → Type 0) (IsToken : List ℕ → T → List ℕ → List ℕ → Type 0)
+    (before bytes : List ℕ) (piece : Piece T) : Type 0 where
   pub blanks : List ℕ
   pub text : List ℕ
   pub rest : List ℕ
@@ -20,19 +23,26 @@ pub record NextToken {T : Type 0} (IsBlank : ℕ → Type 0) (IsToken : List ℕ
   pub is_token : IsToken (before ++ blanks) piece.sign text rest
   pub start : piece.start ≡ length (before ++ blanks)
 
-abbrev pub TokensFrom : {T : Type 0} → (ℕ → Type 0) → (List ℕ → T → List ℕ → List ℕ → Type 0) → List ℕ → List ℕ → List (Piece T) → Type 0
+abbrev pub TokensFrom : {T : Type 0} → (ℕ → Type 0) → (List ℕ → T → List ℕ → List ℕ → Type 0) → List ℕ → List ℕ →
+    List (Piece T) → Type 0
 TokensFrom IsBlank IsToken before bytes [] = AllByRecursion IsBlank bytes
 TokensFrom IsBlank IsToken before bytes (p ∷ ps) =
-    (next : NextToken IsBlank IsToken before bytes p) × TokensFrom IsBlank IsToken (before ++ next.blanks ++ next.text) next.rest ps
+    (next : NextToken IsBlank IsToken before bytes p) × TokensFrom IsBlank IsToken
+    (before ++ next.blanks ++ next.text) next.rest ps
 
-abbrev pub AreTokens : {T : Type 0} → (ℕ → Type 0) → (List ℕ → T → List ℕ → List ℕ → Type 0) → List ℕ → Stream T → Type 0
+abbrev pub AreTokens : {T : Type 0} → (ℕ → Type 0) → (List ℕ → T → List ℕ → List ℕ → Type 0) → List ℕ →
+    Stream T → Type 0
 AreTokens IsBlank IsToken bytes stream = TokensFrom IsBlank IsToken [] bytes stream.pieces × (stream.end ≡ length bytes)
 
-pub record TokensDiffer {T : Type 0} (IsBlank : ℕ → Type 0) (IsToken : List ℕ → T → List ℕ → List ℕ → Type 0) : Type 0 where
-  pub begins : (before text rest : List ℕ) (t : T) → IsToken before t text rest → (b : ℕ) × (bs : List ℕ) × (text ≡ b ∷ bs) × (IsBlank b → ⊥)
-  pub one : (before text rest text' rest' : List ℕ) (t u : T) → IsToken before t text rest → IsToken before u text' rest' →
-      text ++ rest ≡ text' ++ rest' → (t ≡ u) × (text ≡ text')
+pub record TokensDiffer {T : Type 0} (IsBlank : ℕ → Type 0) (IsToken : List ℕ → T → List ℕ → List ℕ → Type 0) : Type 0
+  where
+    pub begins : (before text rest : List ℕ) (t : T) → IsToken before t text rest →
+        (b : ℕ) × (bs : List ℕ) × (text ≡ b ∷ bs) × (IsBlank b → ⊥)
+    pub one : (before text rest text' rest' : List ℕ) (t u : T) → IsToken before t text rest →
+        IsToken before u text' rest' →
+        text ++ rest ≡ text' ++ rest' → (t ≡ u) × (text ≡ text')
 
 -- a text has one list of tokens at most
 abbrev pub HasOneTokenisation : {T : Type 0} → (ℕ → Type 0) → (List ℕ → T → List ℕ → List ℕ → Type 0) → Type 0
-HasOneTokenisation {T} IsBlank IsToken = (bytes : List ℕ) (a b : Stream T) → AreTokens IsBlank IsToken bytes a → AreTokens IsBlank IsToken bytes b → a ≡ b
+HasOneTokenisation {T} IsBlank IsToken =
+    (bytes : List ℕ) (a b : Stream T) → AreTokens IsBlank IsToken bytes a → AreTokens IsBlank IsToken bytes b → a ≡ b

@@ -1,7 +1,9 @@
-//! The law that a text has one answer.
+//! The laws that a text has one answer, and that it has an answer.
 
 ghost use Rattle.std.specs.Prelude.{ℕ, List, Option};
 ghost use Rattle.ps_text.specs.Answers.{HasOneMeaning, AreNumbered, HasOneAnswer};
+ghost use Rattle.ps_text.specs.Outcomes.{HasOutcomes, IsOrderly, HasSomeAnswer};
+ghost use Rattle.ps_text.specs.Parts.{Part, Causes, IsWrong};
 
 /// A format of texts: its signs, the values that its texts mean, and the causes for which a text is refused.
 pub trait Format {
@@ -27,4 +29,28 @@ pub trait Format {
 /// A text has one answer, where a list of signs has one meaning and two causes have two numbers.
 pub fn one_answer<M: Format>()
     ensures { HasOneMeaning M.is_text → AreNumbered M.number → HasOneAnswer M.is_text M.is_cause M.number }
+{}
+
+/// A format whose texts are those of a part.
+pub trait Grammar {
+    /// What a text is a list of.
+    type Sign;
+
+    /// What a text means.
+    type Value;
+
+    /// Why a text is refused.
+    type Cause;
+
+    /// The part that a whole text is.
+    ghost part: { Part Self.Sign Self.Value Self.Cause };
+
+    /// What is said of the causes.
+    ghost causes: { Causes Self.Sign Self.Cause };
+}
+
+/// A text has an answer, where from each list of signs its part is read or has a first fault.
+pub fn some_answer<G: Grammar>()
+    ensures { HasOneMeaning G.part.IsText → IsOrderly G.causes G.part → HasOutcomes G.causes G.part →
+        HasSomeAnswer G.part.IsText (IsWrong G.causes G.part) G.causes.number }
 {}

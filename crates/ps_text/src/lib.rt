@@ -7,7 +7,8 @@
 //! | `numbers::leading_number(text)` | the number that a text begins with, and how many digits it has |
 //! | `faults::Cause::number`, `name` | what each format says of a cause: its number and name in psyn's list of faults |
 //! | `faults::Fault::number`, `name` | those of a fault: of its cause, or of want of memory |
-//! | `answers::one_answer` | a law: a text of a `Format` has one answer |
+//! | `answers::one_answer` | a law: a text of a `Format` has one answer at most |
+//! | `answers::some_answer` | a law: a text of a `Grammar` has an answer, where its part always has an outcome |
 //! | `tokens::one_tokenisation` | a law: a text of a `Lexicon` has one list of tokens at most |
 //!
 //! Grammars stand in the specs: `Parts` has what a part of a text means and what is wrong with it, `Readers` what a

@@ -23,7 +23,8 @@ use Rattle.ps_traces.proofs.Words.{all_accepted, none_accepted}
 other_role : (player : ℕ) → player ≢ 0 → role_of player ≡ Environment
 other_role player differ = ap (λ (b : Bool). if b then Controller else Environment) (ne_eqb player 0 differ)
 
-pub is_answer : (order : Order) (file : FileData) (m : Behaviour) (c : CircuitData) → HasOneValues c → IsMachine m → IsMachineFor order (role_of m.player) file m → Encodes m c → LassosWon file m
+pub is_answer : (order : Order) (file : FileData) (m : Behaviour) (c : CircuitData) → HasOneValues c → IsMachine m →
+    IsMachineFor order (role_of m.player) file m → Encodes m c → LassosWon file m
     → IsWitness order file m.player c
 is_answer order file m c one is is_for encodes won =
     let names : AreNames file.names = subst AreNames is_for.names is.are_names in
@@ -37,7 +38,8 @@ is_answer order file m c one is is_for encodes won =
       goes_on = each_goes_on c one;
       letters = λ moments. has_letters (role_of m.player) file.names file.controllable c names shape.symbols moments;
       meetings = λ player k controller.
-          let environment : HasShape order Environment file c = subst (λ (role : Role). HasShape order role file c) (other_role m.player player) shape in
+          let environment : HasShape order Environment file c =
+          subst (λ (role : Role). HasShape order role file c) (other_role m.player player) shape in
           record {
             one = λ count. meeting_is_one order c k count encodes.is_circuit one environment.in_time controller;
             rejected = meeting_is_rejected order file c k names one environment controller (none player);

@@ -1,28 +1,23 @@
 -- Bits of letters: of sums of letters that share none, and of the letter that has given bits at given propositions.
-use Rattle.std.proofs.Common.{◌≡◌, ℕ, zero, suc, ◌+◌, ◌/◌, ◌%◌, ◌^◌, ◌<◌, ◌≤◌, ◌⊎◌, inl, inr, Bool, true, false, cond, List, [], ◌∷◌, length, get_or, nat_eq, refl, ap, ap₂, sym, ◌∙◌, subst, arith}
+use Rattle.std.proofs.Common.{◌≡◌, ℕ, zero, suc, ◌+◌, ◌/◌, ◌%◌, ◌^◌, ◌<◌, ◌≤◌, ◌⊎◌, inl, inr, Bool, true, false, cond}
+use Rattle.std.proofs.Common.{List, [], ◌∷◌, length, get_or, nat_eq, refl, ap, ap₂, sym, ◌∙◌, subst, arith}
 use Rattle.std.specs.Int.{bit_at}
 use Rattle.std.specs.List.{AllPairs}
 use Rattle.std.proofs.lemmas.Bool.{cases_eq, cases_lt, eq-eqb, ne_eqb, eqb-true}
-use Rattle.std.proofs.lemmas.Nat.Bits.{bit_at_lowest, bit_at-suc, bit_at-zero, bit_at-lt, bit_at-pow_same, bit_at-pow_other, same_from_bits}
+use Rattle.std.proofs.lemmas.Nat.Bits.{bit_at_lowest, bit_at-suc, bit_at-zero, bit_at-lt, bit_at-pow_same}
+use Rattle.std.proofs.lemmas.Nat.Bits.{bit_at-pow_other, same_from_bits}
 use Rattle.ps_label.specs.Truth.{is_in}
 use Rattle.ps_diagram.specs.Letters.{letter_of}
 use Rattle.ps_diagram.proofs.Letters.{letter_is, letter_lt, no_bit}
 use Rattle.ps_hoa.specs.Files.{is_among}
+use Rattle.ps_simulate.proofs.OneLetter.{one_bit}
 use Rattle.ps_aiger.specs.Encoded.{letter_over}
 
 -- ## Single bits
 
-pub one_bit : (x y : ℕ) → x < 2 → y < 2 → nat_eq x 1 ≡ nat_eq y 1 → x ≡ y
-one_bit zero zero a b e = refl
-one_bit zero (suc zero) a b e = absurd (cc)
-one_bit (suc zero) zero a b e = absurd (cc)
-one_bit (suc zero) (suc zero) a b e = refl
-one_bit (suc (suc x)) y a b e = absurd (omega (arith, a))
-one_bit zero (suc (suc y)) a b e = absurd (omega (arith, b))
-one_bit (suc zero) (suc (suc y)) a b e = absurd (omega (arith, b))
-
 pub same_letter : (a b : ℕ) → ((p : ℕ) → is_in p a ≡ is_in p b) → a ≡ b
-same_letter a b same = same_from_bits a b (λ p. one_bit (bit_at a p) (bit_at b p) (bit_at-lt a p) (bit_at-lt b p) (same p))
+same_letter a b same =
+    same_from_bits a b (λ p. one_bit (bit_at a p) (bit_at b p) (bit_at-lt a p) (bit_at-lt b p) (same p))
 
 -- no bit from n on
 pub few_bits : (n x : ℕ) → ((p : ℕ) → n ≤ p → is_in p x ≡ false) → x < 2 ^ n
@@ -50,12 +45,18 @@ low_apart : (x y : ℕ) → AreApart x y → x % 2 + y % 2 < 2
 low_apart x y h = let e = bit_at_lowest x in let f = bit_at_lowest y in let g = h.apart 0 in omega (arith, e, f, g)
 
 rest_apart : (x y : ℕ) → AreApart x y → AreApart (x / 2) (y / 2)
-rest_apart x y h = record { apart = λ p. (let e = bit_at-suc x p in let f = bit_at-suc y p in let g = h.apart (suc p) in omega (arith, e, f, g)) }
+rest_apart x y h =
+    record {
+      apart = λ p. (let e = bit_at-suc x p in let f = bit_at-suc y p in let g = h.apart (suc p) in
+          omega (arith, e, f, g));
+    }
 
 bit_of_sum : (p x y : ℕ) → AreApart x y → bit_at (x + y) p ≡ bit_at x p + bit_at y p
-bit_of_sum zero x y h = bit_at_lowest (x + y) ∙ lowest x y (low_apart x y h) ∙ ap₂ ◌+◌ (sym (bit_at_lowest x)) (sym (bit_at_lowest y))
+bit_of_sum zero x y h =
+    bit_at_lowest (x + y) ∙ lowest x y (low_apart x y h) ∙ ap₂ ◌+◌ (sym (bit_at_lowest x)) (sym (bit_at_lowest y))
 bit_of_sum (suc p) x y h =
-    bit_at-suc (x + y) p ∙ ap (λ n. bit_at n p) (halves x y (low_apart x y h)) ∙ bit_of_sum p (x / 2) (y / 2) (rest_apart x y h)
+    bit_at-suc (x + y) p ∙ ap (λ n. bit_at n p) (halves x y (low_apart x y h))
+    ∙ bit_of_sum p (x / 2) (y / 2) (rest_apart x y h)
     ∙ ap₂ ◌+◌ (sym (bit_at-suc x p)) (sym (bit_at-suc y p))
 
 none_of : (n : ℕ) → n < 2 → nat_eq n 1 ≡ false → n ≡ 0
@@ -106,12 +107,15 @@ lower_off low q (p ∷ ps) [] le h = refl
 lower_off low q (p ∷ ps) (bit ∷ bits) le h =
     let more : low < p = h.above 0 0 (omega arith) in
     let other : nat_eq q p ≡ false = ne_eqb q p (λ e. absurd (omega (arith, e, more, le))) in
-    ap (λ (b : Bool). cond b bit (bit_with q ps bits)) other ∙ lower_off p q ps bits (omega (arith, more, le)) (rises_from p ps h.rising)
+    ap (λ (b : Bool). cond b bit (bit_with q ps bits)) other ∙ lower_off p q ps bits (omega (arith, more, le))
+    (rises_from p ps h.rising)
 
 power_in : (q p : ℕ) (bit : Bool) → is_in q (cond bit (2 ^ p) 0) ≡ cond (nat_eq q p) bit false
 power_in q p true = elim (cases_eq q p) [
-  | inl same ↦ ap (λ k. nat_eq (bit_at (2 ^ p) k) 1) same ∙ ap (λ n. nat_eq n 1) (bit_at-pow_same p) ∙ sym (ap (λ (b : Bool). cond b true false) (eq-eqb q p same))
-  | inr other ↦ ap (λ n. nat_eq n 1) (bit_at-pow_other p q other) ∙ sym (ap (λ (b : Bool). cond b true false) (ne_eqb q p other))
+  | inl same ↦ ap (λ k. nat_eq (bit_at (2 ^ p) k) 1) same ∙ ap (λ n. nat_eq n 1) (bit_at-pow_same p)
+      ∙ sym (ap (λ (b : Bool). cond b true false) (eq-eqb q p same))
+  | inr other ↦ ap (λ n. nat_eq n 1) (bit_at-pow_other p q other)
+      ∙ sym (ap (λ (b : Bool). cond b true false) (ne_eqb q p other))
 ]
 power_in q p false = ap (λ n. nat_eq n 1) (bit_at-zero q) ∙ sym (either (nat_eq q p))
   where
@@ -119,7 +123,8 @@ power_in q p false = ap (λ n. nat_eq n 1) (bit_at-zero q) ∙ sym (either (nat_
     either true = refl
     either false = refl
 
-pub in_letter_over : (q : ℕ) (ps : List ℕ) (bits : List Bool) → AllPairs (λ p q. p < q) ps → is_in q (letter_over ps bits) ≡ bit_with q ps bits
+pub in_letter_over : (q : ℕ) (ps : List ℕ) (bits : List Bool) → AllPairs (λ p q. p < q) ps →
+    is_in q (letter_over ps bits) ≡ bit_with q ps bits
 in_letter_over q [] bits h = ap (λ n. nat_eq n 1) (bit_at-zero q)
 in_letter_over q (p ∷ ps) [] h = ap (λ n. nat_eq n 1) (bit_at-zero q)
 in_letter_over q (p ∷ ps) (bit ∷ bits) h =
@@ -128,22 +133,31 @@ in_letter_over q (p ∷ ps) (bit ∷ bits) h =
     let rest = letter_over ps bits in
     let later : (r : ℕ) → is_in r rest ≡ bit_with r ps bits = λ r. in_letter_over r ps bits rises.rising in
     let off_here : is_in p rest ≡ false = later p ∙ lower_off p p ps bits (omega arith) rises in
-    let off_there : (r : ℕ) → (r ≡ p → ⊥) → is_in r power ≡ false = λ r other. power_in r p bit ∙ ap (λ (b : Bool). cond b bit false) (ne_eqb r p other) in
-    let apart = are_apart power rest (λ r. elim (cases_eq r p) [ inl same ↦ inr (ap (λ k. is_in k rest) same ∙ off_here) | inr other ↦ inl (off_there r other) ]) in
+    let off_there : (r : ℕ) → (r ≡ p → ⊥) → is_in r power ≡ false = λ r other. power_in r p bit
+    ∙ ap (λ (b : Bool). cond b bit false) (ne_eqb r p other) in
+    let apart =
+    are_apart power rest (λ r. elim (cases_eq r p) [
+      | inl same ↦ inr (ap (λ k. is_in k rest) same ∙ off_here)
+      | inr other ↦ inl (off_there r other)
+    ]) in
     elim (cases_eq q p) [
       | inl same ↦ in_sum_left q power rest apart (ap (λ k. is_in k rest) same ∙ off_here) ∙ power_in q p bit
-          ∙ ap (λ (b : Bool). cond b bit false) (eq-eqb q p same) ∙ sym (ap (λ (b : Bool). cond b bit (bit_with q ps bits)) (eq-eqb q p same))
-      | inr other ↦ in_sum_right q power rest apart (off_there q other) ∙ later q ∙ sym (ap (λ (b : Bool). cond b bit (bit_with q ps bits)) (ne_eqb q p other))
+          ∙ ap (λ (b : Bool). cond b bit false) (eq-eqb q p same)
+          ∙ sym (ap (λ (b : Bool). cond b bit (bit_with q ps bits)) (eq-eqb q p same))
+      | inr other ↦ in_sum_right q power rest apart (off_there q other) ∙ later q
+          ∙ sym (ap (λ (b : Bool). cond b bit (bit_with q ps bits)) (ne_eqb q p other))
     ]
 
-pub bit_with_at : (ps : List ℕ) (bits : List Bool) (k : ℕ) → AllPairs (λ p q. p < q) ps → k < length ps → bit_with (get_or ps k 0) ps bits ≡ get_or bits k false
+pub bit_with_at : (ps : List ℕ) (bits : List Bool) (k : ℕ) → AllPairs (λ p q. p < q) ps → k < length ps →
+    bit_with (get_or ps k 0) ps bits ≡ get_or bits k false
 bit_with_at [] bits k h lt = absurd (omega (arith, lt))
 bit_with_at (p ∷ ps) [] k h lt = refl
 bit_with_at (p ∷ ps) (bit ∷ bits) zero h lt = ap (λ (b : Bool). cond b bit (bit_with p ps bits)) (eq-eqb p p refl)
 bit_with_at (p ∷ ps) (bit ∷ bits) (suc k) h lt =
     let rises = rises_from p ps h in
     let more : p < get_or ps k 0 = rises.above k 0 (omega (arith, lt)) in
-    ap (λ (b : Bool). cond b bit (bit_with (get_or ps k 0) ps bits)) (ne_eqb (get_or ps k 0) p (λ e. absurd (omega (arith, e, more))))
+    ap (λ (b : Bool). cond b bit (bit_with (get_or ps k 0) ps bits))
+    (ne_eqb (get_or ps k 0) p (λ e. absurd (omega (arith, e, more))))
     ∙ bit_with_at ps bits k rises.rising (omega (arith, lt))
 
 pub bit_with_none : (q : ℕ) (ps : List ℕ) (bits : List Bool) → is_among q ps ≡ false → bit_with q ps bits ≡ false
@@ -151,7 +165,8 @@ bit_with_none q [] bits h = refl
 bit_with_none q (p ∷ ps) [] h = refl
 bit_with_none q (p ∷ ps) (bit ∷ bits) h = go (nat_eq q p) h (λ e. bit_with_none q ps bits e)
   where
-    go : (b : Bool) → cond b true (is_among q ps) ≡ false → (is_among q ps ≡ false → bit_with q ps bits ≡ false) → cond b bit (bit_with q ps bits) ≡ false
+    go : (b : Bool) → cond b true (is_among q ps) ≡ false → (is_among q ps ≡ false → bit_with q ps bits ≡ false) →
+        cond b bit (bit_with q ps bits) ≡ false
     go true e rest = absurd (cc)
     go false e rest = rest e
 
@@ -166,9 +181,11 @@ pub stands_in : (q : ℕ) (ps : List ℕ) → is_among q ps ≡ true → StandsI
 stands_in q [] h = absurd (cc)
 stands_in q (p ∷ ps) h = go (nat_eq q p) refl h (λ f. stands_in q ps f)
   where
-    go : (b : Bool) → nat_eq q p ≡ b → cond b true (is_among q ps) ≡ true → (is_among q ps ≡ true → StandsIn q ps) → StandsIn q (p ∷ ps)
+    go : (b : Bool) → nat_eq q p ≡ b → cond b true (is_among q ps) ≡ true → (is_among q ps ≡ true → StandsIn q ps) →
+        StandsIn q (p ∷ ps)
     go true e f later = record { place = 0; within = omega arith; is = sym (eqb-true q p e) }
-    go false e f later = let rest = later f in record { place = suc rest.place; within = omega (arith, rest.within); is = rest.is }
+    go false e f later =
+        let rest = later f in record { place = suc rest.place; within = omega (arith, rest.within); is = rest.is }
 
 pub is_there : (ps : List ℕ) (k : ℕ) → k < length ps → is_among (get_or ps k 0) ps ≡ true
 is_there [] k lt = absurd (omega (arith, lt))

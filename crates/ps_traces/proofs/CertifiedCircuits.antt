@@ -26,14 +26,16 @@ turn_is Moore zero lt = refl
 turn_is Moore (suc zero) lt = refl
 turn_is order (suc (suc player)) lt = absurd (omega (arith, lt))
 
-reads_as : (order : Order) (a : AutomatonData) (player p : ℕ) → player < 2 → is_others (mover_of order == player) (board_of order a) p ≡ is_read_by (role_of player) a.controllable p
+reads_as : (order : Order) (a : AutomatonData) (player p : ℕ) → player < 2 →
+    is_others (mover_of order == player) (board_of order a) p ≡ is_read_by (role_of player) a.controllable p
 reads_as Mealy a zero p lt = refl
 reads_as Mealy a (suc zero) p lt = not_not (is_among p a.controllable)
 reads_as Moore a zero p lt = refl
 reads_as Moore a (suc zero) p lt = refl
 reads_as order a (suc (suc player)) p lt = absurd (omega (arith, lt))
 
-pub is_for : (order : Order) (file : FileData) (chain : Chain) (a : AutomatonData) (m : Behaviour) → IsBuiltFrom file chain a → HasPropositions a.names (board_of order a) m
+pub is_for : (order : Order) (file : FileData) (chain : Chain) (a : AutomatonData) (m : Behaviour) →
+    IsBuiltFrom file chain a → HasPropositions a.names (board_of order a) m
     → m.is_first ≡ (mover_of order == m.player) → m.player < 2 → IsMachineFor order (role_of m.player) file m
 is_for order file chain a m built has turn two = record {
   names = has.names_are ∙ built.names;

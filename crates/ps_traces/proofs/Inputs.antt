@@ -1,5 +1,6 @@
 -- A stem and laps come back to their latches.
-use Rattle.std.proofs.Common.{◌≡◌, ℕ, zero, suc, ◌+◌, ◌-◌, ◌^◌, ◌<◌, Bool, List, [], ◌++◌, length, refl, ap, ap₂, sym, ◌∙◌, subst, arith, add-zero}
+use Rattle.std.proofs.Common.{◌≡◌, ℕ, zero, suc, ◌+◌, ◌-◌, ◌^◌, ◌<◌, Bool, List, [], ◌++◌, length, refl, ap, ap₂, sym}
+use Rattle.std.proofs.Common.{◌∙◌, subst, arith, add-zero}
 use Rattle.std.proofs.Math.Nat.{mul-le-mul_right}
 use Rattle.std.proofs.lemmas.List.{length-map, map-append}
 use Rattle.ps_circuit.specs.Circuits.{CircuitData}
@@ -11,7 +12,8 @@ use Rattle.ps_traces.specs.Inputs.{GoesOnInLasso, EachInputGoesOn, AreInputs, in
 use Rattle.ps_traces.proofs.Returns.{comes_again, number_lt, number_same}
 use Rattle.ps_traces.proofs.Runs.{GoesOn-append, Run, run}
 
-module _ (c : CircuitData) (one : HasOneValues c) (stem lap : List (List Bool)) (stem_wide : AreInputs c stem) (lap_wide : AreInputs c lap) (some : 0 < length lap) where
+module _ (c : CircuitData) (one : HasOneValues c) (stem lap : List (List Bool)) (stem_wide : AreInputs c stem)
+    (lap_wide : AreInputs c lap) (some : 0 < length lap) where
   stem_run : Run c (resets c) stem
   stem_run = run c one (resets c) stem (length-map c.latches (λ l. l.reset)) stem_wide
 
@@ -47,12 +49,16 @@ module _ (c : CircuitData) (one : HasOneValues c) (stem lap : List (List Bool)) 
       let before = laps_run from count in
       let r = lap_run (behind (from + count)) in
       let place : suc (from + count) ≡ from + suc count = omega arith in
-      let last : r.last ≡ (behind (from + suc count)).bits = behind_lap (from + count) ∙ ap (λ n. (behind n).bits) place in
+      let last : r.last ≡ (behind (from + suc count)).bits = behind_lap (from + count)
+      ∙ ap (λ n. (behind n).bits) place in
       record {
         moments = before.moments ++ r.moments;
-        goes_on = GoesOn-append c (behind from).bits (behind (from + count)).bits (behind (from + suc count)).bits before.moments r.moments before.goes_on
+        goes_on =
+            GoesOn-append c (behind from).bits (behind (from + count)).bits (behind (from + suc count)).bits
+            before.moments r.moments before.goes_on
             (subst (λ (latches : List Bool). GoesOn c (behind (from + count)).bits r.moments latches) last r.goes_on);
-        reads = map-append (λ (m : Moment). m.inputs) before.moments r.moments ∙ ap₂ (λ (xs ys : List (List Bool)). xs ++ ys) before.reads r.reads;
+        reads = map-append (λ (m : Moment). m.inputs) before.moments r.moments
+            ∙ ap₂ (λ (xs ys : List (List Bool)). xs ++ ys) before.reads r.reads;
       }
 
   number_behind : ℕ → ℕ
@@ -61,7 +67,9 @@ module _ (c : CircuitData) (one : HasOneValues c) (stem lap : List (List Bool)) 
   pub in_lasso : GoesOnInLasso c stem lap
   unfolding number_behind
   in_lasso =
-      let found = comes_again number_behind (2 ^ length c.latches) (λ t. subst (λ n. number_of (behind (suc t)).bits < 2 ^ n) (behind (suc t)).held (number_lt (behind (suc t)).bits)) in
+      let found =
+      comes_again number_behind (2 ^ length c.latches) (λ t. subst (λ n. number_of (behind (suc t)).bits < 2 ^ n)
+      (behind (suc t)).held (number_lt (behind (suc t)).bits)) in
       let i = suc found.one in
       let k = found.other - found.one in
       let first = laps_run 0 i in
@@ -69,7 +77,8 @@ module _ (c : CircuitData) (one : HasOneValues c) (stem lap : List (List Bool)) 
       let here : 0 + i ≡ i = omega arith in
       let there : i + k ≡ suc found.other = omega (arith, found.rises) in
       let same : (behind i).bits ≡ (behind (suc found.other)).bits =
-      number_same (behind i).bits (behind (suc found.other)).bits ((behind i).held ∙ sym (behind (suc found.other)).held) found.same in
+      number_same (behind i).bits (behind (suc found.other)).bits
+      ((behind i).held ∙ sym (behind (suc found.other)).held) found.same in
       let to : (behind (0 + i)).bits ≡ (behind i).bits = ap (λ n. (behind n).bits) here in
       let back : (behind (i + k)).bits ≡ (behind i).bits = ap (λ n. (behind n).bits) there ∙ sym same in
       let size = length_trace [] lap again.moments k again.reads in
@@ -84,12 +93,15 @@ module _ (c : CircuitData) (one : HasOneValues c) (stem lap : List (List Bool)) 
         trace = record {
           some = omega (arith, size, many, some);
           back = (behind i).bits;
-          goes_there = GoesOn-append c (resets c) stem_run.last (behind i).bits stem_run.moments first.moments stem_run.goes_on
+          goes_there =
+              GoesOn-append c (resets c) stem_run.last (behind i).bits stem_run.moments first.moments stem_run.goes_on
               (subst (λ (latches : List Bool). GoesOn c latches first.moments (behind i).bits) (sym behind_stem)
               (subst (λ (latches : List Bool). GoesOn c (behind 0).bits first.moments latches) to first.goes_on));
-          comes_back = subst (λ (latches : List Bool). GoesOn c (behind i).bits again.moments latches) back again.goes_on;
+          comes_back =
+              subst (λ (latches : List Bool). GoesOn c (behind i).bits again.moments latches) back again.goes_on;
         };
-        stem_reads = map-append (λ (m : Moment). m.inputs) stem_run.moments first.moments ∙ ap₂ (λ (xs ys : List (List Bool)). xs ++ ys) stem_run.reads first.reads;
+        stem_reads = map-append (λ (m : Moment). m.inputs) stem_run.moments first.moments
+            ∙ ap₂ (λ (xs ys : List (List Bool)). xs ++ ys) stem_run.reads first.reads;
         lap_reads = again.reads;
       }
 

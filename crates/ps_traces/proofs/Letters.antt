@@ -1,9 +1,7 @@
 -- Each moment has one letter.
-use Rattle.std.proofs.Common.{◌≡◌, ℕ, ◌<◌, ◌≤◌, ◌⊎◌, inl, inr, Bool, true, false, List, [], ◌∷◌, length, get_or, Option, None, Some, refl, ap, ap₂, sym, ◌∙◌, arith}
-use Rattle.std.specs.Int.{bit_at}
+use Rattle.std.proofs.Common.{◌≡◌, ℕ, ◌<◌, ◌≤◌, ◌⊎◌, inl, inr, Bool, false, List, [], ◌∷◌, length, get_or, Option, refl}
+use Rattle.std.proofs.Common.{ap, sym, ◌∙◌, arith}
 use Rattle.std.proofs.lemmas.Bool.{cases_lt}
-use Rattle.std.proofs.lemmas.List.{get_or_past}
-use Rattle.std.proofs.lemmas.Nat.Bits.{same_from_bits_below, bit_at-lt}
 use Rattle.ps_diagram.specs.Letters.{letter_of}
 use Rattle.ps_diagram.proofs.Letters.{letter_is, letter_lt}
 use Rattle.ps_hoa.specs.Files.{is_among}
@@ -13,36 +11,19 @@ use Rattle.ps_circuit.specs.Values.{Moment}
 use Rattle.ps_simulate.specs.Symbols.{IsSymbol, AreNamesOnce, HasSymbols, reads_controllable, sets_controllable}
 use Rattle.ps_simulate.specs.Lassos.{IsLetterOf, AreLetters}
 use Rattle.ps_simulate.specs.declared.role.Role.{Role}
-use Rattle.ps_simulate.specs.declared.role.Role.TheVariants.{Controller, Environment}
-use Rattle.ps_simulate.proofs.NamingLemmas.{names_differ, role_apart}
+use Rattle.ps_simulate.proofs.NamingLemmas.{names_differ, role_apart, some_same, within}
+use Rattle.ps_simulate.proofs.OneLetter.{one_letters, side}
 use Rattle.ps_traces.specs.Inputs.{HasLetters}
-use Rattle.ps_traces.proofs.Bits.{one_bit}
 
-some_same : {X : Type 0} (x y : X) → Some x ≡ Some y → x ≡ y
-some_same x y e = cc
-
-none_some : {X : Type 0} (x : X) → None ≡ Some x → ⊥
-none_some x e = cc
-
--- what is there stands within
-within : {X : Type 0} (xs : List (Option X)) (k : ℕ) (x : X) → get_or xs k None ≡ Some x → k < length xs
-within xs k x e = elim (cases_lt k (length xs)) [
-  | inl lt ↦ lt
-  | inr le ↦ absurd (none_some x (sym (get_or_past xs k None le) ∙ e))
-]
-
-pub side : (role : Role) (b : Bool) → (b ≡ reads_controllable role) ⊎ (b ≡ sets_controllable role)
-side Controller true = inr refl
-side Controller false = inl refl
-side Environment true = inl refl
-side Environment false = inr refl
-
-module _ (role : Role) (names : List (List ℕ)) (controllable : List ℕ) (c : CircuitData) (are_names : AreNames names) (has : HasSymbols role names controllable c) where
+module _ (role : Role) (names : List (List ℕ)) (controllable : List ℕ) (c : CircuitData) (are_names : AreNames names)
+    (has : HasSymbols role names controllable c) where
   -- a symbol's proposition is on its side
-  of_side : (wanted : Bool) (symbols : List (Option (List ℕ))) (k p : ℕ) → AreNamesOnce names controllable wanted symbols → IsSymbol names symbols k p → is_among p controllable ≡ wanted
+  of_side : (wanted : Bool) (symbols : List (Option (List ℕ))) (k p : ℕ) →
+      AreNamesOnce names controllable wanted symbols → IsSymbol names symbols k p → is_among p controllable ≡ wanted
   of_side wanted symbols k p once s =
       let found = once.some k (within symbols k (get_or names p []) s.is) in
-      let named : get_or names found.0 [] ≡ get_or names p [] = some_same (get_or names found.0 []) (get_or names p []) (sym found.1.is ∙ s.is) in
+      let named : get_or names found.0 [] ≡ get_or names p [] =
+      some_same (get_or names found.0 []) (get_or names p []) (sym found.1.is ∙ s.is) in
       let same : found.0 ≡ p = names_differ names are_names found.0 p found.1.within s.within named in
       ap (λ q. is_among q controllable) (sym same) ∙ found.2
 
@@ -60,22 +41,30 @@ module _ (role : Role) (names : List (List ℕ)) (controllable : List ℕ) (c : 
   letter : Moment → ℕ
   letter m = letter_of (length names) (λ p. bit_by m p (cases_lt p (length names)))
 
-  input_on : (m : Moment) (k p : ℕ) (lt : p < length names) (s : Side p) → IsSymbol names c.input_names k p → bit_on m p lt s ≡ get_or m.inputs k false
+  input_on : (m : Moment) (k p : ℕ) (lt : p < length names) (s : Side p) → IsSymbol names c.input_names k p →
+      bit_on m p lt s ≡ get_or m.inputs k false
   unfolding bit_on
-  input_on m k p lt (inl input) s = let at = has.inputs.each p lt input in ap (λ j. get_or m.inputs j false) (has.inputs.once at.0 k p at.1 s)
-  input_on m k p lt (inr output) s = absurd (role_apart role (sym (of_side (reads_controllable role) c.input_names k p has.inputs s) ∙ output))
+  input_on m k p lt (inl input) s =
+      let at = has.inputs.each p lt input in ap (λ j. get_or m.inputs j false) (has.inputs.once at.0 k p at.1 s)
+  input_on m k p lt (inr output) s =
+      absurd (role_apart role (sym (of_side (reads_controllable role) c.input_names k p has.inputs s) ∙ output))
 
-  output_on : (m : Moment) (k p : ℕ) (lt : p < length names) (s : Side p) → IsSymbol names c.output_names k p → bit_on m p lt s ≡ get_or m.outputs k false
+  output_on : (m : Moment) (k p : ℕ) (lt : p < length names) (s : Side p) → IsSymbol names c.output_names k p →
+      bit_on m p lt s ≡ get_or m.outputs k false
   unfolding bit_on
-  output_on m k p lt (inl input) s = absurd (role_apart role (sym input ∙ of_side (sets_controllable role) c.output_names k p has.outputs s))
-  output_on m k p lt (inr output) s = let at = has.outputs.each p lt output in ap (λ j. get_or m.outputs j false) (has.outputs.once at.0 k p at.1 s)
+  output_on m k p lt (inl input) s =
+      absurd (role_apart role (sym input ∙ of_side (sets_controllable role) c.output_names k p has.outputs s))
+  output_on m k p lt (inr output) s =
+      let at = has.outputs.each p lt output in ap (λ j. get_or m.outputs j false) (has.outputs.once at.0 k p at.1 s)
 
-  input_by : (m : Moment) (k p : ℕ) (d : (p < length names) ⊎ (length names ≤ p)) → IsSymbol names c.input_names k p → bit_by m p d ≡ get_or m.inputs k false
+  input_by : (m : Moment) (k p : ℕ) (d : (p < length names) ⊎ (length names ≤ p)) → IsSymbol names c.input_names k p →
+      bit_by m p d ≡ get_or m.inputs k false
   unfolding bit_by
   input_by m k p (inl lt) s = input_on m k p lt (side role (is_among p controllable)) s
   input_by m k p (inr le) s = absurd (omega (arith, le, s.within))
 
-  output_by : (m : Moment) (k p : ℕ) (d : (p < length names) ⊎ (length names ≤ p)) → IsSymbol names c.output_names k p → bit_by m p d ≡ get_or m.outputs k false
+  output_by : (m : Moment) (k p : ℕ) (d : (p < length names) ⊎ (length names ≤ p)) → IsSymbol names c.output_names k p →
+      bit_by m p d ≡ get_or m.outputs k false
   unfolding bit_by
   output_by m k p (inl lt) s = output_on m k p lt (side role (is_among p controllable)) s
   output_by m k p (inr le) s = absurd (omega (arith, le, s.within))
@@ -90,22 +79,15 @@ module _ (role : Role) (names : List (List ℕ)) (controllable : List ℕ) (c : 
         outputs = λ k p s. letter_is (length names) bit p s.within ∙ output_by m k p (cases_lt p (length names)) s;
       }
 
-  one_letter : (m : Moment) (a b : ℕ) → IsLetterOf names c m a → IsLetterOf names c m b → a ≡ b
-  one_letter m a b h k = same_from_bits_below (length names) a b h.few k.few
-      (λ p lt. one_bit (bit_at a p) (bit_at b p) (bit_at-lt a p) (bit_at-lt b p) (elim (side role (is_among p controllable)) [
-        | inl input ↦ let s = has.inputs.each p lt input in h.inputs s.0 p s.1 ∙ sym (k.inputs s.0 p s.1)
-        | inr output ↦ let s = has.outputs.each p lt output in h.outputs s.0 p s.1 ∙ sym (k.outputs s.0 p s.1)
-      ]))
-
-  one_letters : (ms : List Moment) (us vs : List ℕ) → AreLetters names c ms us → AreLetters names c ms vs → us ≡ vs
-  one_letters [] us vs a b = a ∙ sym b
-  one_letters (m ∷ ms) [] vs a b = absurd a
-  one_letters (m ∷ ms) (u ∷ us) [] a b = absurd b
-  one_letters (m ∷ ms) (u ∷ us) (v ∷ vs) a b = ap₂ (λ x xs. x ∷ xs) (one_letter m u v a.0 b.0) (one_letters ms us vs a.1 b.1)
-
   letters : (ms : List Moment) → (ls : List ℕ) × AreLetters names c ms ls
   letters [] = ([], refl)
   letters (m ∷ ms) = let rest = letters ms in (letter m ∷ rest.0, (letter_of_moment m, rest.1))
 
   pub has_letters : (ms : List Moment) → HasLetters names c ms
-  has_letters ms = let found = letters ms in record { letters = found.0; are_letters = found.1; no_others = λ others a. one_letters ms found.0 others found.1 a }
+  has_letters ms = let found = letters ms in
+      record {
+        letters = found.0;
+        are_letters = found.1;
+        no_others =
+            λ others a. one_letters role names controllable c has ms found.0 others found.1 a;
+      }

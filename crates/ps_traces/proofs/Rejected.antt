@@ -11,7 +11,8 @@ use Rattle.ps_traces.specs.Meetings.{FiniteController, IsController, IsRejected,
 use Rattle.ps_traces.proofs.Letters.{has_letters}
 use Rattle.ps_traces.proofs.Meetings.{in_lasso}
 
-pub meeting_is_rejected : (order : Order) (file : FileData) (c : CircuitData) (k : FiniteController) → AreNames file.names → HasOneValues c → HasShape order Environment file c → IsController order c k
+pub meeting_is_rejected : (order : Order) (file : FileData) (c : CircuitData) (k : FiniteController) →
+    AreNames file.names → HasOneValues c → HasShape order Environment file c → IsController order c k
     → NoneAccepted file c → IsRejected file c k
 meeting_is_rejected order file c k are_names one shape is none =
     let meeting = in_lasso order c k one shape.in_time is in

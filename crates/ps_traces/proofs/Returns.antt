@@ -1,5 +1,6 @@
 -- Values below a bound come again; lists of bits as numbers.
-use Rattle.std.proofs.Common.{◌≡◌, ℕ, zero, suc, ◌+◌, ◌*◌, ◌^◌, ◌<◌, Bool, true, false, cond, List, [], ◌∷◌, length, get_or, refl, ap, sym, ◌∙◌, subst, arith}
+use Rattle.std.proofs.Common.{◌≡◌, ℕ, zero, suc, ◌+◌, ◌*◌, ◌^◌, ◌<◌, Bool, true, false, cond, List, [], ◌∷◌, length}
+use Rattle.std.proofs.Common.{get_or, refl, ap, sym, ◌∙◌, subst, arith}
 use Rattle.std.specs.List.{All}
 use Rattle.std.proofs.Math.Nat.{pow-suc}
 use Rattle.std.proofs.lemmas.List.{get_or_default}
@@ -31,14 +32,18 @@ pub comes_again : (f : ℕ → ℕ) (bound : ℕ) → ((t : ℕ) → f t < bound
 comes_again f bound below =
     let values = values_from f 0 (suc bound) in
     let many : length values ≡ suc bound = how_many f 0 (suc bound) in
-    let at : (k : ℕ) → k < suc bound → get_or values k 0 ≡ f k = λ k lt. value_at f 0 (suc bound) k lt ∙ ap f (omega arith) in
-    let each : All (λ x. x < bound) values = λ k d lt. subst (λ x. x < bound) (sym (get_or_default values k d 0 lt ∙ at k (omega (arith, lt, many)))) (below k) in
+    let at : (k : ℕ) → k < suc bound → get_or values k 0 ≡ f k = λ k lt. value_at f 0 (suc bound) k lt
+    ∙ ap f (omega arith) in
+    let each : All (λ x. x < bound) values =
+    λ k d lt. subst (λ x. x < bound) (sym (get_or_default values k d 0 lt ∙ at k (omega (arith, lt, many))))
+    (below k) in
     let found = repeats bound values each (omega (arith, many)) in
     record {
       one = found.0;
       other = found.1;
       rises = found.2.rises;
-      same = sym (at found.0 (omega (arith, found.2.rises, found.2.within, many))) ∙ found.2.same ∙ at found.1 (omega (arith, found.2.within, many));
+      same = sym (at found.0 (omega (arith, found.2.rises, found.2.within, many))) ∙ found.2.same
+          ∙ at found.1 (omega (arith, found.2.within, many));
     }
 
 -- ## Lists of bits

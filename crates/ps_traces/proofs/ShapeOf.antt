@@ -1,5 +1,6 @@
 -- The circuit of a machine has the shape of its player.
-use Rattle.std.proofs.Common.{◌≡◌, ℕ, ◌<◌, ◌⊎◌, inl, inr, Bool, true, false, List, [], map, length, get_or, Option, None, Some, IsTrue, refl, ap, sym, ◌∙◌, subst, arith}
+use Rattle.std.proofs.Common.{◌≡◌, ℕ, ◌<◌, ◌⊎◌, inl, inr, Bool, true, false, List, [], map, length, get_or, Option}
+use Rattle.std.proofs.Common.{None, Some, IsTrue, refl, ap, sym, ◌∙◌, subst, arith}
 use Rattle.std.specs.Prelude.{not}
 use Rattle.std.specs.List.{AllPairs}
 use Rattle.std.proofs.lemmas.Bool.{cases_lt, cases_order}
@@ -18,7 +19,7 @@ use Rattle.ps_simulate.proofs.NamingLemmas.{names_differ, role_apart}
 use Rattle.ps_traces.specs.Roles.{IsMachineFor, is_read_by}
 use Rattle.ps_traces.specs.Shapes.{HasShape}
 use Rattle.ps_traces.proofs.Bits.{is_there, stands_in}
-use Rattle.ps_traces.proofs.Letters.{side}
+use Rattle.ps_simulate.proofs.OneLetter.{side}
 use Rattle.ps_traces.proofs.Words.{memory_below}
 
 some_same : {X : Type 0} (x y : X) → Some x ≡ Some y → x ≡ y
@@ -28,15 +29,18 @@ none_some : {X : Type 0} (x : X) → None ≡ Some x → ⊥
 none_some x e = cc
 
 -- numbers that rise stand once
-stands_once : (ps : List ℕ) (j k : ℕ) → AllPairs (λ p q. p < q) ps → j < length ps → k < length ps → get_or ps j 0 ≡ get_or ps k 0 → j ≡ k
+stands_once : (ps : List ℕ) (j k : ℕ) → AllPairs (λ p q. p < q) ps → j < length ps → k < length ps →
+    get_or ps j 0 ≡ get_or ps k 0 → j ≡ k
 stands_once ps j k rising lj lk e = elim (cases_order j k) [
   | inl same ↦ same
   | inr (inl less) ↦ absurd (let r : get_or ps j 0 < get_or ps k 0 = rising j k 0 less lk in omega (arith, r, e))
   | inr (inr more) ↦ absurd (let r : get_or ps k 0 < get_or ps j 0 = rising k j 0 more lj in omega (arith, r, e))
 ]
 
-module _ (names : List (List ℕ)) (controllable : List ℕ) (wanted : Bool) (ps : List ℕ) (are_names : AreNames names) (rising : AllPairs (λ p q. p < q) ps)
-    (within : (p : ℕ) → is_among p ps ≡ true → p < length names) (own : (p : ℕ) → is_among p ps ≡ true → is_among p controllable ≡ wanted)
+module _ (names : List (List ℕ)) (controllable : List ℕ) (wanted : Bool) (ps : List ℕ) (are_names : AreNames names)
+    (rising : AllPairs (λ p q. p < q) ps)
+    (within : (p : ℕ) → is_among p ps ≡ true → p < length names)
+    (own : (p : ℕ) → is_among p ps ≡ true → is_among p controllable ≡ wanted)
     (all : (p : ℕ) → p < length names → is_among p controllable ≡ wanted → is_among p ps ≡ true) where
   abbrev symbols : List (Option (List ℕ))
   symbols = map (λ p. Some (get_or names p [])) ps
@@ -57,7 +61,8 @@ module _ (names : List (List ℕ)) (controllable : List ℕ) (wanted : Bool) (ps
         | inl lt ↦ omega (arith, lt, size)
         | inr le ↦ absurd (none_some (get_or names p []) (sym (get_or_past symbols k None le) ∙ s.is))
       ] in
-      let named : get_or names (get_or ps k 0) [] ≡ get_or names p [] = some_same (get_or names (get_or ps k 0) []) (get_or names p []) (sym (symbol_at k lt) ∙ s.is) in
+      let named : get_or names (get_or ps k 0) [] ≡ get_or names p [] =
+      some_same (get_or names (get_or ps k 0) []) (get_or names p []) (sym (symbol_at k lt) ∙ s.is) in
       (lt, names_differ names are_names (get_or ps k 0) p (within (get_or ps k 0) (is_there ps k lt)) s.within named)
 
   pub names_once : AreNamesOnce names controllable wanted symbols
@@ -79,7 +84,8 @@ abbrev read_of : Role → Bool → Bool
 read_of Controller b = not b
 read_of Environment b = b
 
-read_by : (role : Role) (controllable : List ℕ) (p : ℕ) → is_read_by role controllable p ≡ read_of role (is_among p controllable)
+read_by : (role : Role) (controllable : List ℕ) (p : ℕ) → is_read_by role controllable p ≡ read_of role
+    (is_among p controllable)
 read_by Controller controllable p = refl
 read_by Environment controllable p = refl
 
@@ -93,30 +99,40 @@ side_read Controller true e = absurd (cc)
 side_read Controller false e = refl
 side_read Environment b e = e
 
-module _ (order : Order) (role : Role) (file : FileData) (m : Behaviour) (c : CircuitData) (is : IsMachine m) (is_for : IsMachineFor order role file m) (encodes : Encodes m c) where
+module _ (order : Order) (role : Role) (file : FileData) (m : Behaviour) (c : CircuitData) (is : IsMachine m)
+    (is_for : IsMachineFor order role file m) (encodes : Encodes m c) where
   inside : (p : ℕ) → (is_among p m.inputs ≡ true) ⊎ (is_among p m.outputs ≡ true) → p < length file.names
-  inside p h = (let e : length m.names ≡ length file.names = ap length is_for.names in let lt : p < length m.names = (is.each p).1 h in omega (arith, e, lt))
+  inside p h =
+      (let e : length m.names ≡ length file.names = ap length is_for.names in let lt : p < length m.names =
+      (is.each p).1 h in omega (arith, e, lt))
 
   some_side : (p : ℕ) → p < length file.names → (is_among p m.inputs ≡ true) ⊎ (is_among p m.outputs ≡ true)
-  some_side p lt = (is.each p).0 (let e : length m.names ≡ length file.names = ap length is_for.names in omega (arith, e, lt))
+  some_side p lt =
+      (is.each p).0 (let e : length m.names ≡ length file.names = ap length is_for.names in omega (arith, e, lt))
 
   file_names : AreNames file.names
   file_names = subst AreNames is_for.names is.are_names
 
   reads_own : (p : ℕ) → is_among p m.inputs ≡ true → is_among p file.controllable ≡ reads_controllable role
-  reads_own p among = read_side role (is_among p file.controllable) (sym (read_by role file.controllable p) ∙ sym (is_for.reads p (inside p (inl among))) ∙ among)
+  reads_own p among =
+      read_side role (is_among p file.controllable) (sym (read_by role file.controllable p)
+      ∙ sym (is_for.reads p (inside p (inl among))) ∙ among)
 
-  reads_all : (p : ℕ) → p < length file.names → is_among p file.controllable ≡ reads_controllable role → is_among p m.inputs ≡ true
-  reads_all p lt reads = is_for.reads p lt ∙ read_by role file.controllable p ∙ side_read role (is_among p file.controllable) reads
+  reads_all : (p : ℕ) → p < length file.names → is_among p file.controllable ≡ reads_controllable role →
+      is_among p m.inputs ≡ true
+  reads_all p lt reads =
+      is_for.reads p lt ∙ read_by role file.controllable p ∙ side_read role (is_among p file.controllable) reads
 
   -- what is not read is on the other side
   sets_own : (p : ℕ) → is_among p m.outputs ≡ true → is_among p file.controllable ≡ sets_controllable role
   sets_own p among = elim (side role (is_among p file.controllable)) [
-    | inl reads ↦ absurd (let read : is_among p m.inputs ≡ true = reads_all p (inside p (inr among)) reads in let off : is_among p m.outputs ≡ false = is.apart p read in cc)
+    | inl reads ↦ absurd (let read : is_among p m.inputs ≡ true = reads_all p (inside p (inr among)) reads in
+        let off : is_among p m.outputs ≡ false = is.apart p read in cc)
     | inr sets ↦ sets
   ]
 
-  sets_all : (p : ℕ) → p < length file.names → is_among p file.controllable ≡ sets_controllable role → is_among p m.outputs ≡ true
+  sets_all : (p : ℕ) → p < length file.names → is_among p file.controllable ≡ sets_controllable role →
+      is_among p m.outputs ≡ true
   sets_all p lt sets = elim (some_side p lt) [
     | inl read ↦ absurd (role_apart role (sym (reads_own p read) ∙ sets))
     | inr among ↦ among
@@ -124,12 +140,19 @@ module _ (order : Order) (role : Role) (file : FileData) (m : Behaviour) (c : Ci
 
   has_symbols : HasSymbols role file.names file.controllable c
   has_symbols =
-      let symbols_of_file : (ps : List ℕ) → symbols_of m.names ps ≡ map (λ p. Some (get_or file.names p [])) ps = λ ps. ap (λ (ns : List (List ℕ)). map (λ p. Some (get_or ns p [])) ps) is_for.names in
+      let symbols_of_file : (ps : List ℕ) → symbols_of m.names ps ≡ map (λ p. Some (get_or file.names p [])) ps =
+      λ ps. ap (λ (ns : List (List ℕ)). map (λ p. Some (get_or ns p [])) ps) is_for.names in
       record {
-        inputs = subst (λ (ss : List (Option (List ℕ))). AreNamesOnce file.names file.controllable (reads_controllable role) ss) (sym (encodes.input_names ∙ symbols_of_file m.inputs))
-            (names_once file.names file.controllable (reads_controllable role) m.inputs file_names is.inputs_rise (λ p among. inside p (inl among)) reads_own reads_all);
-        outputs = subst (λ (ss : List (Option (List ℕ))). AreNamesOnce file.names file.controllable (sets_controllable role) ss) (sym (encodes.output_names ∙ symbols_of_file m.outputs))
-            (names_once file.names file.controllable (sets_controllable role) m.outputs file_names is.outputs_rise (λ p among. inside p (inr among)) sets_own sets_all);
+        inputs =
+            subst (λ (ss : List (Option (List ℕ))). AreNamesOnce file.names file.controllable (reads_controllable role)
+            ss) (sym (encodes.input_names ∙ symbols_of_file m.inputs))
+            (names_once file.names file.controllable (reads_controllable role) m.inputs file_names is.inputs_rise
+            (λ p among. inside p (inl among)) reads_own reads_all);
+        outputs =
+            subst (λ (ss : List (Option (List ℕ))). AreNamesOnce file.names file.controllable (sets_controllable role)
+            ss) (sym (encodes.output_names ∙ symbols_of_file m.outputs))
+            (names_once file.names file.controllable (sets_controllable role) m.outputs file_names is.outputs_rise
+            (λ p among. inside p (inr among)) sets_own sets_all);
       }
 
   sees_no_input : IsTrue m.is_first → SeesNoInput c
@@ -137,7 +160,8 @@ module _ (order : Order) (role : Role) (file : FileData) (m : Behaviour) (c : Ci
       (let one = encodes.steps latches inputs outputs next a in
       let other = encodes.steps latches others other_outputs other_next b in
       one.outputs_are
-      ∙ ap (bits_over m.outputs) (is.blind first (memory_of m latches) (letter_over m.inputs inputs) (letter_over m.inputs others) (memory_below m is latches))
+      ∙ ap (bits_over m.outputs) (is.blind first (memory_of m latches) (letter_over m.inputs inputs)
+      (letter_over m.inputs others) (memory_below m is latches))
       ∙ sym other.outputs_are)
 
   pub has_shape : HasShape order role file c

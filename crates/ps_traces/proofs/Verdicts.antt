@@ -1,6 +1,8 @@
--- An automaton and a circuit with the symbols of its role have a verdict on each stem and lap: laps are read until latches come
--- again, and the automaton's states come again under the letters of the laps between.
-use Rattle.std.proofs.Common.{◌≡◌, ◌∙◌, ℕ, zero, suc, ◌+◌, ◌-◌, ◌*◌, ◌^◌, ◌<◌, ◌≤◌, ◌⊎◌, ◌↔◌, inl, inr, Bool, true, false, List, [], ◌∷◌, ◌++◌, length, get_or, take, drop, IsTrue, Some, None, refl, sym, ap, ap₂, subst, arith, length-drop, length-append}
+-- An automaton and a circuit with the symbols of its role have a verdict on each stem and lap: laps are read until
+-- latches come again, and the automaton's states come again under the letters of the laps between.
+use Rattle.std.proofs.Common.{◌≡◌, ◌∙◌, ℕ, zero, suc, ◌+◌, ◌-◌, ◌*◌, ◌^◌, ◌<◌, ◌≤◌, ◌⊎◌, ◌↔◌, inl, inr, Bool, true}
+use Rattle.std.proofs.Common.{false, List, [], ◌∷◌, ◌++◌, length, get_or, take, drop, IsTrue, Some, None, refl, sym, ap}
+use Rattle.std.proofs.Common.{ap₂, subst, arith, length-drop, length-append}
 use Rattle.std.specs.List.{All}
 use Rattle.std.proofs.lemmas.List.{length-map}
 use Rattle.std.proofs.lemmas.List.Elements.{All-head, All-tail, All-take, All-drop}
@@ -25,28 +27,39 @@ use Rattle.ps_traces.proofs.Runs.{run}
 
 -- ## What an automaton makes of a lasso
 
-module _ (file : FileData) (chain : Chain) (a : Auto) (is_chain : chain_of file.condition ≡ Some chain) (is_auto : IsAutoOf file chain a) where
+module _ (file : FileData) (chain : Chain) (a : Auto) (is_chain : chain_of file.condition ≡ Some chain)
+    (is_auto : IsAutoOf file chain a) where
   abbrev IsLetter : ℕ → Type 0
   IsLetter letter = letter < 2 ^ length file.names
 
-  behind_within : (q : ℕ) (letters : List ℕ) → q ≤ file.states → All IsLetter letters → state_behind a q letters ≤ file.states
+  behind_within : (q : ℕ) (letters : List ℕ) → q ≤ file.states → All IsLetter letters →
+      state_behind a q letters ≤ file.states
   behind_within q [] le each = le
-  behind_within q (letter ∷ letters) le each = behind_within (a.next q letter) letters (is_auto.within q letter le (All-head IsLetter letter letters each)) (All-tail IsLetter letter letters each)
+  behind_within q (letter ∷ letters) le each =
+      behind_within (a.next q letter) letters (is_auto.within q letter le (All-head IsLetter letter letters each))
+      (All-tail IsLetter letter letters each)
 
-  after_within : (q : ℕ) (lap : List ℕ) (laps : ℕ) → q ≤ file.states → All IsLetter lap → state_after a q lap laps ≤ file.states
+  after_within : (q : ℕ) (lap : List ℕ) (laps : ℕ) → q ≤ file.states → All IsLetter lap →
+      state_after a q lap laps ≤ file.states
   after_within q lap zero le each = le
-  after_within q lap (suc laps) le each = behind_within (state_after a q lap laps) lap (after_within q lap laps le each) each
+  after_within q lap (suc laps) le each =
+      behind_within (state_after a q lap laps) lap (after_within q lap laps le each) each
 
-  accepted_or_not : (stem lap : List ℕ) → 0 < length lap → All IsLetter stem → All IsLetter lap → (accepted : Bool) × (IsTrue accepted ↔ IsAccepted file stem lap)
+  accepted_or_not : (stem lap : List ℕ) → 0 < length lap → All IsLetter stem → All IsLetter lap →
+      (accepted : Bool) × (IsTrue accepted ↔ IsAccepted file stem lap)
   accepted_or_not stem lap some in_stem in_lap =
       let start = state_behind a a.start stem in
       let at : ℕ → ℕ = λ t. state_after a start lap t in
       let below : start ≤ file.states = behind_within a.start stem is_auto.start_within in_stem in
-      let found = comes_again (λ t. state_after a start lap t) (suc file.states) (λ t. (let le = after_within start lap t below in_lap in omega arith)) in
+      let found =
+      comes_again (λ t. state_after a start lap t) (suc file.states)
+      (λ t. (let le = after_within start lap t below in_lap in omega arith)) in
       let place : found.other ≡ found.one + (found.other - found.one) = omega (arith, found.rises) in
-      let returns : state_after a start lap (found.one + (found.other - found.one)) ≡ state_after a start lap found.one = ap (λ t. state_after a start lap t) (sym place) ∙ sym found.same in (
+      let returns : state_after a start lap (found.one + (found.other - found.one)) ≡ state_after a start lap found.one
+      = ap (λ t. state_after a start lap t) (sym place) ∙ sym found.same in (
         is_even (greatest_of_laps a (state_after a start lap found.one) lap (found.other - found.one)),
-        laps_decide file chain a stem lap found.one (found.other - found.one) (state_after a start lap found.one) is_chain is_auto some in_stem in_lap (omega (arith, found.rises)) refl returns,
+        laps_decide file chain a stem lap found.one (found.other - found.one) (state_after a start lap found.one)
+            is_chain is_auto some in_stem in_lap (omega (arith, found.rises)) refl returns,
       )
 
 -- ## The first repetition
@@ -69,11 +82,15 @@ bits_or_not (x ∷ xs) (y ∷ ys) = elim (bools_or_not x y) [
   ]
 ]
 
-none_behind : (s latches : List Bool) (ss : List (List Bool)) → (s ≡ latches → ⊥) → ((k : ℕ) → k < length ss → get_or ss k [] ≡ latches → ⊥) → (k : ℕ) → k < length (s ∷ ss) → get_or (s ∷ ss) k [] ≡ latches → ⊥
+none_behind : (s latches : List Bool) (ss : List (List Bool)) → (s ≡ latches → ⊥) →
+    ((k : ℕ) → k < length ss → get_or ss k [] ≡ latches → ⊥) → (k : ℕ) → k < length (s ∷ ss) →
+    get_or (s ∷ ss) k [] ≡ latches → ⊥
 none_behind s latches ss here later zero lt e = here e
 none_behind s latches ss here later (suc k) lt e = later k (omega arith) e
 
-seen_or_not : (seen : List (List Bool)) (latches : List Bool) → ((i : ℕ) × (i < length seen) × (get_or seen i [] ≡ latches)) ⊎ ((k : ℕ) → k < length seen → get_or seen k [] ≡ latches → ⊥)
+seen_or_not : (seen : List (List Bool)) (latches : List Bool) →
+    ((i : ℕ) × (i < length seen) × (get_or seen i [] ≡ latches)) ⊎
+    ((k : ℕ) → k < length seen → get_or seen k [] ≡ latches → ⊥)
 seen_or_not [] latches = inr (λ k lt e. omega arith)
 seen_or_not (s ∷ ss) latches = elim (bits_or_not s latches) [
   | inl e ↦ inl (0, omega arith, e)
@@ -83,21 +100,32 @@ seen_or_not (s ∷ ss) latches = elim (bits_or_not s latches) [
   ]
 ]
 
-module _ (role : Role) (file : FileData) (c : CircuitData) (stem lap : List (List Bool)) (are_names : AreNames file.names) (has : HasSymbols role file.names file.controllable c) (one : HasOneValues c) (wide : AreWide c stem lap) (some : 0 < length lap) where
+module _ (role : Role) (file : FileData) (c : CircuitData) (stem lap : List (List Bool))
+    (are_names : AreNames file.names) (has : HasSymbols role file.names file.controllable c) (one : HasOneValues c)
+    (wide : AreWide c stem lap) (some : 0 < length lap) where
   record HasWord (from : List Bool) (word : List (List Bool)) (old : List ℕ) : Type 0 where
     new : List ℕ
     last : List Bool
     reads : ReadsWord file.names c from word old new last
     held : length last ≡ length c.latches
 
-  word_of : (from : List Bool) (word : List (List Bool)) (old : List ℕ) → length from ≡ length c.latches → All (λ letter. length letter ≡ length c.inputs) word → HasWord from word old
+  word_of : (from : List Bool) (word : List (List Bool)) (old : List ℕ) → length from ≡ length c.latches →
+      All (λ letter. length letter ≡ length c.inputs) word → HasWord from word old
   word_of from word old held each =
       let r = run c one from word held each in
       let l = has_letters role file.names file.controllable c are_names has r.moments in
       record {
         new = old ++ l.letters;
         last = r.last;
-        reads = record { trace = r.moments; goes_on = r.goes_on; reads = r.reads; letters = l.letters; are_letters = l.are_letters; new_is = refl };
+        reads =
+            record {
+              trace = r.moments;
+              goes_on = r.goes_on;
+              reads = r.reads;
+              letters = l.letters;
+              are_letters = l.are_letters;
+              new_is = refl;
+            };
         held = r.wide;
       }
 
@@ -107,40 +135,79 @@ module _ (role : Role) (file : FileData) (c : CircuitData) (stem lap : List (Lis
     repeats_by : RepeatsBy file.names c stem lap i letters
 
   -- what is left of the lists of bits, as fuel
-  search : (fuel : ℕ) (seen : List (List Bool)) (letters : List ℕ) (last : List Bool) → HasRead file.names c stem lap seen letters last → length last ≡ length c.latches
+  search : (fuel : ℕ) (seen : List (List Bool)) (letters : List ℕ) (last : List Bool) →
+      HasRead file.names c stem lap seen letters last → length last ≡ length c.latches
       → 2 ^ length c.latches - length seen ≤ fuel → HasRepetition
   search zero seen letters last h held le =
       elim (seen_or_not seen last) [
-        | inl f ↦ record { i = f.0; letters = letters; repeats_by = repeats file.names c stem lap seen letters last f.0 some h f.1 f.2 }
+        | inl f ↦ record {
+          i = f.0;
+          letters = letters;
+          repeats_by = repeats file.names c stem lap seen letters last f.0
+              some h f.1 f.2;
+        }
         | inr none ↦
             let w = word_of last lap letters held wide.lap_is in
             let more = HasRead-lap file.names c stem lap seen letters w.new last w.last h w.reads held none in
-            absurd (omega (arith, le, fewer file.names c stem lap seen (seen ++ last ∷ []) w.new last w.last more (none, refl)))
+            absurd (omega (
+              arith,
+              le,
+              fewer file.names c stem lap seen (seen ++ last ∷ []) w.new last w.last
+                  more (none, refl),
+            ))
       ]
   search (suc fuel) seen letters last h held le =
       elim (seen_or_not seen last) [
-        | inl f ↦ record { i = f.0; letters = letters; repeats_by = repeats file.names c stem lap seen letters last f.0 some h f.1 f.2 }
+        | inl f ↦ record {
+          i = f.0;
+          letters = letters;
+          repeats_by = repeats file.names c stem lap seen letters last f.0
+              some h f.1 f.2;
+        }
         | inr none ↦
             let w = word_of last lap letters held wide.lap_is in
             let more = HasRead-lap file.names c stem lap seen letters w.new last w.last h w.reads held none in
-            search fuel (seen ++ last ∷ []) w.new w.last more w.held (omega (arith, le, fewer file.names c stem lap seen (seen ++ last ∷ []) w.new last w.last more (none, refl)))
+            search fuel (seen ++ last ∷ []) w.new w.last more w.held
+            (omega (
+              arith,
+              le,
+              fewer file.names c stem lap seen (seen ++ last ∷ []) w.new last w.last
+                  more (none, refl),
+            ))
       ]
 
   repetition : HasRepetition
   repetition =
       let w = word_of (resets c) stem [] (length-map c.latches (λ l. l.reset)) wide.stem_is in
-      search (2 ^ length c.latches) [] w.new w.last (HasRead-start file.names c stem lap [] w.new (resets c) w.last refl refl w.reads) w.held (omega arith)
+      search (2 ^ length c.latches) [] w.new w.last (HasRead-start file.names c stem lap [] w.new (resets c) w.last refl
+      refl w.reads) w.held (omega arith)
 
   -- ## The verdict
 
-  pub verdict_there : (chain : Chain) (a : Auto) → chain_of file.condition ≡ Some chain → IsAutoOf file chain a → (verdict : Verdict) × IsVerdictOf file c stem lap verdict
+  pub verdict_there : (chain : Chain) (a : Auto) → chain_of file.condition ≡ Some chain → IsAutoOf file chain a →
+      (verdict : Verdict) × IsVerdictOf file c stem lap verdict
   verdict_there chain a is_chain is_auto =
       let r = repetition in
       let h = r.repeats_by in
       let n = length stem + r.i * length lap in
-      let each : All (λ letter. letter < 2 ^ length file.names) r.letters = few_letters file.names c h.trace r.letters h.are_letters in
-      let long : 0 < length (drop n r.letters) = omega (arith, length-drop n r.letters, lap_within file.names c stem lap r.i r.letters h, some) in
-      let told = accepted_or_not file chain a is_chain is_auto (take n r.letters) (drop n r.letters) long (All-take (λ letter. letter < 2 ^ length file.names) n r.letters each) (All-drop (λ letter. letter < 2 ^ length file.names) n r.letters each) in (
+      let each : All (λ letter. letter < 2 ^ length file.names) r.letters =
+      few_letters file.names c h.trace r.letters h.are_letters in
+      let long : 0 < length (drop n r.letters) =
+      omega (arith, length-drop n r.letters, lap_within file.names c stem lap r.i r.letters h, some) in
+      let told =
+      accepted_or_not file chain a is_chain is_auto (take n r.letters) (drop n r.letters) long
+      (All-take (λ letter. letter < 2 ^ length file.names) n r.letters each)
+      (All-drop (λ letter. letter < 2 ^ length file.names) n r.letters each) in (
         record { accepted = told.0; stem = n; lap = (h.j - r.i) * length lap },
-        record { i = r.i; j = h.j; trace = h.trace; letters = r.letters; repeats = h.repeats; are_letters = h.are_letters; stem_is = refl; lap_is = refl; accepted = told.1 },
+        record {
+          i = r.i;
+          j = h.j;
+          trace = h.trace;
+          letters = r.letters;
+          repeats = h.repeats;
+          are_letters = h.are_letters;
+          stem_is = refl;
+          lap_is = refl;
+          accepted = told.1;
+        },
       )

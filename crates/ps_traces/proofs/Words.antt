@@ -1,5 +1,6 @@
 -- The words of a circuit's lasso traces are those of the machine that it encodes.
-use Rattle.std.proofs.Common.{◌≡◌, ◌≢◌, ℕ, zero, suc, ◌+◌, ◌<◌, ◌≤◌, ◌⊎◌, inl, inr, Bool, true, false, cond, List, [], ◌∷◌, ◌++◌, length, get_or, Option, None, Some, refl, ap, sym, ◌∙◌, subst, arith, add-one}
+use Rattle.std.proofs.Common.{◌≡◌, ◌≢◌, ℕ, zero, suc, ◌+◌, ◌<◌, ◌≤◌, ◌⊎◌, inl, inr, Bool, true, false, cond, List, []}
+use Rattle.std.proofs.Common.{◌∷◌, ◌++◌, length, get_or, Option, None, Some, refl, ap, sym, ◌∙◌, subst, arith, add-one}
 use Rattle.std.specs.Prelude.{All}
 use Rattle.std.proofs.lemmas.Bool.{cases_lt, le-ltb, lt-ltb}
 use Rattle.std.proofs.lemmas.List.{get_or-map}
@@ -15,36 +16,43 @@ use Rattle.ps_simulate.specs.Symbols.{IsSymbol}
 use Rattle.ps_simulate.specs.Lassos.{IsLetterOf, AreLetters, latches_along}
 use Rattle.ps_simulate.proofs.LassoLemmas.{along_more, at_end}
 use Rattle.ps_traces.specs.Traces.{IsLassoWord, AllAccepted, NoneAccepted}
-use Rattle.ps_traces.proofs.Bits.{AreApart, are_apart, few_bits, bit_with, bit_with_at, bit_with_none, in_letter_over, in_sum_left, in_sum_right, same_letter, stands_in}
+use Rattle.ps_traces.proofs.Bits.{AreApart, are_apart, few_bits, bit_with, bit_with_at, bit_with_none, in_letter_over}
+use Rattle.ps_traces.proofs.Bits.{in_sum_left, in_sum_right, same_letter, stands_in}
 use Rattle.ps_traces.proofs.Runs.{GoesOn-append}
 
 -- ## Traces
 
-AreLetters-append : (names : List (List ℕ)) (c : CircuitData) (xs ys : List Moment) (us vs : List ℕ) → AreLetters names c xs us → AreLetters names c ys vs → AreLetters names c (xs ++ ys) (us ++ vs)
+AreLetters-append : (names : List (List ℕ)) (c : CircuitData) (xs ys : List Moment) (us vs : List ℕ) →
+    AreLetters names c xs us → AreLetters names c ys vs → AreLetters names c (xs ++ ys) (us ++ vs)
 AreLetters-append names c [] ys us vs a b = subst (λ (ls : List ℕ). AreLetters names c ys (ls ++ vs)) (sym a) b
 AreLetters-append names c (m ∷ ms) ys [] vs a b = absurd a
 AreLetters-append names c (m ∷ ms) ys (u ∷ us) vs a b = (a.0, AreLetters-append names c ms ys us vs a.1 b)
 
-length_letters : (names : List (List ℕ)) (c : CircuitData) (ms : List Moment) (ls : List ℕ) → AreLetters names c ms ls → length ls ≡ length ms
+length_letters : (names : List (List ℕ)) (c : CircuitData) (ms : List Moment) (ls : List ℕ) → AreLetters names c ms ls →
+    length ls ≡ length ms
 length_letters names c [] ls a = ap length a
 length_letters names c (m ∷ ms) [] a = absurd a
 length_letters names c (m ∷ ms) (u ∷ us) a = ap suc (length_letters names c ms us a.1)
 
-first_along : (c : CircuitData) (from to : List Bool) (ms : List Moment) → GoesOn c from ms to → get_or (latches_along ms to) 0 [] ≡ from
+first_along : (c : CircuitData) (from to : List Bool) (ms : List Moment) → GoesOn c from ms to →
+    get_or (latches_along ms to) 0 [] ≡ from
 first_along c from to [] on = sym on
 first_along c from to (m ∷ ms) (next, at, step, on) = at
 
 -- what holds of each step of a trace and its letter holds of the latches along it
 at_each : (names : List (List ℕ)) (c : CircuitData) (P : List Bool → ℕ → List Bool → Type 0)
-    → ((m : Moment) (letter : ℕ) (next : List Bool) → Steps c m.latches m.inputs m.outputs next → IsLetterOf names c m letter → P m.latches letter next)
+    → ((m : Moment) (letter : ℕ) (next : List Bool) → Steps c m.latches m.inputs m.outputs next →
+    IsLetterOf names c m letter → P m.latches letter next)
     → (from to : List Bool) (ms : List Moment) (ls : List ℕ) → GoesOn c from ms to → AreLetters names c ms ls
-    → (t : ℕ) → t < length ls → P (get_or (latches_along ms to) t []) (get_or ls t 0) (get_or (latches_along ms to) (suc t) [])
+    → (t : ℕ) → t < length ls → P (get_or (latches_along ms to) t []) (get_or ls t 0)
+    (get_or (latches_along ms to) (suc t) [])
 at_each names c P each from to [] ls on a t lt = absurd (let e : length ls ≡ 0 = ap length a in omega (arith, e, lt))
 at_each names c P each from to (m ∷ ms) [] on a t lt = absurd a
 at_each names c P each from to (m ∷ ms) (l ∷ ls) (next, at, step, on) a zero lt =
     subst (λ (behind : List Bool). P m.latches l behind) (sym (first_along c next to ms on))
     (each m l next (subst (λ (latches : List Bool). Steps c latches m.inputs m.outputs next) (sym at) step) a.0)
-at_each names c P each from to (m ∷ ms) (l ∷ ls) (next, at, step, on) a (suc t) lt = at_each names c P each next to ms ls on a.1 t (omega (arith, lt))
+at_each names c P each from to (m ∷ ms) (l ∷ ls) (next, at, step, on) a (suc t) lt =
+    at_each names c P each next to ms ls on a.1 t (omega (arith, lt))
 
 -- ## Steps of a machine
 
@@ -61,13 +69,17 @@ none_number (b ∷ bs) h =
 module _ (m : Behaviour) (is : IsMachine m) where
   pub memory_below : (latches : List Bool) → memory_of m latches < m.memories
   memory_below latches = elim (cases_lt (number_of latches) (m.memories)) [
-    | inl lt ↦ subst (λ n. n < m.memories) (sym (ap (λ (b : Bool). cond b (number_of latches) 0) (lt-ltb (number_of latches) (m.memories) lt))) lt
-    | inr le ↦ subst (λ n. n < m.memories) (sym (ap (λ (b : Bool). cond b (number_of latches) 0) (le-ltb (number_of latches) (m.memories) le))) is.some
+    | inl lt ↦ subst (λ n. n < m.memories) (sym (ap (λ (b : Bool). cond b (number_of latches) 0)
+        (lt-ltb (number_of latches) (m.memories) lt))) lt
+    | inr le ↦ subst (λ n. n < m.memories) (sym (ap (λ (b : Bool). cond b (number_of latches) 0)
+        (le-ltb (number_of latches) (m.memories) le))) is.some
   ]
 
-  code_is : (latches : List Bool) (memory : ℕ) → number_of latches ≡ memory → memory < m.memories → memory_of m latches ≡ memory
+  code_is : (latches : List Bool) (memory : ℕ) → number_of latches ≡ memory → memory < m.memories →
+      memory_of m latches ≡ memory
   code_is latches memory e lt =
-      ap (λ (b : Bool). cond b (number_of latches) 0) (lt-ltb (number_of latches) (m.memories) (omega (arith, e, lt))) ∙ e
+      ap (λ (b : Bool). cond b (number_of latches) 0) (lt-ltb (number_of latches) (m.memories) (omega (arith, e, lt)))
+      ∙ e
 
   not_both : (p : ℕ) → is_among p m.outputs ≡ true → is_among p m.inputs ≡ false
   not_both p out = go (is_among p m.inputs) refl
@@ -82,19 +94,24 @@ module _ (m : Behaviour) (is : IsMachine m) where
   -- ## The letter of a step
 
   module _ (c : CircuitData) (encodes : Encodes m c) where
-    input_symbol : (k : ℕ) → k < length m.inputs → get_or m.inputs k 0 < length m.names → IsSymbol m.names c.input_names k (get_or m.inputs k 0)
+    input_symbol : (k : ℕ) → k < length m.inputs → get_or m.inputs k 0 < length m.names →
+        IsSymbol m.names c.input_names k (get_or m.inputs k 0)
     input_symbol k lt within = record {
       within = within;
-      is = ap (λ (ns : List (Option (List ℕ))). get_or ns k None) encodes.input_names ∙ get_or-map (λ p. Some (get_or m.names p [])) m.inputs k 0 None lt;
+      is = ap (λ (ns : List (Option (List ℕ))). get_or ns k None) encodes.input_names
+          ∙ get_or-map (λ p. Some (get_or m.names p [])) m.inputs k 0 None lt;
     }
 
-    output_symbol : (k : ℕ) → k < length m.outputs → get_or m.outputs k 0 < length m.names → IsSymbol m.names c.output_names k (get_or m.outputs k 0)
+    output_symbol : (k : ℕ) → k < length m.outputs → get_or m.outputs k 0 < length m.names →
+        IsSymbol m.names c.output_names k (get_or m.outputs k 0)
     output_symbol k lt within = record {
       within = within;
-      is = ap (λ (ns : List (Option (List ℕ))). get_or ns k None) encodes.output_names ∙ get_or-map (λ p. Some (get_or m.names p [])) m.outputs k 0 None lt;
+      is = ap (λ (ns : List (Option (List ℕ))). get_or ns k None) encodes.output_names
+          ∙ get_or-map (λ p. Some (get_or m.names p [])) m.outputs k 0 None lt;
     }
 
-    module _ (s : Moment) (letter : ℕ) (next : List Bool) (steps : Steps c s.latches s.inputs s.outputs next) (is_letter : IsLetterOf m.names c s letter) where
+    module _ (s : Moment) (letter : ℕ) (next : List Bool) (steps : Steps c s.latches s.inputs s.outputs next)
+        (is_letter : IsLetterOf m.names c s letter) where
       as_machine : StepsAs m s.latches s.inputs s.outputs next
       as_machine = encodes.steps s.latches s.inputs s.outputs next steps
 
@@ -129,7 +146,8 @@ module _ (m : Behaviour) (is : IsMachine m) where
           let at = stands_in p m.inputs among in
           let symbol = input_symbol at.place at.within (subst (λ q. q < length m.names) (sym at.is) lt) in
           ap (λ q. is_in q letter) (sym at.is) ∙ is_letter.inputs at.place (get_or m.inputs at.place 0) symbol
-          ∙ sym (bit_with_at m.inputs s.inputs at.place is.inputs_rise at.within) ∙ ap (λ q. bit_with q m.inputs s.inputs) at.is ∙ sym (in_input p)
+          ∙ sym (bit_with_at m.inputs s.inputs at.place is.inputs_rise at.within)
+          ∙ ap (λ q. bit_with q m.inputs s.inputs) at.is ∙ sym (in_input p)
 
       -- a proposition that is played
       played_bit : (p : ℕ) → p < length m.names → is_among p m.outputs ≡ true → is_in p letter ≡ is_in p output
@@ -137,7 +155,8 @@ module _ (m : Behaviour) (is : IsMachine m) where
           let at = stands_in p m.outputs among in
           let symbol = output_symbol at.place at.within (subst (λ q. q < length m.names) (sym at.is) lt) in
           ap (λ q. is_in q letter) (sym at.is) ∙ is_letter.outputs at.place (get_or m.outputs at.place 0) symbol
-          ∙ ap (λ (bits : List Bool). get_or bits at.place false) as_machine.outputs_are ∙ get_or-map (λ q. is_in q output) m.outputs at.place 0 false at.within
+          ∙ ap (λ (bits : List Bool). get_or bits at.place false) as_machine.outputs_are
+          ∙ get_or-map (λ q. is_in q output) m.outputs at.place 0 false at.within
           ∙ ap (λ q. is_in q output) at.is
 
       apart : AreApart input output
@@ -151,9 +170,12 @@ module _ (m : Behaviour) (is : IsMachine m) where
       joined = same_letter letter (input + output) (λ p. elim (cases_lt p (length m.names)) [
         | inl lt ↦ elim (some_side p lt) [
           | inl read ↦ read_bit p lt read ∙ sym (in_sum_left p input output apart (is_output.own p (is.apart p read)))
-          | inr played ↦ played_bit p lt played ∙ sym (in_sum_right p input output apart (input_off p (not_both p played)))
+          | inr played ↦ played_bit p lt played ∙ sym (in_sum_right p input output apart
+              (input_off p (not_both p played)))
         ]
-        | inr le ↦ no_bit (length m.names) letter p is_letter.few le ∙ sym (in_sum_left p input output apart (no_bit (length m.names) output p is_output.within le) ∙ input_high p le)
+        | inr le ↦ no_bit (length m.names) letter p is_letter.few le
+            ∙ sym (in_sum_left p input output apart (no_bit (length m.names) output p is_output.within le)
+            ∙ input_high p le)
       ])
 
       makes : Makes m memory letter (memory_of m next)
@@ -161,7 +183,9 @@ module _ (m : Behaviour) (is : IsMachine m) where
         input = input;
         is_input = record { within = few_bits (length m.names) input input_high; own = input_off };
         joined = joined;
-        next_is = code_is next (m.next memory input) as_machine.next_is (is.next_within memory input (memory_below s.latches));
+        next_is =
+            code_is next (m.next memory input) as_machine.next_is (is.next_within memory input
+            (memory_below s.latches));
       }
 
     -- ## Lassos
@@ -171,10 +195,13 @@ module _ (m : Behaviour) (is : IsMachine m) where
       moments = word.stem_moments ++ word.lap_moments
 
       goes_on : GoesOn c (resets c) moments word.trace.back
-      goes_on = GoesOn-append c (resets c) word.trace.back word.trace.back word.stem_moments word.lap_moments word.trace.goes_there word.trace.comes_back
+      goes_on =
+          GoesOn-append c (resets c) word.trace.back word.trace.back word.stem_moments word.lap_moments
+          word.trace.goes_there word.trace.comes_back
 
       are_letters : AreLetters m.names c moments (stem ++ lap)
-      are_letters = AreLetters-append m.names c word.stem_moments word.lap_moments stem lap word.stem_letters word.lap_letters
+      are_letters =
+          AreLetters-append m.names c word.stem_moments word.lap_moments stem lap word.stem_letters word.lap_letters
 
       abbrev memory_at : ℕ → ℕ
       memory_at t = memory_of m (get_or (latches_along moments word.trace.back) t [])
@@ -182,7 +209,8 @@ module _ (m : Behaviour) (is : IsMachine m) where
       begins : memory_at 0 ≡ 0
       begins =
           let none : number_of (resets c) ≡ 0 = none_number (resets c) encodes.resets_are in
-          ap (memory_of m) (first_along c (resets c) word.trace.back moments goes_on) ∙ code_is (resets c) 0 none is.some
+          ap (memory_of m) (first_along c (resets c) word.trace.back moments goes_on)
+          ∙ code_is (resets c) 0 none is.some
 
       stem_size : length stem ≡ length word.stem_moments
       stem_size = length_letters m.names c word.stem_moments stem word.stem_letters
@@ -194,11 +222,14 @@ module _ (m : Behaviour) (is : IsMachine m) where
       returns : memory_at (length stem) ≡ memory_at (length (stem ++ lap))
       returns =
           let here : get_or (latches_along moments word.trace.back) (length word.stem_moments) [] ≡ word.trace.back =
-          along_more c word.stem_moments word.lap_moments word.trace.back word.trace.back (length word.stem_moments) word.trace.comes_back (omega arith) ∙ at_end word.stem_moments word.trace.back in
-          ap memory_at stem_size ∙ ap (memory_of m) (here ∙ sym (at_end moments word.trace.back)) ∙ ap memory_at (sym whole_size)
+          along_more c word.stem_moments word.lap_moments word.trace.back word.trace.back (length word.stem_moments)
+          word.trace.comes_back (omega arith) ∙ at_end word.stem_moments word.trace.back in
+          ap memory_at stem_size ∙ ap (memory_of m) (here ∙ sym (at_end moments word.trace.back))
+          ∙ ap memory_at (sym whole_size)
 
       some : 0 < length lap
-      some = let size = length_letters m.names c word.lap_moments lap word.lap_letters in let long = word.trace.some in omega (arith, size, long)
+      some = let size = length_letters m.names c word.lap_moments lap word.lap_letters in let long = word.trace.some in
+          omega (arith, size, long)
 
       pub is_lasso : IsLasso m stem lap
       is_lasso = record {
@@ -206,17 +237,23 @@ module _ (m : Behaviour) (is : IsMachine m) where
         memories = memory_at;
         begins = begins;
         makes = λ t lt. subst (λ n. Makes m (memory_at t) (get_or (stem ++ lap) t 0) (memory_at n)) (sym (add-one t))
-            (at_each m.names c (λ before letter behind. Makes m (memory_of m before) letter (memory_of m behind)) makes (resets c) word.trace.back moments (stem ++ lap) goes_on are_letters t lt);
+            (at_each m.names c (λ before letter behind. Makes m (memory_of m before) letter (memory_of m behind)) makes
+            (resets c) word.trace.back moments (stem ++ lap) goes_on are_letters t lt);
         returns = returns;
       }
 
-pub machine_words : (m : Behaviour) (c : CircuitData) (stem lap : List ℕ) → IsMachine m → Encodes m c → IsLassoWord m.names c stem lap → IsLasso m stem lap
+pub machine_words : (m : Behaviour) (c : CircuitData) (stem lap : List ℕ) → IsMachine m → Encodes m c →
+    IsLassoWord m.names c stem lap → IsLasso m stem lap
 machine_words m c stem lap is encodes word = is_lasso m is c encodes stem lap word
 
-pub all_accepted : (file : FileData) (m : Behaviour) (c : CircuitData) → IsMachine m → m.names ≡ file.names → Encodes m c → LassosWon file m → m.player ≡ 0 → AllAccepted file c
+pub all_accepted : (file : FileData) (m : Behaviour) (c : CircuitData) → IsMachine m → m.names ≡ file.names →
+    Encodes m c → LassosWon file m → m.player ≡ 0 → AllAccepted file c
 all_accepted file m c is names encodes won player stem lap word =
-    won.accepted player stem lap (machine_words m c stem lap is encodes (subst (λ (ns : List (List ℕ)). IsLassoWord ns c stem lap) (sym names) word))
+    won.accepted player stem lap (machine_words m c stem lap is encodes
+    (subst (λ (ns : List (List ℕ)). IsLassoWord ns c stem lap) (sym names) word))
 
-pub none_accepted : (file : FileData) (m : Behaviour) (c : CircuitData) → IsMachine m → m.names ≡ file.names → Encodes m c → LassosWon file m → m.player ≢ 0 → NoneAccepted file c
+pub none_accepted : (file : FileData) (m : Behaviour) (c : CircuitData) → IsMachine m → m.names ≡ file.names →
+    Encodes m c → LassosWon file m → m.player ≢ 0 → NoneAccepted file c
 none_accepted file m c is names encodes won player stem lap word =
-    won.rejected player stem lap (machine_words m c stem lap is encodes (subst (λ (ns : List (List ℕ)). IsLassoWord ns c stem lap) (sym names) word))
+    won.rejected player stem lap (machine_words m c stem lap is encodes
+    (subst (λ (ns : List (List ℕ)). IsLassoWord ns c stem lap) (sym names) word))

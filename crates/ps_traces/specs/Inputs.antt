@@ -1,6 +1,7 @@
 -- Every input that repeats goes on in a trace that repeats.
 --     inputs_of moments      what is read at each moment
---     GoesOnInLasso c stem lap      some lasso trace reads the stem and some laps, at least one, and then again and again some laps, at least one
+--     GoesOnInLasso c stem lap      some lasso trace reads the stem and some laps, at least one, and then again and
+--               again some laps, at least one
 --     EachInputGoesOn c      for each stem and each lap, not empty, of letters of the circuit's width
 use Rattle.std.specs.Prelude.{◌≡◌, ℕ, ◌<◌, Bool, List, ◌++◌, length, map, All}
 use Rattle.ps_circuit.specs.Circuits.{CircuitData}
@@ -27,7 +28,8 @@ abbrev pub AreInputs : CircuitData → List (List Bool) → Type 0
 AreInputs c letters = All (λ letter. length letter ≡ length c.inputs) letters
 
 abbrev pub EachInputGoesOn : CircuitData → Type 0
-EachInputGoesOn c = (stem lap : List (List Bool)) → AreInputs c stem → AreInputs c lap → 0 < length lap → GoesOnInLasso c stem lap
+EachInputGoesOn c =
+    (stem lap : List (List Bool)) → AreInputs c stem → AreInputs c lap → 0 < length lap → GoesOnInLasso c stem lap
 
 -- whatever is read and answered has one letter for each moment
 pub record HasLetters (names : List (List ℕ)) (c : CircuitData) (moments : List Moment) : Type 0 where

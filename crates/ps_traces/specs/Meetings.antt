@@ -1,7 +1,9 @@
--- Finite-state controllers, and their meeting with the circuit of an environment. Letters are lists of bits in the circuit's order:
--- a controller reads a bit for each of its outputs, and plays one for each of its inputs.
---     FiniteController      a size, a first memory, and tables from a memory and the letter read to a memory and the letter played
---     IsController order c k      the tables keep to their ranges; outputs before inputs: the letter played is from the memory alone
+-- Finite-state controllers, and their meeting with the circuit of an environment. Letters are lists of bits in the
+-- circuit's order: a controller reads a bit for each of its outputs, and plays one for each of its inputs.
+--     FiniteController      a size, a first memory, and tables from a memory and the letter read to a memory and the
+--               letter played
+--     IsController order c k      the tables keep to their ranges; outputs before inputs: the letter played is from the
+--               memory alone
 --     Meets c k latches memory moments      the one joint trace, from these latches and that memory
 --     MeetsInLasso c k      it goes on in a lasso trace, at whose end the controller's memory has come back too
 --     IsRejected file c k      its letters are a word that the automaton does not accept
@@ -29,12 +31,15 @@ IsRead c letter = length letter ≡ length c.outputs
 abbrev pub IsTimely : Order → CircuitData → FiniteController → Type 0
 IsTimely Mealy c k = Unit {0}
 IsTimely Moore c k =
-    (memory : ℕ) (letter other : List Bool) → memory < k.size → IsRead c letter → IsRead c other → k.plays memory letter ≡ k.plays memory other
+    (memory : ℕ) (letter other : List Bool) → memory < k.size → IsRead c letter → IsRead c other →
+    k.plays memory letter ≡ k.plays memory other
 
 pub record IsController (order : Order) (c : CircuitData) (k : FiniteController) : Type 0 where
   pub first_within : k.first < k.size
-  pub next_within : (memory : ℕ) (letter : List Bool) → memory < k.size → IsRead c letter → k.next memory letter < k.size
-  pub plays_wide : (memory : ℕ) (letter : List Bool) → memory < k.size → IsRead c letter → length (k.plays memory letter) ≡ length c.inputs
+  pub next_within : (memory : ℕ) (letter : List Bool) → memory < k.size → IsRead c letter →
+      k.next memory letter < k.size
+  pub plays_wide : (memory : ℕ) (letter : List Bool) → memory < k.size → IsRead c letter →
+      length (k.plays memory letter) ≡ length c.inputs
   pub timely : IsTimely order c k
 
 -- ## The meeting
@@ -42,9 +47,11 @@ pub record IsController (order : Order) (c : CircuitData) (k : FiniteController)
 -- the controller answers each moment's outputs by its inputs, and its memory goes from the one to the other
 abbrev pub AnswersMoments : FiniteController → ℕ → List Moment → ℕ → Type 0
 AnswersMoments k memory [] last = memory ≡ last
-AnswersMoments k memory (m ∷ ms) last = (m.inputs ≡ k.plays memory m.outputs) × AnswersMoments k (k.next memory m.outputs) ms last
+AnswersMoments k memory (m ∷ ms) last =
+    (m.inputs ≡ k.plays memory m.outputs) × AnswersMoments k (k.next memory m.outputs) ms last
 
-pub record GoesJointly (c : CircuitData) (k : FiniteController) (latches : List Bool) (memory : ℕ) (moments : List Moment) (to : List Bool) (last : ℕ) : Type 0 where
+pub record GoesJointly (c : CircuitData) (k : FiniteController) (latches : List Bool) (memory : ℕ)
+    (moments : List Moment) (to : List Bool) (last : ℕ) : Type 0 where
   pub goes_on : GoesOn c latches moments to
   pub answers : AnswersMoments k memory moments last
 
@@ -72,7 +79,8 @@ pub record MeetsInLasso (c : CircuitData) (k : FiniteController) : Type 0 where
 
 -- that this is a lasso trace
 abbrev pub lasso_of : (c : CircuitData) (k : FiniteController) (m : MeetsInLasso c k) → IsLassoTrace c m.stem m.lap
-lasso_of c k m = record { some = m.some; back = m.latches; goes_there = m.goes_there.goes_on; comes_back = m.comes_back.goes_on }
+lasso_of c k m =
+    record { some = m.some; back = m.latches; goes_there = m.goes_there.goes_on; comes_back = m.comes_back.goes_on }
 
 pub record IsRejected (file : FileData) (c : CircuitData) (k : FiniteController) : Type 0 where
   pub meeting : MeetsInLasso c k

@@ -1,5 +1,6 @@
 -- Which machine is a player's.
---     IsMachineFor order role file m      it has the file's names, reads the propositions that the role reads, and moves in its turn
+--     IsMachineFor order role file m      it has the file's names, reads the propositions that the role reads, and
+--               moves in its turn
 use Rattle.std.specs.Prelude.{◌≡◌, ℕ, ◌<◌, Bool, not, List, length}
 use Rattle.ps_hoa.specs.Files.{FileData, is_among}
 use Rattle.ps_machine.specs.Behaviours.{Behaviour}

@@ -45,14 +45,17 @@ pub fn every_input_goes_on()
 
 /// Where the inputs and outputs of a circuit are the names of propositions, each once, each moment has one letter.
 pub fn every_trace_has_letters()
-    ensures { (role : Role) (file : FileData) (c : CircuitData) (moments : List Moment) → AreNames file.names → HasSymbols role file.names file.controllable c → HasLetters file.names c moments }
+    ensures { (role : Role) (file : FileData) (c : CircuitData) (moments : List Moment) → AreNames file.names →
+        HasSymbols role file.names file.controllable c → HasLetters file.names c moments }
 {}
 
 /// A file that was read and is admitted, and a circuit with the inputs and outputs of a role, have a verdict on each
 /// stem and each lap, not empty, of letters of the circuit's width.
 pub fn verdict_is_there()
-    ensures { (role : Role) (file : FileData) (c : CircuitData) (stem lap : List (List Bool)) → IsSoundFile file → IsAdmitted file → IsCircuit c →
-        HasSymbols role file.names file.controllable c → AreWide c stem lap → 0 < length lap → (verdict : Verdict) × IsVerdictOf file c stem lap verdict }
+    ensures { (role : Role) (file : FileData) (c : CircuitData) (stem lap : List (List Bool)) → IsSoundFile file →
+        IsAdmitted file → IsCircuit c →
+        HasSymbols role file.names file.controllable c → AreWide c stem lap → 0 < length lap →
+        (verdict : Verdict) × IsVerdictOf file c stem lap verdict }
 {
     automaton_is_there();
     circuit_has_one_values();
@@ -60,40 +63,50 @@ pub fn verdict_is_there()
 
 /// The circuit of an environment and a finite-state controller have one joint trace of each length.
 pub fn meeting_is_one()
-    ensures { (order : Order) (c : CircuitData) (k : FiniteController) (count : ℕ) → IsCircuit c → IsInTime order Environment c → IsController order c k → IsOneMeeting c k count }
+    ensures { (order : Order) (c : CircuitData) (k : FiniteController) (count : ℕ) → IsCircuit c →
+        IsInTime order Environment c → IsController order c k → IsOneMeeting c k count }
 {
     circuit_has_one_values();
 }
 
 /// It goes on in a lasso trace, at whose end the controller's memory has come back too.
 pub fn every_meeting_goes_on()
-    ensures { (order : Order) (c : CircuitData) (k : FiniteController) → HasOneValues c → IsInTime order Environment c → IsController order c k → MeetsInLasso c k }
+    ensures { (order : Order) (c : CircuitData) (k : FiniteController) → HasOneValues c → IsInTime order Environment c →
+        IsController order c k → MeetsInLasso c k }
 {}
 
 /// So where no lasso trace of the environment's circuit is accepted, the meeting is rejected.
 pub fn every_meeting_is_rejected()
-    ensures { (order : Order) (file : FileData) (c : CircuitData) (k : FiniteController) → AreNames file.names → HasOneValues c → HasShape order Environment file c → IsController order c k → NoneAccepted file c → IsRejected file c k }
+    ensures { (order : Order) (file : FileData) (c : CircuitData) (k : FiniteController) → AreNames file.names →
+        HasOneValues c → HasShape order Environment file c → IsController order c k → NoneAccepted file c →
+        IsRejected file c k }
 {}
 
 /// The words of a circuit's lasso traces are those of the machine that it encodes.
 pub fn circuit_has_machine_words()
-    ensures { (m : Behaviour) (c : CircuitData) (stem lap : List ℕ) → IsMachine m → Encodes m c → IsLassoWord m.names c stem lap → IsLasso m stem lap }
+    ensures { (m : Behaviour) (c : CircuitData) (stem lap : List ℕ) → IsMachine m → Encodes m c →
+        IsLassoWord m.names c stem lap → IsLasso m stem lap }
 {}
 
 /// So they are accepted, all or none, as the machine's are.
 pub fn circuit_is_won()
-    ensures accepted { (file : FileData) (m : Behaviour) (c : CircuitData) → IsMachine m → m.names ≡ file.names → Encodes m c → LassosWon file m → m.player ≡ 0 → AllAccepted file c }
-    ensures rejected { (file : FileData) (m : Behaviour) (c : CircuitData) → IsMachine m → m.names ≡ file.names → Encodes m c → LassosWon file m → m.player ≢ 0 → NoneAccepted file c }
+    ensures accepted { (file : FileData) (m : Behaviour) (c : CircuitData) → IsMachine m → m.names ≡ file.names →
+        Encodes m c → LassosWon file m → m.player ≡ 0 → AllAccepted file c }
+    ensures rejected { (file : FileData) (m : Behaviour) (c : CircuitData) → IsMachine m → m.names ≡ file.names →
+        Encodes m c → LassosWon file m → m.player ≢ 0 → NoneAccepted file c }
 {}
 
 /// And the circuit has the shape of the machine's player.
 pub fn circuit_has_shape()
-    ensures { (order : Order) (role : Role) (file : FileData) (m : Behaviour) (c : CircuitData) → IsMachine m → IsMachineFor order role file m → Encodes m c → HasShape order role file c }
+    ensures { (order : Order) (role : Role) (file : FileData) (m : Behaviour) (c : CircuitData) → IsMachine m →
+        IsMachineFor order role file m → Encodes m c → HasShape order role file c }
 {}
 
 /// All of this together: what the circuit of the winner's machine is worth.
 pub fn circuit_answers()
-    ensures { (order : Order) (file : FileData) (m : Behaviour) (c : CircuitData) → IsMachine m → IsMachineFor order (role_of m.player) file m → Encodes m c → LassosWon file m → IsWitness order file m.player c }
+    ensures { (order : Order) (file : FileData) (m : Behaviour) (c : CircuitData) → IsMachine m →
+        IsMachineFor order (role_of m.player) file m → Encodes m c → LassosWon file m →
+        IsWitness order file m.player c }
 {
     circuit_has_one_values();
 }
@@ -101,9 +114,12 @@ pub fn circuit_answers()
 /// So a valid certificate of an automaton's game makes a controller whose lasso traces the automaton all accepts, or an
 /// environment whose lasso traces it all rejects, as vertex 0 is the one's or the other's.
 pub fn certified_circuit_answers()
-    ensures { (file : FileData) (chain : Chain) (a : AutomatonData) (order : Order) (keys : List Key) (game : ParityGame) (certificate : CertificateData) (m : Behaviour) (c : CircuitData) →
-        IsBuiltFrom file chain a → IsGameOf (board_of order a) (mover_of order) keys game → Fits game certificate → IsValid game certificate →
-        IsMachine m → HasPropositions a.names (board_of order a) m → IsMachineOf (board_of order a) (mover_of order) keys game certificate m →
+    ensures { (file : FileData) (chain : Chain) (a : AutomatonData) (order : Order) (keys : List Key)
+        (game : ParityGame) (certificate : CertificateData) (m : Behaviour) (c : CircuitData) →
+        IsBuiltFrom file chain a → IsGameOf (board_of order a) (mover_of order) keys game → Fits game certificate →
+        IsValid game certificate →
+        IsMachine m → HasPropositions a.names (board_of order a) m →
+        IsMachineOf (board_of order a) (mover_of order) keys game certificate m →
         Encodes m c → IsWitness order file (winner certificate) c }
 {
     lassos_won();

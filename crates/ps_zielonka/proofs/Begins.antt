@@ -1,8 +1,10 @@
--- A turn begins: the vertices of the greatest priority are placed, and what is attracted to them; the last call then waits for
--- the next one, which looks for its own turn.
-use Rattle.std.proofs.Common.{◌≡◌, ◌≢◌, ℕ, ◌+◌, ◌*◌, ◌%◌, ◌<◌, ◌≤◌, ◌⊎◌, inl, inr, List, [], ◌∷◌, ◌++◌, length, get_or, Bool, false, not, ◌&&◌, ◌==◌, refl, subst, sym, ap, ◌∙◌, arith}
+-- A turn begins: the vertices of the greatest priority are placed, and what is attracted to them; the last call then
+-- waits for the next one, which looks for its own turn.
+use Rattle.std.proofs.Common.{◌≡◌, ◌≢◌, ℕ, ◌+◌, ◌*◌, ◌%◌, ◌<◌, ◌≤◌, ◌⊎◌, inl, inr, List, [], ◌∷◌, ◌++◌, length, get_or}
+use Rattle.std.proofs.Common.{Bool, false, not, ◌&&◌, ◌==◌, refl, subst, sym, ap, ◌∙◌, arith}
 use Rattle.std.specs.Prelude.{IsTrue}
-use Rattle.std.proofs.lemmas.Bool.{cases_lt, cases_eq, false≢true, eqb-true, eq-eqb, ne_eqb, and_parts, and_from, not-true, not_from_false}
+use Rattle.std.proofs.lemmas.Bool.{cases_lt, cases_eq, false≢true, eqb-true, eq-eqb, ne_eqb, and_parts, and_from}
+use Rattle.std.proofs.lemmas.Bool.{not-true, not_from_false}
 use Rattle.std.proofs.lemmas.List.{get_or_append_left, get_or_push, length_push}
 use Rattle.ps_game.specs.Games.{ParityGame, vertex_count, priority_of}
 use Rattle.ps_attractor.specs.declared.aim.Aim.{Aim}
@@ -11,7 +13,8 @@ use Rattle.ps_attractor.specs.Aims.{StandsFrom, IsPosed, IsTaken, IsAttracted, I
 use Rattle.ps_zielonka.specs.declared.level.TheConstants.{UNPLACED}
 use Rattle.ps_zielonka.specs.declared.frame.Frame.{Frame}
 use Rattle.ps_zielonka.specs.Turns.{IsWithout, IsTurned}
-use Rattle.ps_zielonka.specs.Nests.{from, size_from, winner_of, frame_at, steps_left, IsSegment, Waits, Searches, IsSoundBoard, IsNest, ArePlaced, IsGiven}
+use Rattle.ps_zielonka.specs.Nests.{from, size_from, winner_of, frame_at, steps_left, IsSegment, Waits, Searches}
+use Rattle.ps_zielonka.specs.Nests.{IsSoundBoard, IsNest, ArePlaced, IsGiven}
 use Rattle.ps_zielonka.specs.Depths.{IsClosedToTops}
 use Rattle.ps_zielonka.proofs.Depths.{left_out}
 use Rattle.ps_zielonka.proofs.Forms.{progress_start, subgame_left}
@@ -21,7 +24,8 @@ use Rattle.ps_zielonka.proofs.Measure.{falls_begun}
 
 -- ## What is placed in two parts
 
-later_placed : (aim : Aim) (old mid new : TablesData) (v : ℕ) → aim.mark ≢ aim.free → IsGrown aim mid new → IsPlaced aim old mid v → IsPlaced aim old new v
+later_placed : (aim : Aim) (old mid new : TablesData) (v : ℕ) → aim.mark ≢ aim.free → IsGrown aim mid new →
+    IsPlaced aim old mid v → IsPlaced aim old new v
 later_placed aim old mid new v differ grown placed = elim (grown.each v) [
   | inl same ↦ (
       let within : placed.stands.place < length mid.trail = placed.stands.within in
@@ -29,12 +33,19 @@ later_placed aim old mid new v differ grown placed = elim (grown.each v) [
       record {
         was_free = placed.was_free;
         level = same.level ∙ placed.level;
-        stands = record { place = placed.stands.place; after = placed.stands.after; within = omega arith; is = grown.front placed.stands.place within ∙ placed.stands.is };
+        stands =
+            record {
+              place = placed.stands.place;
+              after = placed.stands.after;
+              within = omega arith;
+              is = grown.front placed.stands.place within ∙ placed.stands.is;
+            };
       })
   | inr again ↦ absurd (differ (sym placed.level ∙ again.was_free))
 ]
 
-sooner_placed : (aim : Aim) (old mid new : TablesData) (v : ℕ) → aim.mark ≢ aim.free → IsGrown aim old mid → IsPlaced aim mid new v → IsPlaced aim old new v
+sooner_placed : (aim : Aim) (old mid new : TablesData) (v : ℕ) → aim.mark ≢ aim.free → IsGrown aim old mid →
+    IsPlaced aim mid new v → IsPlaced aim old new v
 sooner_placed aim old mid new v differ grown placed = elim (grown.each v) [
   | inl same ↦ (
       let longer : length old.trail ≤ length mid.trail = grown.longer in
@@ -42,12 +53,19 @@ sooner_placed aim old mid new v differ grown placed = elim (grown.each v) [
       record {
         was_free = sym same.level ∙ placed.was_free;
         level = placed.level;
-        stands = record { place = placed.stands.place; after = omega arith; within = placed.stands.within; is = placed.stands.is };
+        stands =
+            record {
+              place = placed.stands.place;
+              after = omega arith;
+              within = placed.stands.within;
+              is = placed.stands.is;
+            };
       })
   | inr before ↦ absurd (differ (sym before.level ∙ placed.was_free))
 ]
 
-pub IsGrown-both : (aim : Aim) (old mid new : TablesData) → aim.mark ≢ aim.free → IsGrown aim old mid → IsGrown aim mid new → IsGrown aim old new
+pub IsGrown-both : (aim : Aim) (old mid new : TablesData) → aim.mark ≢ aim.free → IsGrown aim old mid →
+    IsGrown aim mid new → IsGrown aim old new
 IsGrown-both aim old mid new differ first second =
     let longer : length old.trail ≤ length mid.trail = first.longer in
     let longer_still : length mid.trail ≤ length new.trail = second.longer in
@@ -64,7 +82,8 @@ IsGrown-both aim old mid new differ first second =
       behind = λ j after within. elim (cases_lt j (length mid.trail)) [
         | inl less ↦ (
             let Placed : ℕ → Type 0 = IsPlaced aim old new in
-            subst Placed (sym (second.front j less)) (later_placed aim old mid new (get_or mid.trail j 0) differ second (first.behind j after less)))
+            subst Placed (sym (second.front j less)) (later_placed aim old mid new (get_or mid.trail j 0) differ second
+            (first.behind j after less)))
         | inr more ↦ sooner_placed aim old mid new (get_or new.trail j 0) differ first (second.behind j more within)
       ];
     }
@@ -98,7 +117,8 @@ pub record Begun : Type 0 where
   pub fits : FitsGame game new
   pub winners : length winner_now ≡ vertex_count game
   pub grown : IsGrown aim mid new
-  pub attracted : (subgame target set : ℕ → Bool) → IsPosed game aim mid subgame target → IsTaken aim new subgame set → IsAttracted game subgame aim.player target set (moves_of new) (rank_of aim new)
+  pub attracted : (subgame target set : ℕ → Bool) → IsPosed game aim mid subgame target → IsTaken aim new subgame set →
+      IsAttracted game subgame aim.player target set (moves_of new) (rank_of aim new)
   pub given : IsGiven aim.player aim.begin new winner winner_now
 
 abbrev undecided : Begun → ℕ → Bool
@@ -148,7 +168,8 @@ agrees b =
     let changed = λ (v : ℕ) (placed : IsPlaced b.aim b.old b.new v). (
     let was : level_of b.old v ≡ b.aim.free = placed.was_free in
     let is : level_of b.new v ≡ b.aim.mark = placed.level in
-    let both : (2 * b.depth + 2 ≤ level_of b.old v) × (2 * b.depth + 2 ≤ level_of b.new v) = (omega arith, omega arith) in both) in
+    let both : (2 * b.depth + 2 ≤ level_of b.old v) × (2 * b.depth + 2 ≤ level_of b.new v) =
+    (omega arith, omega arith) in both) in
     record {
       sizes = b.fits.levels ∙ sym b.sound.fits.levels;
       each = λ v. elim (grown.each v) [
@@ -162,17 +183,20 @@ agrees b =
 
 was_open : (b : Begun) (v : ℕ) → IsTrue (undecided b v) → level_of b.old v ≡ UNPLACED
 was_open b v inside =
-    let at : AgreesAt b.old.level b.new.level (2 * b.depth + 2) v = agrees_at (2 * b.depth + 2) (2 * b.depth + 2) b.old b.new b.winner b.winner_now (agrees b) (omega arith) v in
+    let at : AgreesAt b.old.level b.new.level (2 * b.depth + 2) v =
+    agrees_at (2 * b.depth + 2) (2 * b.depth + 2) b.old b.new b.winner b.winner_now (agrees b) (omega arith) v in
     b.searches.unplaced v (at.back (from_at b.new.level (2 * b.depth + 2) v inside))
 
 is_open : (b : Begun) (v : ℕ) → level_of b.old v ≡ UNPLACED → IsTrue (undecided b v)
 is_open b v was =
-    let at : AgreesAt b.old.level b.new.level (2 * b.depth + 2) v = agrees_at (2 * b.depth + 2) (2 * b.depth + 2) b.old b.new b.winner b.winner_now (agrees b) (omega arith) v in
+    let at : AgreesAt b.old.level b.new.level (2 * b.depth + 2) v =
+    agrees_at (2 * b.depth + 2) (2 * b.depth + 2) b.old b.new b.winner b.winner_now (agrees b) (omega arith) v in
     let far : 2 * b.depth + 4 ≤ UNPLACED = low b in
     to_from b.new.level (2 * b.depth + 2) v (at.up (omega arith))
 
 -- an undecided vertex is not placed still, or is attracted now
-still_or_placed : (b : Begun) (v : ℕ) → IsTrue (undecided b v) → (level_of b.new v ≡ UNPLACED) ⊎ IsPlaced b.aim b.old b.new v
+still_or_placed : (b : Begun) (v : ℕ) → IsTrue (undecided b v) →
+    (level_of b.new v ≡ UNPLACED) ⊎ IsPlaced b.aim b.old b.new v
 still_or_placed b v inside =
     let grown = grown_all b in
     elim (grown.each v) [
@@ -183,10 +207,12 @@ still_or_placed b v inside =
 -- ## The vertices of the greatest priority
 
 tops_from : (b : Begun) (v : ℕ) → IsTrue (tops b v) → IsTrue (undecided b v) × (priority_of b.game v ≡ greatest b)
-tops_from b v top = let parts = and_parts (undecided b v) (priority_of b.game v == greatest b) top in (parts.0, eqb-true (priority_of b.game v) (greatest b) parts.1)
+tops_from b v top = let parts = and_parts (undecided b v) (priority_of b.game v == greatest b) top in
+    (parts.0, eqb-true (priority_of b.game v) (greatest b) parts.1)
 
 to_tops : (b : Begun) (v : ℕ) → IsTrue (undecided b v) → priority_of b.game v ≡ greatest b → IsTrue (tops b v)
-to_tops b v inside is = and_from (undecided b v) (priority_of b.game v == greatest b) inside (eq-eqb (priority_of b.game v) (greatest b) is)
+to_tops b v inside is =
+    and_from (undecided b v) (priority_of b.game v == greatest b) inside (eq-eqb (priority_of b.game v) (greatest b) is)
 
 -- an undecided vertex stands in the order behind the cursor
 pub record InOrder (b : Begun) (v : ℕ) : Type 0 where
@@ -199,7 +225,8 @@ in_order : (b : Begun) (v : ℕ) → IsTrue (undecided b v) → InOrder b v
 in_order b v inside =
     let was : level_of b.old v ≡ UNPLACED = was_open b v inside in
     let far : 2 * b.depth + 4 ≤ UNPLACED = low b in
-    let is_vertex : v < vertex_count b.game = b.searches.alive.vertices v (to_from b.old.level (2 * b.depth + 2) v (omega arith)) in
+    let is_vertex : v < vertex_count b.game =
+    b.searches.alive.vertices v (to_from b.old.level (2 * b.depth + 2) v (omega arith)) in
     let (j, before, is) = b.sound.is_order.all v is_vertex in
     elim (cases_lt j b.cursor) [
       | inl less ↦ absurd (b.first j less (ap (λ x. level_of b.old x) is ∙ was))
@@ -209,21 +236,26 @@ in_order b v inside =
 most : (b : Begun) (v : ℕ) → IsTrue (undecided b v) → priority_of b.game v ≤ greatest b
 most b v inside =
     let there = in_order b v inside in
-    let falls : priority_of b.game (get_or b.order there.place 0) ≤ greatest b = b.sound.is_order.falls b.cursor there.place there.after there.before in
-    let same : priority_of b.game (get_or b.order there.place 0) ≡ priority_of b.game v = ap (priority_of b.game) there.is in
+    let falls : priority_of b.game (get_or b.order there.place 0) ≤ greatest b =
+    b.sound.is_order.falls b.cursor there.place there.after there.before in
+    let same : priority_of b.game (get_or b.order there.place 0) ≡ priority_of b.game v =
+    ap (priority_of b.game) there.is in
     omega arith
 
 tops_placed : (b : Begun) (v : ℕ) → IsTrue (tops b v) → IsPlaced b.aim b.old b.mid v
 tops_placed b v top =
     let (inside, is) = tops_from b v top in
     let there = in_order b v inside in
-    let same : priority_of b.game (get_or b.order there.place 0) ≡ priority_of b.game v = ap (priority_of b.game) there.is in
+    let same : priority_of b.game (get_or b.order there.place 0) ≡ priority_of b.game v =
+    ap (priority_of b.game) there.is in
     let before : there.place < b.behind = elim (cases_lt there.place b.behind) [
       | inl less ↦ less
       | inr more ↦ (
           let room : there.place < length b.order = there.before in
-          let falls : priority_of b.game (get_or b.order there.place 0) ≤ priority_of b.game (get_or b.order b.behind 0) = b.sound.is_order.falls b.behind there.place more there.before in
-          let first : priority_of b.game (get_or b.order b.behind 0) ≤ greatest b = b.sound.is_order.falls b.cursor b.behind b.placed.after (omega arith) in
+          let falls : priority_of b.game (get_or b.order there.place 0) ≤ priority_of b.game (get_or b.order b.behind 0)
+          = b.sound.is_order.falls b.behind there.place more there.before in
+          let first : priority_of b.game (get_or b.order b.behind 0) ≤ greatest b =
+          b.sound.is_order.falls b.cursor b.behind b.placed.after (omega arith) in
           absurd (b.ends (omega arith) (omega arith)))
     ] in
     let taken : level_of b.mid (get_or b.order there.place 0) ≢ UNPLACED =
@@ -245,7 +277,9 @@ posed : (b : Begun) → IsPosed b.game b.aim b.mid (undecided b) (tops b)
 posed b =
     let begin : b.aim.begin ≡ length b.old.trail = b.begin in
     record {
-      is_subgame = subgame_below b.game (2 * b.depth + 2) (2 * b.depth + 2) b.old b.new b.winner b.winner_now (agrees b) (omega arith) b.searches.alive;
+      is_subgame =
+          subgame_below b.game (2 * b.depth + 2) (2 * b.depth + 2) b.old b.new b.winner b.winner_now (agrees b)
+          (omega arith) b.searches.alive;
       split = λ v inside. elim (b.placed.grown.each v) [
         | inl same ↦ inl (same.level ∙ was_open b v inside ∙ sym b.free)
         | inr placed ↦ inr (placed_tops b v placed)
@@ -259,17 +293,28 @@ posed b =
       target_stands = λ v top. (
           let placed = tops_placed b v top in
           let after : length b.old.trail ≤ placed.stands.place = placed.stands.after in
-          record { place = placed.stands.place; after = omega arith; within = placed.stands.within; is = placed.stands.is });
-      only_target = λ j after within. placed_tops b (get_or b.mid.trail j 0) (b.placed.grown.behind j (omega arith) within);
+          record {
+            place = placed.stands.place;
+            after = omega arith;
+            within = placed.stands.within;
+            is = placed.stands.is;
+          });
+      only_target =
+          λ j after within. placed_tops b (get_or b.mid.trail j 0) (b.placed.grown.behind j (omega arith) within);
     }
 
 pulled_from : (b : Begun) (v : ℕ) → IsTrue (pulled b v) → IsTrue (undecided b v) × (level_of b.new v ≢ UNPLACED)
 pulled_from b v there =
-    let parts = and_parts (undecided b v) (not (level_of b.new v == UNPLACED)) there in
-    (parts.0, λ same. false≢true (sym (not-true (level_of b.new v == UNPLACED) parts.1) ∙ eq-eqb (level_of b.new v) UNPLACED same))
+    let parts = and_parts (undecided b v) (not (level_of b.new v == UNPLACED)) there in (
+      parts.0,
+      λ same. false≢true (sym (not-true (level_of b.new v == UNPLACED) parts.1)
+          ∙ eq-eqb (level_of b.new v) UNPLACED same),
+    )
 
 to_pulled : (b : Begun) (v : ℕ) → IsTrue (undecided b v) → level_of b.new v ≢ UNPLACED → IsTrue (pulled b v)
-to_pulled b v inside placed = and_from (undecided b v) (not (level_of b.new v == UNPLACED)) inside (not_from_false (level_of b.new v == UNPLACED) (ne_eqb (level_of b.new v) UNPLACED placed))
+to_pulled b v inside placed =
+    and_from (undecided b v) (not (level_of b.new v == UNPLACED)) inside
+    (not_from_false (level_of b.new v == UNPLACED) (ne_eqb (level_of b.new v) UNPLACED placed))
 
 taken : (b : Begun) → IsTaken b.aim b.new (undecided b) (pulled b)
 taken b = record {
@@ -278,7 +323,8 @@ taken b = record {
   all = λ v inside not_free. to_pulled b v inside (λ same. not_free (same ∙ sym b.free));
 }
 
-turn : (b : Begun) → IsAttracted b.game (undecided b) b.aim.player (tops b) (pulled b) (moves_of b.new) (rank_of b.aim b.new)
+turn : (b : Begun) → IsAttracted b.game (undecided b) b.aim.player (tops b) (pulled b) (moves_of b.new)
+    (rank_of b.aim b.new)
 turn b = b.attracted (undecided b) (tops b) (pulled b) (posed b) (taken b)
 
 -- what is attracted was placed
@@ -288,7 +334,8 @@ pulled_placed b v there =
     elim (still_or_placed b v inside) [ inl still ↦ absurd (not_still still) | inr placed ↦ placed ]
 
 -- the rest: what is not placed, of any level above that of the attractor
-rest_of_turn : (b : Begun) (c : ℕ) → 2 * b.depth + 3 ≤ c → c ≤ UNPLACED → IsWithout (undecided b) (pulled b) (from b.new.level c)
+rest_of_turn : (b : Begun) (c : ℕ) → 2 * b.depth + 3 ≤ c → c ≤ UNPLACED →
+    IsWithout (undecided b) (pulled b) (from b.new.level c)
 rest_of_turn b c above within =
     let into = λ (v : ℕ) (inside : IsTrue (from b.new.level c v)). (
     let high : c ≤ level_of b.new v = from_at b.new.level c v inside in
@@ -324,9 +371,11 @@ waits_here b =
     let longer_still : length b.mid.trail ≤ length b.new.trail = b.grown.longer in
     let sizes : length b.new.level ≡ length b.old.level = b.fits.levels ∙ sym b.sound.fits.levels in
     let size : size_from (2 * b.depth + 1) b.new.level ≡ size_from (2 * b.depth + 1) b.old.level =
-    size_from-same (2 * b.depth + 1) b.old.level b.new.level sizes (agrees_at (2 * b.depth + 2) (2 * b.depth + 1) b.old b.new b.winner b.winner_now (agrees b) (omega arith)) in
+    size_from-same (2 * b.depth + 1) b.old.level b.new.level sizes
+    (agrees_at (2 * b.depth + 2) (2 * b.depth + 1) b.old b.new b.winner b.winner_now (agrees b) (omega arith)) in
     let room : 2 * b.depth + 2 * size_from (2 * b.depth + 1) b.old.level ≤ 2 * length b.old.level = b.searches.room in
-    let prepared : IsTurned b.game (undecided b) (from b.new.level (2 * b.depth + 3)) b.aim.player (winner_of b.winner_now) (moves_of b.new) = record {
+    let prepared : IsTurned b.game (undecided b) (from b.new.level (2 * b.depth + 3)) b.aim.player
+    (winner_of b.winner_now) (moves_of b.new) = record {
       greatest = greatest b;
       tops = tops b;
       attracted = pulled b;
@@ -343,16 +392,27 @@ waits_here b =
       given = λ v there. (
           let placed = pulled_placed b v there in
           let after : length b.old.trail ≤ placed.stands.place = placed.stands.after in
-          b.given.given v (record { place = placed.stands.place; after = omega arith; within = placed.stands.within; is = placed.stands.is }));
+          b.given.given v (record {
+            place = placed.stands.place;
+            after = omega arith;
+            within = placed.stands.within;
+            is = placed.stands.is;
+          }));
     } in
     record {
-      alive = subgame_below b.game (2 * b.depth + 2) (2 * b.depth + 2) b.old b.new b.winner b.winner_now (agrees b) (omega arith) b.searches.alive;
-      progress = progress_below b.game (2 * b.depth + 2) (2 * b.depth + 1) (2 * b.depth + 2) b.old b.new b.winner b.winner_now (agrees b) (omega arith) (omega arith) b.searches.progress;
+      alive =
+          subgame_below b.game (2 * b.depth + 2) (2 * b.depth + 2) b.old b.new b.winner b.winner_now (agrees b)
+          (omega arith) b.searches.alive;
+      progress =
+          progress_below b.game (2 * b.depth + 2) (2 * b.depth + 1) (2 * b.depth + 2) b.old b.new b.winner b.winner_now
+          (agrees b) (omega arith) (omega arith) b.searches.progress;
       prepared = prepared;
       room = omega arith;
       segment = record {
         within = omega arith;
-        above = λ j after within. (let placed = grown.behind j after within in let level : level_of b.new (get_or b.new.trail j 0) ≡ b.aim.mark = placed.level in omega arith);
+        above =
+            λ j after within. (let placed = grown.behind j after within in
+            let level : level_of b.new (get_or b.new.trail j 0) ≡ b.aim.mark = placed.level in omega arith);
         stands = λ v high below. elim (still_or_placed b v (to_from b.new.level (2 * b.depth + 2) v high)) [
           | inl still ↦ absurd (omega arith)
           | inr placed ↦ placed.stands
@@ -363,15 +423,23 @@ waits_here b =
       tops = λ v top. (
           let placed = tops_placed b v top in
           let within : placed.stands.place < length b.mid.trail = placed.stands.within in
-          record { place = placed.stands.place; after = placed.stands.after; before = within; is = b.grown.front placed.stands.place within ∙ placed.stands.is });
+          record {
+            place = placed.stands.place;
+            after = placed.stands.after;
+            before = within;
+            is = b.grown.front placed.stands.place within ∙ placed.stands.is;
+          });
       only_tops = λ v stands. (
           let Top : ℕ → Type 0 = λ v. IsTrue (tops b v) in
-          subst Top (sym (b.grown.front stands.place stands.before) ∙ stands.is) (placed_tops b (get_or b.mid.trail stands.place 0) (b.placed.grown.behind stands.place stands.after stands.before)));
+          subst Top (sym (b.grown.front stands.place stands.before) ∙ stands.is)
+          (placed_tops b (get_or b.mid.trail stands.place 0) (b.placed.grown.behind stands.place stands.after
+          stands.before)));
       front = record {
         within = (let within : b.cursor < length b.order = b.within in omega arith);
         below = λ j before. elim (cases_lt (get_or b.new.level (get_or b.order j 0) 0) (2 * b.depth + 2)) [
           | inl less ↦ less
-          | inr high ↦ absurd (b.first j before (was_open b (get_or b.order j 0) (to_from b.new.level (2 * b.depth + 2) (get_or b.order j 0) high)))
+          | inr high ↦ absurd (b.first j before (was_open b (get_or b.order j 0)
+              (to_from b.new.level (2 * b.depth + 2) (get_or b.order j 0) high)))
         ];
       };
     }
@@ -393,7 +461,8 @@ first_vertex b =
     omega arith
 
 -- fewer vertices are left to the next call
-fewer : (b : Begun) (c d : ℕ) → c ≤ 2 * b.depth + 2 → 2 * b.depth + 3 ≤ d → size_from d b.new.level < size_from c b.old.level
+fewer : (b : Begun) (c d : ℕ) → c ≤ 2 * b.depth + 2 → 2 * b.depth + 3 ≤ d →
+    size_from d b.new.level < size_from c b.old.level
 fewer b c d less more =
     let u : ℕ = get_or b.order b.cursor 0 in
     let far : 2 * b.depth + 4 ≤ UNPLACED = low b in
@@ -403,7 +472,8 @@ fewer b c d less more =
     let level : level_of b.new u ≡ b.aim.mark = placed.level in
     size_from-lt c d b.old.level b.new.level u (b.fits.levels ∙ sym b.sound.fits.levels)
     (λ v within high. (
-    let at : AgreesAt b.old.level b.new.level c v = agrees_at (2 * b.depth + 2) c b.old b.new b.winner b.winner_now (agrees b) less v in
+    let at : AgreesAt b.old.level b.new.level c v =
+    agrees_at (2 * b.depth + 2) c b.old b.new b.winner b.winner_now (agrees b) less v in
     at.back (omega arith)))
     (first_vertex b) (omega arith) (omega arith)
 
@@ -413,13 +483,20 @@ searches_next b a next =
     let far : 2 * b.depth + 4 ≤ UNPLACED = low b in
     let room : 2 * b.depth + 2 * size_from (2 * b.depth + 1) b.old.level ≤ 2 * length b.old.level = b.searches.room in
     let sizes : length b.new.level ≡ length b.old.level = b.fits.levels ∙ sym b.sound.fits.levels in
-    let less : size_from (a + 1) b.new.level < size_from (2 * b.depth + 1) b.old.level = fewer b (2 * b.depth + 1) (a + 1) (omega arith) (omega arith) in
+    let less : size_from (a + 1) b.new.level < size_from (2 * b.depth + 1) b.old.level =
+    fewer b (2 * b.depth + 1) (a + 1) (omega arith) (omega arith) in
     record {
-      alive = subgame_left b.game (undecided b) (tops b) (pulled b) (from b.new.level (a + 2)) b.aim.player (moves_of b.new) (rank_of b.aim b.new)
-          (subgame_below b.game (2 * b.depth + 2) (2 * b.depth + 2) b.old b.new b.winner b.winner_now (agrees b) (omega arith) b.searches.alive) (turn b)
+      alive =
+          subgame_left b.game (undecided b) (tops b) (pulled b) (from b.new.level (a + 2)) b.aim.player (moves_of b.new)
+          (rank_of b.aim b.new)
+          (subgame_below b.game (2 * b.depth + 2) (2 * b.depth + 2) b.old b.new b.winner b.winner_now (agrees b)
+          (omega arith) b.searches.alive) (turn b)
           (rest_of_turn b (a + 2) (omega arith) (omega arith));
-      progress = progress_start b.game (from b.new.level (a + 1)) (from b.new.level (a + 2)) (winner_of b.winner_now) (moves_of b.new)
-          (λ v inside. (let high : a + 2 ≤ level_of b.new v = from_at b.new.level (a + 2) v inside in to_from b.new.level (a + 1) v (omega arith)))
+      progress =
+          progress_start b.game (from b.new.level (a + 1)) (from b.new.level (a + 2)) (winner_of b.winner_now)
+          (moves_of b.new)
+          (λ v inside. (let high : a + 2 ≤ level_of b.new v = from_at b.new.level (a + 2) v inside in
+          to_from b.new.level (a + 1) v (omega arith)))
           (λ v inside. (
           let high : a + 1 ≤ level_of b.new v = from_at b.new.level (a + 1) v inside in
           let still : level_of b.new v ≡ UNPLACED = still_high b v (omega arith) in
@@ -431,8 +508,11 @@ searches_next b a next =
         below = λ j before. elim (cases_lt (get_or b.new.level (get_or b.order j 0) 0) (a + 2)) [
           | inl less ↦ less
           | inr high ↦ (
-              let still : level_of b.new (get_or b.order j 0) ≡ UNPLACED = still_high b (get_or b.order j 0) (omega arith) in
-              let was : level_of b.old (get_or b.order j 0) ≡ UNPLACED = was_open b (get_or b.order j 0) (to_from b.new.level (2 * b.depth + 2) (get_or b.order j 0) (omega arith)) in
+              let still : level_of b.new (get_or b.order j 0) ≡ UNPLACED =
+              still_high b (get_or b.order j 0) (omega arith) in
+              let was : level_of b.old (get_or b.order j 0) ≡ UNPLACED =
+              was_open b (get_or b.order j 0) (to_from b.new.level (2 * b.depth + 2) (get_or b.order j 0)
+              (omega arith)) in
               elim (cases_lt j b.cursor) [
                 | inl early ↦ absurd (b.first j early was)
                 | inr late ↦ elim (b.grown.each (get_or b.order j 0)) [
@@ -445,7 +525,8 @@ searches_next b a next =
     }
 
 -- what a call that waits has in the trail
-segment_later : (b : Begun) (a : ℕ) (frame : Frame) → a + 3 ≤ 2 * b.depth + 2 → Waits b.game b.old b.winner b.order a frame → IsSegment b.new frame.turn (a + 2)
+segment_later : (b : Begun) (a : ℕ) (frame : Frame) → a + 3 ≤ 2 * b.depth + 2 →
+    Waits b.game b.old b.winner b.order a frame → IsSegment b.new frame.turn (a + 2)
 segment_later b a frame below waits =
     let grown = grown_all b in
     let mark : b.aim.mark ≡ 2 * b.depth + 2 = b.mark in
@@ -456,27 +537,42 @@ segment_later b a frame below waits =
       within = omega arith;
       above = λ j after within. elim (cases_lt j (length b.old.trail)) [
         | inl less ↦ (
-            let at : AgreesAt b.old.level b.new.level (a + 2) (get_or b.old.trail j 0) = agrees_at (2 * b.depth + 2) (a + 2) b.old b.new b.winner b.winner_now (agrees b) (omega arith) (get_or b.old.trail j 0) in
+            let at : AgreesAt b.old.level b.new.level (a + 2) (get_or b.old.trail j 0) =
+            agrees_at (2 * b.depth + 2) (a + 2) b.old b.new b.winner b.winner_now (agrees b) (omega arith)
+            (get_or b.old.trail j 0) in
             let High : ℕ → Type 0 = λ v. a + 2 ≤ level_of b.new v in
             subst High (sym (grown.front j less)) (at.up (waits.segment.above j after less)))
-        | inr more ↦ (let placed = grown.behind j more within in let level : level_of b.new (get_or b.new.trail j 0) ≡ b.aim.mark = placed.level in omega arith)
+        | inr more ↦ (let placed = grown.behind j more within in
+            let level : level_of b.new (get_or b.new.trail j 0) ≡ b.aim.mark = placed.level in omega arith)
       ];
       stands = λ v high low. elim (grown.each v) [
         | inl same ↦ (
             let level : level_of b.new v ≡ level_of b.old v = same.level in
             let stands = waits.segment.stands v (omega arith) (omega arith) in
             let within : stands.place < length b.old.trail = stands.within in
-            record { place = stands.place; after = stands.after; within = omega arith; is = grown.front stands.place within ∙ stands.is })
+            record {
+              place = stands.place;
+              after = stands.after;
+              within = omega arith;
+              is = grown.front stands.place within ∙ stands.is;
+            })
         | inr placed ↦ (
             let after : length b.old.trail ≤ placed.stands.place = placed.stands.after in
-            record { place = placed.stands.place; after = omega arith; within = placed.stands.within; is = placed.stands.is })
+            record {
+              place = placed.stands.place;
+              after = omega arith;
+              within = placed.stands.within;
+              is = placed.stands.is;
+            })
       ];
     }
 
-waits_later : (b : Begun) (a : ℕ) (frame : Frame) → a + 3 ≤ 2 * b.depth + 2 → Waits b.game b.old b.winner b.order a frame → Waits b.game b.new b.winner_now b.order a frame
+waits_later : (b : Begun) (a : ℕ) (frame : Frame) → a + 3 ≤ 2 * b.depth + 2 →
+    Waits b.game b.old b.winner b.order a frame → Waits b.game b.new b.winner_now b.order a frame
 waits_later b a frame below waits =
     let grown = grown_all b in
-    waits_below b.game (2 * b.depth + 2) a (length b.old.trail) b.old b.new b.winner b.winner_now b.order frame (agrees b) below grown.front grown.longer waits.end (segment_later b a frame below waits) waits
+    waits_below b.game (2 * b.depth + 2) a (length b.old.trail) b.old b.new b.winner b.winner_now b.order frame
+    (agrees b) below grown.front grown.longer waits.end (segment_later b a frame below waits) waits
 
 sound_now : (b : Begun) → IsSoundBoard b.game b.new b.winner_now b.order
 sound_now b =
@@ -490,11 +586,13 @@ sound_now b =
       is_order = b.sound.is_order;
       high = b.sound.high;
       levels = λ v is_vertex. elim (grown.each v) [
-        | inl same ↦ (let level : level_of b.new v ≡ level_of b.old v = same.level in let was : 1 ≤ level_of b.old v = b.sound.levels v is_vertex in omega arith)
+        | inl same ↦ (let level : level_of b.new v ≡ level_of b.old v = same.level in
+            let was : 1 ≤ level_of b.old v = b.sound.levels v is_vertex in omega arith)
         | inr placed ↦ (let level : level_of b.new v ≡ b.aim.mark = placed.level in omega arith)
       ];
       most = λ v. elim (grown.each v) [
-        | inl same ↦ (let level : level_of b.new v ≡ level_of b.old v = same.level in let was : level_of b.old v ≤ UNPLACED = b.sound.most v in omega arith)
+        | inl same ↦ (let level : level_of b.new v ≡ level_of b.old v = same.level in
+            let was : level_of b.old v ≤ UNPLACED = b.sound.most v in omega arith)
         | inr placed ↦ (let level : level_of b.new v ≡ b.aim.mark = placed.level in omega arith)
       ];
     }
@@ -524,14 +622,17 @@ begun_nest b frames solved is_depth unsolved waits rises =
       ];
       rises = λ i j before within. (
           let left : i < length frames = omega arith in
-          let top : (frame_at more i).top ≡ (frame_at frames i).top = ap (λ (frame : Frame). frame.top) (at_front i left) in
+          let top : (frame_at more i).top ≡ (frame_at frames i).top =
+          ap (λ (frame : Frame). frame.top) (at_front i left) in
           elim (cases_lt j (length frames)) [
             | inl less ↦ (
-                let turn : (frame_at more j).turn ≡ (frame_at frames j).turn = ap (λ (frame : Frame). frame.turn) (at_front j less) in
+                let turn : (frame_at more j).turn ≡ (frame_at frames j).turn =
+                ap (λ (frame : Frame). frame.turn) (at_front j less) in
                 let old_rises : (frame_at frames i).top ≤ (frame_at frames j).turn = rises i j before less in
                 omega arith)
             | inr not_less ↦ (
-                let turn : (frame_at more j).turn ≡ length b.old.trail = ap (λ (frame : Frame). frame.turn) (at_end j (omega arith)) in
+                let turn : (frame_at more j).turn ≡ length b.old.trail =
+                ap (λ (frame : Frame). frame.turn) (at_end j (omega arith)) in
                 let end : (frame_at frames i).top ≤ length b.old.trail = (waits i left).end in
                 omega arith)
           ]);
@@ -539,17 +640,23 @@ begun_nest b frames solved is_depth unsolved waits rises =
       done = λ is. absurd (false≢true (sym unsolved ∙ is));
     }
 
-pub begun_falls : (b : Begun) (frames more : List Frame) → length frames ≡ b.depth → length more ≡ length frames + 1 → steps_left b.new.level (length more) false < steps_left b.old.level (length frames) false
+pub begun_falls : (b : Begun) (frames more : List Frame) → length frames ≡ b.depth → length more ≡ length frames + 1 →
+    steps_left b.new.level (length more) false < steps_left b.old.level (length frames) false
 begun_falls b frames more is_depth size =
     let sizes : length b.new.level ≡ length b.old.level = b.fits.levels ∙ sym b.sound.fits.levels in
     falls_begun b.old.level b.new.level (length frames) (length more) size
-    (λ i less. size_from-same (2 * i + 2) b.old.level b.new.level sizes (agrees_at (2 * b.depth + 2) (2 * i + 2) b.old b.new b.winner b.winner_now (agrees b) (omega arith)))
+    (λ i less. size_from-same (2 * i + 2) b.old.level b.new.level sizes
+    (agrees_at (2 * b.depth + 2) (2 * i + 2) b.old b.new b.winner b.winner_now (agrees b) (omega arith)))
     (fewer b (2 * length frames + 2) (2 * length more + 2) (omega arith) (omega arith))
 
 -- what a set that is closed to the greatest priority leaves out, the first turn leaves to the next call
-pub begun_left : (b : Begun) (set : ℕ → Bool) (v : ℕ) → ((u : ℕ) → u < vertex_count b.game → level_of b.old u ≡ UNPLACED) → IsClosedToTops b.game set → v < vertex_count b.game → ¬ IsTrue (set v) → level_of b.new v ≡ UNPLACED
+pub begun_left : (b : Begun) (set : ℕ → Bool) (v : ℕ) → ((u : ℕ) → u < vertex_count b.game →
+    level_of b.old u ≡ UNPLACED) → IsClosedToTops b.game set → v < vertex_count b.game → ¬ IsTrue (set v) →
+    level_of b.new v ≡ UNPLACED
 begun_left b set v unplaced closed is_vertex outside =
     let waits = waits_here b in
     let is_subgame = posed b in
-    still_high b v (from_at b.new.level (2 * b.depth + 3) v (left_out b.game (undecided b) (from b.new.level (2 * b.depth + 3)) set b.aim.player (winner_of b.winner_now) (moves_of b.new) v
-    (λ u below. is_open b u (unplaced u below)) (λ u inside. is_subgame.is_subgame.vertices u inside) waits.prepared closed is_vertex outside))
+    still_high b v (from_at b.new.level (2 * b.depth + 3) v (left_out b.game (undecided b)
+    (from b.new.level (2 * b.depth + 3)) set b.aim.player (winner_of b.winner_now) (moves_of b.new) v
+    (λ u below. is_open b u (unplaced u below)) (λ u inside. is_subgame.is_subgame.vertices u inside) waits.prepared
+    closed is_vertex outside))

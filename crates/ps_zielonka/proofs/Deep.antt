@@ -1,5 +1,6 @@
 -- How many calls wait: as many priorities are there, since the rest of each turn lacks one.
-use Rattle.std.proofs.Common.{◌≡◌, ℕ, zero, suc, ◌+◌, ◌*◌, ◌<◌, ◌≤◌, inl, inr, List, length, get_or, Bool, true, false, max, refl, subst, sym, ◌∙◌, arith}
+use Rattle.std.proofs.Common.{◌≡◌, ℕ, zero, suc, ◌+◌, ◌*◌, ◌<◌, ◌≤◌, inl, inr, List, length, get_or, Bool, true, false}
+use Rattle.std.proofs.Common.{max, refl, subst, sym, ◌∙◌, arith}
 use Rattle.std.proofs.lemmas.Bool.{cases_lt, lt-ltb, false≢true}
 use Rattle.std.proofs.lemmas.List.{get_or_past}
 use Rattle.ps_game.specs.Games.{ParityGame, vertex_count}
@@ -13,7 +14,9 @@ use Rattle.ps_zielonka.proofs.Sets.{from_at}
 use Rattle.ps_zielonka.proofs.Begins.{Begun, begun_left}
 
 -- what the call of a depth has, and one for each call before it
-chain : (game : ParityGame) (tables : TablesData) (winner order : List ℕ) (frames : List Frame) (j m : ℕ) → ((i : ℕ) → i < j → Waits game tables winner order (2 * i) (frame_at frames i)) → HasPriorities game (from tables.level (2 * j + 1)) m → HasPriorities game (from tables.level 1) (m + j)
+chain : (game : ParityGame) (tables : TablesData) (winner order : List ℕ) (frames : List Frame) (j m : ℕ) →
+    ((i : ℕ) → i < j → Waits game tables winner order (2 * i) (frame_at frames i)) →
+    HasPriorities game (from tables.level (2 * j + 1)) m → HasPriorities game (from tables.level 1) (m + j)
 chain game tables winner order frames zero m waits has_m =
     let Count : ℕ → Type 0 = HasPriorities game (from tables.level 1) in
     let same : m ≡ m + 0 = omega arith in
@@ -25,16 +28,22 @@ chain game tables winner order frames (suc j) m waits has_m =
     let level : 2 * suc j + 1 ≡ 2 * j + 3 = omega arith in
     let same : m + 1 + j ≡ m + suc j = omega arith in
     let more : HasPriorities game (from tables.level (2 * j + 2)) (m + 1) =
-    HasPriorities-turned game (from tables.level (2 * j + 2)) (from tables.level (2 * j + 3)) (frame_at frames j).player (winner_of winner) (moves_of tables) m wait.prepared (subst Level level has_m) in
+    HasPriorities-turned game (from tables.level (2 * j + 2)) (from tables.level (2 * j + 3)) (frame_at frames j).player
+    (winner_of winner) (moves_of tables) m wait.prepared (subst Level level has_m) in
     subst Count same (chain game tables winner order frames j (m + 1) (λ i less. waits i (omega arith))
-    (HasPriorities-larger game (from tables.level (2 * j + 2)) (from tables.level (2 * j + 1)) (m + 1) wait.progress.within more))
+    (HasPriorities-larger game (from tables.level (2 * j + 2)) (from tables.level (2 * j + 1)) (m + 1)
+    wait.progress.within more))
 
 -- as many priorities as calls wait
-nest_priorities : (game : ParityGame) (tables : TablesData) (winner order : List ℕ) (frames : List Frame) (cursor : ℕ) (solved : Bool) (k : ℕ) → length frames ≡ k + 1 → IsNest game tables winner order frames cursor solved → HasPriorities game (is_vertex game) (k + 1)
+nest_priorities : (game : ParityGame) (tables : TablesData) (winner order : List ℕ) (frames : List Frame) (cursor : ℕ)
+    (solved : Bool) (k : ℕ) → length frames ≡ k + 1 → IsNest game tables winner order frames cursor solved →
+    HasPriorities game (is_vertex game) (k + 1)
 nest_priorities game tables winner order frames cursor solved k calls nest =
     let wait = nest.waits k (omega arith) in
     let (top, is_top) = wait.prepared.some_top in
-    let one = one_priority game (from tables.level (2 * k + 1)) top (wait.progress.within top (wait.prepared.within top (wait.prepared.closed.holds top is_top))) in
+    let one =
+    one_priority game (from tables.level (2 * k + 1)) top (wait.progress.within top
+    (wait.prepared.within top (wait.prepared.closed.holds top is_top))) in
     let Count : ℕ → Type 0 = HasPriorities game (is_vertex game) in
     let same : 1 + k ≡ k + 1 = omega arith in
     let levels : length tables.level ≡ vertex_count game = nest.sound.fits.levels in
@@ -51,7 +60,8 @@ nest_priorities game tables winner order frames cursor solved k calls nest =
 -- ## The depth so far
 
 -- nothing has begun yet
-pub depth_start : (game : ParityGame) (levels : List ℕ) → ((v : ℕ) → v < vertex_count game → get_or levels v 0 ≡ UNPLACED) → IsDepthSoFar game levels 0 false 0
+pub depth_start : (game : ParityGame) (levels : List ℕ) → ((v : ℕ) → v < vertex_count game →
+    get_or levels v 0 ≡ UNPLACED) → IsDepthSoFar game levels 0 false 0
 depth_start game levels unplaced =
     let fresh : IsFresh game levels 0 false = record { none = omega arith; unsolved = refl; unplaced = unplaced } in
     record {
@@ -61,7 +71,8 @@ depth_start game levels unplaced =
     }
 
 -- what is known stays
-depth_stays : (game : ParityGame) (levels : List ℕ) (calls : ℕ) (solved : Bool) (depth : ℕ) → IsDepth game depth → IsDepthSoFar game levels calls solved depth
+depth_stays : (game : ParityGame) (levels : List ℕ) (calls : ℕ) (solved : Bool) (depth : ℕ) → IsDepth game depth →
+    IsDepthSoFar game levels calls solved depth
 depth_stays game levels calls solved depth is_depth = record {
   most = is_depth.most;
   some = λ v is_vertex. inl (is_depth.some v is_vertex);
@@ -69,7 +80,8 @@ depth_stays game levels calls solved depth is_depth = record {
 }
 
 -- a call has its answer
-pub depth_solved : (game : ParityGame) (levels : List ℕ) (calls : ℕ) (solved : Bool) (depth : ℕ) → solved ≡ true → IsDepthSoFar game levels calls solved depth → IsDepth game depth
+pub depth_solved : (game : ParityGame) (levels : List ℕ) (calls : ℕ) (solved : Bool) (depth : ℕ) → solved ≡ true →
+    IsDepthSoFar game levels calls solved depth → IsDepth game depth
 depth_solved game levels calls solved depth is_solved so_far =
     let not_yet = λ (unsolved : solved ≡ false). (let h : ⊥ = false≢true (sym unsolved ∙ is_solved) in h) in
     record {
@@ -88,20 +100,27 @@ depth_solved game levels calls solved depth is_solved so_far =
     }
 
 -- the last call that waited has its answer, or goes on
-pub depth_climbs : (game : ParityGame) (levels now : List ℕ) (calls left : ℕ) (solved is : Bool) (depth : ℕ) → solved ≡ true → IsDepthSoFar game levels calls solved depth → IsDepthSoFar game now left is depth
-depth_climbs game levels now calls left solved is depth is_solved so_far = depth_stays game now left is depth (depth_solved game levels calls solved depth is_solved so_far)
+pub depth_climbs : (game : ParityGame) (levels now : List ℕ) (calls left : ℕ) (solved is : Bool) (depth : ℕ) →
+    solved ≡ true → IsDepthSoFar game levels calls solved depth → IsDepthSoFar game now left is depth
+depth_climbs game levels now calls left solved is depth is_solved so_far =
+    depth_stays game now left is depth (depth_solved game levels calls solved depth is_solved so_far)
 
-pub depth_kept : (game : ParityGame) (levels now : List ℕ) (calls left : ℕ) (solved is : Bool) (depth deep : ℕ) → deep ≡ depth → solved ≡ true → IsDepthSoFar game levels calls solved depth → IsDepthSoFar game now left is deep
+pub depth_kept : (game : ParityGame) (levels now : List ℕ) (calls left : ℕ) (solved is : Bool) (depth deep : ℕ) →
+    deep ≡ depth → solved ≡ true → IsDepthSoFar game levels calls solved depth → IsDepthSoFar game now left is deep
 depth_kept game levels now calls left solved is depth deep same is_solved so_far =
     let Deep : ℕ → Type 0 = IsDepthSoFar game now left is in
     subst Deep (sym same) (depth_climbs game levels now calls left solved is depth is_solved so_far)
 
 -- nothing is left to the present call
-pub depth_done : (game : ParityGame) (tables : TablesData) (winner order : List ℕ) (frames : List Frame) (cursor : ℕ) (solved : Bool) (depth : ℕ) → IsNest game tables winner order frames cursor true → IsDepthSoFar game tables.level (length frames) solved depth
+pub depth_done : (game : ParityGame) (tables : TablesData) (winner order : List ℕ) (frames : List Frame) (cursor : ℕ)
+    (solved : Bool) (depth : ℕ) → IsNest game tables winner order frames cursor true →
+    IsDepthSoFar game tables.level (length frames) solved depth
     → IsDepthSoFar game tables.level (length frames) true depth
 depth_done game tables winner order frames cursor solved depth nest so_far =
     let answer = nest.done refl in
-    let placed = λ (v : ℕ) (unplaced : level_of tables v ≡ UNPLACED). (let below : level_of tables v < UNPLACED = answer.placed v in let h : ⊥ = omega arith in h) in
+    let placed =
+    λ (v : ℕ) (unplaced : level_of tables v ≡ UNPLACED). (let below : level_of tables v < UNPLACED = answer.placed v
+    in let h : ⊥ = omega arith in h) in
     depth_stays game tables.level (length frames) true depth (record {
       most = so_far.most;
       some = λ v is_vertex. elim (so_far.some v is_vertex) [
@@ -118,13 +137,18 @@ depth_done game tables winner order frames cursor solved depth nest so_far =
     })
 
 -- a turn begins
-pub depth_begun : (b : Begun) (frames : List Frame) (cursor : ℕ) (solved : Bool) (depth deeper : ℕ) → length frames ≡ b.depth + 1 → solved ≡ false → deeper ≡ max depth (length frames) → IsNest b.game b.new b.winner_now b.order frames cursor solved
-    → IsDepthSoFar b.game b.old.level b.depth solved depth → IsDepthSoFar b.game b.new.level (length frames) solved deeper
+pub depth_begun : (b : Begun) (frames : List Frame) (cursor : ℕ) (solved : Bool) (depth deeper : ℕ) →
+    length frames ≡ b.depth + 1 → solved ≡ false → deeper ≡ max depth (length frames) →
+    IsNest b.game b.new b.winner_now b.order frames cursor solved
+    → IsDepthSoFar b.game b.old.level b.depth solved depth → IsDepthSoFar b.game b.new.level
+    (length frames) solved deeper
 depth_begun b frames cursor solved depth deeper calls unsolved greater nest so_far =
     let Count : ℕ → Type 0 = HasPriorities b.game (is_vertex b.game) in
     record {
       most = elim (cases_lt depth (length frames)) [
-        | inl less ↦ (let same : b.depth + 1 ≡ deeper = omega arith in subst Count same (nest_priorities b.game b.new b.winner_now b.order frames cursor solved b.depth calls nest))
+        | inl less ↦ (let same : b.depth + 1 ≡ deeper = omega arith in
+            subst Count same (nest_priorities b.game b.new b.winner_now b.order frames cursor solved
+            b.depth calls nest))
         | inr more ↦ (let same : depth ≡ deeper = omega arith in subst Count same so_far.most)
       ];
       some = λ v is_vertex. inl (omega arith);
@@ -133,7 +157,11 @@ depth_begun b frames cursor solved depth deeper calls unsolved greater nest so_f
         | inl one ↦ elim (so_far.two set closed v is_vertex outside) [
           | inl two ↦ inl (omega arith)
           | inr early ↦ elim early [
-            | inl fresh ↦ inr (inr (record { one = omega arith; unsolved = unsolved; unplaced = begun_left b set v fresh.unplaced closed is_vertex outside }))
+            | inl fresh ↦ inr (inr (record {
+              one = omega arith;
+              unsolved = unsolved;
+              unplaced = begun_left b set v fresh.unplaced closed is_vertex outside;
+            }))
             | inr second ↦ (let again : b.depth ≡ 1 = second.one in absurd (omega arith))
           ]
         ]

@@ -1,5 +1,6 @@
 -- What a player holds within a subgame: by other moves, within a larger subgame, two sets together, and an attractor.
-use Rattle.std.proofs.Common.{◌≡◌, ◌≢◌, ℕ, ◌+◌, ◌%◌, ◌<◌, ◌≤◌, ◌⊎◌, inl, inr, Bool, false, Option, Some, None, IsSomeAnd, subst, sym, ap, ◌∙◌, arith}
+use Rattle.std.proofs.Common.{◌≡◌, ◌≢◌, ℕ, ◌+◌, ◌%◌, ◌<◌, ◌≤◌, ◌⊎◌, inl, inr, Bool, false, Option, Some, None}
+use Rattle.std.proofs.Common.{IsSomeAnd, subst, sym, ap, ◌∙◌, arith}
 use Rattle.std.specs.Prelude.{IsTrue}
 use Rattle.std.proofs.lemmas.Bool.{cases_eq, cases_Bool, false≢true}
 use Rattle.ps_game.specs.Games.{ParityGame, owner_of, priority_of, HasEdge}
@@ -15,11 +16,17 @@ pub some_more : (P Q : ℕ → Type 0) (move : Option ℕ) → ((w : ℕ) → P 
 some_more P Q (Some w) more there = more w there
 some_more P Q None more there = absurd there
 
-pub leads_more : (game : ParityGame) (set other : ℕ → Bool) (v : ℕ) → IsWithin set other → (move : Option ℕ) → IsSomeAnd move (LeadsInto game set v) → IsSomeAnd move (LeadsInto game other v)
-leads_more game set other v more move there = some_more (LeadsInto game set v) (LeadsInto game other v) move (λ w leads. record { edge = leads.edge; inside = more w leads.inside }) there
+pub leads_more : (game : ParityGame) (set other : ℕ → Bool) (v : ℕ) → IsWithin set other → (move : Option ℕ) →
+    IsSomeAnd move (LeadsInto game set v) → IsSomeAnd move (LeadsInto game other v)
+leads_more game set other v more move there =
+    some_more (LeadsInto game set v) (LeadsInto game other v) move
+    (λ w leads. record { edge = leads.edge; inside = more w leads.inside }) there
 
-pub leads_down : (game : ParityGame) (subgame set : ℕ → Bool) (rank : ℕ → ℕ) (v : ℕ) (move : Option ℕ) → IsSomeAnd move (LeadsDown game subgame set rank v) → IsSomeAnd move (LeadsInto game set v)
-leads_down game subgame set rank v move there = some_more (LeadsDown game subgame set rank v) (LeadsInto game set v) move (λ w down. record { edge = down.leads.edge; inside = down.inside }) there
+pub leads_down : (game : ParityGame) (subgame set : ℕ → Bool) (rank : ℕ → ℕ) (v : ℕ) (move : Option ℕ) →
+    IsSomeAnd move (LeadsDown game subgame set rank v) → IsSomeAnd move (LeadsInto game set v)
+leads_down game subgame set rank v move there =
+    some_more (LeadsDown game subgame set rank v) (LeadsInto game set v) move
+    (λ w down. record { edge = down.leads.edge; inside = down.inside }) there
 
 -- ## Rounds
 
@@ -27,7 +34,8 @@ pub not_in : (set : ℕ → Bool) (v : ℕ) → set v ≡ false → ¬ IsTrue (s
 not_in set v outside inside = false≢true (sym outside ∙ inside)
 
 -- the last place is the first one
-pub round_inside : (game : ParityGame) (player : ℕ) (set : ℕ → Bool) (table : ℕ → Option ℕ) (walk : ℕ → ℕ) (k : ℕ) → IsRound game player set table walk k → (t : ℕ) → t ≤ k → IsTrue (set (walk t))
+pub round_inside : (game : ParityGame) (player : ℕ) (set : ℕ → Bool) (table : ℕ → Option ℕ) (walk : ℕ → ℕ) (k : ℕ) →
+    IsRound game player set table walk k → (t : ℕ) → t ≤ k → IsTrue (set (walk t))
 round_inside game player set table walk k round t within = elim (cases_eq t k) [
   | inl last ↦ (
       let begins : IsTrue (set (walk 0)) = round.inside 0 round.some in
@@ -35,7 +43,9 @@ round_inside game player set table walk k round t within = elim (cases_eq t k) [
   | inr before ↦ round.inside t (omega arith)
 ]
 
-pub round_within : (game : ParityGame) (player : ℕ) (set other : ℕ → Bool) (table : ℕ → Option ℕ) (walk : ℕ → ℕ) (k : ℕ) → IsRound game player set table walk k → ((t : ℕ) → t < k → IsTrue (other (walk t))) → IsRound game player other table walk k
+pub round_within : (game : ParityGame) (player : ℕ) (set other : ℕ → Bool) (table : ℕ → Option ℕ) (walk : ℕ → ℕ) (k : ℕ)
+    → IsRound game player set table walk k → ((t : ℕ) → t < k → IsTrue (other (walk t))) →
+    IsRound game player other table walk k
 round_within game player set other table walk k round inside = record {
   some = round.some;
   closes = round.closes;
@@ -45,16 +55,21 @@ round_within game player set other table walk k round inside = record {
 }
 
 -- a step by the table from what is held within the subgame stays there
-pub held_step : (game : ParityGame) (subgame : ℕ → Bool) (player : ℕ) (set : ℕ → Bool) (table : ℕ → Option ℕ) → HoldsWithin game subgame player set table → (v w : ℕ) → HasEdge game v w → (owner_of game v ≡ player → table v ≡ Some w) → IsTrue (subgame w) → IsTrue (set v) → IsTrue (set w)
+pub held_step : (game : ParityGame) (subgame : ℕ → Bool) (player : ℕ) (set : ℕ → Bool) (table : ℕ → Option ℕ) →
+    HoldsWithin game subgame player set table → (v w : ℕ) → HasEdge game v w →
+    (owner_of game v ≡ player → table v ≡ Some w) → IsTrue (subgame w) → IsTrue (set v) → IsTrue (set w)
 held_step game subgame player set table holds v w edge follows to from = elim (cases_eq (owner_of game v) player) [
   | inl owns ↦ (
-      let leads : LeadsInto game set v w = moved (LeadsInto game set v) (table v) w (holds.moves v from owns) (follows owns) in
+      let leads : LeadsInto game set v w =
+      moved (LeadsInto game set v) (table v) w (holds.moves v from owns) (follows owns) in
       leads.inside)
   | inr others ↦ holds.stays v w from others (record { edge = edge; inside = to })
 ]
 
 -- a round lies in what is held within the subgame, or beside it
-pub round_beside : (game : ParityGame) (subgame : ℕ → Bool) (player : ℕ) (set held : ℕ → Bool) (table : ℕ → Option ℕ) (walk : ℕ → ℕ) (k : ℕ) → HoldsWithin game subgame player held table → IsWithin set subgame → IsRound game player set table walk k
+pub round_beside : (game : ParityGame) (subgame : ℕ → Bool) (player : ℕ) (set held : ℕ → Bool) (table : ℕ → Option ℕ)
+    (walk : ℕ → ℕ) (k : ℕ) → HoldsWithin game subgame player held table → IsWithin set subgame →
+    IsRound game player set table walk k
     → ((t : ℕ) → t < k → IsTrue (held (walk t))) ⊎ ((t : ℕ) → t < k → held (walk t) ≡ false)
 round_beside game subgame player set held table walk k holds within round =
     all_or_none held walk k round.closes (λ t less from.
@@ -62,14 +77,18 @@ round_beside game subgame player set held table walk k holds within round =
     (within (walk (t + 1)) (round_inside game player set table walk k round (t + 1) (omega arith))) from)
 
 -- in an attractor no round misses the target
-pub no_round_falls : (game : ParityGame) (subgame : ℕ → Bool) (player : ℕ) (target set : ℕ → Bool) (table : ℕ → Option ℕ) (rank walk : ℕ → ℕ) (k : ℕ) → IsWithin set subgame → Falls game subgame player target set table rank
+pub no_round_falls : (game : ParityGame) (subgame : ℕ → Bool) (player : ℕ) (target set : ℕ → Bool)
+    (table : ℕ → Option ℕ) (rank walk : ℕ → ℕ) (k : ℕ) → IsWithin set subgame →
+    Falls game subgame player target set table rank
     → IsRound game player set table walk k → ((t : ℕ) → t < k → target (walk t) ≡ false) → ⊥
 no_round_falls game subgame player target set table rank walk k within falls round misses =
     no_descent rank walk k round.some round.closes (λ t less.
     let from : IsTrue (set (walk t)) = round.inside t less in
     let outside : ¬ IsTrue (target (walk t)) = not_in target (walk t) (misses t less) in
-    let down : LeadsDown game subgame set rank (walk t) (walk (t + 1)) = elim (cases_eq (owner_of game (walk t)) player) [
-      | inl owns ↦ moved (LeadsDown game subgame set rank (walk t)) (table (walk t)) (walk (t + 1)) (falls.own (walk t) from outside owns) (round.follows t less owns)
+    let down : LeadsDown game subgame set rank (walk t) (walk (t + 1)) =
+    elim (cases_eq (owner_of game (walk t)) player) [
+      | inl owns ↦ moved (LeadsDown game subgame set rank (walk t)) (table (walk t)) (walk (t + 1))
+          (falls.own (walk t) from outside owns) (round.follows t less owns)
       | inr others ↦ falls.other (walk t) (walk (t + 1)) from outside others (record {
         edge = round.edges t less;
         inside = within (walk (t + 1)) (round_inside game player set table walk k round (t + 1) (omega arith));
@@ -80,13 +99,16 @@ no_round_falls game subgame player target set table rank walk k within falls rou
 -- ## What is held
 
 -- the same set, with the same moves there
-pub HoldsWithin-same : (game : ParityGame) (subgame : ℕ → Bool) (player : ℕ) (set other : ℕ → Bool) (table moves : ℕ → Option ℕ) → IsWithin set other → IsWithin other set → ((v : ℕ) → IsTrue (set v) → owner_of game v ≡ player → moves v ≡ table v)
+pub HoldsWithin-same : (game : ParityGame) (subgame : ℕ → Bool) (player : ℕ) (set other : ℕ → Bool)
+    (table moves : ℕ → Option ℕ) → IsWithin set other → IsWithin other set →
+    ((v : ℕ) → IsTrue (set v) → owner_of game v ≡ player → moves v ≡ table v)
     → HoldsWithin game subgame player set table → HoldsWithin game subgame player other moves
 HoldsWithin-same game subgame player set other table moves there back same holds = record {
   within = λ v inside. holds.within v (back v inside);
   moves = λ v inside owns. (
       let Leads : Option ℕ → Type 0 = λ move. IsSomeAnd move (LeadsInto game other v) in
-      subst Leads (sym (same v (back v inside) owns)) (leads_more game set other v there (table v) (holds.moves v (back v inside) owns)));
+      subst Leads (sym (same v (back v inside) owns)) (leads_more game set other v there (table v)
+      (holds.moves v (back v inside) owns)));
   stays = λ v w inside others leads. there w (holds.stays v w (back v inside) others leads);
   wins = λ walk k top round is_top. holds.wins walk k top (record {
     some = round.some;
@@ -98,17 +120,22 @@ HoldsWithin-same game subgame player set other table moves there back same holds
 }
 
 -- a larger subgame, in which the other player's edges lead nowhere else
-pub HoldsWithin-larger : (game : ParityGame) (smaller larger : ℕ → Bool) (player : ℕ) (set : ℕ → Bool) (table : ℕ → Option ℕ) → IsWithin smaller larger
-    → ((v w : ℕ) → IsTrue (set v) → owner_of game v ≢ player → LeadsInto game larger v w → IsTrue (smaller w)) → HoldsWithin game smaller player set table → HoldsWithin game larger player set table
+pub HoldsWithin-larger : (game : ParityGame) (smaller larger : ℕ → Bool) (player : ℕ) (set : ℕ → Bool)
+    (table : ℕ → Option ℕ) → IsWithin smaller larger
+    → ((v w : ℕ) → IsTrue (set v) → owner_of game v ≢ player → LeadsInto game larger v w → IsTrue (smaller w)) →
+    HoldsWithin game smaller player set table → HoldsWithin game larger player set table
 HoldsWithin-larger game smaller larger player set table within lands holds = record {
   within = λ v inside. within v (holds.within v inside);
   moves = holds.moves;
-  stays = λ v w inside others leads. holds.stays v w inside others (record { edge = leads.edge; inside = lands v w inside others leads });
+  stays =
+      λ v w inside others leads. holds.stays v w inside others (record
+      { edge = leads.edge; inside = lands v w inside others leads });
   wins = holds.wins;
 }
 
 -- no vertex at all
-pub HoldsWithin-none : (game : ParityGame) (subgame : ℕ → Bool) (player : ℕ) (set : ℕ → Bool) (table : ℕ → Option ℕ) → ((v : ℕ) → ¬ IsTrue (set v)) → HoldsWithin game subgame player set table
+pub HoldsWithin-none : (game : ParityGame) (subgame : ℕ → Bool) (player : ℕ) (set : ℕ → Bool) (table : ℕ → Option ℕ) →
+    ((v : ℕ) → ¬ IsTrue (set v)) → HoldsWithin game subgame player set table
 HoldsWithin-none game subgame player set table none = record {
   within = λ v inside. absurd (none v inside);
   moves = λ v inside owns. absurd (none v inside);
@@ -117,12 +144,17 @@ HoldsWithin-none game subgame player set table none = record {
 }
 
 -- a set beside one that is held, where the other player's edges lead on in the smaller subgame or to the first set
-pub HoldsWithin-beside : (game : ParityGame) (smaller larger : ℕ → Bool) (player : ℕ) (first second set : ℕ → Bool) (table : ℕ → Option ℕ) → IsWithin smaller larger
+pub HoldsWithin-beside : (game : ParityGame) (smaller larger : ℕ → Bool) (player : ℕ) (first second set : ℕ → Bool)
+    (table : ℕ → Option ℕ) → IsWithin smaller larger
     → IsWithin first set → IsWithin second set → ((v : ℕ) → IsTrue (set v) → IsTrue (first v) ⊎ IsTrue (second v))
-    → ((v w : ℕ) → IsTrue (second v) → owner_of game v ≢ player → LeadsInto game larger v w → IsTrue (smaller w) ⊎ IsTrue (first w))
-    → HoldsWithin game larger player first table → HoldsWithin game smaller player second table → HoldsWithin game larger player set table
+    → ((v w : ℕ) → IsTrue (second v) → owner_of game v ≢ player → LeadsInto game larger v w →
+    IsTrue (smaller w) ⊎ IsTrue (first w))
+    → HoldsWithin game larger player first table → HoldsWithin game smaller player second table →
+    HoldsWithin game larger player set table
 HoldsWithin-beside game smaller larger player first second set table less has_first has_second split lands holds also =
-    let within = λ (v : ℕ) (inside : IsTrue (set v)). elim (split v inside) as (λ _. IsTrue (larger v)) [ inl one ↦ holds.within v one | inr two ↦ less v (also.within v two) ] in
+    let within =
+    λ (v : ℕ) (inside : IsTrue (set v)). elim (split v inside) as (λ _. IsTrue (larger v))
+    [ inl one ↦ holds.within v one | inr two ↦ less v (also.within v two) ] in
     record {
       within = within;
       moves = λ v inside owns. elim (split v inside) [
@@ -136,17 +168,21 @@ HoldsWithin-beside game smaller larger player first second set table less has_fi
           | inr first ↦ has_first w first
         ]
       ];
-      wins = λ walk k top round is_top. elim (round_beside game larger player set first table walk k holds within round) [
-        | inl all ↦ holds.wins walk k top (round_within game player set first table walk k round all) is_top
-        | inr none ↦ also.wins walk k top (round_within game player set second table walk k round (λ t less. elim (split (walk t) (round.inside t less)) [
-          | inl one ↦ absurd (not_in first (walk t) (none t less) one)
-          | inr two ↦ two
-        ])) is_top
-      ];
+      wins =
+          λ walk k top round is_top. elim (round_beside game larger player set first table walk k holds within round) [
+            | inl all ↦ holds.wins walk k top (round_within game player set first table walk k round all) is_top
+            | inr none ↦ also.wins walk k top (round_within game player set second table walk k round
+                (λ t less. elim (split (walk t) (round.inside t less)) [
+                  | inl one ↦ absurd (not_in first (walk t) (none t less) one)
+                  | inr two ↦ two
+                ])) is_top
+          ];
     }
 
 -- the attractor to a set that is held
-pub HoldsWithin-attracted : (game : ParityGame) (subgame : ℕ → Bool) (player : ℕ) (target set : ℕ → Bool) (table : ℕ → Option ℕ) (rank : ℕ → ℕ) → IsWithin target set → IsWithin set subgame → Falls game subgame player target set table rank
+pub HoldsWithin-attracted : (game : ParityGame) (subgame : ℕ → Bool) (player : ℕ) (target set : ℕ → Bool)
+    (table : ℕ → Option ℕ) (rank : ℕ → ℕ) → IsWithin target set → IsWithin set subgame →
+    Falls game subgame player target set table rank
     → HoldsWithin game subgame player target table → HoldsWithin game subgame player set table
 HoldsWithin-attracted game subgame player target set table rank has_target within falls holds = record {
   within = within;
@@ -157,7 +193,8 @@ HoldsWithin-attracted game subgame player target set table rank has_target withi
   stays = λ v w inside others leads. elim (cases_Bool (target v)) [
     | inl there ↦ has_target w (holds.stays v w there others leads)
     | inr outside ↦ (
-        let down : LeadsDown game subgame set rank v w = falls.other v w inside (not_in target v outside) others leads in
+        let down : LeadsDown game subgame set rank v w =
+        falls.other v w inside (not_in target v outside) others leads in
         down.inside)
   ];
   wins = λ walk k top round is_top. elim (round_beside game subgame player set target table walk k holds within round) [
@@ -166,43 +203,55 @@ HoldsWithin-attracted game subgame player target set table rank has_target withi
   ];
 }
 
--- a subgame whose greatest priority has the player's parity, where what is not in the attractor to that priority is held
-pub HoldsWithin-all : (game : ParityGame) (subgame : ℕ → Bool) (player greatest : ℕ) (tops set rest nested : ℕ → Bool) (table : ℕ → Option ℕ) (rank : ℕ → ℕ) → greatest % 2 ≡ player
-    → ((v : ℕ) → IsTrue (subgame v) → priority_of game v ≤ greatest) → ((v : ℕ) → IsTrue (tops v) → priority_of game v ≡ greatest)
+-- a subgame whose greatest priority has the player's parity, where what is not in the attractor to that priority is
+-- held
+pub HoldsWithin-all : (game : ParityGame) (subgame : ℕ → Bool) (player greatest : ℕ) (tops set rest nested : ℕ → Bool)
+    (table : ℕ → Option ℕ) (rank : ℕ → ℕ) → greatest % 2 ≡ player
+    → ((v : ℕ) → IsTrue (subgame v) → priority_of game v ≤ greatest) →
+    ((v : ℕ) → IsTrue (tops v) → priority_of game v ≡ greatest)
     → ((v : ℕ) → IsTrue (tops v) → owner_of game v ≡ player → IsSomeAnd (table v) (LeadsInto game subgame v))
     → IsWithin set subgame → Falls game subgame player tops set table rank
-    → ((v : ℕ) → IsTrue (subgame v) → IsTrue (set v) ⊎ IsTrue (rest v)) → IsWithin rest subgame → HoldsWithin game nested player rest table → HoldsWithin game subgame player subgame table
-HoldsWithin-all game subgame player greatest tops set rest nested table rank parity most top top_moves within falls split rest_within holds = record {
-  within = λ v inside. inside;
-  moves = λ v inside owns. elim (split v inside) [
-    | inl in_set ↦ elim (cases_Bool (tops v)) [
-      | inl there ↦ top_moves v there owns
-      | inr outside ↦ leads_more game set subgame v within (table v) (leads_down game subgame set rank v (table v) (falls.own v in_set (not_in tops v outside) owns))
-    ]
-    | inr in_rest ↦ leads_more game rest subgame v rest_within (table v) (holds.moves v in_rest owns)
-  ];
-  stays = λ v w inside others leads. leads.inside;
-  wins = λ walk k found round is_top. elim (some_or_none tops walk k) [
-    | inl met ↦ (
-        let reached : priority_of game (walk met.0) ≡ greatest = top (walk met.0) met.2 in
-        let bounds : priority_of game (walk met.0) ≤ found = is_top.bounds met.0 met.1 in
-        let (place, before, stands) = is_top.stands in
-        let bounded : priority_of game (walk place) ≤ greatest = most (walk place) (round.inside place before) in
-        let same : found ≡ greatest = omega arith in
-        ap (λ n. n % 2) same ∙ parity)
-    | inr none ↦ elim (all_or_none set walk k round.closes (λ t less from.
-        let step : IsTrue (subgame (walk (t + 1))) = round_inside game player subgame table walk k round (t + 1) (omega arith) in
-        let outside : ¬ IsTrue (tops (walk t)) = not_in tops (walk t) (none t less) in
-        let down : LeadsDown game subgame set rank (walk t) (walk (t + 1)) = elim (cases_eq (owner_of game (walk t)) player) [
-          | inl owns ↦ moved (LeadsDown game subgame set rank (walk t)) (table (walk t)) (walk (t + 1)) (falls.own (walk t) from outside owns) (round.follows t less owns)
-          | inr others ↦ falls.other (walk t) (walk (t + 1)) from outside others (record { edge = round.edges t less; inside = step })
-        ] in
-        down.inside)) [
-          | inl all ↦ absurd (no_round_falls game subgame player tops set table rank walk k within falls (round_within game player subgame set table walk k round all) none)
-          | inr out ↦ holds.wins walk k found (round_within game player subgame rest table walk k round (λ t less. elim (split (walk t) (round.inside t less)) [
-            | inl in_set ↦ absurd (not_in set (walk t) (out t less) in_set)
-            | inr in_rest ↦ in_rest
-          ])) is_top
+    → ((v : ℕ) → IsTrue (subgame v) → IsTrue (set v) ⊎ IsTrue (rest v)) → IsWithin rest subgame →
+    HoldsWithin game nested player rest table → HoldsWithin game subgame player subgame table
+HoldsWithin-all game subgame player greatest tops set rest nested table rank parity most top top_moves within falls
+    split rest_within holds = record {
+      within = λ v inside. inside;
+      moves = λ v inside owns. elim (split v inside) [
+        | inl in_set ↦ elim (cases_Bool (tops v)) [
+          | inl there ↦ top_moves v there owns
+          | inr outside ↦ leads_more game set subgame v within (table v)
+              (leads_down game subgame set rank v (table v) (falls.own v in_set (not_in tops v outside) owns))
         ]
-  ];
-}
+        | inr in_rest ↦ leads_more game rest subgame v rest_within (table v) (holds.moves v in_rest owns)
+      ];
+      stays = λ v w inside others leads. leads.inside;
+      wins = λ walk k found round is_top. elim (some_or_none tops walk k) [
+        | inl met ↦ (
+            let reached : priority_of game (walk met.0) ≡ greatest = top (walk met.0) met.2 in
+            let bounds : priority_of game (walk met.0) ≤ found = is_top.bounds met.0 met.1 in
+            let (place, before, stands) = is_top.stands in
+            let bounded : priority_of game (walk place) ≤ greatest = most (walk place) (round.inside place before) in
+            let same : found ≡ greatest = omega arith in
+            ap (λ n. n % 2) same ∙ parity)
+        | inr none ↦ elim (all_or_none set walk k round.closes (λ t less from.
+            let step : IsTrue (subgame (walk (t + 1))) =
+            round_inside game player subgame table walk k round (t + 1) (omega arith) in
+            let outside : ¬ IsTrue (tops (walk t)) = not_in tops (walk t) (none t less) in
+            let down : LeadsDown game subgame set rank (walk t) (walk (t + 1)) =
+            elim (cases_eq (owner_of game (walk t)) player) [
+              | inl owns ↦ moved (LeadsDown game subgame set rank (walk t)) (table (walk t)) (walk (t + 1))
+                  (falls.own (walk t) from outside owns) (round.follows t less owns)
+              | inr others ↦ falls.other (walk t) (walk (t + 1)) from outside others
+                  (record { edge = round.edges t less; inside = step })
+            ] in
+            down.inside)) [
+              | inl all ↦ absurd (no_round_falls game subgame player tops set table rank walk k within falls
+                  (round_within game player subgame set table walk k round all) none)
+              | inr out ↦ holds.wins walk k found (round_within game player subgame rest table walk k round
+                  (λ t less. elim (split (walk t) (round.inside t less)) [
+                    | inl in_set ↦ absurd (not_in set (walk t) (out t less) in_set)
+                    | inr in_rest ↦ in_rest
+                  ])) is_top
+            ]
+      ];
+    }

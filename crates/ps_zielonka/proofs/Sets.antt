@@ -1,5 +1,6 @@
 -- The vertices of a level or a higher one, as a set, and how many they are.
-use Rattle.std.proofs.Common.{◌≡◌, ℕ, zero, suc, ◌<◌, ◌≤◌, inl, inr, List, [], ◌∷◌, Bool, cond, length, get_or, sym, ap, ◌∙◌, arith}
+use Rattle.std.proofs.Common.{◌≡◌, ℕ, zero, suc, ◌<◌, ◌≤◌, inl, inr, List, [], ◌∷◌, Bool, cond, length, get_or, sym, ap}
+use Rattle.std.proofs.Common.{◌∙◌, arith}
 use Rattle.std.specs.Prelude.{IsTrue, nat_le}
 use Rattle.std.proofs.Math.Path.{fun_ext}
 use Rattle.std.proofs.lemmas.Bool.{cases_lt, leb-true, le-leb, lt-leb}
@@ -22,7 +23,12 @@ pub from-same : (old new : List ℕ) (c : ℕ) → ((v : ℕ) → AgreesAt old n
 unfolding from
 from-same old new c agrees = fun_ext (λ v. elim (cases_lt (get_or old v 0) c) [
   | inl less ↦ (
-      let below : get_or new v 0 < c = elim (cases_lt (get_or new v 0) c) [ inl low ↦ low | inr high ↦ (let back : c ≤ get_or old v 0 = (agrees v).back high in absurd (omega arith)) ] in
+      let below : get_or new v 0 < c =
+      elim (cases_lt (get_or new v 0) c) [
+        | inl low ↦ low
+        | inr high ↦
+            (let back : c ≤ get_or old v 0 = (agrees v).back high in absurd (omega arith))
+      ] in
       lt-leb c (get_or new v 0) below ∙ sym (lt-leb c (get_or old v 0) less))
   | inr more ↦ le-leb c (get_or new v 0) ((agrees v).up more) ∙ sym (le-leb c (get_or old v 0) more)
 ])
@@ -50,30 +56,37 @@ one-le c d level now more = elim (cases_lt now d) [
       omega arith)
 ]
 
-pub size_from-le : (c d : ℕ) (old new : List ℕ) → length new ≡ length old → ((v : ℕ) → v < length old → d ≤ get_or new v 0 → c ≤ get_or old v 0) → size_from d new ≤ size_from c old
+pub size_from-le : (c d : ℕ) (old new : List ℕ) → length new ≡ length old →
+    ((v : ℕ) → v < length old → d ≤ get_or new v 0 → c ≤ get_or old v 0) → size_from d new ≤ size_from c old
 size_from-le c d [] [] sizes more = omega arith
 size_from-le c d [] (y ∷ ys) sizes more = absurd (omega arith)
 size_from-le c d (x ∷ xs) [] sizes more = absurd (omega arith)
 size_from-le c d (x ∷ xs) (y ∷ ys) sizes more =
     let here : one d y ≤ one c x = one-le c d x y (more 0 (omega arith)) in
-    let behind : size_from d ys ≤ size_from c xs = size_from-le c d xs ys (omega arith) (λ v within. more (suc v) (omega arith)) in
+    let behind : size_from d ys ≤ size_from c xs =
+    size_from-le c d xs ys (omega arith) (λ v within. more (suc v) (omega arith)) in
     omega arith
 
 -- one of them is of a level no more
-pub size_from-lt : (c d : ℕ) (old new : List ℕ) (u : ℕ) → length new ≡ length old → ((v : ℕ) → v < length old → d ≤ get_or new v 0 → c ≤ get_or old v 0) → u < length old → c ≤ get_or old u 0 → get_or new u 0 < d → size_from d new < size_from c old
+pub size_from-lt : (c d : ℕ) (old new : List ℕ) (u : ℕ) → length new ≡ length old →
+    ((v : ℕ) → v < length old → d ≤ get_or new v 0 → c ≤ get_or old v 0) → u < length old → c ≤ get_or old u 0 →
+    get_or new u 0 < d → size_from d new < size_from c old
 size_from-lt c d [] new u sizes more within high low = absurd (omega arith)
 size_from-lt c d (x ∷ xs) [] u sizes more within high low = absurd (omega arith)
 size_from-lt c d (x ∷ xs) (y ∷ ys) zero sizes more within high low =
     let here : one d y ≡ 0 = one_not d y low in
     let there : one c x ≡ 1 = one_is c x high in
-    let behind : size_from d ys ≤ size_from c xs = size_from-le c d xs ys (omega arith) (λ v within. more (suc v) (omega arith)) in
+    let behind : size_from d ys ≤ size_from c xs =
+    size_from-le c d xs ys (omega arith) (λ v within. more (suc v) (omega arith)) in
     omega arith
 size_from-lt c d (x ∷ xs) (y ∷ ys) (suc u) sizes more within high low =
     let here : one d y ≤ one c x = one-le c d x y (more 0 (omega arith)) in
-    let behind : size_from d ys < size_from c xs = size_from-lt c d xs ys u (omega arith) (λ v within. more (suc v) (omega arith)) (omega arith) high low in
+    let behind : size_from d ys < size_from c xs =
+    size_from-lt c d xs ys u (omega arith) (λ v within. more (suc v) (omega arith)) (omega arith) high low in
     omega arith
 
-pub size_from-same : (c : ℕ) (old new : List ℕ) → length new ≡ length old → ((v : ℕ) → AgreesAt old new c v) → size_from c new ≡ size_from c old
+pub size_from-same : (c : ℕ) (old new : List ℕ) → length new ≡ length old → ((v : ℕ) → AgreesAt old new c v) →
+    size_from c new ≡ size_from c old
 size_from-same c old new sizes agrees =
     let down : size_from c new ≤ size_from c old = size_from-le c c old new sizes (λ v within. (agrees v).back) in
     let up : size_from c old ≤ size_from c new = size_from-le c c new old (sym sizes) (λ v within. (agrees v).up) in

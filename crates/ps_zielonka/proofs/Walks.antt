@@ -1,6 +1,7 @@
--- Walks that come back to where they began: a number that never rises along their steps is the same at each place, and a
--- set that no step leaves has all of their places or none.
-use Rattle.std.proofs.Common.{◌≡◌, ℕ, zero, suc, ◌+◌, ◌<◌, ◌≤◌, ◌⊎◌, inl, inr, Bool, true, false, cond, refl, ap, ◌∙◌, arith}
+-- Walks that come back to where they began: a number that never rises along their steps is the same at each place, and
+-- a set that no step leaves has all of their places or none.
+use Rattle.std.proofs.Common.{◌≡◌, ℕ, zero, suc, ◌+◌, ◌<◌, ◌≤◌, ◌⊎◌, inl, inr, Bool, true, false, cond, refl, ap, ◌∙◌}
+use Rattle.std.proofs.Common.{arith}
 use Rattle.std.specs.Prelude.{IsTrue}
 use Rattle.std.proofs.lemmas.Bool.{cases_eq, cases_Bool}
 
@@ -23,9 +24,12 @@ level y k closes steps t within =
     omega arith
 
 -- no number falls at each step
-pub no_descent : (rank : ℕ → ℕ) (walk : ℕ → ℕ) (k : ℕ) → 0 < k → walk k ≡ walk 0 → ((t : ℕ) → t < k → rank (walk (t + 1)) < rank (walk t)) → ⊥
+pub no_descent : (rank : ℕ → ℕ) (walk : ℕ → ℕ) (k : ℕ) → 0 < k → walk k ≡ walk 0 →
+    ((t : ℕ) → t < k → rank (walk (t + 1)) < rank (walk t)) → ⊥
 no_descent rank walk k some closes falls =
-    let same : rank (walk 1) ≡ rank (walk 0) = level (λ t. rank (walk t)) k (ap rank closes) (λ t less. let step : rank (walk (t + 1)) < rank (walk t) = falls t less in omega arith) 1 some in
+    let same : rank (walk 1) ≡ rank (walk 0) =
+    level (λ t. rank (walk t)) k (ap rank closes) (λ t less.
+    let step : rank (walk (t + 1)) < rank (walk t) = falls t less in omega arith) 1 some in
     let first : rank (walk 1) < rank (walk 0) = falls 0 some in
     omega arith
 
@@ -45,17 +49,22 @@ distance-same false true same = absurd (omega arith)
 distance-same false false same = refl
 
 -- a set that no step leaves has all places or none
-pub all_or_none : (set : ℕ → Bool) (walk : ℕ → ℕ) (k : ℕ) → walk k ≡ walk 0 → ((t : ℕ) → t < k → IsTrue (set (walk t)) → IsTrue (set (walk (t + 1))))
+pub all_or_none : (set : ℕ → Bool) (walk : ℕ → ℕ) (k : ℕ) → walk k ≡ walk 0 →
+    ((t : ℕ) → t < k → IsTrue (set (walk t)) → IsTrue (set (walk (t + 1))))
     → ((t : ℕ) → t < k → IsTrue (set (walk t))) ⊎ ((t : ℕ) → t < k → set (walk t) ≡ false)
 all_or_none set walk k closes steps =
-    let same = λ (t : ℕ) (less : t < k). distance-same (set (walk t)) (set (walk 0)) (level (λ t. distance (set (walk t))) k (ap (λ v. distance (set v)) closes) (λ t less. distance-le (set (walk t)) (set (walk (t + 1))) (steps t less)) t (omega arith)) in
+    let same =
+    λ (t : ℕ) (less : t < k). distance-same (set (walk t)) (set (walk 0))
+    (level (λ t. distance (set (walk t))) k (ap (λ v. distance (set v)) closes)
+    (λ t less. distance-le (set (walk t)) (set (walk (t + 1))) (steps t less)) t (omega arith)) in
     elim (cases_Bool (set (walk 0))) [
       | inl there ↦ inl (λ t less. same t less ∙ there)
       | inr not_there ↦ inr (λ t less. same t less ∙ not_there)
     ]
 
 -- one of the first k places is in the set, or none is
-pub some_or_none : (set : ℕ → Bool) (walk : ℕ → ℕ) (k : ℕ) → ((t : ℕ) × (t < k) × IsTrue (set (walk t))) ⊎ ((t : ℕ) → t < k → set (walk t) ≡ false)
+pub some_or_none : (set : ℕ → Bool) (walk : ℕ → ℕ) (k : ℕ) →
+    ((t : ℕ) × (t < k) × IsTrue (set (walk t))) ⊎ ((t : ℕ) → t < k → set (walk t) ≡ false)
 some_or_none set walk zero = inr (λ t less. absurd (omega arith))
 some_or_none set walk (suc k) = elim (some_or_none set walk k) [
   | inl found ↦ inl (found.0, omega (arith, found.1), found.2)

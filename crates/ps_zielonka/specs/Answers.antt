@@ -24,7 +24,8 @@ pub record MovesAt (game : ParityGame) (winner : List ℕ) (player v : ℕ) : Ty
   pub owns : owner_of game v ≡ player
 
 -- of the vertices before n just those that the player wins and owns have a move
-pub record AreMovesTo (game : ParityGame) (moves winner : List ℕ) (player n : ℕ) (strategy : List (Option ℕ)) : Type 0 where
-  pub given : (v : ℕ) → v < n → MovesAt game winner player v → move_at strategy v ≡ Some (slice_index moves v)
-  pub only : (v : ℕ) → v < n → ¬ MovesAt game winner player v → move_at strategy v ≡ None
-  pub later : (v : ℕ) → n ≤ v → move_at strategy v ≡ None
+pub record AreMovesTo (game : ParityGame) (moves winner : List ℕ) (player n : ℕ) (strategy : List (Option ℕ)) : Type 0
+  where
+    pub given : (v : ℕ) → v < n → MovesAt game winner player v → move_at strategy v ≡ Some (slice_index moves v)
+    pub only : (v : ℕ) → v < n → ¬ MovesAt game winner player v → move_at strategy v ≡ None
+    pub later : (v : ℕ) → n ≤ v → move_at strategy v ≡ None

@@ -18,7 +18,8 @@ pub record IsGreatest (game : ParityGame) (greatest : ℕ) : Type 0 where
   pub bounds : (v : ℕ) → v < vertex_count game → priority_of game v ≤ greatest
   pub stands : (v : ℕ) × (v < vertex_count game) × (priority_of game v ≡ greatest)
 
--- the set is closed for the player who wins the greatest priority, and holds all vertices of that priority, as the attractor does
+-- the set is closed for the player who wins the greatest priority, and holds all vertices of that priority, as the
+-- attractor does
 pub record IsClosedToTops (game : ParityGame) (set : ℕ → Bool) : Type 0 where
   pub greatest : ℕ
   pub is_greatest : IsGreatest game greatest
@@ -26,8 +27,8 @@ pub record IsClosedToTops (game : ParityGame) (set : ℕ → Bool) : Type 0 wher
   pub is_target : (v : ℕ) → v < vertex_count game → IsTrue (target v) ↔ (priority_of game v ≡ greatest)
   pub closed : IsClosed game (is_vertex game) (greatest % 2) target set
 
--- how many calls wait at most at one time: no more than there are priorities, at least one where there is a vertex, and at
--- least two where such a set leaves a vertex out
+-- how many calls wait at most at one time: no more than there are priorities, at least one where there is a vertex, and
+-- at least two where such a set leaves a vertex out
 pub record IsDepth (game : ParityGame) (depth : ℕ) : Type 0 where
   pub most : HasPriorities game (is_vertex game) depth
   pub some : (v : ℕ) → v < vertex_count game → 1 ≤ depth
@@ -50,4 +51,5 @@ pub record IsSecondCall (levels : List ℕ) (calls : ℕ) (solved : Bool) (v : �
 pub record IsDepthSoFar (game : ParityGame) (levels : List ℕ) (calls : ℕ) (solved : Bool) (depth : ℕ) : Type 0 where
   pub most : HasPriorities game (is_vertex game) depth
   pub some : (v : ℕ) → v < vertex_count game → (1 ≤ depth) ⊎ IsFresh game levels calls solved
-  pub two : (set : ℕ → Bool) → IsClosedToTops game set → (v : ℕ) → v < vertex_count game → ¬ IsTrue (set v) → (2 ≤ depth) ⊎ (IsFresh game levels calls solved ⊎ IsSecondCall levels calls solved v)
+  pub two : (set : ℕ → Bool) → IsClosedToTops game set → (v : ℕ) → v < vertex_count game → ¬ IsTrue (set v) →
+      (2 ≤ depth) ⊎ (IsFresh game levels calls solved ⊎ IsSecondCall levels calls solved v)

@@ -2,7 +2,8 @@
 -- depth k, counted from 0, is about the vertices of mark 2k + 1 or more. Those of mark 2k + 1 are decided in it; those
 -- of mark 2k + 2 were attracted in its present turn; the others are left to the next call. Vertices that are not placed
 -- have the greatest mark of all.
-use Rattle.std.specs.Prelude.{◌≡◌, ◌≢◌, ℕ, zero, suc, ◌+◌, ◌*◌, ◌^◌, ◌<◌, ◌≤◌, ◌⊎◌, Bool, true, false, IsTrue, cond, List, [], ◌∷◌, length, slice_index, slice_index_or, nat_le}
+use Rattle.std.specs.Prelude.{◌≡◌, ◌≢◌, ℕ, zero, suc, ◌+◌, ◌*◌, ◌^◌, ◌<◌, ◌≤◌, ◌⊎◌, Bool, true, false, IsTrue, cond}
+use Rattle.std.specs.Prelude.{List, [], ◌∷◌, length, slice_index, slice_index_or, nat_le}
 use Rattle.std.specs.List.{All, Contains}
 use Rattle.ps_game.specs.Games.{ParityGame, IsGame, vertex_count, owner_of, priority_of, HasEdge}
 use Rattle.ps_game.specs.Subgames.{IsSubgame}
@@ -30,7 +31,8 @@ winner_of winner v = slice_index winner v
 pub record IsOrder (game : ParityGame) (order : List ℕ) : Type 0 where
   pub vertices : (j : ℕ) → j < length order → slice_index order j < vertex_count game
   pub all : (v : ℕ) → v < vertex_count game → (j : ℕ) × (j < length order) × (slice_index order j ≡ v)
-  pub falls : (i j : ℕ) → i ≤ j → j < length order → priority_of game (slice_index order j) ≤ priority_of game (slice_index order i)
+  pub falls : (i j : ℕ) → i ≤ j → j < length order → priority_of game (slice_index order j) ≤ priority_of game
+      (slice_index order i)
 
 -- the first places of the order are below a level
 pub record IsCursor (order levels : List ℕ) (cursor c : ℕ) : Type 0 where
@@ -51,22 +53,26 @@ pub record StandsBetween (tables : TablesData) (from to v : ℕ) : Type 0 where
   pub is : slice_index tables.trail place ≡ v
 
 -- a call of depth a / 2 waits for the next one
-pub record Waits (game : ParityGame) (tables : TablesData) (winner order : List ℕ) (a : ℕ) (frame : Frame) : Type 0 where
-  pub alive : IsSubgame game (from tables.level (a + 2))
-  pub progress : Progress game (from tables.level (a + 1)) (from tables.level (a + 2)) (winner_of winner) (moves_of tables)
-  pub prepared : IsTurned game (from tables.level (a + 2)) (from tables.level (a + 3)) frame.player (winner_of winner) (moves_of tables)
-  pub room : a + 2 * size_from (a + 1) tables.level ≤ 2 * length tables.level
-  pub segment : IsSegment tables frame.turn (a + 2)
-  pub some : frame.turn ≤ frame.top
-  pub end : frame.top ≤ length tables.trail
-  pub tops : (v : ℕ) → IsTrue (prepared.tops v) → StandsBetween tables frame.turn frame.top v
-  pub only_tops : (v : ℕ) → StandsBetween tables frame.turn frame.top v → IsTrue (prepared.tops v)
-  pub front : IsCursor order tables.level frame.cursor (a + 2)
+pub record Waits (game : ParityGame) (tables : TablesData) (winner order : List ℕ) (a : ℕ) (frame : Frame) : Type 0
+  where
+    pub alive : IsSubgame game (from tables.level (a + 2))
+    pub progress : Progress game (from tables.level (a + 1)) (from tables.level (a + 2)) (winner_of winner)
+        (moves_of tables)
+    pub prepared : IsTurned game (from tables.level (a + 2)) (from tables.level (a + 3)) frame.player (winner_of winner)
+        (moves_of tables)
+    pub room : a + 2 * size_from (a + 1) tables.level ≤ 2 * length tables.level
+    pub segment : IsSegment tables frame.turn (a + 2)
+    pub some : frame.turn ≤ frame.top
+    pub end : frame.top ≤ length tables.trail
+    pub tops : (v : ℕ) → IsTrue (prepared.tops v) → StandsBetween tables frame.turn frame.top v
+    pub only_tops : (v : ℕ) → StandsBetween tables frame.turn frame.top v → IsTrue (prepared.tops v)
+    pub front : IsCursor order tables.level frame.cursor (a + 2)
 
 -- a call of depth a / 2 looks for its next turn: what is left to it is not placed
 pub record Searches (game : ParityGame) (tables : TablesData) (winner order : List ℕ) (a cursor : ℕ) : Type 0 where
   pub alive : IsSubgame game (from tables.level (a + 2))
-  pub progress : Progress game (from tables.level (a + 1)) (from tables.level (a + 2)) (winner_of winner) (moves_of tables)
+  pub progress : Progress game (from tables.level (a + 1)) (from tables.level (a + 2)) (winner_of winner)
+      (moves_of tables)
   pub room : a + 2 * size_from (a + 1) tables.level ≤ 2 * length tables.level
   pub unplaced : (v : ℕ) → a + 2 ≤ level_of tables v → level_of tables v ≡ UNPLACED
   pub front : IsCursor order tables.level cursor (a + 2)
@@ -91,7 +97,8 @@ pub record IsSoundBoard (game : ParityGame) (tables : TablesData) (winner order 
   pub most : (v : ℕ) → level_of tables v ≤ UNPLACED
 
 -- all calls but the present one wait, and the present one looks for its next turn or has its answer
-pub record IsNest (game : ParityGame) (tables : TablesData) (winner order : List ℕ) (frames : List Frame) (cursor : ℕ) (solved : Bool) : Type 0 where
+pub record IsNest (game : ParityGame) (tables : TablesData) (winner order : List ℕ) (frames : List Frame) (cursor : ℕ)
+    (solved : Bool) : Type 0 where
   pub sound : IsSoundBoard game tables winner order
   pub waits : (i : ℕ) → i < length frames → Waits game tables winner order (2 * i) (frame_at frames i)
   pub rises : (i j : ℕ) → i < j → j < length frames → (frame_at frames i).top ≤ (frame_at frames j).turn
@@ -119,7 +126,8 @@ steps_left levels k solved = waiting_steps levels k + cond solved 0 (steps (size
 -- ## The parts of a step
 
 -- the vertices of the greatest priority that are free are placed; they stand in the order from a place up to another
-pub record ArePlaced (game : ParityGame) (aim : Aim) (old new : TablesData) (order : List ℕ) (cursor behind : ℕ) : Type 0 where
+pub record ArePlaced (game : ParityGame) (aim : Aim) (old new : TablesData) (order : List ℕ)
+    (cursor behind : ℕ) : Type 0 where
   pub grown : IsGrown aim old new
   pub after : cursor ≤ behind
   pub within : behind ≤ length order
@@ -137,15 +145,20 @@ pub record IsWonStep (game : ParityGame) (tables : TablesData) (winner : List �
   pub above : level < level_of tables w
   pub won : slice_index winner w ≡ player
 
--- the player's vertex has a move to what the player won, and no edge of the other player's leads to what the other one won
-pub record IsKeptAt (game : ParityGame) (tables : TablesData) (winner : List ℕ) (level player other v : ℕ) : Type 0 where
-  pub own : owner_of game v ≡ player → IsWonStep game tables winner level player v (slice_index tables.moves v)
-  pub foreign : owner_of game v ≢ player → (w : ℕ) → HasEdge game v w → level < level_of tables w → slice_index winner w ≢ other
+-- the player's vertex has a move to what the player won, and no edge of the other player's leads to what the other one
+-- won
+pub record IsKeptAt (game : ParityGame) (tables : TablesData) (winner : List ℕ) (level player other v : ℕ) : Type 0
+  where
+    pub own : owner_of game v ≡ player → IsWonStep game tables winner level player v (slice_index tables.moves v)
+    pub foreign : owner_of game v ≢ player → (w : ℕ) → HasEdge game v w → level < level_of tables w →
+        slice_index winner w ≢ other
 
 -- the player's vertex has no edge to what the player won, or the other player's has one to what that one won
-pub record IsLostAt (game : ParityGame) (tables : TablesData) (winner : List ℕ) (level player other v : ℕ) : Type 0 where
-  pub own : owner_of game v ≡ player → (w : ℕ) → HasEdge game v w → level < level_of tables w → slice_index winner w ≢ player
-  pub foreign : owner_of game v ≢ player → (w : ℕ) × IsWonStep game tables winner level other v w
+pub record IsLostAt (game : ParityGame) (tables : TablesData) (winner : List ℕ) (level player other v : ℕ) : Type 0
+  where
+    pub own : owner_of game v ≡ player → (w : ℕ) → HasEdge game v w → level < level_of tables w →
+        slice_index winner w ≢ player
+    pub foreign : owner_of game v ≢ player → (w : ℕ) × IsWonStep game tables winner level other v w
 
 -- nothing but the moves of some vertices changes
 pub record IsMoved (old new : TablesData) (Some : ℕ → Type 0) : Type 0 where
@@ -165,12 +178,13 @@ pub record IsTakenOff (turn : ℕ) (trail spare : List ℕ) : Type 0 where
   pub all : length spare + turn ≡ length trail
   pub same : (j : ℕ) → j < length spare → slice_index spare j ≡ slice_index trail (turn + j)
 
--- of some vertices those that the player won are not placed any more; the others stand in the trail from the turn on, alone, and
--- have the level
+-- of some vertices those that the player won are not placed any more; the others stand in the trail from the turn on,
+-- alone, and have the level
 pub record IsReopened (winner : List ℕ) (player level turn : ℕ) (Off : ℕ → Type 0) (old new : TablesData) : Type 0 where
   pub longer : turn ≤ length new.trail
   pub front : (j : ℕ) → j < turn → slice_index new.trail j ≡ slice_index old.trail j
-  pub behind : (j : ℕ) → turn ≤ j → j < length new.trail → Off (slice_index new.trail j) × (slice_index winner (slice_index new.trail j) ≢ player)
+  pub behind : (j : ℕ) → turn ≤ j → j < length new.trail → Off (slice_index new.trail j) ×
+      (slice_index winner (slice_index new.trail j) ≢ player)
   pub lost : (v : ℕ) → Off v → slice_index winner v ≢ player → (level_of new v ≡ level) × StandsFrom new turn v
   pub freed : (v : ℕ) → Off v → slice_index winner v ≡ player → level_of new v ≡ UNPLACED
   pub same : (v : ℕ) → (level_of new v ≡ level_of old v) ⊎ Off v

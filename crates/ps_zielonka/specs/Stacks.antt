@@ -7,10 +7,11 @@ use Rattle.ps_zielonka.specs.Depths.{IsDepthSoFar}
 use Rattle.ps_zielonka.specs.Turns.{Solved}
 use Rattle.ps_zielonka.specs.Nests.{IsNest, from, winner_of, steps_left}
 
-abbrev pub IsStack : ParityGame → Nest → Type 0
-IsStack game nest = IsNest game nest.board.tables nest.board.winner.items nest.order.items nest.frames.items nest.cursor nest.solved
+abbrev pub IsStack : {W : Type 0} → ParityGame → Nest W → Type 0
+IsStack game nest =
+    IsNest game nest.board.tables nest.board.winner.items nest.order nest.frames.items nest.cursor nest.solved
 
-abbrev pub steps_of : Nest → ℕ
+abbrev pub steps_of : {W : Type 0} → Nest W → ℕ
 steps_of nest = steps_left nest.board.tables.level (length nest.frames.items) nest.solved
 
 -- the tables solve the whole game
@@ -21,5 +22,5 @@ pub record IsSolvedBy (game : ParityGame) (tables : TablesData) (winner : List �
   pub all : (v : ℕ) → v < vertex_count game → 1 ≤ level_of tables v
   pub solved : Solved game (from tables.level 1) (winner_of winner) (moves_of tables)
 
-abbrev pub IsDeep : ParityGame → Nest → Type 0
+abbrev pub IsDeep : {W : Type 0} → ParityGame → Nest W → Type 0
 IsDeep game nest = IsDepthSoFar game nest.board.tables.level (length nest.frames.items) nest.solved nest.depth

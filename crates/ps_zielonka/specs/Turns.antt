@@ -1,5 +1,5 @@
--- The turns by which a subgame is solved. Sets of vertices are tests; `win` gives each vertex the player who wins it, and `table`
--- each vertex one vertex or none.
+-- The turns by which a subgame is solved. Sets of vertices are tests; `win` gives each vertex the player who wins it,
+-- and `table` each vertex one vertex or none.
 use Rattle.std.specs.Prelude.{◌≡◌, ◌≢◌, ℕ, ◌%◌, ◌<◌, ◌≤◌, Option, Bool, false, IsTrue}
 use Rattle.ps_game.specs.Games.{ParityGame, owner_of, priority_of, HasEdge}
 use Rattle.ps_game.specs.Subgames.{IsWithin, HoldsWithin}
@@ -22,20 +22,25 @@ pub record IsWon (subgame open_part : ℕ → Bool) (win : ℕ → ℕ) (player 
   pub won : (v : ℕ) → IsTrue (set v) → win v ≡ player
   pub all : (v : ℕ) → IsTrue (subgame v) → ¬ IsTrue (open_part v) → win v ≡ player → IsTrue (set v)
 
--- what is decided of a subgame: outside the open part each player holds what it wins, and nobody can step from the open part
--- into what is won by itself
-pub record Progress (game : ParityGame) (subgame open_part : ℕ → Bool) (win : ℕ → ℕ) (table : ℕ → Option ℕ) : Type 0 where
-  pub within : IsWithin open_part subgame
-  pub winners : (v : ℕ) → IsTrue (subgame v) → ¬ IsTrue (open_part v) → win v < 2
-  pub away : (v w : ℕ) → IsTrue (open_part v) → HasEdge game v w → IsTrue (subgame w) → ¬ IsTrue (open_part w) → owner_of game v ≢ win w
-  pub held : (player : ℕ) (set : ℕ → Bool) → player < 2 → IsWon subgame open_part win player set → HoldsWithin game subgame player set table
+-- what is decided of a subgame: outside the open part each player holds what it wins, and nobody can step from the open
+-- part into what is won by itself
+pub record Progress (game : ParityGame) (subgame open_part : ℕ → Bool) (win : ℕ → ℕ) (table : ℕ → Option ℕ) : Type 0
+  where
+    pub within : IsWithin open_part subgame
+    pub winners : (v : ℕ) → IsTrue (subgame v) → ¬ IsTrue (open_part v) → win v < 2
+    pub away : (v w : ℕ) → IsTrue (open_part v) → HasEdge game v w → IsTrue (subgame w) → ¬ IsTrue (open_part w) →
+        owner_of game v ≢ win w
+    pub held : (player : ℕ) (set : ℕ → Bool) → player < 2 → IsWon subgame open_part win player set →
+        HoldsWithin game subgame player set table
 
 -- each vertex of the subgame is won by a player, who holds what it wins
 abbrev pub Solved : ParityGame → (ℕ → Bool) → (ℕ → ℕ) → (ℕ → Option ℕ) → Type 0
 Solved game subgame win table = Progress game subgame nothing win table
 
--- a turn is prepared: the player of the greatest priority attracts to all vertices of that priority, and the rest is to be solved
-pub record IsTurned (game : ParityGame) (open_part rest : ℕ → Bool) (player : ℕ) (win : ℕ → ℕ) (table : ℕ → Option ℕ) : Type 0 where
+-- a turn is prepared: the player of the greatest priority attracts to all vertices of that priority, and the rest is to
+-- be solved
+pub record IsTurned (game : ParityGame) (open_part rest : ℕ → Bool) (player : ℕ) (win : ℕ → ℕ)
+    (table : ℕ → Option ℕ) : Type 0 where
   pub greatest : ℕ
   pub tops : ℕ → Bool
   pub attracted : ℕ → Bool

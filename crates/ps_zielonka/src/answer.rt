@@ -5,7 +5,7 @@ ghost use Rattle.ps_game.specs.Games.{vertex_count};
 ghost use Rattle.ps_zielonka.specs.Answers.{IsRegionTo, AreMovesTo};
 
 use ps_attractor::Tables;
-use ps_game::{Arena, Player, Region, Strategy};
+use ps_game::{Arena, Player, Region, Strategy, Width};
 use std::alloc::{AllocError, Global};
 
 /// The vertices that player 0 wins.
@@ -31,17 +31,18 @@ pub fn region_of(alloc: Global, winner: &[Player]) -> Result<Region, AllocError>
 /// # Errors
 ///
 /// Fails where a growth was refused.
-pub fn strategy_of<A: Arena>(
+pub fn strategy_of<A: Arena, W: Width>(
     alloc: Global,
     arena: &A,
-    tables: &Tables,
+    tables: &Tables<W>,
     winner: &[Player],
     player: Player,
 ) -> Result<Strategy, AllocError>
     requires moves { length tables.now.moves ≡ vertex_count (A.game arena.now) }
     requires winners { length winner.now ≡ vertex_count (A.game arena.now) }
     ensures places { IfOk result (λ strategy. length strategy ≡ vertex_count (A.game arena.now)) }
-    ensures given { IfOk result (AreMovesTo (A.game arena.now) tables.now.moves winner.now player (vertex_count (A.game arena.now))) }
+    ensures given { IfOk result (AreMovesTo (A.game arena.now) tables.now.moves winner.now player
+        (vertex_count (A.game arena.now))) }
 {
     let count = arena.count();
     let mut strategy = Strategy::empty(alloc, count)?;

@@ -1,32 +1,34 @@
 //! What is decided of each vertex, and the steps on it: attract, keep, take back.
 
-ghost use Rattle.std.specs.Prelude.{◌≡◌, ◌≢◌, ◌+◌, ◌-◌, ◌<◌, ◌≤◌, ℕ, Bool, false, IfSome, IfNone, OnOk, IsTrue, length, take, slice_index};
+ghost use Rattle.std.specs.Prelude.{◌≡◌, ◌≢◌, ◌+◌, ◌-◌, ◌<◌, ◌≤◌, ℕ, Bool, false, IfSome, IfNone, OnOk, IsTrue, length};
+ghost use Rattle.std.specs.Prelude.{take, slice_index};
 ghost use Rattle.ps_game.specs.Games.{IsGame, vertex_count, HasEdge};
 ghost use Rattle.ps_attractor.specs.Sources.{IsSourcesOf};
 ghost use Rattle.ps_attractor.specs.Tables.{FitsGame, level_of, moves_of};
 ghost use Rattle.ps_attractor.specs.Aims.{IsPosed, IsTaken, IsAttracted, IsGrown, StandsFrom, rank_of};
 ghost use Rattle.ps_zielonka.specs.Levels.{mark_of, aim_of};
-ghost use Rattle.ps_zielonka.specs.Nests.{IsGiven, IsWonStep, IsKeptAt, IsLostAt, IsMoved, StandsBetween, IsTakenOff, IsReopened};
+ghost use Rattle.ps_zielonka.specs.Nests.{IsGiven, IsWonStep, IsKeptAt, IsLostAt, IsMoved, StandsBetween, IsTakenOff};
+ghost use Rattle.ps_zielonka.specs.Nests.{IsReopened};
 
 use crate::attraction::Attraction;
 use crate::frame::Frame;
 use crate::level::Level;
 use ps_attractor::{Sources, Tables};
-use ps_game::{Arena, Player};
+use ps_game::{Arena, Numbers, Player, Width};
 use std::alloc::AllocError;
 
 /// What is decided of each vertex.
 #[derive(Drop)]
-pub struct Board {
+pub struct Board<W: Width> {
     /// The level of each vertex, its move, and the vertices that were placed.
-    pub tables: Tables,
+    pub tables: Tables<W>,
     /// Who wins each vertex that was placed.
     pub winner: Vec<Player>,
     /// Vertices that are taken off the trail.
-    pub spare: Vec<usize>,
+    pub spare: Numbers<W>,
 }
 
-impl Board {
+impl<W: Width> Board<W> {
     /// Attracts to the vertices that stand in the trail from a place on, and gives all that then stand there to the
     /// player.
     ///
@@ -36,7 +38,7 @@ impl Board {
     pub fn attract<A: Arena>(
         &mut self,
         arena: &A,
-        sources: &Sources,
+        sources: &Sources<W>,
         attraction: &Attraction,
     ) -> Result<(), AllocError>
         requires game { IsGame (A.game arena.now) }
@@ -44,6 +46,7 @@ impl Board {
         requires fits { FitsGame (A.game arena.now) self.old.tables }
         requires winners { length self.old.winner.items ≡ vertex_count (A.game arena.now) }
         requires placed { mark_of attraction.now.level < mark_of Level.Unplaced }
+        requires fits_width { mark_of attraction.now.level < W.LIMIT }
         requires begin { attraction.now.begin ≤ length self.old.tables.trail }
         ensures fits { OnOk result (FitsGame (A.game arena.now) self.new.tables) }
         ensures winners { OnOk result (length self.new.winner.items ≡ vertex_count (A.game arena.now)) }
@@ -64,7 +67,8 @@ impl Board {
     /// Gives all that stand in the trail from a place on to the player.
     fn give(&mut self, player: Player, begin: usize)
         requires begin { begin ≤ length self.old.tables.trail }
-        requires winners { (j : ℕ) → j < length self.old.tables.trail → slice_index self.old.tables.trail j < length self.old.winner.items }
+        requires winners { (j : ℕ) → j < length self.old.tables.trail →
+            slice_index self.old.tables.trail j < length self.old.winner.items }
         ensures tables { self.new.tables ≡ self.old.tables }
         ensures winners { length self.new.winner.items ≡ length self.old.winner.items }
         ensures given { IsGiven player begin self.new.tables self.old.winner.items self.new.winner.items }
@@ -165,17 +169,20 @@ impl Board {
     ///
     /// Fails where a growth was refused.
     pub fn reopen(&mut self, frame: &Frame, level: Level) -> Result<(), AllocError>
-        requires vertices { (j : ℕ) → j < length self.old.tables.trail → slice_index self.old.tables.trail j < length self.old.tables.level }
+        requires vertices { (j : ℕ) → j < length self.old.tables.trail →
+            slice_index self.old.tables.trail j < length self.old.tables.level }
         requires winners { length self.old.winner.items ≡ length self.old.tables.level }
         requires turn { frame.now.turn ≤ length self.old.tables.trail }
         requires placed { mark_of level < mark_of Level.Unplaced }
+        requires room { length self.old.tables.level ≤ W.LIMIT }
+        requires fits_width { mark_of level < W.LIMIT }
         ensures winner { self.new.winner.items ≡ self.old.winner.items }
         ensures reopened { OnOk result (IsReopened self.old.winner.items frame.now.player (mark_of level) frame.now.turn
             (StandsFrom self.old.tables frame.now.turn) self.old.tables self.new.tables) }
     {
         self.take_off(frame.turn)?;
         for place in 0..self.spare.len() {
-            let vertex = self.spare[place];
+            let vertex = self.spare.at(place);
             if self.winner[vertex] == frame.player {
                 self.tables.set_level(vertex, Level::Unplaced.mark());
             } else {
@@ -187,14 +194,17 @@ impl Board {
 
     /// Takes off the trail what stands there from a place on.
     fn take_off(&mut self, turn: usize) -> Result<(), AllocError>
-        requires { turn ≤ length self.old.tables.trail }
+        requires turn { turn ≤ length self.old.tables.trail }
+        requires vertices { (j : ℕ) → j < length self.old.tables.trail →
+            slice_index self.old.tables.trail j < length self.old.tables.level }
+        requires room { length self.old.tables.level ≤ W.LIMIT }
         ensures winner { self.new.winner.items ≡ self.old.winner.items }
         ensures level { self.new.tables.level ≡ self.old.tables.level }
         ensures moves { self.new.tables.moves ≡ self.old.tables.moves }
         ensures trail { OnOk result (self.new.tables.trail ≡ take turn self.old.tables.trail) }
-        ensures spare { OnOk result (IsTakenOff turn self.old.tables.trail self.new.spare.items) }
+        ensures spare { OnOk result (IsTakenOff turn self.old.tables.trail self.new.spare) }
     {
-        self.spare.clear();
+        self.spare.truncate(0);
         for place in turn..self.tables.placed() {
             self.spare.push(self.tables.vertex_at(place))?;
         }

@@ -1,7 +1,9 @@
 //! The calls that wait, one in the other, and the steps down into a subgame and back up.
 
-ghost use Rattle.std.specs.Prelude.{◌≡◌, ◌≢◌, ◌+◌, ◌-◌, ◌*◌, ◌<◌, ◌≤◌, ℕ, Bool, true, false, [], ◌∷◌, ◌++◌, IfOk, OnOk, IsTrue, length, slice_index};
+ghost use Rattle.std.specs.Prelude.{◌≡◌, ◌≢◌, ◌+◌, ◌-◌, ◌*◌, ◌<◌, ◌≤◌, ℕ, Bool, true, false, [], ◌∷◌, ◌++◌, IfOk, OnOk};
+ghost use Rattle.std.specs.Prelude.{IsTrue, length, slice_index};
 ghost use Rattle.ps_game.specs.Games.{IsGame, vertex_count};
+ghost use Rattle.ps_attractor.specs.Room.{HasRoom};
 ghost use Rattle.ps_attractor.specs.Sources.{IsSourcesOf};
 ghost use Rattle.ps_attractor.specs.Tables.{FitsGame, level_of, moves_of};
 ghost use Rattle.ps_zielonka.specs.Depths.{IsDepth};
@@ -15,16 +17,16 @@ use crate::frame::Frame;
 use crate::level::Level;
 use crate::order::{falling_order, first_unplaced, place_tops};
 use ps_attractor::{Sources, Tables};
-use ps_game::{Arena, Player};
+use ps_game::{Arena, Numbers, Player, Width};
 use std::alloc::{AllocError, Global};
 
 /// The calls that wait, what is decided, and where the search for the next turn stands.
 #[derive(Drop)]
-pub struct Nest {
+pub struct Nest<W: Width> {
     /// What is decided of each vertex.
-    pub board: Board,
+    pub board: Board<W>,
     /// The vertices by falling priority.
-    pub order: Vec<usize>,
+    pub order: Numbers<W>,
     /// The calls that wait.
     pub frames: Vec<Frame>,
     /// How many vertices at the front of the order are closed for the present call.
@@ -35,13 +37,14 @@ pub struct Nest {
     pub depth: usize,
 }
 
-impl Nest {
+impl<W: Width> Nest<W> {
     /// No vertex is decided, and no call waits.
     ///
     /// # Errors
     ///
     /// Fails where a growth was refused.
-    pub fn new<A: Arena>(alloc: Global, arena: &A) -> Result<Nest, AllocError>
+    pub fn new<A: Arena>(alloc: Global, arena: &A) -> Result<Nest<W>, AllocError>
+        requires { HasRoom (A.game arena.now) W.LIMIT }
         ensures stack { IfOk result (IsStack (A.game arena.now)) }
         ensures deep { IfOk result (IsDeep (A.game arena.now)) }
     {
@@ -52,7 +55,7 @@ impl Nest {
         let board = Board {
             tables,
             winner,
-            spare: Vec::new(alloc),
+            spare: Numbers::with_capacity(alloc, 0)?,
         };
         Ok(Nest {
             board,
@@ -69,7 +72,8 @@ impl Nest {
     /// # Errors
     ///
     /// Fails where a growth was refused.
-    pub fn solve<A: Arena>(&mut self, arena: &A, sources: &Sources) -> Result<(), AllocError>
+    pub fn solve<A: Arena>(&mut self, arena: &A, sources: &Sources<W>) -> Result<(), AllocError>
+        requires room { HasRoom (A.game arena.now) W.LIMIT }
         requires sources { IsSourcesOf (A.game arena.now) sources.now }
         requires stack { IsStack (A.game arena.now) self.old }
         requires deep { IsDeep (A.game arena.now) self.old }
@@ -87,7 +91,8 @@ impl Nest {
     }
 
     /// Begins a turn where a vertex is left, and else has the answer.
-    fn descend<A: Arena>(&mut self, arena: &A, sources: &Sources) -> Result<(), AllocError>
+    fn descend<A: Arena>(&mut self, arena: &A, sources: &Sources<W>) -> Result<(), AllocError>
+        requires room { HasRoom (A.game arena.now) W.LIMIT }
         requires sources { IsSourcesOf (A.game arena.now) sources.now }
         requires stack { IsStack (A.game arena.now) self.old }
         requires searches { self.old.solved ≡ false }
@@ -109,22 +114,23 @@ impl Nest {
     fn begin_turn<A: Arena>(
         &mut self,
         arena: &A,
-        sources: &Sources,
+        sources: &Sources<W>,
         cursor: usize,
     ) -> Result<(), AllocError>
+        requires room { HasRoom (A.game arena.now) W.LIMIT }
         requires sources { IsSourcesOf (A.game arena.now) sources.now }
         requires stack { IsStack (A.game arena.now) self.old }
         requires searches { self.old.solved ≡ false }
-        requires within { cursor < length self.old.order.items }
-        requires unplaced { level_of self.old.board.tables (slice_index self.old.order.items cursor) ≡
+        requires within { cursor < length self.old.order }
+        requires unplaced { level_of self.old.board.tables (slice_index self.old.order cursor) ≡
             mark_of Level.Unplaced }
-        requires first { (j : ℕ) → j < cursor → level_of self.old.board.tables (slice_index self.old.order.items j) ≢
+        requires first { (j : ℕ) → j < cursor → level_of self.old.board.tables (slice_index self.old.order j) ≢
             mark_of Level.Unplaced }
         ensures stack { OnOk result (IsStack (A.game arena.now) self.new) }
         ensures falls { OnOk result (steps_of self.new < steps_of self.old) }
         ensures deep { OnOk result (IsDeep (A.game arena.now) self.old → IsDeep (A.game arena.now) self.new) }
     {
-        let player = Player::of_priority(arena.priority(self.order[cursor]));
+        let player = Player::of_priority(arena.priority(self.order.at(cursor)));
         let depth = self.frames.len();
         let turn = self.board.tables.placed();
         let attraction = Attraction {
@@ -153,7 +159,8 @@ impl Nest {
     }
 
     /// Goes back to the last call that waits: it has its answer, or goes on with what is left open.
-    fn climb<A: Arena>(&mut self, arena: &A, sources: &Sources) -> Result<(), AllocError>
+    fn climb<A: Arena>(&mut self, arena: &A, sources: &Sources<W>) -> Result<(), AllocError>
+        requires room { HasRoom (A.game arena.now) W.LIMIT }
         requires sources { IsSourcesOf (A.game arena.now) sources.now }
         requires stack { IsStack (A.game arena.now) self.old }
         requires done { self.old.solved ≡ true }
@@ -178,12 +185,13 @@ impl Nest {
     fn go_on<A: Arena>(
         &mut self,
         arena: &A,
-        sources: &Sources,
+        sources: &Sources<W>,
         frame: Frame,
         level: Level,
     ) -> Result<(), AllocError>
+        requires room { HasRoom (A.game arena.now) W.LIMIT }
         requires sources { IsSourcesOf (A.game arena.now) sources.now }
-        requires nest { IsNest (A.game arena.now) self.old.board.tables self.old.board.winner.items self.old.order.items
+        requires nest { IsNest (A.game arena.now) self.old.board.tables self.old.board.winner.items self.old.order
             (self.old.frames.items ++ frame ∷ []) self.old.cursor true }
         requires level { level ≡ Level.Decided (length self.old.frames.items) }
         requires lost { (v : ℕ) × StandsBetween self.old.board.tables frame.turn frame.top v ×

@@ -1,4 +1,5 @@
--- From the outcome of a problem by a certificate to that by the solver that gave it; from a solver's fault to that of synthesis.
+-- From the outcome of a problem by a certificate to that by the solver that gave it; from a solver's fault to that of
+-- synthesis.
 use Rattle.std.proofs.Common.{◌≡◌, ◌∙◌, ℕ, Bool, List, Result, Ok, Err, ap, subst, sym}
 use Rattle.std.specs.Result.{IsErrAnd}
 use Rattle.ps_certificate.specs.Certificates.{CertificateData}
@@ -11,16 +12,21 @@ use Rattle.ps_synthesis.specs.Promises.{MayAnswer}
 use Rattle.ps_synthesis.specs.Stages.{IsSolverFault}
 use Rattle.ps_synthesis.specs.SynthFaults.{IsOutcome, LacksMemory, IsSynthFault, OfGame}
 use Rattle.ps_synthesis.specs.declared.fault.SynthFault.{SynthFault}
-use Rattle.ps_synthesis.specs.declared.fault.SynthFault.TheVariants.{Text, Automaton, BadCycle, Certificate, NotCertified, CircuitTooLarge, OutOfMemory}
+use Rattle.ps_synthesis.specs.declared.fault.SynthFault.TheVariants.{Text, Automaton, BadCycle, Certificate}
+use Rattle.ps_synthesis.specs.declared.fault.SynthFault.TheVariants.{NotCertified, CircuitTooLarge, OutOfMemory}
 use Rattle.ps_synthesis.specs.declared.report.Report.{Report}
 use Rattle.ps_synthesis.proofs.Outcomes.{AnswersMore, outcome_more}
 
-module _ (May : MayAnswer) (game : NamedGameData) (certificate : CertificateData) (may : May game (Ok certificate)) where
-  too : AnswersMore (Gives game certificate) May
-  too asked answer given = subst (λ (g : NamedGameData). May g answer) (sym given.0) (subst (λ (r : Result CertificateData SolveFault). May game r) (sym given.1) may)
+module _ (May : MayAnswer) (game : NamedGameData) (certificate : CertificateData) (may : May game (Ok certificate))
+  where
+    too : AnswersMore (Gives game certificate) May
+    too asked answer given =
+        subst (λ (g : NamedGameData). May g answer) (sym given.0)
+        (subst (λ (r : Result CertificateData SolveFault). May game r) (sym given.1) may)
 
-  pub outcome_by : (order : Order) (text : List ℕ) (compact : Bool) (result : Result Report SynthFault) → IsOutcome (Gives game certificate) order compact text result → IsOutcome May order compact text result
-  outcome_by order text compact result is = outcome_more (Gives game certificate) May too order text compact result is
+    pub outcome_by : (order : Order) (text : List ℕ) (compact : Bool) (result : Result Report SynthFault) →
+        IsOutcome (Gives game certificate) order compact text result → IsOutcome May order compact text result
+    outcome_by order text compact result is = outcome_more (Gives game certificate) May too order text compact result is
 
 -- what is wrong with a solver's answer for the game of a text
 module _ (May : MayAnswer) (order : Order) (text : List ℕ) (p : ProblemData) (of : IsProblemOf order text p) where
@@ -42,7 +48,9 @@ module _ (May : MayAnswer) (order : Order) (text : List ℕ) (p : ProblemData) (
   fault_of (Automaton fault) h = absurd h
   fault_of CircuitTooLarge h = absurd h
 
-pub lacks_memory : (May : MayAnswer) (order : Order) (compact : Bool) (text : List ℕ) (answer : Result Report SynthFault) (fault : SynthFault)
-    → fault ≡ OutOfMemory → IsErrAnd answer (λ (told : SynthFault). told ≡ fault) → IsOutcome May order compact text answer
+pub lacks_memory : (May : MayAnswer) (order : Order) (compact : Bool) (text : List ℕ)
+    (answer : Result Report SynthFault) (fault : SynthFault)
+    → fault ≡ OutOfMemory → IsErrAnd answer (λ (told : SynthFault). told ≡ fault) →
+    IsOutcome May order compact text answer
 lacks_memory May order compact text (Ok report) fault e is = absurd is
 lacks_memory May order compact text (Err told) fault e is = LacksMemory (ap (λ (f : SynthFault). Err f) (is ∙ e))

@@ -28,15 +28,18 @@ pub fn certified(
     game: &NamedGame,
     solver: &mut Box<dyn Solver>,
 ) -> Result<Certificate, SynthFault>
-    ensures answered { IfOk result (λ certificate. Answered (may_answer solver.old (fed solver.old)) (gave solver.new) game.now (Ok certificate)) }
+    ensures answered { IfOk result (λ certificate. Answered (may_answer solver.old (fed solver.old)) (gave solver.new)
+        game.now (Ok certificate)) }
     ensures certified { IfOk result (IsCertified game.now) }
     ensures both_hold { IfOk result (BothHold game.now.game) }
     ensures none_wins_outside { IfOk result (NoneWinsOutside game.now.game) }
-    ensures refused { IfErr result (IsSolverFault (Answered (may_answer solver.old (fed solver.old)) (gave solver.new)) game.now) }
+    ensures refused { IfErr result (IsSolverFault (Answered (may_answer solver.old (fed solver.old)) (gave solver.new))
+        game.now) }
     ensures sure { is_sure solver.old ≡ true → IfErr result (λ fault. fault ≡ OutOfMemory) }
     ensures steady { is_sure solver.new ≡ is_sure solver.old }
     ensures kept { fed solver.new ≡ fed solver.old }
-    ensures same { (text : Option (List ℕ)) (game : NamedGameData) (answer : Result CertificateData SolveFault) → may_answer solver.new text game answer → may_answer solver.old text game answer }
+    ensures same { (text : Option (List ℕ)) (game : NamedGameData) (answer : Result CertificateData SolveFault) →
+        may_answer solver.new text game answer → may_answer solver.old text game answer }
 {
     let certificate = match asked(game, solver) {
         Ok(certificate) => certificate,
@@ -59,7 +62,8 @@ fn asked(game: &NamedGame, solver: &mut Box<dyn Solver>) -> Result<Certificate, 
     ensures cycle { NamesVertices game.now result }
     ensures steady { is_sure solver.new ≡ is_sure solver.old }
     ensures kept { fed solver.new ≡ fed solver.old }
-    ensures same { (text : Option (List ℕ)) (game : NamedGameData) (answer : Result CertificateData SolveFault) → may_answer solver.new text game answer → may_answer solver.old text game answer }
+    ensures same { (text : Option (List ℕ)) (game : NamedGameData) (answer : Result CertificateData SolveFault) →
+        may_answer solver.new text game answer → may_answer solver.old text game answer }
 {
     solver.solve(game)
 }

@@ -51,7 +51,8 @@ fn answered(rt: &HostRuntime) -> Result<u8, AllocError> {
 fn answered_by(rt: &HostRuntime, built_in: Box<dyn Solver>, replay: Box<dyn Solver>) -> u8
     requires sure { is_sure built_in ≡ true }
     requires unfed { fed replay ≡ Some [] }
-    requires replays { (text : Option (List ℕ)) (game : NamedGameData) (answer : Result CertificateData SolveFault) → may_answer replay text game answer → Replays game text answer }
+    requires replays { (text : Option (List ℕ)) (game : NamedGameData) (answer : Result CertificateData SolveFault) →
+        may_answer replay text game answer → Replays game text answer }
 {
     let mut reader = Watched::new(rt.stdin());
     let mut writer = Watched::new(rt.stdout());

@@ -34,7 +34,8 @@ pub fn run<R: Source, W: Sink>(
     ensures answered { (reply : Reply)
         × Replies (solvers_of
         (solver_of (is_sure built_in) (fed built_in) (may_answer built_in))
-        (solver_of (is_sure replay) (fed replay) (may_answer replay))) (R.remaining reader.old) (R.has_failed reader.new) reply
+        (solver_of (is_sure replay) (fed replay) (may_answer replay))) (R.remaining reader.old)
+        (R.has_failed reader.new) reply
         × Writes (sink_state W.contents W.has_failed W.has_stalled W.is_flushed writer.old)
         (sink_state W.contents W.has_failed W.has_stalled W.is_flushed writer.new)
         reply result }

@@ -30,14 +30,18 @@ pub fn synthesise(
     solver: &mut Box<dyn Solver>,
 ) -> Result<Report, SynthFault>
     // The report is right, whatever solver is handed in; each fault has its cause. Both are of what the solver gave.
-    ensures report { IfOk result (IsReport (Answered (may_answer solver.old (fed solver.old)) (gave solver.new)) order compact text.now) }
-    ensures refused { IfErr result (IsSynthFault (Answered (may_answer solver.old (fed solver.old)) (gave solver.new)) order text.now) }
+    ensures report { IfOk result (IsReport (Answered (may_answer solver.old (fed solver.old)) (gave solver.new)) order
+        compact text.now) }
+    ensures refused { IfErr result (IsSynthFault (Answered (may_answer solver.old (fed solver.old)) (gave solver.new))
+        order text.now) }
     // With a sure solver, a text that is accepted gets a report; or memory ran out, or the circuit is too large.
-    ensures sure { is_sure solver.old ≡ true → (file : FileData) → IsAcceptedText text.now file → IsOutcome (Answered (may_answer solver.old (fed solver.old)) (gave solver.new)) order compact text.now result }
+    ensures sure { is_sure solver.old ≡ true → (file : FileData) → IsAcceptedText text.now file →
+        IsOutcome (Answered (may_answer solver.old (fed solver.old)) (gave solver.new)) order compact text.now result }
     // The solver stays as it was.
     ensures steady { is_sure solver.new ≡ is_sure solver.old }
     ensures kept { fed solver.new ≡ fed solver.old }
-    ensures same { (text : Option (List ℕ)) (game : NamedGameData) (answer : Result CertificateData SolveFault) → may_answer solver.new text game answer → may_answer solver.old text game answer }
+    ensures same { (text : Option (List ℕ)) (game : NamedGameData) (answer : Result CertificateData SolveFault) →
+        may_answer solver.new text game answer → may_answer solver.old text game answer }
 {
     let problem = Problem::read(alloc, text, order)?;
     let certificate = certified(alloc, problem.game(), solver)?;

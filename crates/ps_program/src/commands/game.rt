@@ -44,7 +44,8 @@ pub fn read_game_of(alloc: Global, order: Order, text: &[u8]) -> Result<NamedGam
 
 /// The game of an automaton.
 fn make_game(alloc: Global, order: Order, automaton: &Automaton) -> Result<NamedGame, Refusal>
-    ensures game { (file : FileData) (chain : Chain) → IsBuiltFrom file chain automaton.now → Gives (λ game. game) (MakesGame order file) result }
+    ensures game { (file : FileData) (chain : Chain) → IsBuiltFrom file chain automaton.now →
+        Gives (λ game. game) (MakesGame order file) result }
     ensures some { IfOk result (λ game. 0 < vertex_count game.game) }
 {
     Ok(game_of(alloc, automaton, order)?)

@@ -40,7 +40,8 @@ fn run_circuit(
     aag: &[u8],
     letters: &[u8],
 ) -> Result<Answer, Refusal>
-    ensures { (file : FileData) (chain : Chain) → IsBuiltFrom file chain automaton.now → Gives reply_of (RunsCircuit role file aag.now letters.now) result }
+    ensures { (file : FileData) (chain : Chain) → IsBuiltFrom file chain automaton.now →
+        Gives reply_of (RunsCircuit role file aag.now letters.now) result }
 {
     let circuit = read_circuit(alloc, aag)?;
     let width = circuit.inputs().len();
@@ -59,7 +60,8 @@ fn tell(
     requires circuit { IsCircuit circuit.now }
     requires stem { All (λ letter. length letter ≡ length circuit.now.inputs) stimulus.now.stem }
     requires lap { All (λ letter. length letter ≡ length circuit.now.inputs) stimulus.now.lap }
-    ensures { (file : FileData) (chain : Chain) → IsBuiltFrom file chain automaton.now → Gives reply_of (TellsVerdict role file circuit.now stimulus.now) result }
+    ensures { (file : FileData) (chain : Chain) → IsBuiltFrom file chain automaton.now →
+        Gives reply_of (TellsVerdict role file circuit.now stimulus.now) result }
 {
     match ps_simulate::lasso(
         alloc,

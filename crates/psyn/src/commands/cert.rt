@@ -22,7 +22,8 @@ pub fn cert(
     solver: &mut Box<dyn Solver>,
     compact: bool,
 ) -> Result<Answer, Refusal>
-    ensures { Gives reply_of (AnswersCert (solver_of (is_sure solver.old) (fed solver.old) (may_answer solver.old)) order compact text.now) result }
+    ensures { Gives reply_of (AnswersCert (solver_of (is_sure solver.old) (fed solver.old) (may_answer solver.old))
+        order compact text.now) result }
 {
     let game = read_game_of(alloc, order, text)?;
     certify(alloc, &game, solver, compact)

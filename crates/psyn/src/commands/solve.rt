@@ -23,7 +23,8 @@ pub fn solve(
     solver: &mut Box<dyn Solver>,
     compact: bool,
 ) -> Result<Answer, Refusal>
-    ensures { Gives reply_of (AnswersSolve (solver_of (is_sure solver.old) (fed solver.old) (may_answer solver.old)) compact text.now) result }
+    ensures { Gives reply_of (AnswersSolve (solver_of (is_sure solver.old) (fed solver.old) (may_answer solver.old))
+        compact text.now) result }
 {
     let game = read_game(alloc, text)?;
     certify(alloc, &game, solver, compact)
@@ -41,7 +42,8 @@ pub fn certify(
     solver: &mut Box<dyn Solver>,
     compact: bool,
 ) -> Result<Answer, Refusal>
-    ensures { Gives reply_of (AnswersGame (solver_of (is_sure solver.old) (fed solver.old) (may_answer solver.old)) compact game.now) result }
+    ensures { Gives reply_of (AnswersGame (solver_of (is_sure solver.old) (fed solver.old) (may_answer solver.old))
+        compact game.now) result }
 {
     let certificate = certified(alloc, game, solver)?;
     Ok(Answer::text(certificate_text(alloc, &certificate, game, compact)?))

@@ -44,7 +44,8 @@ fn report_by_certificate(
     texts: &[u8],
     solver: &mut Box<dyn Solver>,
 ) -> Result<Answer, Refusal>
-    ensures { Gives reply_of (AnswersCertified (solver_of (is_sure solver.old) (fed solver.old) (may_answer solver.old)) asked texts.now) result }
+    ensures { Gives reply_of (AnswersCertified (solver_of (is_sure solver.old) (fed solver.old) (may_answer solver.old))
+        asked texts.now) result }
 {
     let (text, certificate) = two_texts(texts)?;
     feed(solver, certificate)?;
@@ -55,7 +56,8 @@ fn report_by_certificate(
 fn feed(solver: &mut Box<dyn Solver>, text: &[u8]) -> Result<(), AllocError>
     ensures steady { is_sure solver.new ≡ is_sure solver.old }
     ensures fed { IfOk result (λ _. fed solver.new ≡ fed_with text.now (fed solver.old)) }
-    ensures same { (text : Option (List ℕ)) (game : NamedGameData) (answer : Result CertificateData SolveFault) → may_answer solver.new text game answer → may_answer solver.old text game answer }
+    ensures same { (text : Option (List ℕ)) (game : NamedGameData) (answer : Result CertificateData SolveFault) →
+        may_answer solver.new text game answer → may_answer solver.old text game answer }
 {
     solver.feed(text)
 }
@@ -67,7 +69,8 @@ fn report(
     text: &[u8],
     solver: &mut Box<dyn Solver>,
 ) -> Result<Answer, Refusal>
-    ensures { Gives reply_of (AnswersReport (solver_of (is_sure solver.old) (fed solver.old) (may_answer solver.old)) asked text.now) result }
+    ensures { Gives reply_of (AnswersReport (solver_of (is_sure solver.old) (fed solver.old) (may_answer solver.old))
+        asked text.now) result }
 {
     let report = synthesise(alloc, text, asked.order, asked.compact, solver)?;
     Ok(print(alloc, &report, asked.full)?)

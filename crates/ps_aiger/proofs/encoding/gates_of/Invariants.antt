@@ -5,5 +5,6 @@ use Rattle.ps_aiger.proofs.encoding.gates_of.Given as goal
 abbrev pub invariant-loop-place : goal.invariant-loop-place
 invariant-loop-place l = record {
   many : length l.gates.items ≡ l.place;
-  each : (k : ℕ) (s : Sides) → k < l.place → slice_get l.fn.builder.gates k ≡ Some s → slice_get l.gates.items k ≡ Some (record { literal = 2 * (l.first + k); first = s.first; second = s.second });
+  each : (k : ℕ) (s : Sides) → k < l.place → slice_get l.fn.builder.gates k ≡ Some s →
+      slice_get l.gates.items k ≡ Some (record { literal = 2 * (l.first + k); first = s.first; second = s.second });
 }

@@ -9,6 +9,8 @@ abbrev pub invariant-loop-bit : goal.invariant-loop-bit
 invariant-loop-bit l = record {
   extends : Extends l.fn.builder l.builder;
   many : length l.literals.items ≡ l.bit-index;
-  each : (k : ℕ) (w : Wanted) → k < l.bit-index → slice_get l.wanted k ≡ Some w → IsLiteralAt l.machine w l.builder l.latches 0 (get_or l.literals.items k 0);
-  made : bits_wired l.machine l.latches l.wanted l.fn.builder ≡ behind l.literals.items (bits_wired l.machine l.latches (drop l.bit-index l.wanted) l.builder);
+  each : (k : ℕ) (w : Wanted) → k < l.bit-index → slice_get l.wanted k ≡ Some w →
+      IsLiteralAt l.machine w l.builder l.latches 0 (get_or l.literals.items k 0);
+  made : bits_wired l.machine l.latches l.wanted l.fn.builder ≡ behind l.literals.items
+      (bits_wired l.machine l.latches (drop l.bit-index l.wanted) l.builder);
 }

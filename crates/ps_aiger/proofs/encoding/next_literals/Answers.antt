@@ -13,32 +13,48 @@ use Rattle.ps_aiger.proofs.encoding.next_literals.Goals as goal
 pub literals_of-requires-clause-within : goal.literals_of-requires-clause-within
 literals_of-requires-clause-within c =
     subst (λ (xs : List Wanted). All (λ bit. wanted_place bit < 64) xs) (sym c.deref.ensures.value)
-    (next_bits_within c.args.latches c.in_ok-next_bits.next_bits.items c.requires.few c.in_ok-next_bits.ensures.many c.in_ok-next_bits.ensures.each)
+    (next_bits_within c.args.latches c.in_ok-next_bits.next_bits.items c.requires.few c.in_ok-next_bits.ensures.many
+    c.in_ok-next_bits.ensures.each)
 
 pub returns-clause-many : goal.returns-clause-many
 returns-clause-many c =
-    let P : Vec ℕ Global → Type 0 = λ literals. AreLiterals c.args.machine.now c.literals_of.new.builder c.args.latches c.deref.result.now literals.items in
-    IfOk-weaker c.literals_of.result P _ (λ literals l. l.many ∙ ap length c.deref.ensures.value ∙ c.in_ok-next_bits.ensures.many) c.literals_of.ensures.literals
+    let P : Vec ℕ Global → Type 0 =
+    λ literals. AreLiterals c.args.machine.now c.literals_of.new.builder c.args.latches c.deref.result.now
+    literals.items in
+    IfOk-weaker c.literals_of.result P _ (λ literals l. l.many ∙ ap length c.deref.ensures.value
+    ∙ c.in_ok-next_bits.ensures.many) c.literals_of.ensures.literals
 
 pub returns-clause-each : goal.returns-clause-each
 returns-clause-each c =
-    let P : Vec ℕ Global → Type 0 = λ literals. AreLiterals c.args.machine.now c.literals_of.new.builder c.args.latches c.deref.result.now literals.items in
+    let P : Vec ℕ Global → Type 0 =
+    λ literals. AreLiterals c.args.machine.now c.literals_of.new.builder c.args.latches c.deref.result.now
+    literals.items in
     IfOk-weaker c.literals_of.result P _
-    (λ literals l. next_of_bits c.args.machine.now c.literals_of.new.builder c.args.latches c.in_ok-next_bits.next_bits.items c.deref.result.now literals.items literals.items c.deref.ensures.value refl c.in_ok-next_bits.ensures.each l) c.literals_of.ensures.literals
+    (λ literals l. next_of_bits c.args.machine.now c.literals_of.new.builder c.args.latches
+    c.in_ok-next_bits.next_bits.items c.deref.result.now literals.items literals.items c.deref.ensures.value refl
+    c.in_ok-next_bits.ensures.each l) c.literals_of.ensures.literals
 
 pub returns-clause-made : goal.returns-clause-made
 returns-clause-made c =
     let m = c.args.machine.now in
     let latches = c.args.latches in
-    let first = first_wired m latches c.in_ok-next_bits.next_bits.items c.deref.result.now c.args.builder.now c.deref.ensures.value
-    (bits_are latches c.in_ok-next_bits.next_bits.items c.in_ok-next_bits.ensures.many c.in_ok-next_bits.ensures.each) c.requires.given c.requires.empty in
-    let P : Vec ℕ Global → Type 0 = λ literals. bits_wired m latches c.deref.result.now c.args.builder.now ≡ record { draft = c.literals_of.new.builder; literals = literals.items } in
+    let first =
+    first_wired m latches c.in_ok-next_bits.next_bits.items c.deref.result.now c.args.builder.now
+    c.deref.ensures.value
+    (bits_are latches c.in_ok-next_bits.next_bits.items c.in_ok-next_bits.ensures.many c.in_ok-next_bits.ensures.each)
+    c.requires.given c.requires.empty in
+    let P : Vec ℕ Global → Type 0 =
+    λ literals. bits_wired m latches c.deref.result.now c.args.builder.now ≡ record
+    { draft = c.literals_of.new.builder; literals = literals.items } in
     IfOk-weaker c.literals_of.result P _ (λ literals made. sym first ∙ made) c.literals_of.ensures.made
 
 pub returns-clause-too_large : goal.returns-clause-too_large
 returns-clause-too_large c e =
     let m = c.args.machine.now in
     let latches = c.args.latches in
-    let first = first_wired m latches c.in_ok-next_bits.next_bits.items c.deref.result.now c.args.builder.now c.deref.ensures.value
-    (bits_are latches c.in_ok-next_bits.next_bits.items c.in_ok-next_bits.ensures.many c.in_ok-next_bits.ensures.each) c.requires.given c.requires.empty in
+    let first =
+    first_wired m latches c.in_ok-next_bits.next_bits.items c.deref.result.now c.args.builder.now
+    c.deref.ensures.value
+    (bits_are latches c.in_ok-next_bits.next_bits.items c.in_ok-next_bits.ensures.many c.in_ok-next_bits.ensures.each)
+    c.requires.given c.requires.empty in
     subst (λ (n : Wired). 2147483647 < variables_of n.draft) first (c.literals_of.ensures.too_large e)

@@ -13,7 +13,8 @@ use Rattle.ps_aiger.proofs.encoding.output_literals.Goals as goal
 pub literals_of-requires-clause-within : goal.literals_of-requires-clause-within
 literals_of-requires-clause-within c =
     subst (λ (xs : List Wanted). All (λ bit. wanted_place bit < 64) xs) (sym c.deref.ensures.value)
-    (output_bits_within c.args.machine.now c.requires.machine c.in_ok-output_bits.output_bits.items c.in_ok-output_bits.ensures)
+    (output_bits_within c.args.machine.now c.requires.machine c.in_ok-output_bits.output_bits.items
+    c.in_ok-output_bits.ensures)
 
 pub literals_of-requires-clause-small : goal.literals_of-requires-clause-small
 literals_of-requires-clause-small c = few_inputs c.args.machine.now c.requires.machine
@@ -21,21 +22,29 @@ literals_of-requires-clause-small c = few_inputs c.args.machine.now c.requires.m
 pub returns-clause-literals : goal.returns-clause-literals
 returns-clause-literals c =
     let m = c.args.machine.now in
-    let P : Vec ℕ Global → Type 0 = λ literals. AreLiterals m c.literals_of.new.builder c.args.latches c.deref.result.now literals.items in
+    let P : Vec ℕ Global → Type 0 =
+    λ literals. AreLiterals m c.literals_of.new.builder c.args.latches c.deref.result.now literals.items in
     IfOk-weaker c.literals_of.result P _
-    (λ literals l. subst (λ (xs : List Wanted). AreLiterals m c.literals_of.new.builder c.args.latches xs literals.items) (c.deref.ensures.value ∙ c.in_ok-output_bits.ensures) l) c.literals_of.ensures.literals
+    (λ literals l. subst (λ (xs : List Wanted). AreLiterals m c.literals_of.new.builder c.args.latches xs
+    literals.items) (c.deref.ensures.value ∙ c.in_ok-output_bits.ensures) l) c.literals_of.ensures.literals
 
 pub returns-clause-made : goal.returns-clause-made
 returns-clause-made c =
     let m = c.args.machine.now in
     let latches = c.args.latches in
-    let whole = all_wired m latches c.deref.result.now c.args.builder.now c.requires.behind (c.deref.ensures.value ∙ c.in_ok-output_bits.ensures) in
-    let P : Vec ℕ Global → Type 0 = λ literals. bits_wired m latches c.deref.result.now c.args.builder.now ≡ record { draft = c.literals_of.new.builder; literals = literals.items } in
+    let whole =
+    all_wired m latches c.deref.result.now c.args.builder.now c.requires.behind
+    (c.deref.ensures.value ∙ c.in_ok-output_bits.ensures) in
+    let P : Vec ℕ Global → Type 0 =
+    λ literals. bits_wired m latches c.deref.result.now c.args.builder.now ≡ record
+    { draft = c.literals_of.new.builder; literals = literals.items } in
     IfOk-weaker c.literals_of.result P _ (λ literals made. whole ∙ made) c.literals_of.ensures.made
 
 pub returns-clause-too_large : goal.returns-clause-too_large
 returns-clause-too_large c e =
     let m = c.args.machine.now in
     let latches = c.args.latches in
-    let whole = all_wired m latches c.deref.result.now c.args.builder.now c.requires.behind (c.deref.ensures.value ∙ c.in_ok-output_bits.ensures) in
+    let whole =
+    all_wired m latches c.deref.result.now c.args.builder.now c.requires.behind
+    (c.deref.ensures.value ∙ c.in_ok-output_bits.ensures) in
     subst (λ (n : Wired). 2147483647 < variables_of n.draft) (sym whole) (c.literals_of.ensures.too_large e)

@@ -5,12 +5,14 @@ use Rattle.ps_aiger.proofs.encoding.parts_of.Goals as goal
 pub symbols-requires : goal.symbols-requires
 symbols-requires c =
     let m = c.args.machine.now in
-    subst (λ (xs : List ℕ). All (λ p. p < length m.names) xs) (sym c.inputs-inputs.ensures.inputs) (inputs_within m c.inputs-inputs.ensures.machine.is_machine)
+    subst (λ (xs : List ℕ). All (λ p. p < length m.names) xs) (sym c.inputs-inputs.ensures.inputs)
+    (inputs_within m c.inputs-inputs.ensures.machine.is_machine)
 
 pub symbols-requires-2 : goal.symbols-requires-2
 symbols-requires-2 c =
     let m = c.args.machine.now in
-    subst (λ (xs : List ℕ). All (λ p. p < length m.names) xs) (sym c.outputs.ensures.outputs) (outputs_within m c.outputs.ensures.machine.is_machine)
+    subst (λ (xs : List ℕ). All (λ p. p < length m.names) xs) (sym c.outputs.ensures.outputs)
+    (outputs_within m c.outputs.ensures.machine.is_machine)
 
 pub returns-clause-machine : goal.returns-clause-machine
 returns-clause-machine c = c.inputs-inputs.ensures.machine.is_machine

@@ -4,4 +4,5 @@ use Rattle.ps_aiger.specs.Encoded.{symbols_of}
 use Rattle.ps_aiger.proofs.encoding.symbols.Given as goal
 
 abbrev pub invariant-loop-proposition : goal.invariant-loop-proposition
-invariant-loop-proposition l = map name_bytes l.names.items ≡ symbols_of l.machine.names (take l.proposition-index l.propositions)
+invariant-loop-proposition l =
+    map name_bytes l.names.items ≡ symbols_of l.machine.names (take l.proposition-index l.propositions)

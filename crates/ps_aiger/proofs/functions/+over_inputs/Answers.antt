@@ -1,4 +1,5 @@
-use Rattle.std.proofs.Common.{◌≡◌, ◌∙◌, ℕ, ◌+◌, ◌*◌, Err, None, false, ◌<◌, ◌≤◌, List, Some, slice_get, ap, sym, subst, arith, length, nat_eq}
+use Rattle.std.proofs.Common.{◌≡◌, ◌∙◌, ℕ, ◌+◌, ◌*◌, Err, None, false, ◌<◌, ◌≤◌, List, Some, slice_get, ap, sym, subst}
+use Rattle.std.proofs.Common.{arith, length, nat_eq}
 use Rattle.std.specs.Map.{lookup}
 use Rattle.std.proofs.lemmas.Result.{IfOk-weaker}
 use Rattle.ps_hoa.specs.Files.{is_among}
@@ -9,124 +10,200 @@ use Rattle.ps_circuit.specs.Building.{variables_of}
 use Rattle.ps_circuit.specs.Gates.{Made}
 use Rattle.ps_aiger.specs.Functions.{node_made}
 use Rattle.ps_circuit.proofs.GateLemmas.{extends-trans, passed}
-use Rattle.ps_aiger.proofs.FunctionLemmas.{literal-kept, literal-test, knows-kept, knows-more, knows-same, place_small, held_place}
+use Rattle.ps_aiger.proofs.FunctionLemmas.{literal-kept, literal-test, knows-kept, knows-more, knows-same, place_small}
+use Rattle.ps_aiger.proofs.FunctionLemmas.{held_place}
 use Rattle.ps_aiger.proofs.OverLemmas.{inputs-extends, made-nothing, made-leaf, made-low, made-test}
 use Rattle.ps_aiger.proofs.WiredLemmas.{choice-made, choice-above, choice-above_low, made-kept, made-more}
 use Rattle.ps_aiger.proofs.functions.+over_inputs.Goals as goal
 
 pub returns-in-Some-get-clause-literal : goal.returns-in-Some-get-clause-literal
-returns-in-Some-get-clause-literal t c = c.requires.known c.args.node c.in-Some-get.literal.now (sym c.in-Some-get.ensures.value)
+returns-in-Some-get-clause-literal t c =
+    c.requires.known c.args.node c.in-Some-get.literal.now (sym c.in-Some-get.ensures.value)
 
 pub overflow_cast-place : goal.overflow_cast-place
-overflow_cast-place t c = let lt : c.in-Some.place < length c.args.machine.now.inputs = place_small c.args.machine.now.inputs c.inputs.result.now c.in-Some.place c.in-Test.proposition c.inputs.ensures.inputs c.in-Some.ensures.found in let few = c.requires.small in omega arith
+overflow_cast-place t c = let lt : c.in-Some.place < length c.args.machine.now.inputs =
+    place_small c.args.machine.now.inputs c.inputs.result.now c.in-Some.place c.in-Test.proposition
+    c.inputs.ensures.inputs c.in-Some.ensures.found in let few = c.requires.small in omega arith
 
 pub overflow_add-place : goal.overflow_add-place
-overflow_add-place t c = let lt : c.in-Some.place < length c.args.machine.now.inputs = place_small c.args.machine.now.inputs c.inputs.result.now c.in-Some.place c.in-Test.proposition c.inputs.ensures.inputs c.in-Some.ensures.found in let few = c.requires.small in omega arith
+overflow_add-place t c = let lt : c.in-Some.place < length c.args.machine.now.inputs =
+    place_small c.args.machine.now.inputs c.inputs.result.now c.in-Some.place c.in-Test.proposition
+    c.inputs.ensures.inputs c.in-Some.ensures.found in let few = c.requires.small in omega arith
 
 pub positive-input-requires : goal.positive-input-requires
-positive-input-requires t c = let lt : c.in-Some.place < length c.args.machine.now.inputs = place_small c.args.machine.now.inputs c.inputs.result.now c.in-Some.place c.in-Test.proposition c.inputs.ensures.inputs c.in-Some.ensures.found in let few = c.requires.small in omega arith
+positive-input-requires t c = let lt : c.in-Some.place < length c.args.machine.now.inputs =
+    place_small c.args.machine.now.inputs c.inputs.result.now c.in-Some.place c.in-Test.proposition
+    c.inputs.ensures.inputs c.in-Some.ensures.found in let few = c.requires.small in omega arith
 
 pub mux-requires-clause-chooses : goal.mux-requires-clause-chooses
 mux-requires-clause-chooses t c =
     let given = c.over_inputs-in-Test-2.ensures.extends.given ∙ c.over_inputs-in-Test.ensures.extends.given in
-    rw c.positive-input.ensures (held_place c.over_inputs-in-Test-2.new.builder (length c.args.machine.now.inputs) c.in-Some.place
-    (place_small c.args.machine.now.inputs c.inputs.result.now c.in-Some.place c.in-Test.proposition c.inputs.ensures.inputs c.in-Some.ensures.found)
+    rw c.positive-input.ensures (held_place c.over_inputs-in-Test-2.new.builder (length c.args.machine.now.inputs)
+    c.in-Some.place
+    (place_small c.args.machine.now.inputs c.inputs.result.now c.in-Some.place c.in-Test.proposition
+    c.inputs.ensures.inputs c.in-Some.ensures.found)
     (subst (λ n. length c.args.machine.now.inputs ≤ n) (sym given) c.requires.given))
 
 pub returns-in_err-literal-in-Test-clause-known : goal.returns-in_err-literal-in-Test-clause-known
-returns-in_err-literal-in-Test-clause-known t c = knows-kept c.args.machine.now c.args.wanted c.over_inputs-in-Test-2.new.builder c.mux.new.self (get nat_eq c.over_inputs-in-Test-2.new.known) c.mux.ensures.extends c.over_inputs-in-Test-2.ensures.known
+returns-in_err-literal-in-Test-clause-known t c =
+    knows-kept c.args.machine.now c.args.wanted c.over_inputs-in-Test-2.new.builder c.mux.new.self
+    (get nat_eq c.over_inputs-in-Test-2.new.known) c.mux.ensures.extends c.over_inputs-in-Test-2.ensures.known
 
 pub returns-in_err-insert-in-Test-clause-known : goal.returns-in_err-insert-in-Test-clause-known
 returns-in_err-insert-in-Test-clause-known t c =
-    knows-same c.args.machine.now c.args.wanted c.mux.new.self (get nat_eq c.over_inputs-in-Test-2.new.known) (get nat_eq c.insert.new.self) (λ q. ap (λ es. lookup (nat_eq q) es) c.in_err-insert-in-Test.ensures.err)
-    (knows-kept c.args.machine.now c.args.wanted c.over_inputs-in-Test-2.new.builder c.mux.new.self (get nat_eq c.over_inputs-in-Test-2.new.known) c.mux.ensures.extends c.over_inputs-in-Test-2.ensures.known)
+    knows-same c.args.machine.now c.args.wanted c.mux.new.self (get nat_eq c.over_inputs-in-Test-2.new.known)
+    (get nat_eq c.insert.new.self) (λ q. ap (λ es. lookup (nat_eq q) es) c.in_err-insert-in-Test.ensures.err)
+    (knows-kept c.args.machine.now c.args.wanted c.over_inputs-in-Test-2.new.builder c.mux.new.self
+    (get nat_eq c.over_inputs-in-Test-2.new.known) c.mux.ensures.extends c.over_inputs-in-Test-2.ensures.known)
 
 pub returns-in_ok-insert-in-Test-clause-literal : goal.returns-in_ok-insert-in-Test-clause-literal
 returns-in_ok-insert-in-Test-clause-literal t c =
-    literal-test c.args.machine.now c.args.wanted c.mux.new.self c.args.node c.in-Test.proposition c.in-Test.low c.in-Test.high c.in-Some.place c.in_ok-where_true-in-Test.where_true c.in_ok-where_false-in-Test.where_false c.in_ok-literal-in-Test.literal
-    (subst (λ (s : Table). SeesTest s c.args.node c.in-Test.proposition c.in-Test.low c.in-Test.high) c.store.ensures.store c.in-Test.ensures)
-    (subst (λ (xs : List ℕ). slice_get xs c.in-Some.place ≡ Some c.in-Test.proposition) c.inputs.ensures.inputs c.in-Some.ensures.found)
-    (literal-kept c.args.machine.now c.args.wanted c.over_inputs-in-Test.new.builder c.mux.new.self c.in-Test.high c.in_ok-where_true-in-Test.where_true (extends-trans _ _ _ c.over_inputs-in-Test-2.ensures.extends c.mux.ensures.extends) c.in_ok-where_true-in-Test.ensures.literal)
-    (literal-kept c.args.machine.now c.args.wanted c.over_inputs-in-Test-2.new.builder c.mux.new.self c.in-Test.low c.in_ok-where_false-in-Test.where_false c.mux.ensures.extends c.in_ok-where_false-in-Test.ensures.literal)
+    literal-test c.args.machine.now c.args.wanted c.mux.new.self c.args.node c.in-Test.proposition c.in-Test.low
+    c.in-Test.high c.in-Some.place c.in_ok-where_true-in-Test.where_true c.in_ok-where_false-in-Test.where_false
+    c.in_ok-literal-in-Test.literal
+    (subst (λ (s : Table). SeesTest s c.args.node c.in-Test.proposition c.in-Test.low c.in-Test.high)
+    c.store.ensures.store c.in-Test.ensures)
+    (subst (λ (xs : List ℕ). slice_get xs c.in-Some.place ≡ Some c.in-Test.proposition) c.inputs.ensures.inputs
+    c.in-Some.ensures.found)
+    (literal-kept c.args.machine.now c.args.wanted c.over_inputs-in-Test.new.builder c.mux.new.self c.in-Test.high
+    c.in_ok-where_true-in-Test.where_true (extends-trans _ _ _ c.over_inputs-in-Test-2.ensures.extends
+    c.mux.ensures.extends) c.in_ok-where_true-in-Test.ensures.literal)
+    (literal-kept c.args.machine.now c.args.wanted c.over_inputs-in-Test-2.new.builder c.mux.new.self c.in-Test.low
+    c.in_ok-where_false-in-Test.where_false c.mux.ensures.extends c.in_ok-where_false-in-Test.ensures.literal)
     c.in_ok-literal-in-Test.ensures.held (rw c.positive-input.ensures at c.in_ok-literal-in-Test.ensures.bit)
 
 pub returns-in_ok-insert-in-Test-clause-known : goal.returns-in_ok-insert-in-Test-clause-known
 returns-in_ok-insert-in-Test-clause-known t c =
-    knows-more c.args.machine.now c.args.wanted c.mux.new.self (get nat_eq c.over_inputs-in-Test-2.new.known) (get nat_eq c.insert.new.self) c.args.node c.in_ok-literal-in-Test.literal c.in_ok-insert-in-Test.ensures.updates.0
-    (knows-kept c.args.machine.now c.args.wanted c.over_inputs-in-Test-2.new.builder c.mux.new.self (get nat_eq c.over_inputs-in-Test-2.new.known) c.mux.ensures.extends c.over_inputs-in-Test-2.ensures.known)
-    (literal-test c.args.machine.now c.args.wanted c.mux.new.self c.args.node c.in-Test.proposition c.in-Test.low c.in-Test.high c.in-Some.place c.in_ok-where_true-in-Test.where_true c.in_ok-where_false-in-Test.where_false c.in_ok-literal-in-Test.literal
-    (subst (λ (s : Table). SeesTest s c.args.node c.in-Test.proposition c.in-Test.low c.in-Test.high) c.store.ensures.store c.in-Test.ensures)
-    (subst (λ (xs : List ℕ). slice_get xs c.in-Some.place ≡ Some c.in-Test.proposition) c.inputs.ensures.inputs c.in-Some.ensures.found)
-    (literal-kept c.args.machine.now c.args.wanted c.over_inputs-in-Test.new.builder c.mux.new.self c.in-Test.high c.in_ok-where_true-in-Test.where_true (extends-trans _ _ _ c.over_inputs-in-Test-2.ensures.extends c.mux.ensures.extends) c.in_ok-where_true-in-Test.ensures.literal)
-    (literal-kept c.args.machine.now c.args.wanted c.over_inputs-in-Test-2.new.builder c.mux.new.self c.in-Test.low c.in_ok-where_false-in-Test.where_false c.mux.ensures.extends c.in_ok-where_false-in-Test.ensures.literal)
+    knows-more c.args.machine.now c.args.wanted c.mux.new.self (get nat_eq c.over_inputs-in-Test-2.new.known)
+    (get nat_eq c.insert.new.self) c.args.node c.in_ok-literal-in-Test.literal
+    c.in_ok-insert-in-Test.ensures.updates.0
+    (knows-kept c.args.machine.now c.args.wanted c.over_inputs-in-Test-2.new.builder c.mux.new.self
+    (get nat_eq c.over_inputs-in-Test-2.new.known) c.mux.ensures.extends c.over_inputs-in-Test-2.ensures.known)
+    (literal-test c.args.machine.now c.args.wanted c.mux.new.self c.args.node c.in-Test.proposition c.in-Test.low
+    c.in-Test.high c.in-Some.place c.in_ok-where_true-in-Test.where_true c.in_ok-where_false-in-Test.where_false
+    c.in_ok-literal-in-Test.literal
+    (subst (λ (s : Table). SeesTest s c.args.node c.in-Test.proposition c.in-Test.low c.in-Test.high)
+    c.store.ensures.store c.in-Test.ensures)
+    (subst (λ (xs : List ℕ). slice_get xs c.in-Some.place ≡ Some c.in-Test.proposition) c.inputs.ensures.inputs
+    c.in-Some.ensures.found)
+    (literal-kept c.args.machine.now c.args.wanted c.over_inputs-in-Test.new.builder c.mux.new.self c.in-Test.high
+    c.in_ok-where_true-in-Test.where_true (extends-trans _ _ _ c.over_inputs-in-Test-2.ensures.extends
+    c.mux.ensures.extends) c.in_ok-where_true-in-Test.ensures.literal)
+    (literal-kept c.args.machine.now c.args.wanted c.over_inputs-in-Test-2.new.builder c.mux.new.self c.in-Test.low
+    c.in_ok-where_false-in-Test.where_false c.mux.ensures.extends c.in_ok-where_false-in-Test.ensures.literal)
     c.in_ok-literal-in-Test.ensures.held (rw c.positive-input.ensures at c.in_ok-literal-in-Test.ensures.bit))
 
 pub returns-in-Nothing-clause-made : goal.returns-in-Nothing-clause-made
 returns-in-Nothing-clause-made t c =
-    made-nothing c.args.machine.now c.args.wanted c.args.node c.args.builder.now (subst (λ (s : Table). (letter : ℕ) → leaf_of s c.args.node letter ≡ None) c.store.ensures.store c.in-Nothing.ensures)
+    made-nothing c.args.machine.now c.args.wanted c.args.node c.args.builder.now
+    (subst (λ (s : Table). (letter : ℕ) → leaf_of s c.args.node letter ≡ None) c.store.ensures.store
+    c.in-Nothing.ensures)
 
 pub returns-in-Leaf-clause-made : goal.returns-in-Leaf-clause-made
 returns-in-Leaf-clause-made t c =
     made-leaf c.args.machine.now c.args.wanted c.args.node c.in-Leaf.leaf c.constant.result c.args.builder.now
-    (subst (λ (s : Table). (letter : ℕ) → leaf_of s c.args.node letter ≡ Some c.in-Leaf.leaf) c.store.ensures.store c.in-Leaf.ensures) c.constant.ensures
+    (subst (λ (s : Table). (letter : ℕ) → leaf_of s c.args.node letter ≡ Some c.in-Leaf.leaf) c.store.ensures.store
+    c.in-Leaf.ensures) c.constant.ensures
 
 pub returns-in_default-clause-made : goal.returns-in_default-clause-made
 returns-in_default-clause-made t c =
-    let sees = subst (λ (s : Table). SeesTest s c.args.node c.in-Test.proposition c.in-Test.low c.in-Test.high) c.store.ensures.store c.in-Test.ensures in
-    let none = subst (λ (xs : List ℕ). is_among c.in-Test.proposition xs ≡ false) c.inputs.ensures.inputs c.in_default.ensures.none in
-    IfOk-weaker c.over_inputs.result _ _ (λ literal is. made-low c.args.machine.now c.args.wanted c.args.node c.in-Test.proposition c.in-Test.low c.in-Test.high c.args.builder.now c.inputs.ensures.machine.is_machine sees none ∙ is) c.over_inputs.ensures.made
+    let sees =
+    subst (λ (s : Table). SeesTest s c.args.node c.in-Test.proposition c.in-Test.low c.in-Test.high)
+    c.store.ensures.store c.in-Test.ensures in
+    let none =
+    subst (λ (xs : List ℕ). is_among c.in-Test.proposition xs ≡ false) c.inputs.ensures.inputs
+    c.in_default.ensures.none in
+    IfOk-weaker c.over_inputs.result _ _ (λ literal is. made-low c.args.machine.now c.args.wanted c.args.node
+    c.in-Test.proposition c.in-Test.low c.in-Test.high c.args.builder.now c.inputs.ensures.machine.is_machine sees
+    none ∙ is) c.over_inputs.ensures.made
 
 pub returns-in_default-clause-too_large : goal.returns-in_default-clause-too_large
 returns-in_default-clause-too_large t c e =
-    let sees = subst (λ (s : Table). SeesTest s c.args.node c.in-Test.proposition c.in-Test.low c.in-Test.high) c.store.ensures.store c.in-Test.ensures in
-    let none = subst (λ (xs : List ℕ). is_among c.in-Test.proposition xs ≡ false) c.inputs.ensures.inputs c.in_default.ensures.none in
-    subst (λ (n : Made). 2147483647 < variables_of n.draft) (sym (made-low c.args.machine.now c.args.wanted c.args.node c.in-Test.proposition c.in-Test.low c.in-Test.high c.args.builder.now c.inputs.ensures.machine.is_machine sees none)) (c.over_inputs.ensures.too_large e)
+    let sees =
+    subst (λ (s : Table). SeesTest s c.args.node c.in-Test.proposition c.in-Test.low c.in-Test.high)
+    c.store.ensures.store c.in-Test.ensures in
+    let none =
+    subst (λ (xs : List ℕ). is_among c.in-Test.proposition xs ≡ false) c.inputs.ensures.inputs
+    c.in_default.ensures.none in
+    subst (λ (n : Made). 2147483647 < variables_of n.draft) (sym
+    (made-low c.args.machine.now c.args.wanted c.args.node c.in-Test.proposition c.in-Test.low c.in-Test.high
+    c.args.builder.now c.inputs.ensures.machine.is_machine sees none)) (c.over_inputs.ensures.too_large e)
 
 pub returns-in-Some-get-clause-made : goal.returns-in-Some-get-clause-made
-returns-in-Some-get-clause-made t c = c.requires.known_made c.args.node c.in-Some-get.literal.now (sym c.in-Some-get.ensures.value)
+returns-in-Some-get-clause-made t c =
+    c.requires.known_made c.args.node c.in-Some-get.literal.now (sym c.in-Some-get.ensures.value)
 
 pub returns-in_err-where_true-in-Test-clause-too_large : goal.returns-in_err-where_true-in-Test-clause-too_large
 returns-in_err-where_true-in-Test-clause-too_large t c e =
     let m = c.args.machine.now in
     let w = c.args.wanted in
     let s = 2 * (c.in-Some.place + 1) in
-    let whole = made-test m w c.args.node c.in-Test.proposition c.in-Test.low c.in-Test.high c.in-Some.place c.args.builder.now c.inputs.ensures.machine.is_machine
-    (subst (λ (t : Table). SeesTest t c.args.node c.in-Test.proposition c.in-Test.low c.in-Test.high) c.store.ensures.store c.in-Test.ensures)
-    (subst (λ (xs : List ℕ). slice_get xs c.in-Some.place ≡ Some c.in-Test.proposition) c.inputs.ensures.inputs c.in-Some.ensures.found) in
+    let whole =
+    made-test m w c.args.node c.in-Test.proposition c.in-Test.low c.in-Test.high c.in-Some.place c.args.builder.now
+    c.inputs.ensures.machine.is_machine
+    (subst (λ (t : Table). SeesTest t c.args.node c.in-Test.proposition c.in-Test.low c.in-Test.high)
+    c.store.ensures.store c.in-Test.ensures)
+    (subst (λ (xs : List ℕ). slice_get xs c.in-Some.place ≡ Some c.in-Test.proposition) c.inputs.ensures.inputs
+    c.in-Some.ensures.found) in
     choice-above _ _ (node_made m w c.in-Test.low) s whole (inputs-extends m w c.in-Test.low)
-    (c.over_inputs-in-Test.ensures.too_large (c.in_err-where_true-in-Test.was ∙ ap (λ f. Err f) (passed c.from_residual.result c.in_err-where_true-in-Test.field-0.0 _ c.from_residual.ensures.1 e)))
+    (c.over_inputs-in-Test.ensures.too_large (c.in_err-where_true-in-Test.was
+    ∙ ap (λ f. Err f) (passed c.from_residual.result c.in_err-where_true-in-Test.field-0.0 _
+    c.from_residual.ensures.1 e)))
 
 pub returns-in_err-where_false-in-Test-clause-too_large : goal.returns-in_err-where_false-in-Test-clause-too_large
 returns-in_err-where_false-in-Test-clause-too_large t c e =
     let m = c.args.machine.now in
     let w = c.args.wanted in
     let s = 2 * (c.in-Some.place + 1) in
-    let whole = made-test m w c.args.node c.in-Test.proposition c.in-Test.low c.in-Test.high c.in-Some.place c.args.builder.now c.inputs.ensures.machine.is_machine
-    (subst (λ (t : Table). SeesTest t c.args.node c.in-Test.proposition c.in-Test.low c.in-Test.high) c.store.ensures.store c.in-Test.ensures)
-    (subst (λ (xs : List ℕ). slice_get xs c.in-Some.place ≡ Some c.in-Test.proposition) c.inputs.ensures.inputs c.in-Some.ensures.found) in
-    choice-above_low _ _ (node_made m w c.in-Test.low) c.over_inputs-in-Test.new.builder s c.in_ok-where_true-in-Test.where_true whole c.in_ok-where_true-in-Test.ensures.made
-    (c.over_inputs-in-Test-2.ensures.too_large (c.in_err-where_false-in-Test.was ∙ ap (λ f. Err f) (passed c.from_residual-in_err-where_false-in-Test.result c.in_err-where_false-in-Test.field-0.0 _ c.from_residual-in_err-where_false-in-Test.ensures.1 e)))
+    let whole =
+    made-test m w c.args.node c.in-Test.proposition c.in-Test.low c.in-Test.high c.in-Some.place c.args.builder.now
+    c.inputs.ensures.machine.is_machine
+    (subst (λ (t : Table). SeesTest t c.args.node c.in-Test.proposition c.in-Test.low c.in-Test.high)
+    c.store.ensures.store c.in-Test.ensures)
+    (subst (λ (xs : List ℕ). slice_get xs c.in-Some.place ≡ Some c.in-Test.proposition) c.inputs.ensures.inputs
+    c.in-Some.ensures.found) in
+    choice-above_low _ _ (node_made m w c.in-Test.low) c.over_inputs-in-Test.new.builder s
+    c.in_ok-where_true-in-Test.where_true whole c.in_ok-where_true-in-Test.ensures.made
+    (c.over_inputs-in-Test-2.ensures.too_large (c.in_err-where_false-in-Test.was
+    ∙ ap (λ f. Err f) (passed c.from_residual-in_err-where_false-in-Test.result
+    c.in_err-where_false-in-Test.field-0.0 _ c.from_residual-in_err-where_false-in-Test.ensures.1 e)))
 
 pub returns-in_err-literal-in-Test-clause-too_large : goal.returns-in_err-literal-in-Test-clause-too_large
 returns-in_err-literal-in-Test-clause-too_large t c e =
     let m = c.args.machine.now in
     let w = c.args.wanted in
     let s = 2 * (c.in-Some.place + 1) in
-    let whole = made-test m w c.args.node c.in-Test.proposition c.in-Test.low c.in-Test.high c.in-Some.place c.args.builder.now c.inputs.ensures.machine.is_machine
-    (subst (λ (t : Table). SeesTest t c.args.node c.in-Test.proposition c.in-Test.low c.in-Test.high) c.store.ensures.store c.in-Test.ensures)
-    (subst (λ (xs : List ℕ). slice_get xs c.in-Some.place ≡ Some c.in-Test.proposition) c.inputs.ensures.inputs c.in-Some.ensures.found) in
-    subst (λ (n : Made). 2147483647 < variables_of n.draft) (sym (choice-made _ _ (node_made m w c.in-Test.low) c.over_inputs-in-Test.new.builder c.over_inputs-in-Test-2.new.builder s c.in_ok-where_true-in-Test.where_true c.in_ok-where_false-in-Test.where_false whole c.in_ok-where_true-in-Test.ensures.made c.in_ok-where_false-in-Test.ensures.made))
-    (rw c.positive-input.ensures at (c.mux.ensures.above (c.in_err-literal-in-Test.was ∙ ap (λ f. Err f) (passed c.from_residual-in_err-literal-in-Test.result c.in_err-literal-in-Test.field-0.0 _ c.from_residual-in_err-literal-in-Test.ensures.1 e))))
+    let whole =
+    made-test m w c.args.node c.in-Test.proposition c.in-Test.low c.in-Test.high c.in-Some.place c.args.builder.now
+    c.inputs.ensures.machine.is_machine
+    (subst (λ (t : Table). SeesTest t c.args.node c.in-Test.proposition c.in-Test.low c.in-Test.high)
+    c.store.ensures.store c.in-Test.ensures)
+    (subst (λ (xs : List ℕ). slice_get xs c.in-Some.place ≡ Some c.in-Test.proposition) c.inputs.ensures.inputs
+    c.in-Some.ensures.found) in
+    subst (λ (n : Made). 2147483647 < variables_of n.draft) (sym
+    (choice-made _ _ (node_made m w c.in-Test.low) c.over_inputs-in-Test.new.builder
+    c.over_inputs-in-Test-2.new.builder s c.in_ok-where_true-in-Test.where_true
+    c.in_ok-where_false-in-Test.where_false whole c.in_ok-where_true-in-Test.ensures.made
+    c.in_ok-where_false-in-Test.ensures.made))
+    (rw c.positive-input.ensures at (c.mux.ensures.above (c.in_err-literal-in-Test.was
+    ∙ ap (λ f. Err f) (passed c.from_residual-in_err-literal-in-Test.result c.in_err-literal-in-Test.field-0.0 _
+    c.from_residual-in_err-literal-in-Test.ensures.1 e))))
 
 pub returns-in_ok-insert-in-Test-clause-made : goal.returns-in_ok-insert-in-Test-clause-made
 returns-in_ok-insert-in-Test-clause-made t c =
     let m = c.args.machine.now in
     let w = c.args.wanted in
     let s = 2 * (c.in-Some.place + 1) in
-    let whole = made-test m w c.args.node c.in-Test.proposition c.in-Test.low c.in-Test.high c.in-Some.place c.args.builder.now c.inputs.ensures.machine.is_machine
-    (subst (λ (t : Table). SeesTest t c.args.node c.in-Test.proposition c.in-Test.low c.in-Test.high) c.store.ensures.store c.in-Test.ensures)
-    (subst (λ (xs : List ℕ). slice_get xs c.in-Some.place ≡ Some c.in-Test.proposition) c.inputs.ensures.inputs c.in-Some.ensures.found) in
-    choice-made _ _ (node_made m w c.in-Test.low) c.over_inputs-in-Test.new.builder c.over_inputs-in-Test-2.new.builder s c.in_ok-where_true-in-Test.where_true c.in_ok-where_false-in-Test.where_false whole c.in_ok-where_true-in-Test.ensures.made c.in_ok-where_false-in-Test.ensures.made
+    let whole =
+    made-test m w c.args.node c.in-Test.proposition c.in-Test.low c.in-Test.high c.in-Some.place c.args.builder.now
+    c.inputs.ensures.machine.is_machine
+    (subst (λ (t : Table). SeesTest t c.args.node c.in-Test.proposition c.in-Test.low c.in-Test.high)
+    c.store.ensures.store c.in-Test.ensures)
+    (subst (λ (xs : List ℕ). slice_get xs c.in-Some.place ≡ Some c.in-Test.proposition) c.inputs.ensures.inputs
+    c.in-Some.ensures.found) in
+    choice-made _ _ (node_made m w c.in-Test.low) c.over_inputs-in-Test.new.builder c.over_inputs-in-Test-2.new.builder
+    s c.in_ok-where_true-in-Test.where_true c.in_ok-where_false-in-Test.where_false whole
+    c.in_ok-where_true-in-Test.ensures.made c.in_ok-where_false-in-Test.ensures.made
     ∙ (rw c.positive-input.ensures at c.in_ok-literal-in-Test.ensures.made)
 
 pub returns-in_ok-insert-in-Test-clause-known_made : goal.returns-in_ok-insert-in-Test-clause-known_made
@@ -134,10 +211,19 @@ returns-in_ok-insert-in-Test-clause-known_made t c =
     let m = c.args.machine.now in
     let w = c.args.wanted in
     let s = 2 * (c.in-Some.place + 1) in
-    let whole = made-test m w c.args.node c.in-Test.proposition c.in-Test.low c.in-Test.high c.in-Some.place c.args.builder.now c.inputs.ensures.machine.is_machine
-    (subst (λ (t : Table). SeesTest t c.args.node c.in-Test.proposition c.in-Test.low c.in-Test.high) c.store.ensures.store c.in-Test.ensures)
-    (subst (λ (xs : List ℕ). slice_get xs c.in-Some.place ≡ Some c.in-Test.proposition) c.inputs.ensures.inputs c.in-Some.ensures.found) in
-    made-more m w c.args.builder.now c.mux.new.self (get nat_eq c.over_inputs-in-Test-2.new.known) (get nat_eq c.insert.new.self) c.args.node c.in_ok-literal-in-Test.literal c.in_ok-insert-in-Test.ensures.updates.0
-    (made-kept m w c.over_inputs-in-Test-2.new.builder c.mux.new.self (get nat_eq c.over_inputs-in-Test-2.new.known) c.mux.ensures.extends c.in_ok-where_false-in-Test.ensures.known_made)
-    (choice-made _ _ (node_made m w c.in-Test.low) c.over_inputs-in-Test.new.builder c.over_inputs-in-Test-2.new.builder s c.in_ok-where_true-in-Test.where_true c.in_ok-where_false-in-Test.where_false whole c.in_ok-where_true-in-Test.ensures.made c.in_ok-where_false-in-Test.ensures.made
+    let whole =
+    made-test m w c.args.node c.in-Test.proposition c.in-Test.low c.in-Test.high c.in-Some.place c.args.builder.now
+    c.inputs.ensures.machine.is_machine
+    (subst (λ (t : Table). SeesTest t c.args.node c.in-Test.proposition c.in-Test.low c.in-Test.high)
+    c.store.ensures.store c.in-Test.ensures)
+    (subst (λ (xs : List ℕ). slice_get xs c.in-Some.place ≡ Some c.in-Test.proposition) c.inputs.ensures.inputs
+    c.in-Some.ensures.found) in
+    made-more m w c.args.builder.now c.mux.new.self (get nat_eq c.over_inputs-in-Test-2.new.known)
+    (get nat_eq c.insert.new.self) c.args.node c.in_ok-literal-in-Test.literal
+    c.in_ok-insert-in-Test.ensures.updates.0
+    (made-kept m w c.over_inputs-in-Test-2.new.builder c.mux.new.self (get nat_eq c.over_inputs-in-Test-2.new.known)
+    c.mux.ensures.extends c.in_ok-where_false-in-Test.ensures.known_made)
+    (choice-made _ _ (node_made m w c.in-Test.low) c.over_inputs-in-Test.new.builder c.over_inputs-in-Test-2.new.builder
+    s c.in_ok-where_true-in-Test.where_true c.in_ok-where_false-in-Test.where_false whole
+    c.in_ok-where_true-in-Test.ensures.made c.in_ok-where_false-in-Test.ensures.made
     ∙ (rw c.positive-input.ensures at c.in_ok-literal-in-Test.ensures.made))

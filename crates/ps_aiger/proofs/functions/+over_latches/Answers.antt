@@ -1,13 +1,16 @@
-use Rattle.std.proofs.Common.{◌≡◌, ◌∙◌, suc, ◌+◌, ◌-◌, ◌*◌, ◌%◌, ◌^◌, ◌<◌, Err, ap, subst, sym, refl, arith, length, nat_eq}
+use Rattle.std.proofs.Common.{◌≡◌, ◌∙◌, suc, ◌+◌, ◌-◌, ◌*◌, ◌%◌, ◌^◌, ◌<◌, Err, ap, subst, sym, refl, arith, length}
+use Rattle.std.proofs.Common.{nat_eq}
 use Rattle.std.proofs.lemmas.Result.{IfOk-weaker}
 use Rattle.indexmap.specs.IndexMap.{get}
 use Rattle.ps_circuit.specs.Building.{variables_of}
 use Rattle.ps_circuit.specs.Gates.{Made, mux_of}
-use Rattle.ps_aiger.specs.Functions.{code_wanted}
+use Rattle.ps_machine.specs.Machines.{behaviour}
+use Rattle.ps_aiger.specs.Functions.{bit_wanted, code_wanted}
 use Rattle.ps_circuit.proofs.GateLemmas.{extends-trans, passed}
 use Rattle.ps_aiger.proofs.FunctionLemmas.{at-kept, at-suc, knows-kept, ok_both, upper_fits, lower_fits, shl_is}
 use Rattle.ps_aiger.proofs.LetterLemmas.{positive}
-use Rattle.ps_aiger.proofs.WiredLemmas.{code-zero, code-suc, choice-made, choice-above, choice-above_low, code-extends, made-kept}
+use Rattle.ps_aiger.proofs.WiredLemmas.{code-zero, code-suc, choice-made, choice-above, choice-above_low, made-kept}
+use Rattle.ps_aiger.proofs.WireLemmas.{code-extends}
 use Rattle.ps_aiger.proofs.functions.+over_latches.Goals as goal
 
 pub overflow_add-code : goal.overflow_add-code
@@ -23,7 +26,16 @@ over_latches-requires t c =
     let given = c.requires.given in
     let least = c.decreases in (
       omega arith,
-      (c.requires.within, (omega arith, (upper_fits c.args.latches c.args.code some few c.requires.fits, (omega arith, (c.requires.small, (c.requires.known, c.requires.known_made)))))),
+      (
+        c.requires.within,
+        (
+          omega arith,
+          (
+            upper_fits c.args.latches c.args.code some few c.requires.fits,
+            (omega arith, (c.requires.small, (c.requires.known, c.requires.known_made))),
+          ),
+        ),
+      ),
     )
 
 pub over_latches-requires-2 : goal.over_latches-requires-2
@@ -34,11 +46,22 @@ over_latches-requires-2 t c =
     let same = c.over_latches.ensures.extends.given in
     let least = c.decreases in (
       omega arith,
-      (c.requires.within, (omega arith, (lower_fits c.args.latches c.args.code some c.requires.fits, (omega arith, (c.requires.small, (c.over_latches.ensures.known, c.in_ok-where_true.ensures.known_made)))))),
+      (
+        c.requires.within,
+        (
+          omega arith,
+          (
+            lower_fits c.args.latches c.args.code some c.requires.fits,
+            (omega arith, (c.requires.small, (c.over_latches.ensures.known, c.in_ok-where_true.ensures.known_made))),
+          ),
+        ),
+      ),
     )
 
 pub returns-clause-known : goal.returns-clause-known
-returns-clause-known t c = knows-kept c.args.machine.now c.args.wanted c.over_latches-2.new.builder c.mux.new.self (get nat_eq c.over_latches-2.new.known) c.mux.ensures.extends c.over_latches-2.ensures.known
+returns-clause-known t c =
+    knows-kept c.args.machine.now c.args.wanted c.over_latches-2.new.builder c.mux.new.self
+    (get nat_eq c.over_latches-2.new.known) c.mux.ensures.extends c.over_latches-2.ensures.known
 
 pub returns-clause-literal : goal.returns-clause-literal
 returns-clause-literal t c =
@@ -49,19 +72,27 @@ returns-clause-literal t c =
     let some = c.if-latches-eq0.false in
     let few = c.requires.few in
     ok_both c.mux.result _ _ _ (λ literal held bit.
-    at-suc m w c.mux.new.self c.args.latches latch c.args.code upper c.in_ok-where_true.where_true c.in_ok-where_false.where_false _ literal
-    (omega arith) (ap (λ n. c.args.code + n) (shl_is latch (omega arith))) (c.positive.ensures ∙ ap (λ xs. 2 * (length xs + 1 + latch)) c.inputs.ensures.inputs)
-    (at-kept m w c.over_latches.new.builder c.mux.new.self latch upper c.in_ok-where_true.where_true (extends-trans _ _ _ c.over_latches-2.ensures.extends c.mux.ensures.extends) c.in_ok-where_true.ensures.literal)
-    (at-kept m w c.over_latches-2.new.builder c.mux.new.self latch c.args.code c.in_ok-where_false.where_false c.mux.ensures.extends c.in_ok-where_false.ensures.literal)
+    at-suc m w c.mux.new.self c.args.latches latch c.args.code upper c.in_ok-where_true.where_true
+    c.in_ok-where_false.where_false _ literal
+    (omega arith) (ap (λ n. c.args.code + n) (shl_is latch (omega arith)))
+    (c.positive.ensures ∙ ap (λ xs. 2 * (length xs + 1 + latch)) c.inputs.ensures.inputs)
+    (at-kept m w c.over_latches.new.builder c.mux.new.self latch upper c.in_ok-where_true.where_true
+    (extends-trans _ _ _ c.over_latches-2.ensures.extends c.mux.ensures.extends) c.in_ok-where_true.ensures.literal)
+    (at-kept m w c.over_latches-2.new.builder c.mux.new.self latch c.args.code c.in_ok-where_false.where_false
+    c.mux.ensures.extends c.in_ok-where_false.ensures.literal)
     held bit) c.mux.ensures.held c.mux.ensures.bit
 
 pub returns-then-latches-eq0-clause-made : goal.returns-then-latches-eq0-clause-made
 returns-then-latches-eq0-clause-made t c =
-    IfOk-weaker c.over_inputs.result _ _ (λ literal is. code-zero c.args.machine.now c.args.wanted c.args.latches c.args.code c.node_at.result c.args.builder.now c.if-latches-eq0.true c.node_at.ensures.node ∙ is) c.over_inputs.ensures.made
+    IfOk-weaker c.over_inputs.result _ _ (λ literal is. code-zero c.args.machine.now c.args.wanted c.args.latches
+    c.args.code c.node_at.result c.args.builder.now c.if-latches-eq0.true c.node_at.ensures.node ∙ is)
+    c.over_inputs.ensures.made
 
 pub returns-then-latches-eq0-clause-too_large : goal.returns-then-latches-eq0-clause-too_large
 returns-then-latches-eq0-clause-too_large t c e =
-    subst (λ (n : Made). 2147483647 < variables_of n.draft) (sym (code-zero c.args.machine.now c.args.wanted c.args.latches c.args.code c.node_at.result c.args.builder.now c.if-latches-eq0.true c.node_at.ensures.node)) (c.over_inputs.ensures.too_large e)
+    subst (λ (n : Made). 2147483647 < variables_of n.draft) (sym
+    (code-zero c.args.machine.now c.args.wanted c.args.latches c.args.code c.node_at.result c.args.builder.now
+    c.if-latches-eq0.true c.node_at.ensures.node)) (c.over_inputs.ensures.too_large e)
 
 pub returns-in_err-where_true-clause-too_large : goal.returns-in_err-where_true-clause-too_large
 returns-in_err-where_true-clause-too_large t c e =
@@ -75,8 +106,10 @@ returns-in_err-where_true-clause-too_large t c e =
     let is : c.args.latches ≡ suc latch = omega arith in
     let up : upper ≡ c.args.code + 2 ^ latch = ap (λ n. c.args.code + n) (shl_is latch (omega arith)) in
     let whole = code-suc m w c.args.latches latch c.args.code upper s c.args.builder.now is up refl in
-    choice-above _ _ (code_wanted m w latch c.args.code) s whole (code-extends m w latch c.args.code)
-    (c.over_latches.ensures.too_large (c.in_err-where_true.was ∙ ap (λ f. Err f) (passed c.from_residual.result c.in_err-where_true.field-0.0 _ c.from_residual.ensures.1 e)))
+    choice-above _ _ (code_wanted m w latch c.args.code) s whole
+    (code-extends (behaviour m) (bit_wanted (behaviour m) w) latch c.args.code)
+    (c.over_latches.ensures.too_large (c.in_err-where_true.was
+    ∙ ap (λ f. Err f) (passed c.from_residual.result c.in_err-where_true.field-0.0 _ c.from_residual.ensures.1 e)))
 
 pub returns-in_err-where_false-clause-too_large : goal.returns-in_err-where_false-clause-too_large
 returns-in_err-where_false-clause-too_large t c e =
@@ -90,8 +123,11 @@ returns-in_err-where_false-clause-too_large t c e =
     let is : c.args.latches ≡ suc latch = omega arith in
     let up : upper ≡ c.args.code + 2 ^ latch = ap (λ n. c.args.code + n) (shl_is latch (omega arith)) in
     let whole = code-suc m w c.args.latches latch c.args.code upper s c.args.builder.now is up refl in
-    choice-above_low _ _ (code_wanted m w latch c.args.code) c.over_latches.new.builder s c.in_ok-where_true.where_true whole c.in_ok-where_true.ensures.made
-    (c.over_latches-2.ensures.too_large (c.in_err-where_false.was ∙ ap (λ f. Err f) (passed c.from_residual-in_err-where_false.result c.in_err-where_false.field-0.0 _ c.from_residual-in_err-where_false.ensures.1 e)))
+    choice-above_low _ _ (code_wanted m w latch c.args.code) c.over_latches.new.builder s c.in_ok-where_true.where_true
+    whole c.in_ok-where_true.ensures.made
+    (c.over_latches-2.ensures.too_large (c.in_err-where_false.was
+    ∙ ap (λ f. Err f) (passed c.from_residual-in_err-where_false.result c.in_err-where_false.field-0.0 _
+    c.from_residual-in_err-where_false.ensures.1 e)))
 
 pub returns-clause-made : goal.returns-clause-made
 returns-clause-made t c =
@@ -106,8 +142,11 @@ returns-clause-made t c =
     let up : upper ≡ c.args.code + 2 ^ latch = ap (λ n. c.args.code + n) (shl_is latch (omega arith)) in
     let whole = code-suc m w c.args.latches latch c.args.code upper s c.args.builder.now is up refl in
     let variable = c.positive.ensures ∙ ap (λ xs. 2 * (length xs + 1 + latch)) c.inputs.ensures.inputs in
-    IfOk-weaker c.mux.result _ _ (λ literal made. choice-made _ _ (code_wanted m w latch c.args.code) c.over_latches.new.builder c.over_latches-2.new.builder s c.in_ok-where_true.where_true c.in_ok-where_false.where_false whole c.in_ok-where_true.ensures.made c.in_ok-where_false.ensures.made
-    ∙ ap (λ x. mux_of c.over_latches-2.new.builder x c.in_ok-where_true.where_true c.in_ok-where_false.where_false) (sym variable) ∙ made) c.mux.ensures.made
+    IfOk-weaker c.mux.result _ _ (λ literal made. choice-made _ _ (code_wanted m w latch c.args.code)
+    c.over_latches.new.builder c.over_latches-2.new.builder s c.in_ok-where_true.where_true
+    c.in_ok-where_false.where_false whole c.in_ok-where_true.ensures.made c.in_ok-where_false.ensures.made
+    ∙ ap (λ x. mux_of c.over_latches-2.new.builder x c.in_ok-where_true.where_true c.in_ok-where_false.where_false)
+    (sym variable) ∙ made) c.mux.ensures.made
 
 pub returns-clause-too_large : goal.returns-clause-too_large
 returns-clause-too_large t c e =
@@ -122,12 +161,18 @@ returns-clause-too_large t c e =
     let up : upper ≡ c.args.code + 2 ^ latch = ap (λ n. c.args.code + n) (shl_is latch (omega arith)) in
     let whole = code-suc m w c.args.latches latch c.args.code upper s c.args.builder.now is up refl in
     let variable = c.positive.ensures ∙ ap (λ xs. 2 * (length xs + 1 + latch)) c.inputs.ensures.inputs in
-    subst (λ (n : Made). 2147483647 < variables_of n.draft) (sym (choice-made _ _ (code_wanted m w latch c.args.code) c.over_latches.new.builder c.over_latches-2.new.builder s c.in_ok-where_true.where_true c.in_ok-where_false.where_false whole c.in_ok-where_true.ensures.made c.in_ok-where_false.ensures.made
-    ∙ ap (λ x. mux_of c.over_latches-2.new.builder x c.in_ok-where_true.where_true c.in_ok-where_false.where_false) (sym variable))) (c.mux.ensures.above e)
+    subst (λ (n : Made). 2147483647 < variables_of n.draft) (sym
+    (choice-made _ _ (code_wanted m w latch c.args.code) c.over_latches.new.builder c.over_latches-2.new.builder s
+    c.in_ok-where_true.where_true c.in_ok-where_false.where_false whole c.in_ok-where_true.ensures.made
+    c.in_ok-where_false.ensures.made
+    ∙ ap (λ x. mux_of c.over_latches-2.new.builder x c.in_ok-where_true.where_true c.in_ok-where_false.where_false)
+    (sym variable))) (c.mux.ensures.above e)
 
 pub returns-clause-known_made : goal.returns-clause-known_made
 returns-clause-known_made t c =
     let m = c.args.machine.now in
     let w = c.args.wanted in
-    let kept = made-kept m w c.over_latches-2.new.builder c.mux.new.self (get nat_eq c.over_latches-2.new.known) c.mux.ensures.extends c.in_ok-where_false.ensures.known_made in
+    let kept =
+    made-kept m w c.over_latches-2.new.builder c.mux.new.self (get nat_eq c.over_latches-2.new.known)
+    c.mux.ensures.extends c.in_ok-where_false.ensures.known_made in
     IfOk-weaker c.mux.result _ _ (λ literal made. kept) c.mux.ensures.made

@@ -14,10 +14,13 @@ returns-clause-attracted g c =
     let Laid : List Bool → ℕ → Type 0 = λ s n. AreLaidOut s target n old in
     let Sub : List Bool → Type 0 = λ s. Laid s (vertex_count game) in
     let Count : ℕ → Type 0 = Laid c.region.result.now in
-    let laid : Sub subgame = subst Sub c.region.ensures (subst Count c.count.ensures.vertices c.in_ok-tables.ensures.laid_out) in
+    let laid : Sub subgame =
+    subst Sub c.region.ensures (subst Count c.count.ensures.vertices c.in_ok-tables.ensures.laid_out) in
     record {
       old = old;
       laid = laid;
       grown = c.in_ok-attract.ensures.grown;
-      attracted = λ set taken. c.in_ok-attract.ensures.attracted (has subgame) (has target) set (laid_posed game c.args.player subgame target old c.requires.subgame c.requires.target laid) taken;
+      attracted =
+          λ set taken. c.in_ok-attract.ensures.attracted (has subgame) (has target) set
+          (laid_posed game c.args.player subgame target old c.requires.subgame c.requires.target laid) taken;
     }

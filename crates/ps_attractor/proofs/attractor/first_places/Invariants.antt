@@ -4,7 +4,8 @@ use Rattle.ps_attractor.specs.Aims.{StandsFrom}
 use Rattle.ps_attractor.proofs.attractor.first_places.Given as goal
 
 abbrev pub invariant-loop-place : goal.invariant-loop-place
-invariant-loop-place l = record {
+invariant-loop-place g l = record {
   size : length l.places.items ≡ l.count;
-  found : (v : ℕ) → StandsFrom l.tables l.place v → get_or l.places.items v 0 ≡ l.place + place_in (drop l.place l.tables.trail) v;
+  found : (v : ℕ) → StandsFrom l.tables l.place v → get_or l.places.items v 0 ≡ l.place + place_in
+      (drop l.place l.tables.trail) v;
 }

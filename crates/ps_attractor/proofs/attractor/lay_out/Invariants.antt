@@ -3,7 +3,7 @@ use Rattle.ps_attractor.specs.Results.{AreLaidOut}
 use Rattle.ps_attractor.proofs.attractor.lay_out.Given as goal
 
 abbrev pub invariant-loop-vertex : goal.invariant-loop-vertex
-invariant-loop-vertex l = record {
+invariant-loop-vertex g l = record {
   levels : length l.tables.level ≡ l.count;
   moves : length l.tables.moves ≡ l.count;
   laid_out : AreLaidOut l.subgame l.target l.vertex l.tables;

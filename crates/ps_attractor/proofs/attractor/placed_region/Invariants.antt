@@ -3,4 +3,5 @@ use Rattle.ps_attractor.specs.Results.{IsRegionTo}
 use Rattle.ps_attractor.proofs.attractor.placed_region.Given as goal
 
 abbrev pub invariant-loop-vertex : goal.invariant-loop-vertex
-invariant-loop-vertex l = record { places : length l.region ≡ l.count; placed : IsRegionTo l.tables l.vertex l.region }
+invariant-loop-vertex g l =
+    record { places : length l.region ≡ l.count; placed : IsRegionTo l.tables l.vertex l.region }

@@ -17,7 +17,8 @@ loop-name-preserved c =
     let i = c.loop-name.name-index in
     let names = c.args.names.now in
     let copy = c.in_ok-clone.field-0 in
-    let bytes : copy.items ≡ c.name-item.result.items = same_list c.name-item.result.items copy.items c.in_ok-clone.ensures.cases.0 in
+    let bytes : copy.items ≡ c.name-item.result.items =
+    same_list c.name-item.result.items copy.items c.in_ok-clone.ensures.cases.0 in
     let there : bytes_of copy ≡ bytes_of (get_or names i c.name-item.result) = bytes ∙ ap bytes_of c.name-item.is in
     ap (map bytes_of) c.in_ok-push.ensures.items ∙ map-append bytes_of c.loop-name.copy.items (copy ∷ [])
     ∙ ap (λ (xs : List (List ℕ)). xs ++ bytes_of copy ∷ []) c.loop-name.invariant

@@ -6,7 +6,11 @@ use Rattle.ps_automaton.proofs.chain.+is_complemented.Given as goal
 
 -- the operands still to come decide
 abbrev pub invariant-loop-operand : goal.invariant-loop-operand
-invariant-loop-operand l = some_has_complement (row_of (map condition_of (drop l.operand-index l.operand-items))) ≡ has_complement (condition_of l.condition)
+invariant-loop-operand l =
+    some_has_complement (row_of (map condition_of (drop l.operand-index l.operand-items))) ≡ has_complement
+    (condition_of l.condition)
 
 abbrev pub invariant-loop-operand-2 : goal.invariant-loop-operand-2
-invariant-loop-operand-2 l = some_has_complement (row_of (map condition_of (drop l.operand-index l.operand-items))) ≡ has_complement (condition_of l.condition)
+invariant-loop-operand-2 l =
+    some_has_complement (row_of (map condition_of (drop l.operand-index l.operand-items))) ≡ has_complement
+    (condition_of l.condition)

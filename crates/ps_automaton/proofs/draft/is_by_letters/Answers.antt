@@ -11,6 +11,8 @@ pub returns-in-Letter : goal.returns-in-Letter
 returns-in-Letter c = λ _ file sound.
     let row = c.args.row.now in
     let e = c.in-Some.edge.now in
-    let first : slice_get row.edges.items 0 ≡ Some e = ap (λ (es : List Edge). slice_get es 0) (sym c.deref.ensures.value) ∙ sym c.in-Some.ensures.value in
-    let at : slice_get (map edge_data row.edges.items) 0 ≡ Some (edge_data e) = slice_get-map edge_data row.edges.items 0 ∙ ap (option_map edge_data) first in
+    let first : slice_get row.edges.items 0 ≡ Some e =
+    ap (λ (es : List Edge). slice_get es 0) (sym c.deref.ensures.value) ∙ sym c.in-Some.ensures.value in
+    let at : slice_get (map edge_data row.edges.items) 0 ≡ Some (edge_data e) =
+    slice_get-map edge_data row.edges.items 0 ∙ ap (option_map edge_data) first in
     by_letters_of file (row_data row) sound (edge_data e) _ at (ap guard_data c.in-Letter.is)

@@ -15,18 +15,26 @@ relabel-requires-clause-within c = λ letter small.
     let union = c.args.union.now in
     let are_places = subst (λ (ts : List Target). ArePlaces chain ts new c.deref.result.now) c.list.ensures
     (subst (ArePlaces chain c.list.result.now new) (sym c.deref.ensures.value) c.in_ok-places.ensures.places) in
-    subst (λ n. IfSome (leaf_of c.args.pairs.now.store union.node letter) (λ k. k < n)) (sym are_places.one_each) (c.requires.within letter small)
+    subst (λ n. IfSome (leaf_of c.args.pairs.now.store union.node letter) (λ k. k < n)) (sym are_places.one_each)
+    (c.requires.within letter small)
 
 pub returns-clause-keeps : goal.returns-clause-keeps
-returns-clause-keeps c = keeps_both c.args.pairs.now.store c.relabel.new.self c.fill.new.self c.relabel.ensures.keeps c.fill.ensures.keeps
+returns-clause-keeps c =
+    keeps_both c.args.pairs.now.store c.relabel.new.self c.fill.new.self c.relabel.ensures.keeps c.fill.ensures.keeps
 
 pub returns-clause-within : goal.returns-clause-within
-returns-clause-within c = λ states low. c.in_ok-places.ensures.within states (λ k target e. low k target (subst (λ (ts : List Target). slice_get ts k ≡ Some target) c.list.ensures e))
+returns-clause-within c =
+    λ states low. c.in_ok-places.ensures.within states (λ k target e.
+    low k target (subst (λ (ts : List Target). slice_get ts k ≡ Some target) c.list.ensures e))
 
 pub returns-clause-leaf : goal.returns-clause-leaf
 returns-clause-leaf c =
     let chain = chain_data c.args.levels.now.chain in
     let new = c.places_of.new.steps.keys in
     let are_places = subst (λ (ts : List Target). ArePlaces chain ts new c.deref.result.now) c.list.ensures
-    (subst (ArePlaces chain c.list.result.now new) (sym c.deref.ensures.value) c.in_ok-places.ensures.places) in
-    (c.deref.result.now, are_places, λ letter. c.in_ok-filled.ensures.leaf letter ∙ ap (λ (o : Option ℕ). Some (unwrap_or o 0)) (c.in_ok-named.ensures.leaf letter))
+    (subst (ArePlaces chain c.list.result.now new) (sym c.deref.ensures.value) c.in_ok-places.ensures.places) in (
+      c.deref.result.now,
+      are_places,
+      λ letter. c.in_ok-filled.ensures.leaf letter
+          ∙ ap (λ (o : Option ℕ). Some (unwrap_or o 0)) (c.in_ok-named.ensures.leaf letter),
+    )

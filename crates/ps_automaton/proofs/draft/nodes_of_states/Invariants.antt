@@ -11,5 +11,6 @@ invariant-loop-state l = record {
   nodes_of : AreNodesOf l.pairs.store l.source.file.now.aliases l.source.aliases.now;
   all_steps : AreSteps l.source.file.now.states l.pairs.steps.keys;
   count : length l.nodes.items ≡ l.state;
-  each : (q : ℕ) → q < l.state → IsStepsOf l.source.file.now (chain_data l.source.levels.now.chain) q l.pairs.steps.keys l.pairs.store (get_or l.nodes.items q 0);
+  each : (q : ℕ) → q < l.state → IsStepsOf l.source.file.now (chain_data l.source.levels.now.chain) q l.pairs.steps.keys
+      l.pairs.store (get_or l.nodes.items q 0);
 }

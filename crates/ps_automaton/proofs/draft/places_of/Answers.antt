@@ -17,8 +17,12 @@ loop-target-preserved c =
     record {
       extends = extends_both c.args.steps.now.keys old new inv.extends more;
       within = λ states low a. step_within old new step c.in_ok-place.ensures.keys states
-          (let h = low c.loop-target.target-index _ at in let is : step.state ≡ _ = ap (λ s. s.state) c.step_to.ensures in omega (arith, h, is)) (inv.within states low a);
+          (let h = low c.loop-target.target-index _ at in let is : step.state ≡ _ = ap (λ s. s.state) c.step_to.ensures
+          in omega (arith, h, is)) (inv.within states low a);
       so_far = (let n = c.in_ok-push.ensures.len in let m = inv.so_far in omega (arith, n, m));
-      each = named_more (chain_data c.args.levels.now.chain) c.args.targets.now old new c.loop-target.places.items c.push.new.self.items c.loop-target.target-index c.in_ok-place.place _ step
-          more (stored_is step_eq step_decides new c.in_ok-place.place step c.in_ok-place.ensures.stored) c.step_to.ensures at inv.so_far c.in_ok-push.ensures.items inv.each;
+      each =
+          named_more (chain_data c.args.levels.now.chain) c.args.targets.now old new c.loop-target.places.items
+          c.push.new.self.items c.loop-target.target-index c.in_ok-place.place _ step
+          more (stored_is step_eq step_decides new c.in_ok-place.place step c.in_ok-place.ensures.stored)
+          c.step_to.ensures at inv.so_far c.in_ok-push.ensures.items inv.each;
     }

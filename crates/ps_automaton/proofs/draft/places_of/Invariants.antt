@@ -9,7 +9,10 @@ use Rattle.ps_automaton.proofs.draft.places_of.Given as goal
 abbrev pub invariant-loop-target : goal.invariant-loop-target
 invariant-loop-target l = record {
   extends : Extends l.fn.steps.keys l.steps.keys;
-  within : (states : ℕ) → ((k : ℕ) (target : Target) → slice_get l.targets k ≡ Some target → target.state ≤ states) → AreSteps states l.fn.steps.keys → AreSteps states l.steps.keys;
+  within : (states : ℕ) → ((k : ℕ) (target : Target) → slice_get l.targets k ≡ Some target → target.state ≤ states) →
+      AreSteps states l.fn.steps.keys → AreSteps states l.steps.keys;
   so_far : length l.places.items ≡ l.target-index;
-  each : (k place : ℕ) (target : Target) → slice_get l.targets k ≡ Some target → slice_get l.places.items k ≡ Some place → slice_get l.steps.keys place ≡ Some (step_of_target (chain_data l.levels.chain) target);
+  each : (k place : ℕ) (target : Target) → slice_get l.targets k ≡ Some target →
+      slice_get l.places.items k ≡ Some place → slice_get l.steps.keys place ≡ Some
+      (step_of_target (chain_data l.levels.chain) target);
 }

@@ -2,7 +2,8 @@ use Rattle.std.proofs.Common.{List, ◌-◌, ◌≤◌, ap, sym, ◌∙◌, refl
 use Rattle.ps_automaton.specs.Chains.{Link, base_number, first_number, level_by, raised}
 use Rattle.std.proofs.lemmas.List.{get_or-replicate, length-set}
 use Rattle.ps_automaton.specs.Views.{link_data}
-use Rattle.ps_automaton.proofs.NumberTables.{base_at_most, link_before, none_behind, raised_at_most, set_of_link, table_step}
+use Rattle.ps_automaton.proofs.NumberTables.{base_at_most, link_before, none_behind, raised_at_most, set_of_link}
+use Rattle.ps_automaton.proofs.NumberTables.{table_step}
 use Rattle.ps_automaton.proofs.numbers.table_of.Goals as goal
 
 pub loop-k-init : goal.loop-k-init
@@ -16,11 +17,14 @@ loop-k-init c =
       base = c.base_number-base.ensures;
       room = (let e = c.len-k.ensures in let b = c.base_number-base.ensures in omega (arith, e, b, low));
       number = c.base_number-base.ensures ∙ ap (first_number base) (sym none);
-      by_set = λ set small. get_or-replicate 64 set c.base_number-base.result 0 small ∙ c.base_number-base.ensures ∙ ap (λ (ls : List Link). level_by base ls (λ s. nat_eq s set)) (sym none);
+      by_set = λ set small. get_or-replicate 64 set c.base_number-base.result 0 small ∙ c.base_number-base.ensures
+          ∙ ap (λ (ls : List Link). level_by base ls (λ s. nat_eq s set)) (sym none);
     }
 
 pub bounds-by_set-link : goal.bounds-by_set-link
-bounds-by_set-link c = set_of_link c.args.chain.now.links.items (c.loop-k.k - 1) c.index-link.result.now c.requires (let w = c.loop-k.invariant.within in let t = c.loop-k-test.true in omega (arith, w, t)) c.index-link.ensures
+bounds-by_set-link c =
+    set_of_link c.args.chain.now.links.items (c.loop-k.k - 1) c.index-link.result.now c.requires
+    (let w = c.loop-k.invariant.within in let t = c.loop-k-test.true in omega (arith, w, t)) c.index-link.ensures
 
 pub loop-k-preserved : goal.loop-k-preserved
 loop-k-preserved c =
@@ -36,8 +40,12 @@ loop-k-preserved c =
       within = (let w = c.loop-k.invariant.within in omega (arith, w));
       size = length-set c.loop-k.by_set link.set c.raised_number-number.result ∙ c.loop-k.invariant.size;
       base = c.loop-k.invariant.base;
-      room = (let r = c.loop-k.invariant.room in let e = c.raised_number-number.ensures in let t = c.loop-k-test.true in omega (arith, r, e, at_most, t));
+      room =
+          (let r = c.loop-k.invariant.room in let e = c.raised_number-number.ensures in let t = c.loop-k-test.true in
+          omega (arith, r, e, at_most, t));
       number = number ∙ ap (first_number base) (sym here);
-      by_set = λ set below. table_step base (link_data link) (drop k (map link_data links)) c.loop-k.by_set c.raised_number-number.result set c.loop-k.invariant.size small number (c.loop-k.invariant.by_set set below)
+      by_set =
+          λ set below. table_step base (link_data link) (drop k (map link_data links)) c.loop-k.by_set
+          c.raised_number-number.result set c.loop-k.invariant.size small number (c.loop-k.invariant.by_set set below)
           ∙ ap (λ (ls : List Link). level_by base ls (λ s. nat_eq s set)) (sym here);
     }

@@ -11,7 +11,8 @@ invariant-loop-k l = record {
   base : l.base ≡ base_number l.chain.base;
   room : l.number + l.k ≤ 1 + length l.chain.links.items;
   number : l.number ≡ first_number l.chain.base (drop l.k (map link_data l.chain.links.items));
-  by_set : (set : ℕ) → set < 64 → get_or l.by_set set 0 ≡ level_by l.chain.base (drop l.k (map link_data l.chain.links.items)) (λ s. nat_eq s set);
+  by_set : (set : ℕ) → set < 64 → get_or l.by_set set 0 ≡ level_by l.chain.base
+      (drop l.k (map link_data l.chain.links.items)) (λ s. nat_eq s set);
 }
 
 abbrev pub decreases-loop-k : goal.decreases-loop-k

@@ -7,10 +7,13 @@ use Rattle.ps_automaton.specs.Drafts.{IsLabelNode, IsWhere}
 use Rattle.ps_automaton.proofs.Meeting.{label_shows}
 use Rattle.ps_automaton.proofs.taken.taken.Goals as goal
 
-shown : (c : goal.In-Some) → IsNode c.args.store.now c.in-Some.node × ((letter : ℕ) → IsWhere (leaf_of c.args.store.now c.in-Some.node letter) 1 (IsOpen c.args.guards.now.file.now.aliases (row_data c.args.guards.now.row.now).label of_state letter))
+shown : (c : goal.In-Some) → IsNode c.args.store.now c.in-Some.node ×
+    ((letter : ℕ) → IsWhere (leaf_of c.args.store.now c.in-Some.node letter) 1
+    (IsOpen c.args.guards.now.file.now.aliases (row_data c.args.guards.now.row.now).label of_state letter))
 shown c =
     label_shows c.args.store.now c.args.guards.now.file.now (row_data c.args.guards.now.row.now).label c.in-Some.node
-    (subst (IsLabelNode c.args.store.now c.args.guards.now.file.now (row_data c.args.guards.now.row.now).label) c.in-Some.is c.requires.ready.label)
+    (subst (IsLabelNode c.args.store.now c.args.guards.now.file.now (row_data c.args.guards.now.row.now).label)
+    c.in-Some.is c.requires.ready.label)
 
 pub returns-in-Some-clause-held : goal.returns-in-Some-clause-held
 returns-in-Some-clause-held c = (shown c).0
@@ -18,4 +21,6 @@ returns-in-Some-clause-held c = (shown c).0
 pub returns-in-Some-clause-shows : goal.returns-in-Some-clause-shows
 returns-in-Some-clause-shows c = λ letter small.
     let guard : of_state ≡ guard_data c.args.edge.now.guard = sym (ap guard_data c.in-OfState.is) in
-    subst (λ g. IsWhere (leaf_of c.args.store.now c.in-Some.node letter) 1 (IsOpen c.args.guards.now.file.now.aliases (row_data c.args.guards.now.row.now).label g letter)) guard ((shown c).1 letter)
+    subst (λ g. IsWhere (leaf_of c.args.store.now c.in-Some.node letter) 1
+    (IsOpen c.args.guards.now.file.now.aliases (row_data c.args.guards.now.row.now).label g letter)) guard
+    ((shown c).1 letter)

@@ -10,7 +10,8 @@ returns-in-None-clause-none g c = go c.unranked_at.result c.unranked_at.ensures.
     before : KeepCountsBefore (g.A.Arena.game c.args.arena.now) c.args.certificate.now c.args.vertex
     before = rw c.in-None.is at c.requires.none
 
-    go : (o : Option Flaw) → IfNone o (KeepsCountsAt (g.A.Arena.game c.args.arena.now) c.args.certificate.now c.args.vertex)
+    go : (o : Option Flaw) → IfNone o (KeepsCountsAt (g.A.Arena.game c.args.arena.now)
+        c.args.certificate.now c.args.vertex)
         → IfNone o (KeepCountsBefore (g.A.Arena.game c.args.arena.now) c.args.certificate.now (c.args.vertex + 1))
     go None here = below_more _ _ before here
     go (Some flaw) here = tt

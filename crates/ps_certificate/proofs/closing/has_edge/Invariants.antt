@@ -4,4 +4,5 @@ use Rattle.ps_certificate.proofs.closing.has_edge.Given as goal
 
 -- no successor before the place is the one looked for
 abbrev pub invariant-loop-place : goal.invariant-loop-place
-invariant-loop-place g l = (k : ℕ) → k < l.place → get_or (successors_of (g.A.Arena.game l.arena) l.vertex) k 0 ≢ l.successor
+invariant-loop-place g l =
+    (k : ℕ) → k < l.place → get_or (successors_of (g.A.Arena.game l.arena) l.vertex) k 0 ≢ l.successor

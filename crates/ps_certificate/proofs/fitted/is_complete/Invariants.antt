@@ -5,4 +5,5 @@ use Rattle.ps_certificate.proofs.fitted.is_complete.Given as goal
 
 -- the list has the priority of each vertex before the place
 abbrev pub invariant-loop-vertex : goal.invariant-loop-vertex
-invariant-loop-vertex g l = (v : ℕ) → v < l.vertex → priority_of (g.A.Arena.game l.arena) v % 2 ≡ l.parity → Contains l.list (priority_of (g.A.Arena.game l.arena) v)
+invariant-loop-vertex g l = (v : ℕ) → v < l.vertex → priority_of (g.A.Arena.game l.arena) v % 2 ≡ l.parity →
+    Contains l.list (priority_of (g.A.Arena.game l.arena) v)

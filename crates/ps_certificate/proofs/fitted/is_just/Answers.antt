@@ -7,29 +7,41 @@ use Rattle.ps_certificate.proofs.fitted.is_just.Goals as goal
 
 pub loop-vertex-init : goal.loop-vertex-init
 loop-vertex-init g c = record {
-  marks = record { room = c.requires.short; marked = λ k below is. absurd (nothing_marked 1024 k is); passed = λ k v below less is. absurd (omega arith) };
+  marks =
+      record {
+        room = c.requires.short;
+        marked = λ k below is. absurd (nothing_marked 1024 k is);
+        passed = λ k v below less is. absurd (omega arith);
+      };
   complete = λ v below. absurd (omega arith);
 }
 
 pub loop-vertex-preserved : goal.loop-vertex-preserved
 loop-vertex-preserved g c =
-    AreJust-found (g.A.Arena.game c.args.arena.now) c.args.parity c.args.list.now c.loop-vertex.seen c.loop-vertex.vertex c.in-Some.place
-    c.priority-priority.result c.requires.rising (omega arith) c.priority-priority.ensures c.in-Some.ensures.some c.loop-vertex.invariant
+    AreJust-found (g.A.Arena.game c.args.arena.now) c.args.parity c.args.list.now c.loop-vertex.seen
+    c.loop-vertex.vertex c.in-Some.place
+    c.priority-priority.result c.requires.rising (omega arith) c.priority-priority.ensures c.in-Some.ensures.some
+    c.loop-vertex.invariant
 
 pub returns-then-not-seen-place : goal.returns-then-not-seen-place
 returns-then-not-seen-place g c =
     let game = g.A.Arena.game c.args.arena.now in
     let P : ℕ → Type 0 = λ n. AreMarks game c.args.list.now c.loop-vertex.seen n in
     let done : c.loop-vertex.vertex ≡ vertex_count game = omega arith in
-    let marks : AreMarks game c.args.list.now c.loop-vertex.seen (vertex_count game) = subst P done c.loop-vertex.invariant.marks in
-    ((λ no. absurd (both_ways false refl no)), λ both. absurd (both_ways _ c.if-not-seen-place.true (marked_in_the_end game c.args.list.now c.loop-vertex.seen c.loop-place.place marks both.1 (omega arith))))
+    let marks : AreMarks game c.args.list.now c.loop-vertex.seen (vertex_count game) =
+    subst P done c.loop-vertex.invariant.marks in (
+      (λ no. absurd (both_ways false refl no)),
+      λ both. absurd (both_ways _ c.if-not-seen-place.true
+          (marked_in_the_end game c.args.list.now c.loop-vertex.seen c.loop-place.place marks both.1 (omega arith))),
+    )
 
 pub returns : goal.returns
 returns g c =
     let game = g.A.Arena.game c.args.arena.now in (
       (λ _. (
         (λ v below. c.loop-vertex.invariant.complete v (omega (arith, below))),
-        All-from_marks game c.args.list.now c.loop-vertex.seen c.loop-vertex.vertex c.loop-vertex.invariant.marks (λ k within. c.loop-place.invariant k (omega (arith, within))),
+        All-from_marks game c.args.list.now c.loop-vertex.seen c.loop-vertex.vertex c.loop-vertex.invariant.marks
+            (λ k within. c.loop-place.invariant k (omega (arith, within))),
       )),
       λ _. refl,
     )

@@ -6,13 +6,15 @@ use Rattle.ps_certificate.proofs.rising.first_at_least.Goals as goal
 pub returns-in-Ok-clause-before : goal.returns-in-Ok-clause-before
 returns-in-Ok-clause-before c k below =
     let found = search_result c.args.list.now c.args.number (Ok c.in-Ok.place) c.requires c.in-Ok.ensures.position in
-    let less : slice_index c.args.list.now k < slice_index c.args.list.now c.in-Ok.place = rising_far c.args.list.now c.requires k c.in-Ok.place below found.0 in
+    let less : slice_index c.args.list.now k < slice_index c.args.list.now c.in-Ok.place =
+    rising_far c.args.list.now c.requires k c.in-Ok.place below found.0 in
     omega (arith, less, found.1)
 
 pub returns-in-Ok-clause-behind : goal.returns-in-Ok-clause-behind
 returns-in-Ok-clause-behind c k above within =
     let found = search_result c.args.list.now c.args.number (Ok c.in-Ok.place) c.requires c.in-Ok.ensures.position in
-    let more : slice_index c.args.list.now c.in-Ok.place ≤ slice_index c.args.list.now k = rising_near c.args.list.now c.requires c.in-Ok.place k above within in
+    let more : slice_index c.args.list.now c.in-Ok.place ≤ slice_index c.args.list.now k =
+    rising_near c.args.list.now c.requires c.in-Ok.place k above within in
     omega (arith, more, found.1)
 
 pub returns-in-Err-clause-before : goal.returns-in-Err-clause-before

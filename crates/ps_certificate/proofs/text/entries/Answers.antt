@@ -33,7 +33,8 @@ loop-vertex-preserved c =
     )) c.id.result c.id.ensures
     (at_place c.entry.new.cursor) _ c.in_ok-won.ensures _
     (c.in_ok-push.ensures.ok
-    ∙ ap (λ (counts : List ℕ). c.loop-vertex.entries ++ record { winner = c.in_ok-won.won.winner; choice = c.in_ok-won.won.choice; counts = counts } ∷ [])
+    ∙ ap (λ (counts : List ℕ). c.loop-vertex.entries ++ record
+    { winner = c.in_ok-won.won.winner; choice = c.in_ok-won.won.choice; counts = counts } ∷ [])
     c.deref.ensures.value)
 
 pub returns : goal.returns

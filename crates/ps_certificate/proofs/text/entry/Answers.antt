@@ -1,7 +1,8 @@
 use Rattle.ps_certificate.specs.Reading.{at_place}
 use Rattle.ps_certificate.specs.Texts.{entry}
 use Rattle.ps_certificate.proofs.Loops.{fails}
-use Rattle.ps_certificate.proofs.EntrySteps.{at_id, at_first_space, at_winner, at_second_space, at_choice, at_counts, entry_reads}
+use Rattle.ps_certificate.proofs.EntrySteps.{at_id, at_first_space, at_winner, at_second_space, at_choice, at_counts}
+use Rattle.ps_certificate.proofs.EntrySteps.{entry_reads}
 use Rattle.ps_certificate.proofs.text.entry.Goals as goal
 
 pub returns-in_err-exactly : goal.returns-in_err-exactly

@@ -1,5 +1,6 @@
 use Rattle.ps_certificate.specs.Reading.{at_place}
-use Rattle.ps_certificate.proofs.EntrySteps.{head_fails, at_first_word, at_version, at_vertices, at_number, at_odd_word, at_odd, at_even_word, at_even, head_read}
+use Rattle.ps_certificate.proofs.EntrySteps.{head_fails, at_first_word, at_version, at_vertices, at_number, at_odd_word}
+use Rattle.ps_certificate.proofs.EntrySteps.{at_odd, at_even_word, at_even, head_read}
 use Rattle.ps_certificate.proofs.text.head.Goals as goal
 
 pub returns-in_err-word : goal.returns-in_err-word

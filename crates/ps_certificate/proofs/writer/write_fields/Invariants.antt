@@ -3,4 +3,5 @@ use Rattle.ps_certificate.specs.Written.{fields}
 use Rattle.ps_certificate.proofs.writer.write_fields.Given as goal
 
 abbrev pub invariant-loop-number : goal.invariant-loop-number
-invariant-loop-number l = l.out.items ++ fields (drop l.number-index l.numbers) ≡ l.initial.out.items ++ fields l.numbers
+invariant-loop-number l =
+    l.out.items ++ fields (drop l.number-index l.numbers) ≡ l.initial.out.items ++ fields l.numbers

@@ -14,16 +14,21 @@ write_entries-requires-clause-writable c =
     sym (ap (λ (whole : CertificateData). whole.entries) c.certificate.view_is) in
     let o : c.args.certificate.now.odd ≡ c.deref.result.now = search rules in
     let e : c.args.certificate.now.even ≡ c.deref-2.result.now = search rules in
-    subst (λ odd. All (IsWritable (vertex_count c.args.game.now.game) odd c.deref-2.result.now) c.certificate.inside.entries) o
-    (subst (λ even. All (IsWritable (vertex_count c.args.game.now.game) c.args.certificate.now.odd even) c.certificate.inside.entries) e
-    (subst (λ entries. All (IsWritable (vertex_count c.args.game.now.game) c.args.certificate.now.odd c.args.certificate.now.even) entries) x w))
+    subst (λ odd. All (IsWritable (vertex_count c.args.game.now.game) odd c.deref-2.result.now)
+    c.certificate.inside.entries) o
+    (subst (λ even. All (IsWritable (vertex_count c.args.game.now.game) c.args.certificate.now.odd even)
+    c.certificate.inside.entries) e
+    (subst (λ entries. All (IsWritable (vertex_count c.args.game.now.game) c.args.certificate.now.odd
+    c.args.certificate.now.even) entries) x w))
 
 pub returns-clause-read_again : goal.returns-clause-read_again
 returns-clause-read_again c =
-    let bytes : c.write_entries.new.out.items ≡ text_in c.args.compact c.args.game.now c.args.certificate.now = search rules in
+    let bytes : c.write_entries.new.out.items ≡ text_in c.args.compact c.args.game.now c.args.certificate.now =
+    search rules in
     let entries : c.certificate.inside.entries ≡ c.args.certificate.now.entries =
     ap (λ (whole : CertificateData). whole.entries) c.certificate.view_is in
-    let count : c.count.result ≡ vertex_count c.args.game.now.game = c.count.ensures.vertices ∙ ap vertex_count c.game.ensures.game in
+    let count : c.count.result ≡ vertex_count c.args.game.now.game = c.count.ensures.vertices
+    ∙ ap vertex_count c.game.ensures.game in
     let words : HasWords c.args.game.now.ids c.args.certificate.now = record {
       count = omega (arith, c.in_ok-write_head.ensures.words.0, count, c.game.ensures.well_formed.id_each);
       ids = c.in_ok-write_entries.ensures.ids;
@@ -31,4 +36,5 @@ returns-clause-read_again c =
       even = c.in_ok-write_head.ensures.words.2;
       counts = subst (All (λ (e : EntryData). All IsWord e.counts)) entries c.in_ok-write_entries.ensures.counts;
     } in
-    subst (λ t. ReadsCertificate c.args.game.now t (Ok c.args.certificate.now)) (sym bytes) (reads_again c.args.compact c.args.game.now c.args.certificate.now c.game.ensures.well_formed c.requires words)
+    subst (λ t. ReadsCertificate c.args.game.now t (Ok c.args.certificate.now)) (sym bytes)
+    (reads_again c.args.compact c.args.game.now c.args.certificate.now c.game.ensures.well_formed c.requires words)

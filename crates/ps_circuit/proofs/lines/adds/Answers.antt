@@ -12,4 +12,5 @@ returns-clause-new c =
     (Contains-none c.args.variable c.args.variables.now (sym c.has.ensures ∙ c.if-has.false))
 
 pub returns-then-has-clause-twice : goal.returns-then-has-clause-twice
-returns-then-has-clause-twice c = λ _. Contains-any c.args.variable c.args.variables.now (sym c.has.ensures ∙ c.if-has.true)
+returns-then-has-clause-twice c =
+    λ _. Contains-any c.args.variable c.args.variables.now (sym c.has.ensures ∙ c.if-has.true)

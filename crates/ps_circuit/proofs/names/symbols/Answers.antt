@@ -7,7 +7,9 @@ use Rattle.ps_circuit.proofs.SymbolLemmas.{symbol_shrinks, names_next, names_fai
 use Rattle.ps_circuit.proofs.names.symbols.Goals as goal
 
 pub more-smaller : goal.more-smaller
-more-smaller c = symbol_shrinks (names_data c.more.names) (names_data c.symbol_line.new.names) c.more.cursor c.symbol_line.new.cursor c.in_ok-symbol_line.ensures.exact
+more-smaller c =
+    symbol_shrinks (names_data c.more.names) (names_data c.symbol_line.new.names) c.more.cursor c.symbol_line.new.cursor
+    c.in_ok-symbol_line.ensures.exact
 
 pub more-preserved : goal.more-preserved
 more-preserved c =
@@ -22,14 +24,20 @@ more-preserved c =
         latches_named = n.latches_named;
         outputs_named = n.outputs_named;
       };
-      carries = names_next (names_data c.args.names.now) (names_data c.more.names) (names_data c.symbol_line.new.names) c.args.cursor.now c.more.cursor c.symbol_line.new.cursor c.more.invariant.carries c.in_ok-symbol_line.ensures.exact;
+      carries =
+          names_next (names_data c.args.names.now) (names_data c.more.names) (names_data c.symbol_line.new.names)
+          c.args.cursor.now c.more.cursor c.symbol_line.new.cursor c.more.invariant.carries
+          c.in_ok-symbol_line.ensures.exact;
     }
 
 pub returns-in_err-symbol_line-clause-exact : goal.returns-in_err-symbol_line-clause-exact
 returns-in_err-symbol_line-clause-exact c =
     exit _ (many symbol_line (names_data c.args.names.now)) c.args.cursor.now _ _ _
-    (c.more.invariant.carries (Err _) c.more.cursor (names_fail (names_data c.more.names) c.more.cursor _ (sym (ap is_kind c.peek.ensures) ∙ sym c.is_letter.ensures ∙ c.more-test.true) c.in_err-symbol_line.ensures.exact)) c.from_residual.ensures.1
+    (c.more.invariant.carries (Err _) c.more.cursor (names_fail (names_data c.more.names) c.more.cursor _
+    (sym (ap is_kind c.peek.ensures) ∙ sym c.is_letter.ensures ∙ c.more-test.true)
+    c.in_err-symbol_line.ensures.exact)) c.from_residual.ensures.1
 
 pub returns-clause-exact : goal.returns-clause-exact
 returns-clause-exact c =
-    c.more.invariant.carries (Ok _) c.more.cursor (names_end (names_data c.more.names) c.more.cursor (sym (ap is_kind c.peek.ensures) ∙ sym c.is_letter.ensures ∙ c.more-test.false))
+    c.more.invariant.carries (Ok _) c.more.cursor (names_end (names_data c.more.names) c.more.cursor
+    (sym (ap is_kind c.peek.ensures) ∙ sym c.is_letter.ensures ∙ c.more-test.false))

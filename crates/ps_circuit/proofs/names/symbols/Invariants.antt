@@ -8,8 +8,10 @@ use Rattle.ps_circuit.proofs.names.symbols.Given as goal
 
 abbrev pub invariant-more : goal.invariant-more
 invariant-more l = record {
-  names : AreNames l.names (vec_len l.initial.names.inputs) (vec_len l.initial.names.latches) (vec_len l.initial.names.outputs);
-  carries : Carries aig_causes (many symbol_line (names_data l.initial.names)) l.initial.cursor (many symbol_line (names_data l.names)) l.cursor;
+  names : AreNames l.names (vec_len l.initial.names.inputs) (vec_len l.initial.names.latches)
+      (vec_len l.initial.names.outputs);
+  carries : Carries aig_causes (many symbol_line (names_data l.initial.names)) l.initial.cursor
+      (many symbol_line (names_data l.names)) l.cursor;
 }
 
 abbrev pub decreases-more : goal.decreases-more

@@ -3,4 +3,5 @@ use Rattle.ps_ids.proofs.Members.{Contains-any}
 use Rattle.ps_circuit.proofs.reader.is_defined.Goals as goal
 
 pub returns-else-variable-eq0-clause-defined : goal.returns-else-variable-eq0-clause-defined
-returns-else-variable-eq0-clause-defined c = λ t. inr (Contains-any c.args.variable c.args.variables.now (sym c.has.ensures ∙ t))
+returns-else-variable-eq0-clause-defined c =
+    λ t. inr (Contains-any c.args.variable c.args.variables.now (sym c.has.ensures ∙ t))

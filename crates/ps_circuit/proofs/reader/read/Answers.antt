@@ -5,11 +5,13 @@ use Rattle.ps_circuit.proofs.DraftLemmas.{answer_fails, answer_undefined, answer
 use Rattle.ps_circuit.proofs.reader.read.Goals as goal
 
 pub returns-in_err-parts-clause-exact : goal.returns-in_err-parts-clause-exact
-returns-in_err-parts-clause-exact c = answer_fails c.args.text.now _ _ c.in_err-parts.ensures.exact c.from_residual.ensures.1
+returns-in_err-parts-clause-exact c =
+    answer_fails c.args.text.now _ _ c.in_err-parts.ensures.exact c.from_residual.ensures.1
 
 pub returns-in_err-all_defined-clause-exact : goal.returns-in_err-all_defined-clause-exact
 returns-in_err-all_defined-clause-exact c =
-    answer_undefined c.args.text.now (draft_data c.in_ok-parts.field-0) c.in_ok-parts.ensures.exact _ _ c.in_err-all_defined.ensures c.from_residual-in_err-all_defined.ensures.1
+    answer_undefined c.args.text.now (draft_data c.in_ok-parts.field-0) c.in_ok-parts.ensures.exact _ _
+    c.in_err-all_defined.ensures c.from_residual-in_err-all_defined.ensures.1
 
 pub assembled-requires-clause-draft : goal.assembled-requires-clause-draft
 assembled-requires-clause-draft c = c.in_ok-parts.ensures.sound.draft c.in_ok-all_defined.ensures
@@ -19,5 +21,7 @@ assembled-requires-clause-starts c = ap length c.deref.ensures.value ∙ c.in_ok
 
 pub returns-clause-exact : goal.returns-clause-exact
 returns-clause-exact c =
-    answered c.args.text.now (draft_data c.in_ok-parts.field-0) c.in_ok-parts.ensures.exact c.in_ok-all_defined.ensures c.assembled.result c.assembled.ensures.ok c.assembled.ensures.well_formed
-    (λ e h. subst (λ (xs : List ℕ). TellsCyclic c.in_ok-parts.field-0.parts.gates.items xs (found_of e)) c.deref.ensures.value (c.assembled.ensures.cyclic e h))
+    answered c.args.text.now (draft_data c.in_ok-parts.field-0) c.in_ok-parts.ensures.exact c.in_ok-all_defined.ensures
+    c.assembled.result c.assembled.ensures.ok c.assembled.ensures.well_formed
+    (λ e h. subst (λ (xs : List ℕ). TellsCyclic c.in_ok-parts.field-0.parts.gates.items xs (found_of e))
+    c.deref.ensures.value (c.assembled.ensures.cyclic e h))

@@ -8,11 +8,26 @@ returns-then-eq g c =
     let met = c.requires.met c.args.item c.requires.item in
     let h = c.number-here.ensures in
     let t = c.number-there.ensures in
-    let is : IsIn c.args.components.now c.in-Some.to met.0 = (let m = met.1 in cc) in
-    (λ _. record { to = c.in-Some.to; link = record { from = c.requires.item; place = c.loop-place.place; at = omega arith; target = sym c.in-Some.ensures.target }; number = met.0; here = met.1; there = is }, λ _. search rules)
+    let is : IsIn c.args.components.now c.in-Some.to met.0 = (let m = met.1 in cc) in (
+      λ _. record {
+        to = c.in-Some.to;
+        link = record {
+          from = c.requires.item;
+          place = c.loop-place.place;
+          at = omega arith;
+          target =
+              sym c.in-Some.ensures.target;
+        };
+        number = met.0;
+        here = met.1;
+        there = is;
+      },
+      λ _. search rules,
+    )
 
 pub returns : goal.returns
 returns g c = (
   λ t. absurd (search rules),
-  λ k. absurd (c.loop-place.invariant k.link.place k.to k.number (omega (arith, k.link.at)) k.link.target k.here k.there),
+  λ k. absurd (c.loop-place.invariant k.link.place k.to k.number (omega (arith, k.link.at)) k.link.target
+      k.here k.there),
 )

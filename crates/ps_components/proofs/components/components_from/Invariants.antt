@@ -6,8 +6,11 @@ use Rattle.ps_components.proofs.components.components_from.Given as goal
 
 abbrev pub invariant-loop-root : goal.invariant-loop-root
 invariant-loop-root g l = record {
-  sound : IsSoundSearch (g.G.Graph.graph l.graph) l.search.marks.items l.search.active.items l.search.bounds.items l.search.pending.items l.search.order.items;
+  sound : IsSoundSearch (g.G.Graph.graph l.graph) l.search.marks.items l.search.active.items l.search.bounds.items
+      l.search.pending.items l.search.order.items;
   ended : length l.search.bounds.items ≡ 0;
-  seen : (i v : ℕ) → i < l.root-index → slice_get l.roots i ≡ Some v → ¬ (slice_get l.search.marks.items v ≡ Some Unseen);
-  reached : (v k : ℕ) → slice_get l.search.marks.items v ≡ Some (Closed k) → IsReached (g.G.Graph.graph l.graph) l.roots v;
+  seen : (i v : ℕ) → i < l.root-index → slice_get l.roots i ≡ Some v →
+      ¬ (slice_get l.search.marks.items v ≡ Some Unseen);
+  reached : (v k : ℕ) → slice_get l.search.marks.items v ≡ Some (Closed k) →
+      IsReached (g.G.Graph.graph l.graph) l.roots v;
 }

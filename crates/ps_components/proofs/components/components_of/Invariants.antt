@@ -5,7 +5,8 @@ use Rattle.ps_components.proofs.components.components_of.Given as goal
 
 abbrev pub invariant-loop-item : goal.invariant-loop-item
 invariant-loop-item g l = record {
-  sound : IsSoundSearch (g.G.Graph.graph l.graph) l.search.marks.items l.search.active.items l.search.bounds.items l.search.pending.items l.search.order.items;
+  sound : IsSoundSearch (g.G.Graph.graph l.graph) l.search.marks.items l.search.active.items l.search.bounds.items
+      l.search.pending.items l.search.order.items;
   ended : length l.search.bounds.items ≡ 0;
   seen : (i : ℕ) → i < l.item → ¬ (slice_get l.search.marks.items i ≡ Some Unseen);
 }

@@ -8,5 +8,7 @@ pub loop-number-preserved : goal.loop-number-preserved
 unfolding vertex_count successors_of
 loop-number-preserved c =
     let vertex : get_or c.args.vertices.now c.loop-number.number no_vertex ≡ c.index-vertices-number.result
-    = get_or_default c.args.vertices.now c.loop-number.number _ _ c.loop-number-test.true ∙ sym c.index-vertices-number.is in
-    below_more _ _ c.loop-number.invariant (rw vertex (all_from_find _ _ (sym c.unknown_successor.ensures ∙ c.in_default.is)))
+    = get_or_default c.args.vertices.now c.loop-number.number _ _ c.loop-number-test.true
+    ∙ sym c.index-vertices-number.is in
+    below_more _ _ c.loop-number.invariant (rw vertex (all_from_find _ _
+    (sym c.unknown_successor.ensures ∙ c.in_default.is)))

@@ -4,4 +4,5 @@ use Rattle.ps_game.proofs.laws.no_memory_wins_outside.Goals as goal
 
 pub returns : goal.returns
 returns c game player set table is_game is_player holds v is_vertex inside =
-    WinsByNoMemory-AllHistoriesBeaten game player v is_player (histories_beaten game player set table is_game is_player holds v is_vertex inside)
+    WinsByNoMemory-AllHistoriesBeaten game player v is_player (histories_beaten game player set table is_game is_player
+    holds v is_vertex inside)

@@ -15,6 +15,7 @@ overflow_add-count c =
         sum_by_more count_ones left place 0 (omega (arith, length-drop c.args.start c.args.words.now)),
         sum_by-take-le count_ones left (place + 1),
         sum_by-take-drop count_ones c.args.words.now c.args.start,
-        ap count_ones (get_or-take (length c.args.words.now - c.args.start) left place 0 (omega (arith, c.loop-word-test.true, length-drop c.args.start c.args.words.now))),
+        ap count_ones (get_or-take (length c.args.words.now - c.args.start) left place 0
+            (omega (arith, c.loop-word-test.true, length-drop c.args.start c.args.words.now))),
       );
     }

@@ -15,8 +15,13 @@ loop-group-preserved c =
     let lanes = map (bit_not w64) loaded in
     let long = length-chunk (group * 8) 8 others (omega arith) in
     let eight = length-map loaded (bit_not w64) ∙ long in record {
-      subtracted = group_combined bit_and c.args.words.now c.loop-group.words lanes (λ k. bit_not w64 (get_or others k 0)) group (omega (arith, c.loop-group.auto.words)) eight
-          (λ j less. get_or-map (bit_not w64) loaded j 0 0 (omega (arith, long)) ∙ ap (bit_not w64) (lanes_are others group j less))
+      subtracted =
+          group_combined bit_and c.args.words.now c.loop-group.words lanes (λ k. bit_not w64 (get_or others k 0)) group
+          (omega (arith, c.loop-group.auto.words)) eight
+          (λ j less. get_or-map (bit_not w64) loaded j 0 0 (omega (arith, long))
+          ∙ ap (bit_not w64) (lanes_are others group j less))
           c.loop-group.invariant.subtracted c.loop-group.invariant.rest;
-      rest = group_rest bit_and c.args.words.now c.loop-group.words lanes group (omega (arith, c.loop-group.auto.words)) eight c.loop-group.invariant.rest;
+      rest =
+          group_rest bit_and c.args.words.now c.loop-group.words lanes group (omega (arith, c.loop-group.auto.words))
+          eight c.loop-group.invariant.rest;
     }

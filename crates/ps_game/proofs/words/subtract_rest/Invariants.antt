@@ -6,6 +6,7 @@ use Rattle.ps_game.proofs.words.subtract_rest.Given as goal
 abbrev pub invariant-loop-place : goal.invariant-loop-place
 invariant-loop-place l = record {
   before : (k : ℕ) → k < l.start → get_or l.words k 0 ≡ get_or l.initial.words k 0;
-  subtracted : (k : ℕ) → l.start ≤ k → k < l.place → get_or l.words k 0 ≡ bit_and (get_or l.initial.words k 0) (bit_not w64 (get_or l.others k 0));
+  subtracted : (k : ℕ) → l.start ≤ k → k < l.place → get_or l.words k 0 ≡ bit_and (get_or l.initial.words k 0)
+      (bit_not w64 (get_or l.others k 0));
   rest : (k : ℕ) → l.place ≤ k → get_or l.words k 0 ≡ get_or l.initial.words k 0;
 }

@@ -11,7 +11,11 @@ loop-group-preserved c =
     let others = c.args.others.now in
     let lanes = chunk (group * 8) 8 others in
     let eight = length-chunk (group * 8) 8 others (omega arith) in record {
-      united = group_combined bit_or c.args.words.now c.loop-group.words lanes (λ k. get_or others k 0) group (omega (arith, c.loop-group.auto.words)) eight
+      united =
+          group_combined bit_or c.args.words.now c.loop-group.words lanes (λ k. get_or others k 0) group
+          (omega (arith, c.loop-group.auto.words)) eight
           (lanes_are others group) c.loop-group.invariant.united c.loop-group.invariant.rest;
-      rest = group_rest bit_or c.args.words.now c.loop-group.words lanes group (omega (arith, c.loop-group.auto.words)) eight c.loop-group.invariant.rest;
+      rest =
+          group_rest bit_or c.args.words.now c.loop-group.words lanes group (omega (arith, c.loop-group.auto.words))
+          eight c.loop-group.invariant.rest;
     }

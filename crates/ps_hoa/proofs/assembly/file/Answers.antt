@@ -27,26 +27,34 @@ sets_are : (o : Option Acceptance) → (unwrap_or o nothing).sets ≡ sets_in (o
 sets_are None = refl
 sets_are (Some a) = refl
 
-condition_is : (o : Option Acceptance) → condition_of (unwrap_or o nothing).condition ≡ condition_in (option_map acceptance_data o)
+condition_is : (o : Option Acceptance) → condition_of (unwrap_or o nothing).condition ≡ condition_in
+    (option_map acceptance_data o)
 condition_is None = refl
 condition_is (Some a) = refl
 
 -- the number of states, from what the calls gave
-counted : (states : Option ℕ) (start start' : ℕ) (rows rows' : List RowData) → start ≡ start' → rows ≡ rows' → count_of_states states start rows ≡ count_of_states states start' rows'
+counted : (states : Option ℕ) (start start' : ℕ) (rows rows' : List RowData) → start ≡ start' → rows ≡ rows' →
+    count_of_states states start rows ≡ count_of_states states start' rows'
 counted states start start' rows rows' e f = λ i. count_of_states states (e i) (f i)
 
 pub count_of_states-states-requires : goal.count_of_states-states-requires
 count_of_states-states-requires c =
     let rows = c.as_slice.ensures in
-    subst (λ n. n ≤ state_limit) (sym (counted c.args.header.states _ _ _ _ c.unwrap_or-start.ensures rows)) c.requires.states
+    subst (λ n. n ≤ state_limit) (sym (counted c.args.header.states _ _ _ _ c.unwrap_or-start.ensures rows))
+    c.requires.states
 
 pub labels-requires : goal.labels-requires
-labels-requires c = aliases_ordered 0 (length (names_of (header_data c.args.header))) (expressions c.args.header.aliases.items) c.requires.few_names c.requires.aliases
+labels-requires c =
+    aliases_ordered 0 (length (names_of (header_data c.args.header))) (expressions c.args.header.aliases.items)
+    c.requires.few_names c.requires.aliases
 
 -- the file is that of the header and the rows where each field is
-file_is : (h : Header) (b : BodyData) (f : Inside) → (let v = file_of (header_data h) b in f.states ≡ v.states) → f.start ≡ unwrap_or h.start 0 → f.names ≡ unwrap_or h.names [] →
-    f.controllable ≡ unwrap_or h.controllable [] → expressions f.aliases ≡ expressions h.aliases.items → f.sets ≡ sets_in (option_map acceptance_data h.acceptance) →
-    condition_of f.condition ≡ condition_in (option_map acceptance_data h.acceptance) → map row_data f.rows.rows.items ≡ b.rows → file_data f ≡ file_of (header_data h) b
+file_is : (h : Header) (b : BodyData) (f : Inside) → (let v = file_of (header_data h) b in f.states ≡ v.states) →
+    f.start ≡ unwrap_or h.start 0 → f.names ≡ unwrap_or h.names [] →
+    f.controllable ≡ unwrap_or h.controllable [] → expressions f.aliases ≡ expressions h.aliases.items →
+    f.sets ≡ sets_in (option_map acceptance_data h.acceptance) →
+    condition_of f.condition ≡ condition_in (option_map acceptance_data h.acceptance) →
+    map row_data f.rows.rows.items ≡ b.rows → file_data f ≡ file_of (header_data h) b
 file_is h b f states start names controllable aliases sets condition rows = λ i. record {
   states = states i;
   start = start i;

@@ -12,4 +12,5 @@ returns c =
     let h = header_data c.args.header.now in
     let b = body_data c.args.rows.now in
     reads_one (λ u. u) (next_signs h b) _ _ c.begin_of.result
-    (subst (λ p. Takes (λ u. u) state_value (IsBadNext h b) p c.begin_of.result) c.advance-token.ensures.next c.begin_of.ensures) c.advance-token.ensures.rest
+    (subst (λ p. Takes (λ u. u) state_value (IsBadNext h b) p c.begin_of.result) c.advance-token.ensures.next
+    c.begin_of.ensures) c.advance-token.ensures.rest

@@ -17,4 +17,5 @@ returns c =
     let b = body_data c.args.rows.now in
     meets_mapped found_of hoa_causes (λ u. u) (λ _. b) (one (mark_in is_end) (IsBadClose h b)) _ _ c.end_of.result
     (reads_one (λ u. u) (end_signs h b) _ _ c.end_of.result
-    (subst (λ p. Takes (λ u. u) (mark_in is_end) (IsBadClose h b) p c.end_of.result) c.advance-token.ensures.next c.end_of.ensures) c.advance-token.ensures.rest)
+    (subst (λ p. Takes (λ u. u) (mark_in is_end) (IsBadClose h b) p c.end_of.result) c.advance-token.ensures.next
+    c.end_of.ensures) c.advance-token.ensures.rest)

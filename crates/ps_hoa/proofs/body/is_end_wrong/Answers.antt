@@ -9,5 +9,6 @@ returns-in-Some c =
     let h = header_data c.args.header.now in
     let w = c.has_wrong_count.ensures h (sym c.propositions.ensures) in (
       λ e. (row_data c.in-Some.row.now, sym c.in-Some.ensures, w.0 e),
-      λ k. w.1 (subst (IsWrongCount h) (same_some k.0 (row_data c.in-Some.row.now) (sym k.1 ∙ sym c.in-Some.ensures)) k.2),
+      λ k. w.1 (subst (IsWrongCount h) (same_some k.0 (row_data c.in-Some.row.now) (sym k.1 ∙ sym c.in-Some.ensures))
+          k.2),
     )

@@ -19,14 +19,17 @@ pub returns-then-has-clause-sign : goal.returns-then-has-clause-sign
 returns-then-has-clause-sign c =
     let h = header_data c.args.header.now in
     let b = body_data c.args.rows.now in
-    subst (λ e. Takes {X = ℕ} (λ n. n) int_in (BadIn (IsBadRow h b)) (piece_of c.args.token) (Err e)) (sym c.fault_at.ensures) (
+    subst (λ e. Takes {X = ℕ} (λ n. n) int_in (BadIn (IsBadRow h b)) (piece_of c.args.token) (Err e))
+    (sym c.fault_at.ensures) (
       refl,
-      inl (takes_further (IsBadState c.args.header.now.states) (Again b) (piece_of c.args.token) c.in_ok-state.state StateTwice c.in_ok-state.ensures
+      inl (takes_further (IsBadState c.args.header.now.states) (Again b) (piece_of c.args.token) c.in_ok-state.state
+          StateTwice c.in_ok-state.ensures
           (sym c.has.ensures ∙ c.if-has.true, refl)
           (λ g k. subst (λ z. cause_number StateTwice ≤ cause_number z) (sym k.1) (omega arith))),
     )
 
 pub returns-clause-sign : goal.returns-clause-sign
 returns-clause-sign c =
-    takes_both (IsBadState c.args.header.now.states) (Again (body_data c.args.rows.now)) (piece_of c.args.token).sign c.in_ok-state.state c.in_ok-state.ensures
+    takes_both (IsBadState c.args.header.now.states) (Again (body_data c.args.rows.now)) (piece_of c.args.token).sign
+    c.in_ok-state.state c.in_ok-state.ensures
     (λ f k. false_true (sym c.if-has.false ∙ c.has.ensures ∙ k.0))

@@ -17,9 +17,11 @@ returns-then-is_at c =
     let k = c.is_at.ensures.0 c.if-is_at.true in
     let v = string_next s k in
     reads_as (at_name s k) (reads_mapped nothing_of
-    (reads_one {X = List ℕ} (λ n. n) signs_string s (stream_of c.advance.new.self) (Ok v.0) (record { some = v.1; good = λ f b. b }) c.advance.ensures.rest))
+    (reads_one {X = List ℕ} (λ n. n) signs_string s (stream_of c.advance.new.self) (Ok v.0)
+    (record { some = v.1; good = λ f b. b }) c.advance.ensures.rest))
 
 pub returns-else-is_at : goal.returns-else-is_at
 returns-else-is_at c =
     let s = stream_of c.args.tokens.now in
-    reads_as (at_no_name s (avoids_test is_text Text test_text s c.is_at.result c.is_at.ensures c.if-is_at.false)) (reads_give s tt)
+    reads_as (at_no_name s (avoids_test is_text Text test_text s c.is_at.result c.is_at.ensures c.if-is_at.false))
+    (reads_give s tt)

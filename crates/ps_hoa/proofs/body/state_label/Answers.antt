@@ -13,19 +13,24 @@ use Rattle.ps_hoa.proofs.body.state_label.Goals as goal
 pub returns-then-not-is_at : goal.returns-then-not-is_at
 returns-then-not-is_at c =
     let s = stream_of c.args.tokens.now in
-    reads_as (at_no_label (header_data c.args.header.now) s (avoids_test is_left_bracket LeftBracket test_left_bracket s c.is_at.result c.is_at.ensures c.if-not-is_at.true)) (reads_give s _)
+    reads_as (at_no_label (header_data c.args.header.now) s (avoids_test is_left_bracket LeftBracket test_left_bracket s
+    c.is_at.result c.is_at.ensures c.if-not-is_at.true)) (reads_give s _)
 
 pub returns-in_err-mark : goal.returns-in_err-mark
 returns-in_err-mark c =
     let h = header_data c.args.header.now in
-    exits found_of hoa_causes _ _ _ _ _ _ (stops_as_well hoa_causes _ _ (at_label h (stream_of c.args.tokens.now) (c.is_at.ensures.0 c.if-not-is_at.false))
-    (stops_first hoa_causes (joint_bracket h) _ _ (c.in_err-mark.ensures is_left_bracket test_left_bracket))) c.from_residual.ensures.1
+    exits found_of hoa_causes _ _ _ _ _ _ (stops_as_well hoa_causes _ _
+    (at_label h (stream_of c.args.tokens.now) (c.is_at.ensures.0 c.if-not-is_at.false))
+    (stops_first hoa_causes (joint_bracket h) _ _ (c.in_err-mark.ensures is_left_bracket test_left_bracket)))
+    c.from_residual.ensures.1
 
 pub returns-in_err-label : goal.returns-in_err-label
 returns-in_err-label c =
     let h = header_data c.args.header.now in
-    exits found_of hoa_causes _ _ _ _ _ _ (stops_as_well hoa_causes _ _ (at_label h (stream_of c.args.tokens.now) (c.is_at.ensures.0 c.if-not-is_at.false))
-    (stops_behind hoa_causes (joint_bracket h) (c.in_ok-mark.ensures is_left_bracket test_left_bracket) _ c.in_err-label.ensures)) c.from_residual-in_err-label.ensures.1
+    exits found_of hoa_causes _ _ _ _ _ _ (stops_as_well hoa_causes _ _
+    (at_label h (stream_of c.args.tokens.now) (c.is_at.ensures.0 c.if-not-is_at.false))
+    (stops_behind hoa_causes (joint_bracket h) (c.in_ok-mark.ensures is_left_bracket test_left_bracket) _
+    c.in_err-label.ensures)) c.from_residual-in_err-label.ensures.1
 
 pub returns : goal.returns
 returns c =

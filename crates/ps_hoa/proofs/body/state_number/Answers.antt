@@ -12,4 +12,5 @@ pub returns-clause-part : goal.returns-clause-part
 returns-clause-part c =
     let Bad = IsBadRow (header_data c.args.header.now) (body_data c.args.rows.now) in
     reads_one {X = ℕ} (λ n. n) (int_signs Bad) _ _ c.new_state_of.result
-    (subst (λ p. Takes {X = ℕ} (λ n. n) int_in (BadIn Bad) p c.new_state_of.result) c.advance-token.ensures.next c.new_state_of.ensures.sign) c.advance-token.ensures.rest
+    (subst (λ p. Takes {X = ℕ} (λ n. n) int_in (BadIn Bad) p c.new_state_of.result) c.advance-token.ensures.next
+    c.new_state_of.ensures.sign) c.advance-token.ensures.rest

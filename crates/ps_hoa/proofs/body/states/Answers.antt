@@ -15,7 +15,8 @@ use Rattle.ps_hoa.proofs.body.states.Goals as goal
 pub more-init : goal.more-init
 more-init c =
     let h = header_data c.args.header.now in
-    subst (λ (b : BodyData). Carries hoa_causes (many (state h) no_rows) (stream_of c.args.tokens.now) (many (state h) b) (stream_of c.args.tokens.now)) (sym c.new-rows.ensures)
+    subst (λ (b : BodyData). Carries hoa_causes (many (state h) no_rows) (stream_of c.args.tokens.now)
+    (many (state h) b) (stream_of c.args.tokens.now)) (sym c.new-rows.ensures)
     (carries_start hoa_causes (many (state h) no_rows) (stream_of c.args.tokens.now))
 
 pub more-smaller : goal.more-smaller
@@ -29,12 +30,15 @@ more-preserved c = let h = header_data c.args.header.now in
 pub returns-in_err-state : goal.returns-in_err-state
 returns-in_err-state c =
     let h = header_data c.args.header.now in
-    exits found_of hoa_causes _ _ _ _ _ _ (carries_stops hoa_causes (many (state h) no_rows) (many (state h) (body_data c.more.rows)) _ _ _ c.more.invariant
+    exits found_of hoa_causes _ _ _ _ _ _ (carries_stops hoa_causes (many (state h) no_rows)
+    (many (state h) (body_data c.more.rows)) _ _ _ c.more.invariant
     (many_fails (state h) (laws_state h) state_apart hoa_causes (body_data c.more.rows) _ _
-    (enters_state h (body_data c.more.rows) (stream_of c.more.tokens) (sym c.is_at_state.ensures ∙ c.more-test.true)) c.in_err-state.ensures)) c.from_residual.ensures.1
+    (enters_state h (body_data c.more.rows) (stream_of c.more.tokens) (sym c.is_at_state.ensures ∙ c.more-test.true))
+    c.in_err-state.ensures)) c.from_residual.ensures.1
 
 pub returns : goal.returns
 returns c =
     let h = header_data c.args.header.now in
-    carries_reads hoa_causes c.more.invariant (many_ends (state h) (laws_state h) state_apart (body_data c.more.rows) (stream_of c.more.tokens)
+    carries_reads hoa_causes c.more.invariant (many_ends (state h) (laws_state h) state_apart (body_data c.more.rows)
+    (stream_of c.more.tokens)
     (avoids_state (stream_of c.more.tokens) (sym c.is_at_state.ensures ∙ c.more-test.false)))

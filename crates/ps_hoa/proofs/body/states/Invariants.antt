@@ -9,7 +9,9 @@ use Rattle.ps_hoa.specs.Views.{header_data}
 use Rattle.ps_hoa.proofs.body.states.Given as goal
 
 abbrev pub invariant-more : goal.invariant-more
-invariant-more l = Carries hoa_causes (many (state (header_data l.header)) no_rows) (stream_of l.fn.tokens) (many (state (header_data l.header)) (body_data l.rows)) (stream_of l.tokens)
+invariant-more l =
+    Carries hoa_causes (many (state (header_data l.header)) no_rows) (stream_of l.fn.tokens)
+    (many (state (header_data l.header)) (body_data l.rows)) (stream_of l.tokens)
 
 abbrev pub decreases-more : goal.decreases-more
 decreases-more l = length (stream_of l.tokens).pieces

@@ -8,4 +8,5 @@ use Rattle.ps_hoa.proofs.condition.constant.Goals as goal
 
 pub returns : goal.returns
 returns c = reads_one condition_of (constant_signs c.args.room) _ _ c.constant_of.result
-    (subst (λ p. Takes condition_of constant_in (BadStart c.args.room) p c.constant_of.result) c.advance-token.ensures.next c.constant_of.ensures) c.advance-token.ensures.rest
+    (subst (λ p. Takes condition_of constant_in (BadStart c.args.room) p c.constant_of.result)
+    c.advance-token.ensures.next c.constant_of.ensures) c.advance-token.ensures.rest

@@ -6,7 +6,9 @@ use Rattle.ps_hoa.proofs.CondRows.{condition_of-All, condition_of-Any}
 use Rattle.ps_hoa.proofs.condition.together.Goals as goal
 
 pub returns-in-And : goal.returns-in-And
-returns-in-And c = let cs = c.args.operands in subst (λ k. condition_of (All cs) ≡ together k (map condition_of cs.items)) (sym c.in-And.is) (condition_of-All cs)
+returns-in-And c = let cs = c.args.operands in
+    subst (λ k. condition_of (All cs) ≡ together k (map condition_of cs.items)) (sym c.in-And.is) (condition_of-All cs)
 
 pub returns-in-Or : goal.returns-in-Or
-returns-in-Or c = let cs = c.args.operands in subst (λ k. condition_of (Any cs) ≡ together k (map condition_of cs.items)) (sym c.in-Or.is) (condition_of-Any cs)
+returns-in-Or c = let cs = c.args.operands in
+    subst (λ k. condition_of (Any cs) ≡ together k (map condition_of cs.items)) (sym c.in-Or.is) (condition_of-Any cs)

@@ -7,5 +7,7 @@ use Rattle.ps_hoa.proofs.SingleSigns.{reads_one}
 use Rattle.ps_hoa.proofs.edges.bracket.Goals as goal
 
 pub returns-clause-part : goal.returns-clause-part
-returns-clause-part c = reads_one (λ u. u) (bracket_signs c.args.before (row_data c.args.row.now)) _ _ c.bracket_of.result
-    (subst (λ p. Takes (λ u. u) is_bracket (IsBadBracket c.args.before (row_data c.args.row.now)) p c.bracket_of.result) c.advance-token.ensures.next c.bracket_of.ensures.sign) c.advance-token.ensures.rest
+returns-clause-part c =
+    reads_one (λ u. u) (bracket_signs c.args.before (row_data c.args.row.now)) _ _ c.bracket_of.result
+    (subst (λ p. Takes (λ u. u) is_bracket (IsBadBracket c.args.before (row_data c.args.row.now)) p c.bracket_of.result)
+    c.advance-token.ensures.next c.bracket_of.ensures.sign) c.advance-token.ensures.rest

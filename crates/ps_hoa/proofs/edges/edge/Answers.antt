@@ -10,10 +10,12 @@ use Rattle.ps_hoa.proofs.edges.edge.Goals as goal
 pub returns-then-is_at-clause-part : goal.returns-then-is_at-clause-part
 returns-then-is_at-clause-part c =
     meets_as found_of hoa_causes _ _ _ c.labelled_edge.result
-    (at_bracket (header_data c.args.header.now) c.args.before (row_data c.args.row.now) (stream_of c.args.tokens.now) (c.is_at.ensures.0 c.if-is_at.true)) c.labelled_edge.ensures.part
+    (at_bracket (header_data c.args.header.now) c.args.before (row_data c.args.row.now) (stream_of c.args.tokens.now)
+    (c.is_at.ensures.0 c.if-is_at.true)) c.labelled_edge.ensures.part
 
 pub returns-else-is_at-clause-part : goal.returns-else-is_at-clause-part
 returns-else-is_at-clause-part c =
     meets_as found_of hoa_causes _ _ _ c.plain_edge.result
     (at_no_bracket (header_data c.args.header.now) c.args.before (row_data c.args.row.now) (stream_of c.args.tokens.now)
-    (avoids_test is_left_bracket LeftBracket test_left_bracket (stream_of c.args.tokens.now) c.is_at.result c.is_at.ensures c.if-is_at.false)) c.plain_edge.ensures.part
+    (avoids_test is_left_bracket LeftBracket test_left_bracket (stream_of c.args.tokens.now) c.is_at.result
+    c.is_at.ensures c.if-is_at.false)) c.plain_edge.ensures.part

@@ -18,7 +18,9 @@ more-smaller c = let h = header_data c.args.header.now in
 
 pub more-preserved : goal.more-preserved
 more-preserved c = let h = header_data c.args.header.now in record {
-  carries = carries_many (edge h c.args.before) (laws_edge h c.args.before) edge_apart hoa_causes c.more.invariant.carries c.in_ok-edge.ensures.part;
+  carries =
+      carries_many (edge h c.args.before) (laws_edge h c.args.before) edge_apart hoa_causes c.more.invariant.carries
+      c.in_ok-edge.ensures.part;
   within = c.in_ok-edge.ensures.within;
   same = c.edge.ensures.same ∙ c.more.invariant.same;
 }
@@ -26,12 +28,18 @@ more-preserved c = let h = header_data c.args.header.now in record {
 pub returns-in_err-edge-clause-part : goal.returns-in_err-edge-clause-part
 returns-in_err-edge-clause-part c =
     let item = edge (header_data c.args.header.now) c.args.before in
-    exits found_of hoa_causes _ _ _ _ _ _ (carries_stops hoa_causes (many item (row_data c.args.row.now)) (many item (row_data c.more.row)) _ _ _ c.more.invariant.carries
-    (many_fails item (laws_edge (header_data c.args.header.now) c.args.before) edge_apart hoa_causes (row_data c.more.row) _ _
-    (enters_edge (header_data c.args.header.now) c.args.before (row_data c.more.row) (stream_of c.more.tokens) (sym c.is_at_edge.ensures ∙ c.more-test.true)) c.in_err-edge.ensures.part)) c.from_residual.ensures.1
+    exits found_of hoa_causes _ _ _ _ _ _ (carries_stops hoa_causes (many item (row_data c.args.row.now))
+    (many item (row_data c.more.row)) _ _ _ c.more.invariant.carries
+    (many_fails item (laws_edge (header_data c.args.header.now) c.args.before) edge_apart hoa_causes
+    (row_data c.more.row) _ _
+    (enters_edge (header_data c.args.header.now) c.args.before (row_data c.more.row) (stream_of c.more.tokens)
+    (sym c.is_at_edge.ensures ∙ c.more-test.true)) c.in_err-edge.ensures.part)) c.from_residual.ensures.1
 
 pub returns-clause-part : goal.returns-clause-part
 returns-clause-part c =
     let item = edge (header_data c.args.header.now) c.args.before in
-    carries_reads hoa_causes c.more.invariant.carries (many_ends item (laws_edge (header_data c.args.header.now) c.args.before) edge_apart (row_data c.more.row) (stream_of c.more.tokens)
-    (avoids_kind begins_edge (stream_of c.more.tokens) (λ k. false_true (sym c.more-test.false ∙ c.is_at_edge.ensures ∙ k))))
+    carries_reads hoa_causes c.more.invariant.carries (many_ends item
+    (laws_edge (header_data c.args.header.now) c.args.before) edge_apart (row_data c.more.row)
+    (stream_of c.more.tokens)
+    (avoids_kind begins_edge (stream_of c.more.tokens) (λ k. false_true
+    (sym c.more-test.false ∙ c.is_at_edge.ensures ∙ k))))

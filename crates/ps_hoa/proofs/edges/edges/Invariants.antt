@@ -9,7 +9,8 @@ use Rattle.ps_hoa.proofs.edges.edges.Given as goal
 
 abbrev pub invariant-more : goal.invariant-more
 invariant-more l = record {
-  carries : Carries hoa_causes (many (edge (header_data l.header) l.before) (row_data l.fn.row)) (stream_of l.fn.tokens) (many (edge (header_data l.header) l.before) (row_data l.row)) (stream_of l.tokens);
+  carries : Carries hoa_causes (many (edge (header_data l.header) l.before) (row_data l.fn.row)) (stream_of l.fn.tokens)
+      (many (edge (header_data l.header) l.before) (row_data l.row)) (stream_of l.tokens);
   within : l.before + length l.row.edges.items ≤ edge_limit;
   same : l.row.state ≡ l.fn.row.state;
 }

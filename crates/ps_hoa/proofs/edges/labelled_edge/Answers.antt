@@ -13,39 +13,47 @@ pub returns-in_err-bracket-clause-part : goal.returns-in_err-bracket-clause-part
 returns-in_err-bracket-clause-part c =
     let h = header_data c.args.header.now in
     let row = row_data c.args.row.now in
-    exits found_of hoa_causes _ _ _ _ _ _ (stops_first hoa_causes (joint_edge_label h c.args.before row) _ _ c.in_err-bracket.ensures.part) c.from_residual.ensures.1
+    exits found_of hoa_causes _ _ _ _ _ _ (stops_first hoa_causes (joint_edge_label h c.args.before row) _ _
+    c.in_err-bracket.ensures.part) c.from_residual.ensures.1
 
 pub returns-in_err-label-clause-part : goal.returns-in_err-label-clause-part
 returns-in_err-label-clause-part c =
     let h = header_data c.args.header.now in
     let row = row_data c.args.row.now in
-    exits found_of hoa_causes _ _ _ _ _ _ (stops_behind hoa_causes (joint_edge_label h c.args.before row) c.in_ok-bracket.ensures.part _
-    (stops_first hoa_causes (joint_edge_target h c.args.before row) _ _ c.in_err-label.ensures)) c.from_residual-in_err-label.ensures.1
+    exits found_of hoa_causes _ _ _ _ _ _ (stops_behind hoa_causes (joint_edge_label h c.args.before row)
+    c.in_ok-bracket.ensures.part _
+    (stops_first hoa_causes (joint_edge_target h c.args.before row) _ _ c.in_err-label.ensures))
+    c.from_residual-in_err-label.ensures.1
 
 pub returns-in_err-target-clause-part : goal.returns-in_err-target-clause-part
 returns-in_err-target-clause-part c =
     let h = header_data c.args.header.now in
     let row = row_data c.args.row.now in
-    exits found_of hoa_causes _ _ _ _ _ _ (stops_behind hoa_causes (joint_edge_label h c.args.before row) c.in_ok-bracket.ensures.part _
+    exits found_of hoa_causes _ _ _ _ _ _ (stops_behind hoa_causes (joint_edge_label h c.args.before row)
+    c.in_ok-bracket.ensures.part _
     (stops_behind hoa_causes (joint_edge_target h c.args.before row) c.in_ok-label.ensures _
-    (stops_first hoa_causes (joint_edge_marks h c.args.before row (Some (expression c.in_ok-label.label))) _ _ c.in_err-target.ensures))) c.from_residual-in_err-target.ensures.1
+    (stops_first hoa_causes (joint_edge_marks h c.args.before row (Some (expression c.in_ok-label.label))) _ _
+    c.in_err-target.ensures))) c.from_residual-in_err-target.ensures.1
 
 pub returns-in_err-marks-clause-part : goal.returns-in_err-marks-clause-part
 returns-in_err-marks-clause-part c =
     let h = header_data c.args.header.now in
     let row = row_data c.args.row.now in
     let label = Some (expression c.in_ok-label.label) in
-    exits found_of hoa_causes _ _ _ _ _ _ (stops_behind hoa_causes (joint_edge_label h c.args.before row) c.in_ok-bracket.ensures.part _
+    exits found_of hoa_causes _ _ _ _ _ _ (stops_behind hoa_causes (joint_edge_label h c.args.before row)
+    c.in_ok-bracket.ensures.part _
     (stops_behind hoa_causes (joint_edge_target h c.args.before row) c.in_ok-label.ensures _
     (stops_behind hoa_causes (joint_edge_marks h c.args.before row label) c.in_ok-target.ensures _
-    (stops_mapped hoa_causes (with_edge row label c.in_ok-target.target) (marks h) _ _ c.in_err-marks.ensures)))) c.from_residual-in_err-marks.ensures.1
+    (stops_mapped hoa_causes (with_edge row label c.in_ok-target.target) (marks h) _ _ c.in_err-marks.ensures))))
+    c.from_residual-in_err-marks.ensures.1
 
 pub returns-clause-part : goal.returns-clause-part
 returns-clause-part c =
     let h = header_data c.args.header.now in
     let row = row_data c.args.row.now in
     let label = Some (expression c.in_ok-label.label) in
-    reads_value (ap (λ (es : List EdgeData). record row { edges = es }) (pushed_edge c.args.row.now.edges.items c.push.new.self.items _ c.in_ok-push.ensures.items))
+    reads_value (ap (λ (es : List EdgeData). record row { edges = es })
+    (pushed_edge c.args.row.now.edges.items c.push.new.self.items _ c.in_ok-push.ensures.items))
     (reads_then (joint_edge_label h c.args.before row) c.in_ok-bracket.ensures.part
     (reads_then (joint_edge_target h c.args.before row) c.in_ok-label.ensures
     (reads_then (joint_edge_marks h c.args.before row label) c.in_ok-target.ensures

@@ -14,10 +14,12 @@ pub returns-then-is_at : goal.returns-then-is_at
 returns-then-is_at c =
     meets_as found_of hoa_causes (λ ns. ns.items) _ _ c.sets.result
     (at_brace (header_data c.args.header.now) (stream_of c.args.tokens.now) (c.is_at.ensures.0 c.if-is_at.true))
-    (subst (λ count. ReadsAs (λ ns. ns.items) (sets count) c.args.tokens.now c.sets.result c.sets.new.tokens) c.sets-count.ensures c.sets.ensures)
+    (subst (λ count. ReadsAs (λ ns. ns.items) (sets count) c.args.tokens.now c.sets.result c.sets.new.tokens)
+    c.sets-count.ensures c.sets.ensures)
 
 pub returns-else-is_at : goal.returns-else-is_at
 returns-else-is_at c =
     reads_value (sym c.new.ensures.items)
     (reads_as (at_no_brace (header_data c.args.header.now) (stream_of c.args.tokens.now)
-    (avoids_test is_left_brace LeftBrace test_left_brace (stream_of c.args.tokens.now) c.is_at.result c.is_at.ensures c.if-is_at.false)) (reads_give (stream_of c.args.tokens.now) _))
+    (avoids_test is_left_brace LeftBrace test_left_brace (stream_of c.args.tokens.now) c.is_at.result c.is_at.ensures
+    c.if-is_at.false)) (reads_give (stream_of c.args.tokens.now) _))

@@ -12,21 +12,29 @@ pub returns-in_err-target-clause-part : goal.returns-in_err-target-clause-part
 returns-in_err-target-clause-part c =
     let h = header_data c.args.header.now in
     let row = row_data c.args.row.now in
-    exits found_of hoa_causes _ _ _ _ _ _ (stops_first hoa_causes (joint_plain_marks h c.args.before row) _ _ c.in_err-target.ensures.part) c.from_residual.ensures.1
+    exits found_of hoa_causes _ _ _ _ _ _ (stops_first hoa_causes (joint_plain_marks h c.args.before row) _ _
+    c.in_err-target.ensures.part) c.from_residual.ensures.1
 
 pub returns-in_err-marks-clause-part : goal.returns-in_err-marks-clause-part
 returns-in_err-marks-clause-part c =
     let h = header_data c.args.header.now in
     let row = row_data c.args.row.now in
-    exits found_of hoa_causes _ _ _ _ _ _ (stops_behind hoa_causes (joint_plain_marks h c.args.before row) c.in_ok-target.ensures.part _
-    (stops_mapped hoa_causes (with_edge row None c.in_ok-target.target) (marks h) _ _ c.in_err-marks.ensures)) c.from_residual-in_err-marks.ensures.1
+    exits found_of hoa_causes _ _ _ _ _ _ (stops_behind hoa_causes (joint_plain_marks h c.args.before row)
+    c.in_ok-target.ensures.part _
+    (stops_mapped hoa_causes (with_edge row None c.in_ok-target.target) (marks h) _ _ c.in_err-marks.ensures))
+    c.from_residual-in_err-marks.ensures.1
 
 pub returns-clause-part : goal.returns-clause-part
 returns-clause-part c =
     let h = header_data c.args.header.now in
     let row = row_data c.args.row.now in
     let es = c.args.row.now.edges.items in
-    reads_value (ap (λ (g : GuardData). record row { edges = map edge_data es ++ record { guard = g; target = c.in_ok-target.target; marks = c.in_ok-marks.marks.items } ∷ [] }) (sym c.plain_guard-guard.ensures)
-    ∙ ap (λ (list : List EdgeData). record row { edges = list }) (pushed_edge es c.push.new.self.items _ c.in_ok-push.ensures.items))
+    reads_value (ap (λ (g : GuardData). record row {
+      edges = map edge_data es ++
+          record { guard = g; target = c.in_ok-target.target; marks = c.in_ok-marks.marks.items } ∷ [];
+    })
+    (sym c.plain_guard-guard.ensures)
+    ∙ ap (λ (list : List EdgeData). record row { edges = list })
+    (pushed_edge es c.push.new.self.items _ c.in_ok-push.ensures.items))
     (reads_then (joint_plain_marks h c.args.before row) c.in_ok-target.ensures.part
     (reads_mapped (with_edge row None c.in_ok-target.target) c.in_ok-marks.ensures))

@@ -1,4 +1,5 @@
-use Rattle.std.proofs.Common.{rules, List, Bool, true, false, not, ◌≡◌, ℕ, ◌+◌, ◌-◌, ◌≤◌, ◌<◌, ◌⊎◌, map, length, Option, None, Some, Err, refl, sym, subst, inl, inr, ◌∙◌, arith}
+use Rattle.std.proofs.Common.{rules, List, Bool, true, false, not, ◌≡◌, ℕ, ◌+◌, ◌-◌, ◌≤◌, ◌<◌, ◌⊎◌, map, length, Option}
+use Rattle.std.proofs.Common.{None, Some, Err, refl, sym, subst, inl, inr, ◌∙◌, arith}
 use Rattle.std.proofs.lemmas.List.{length-map}
 use denote.Enum.Bare.{same_true}
 use Rattle.ps_hoa.specs.contracts.tokens.Kind.{the_type}
@@ -21,30 +22,41 @@ use Rattle.ps_hoa.proofs.IntSigns.{takes_err, takes_further, takes_both}
 use Rattle.ps_hoa.proofs.edges.plain_target_of.Goals as goal
 
 abbrev OfRow : ℕ → RowData → ℕ → HoaCause → Type 0
-OfRow before row n f = ((edge_limit ≤ before + length row.edges) × (f ≡ Limit)) ⊎ ((MayHaveNoLabel (parts.labelling row) → ⊥) × (f ≡ Labels))
+OfRow before row n f =
+    ((edge_limit ≤ before + length row.edges) × (f ≡ Limit)) ⊎
+    ((MayHaveNoLabel (parts.labelling row) → ⊥) × (f ≡ Labels))
 
 at_most : (f g f' g' : HoaCause) → f ≡ f' → g ≡ g' → cause_number f' ≤ cause_number g' → cause_number f ≤ cause_number g
-at_most f g f' g' d e h = subst (λ x. cause_number x ≤ cause_number g) (sym d) (subst (λ y. cause_number f' ≤ cause_number y) (sym e) h)
+at_most f g f' g' d e h =
+    subst (λ x. cause_number x ≤ cause_number g) (sym d) (subst (λ y. cause_number f' ≤ cause_number y) (sym e) h)
 
-later : (states : Option ℕ) (before : ℕ) (row : RowData) → before + length row.edges < edge_limit → (n : ℕ) (f g : HoaCause) → IsBadState states n f → OfRow before row n g → cause_number f ≤ cause_number g
+later : (states : Option ℕ) (before : ℕ) (row : RowData) → before + length row.edges < edge_limit →
+    (n : ℕ) (f g : HoaCause) → IsBadState states n f → OfRow before row n g → cause_number f ≤ cause_number g
 later states before row room n f g b (inl e) = absurd (omega (arith, room, e.0))
 later (Some s) before row room n f g (inl b) (inr e) = at_most f g Limit Labels b.1 e.1 (omega arith)
 later (Some s) before row room n f g (inr b) (inr e) = at_most f g Range Labels b.1 e.1 (omega arith)
 later None before row room n f g b (inr e) = at_most f g Limit Labels b.1 e.1 (omega arith)
 
-smallest : (states : Option ℕ) (before : ℕ) (row : RowData) (n : ℕ) (g : HoaCause) → IsBadPlainTarget states before row n g → cause_number Limit ≤ cause_number g
+smallest : (states : Option ℕ) (before : ℕ) (row : RowData) (n : ℕ) (g : HoaCause) →
+    IsBadPlainTarget states before row n g → cause_number Limit ≤ cause_number g
 smallest (Some s) before row n g (inl (inl b)) = at_most Limit g Limit Limit refl b.1 (omega arith)
 smallest (Some s) before row n g (inl (inr b)) = at_most Limit g Limit Range refl b.1 (omega arith)
 smallest None before row n g (inl b) = at_most Limit g Limit Limit refl b.1 (omega arith)
 smallest states before row n g (inr (inl b)) = at_most Limit g Limit Limit refl b.1 (omega arith)
 smallest states before row n g (inr (inr b)) = at_most Limit g Limit Labels refl b.1 (omega arith)
 
-full_worst : (states : Option ℕ) (before : ℕ) (row : RowData) (kind : Kind) (text : List ℕ) → kind ≡ Int → edge_limit ≤ before + length row.edges →
+full_worst : (states : Option ℕ) (before : ℕ) (row : RowData) (kind : Kind) (text : List ℕ) → kind ≡ Int →
+    edge_limit ≤ before + length row.edges →
     IsWorst (BadIn (IsBadPlainTarget states before row)) (record { kind = kind; text = text }) Limit
-full_worst states before row kind text e full = subst (λ k. IsWorst (BadIn (IsBadPlainTarget states before row)) (record { kind = k; text = text }) Limit) (sym e)
-    (record { stands = (inr (inl (full, refl)), λ k. none_is_some _ (sym k)); least = λ g b. smallest states before row _ g b.0 })
+full_worst states before row kind text e full =
+    subst (λ k. IsWorst (BadIn (IsBadPlainTarget states before row)) (record { kind = k; text = text }) Limit) (sym e)
+    (record {
+      stands = (inr (inl (full, refl)), λ k. none_is_some _ (sym k));
+      least = λ g b. smallest states before row _ g b.0;
+    })
 
-labels_last : (before : ℕ) (row : RowData) → before + length row.edges < edge_limit → (n : ℕ) (g : HoaCause) → OfRow before row n g → cause_number Labels ≤ cause_number g
+labels_last : (before : ℕ) (row : RowData) → before + length row.edges < edge_limit → (n : ℕ) (g : HoaCause) →
+    OfRow before row n g → cause_number Labels ≤ cause_number g
 labels_last before row room n g (inl e) = absurd (omega (arith, room, e.0))
 labels_last before row room n g (inr e) = at_most Labels g Labels Labels refl e.1 (omega arith)
 
@@ -54,7 +66,8 @@ needs_none ByEdge h = absurd (h refl)
 needs_none ByPlace h = tt
 needs_none NotKnown h = tt
 
-none_of_row : (before : ℕ) (row : RowData) → before + length row.edges < edge_limit → (parts.labelling row ≡ ByEdge → ⊥) → (n : ℕ) (g : HoaCause) → OfRow before row n g → ⊥
+none_of_row : (before : ℕ) (row : RowData) → before + length row.edges < edge_limit →
+    (parts.labelling row ≡ ByEdge → ⊥) → (n : ℕ) (g : HoaCause) → OfRow before row n g → ⊥
 none_of_row before row room other n g (inl e) = omega (arith, room, e.0)
 none_of_row before row room other n g (inr e) = e.0 (needs_none (parts.labelling row) other)
 
@@ -64,37 +77,52 @@ not_not false e = let x : true ≡ false = e in cc
 
 pub returns-then-len-before-clause-sign : goal.returns-then-len-before-clause-sign
 returns-then-len-before-clause-sign c =
-    let len : length (map edge_data c.args.row.now.edges.items) ≡ c.len.result = length-map c.args.row.now.edges.items edge_data ∙ sym c.args.row.now.edges.ok.0 ∙ sym c.len.ensures in
-    let k : c.args.token.kind ≡ Int = same_true the_type (search rules) _ _ (not_not _ (sym c.ne.ensures ∙ c.if-ne.false)) in
-    subst (λ e. Takes {X = ℕ} (λ n. n) int_in (BadIn (IsBadPlainTarget c.args.states c.args.before (row_data c.args.row.now))) (piece_of c.args.token) (Err e)) (sym c.fault_at.ensures)
-    (refl, inl (full_worst c.args.states c.args.before (row_data c.args.row.now) c.args.token.kind c.args.token.text.now k (omega (arith, len, c.if-len-before.true, c.requires))))
+    let len : length (map edge_data c.args.row.now.edges.items) ≡ c.len.result =
+    length-map c.args.row.now.edges.items edge_data ∙ sym c.args.row.now.edges.ok.0 ∙ sym c.len.ensures in
+    let k : c.args.token.kind ≡ Int =
+    same_true the_type (search rules) _ _ (not_not _ (sym c.ne.ensures ∙ c.if-ne.false)) in
+    subst (λ e. Takes {X = ℕ} (λ n. n) int_in (BadIn (IsBadPlainTarget c.args.states c.args.before
+    (row_data c.args.row.now))) (piece_of c.args.token) (Err e)) (sym c.fault_at.ensures) (
+      refl,
+      inl (full_worst c.args.states c.args.before (row_data c.args.row.now) c.args.token.kind c.args.token.text.now
+          k (omega (arith, len, c.if-len-before.true, c.requires))),
+    )
 
 room_left : (before count len : ℕ) → count ≡ len → before ≤ 1048576 → len < 1048576 - before → before + count < 1048576
 room_left before count len e b h = omega arith
 
 pub returns-in_err-target-clause-sign : goal.returns-in_err-target-clause-sign
 returns-in_err-target-clause-sign c =
-    let len : length (map edge_data c.args.row.now.edges.items) ≡ c.len.result = length-map c.args.row.now.edges.items edge_data ∙ sym c.args.row.now.edges.ok.0 ∙ sym c.len.ensures in
+    let len : length (map edge_data c.args.row.now.edges.items) ≡ c.len.result =
+    length-map c.args.row.now.edges.items edge_data ∙ sym c.args.row.now.edges.ok.0 ∙ sym c.len.ensures in
     takes_err (IsBadState c.args.states) (OfRow c.args.before (row_data c.args.row.now))
-    (later c.args.states c.args.before (row_data c.args.row.now) (room_left c.args.before _ _ len c.requires c.if-len-before.false))
-    (piece_of c.args.token) c.in_err-target.field-0.0 c.from_residual.result c.in_err-target.ensures c.from_residual.ensures.1
+    (later c.args.states c.args.before (row_data c.args.row.now)
+    (room_left c.args.before _ _ len c.requires c.if-len-before.false))
+    (piece_of c.args.token) c.in_err-target.field-0.0 c.from_residual.result c.in_err-target.ensures
+    c.from_residual.ensures.1
 
 pub returns-in-ByEdge-clause-sign : goal.returns-in-ByEdge-clause-sign
 returns-in-ByEdge-clause-sign c =
-    let len : length (map edge_data c.args.row.now.edges.items) ≡ c.len.result = length-map c.args.row.now.edges.items edge_data ∙ sym c.args.row.now.edges.ok.0 ∙ sym c.len.ensures in
+    let len : length (map edge_data c.args.row.now.edges.items) ≡ c.len.result =
+    length-map c.args.row.now.edges.items edge_data ∙ sym c.args.row.now.edges.ok.0 ∙ sym c.len.ensures in
     let room = room_left c.args.before _ _ len c.requires c.if-len-before.false in
     let by : parts.labelling (row_data c.args.row.now) ≡ ByEdge = sym c.labelling_of.ensures ∙ c.in-ByEdge.is in
-    subst (λ e. Takes {X = ℕ} (λ n. n) int_in (BadIn (IsBadPlainTarget c.args.states c.args.before (row_data c.args.row.now))) (piece_of c.args.token) (Err e)) (sym c.fault_at-in-ByEdge.ensures) (
+    subst (λ e. Takes {X = ℕ} (λ n. n) int_in (BadIn (IsBadPlainTarget c.args.states c.args.before
+    (row_data c.args.row.now))) (piece_of c.args.token) (Err e)) (sym c.fault_at-in-ByEdge.ensures) (
       refl,
-      inl (takes_further (IsBadState c.args.states) (OfRow c.args.before (row_data c.args.row.now)) (piece_of c.args.token) c.in_ok-target.target Labels c.in_ok-target.ensures
+      inl (takes_further (IsBadState c.args.states) (OfRow c.args.before (row_data c.args.row.now))
+          (piece_of c.args.token) c.in_ok-target.target Labels c.in_ok-target.ensures
           (inr (subst (λ l. MayHaveNoLabel l → ⊥) (sym by) (λ h. h), refl))
           (labels_last c.args.before (row_data c.args.row.now) room c.in_ok-target.target)),
     )
 
 pub returns-in_default-clause-sign : goal.returns-in_default-clause-sign
 returns-in_default-clause-sign c =
-    let len : length (map edge_data c.args.row.now.edges.items) ≡ c.len.result = length-map c.args.row.now.edges.items edge_data ∙ sym c.args.row.now.edges.ok.0 ∙ sym c.len.ensures in
+    let len : length (map edge_data c.args.row.now.edges.items) ≡ c.len.result =
+    length-map c.args.row.now.edges.items edge_data ∙ sym c.args.row.now.edges.ok.0 ∙ sym c.len.ensures in
     let room = room_left c.args.before _ _ len c.requires c.if-len-before.false in
-    let other : parts.labelling (row_data c.args.row.now) ≡ ByEdge → ⊥ = λ e. c.in_default.not-ByEdge (c.labelling_of.ensures ∙ e) in
-    takes_both (IsBadState c.args.states) (OfRow c.args.before (row_data c.args.row.now)) (piece_of c.args.token).sign c.in_ok-target.target c.in_ok-target.ensures
+    let other : parts.labelling (row_data c.args.row.now) ≡ ByEdge → ⊥ =
+    λ e. c.in_default.not-ByEdge (c.labelling_of.ensures ∙ e) in
+    takes_both (IsBadState c.args.states) (OfRow c.args.before (row_data c.args.row.now)) (piece_of c.args.token).sign
+    c.in_ok-target.target c.in_ok-target.ensures
     (none_of_row c.args.before (row_data c.args.row.now) room other c.in_ok-target.target)

@@ -22,26 +22,32 @@ returns-in_err-set c =
     let Bad = IsBadSet c.args.count in
     let item = set_number c.args.count in
     let marks = c.more.marks.items in
-    exits found_of hoa_causes _ _ _ _ _ _ (carries_stops hoa_causes (many item []) (many item marks) _ _ _ c.more.invariant
+    exits found_of hoa_causes _ _ _ _ _ _ (carries_stops hoa_causes (many item []) (many item marks) _ _ _
+    c.more.invariant
     (many_fails item (laws_set_number c.args.count) (nothing_apart _) hoa_causes marks _ _
-    (enters_mapped (once marks) (one int_in (BadIn Bad)) _ (enters_int Bad (stream_of c.more.tokens) (c.is_at.ensures.0 c.more-test.true)))
+    (enters_mapped (once marks) (one int_in (BadIn Bad)) _ (enters_int Bad (stream_of c.more.tokens)
+    (c.is_at.ensures.0 c.more-test.true)))
     (stops_mapped hoa_causes (once marks) (one int_in (BadIn Bad)) _ _
     (reads_one {X = ℕ} (λ n. n) (int_signs Bad) _ _ (Err c.in_err-set.field-0.0)
-    (subst (λ p. Takes {X = ℕ} (λ n. n) int_in (BadIn Bad) p (Err c.in_err-set.field-0.0)) c.advance-token.ensures.next c.in_err-set.ensures) c.advance-token.ensures.rest)))) c.from_residual.ensures.1
+    (subst (λ p. Takes {X = ℕ} (λ n. n) int_in (BadIn Bad) p (Err c.in_err-set.field-0.0)) c.advance-token.ensures.next
+    c.in_err-set.ensures) c.advance-token.ensures.rest)))) c.from_residual.ensures.1
 
 pub more-preserved : goal.more-preserved
 more-preserved c =
     let Bad = IsBadSet c.args.count in
     let item = set_number c.args.count in
     let marks = c.more.marks.items in
-    subst (λ ns. Carries hoa_causes (many item []) (stream_of c.args.tokens.now) (many item ns) (stream_of c.advance-token.new.self)) (sym c.in_ok-add_once.ensures)
+    subst (λ ns. Carries hoa_causes (many item []) (stream_of c.args.tokens.now) (many item ns)
+    (stream_of c.advance-token.new.self)) (sym c.in_ok-add_once.ensures)
     (carries_many item (laws_set_number c.args.count) (nothing_apart _) hoa_causes c.more.invariant
     (reads_mapped (once marks)
     (reads_one {X = ℕ} (λ n. n) (int_signs Bad) _ _ (Ok c.in_ok-set.set)
-    (subst (λ p. Takes {X = ℕ} (λ n. n) int_in (BadIn Bad) p (Ok c.in_ok-set.set)) c.advance-token.ensures.next c.in_ok-set.ensures) c.advance-token.ensures.rest)))
+    (subst (λ p. Takes {X = ℕ} (λ n. n) int_in (BadIn Bad) p (Ok c.in_ok-set.set)) c.advance-token.ensures.next
+    c.in_ok-set.ensures) c.advance-token.ensures.rest)))
 
 pub returns : goal.returns
 returns c =
     let item = set_number c.args.count in
-    carries_reads hoa_causes c.more.invariant (many_ends item (laws_set_number c.args.count) (nothing_apart _) c.more.marks.items (stream_of c.more.tokens)
+    carries_reads hoa_causes c.more.invariant (many_ends item (laws_set_number c.args.count) (nothing_apart _)
+    c.more.marks.items (stream_of c.more.tokens)
     (avoids_test is_int Int test_int (stream_of c.more.tokens) c.is_at.result c.is_at.ensures c.more-test.false))

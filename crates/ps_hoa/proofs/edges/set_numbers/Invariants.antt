@@ -7,7 +7,9 @@ use Rattle.ps_hoa.specs.Scan.{stream_of}
 use Rattle.ps_hoa.proofs.edges.set_numbers.Given as goal
 
 abbrev pub invariant-more : goal.invariant-more
-invariant-more l = Carries hoa_causes (many (set_number l.count) []) (stream_of l.fn.tokens) (many (set_number l.count) l.marks.items) (stream_of l.tokens)
+invariant-more l =
+    Carries hoa_causes (many (set_number l.count) []) (stream_of l.fn.tokens) (many (set_number l.count) l.marks.items)
+    (stream_of l.tokens)
 
 abbrev pub decreases-more : goal.decreases-more
 decreases-more l = length (stream_of l.tokens).pieces

@@ -5,6 +5,8 @@ use Rattle.ps_hoa.proofs.flaws.+names_set_beyond.Goals as goal
 
 pub loop-operand-init : goal.loop-operand-init
 loop-operand-init t c = elim c.in-All.is [
-  | inl e ↦ let is = ap condition_of e ∙ condition_of-All c.in-All.operands in rw (c.deref-operand-items.ensures.value, is) (λ h. h, λ h. h)
-  | inr e ↦ let is = ap condition_of e ∙ condition_of-Any c.in-All.operands in rw (c.deref-operand-items.ensures.value, is) (λ h. h, λ h. h)
+  | inl e ↦ let is = ap condition_of e ∙ condition_of-All c.in-All.operands in
+      rw (c.deref-operand-items.ensures.value, is) (λ h. h, λ h. h)
+  | inr e ↦ let is = ap condition_of e ∙ condition_of-Any c.in-All.operands in
+      rw (c.deref-operand-items.ensures.value, is) (λ h. h, λ h. h)
 ]

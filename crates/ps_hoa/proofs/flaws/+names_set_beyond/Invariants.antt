@@ -9,4 +9,6 @@ decreases-names_set_beyond l = goal.size-names_set_beyond l
 
 -- the operands still to come decide
 abbrev pub invariant-loop-operand : goal.invariant-loop-operand
-invariant-loop-operand l = SomeNamesSetBeyond l.count (row_of (map condition_of (drop l.operand-index l.operand-items))) ↔ NamesSetBeyond l.count (condition_of l.condition)
+invariant-loop-operand l =
+    SomeNamesSetBeyond l.count (row_of (map condition_of (drop l.operand-index l.operand-items))) ↔ NamesSetBeyond
+    l.count (condition_of l.condition)

@@ -9,4 +9,6 @@ decreases-speaks_beyond l = goal.size-speaks_beyond l
 
 -- the operands still to come decide
 abbrev pub invariant-loop-operand : goal.invariant-loop-operand
-invariant-loop-operand l = SomeSpeaksBeyond l.count (row_of (expressions (drop l.operand-index l.operand-items))) ↔ SpeaksBeyond l.count (expression l.label)
+invariant-loop-operand l =
+    SomeSpeaksBeyond l.count (row_of (expressions (drop l.operand-index l.operand-items))) ↔ SpeaksBeyond l.count
+    (expression l.label)

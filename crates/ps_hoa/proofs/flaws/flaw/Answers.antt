@@ -1,23 +1,28 @@
 use Rattle.std.proofs.Common.{not, ap, ◌≡◌, true, false, sym, ◌∙◌}
 use Rattle.ps_hoa.specs.Views.{header_data, acceptance_data}
-use Rattle.ps_hoa.proofs.LeastFlaws.{no_acceptance_least, too_large_least, no_start_least, range_least, no_controllable_least, none_is_sound, said_none, said_some, is_said_none, is_said_some}
+use Rattle.ps_hoa.proofs.LeastFlaws.{no_acceptance_least, too_large_least, no_start_least, range_least}
+use Rattle.ps_hoa.proofs.LeastFlaws.{no_controllable_least, none_is_sound, said_none, said_some, is_said_none}
+use Rattle.ps_hoa.proofs.LeastFlaws.{is_said_some}
 use Rattle.ps_hoa.proofs.flaws.flaw.Goals as goal
 
 pub returns-then-is_none : goal.returns-then-is_none
 returns-then-is_none c =
     let h = c.args.header.now in
-    no_acceptance_least (header_data h) (said_none acceptance_data h.acceptance (c.is_none.ensures ∙ ap not c.if-is_none.true))
+    no_acceptance_least (header_data h) (said_none acceptance_data h.acceptance
+    (c.is_none.ensures ∙ ap not c.if-is_none.true))
 
 pub returns-then-is_start_too_large : goal.returns-then-is_start_too_large
 returns-then-is_start_too_large c =
     let h = c.args.header.now in
-    too_large_least (header_data h) (said_some acceptance_data h.acceptance (c.is_none.ensures ∙ ap not c.if-is_none.false))
+    too_large_least (header_data h) (said_some acceptance_data h.acceptance
+    (c.is_none.ensures ∙ ap not c.if-is_none.false))
     (c.is_start_too_large.ensures.0 c.if-is_start_too_large.true)
 
 pub returns-then-is_none-2 : goal.returns-then-is_none-2
 returns-then-is_none-2 c =
     let h = c.args.header.now in
-    no_start_least (header_data h) (said_some acceptance_data h.acceptance (c.is_none.ensures ∙ ap not c.if-is_none.false))
+    no_start_least (header_data h) (said_some acceptance_data h.acceptance
+    (c.is_none.ensures ∙ ap not c.if-is_none.false))
     (λ e. let wrong : true ≡ false = sym (c.is_start_too_large.ensures.1 e) ∙ c.if-is_start_too_large.false in cc)
     (is_said_none h.start (c.is_none-2.ensures ∙ ap not c.if-is_none-2.true))
 
@@ -32,7 +37,8 @@ returns-then-is_range_broken c =
 pub returns-then-is_none-3 : goal.returns-then-is_none-3
 returns-then-is_none-3 c =
     let h = c.args.header.now in
-    no_controllable_least (header_data h) (said_some acceptance_data h.acceptance (c.is_none.ensures ∙ ap not c.if-is_none.false))
+    no_controllable_least (header_data h) (said_some acceptance_data h.acceptance
+    (c.is_none.ensures ∙ ap not c.if-is_none.false))
     (λ e. let wrong : true ≡ false = sym (c.is_start_too_large.ensures.1 e) ∙ c.if-is_start_too_large.false in cc)
     (is_said_some h.start (c.is_none-2.ensures ∙ ap not c.if-is_none-2.false))
     (λ e. let wrong : true ≡ false = sym (c.is_range_broken.ensures.1 e) ∙ c.if-is_range_broken.false in cc)
@@ -41,7 +47,8 @@ returns-then-is_none-3 c =
 pub returns : goal.returns
 returns c =
     let h = c.args.header.now in
-    none_is_sound (header_data h) (said_some acceptance_data h.acceptance (c.is_none.ensures ∙ ap not c.if-is_none.false))
+    none_is_sound (header_data h) (said_some acceptance_data h.acceptance
+    (c.is_none.ensures ∙ ap not c.if-is_none.false))
     (λ e. let wrong : true ≡ false = sym (c.is_start_too_large.ensures.1 e) ∙ c.if-is_start_too_large.false in cc)
     (is_said_some h.start (c.is_none-2.ensures ∙ ap not c.if-is_none-2.false))
     (λ e. let wrong : true ≡ false = sym (c.is_range_broken.ensures.1 e) ∙ c.if-is_range_broken.false in cc)

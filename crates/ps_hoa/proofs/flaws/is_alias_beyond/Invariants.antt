@@ -4,4 +4,5 @@ use Rattle.ps_hoa.specs.Header.{AnAliasBeyond}
 use Rattle.ps_hoa.proofs.flaws.is_alias_beyond.Given as goal
 
 abbrev pub invariant-loop-alias : goal.invariant-loop-alias
-invariant-loop-alias l = AnAliasBeyond l.count (expressions (drop l.alias-index l.aliases)) ↔ AnAliasBeyond l.count (expressions l.aliases)
+invariant-loop-alias l =
+    AnAliasBeyond l.count (expressions (drop l.alias-index l.aliases)) ↔ AnAliasBeyond l.count (expressions l.aliases)

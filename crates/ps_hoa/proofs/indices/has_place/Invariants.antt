@@ -3,4 +3,5 @@ use Rattle.ps_hoa.specs.Header.{has_place, place_of}
 use Rattle.ps_hoa.proofs.indices.has_place.Given as goal
 
 abbrev pub invariant-loop-other : goal.invariant-loop-other
-invariant-loop-other l = has_place (place_of l.number) (drop l.other-index l.numbers) ≡ has_place (place_of l.number) l.numbers
+invariant-loop-other l =
+    has_place (place_of l.number) (drop l.other-index l.numbers) ≡ has_place (place_of l.number) l.numbers

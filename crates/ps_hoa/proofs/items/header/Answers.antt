@@ -4,10 +4,13 @@ use Rattle.ps_hoa.proofs.HeaderLaws.{joint_header}
 use Rattle.ps_hoa.proofs.items.header.Goals as goal
 
 pub returns-in_err-header : goal.returns-in_err-header
-returns-in_err-header c = exit _ _ _ _ _ _ (first_fails joint_header _ _ c.in_err-header.ensures) c.from_residual.ensures.1
+returns-in_err-header c =
+    exit _ _ _ _ _ _ (first_fails joint_header _ _ c.in_err-header.ensures) c.from_residual.ensures.1
 
 pub returns-in_err-body_mark : goal.returns-in_err-body_mark
-returns-in_err-body_mark c = exit _ _ _ _ _ _ (rest_fails joint_header c.in_ok-header.ensures _ c.in_err-body_mark.ensures) c.from_residual-in_err-body_mark.ensures.1
+returns-in_err-body_mark c =
+    exit _ _ _ _ _ _ (rest_fails joint_header c.in_ok-header.ensures _ c.in_err-body_mark.ensures)
+    c.from_residual-in_err-body_mark.ensures.1
 
 pub returns : goal.returns
 returns c = reads_then joint_header c.in_ok-header.ensures c.in_ok-body_mark.ensures

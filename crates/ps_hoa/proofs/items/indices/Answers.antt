@@ -19,15 +19,21 @@ pub returns-in_err-number : goal.returns-in_err-number
 returns-in_err-number c =
     let ns = c.indices.indices in
     exit _ _ _ _ _ _ (carries_stops hoa_causes (many index []) (many index ns) _ _ _ c.indices.invariant
-    (many_fails index laws_index (nothing_apart (Of is_int)) hoa_causes ns _ _ (enters_index ns (stream_of c.indices.tokens) (c.is_at.ensures.0 c.indices-test.true))
+    (many_fails index laws_index (nothing_apart (Of is_int)) hoa_causes ns _ _
+    (enters_index ns (stream_of c.indices.tokens) (c.is_at.ensures.0 c.indices-test.true))
     (value_fails (kept ns) (int number_limit) _ _ c.in_err-number.ensures.part))) c.from_residual.ensures.1
 
 pub indices-preserved : goal.indices-preserved
 indices-preserved c =
     let ns = c.indices.indices in
-    subst (λ ks. Carries hoa_causes (many index []) (stream_of c.args.tokens.now) (many index ks) (stream_of c.int.new.tokens)) (sym c.in_ok-add.ensures.ok)
-    (carries_many index laws_index (nothing_apart (Of is_int)) hoa_causes c.indices.invariant (reads_mapped (kept ns) c.in_ok-number.ensures.part))
+    subst (λ ks. Carries hoa_causes (many index []) (stream_of c.args.tokens.now) (many index ks)
+    (stream_of c.int.new.tokens)) (sym c.in_ok-add.ensures.ok)
+    (carries_many index laws_index (nothing_apart (Of is_int)) hoa_causes c.indices.invariant
+    (reads_mapped (kept ns) c.in_ok-number.ensures.part))
 
 pub returns : goal.returns
-returns c = carries_reads hoa_causes c.indices.invariant (many_ends index laws_index (nothing_apart (Of is_int)) c.indices.indices (stream_of c.indices.tokens)
-    (avoids_at is_int (stream_of c.indices.tokens) Int (λ e. let wrong : true ≡ false = sym (c.is_at.ensures.1 e) ∙ c.indices-test.false in cc) only_int))
+returns c =
+    carries_reads hoa_causes c.indices.invariant (many_ends index laws_index (nothing_apart (Of is_int))
+    c.indices.indices (stream_of c.indices.tokens)
+    (avoids_at is_int (stream_of c.indices.tokens) Int (λ e. let wrong : true ≡ false = sym (c.is_at.ensures.1 e)
+    ∙ c.indices-test.false in cc) only_int))

@@ -7,7 +7,8 @@ use Rattle.ps_hoa.specs.Scan.{stream_of}
 use Rattle.ps_hoa.proofs.items.indices.Given as goal
 
 abbrev pub invariant-indices : goal.invariant-indices
-invariant-indices l = Carries hoa_causes (many index []) (stream_of l.fn.tokens) (many index l.indices) (stream_of l.tokens)
+invariant-indices l =
+    Carries hoa_causes (many index []) (stream_of l.fn.tokens) (many index l.indices) (stream_of l.tokens)
 
 abbrev pub decreases-indices : goal.decreases-indices
 decreases-indices l = length (stream_of l.tokens).pieces

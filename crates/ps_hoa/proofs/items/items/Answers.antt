@@ -17,25 +17,32 @@ use Rattle.ps_hoa.proofs.HeaderLaws.{laws_item, item_apart}
 use Rattle.ps_hoa.proofs.ItemChoice.{stands_next, enters_next, avoids_next}
 use Rattle.ps_hoa.proofs.items.items.Goals as goal
 
-told : (piece : Piece Sign) (s : Stream Sign) (o : Option Item) → piece ≡ next_of s → option_map item_name_of o ≡ item_at piece.sign →
+told : (piece : Piece Sign) (s : Stream Sign) (o : Option Item) → piece ≡ next_of s →
+    option_map item_name_of o ≡ item_at piece.sign →
     item_at (next_of s).sign ≡ option_map item_name_of o
 told piece s o next e = sym (ap (λ (p : Piece Sign). item_at p.sign) next) ∙ sym e
 
 pub items-init : goal.items-init
-items-init c = subst (λ h. Carries hoa_causes (many item no_items) (stream_of c.args.tokens.now) (many item h) (stream_of c.args.tokens.now)) (sym c.new-header.ensures)
+items-init c =
+    subst (λ h. Carries hoa_causes (many item no_items) (stream_of c.args.tokens.now) (many item h)
+    (stream_of c.args.tokens.now)) (sym c.new-header.ensures)
     (carries_start hoa_causes (many item no_items) (stream_of c.args.tokens.now))
 
 pub items-smaller : goal.items-smaller
 items-smaller c =
     let h = header_data c.items.header in
-    let e = told (piece_of c.peek.result) (stream_of c.items.tokens) (Some c.in-Some.item) c.peek.ensures.next c.in-Some.ensures in
+    let e =
+    told (piece_of c.peek.result) (stream_of c.items.tokens) (Some c.in-Some.item) c.peek.ensures.next
+    c.in-Some.ensures in
     reads_shrinks (λ w k. (laws_item h).null w k)
     (reads_as (stands_next (stream_of c.items.tokens) h (item_name_of c.in-Some.item) e) c.in_ok-read_item.ensures)
 
 pub items-preserved : goal.items-preserved
 items-preserved c =
     let h = header_data c.items.header in
-    let e = told (piece_of c.peek.result) (stream_of c.items.tokens) (Some c.in-Some.item) c.peek.ensures.next c.in-Some.ensures in
+    let e =
+    told (piece_of c.peek.result) (stream_of c.items.tokens) (Some c.in-Some.item) c.peek.ensures.next
+    c.in-Some.ensures in
     carries_many item laws_item item_apart hoa_causes c.items.invariant
     (reads_as (stands_next (stream_of c.items.tokens) h (item_name_of c.in-Some.item) e) c.in_ok-read_item.ensures)
 
@@ -46,7 +53,8 @@ returns-in_err-read_item c =
     let e = told (piece_of c.peek.result) s (Some c.in-Some.item) c.peek.ensures.next c.in-Some.ensures in
     exit _ _ _ _ _ _ (carries_stops hoa_causes (many item no_items) (many item h) _ _ _ c.items.invariant
     (many_fails item laws_item item_apart hoa_causes h _ _ (enters_next s h (item_name_of c.in-Some.item) e)
-    (stops_as_well hoa_causes s _ (stands_next s h (item_name_of c.in-Some.item) e) c.in_err-read_item.ensures))) c.from_residual.ensures.1
+    (stops_as_well hoa_causes s _ (stands_next s h (item_name_of c.in-Some.item) e) c.in_err-read_item.ensures)))
+    c.from_residual.ensures.1
 
 pub returns : goal.returns
 returns c =

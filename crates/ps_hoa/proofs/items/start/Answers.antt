@@ -8,11 +8,15 @@ use Rattle.ps_hoa.proofs.HeaderLaws.{joint_start}
 use Rattle.ps_hoa.proofs.items.start.Goals as goal
 
 pub returns-in_err-start_name : goal.returns-in_err-start_name
-returns-in_err-start_name c = exit _ _ _ _ _ _ (first_fails (joint_start (header_data c.args.header.now)) _ _ c.in_err-start_name.ensures) c.from_residual.ensures.1
+returns-in_err-start_name c =
+    exit _ _ _ _ _ _ (first_fails (joint_start (header_data c.args.header.now)) _ _ c.in_err-start_name.ensures)
+    c.from_residual.ensures.1
 
 pub returns-in_err-start_state : goal.returns-in_err-start_state
 returns-in_err-start_state c = let h = header_data c.args.header.now in
-    exit _ _ _ _ _ _ (rest_fails (joint_start h) c.in_ok-start_name.ensures _ (value_fails (with_start h) (barred (int number_limit) IsAlternating) _ _ c.in_err-start_state.ensures)) c.from_residual-in_err-start_state.ensures.1
+    exit _ _ _ _ _ _ (rest_fails (joint_start h) c.in_ok-start_name.ensures _
+    (value_fails (with_start h) (barred (int number_limit) IsAlternating) _ _ c.in_err-start_state.ensures))
+    c.from_residual-in_err-start_state.ensures.1
 
 pub returns : goal.returns
 returns c = let h = header_data c.args.header.now in

@@ -5,24 +5,30 @@ use Rattle.ps_text.proofs.Exits.{exits}
 use Rattle.ps_hoa.specs.Causes.{hoa_causes, found_of}
 use Rattle.ps_hoa.specs.Labels.{operand, together}
 use Rattle.ps_hoa.specs.Scan.{stream_of}
-use Rattle.ps_hoa.proofs.RowReading.{first_value, last_value, first_fails, first_alone, row_starts, row_more, row_fails_later, row_done, row_shrinks}
+use Rattle.ps_hoa.proofs.RowReading.{first_value, last_value, first_fails, first_alone, row_starts, row_more}
+use Rattle.ps_hoa.proofs.RowReading.{row_fails_later, row_done, row_shrinks}
 use Rattle.ps_hoa.specs.Operands.{is_right, rows}
 use Rattle.ps_hoa.proofs.OperandLaws.{false_true}
 use Rattle.ps_hoa.proofs.MarkReading.{tests_right}
 use Rattle.ps_hoa.proofs.LabelReading.{label_operands, not_reads, not_fails, leaf_stands}
 use Rattle.ps_hoa.proofs.OperandReading.{operand_row, paren_reads, paren_fails, paren_stays_open}
 use Rattle.ps_hoa.proofs.label.+label.Goals as goal
-use Rattle.ps_hoa.proofs.label.+label.Goals.{operand-else-room-gt0-via-then-room-gt0+else-is_at, operand-else-room-gt0-via-else-room-gt0, operand-else-room-gt0-2-via-then-room-gt0-2+else-is_at-2, operand-else-room-gt0-2-via-else-room-gt0-2}
+use Rattle.ps_hoa.proofs.label.+label.Goals.{operand-else-room-gt0-via-then-room-gt0+else-is_at}
+use Rattle.ps_hoa.proofs.label.+label.Goals.{operand-else-room-gt0-via-else-room-gt0}
+use Rattle.ps_hoa.proofs.label.+label.Goals.{operand-else-room-gt0-2-via-then-room-gt0-2+else-is_at-2}
+use Rattle.ps_hoa.proofs.label.+label.Goals.{operand-else-room-gt0-2-via-else-room-gt0-2}
 
 pub row-returns-in_err-first : goal.row-returns-in_err-first
 row-returns-in_err-first t c =
     let row = operand_row (label_operands c.args.scope.now) c.args.room c.args.connective in
-    exits found_of hoa_causes expression _ _ _ _ _ (first_fails row (together c.args.connective) _ _ c.in_err-first.ensures) c.from_residual.ensures.1
+    exits found_of hoa_causes expression _ _ _ _ _ (first_fails row (together c.args.connective) _ _
+    c.in_err-first.ensures) c.from_residual.ensures.1
 
 pub row-returns-then-not-is_at : goal.row-returns-then-not-is_at
 row-returns-then-not-is_at t c =
     let row = operand_row (label_operands c.args.scope.now) c.args.room c.args.connective in
-    first_alone row (together c.args.connective) c.is_at.result c.in_ok-first.ensures c.is_at.ensures c.if-not-is_at.true
+    first_alone row (together c.args.connective) c.is_at.result c.in_ok-first.ensures c.is_at.ensures
+    c.if-not-is_at.true
 
 pub row-more-init : goal.row-more-init
 row-more-init t c =
@@ -34,20 +40,24 @@ pub row-returns-in_err-part : goal.row-returns-in_err-part
 row-returns-in_err-part t c =
     let row = operand_row (label_operands c.args.scope.now) c.args.room c.args.connective in
     exits found_of hoa_causes expression _ _ _ _ _
-    (row_fails_later row (together c.args.connective) c.is_at-in-more.result _ c.more.invariant c.is_at-in-more.ensures c.more-test.true c.advance.ensures.rest c.in_err-part.ensures)
+    (row_fails_later row (together c.args.connective) c.is_at-in-more.result _ c.more.invariant c.is_at-in-more.ensures
+    c.more-test.true c.advance.ensures.rest c.in_err-part.ensures)
     c.from_residual-in_err-part.ensures.1
 
 pub row-more-preserved : goal.row-more-preserved
 row-more-preserved t c =
     let row = operand_row (label_operands c.args.scope.now) c.args.room c.args.connective in
-    row_more row c.is_at-in-more.result c.more.invariant c.is_at-in-more.ensures c.more-test.true c.advance.ensures.rest c.in_ok-part.ensures
+    row_more row c.is_at-in-more.result c.more.invariant c.is_at-in-more.ensures c.more-test.true c.advance.ensures.rest
+    c.in_ok-part.ensures
     (last_value expression c.in_ok-part.field-0 _ _ c.in_ok-push-2.ensures.items)
 
 pub row-returns : goal.row-returns
 row-returns t c =
     let row = operand_row (label_operands c.args.scope.now) c.args.room c.args.connective in
-    subst (λ v. Goes (rows together c.args.connective (operand c.args.scope.now c.args.room)) (stream_of c.args.tokens.now) v (stream_of c.more.tokens)) (sym c.together.ensures)
-    (row_done row (together c.args.connective) c.is_at-in-more.result c.more.invariant c.is_at-in-more.ensures c.more-test.false)
+    subst (λ v. Goes (rows together c.args.connective (operand c.args.scope.now c.args.room))
+    (stream_of c.args.tokens.now) v (stream_of c.more.tokens)) (sym c.together.ensures)
+    (row_done row (together c.args.connective) c.is_at-in-more.result c.more.invariant c.is_at-in-more.ensures
+    c.more-test.false)
 
 pub row-more-smaller : goal.row-more-smaller
 row-more-smaller t c =
@@ -57,28 +67,36 @@ row-more-smaller t c =
 pub operand-returns-in_err-negated : goal.operand-returns-in_err-negated
 operand-returns-in_err-negated t c =
     exits found_of hoa_causes expression _ _ _ _ _
-    (not_fails c.args.scope.now c.args.room c.if-room-gt0.true _ _ (c.is_at.ensures.0 c.if-is_at.true) c.advance.ensures.rest c.in_err-negated.ensures) c.from_residual.ensures.1
+    (not_fails c.args.scope.now c.args.room c.if-room-gt0.true _ _ (c.is_at.ensures.0 c.if-is_at.true)
+    c.advance.ensures.rest c.in_err-negated.ensures) c.from_residual.ensures.1
 
 pub operand-returns-then-is_at : goal.operand-returns-then-is_at
 operand-returns-then-is_at t c =
-    subst (λ v. Goes (operand c.args.scope.now c.args.room) (stream_of c.args.tokens.now) (not_of (expression v)) (stream_of c.operand.new.tokens)) (sym c.in_ok-new.ensures.ok)
-    (not_reads c.args.scope.now c.args.room c.if-room-gt0.true (c.is_at.ensures.0 c.if-is_at.true) c.advance.ensures.rest c.in_ok-negated.ensures)
+    subst (λ v. Goes (operand c.args.scope.now c.args.room) (stream_of c.args.tokens.now) (not_of (expression v))
+    (stream_of c.operand.new.tokens)) (sym c.in_ok-new.ensures.ok)
+    (not_reads c.args.scope.now c.args.room c.if-room-gt0.true (c.is_at.ensures.0 c.if-is_at.true)
+    c.advance.ensures.rest c.in_ok-negated.ensures)
 
 pub operand-returns-in_err-inner : goal.operand-returns-in_err-inner
 operand-returns-in_err-inner t c =
     exits found_of hoa_causes expression _ _ _ _ _
-    (paren_fails (label_operands c.args.scope.now) c.args.room c.if-room-gt0-2.true _ _ (c.is_at-then-room-gt0-2.ensures.0 c.if-is_at-2.true) c.advance-then-is_at-2.ensures.rest c.in_err-inner.ensures)
+    (paren_fails (label_operands c.args.scope.now) c.args.room c.if-room-gt0-2.true _ _
+    (c.is_at-then-room-gt0-2.ensures.0 c.if-is_at-2.true) c.advance-then-is_at-2.ensures.rest
+    c.in_err-inner.ensures)
     c.from_residual-in_err-inner.ensures.1
 
 pub operand-returns-in_err-mark : goal.operand-returns-in_err-mark
 operand-returns-in_err-mark t c =
     exits found_of hoa_causes expression _ _ _ _ _
-    (paren_stays_open (label_operands c.args.scope.now) c.args.room c.if-room-gt0-2.true _ _ (c.is_at-then-room-gt0-2.ensures.0 c.if-is_at-2.true) c.advance-then-is_at-2.ensures.rest c.in_ok-inner.ensures (c.in_err-mark.ensures is_right (tests_right.passes, tests_right.only)))
+    (paren_stays_open (label_operands c.args.scope.now) c.args.room c.if-room-gt0-2.true _ _
+    (c.is_at-then-room-gt0-2.ensures.0 c.if-is_at-2.true) c.advance-then-is_at-2.ensures.rest c.in_ok-inner.ensures
+    (c.in_err-mark.ensures is_right (tests_right.passes, tests_right.only)))
     c.from_residual-in_err-mark.ensures.1
 
 pub operand-returns-then-is_at-2 : goal.operand-returns-then-is_at-2
 operand-returns-then-is_at-2 t c =
-    paren_reads (label_operands c.args.scope.now) c.args.room c.if-room-gt0-2.true (c.is_at-then-room-gt0-2.ensures.0 c.if-is_at-2.true) c.advance-then-is_at-2.ensures.rest c.in_ok-inner.ensures
+    paren_reads (label_operands c.args.scope.now) c.args.room c.if-room-gt0-2.true
+    (c.is_at-then-room-gt0-2.ensures.0 c.if-is_at-2.true) c.advance-then-is_at-2.ensures.rest c.in_ok-inner.ensures
     (c.in_ok-mark.ensures is_right (tests_right.passes, tests_right.only))
 
 pub operand-returns : goal.operand-returns
@@ -88,7 +106,8 @@ operand-returns t c = leaf_stands expression c.args.scope.now c.args.room _ _ c.
       | operand-else-room-gt0-via-else-room-gt0 w ↦ absurd (omega (arith, some, w.if-room-gt0.false))
     ])
     (λ some e. elim c.else-room-gt0-2.branch [
-      | operand-else-room-gt0-2-via-then-room-gt0-2+else-is_at-2 w ↦ false_true (sym w.if-is_at-2.false ∙ w.is_at-then-room-gt0-2.ensures.1 e)
+      | operand-else-room-gt0-2-via-then-room-gt0-2+else-is_at-2 w ↦
+          false_true (sym w.if-is_at-2.false ∙ w.is_at-then-room-gt0-2.ensures.1 e)
       | operand-else-room-gt0-2-via-else-room-gt0-2 w ↦ absurd (omega (arith, some, w.if-room-gt0-2.false))
     ])
     c.leaf.ensures

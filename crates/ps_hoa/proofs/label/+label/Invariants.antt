@@ -16,7 +16,9 @@ abbrev pub decreases-operand : goal.decreases-operand
 decreases-operand l = l.room * 5
 
 abbrev pub invariant-row-more : goal.invariant-row-more
-invariant-row-more l = IsRow (is_sign_of l.connective) (between together l.connective (operand l.scope l.room)) (stream_of l.fn.tokens) (map expression l.operands.items) (stream_of l.tokens)
+invariant-row-more l =
+    IsRow (is_sign_of l.connective) (between together l.connective (operand l.scope l.room)) (stream_of l.fn.tokens)
+    (map expression l.operands.items) (stream_of l.tokens)
 
 abbrev pub decreases-row-more : goal.decreases-row-more
 decreases-row-more l = length (stream_of l.tokens).pieces

@@ -12,10 +12,12 @@ returns-then-is_some-clause-sign c =
     let names = c.args.names.now in
     let text = c.args.token.text.now in
     let kind = c.is_kind.ensures.0 c.if-not-is_kind.false in
-    let old = sym (number-among text names) ∙ sym (ap is_some c.number.ensures) ∙ sym c.is_some.ensures ∙ c.if-is_some.true in
+    let old = sym (number-among text names) ∙ sym (ap is_some c.number.ensures) ∙ sym c.is_some.ensures
+    ∙ c.if-is_some.true in
     let l = c.len.ensures in
     let m = c.if-len-ge-ALIAS_LIMIT.false in
-    takes_bad {X = Bor (List ℕ)} (λ name. name.now) alias_name_in (IsBadAlias names) (piece_of c.args.token) _ Alias (old_alias_bad text names c.args.token.kind kind (omega (arith, l, m)) old)
+    takes_bad {X = Bor (List ℕ)} (λ name. name.now) alias_name_in (IsBadAlias names) (piece_of c.args.token) _ Alias
+    (old_alias_bad text names c.args.token.kind kind (omega (arith, l, m)) old)
     (old_alias_least text names c.args.token.kind kind (omega (arith, l, m)) old) c.fault_at-then-is_some.ensures
 
 pub returns-clause-sign : goal.returns-clause-sign
@@ -23,7 +25,8 @@ returns-clause-sign c =
     let names = c.args.names.now in
     let text = c.args.token.text.now in
     let kind = c.is_kind.ensures.0 c.if-not-is_kind.false in
-    let new = sym (number-among text names) ∙ sym (ap is_some c.number.ensures) ∙ sym c.is_some.ensures ∙ c.if-is_some.false in
+    let new = sym (number-among text names) ∙ sym (ap is_some c.number.ensures) ∙ sym c.is_some.ensures
+    ∙ c.if-is_some.false in
     let l = c.len.ensures in
     let m = c.if-len-ge-ALIAS_LIMIT.false in
     new_alias_taken text names c.args.token.kind kind (omega (arith, l, m)) new

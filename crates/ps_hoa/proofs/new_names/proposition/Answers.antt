@@ -7,8 +7,10 @@ use Rattle.ps_hoa.proofs.new_names.proposition.Goals as goal
 
 pub returns-in_err-name : goal.returns-in_err-name
 returns-in_err-name c = let names = c.args.names.now in
-    exit _ _ _ _ _ _ (value_fails (with_name names) (one string_in (IsBadName names)) _ _ c.in_err-name.ensures.part) c.from_residual.ensures.1
+    exit _ _ _ _ _ _ (value_fails (with_name names) (one string_in (IsBadName names)) _ _ c.in_err-name.ensures.part)
+    c.from_residual.ensures.1
 
 pub returns : goal.returns
 returns c = let names = c.args.names.now in
-    value_is (proposition_name names) _ _ _ _ (sym c.in_ok-push.ensures.ok) (reads_mapped (with_name names) c.in_ok-name.ensures.part)
+    value_is (proposition_name names) _ _ _ _ (sym c.in_ok-push.ensures.ok)
+    (reads_mapped (with_name names) c.in_ok-name.ensures.part)

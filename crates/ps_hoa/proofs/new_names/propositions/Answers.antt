@@ -15,22 +15,31 @@ pub names-init : goal.names-init
 names-init c =
     let whole = times c.args.count proposition_name [] in
     let none : c.args.count - 0 ≡ c.args.count = omega arith in
-    subst (λ n. Carries hoa_causes whole (stream_of c.args.tokens.now) (times n proposition_name c.new-names.result) (stream_of c.args.tokens.now)) (sym none)
-    (subst (λ names. Carries hoa_causes whole (stream_of c.args.tokens.now) (times c.args.count proposition_name names) (stream_of c.args.tokens.now)) (sym c.new-names.ensures)
+    subst (λ n. Carries hoa_causes whole (stream_of c.args.tokens.now) (times n proposition_name c.new-names.result)
+    (stream_of c.args.tokens.now)) (sym none)
+    (subst (λ names. Carries hoa_causes whole (stream_of c.args.tokens.now) (times c.args.count proposition_name names)
+    (stream_of c.args.tokens.now)) (sym c.new-names.ensures)
     (carries_start hoa_causes whole (stream_of c.args.tokens.now)))
 
 pub returns-in_err-proposition : goal.returns-in_err-proposition
-returns-in_err-proposition c = exit _ _ _ _ _ _ (carries_stops hoa_causes (times c.args.count proposition_name []) (times (c.args.count - c.names.counter) proposition_name c.names.names) _ _ _ c.names.invariant
-    (times_fails proposition_name laws_proposition_name (nothing_apart (Of is_string)) hoa_causes (c.args.count - c.names.counter) c.names.names _ _
+returns-in_err-proposition c =
+    exit _ _ _ _ _ _ (carries_stops hoa_causes (times c.args.count proposition_name [])
+    (times (c.args.count - c.names.counter) proposition_name c.names.names) _ _ _ c.names.invariant
+    (times_fails proposition_name laws_proposition_name (nothing_apart (Of is_string)) hoa_causes
+    (c.args.count - c.names.counter) c.names.names _ _
     (let t = c.names-test.true in omega (arith, t)) c.in_err-proposition.ensures)) c.from_residual.ensures.1
 
 pub names-preserved : goal.names-preserved
 names-preserved c =
     let left : c.args.count - c.names.counter - 1 ≡ c.args.count - (c.names.counter + 1) = omega arith in
-    subst (λ n. Carries hoa_causes (times c.args.count proposition_name []) (stream_of c.args.tokens.now) (times n proposition_name c.proposition.new.names) (stream_of c.proposition.new.tokens)) left
-    (carries_times proposition_name laws_proposition_name (nothing_apart (Of is_string)) hoa_causes (c.args.count - c.names.counter)
+    subst (λ n. Carries hoa_causes (times c.args.count proposition_name []) (stream_of c.args.tokens.now)
+    (times n proposition_name c.proposition.new.names) (stream_of c.proposition.new.tokens)) left
+    (carries_times proposition_name laws_proposition_name (nothing_apart (Of is_string)) hoa_causes
+    (c.args.count - c.names.counter)
     (let t = c.names-test.true in omega (arith, t)) c.names.invariant c.in_ok-proposition.ensures)
 
 pub returns : goal.returns
-returns c = carries_reads hoa_causes c.names.invariant (times_ends proposition_name laws_proposition_name (nothing_apart (Of is_string)) (c.args.count - c.names.counter) c.names.names (stream_of c.names.tokens)
+returns c =
+    carries_reads hoa_causes c.names.invariant (times_ends proposition_name laws_proposition_name
+    (nothing_apart (Of is_string)) (c.args.count - c.names.counter) c.names.names (stream_of c.names.tokens)
     (let t = c.names-test.false in omega (arith, t)))

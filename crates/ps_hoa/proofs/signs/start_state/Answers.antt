@@ -14,18 +14,23 @@ use Rattle.ps_hoa.proofs.SignLaws.{laws_int}
 use Rattle.ps_hoa.proofs.signs.start_state.Goals as goal
 
 pub returns-in_err-state : goal.returns-in_err-state
-returns-in_err-state c = exits found_of hoa_causes (λ n. n) _ _ _ _ _ (stops_barred IsAlternating (laws_int number_limit) (nothing_apart _) hoa_causes _ _ c.in_err-state.ensures.part) c.from_residual.ensures.1
+returns-in_err-state c =
+    exits found_of hoa_causes (λ n. n) _ _ _ _ _ (stops_barred IsAlternating (laws_int number_limit) (nothing_apart _)
+    hoa_causes _ _ c.in_err-state.ensures.part) c.from_residual.ensures.1
 
 pub returns-then-is_at : goal.returns-then-is_at
 returns-then-is_at c =
     let s = stream_of c.int.new.tokens in
     let is = c.is_at.ensures.0 c.if-is_at.true in
-    stops_bar IsAlternating (laws_int number_limit) (nothing_apart _) hoa_causes c.in_ok-state.ensures.part (next_of s).sign Alternating _
+    stops_bar IsAlternating (laws_int number_limit) (nothing_apart _) hoa_causes c.in_ok-state.ensures.part
+    (next_of s).sign Alternating _
     (next_there s (λ e. cc)) (is, refl) (λ g b. least_same Alternating g b.1)
-    (ap found_of c.fault_at.ensures ∙ ap (λ n. found_of (Text Alternating n)) (ap (λ p. p.start) c.peek.ensures.next ∙ start_there s))
+    (ap found_of c.fault_at.ensures ∙ ap (λ n. found_of (Text Alternating n))
+    (ap (λ p. p.start) c.peek.ensures.next ∙ start_there s))
 
 pub returns : goal.returns
 returns c =
     let s = stream_of c.int.new.tokens in
     reads_barred IsAlternating (laws_int number_limit) (nothing_apart _)
-    (λ t f e b. let wrong : true ≡ false = sym (c.is_at.ensures.1 (ap (λ z. z.kind) (next_same s t e) ∙ b.0)) ∙ c.if-is_at.false in cc) c.in_ok-state.ensures.part
+    (λ t f e b. let wrong : true ≡ false = sym (c.is_at.ensures.1 (ap (λ z. z.kind) (next_same s t e) ∙ b.0))
+    ∙ c.if-is_at.false in cc) c.in_ok-state.ensures.part

@@ -7,7 +7,8 @@ use Rattle.ps_hoa.specs.Scan.{stream_of}
 use Rattle.ps_hoa.proofs.skipped.other.Given as goal
 
 abbrev pub invariant-values : goal.invariant-values
-invariant-values l = (h : HeaderData) → Carries hoa_causes (other_item h) (stream_of l.fn.tokens) (many read_over h) (stream_of l.tokens)
+invariant-values l =
+    (h : HeaderData) → Carries hoa_causes (other_item h) (stream_of l.fn.tokens) (many read_over h) (stream_of l.tokens)
 
 abbrev pub decreases-values : goal.decreases-values
 decreases-values l = length (stream_of l.tokens).pieces

@@ -9,12 +9,14 @@ decreases-truth_by l = goal.size-truth_by l
 -- the operands still to come decide
 abbrev pub invariant-loop-operand : goal.invariant-loop-operand
 invariant-loop-operand l = record {
-  decides : all_true l.known l.letter (row_of (expressions (drop l.operand-index l.operand-items))) ≡ truth l.known l.letter (expression l.label);
+  decides : all_true l.known l.letter (row_of (expressions (drop l.operand-index l.operand-items))) ≡ truth l.known
+      l.letter (expression l.label);
   within : AreWithin (length l.known) (row_of (expressions (drop l.operand-index l.operand-items)));
 }
 
 abbrev pub invariant-loop-operand-2 : goal.invariant-loop-operand-2
 invariant-loop-operand-2 l = record {
-  decides : any_true l.known l.letter (row_of (expressions (drop l.operand-index l.operand-items))) ≡ truth l.known l.letter (expression l.label);
+  decides : any_true l.known l.letter (row_of (expressions (drop l.operand-index l.operand-items))) ≡ truth l.known
+      l.letter (expression l.label);
   within : AreWithin (length l.known) (row_of (expressions (drop l.operand-index l.operand-items)));
 }

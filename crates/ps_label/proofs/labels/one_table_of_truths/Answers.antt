@@ -11,4 +11,5 @@ returns-clause-only c = only_table
 
 pub returns-clause-label : goal.returns-clause-label
 unfolding label_truth
-returns-clause-label c = λ aliases letter known e o t. ap (λ (by : List Bool). truth by letter e) (sym (only_table aliases letter known o t))
+returns-clause-label c =
+    λ aliases letter known e o t. ap (λ (by : List Bool). truth by letter e) (sym (only_table aliases letter known o t))

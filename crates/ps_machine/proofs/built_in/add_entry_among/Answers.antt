@@ -10,7 +10,9 @@ returns g c =
     let table = move_at c.args.strategy.now in
     record {
       entry = c.entry.result;
-      is = among game c.args.player table c.args.rows.now c.args.vertex c.row_into.new.row.items c.entry.result c.in_ok-row_into.ensures
-          (subst (λ (row : List ℕ). IsEntryFor game c.args.player table c.args.vertex row c.entry.result) c.deref.ensures.value c.entry.ensures);
+      is = among game c.args.player table c.args.rows.now c.args.vertex c.row_into.new.row.items c.entry.result
+          c.in_ok-row_into.ensures
+          (subst (λ (row : List ℕ). IsEntryFor game c.args.player table c.args.vertex row c.entry.result)
+          c.deref.ensures.value c.entry.ensures);
       added = c.in_ok-push.ensures.ok;
     }

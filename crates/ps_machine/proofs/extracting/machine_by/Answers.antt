@@ -68,7 +68,9 @@ returns-clause-propositions c =
     let a = plan.automaton.now in
     let memories = plan.memories.now in
     let said = c.in_ok-propositions.ensures in
-    let m = machine_of c.winner-player.result plan.moves_first c.in_ok-propositions.propositions c.in_ok-diagrams.diagrams in
+    let m =
+    machine_of c.winner-player.result plan.moves_first c.in_ok-propositions.propositions
+    c.in_ok-diagrams.diagrams in
     let has : HasPropositions a.names (board_of plan.order a) (behaviour m) =
     has_propositions plan.order a plan.keys.now.keys plan.certificate.now plan.moves_first memories.kept.items
     memories.marks.keys c.requires.plan c.winner-player.result c.winner-player.ensures

@@ -1,4 +1,4 @@
-use Rattle.std.proofs.Common.{nat_eq, ap₂}
+use Rattle.std.proofs.Common.{nat_eq, ap₂, ◌∙◌}
 use Rattle.std.proofs.lemmas.Result.{IfOk-weaker}
 use Rattle.ps_machine.proofs.Extracted.{plan_is}
 use Rattle.ps_machine.proofs.extracting.machine_of_certificate.Goals as goal
@@ -8,8 +8,13 @@ machine_by-requires-clause-plan c =
     let game = c.args.game.now in
     let memories = c.in_ok-memories.memories in
     let kept = c.in_ok-memories.ensures in
-    plan_is c.args.order c.args.automaton.now game.keys.keys c.as_slice.result.now game.game.game c.game.result.now c.args.certificate.now (nat_eq c.mover.result c.winner.result) kept.0 memories.kept.items memories.marks.keys c.requires.game c.requires.fits c.requires.valid
-    (ap₂ nat_eq c.mover.ensures.mover c.winner.ensures) c.game.ensures.game kept.1 c.as_slice.ensures.keys kept.2
+    plan_is c.args.order c.args.automaton.now game.keys.keys c.as_slice.result.now game.game.game c.game.result.now
+    c.args.certificate.now (nat_eq c.number.result c.winner.result) kept.0 memories.kept.items memories.marks.keys
+    c.requires.game c.requires.fits c.requires.valid
+    (ap₂ nat_eq (c.number.ensures.number ∙ c.mover.ensures.mover) c.winner.ensures) c.game.ensures.game kept.1
+    c.as_slice.ensures.keys kept.2
 
 pub returns-clause-machine : goal.returns-clause-machine
-returns-clause-machine c = IfOk-weaker c.machine_by.result _ _ (λ m of. of c.args.game.now.game.game c.requires.game) c.machine_by.ensures.machine
+returns-clause-machine c =
+    IfOk-weaker c.machine_by.result _ _ (λ m of. of c.args.game.now.game.game c.requires.game)
+    c.machine_by.ensures.machine

@@ -6,7 +6,8 @@ use Rattle.ps_machine.specs.Extracting.{is_others}
 use Rattle.ps_machine.proofs.Assembling.{same_names, plays_own, reads_others}
 use Rattle.ps_machine.proofs.Listing.{listed_with, listed_without}
 use Rattle.ps_machine.proofs.extracting.roles.Goals as goal
-use Rattle.ps_machine.proofs.extracting.roles.Goals.{then-is_first-moves_first+in_ok-push, else-is_first-moves_first+in_ok-push-2}
+use Rattle.ps_machine.proofs.extracting.roles.Goals.{then-is_first-moves_first+in_ok-push}
+use Rattle.ps_machine.proofs.extracting.roles.Goals.{else-is_first-moves_first+in_ok-push-2}
 
 items_of : Vec ℕ Global → List ℕ
 items_of v = v.items
@@ -18,21 +19,32 @@ loop-proposition-preserved c =
     let m = c.args.moves_first in
     let p = c.loop-proposition.proposition in
     let before = c.loop-proposition.invariant in
-    let first : c.is_first.result ≡ board.is_first p = c.is_first.ensures ∙ ap (λ xs. is_first_of c.args.order xs p) c.controllable.ensures.controllable in
+    let first : c.is_first.result ≡ board.is_first p = c.is_first.ensures
+    ∙ ap (λ xs. is_first_of c.args.order xs p) c.controllable.ensures.controllable in
     elim c.if-is_first-moves_first.branch [
       | then-is_first-moves_first+in_ok-push w ↦
           (let own = plays_own m board p c.is_first.result first w.if-is_first-moves_first.true in
           record {
-            read = listed_without p (is_others m board) c.loop-proposition.inputs.items c.if-is_first-moves_first.inputs.items own (ap items_of w.inputs-is) before.read;
-            played = listed_with p (λ q. not (is_others m board q)) c.loop-proposition.outputs.items c.if-is_first-moves_first.outputs.items (ap not own) (ap items_of w.outputs-is ∙ w.in_ok-push.ensures.items) before.played;
+            read =
+                listed_without p (is_others m board) c.loop-proposition.inputs.items
+                c.if-is_first-moves_first.inputs.items own (ap items_of w.inputs-is) before.read;
+            played =
+                listed_with p (λ q. not (is_others m board q)) c.loop-proposition.outputs.items
+                c.if-is_first-moves_first.outputs.items (ap not own)
+                (ap items_of w.outputs-is ∙ w.in_ok-push.ensures.items) before.played;
           })
       | else-is_first-moves_first+in_ok-push-2 w ↦
           (let others = reads_others m board p c.is_first.result first w.if-is_first-moves_first.false in
           record {
-            read = listed_with p (is_others m board) c.loop-proposition.inputs.items c.if-is_first-moves_first.inputs.items others (ap items_of w.inputs-is ∙ w.in_ok-push-2.ensures.items) before.read;
-            played = listed_without p (λ q. not (is_others m board q)) c.loop-proposition.outputs.items c.if-is_first-moves_first.outputs.items (ap not others) (ap items_of w.outputs-is) before.played;
+            read =
+                listed_with p (is_others m board) c.loop-proposition.inputs.items c.if-is_first-moves_first.inputs.items
+                others (ap items_of w.inputs-is ∙ w.in_ok-push-2.ensures.items) before.read;
+            played =
+                listed_without p (λ q. not (is_others m board q)) c.loop-proposition.outputs.items
+                c.if-is_first-moves_first.outputs.items (ap not others) (ap items_of w.outputs-is) before.played;
           })
     ]
 
 pub returns-clause-names : goal.returns-clause-names
-returns-clause-names c = same_names c.names.result.now c.in_ok-to_vec.field-0.items c.in_ok-to_vec.ensures.ok ∙ c.names.ensures.names
+returns-clause-names c =
+    same_names c.names.result.now c.in_ok-to_vec.field-0.items c.in_ok-to_vec.ensures.ok ∙ c.names.ensures.names

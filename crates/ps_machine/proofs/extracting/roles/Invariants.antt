@@ -8,5 +8,6 @@ use Rattle.ps_machine.proofs.extracting.roles.Given as goal
 abbrev pub invariant-loop-proposition : goal.invariant-loop-proposition
 invariant-loop-proposition l = record {
   read : AreListedBelow l.proposition (is_others l.moves_first (board_of l.order l.automaton)) l.inputs.items;
-  played : AreListedBelow l.proposition (λ p. not (is_others l.moves_first (board_of l.order l.automaton) p)) l.outputs.items;
+  played : AreListedBelow l.proposition (λ p. not (is_others l.moves_first (board_of l.order l.automaton) p))
+      l.outputs.items;
 }

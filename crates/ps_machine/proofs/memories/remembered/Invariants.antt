@@ -2,4 +2,5 @@ use Rattle.ps_machine.proofs.MemorySteps.{AreMemoriesBelow}
 use Rattle.ps_machine.proofs.memories.remembered.Given as goal
 
 abbrev pub invariant-loop-vertex : goal.invariant-loop-vertex
-invariant-loop-vertex l = AreMemoriesBelow l.moves_first l.keys l.used.keys l.memories.kept.items l.memories.marks.keys l.vertex-counter
+invariant-loop-vertex l =
+    AreMemoriesBelow l.moves_first l.keys l.used.keys l.memories.kept.items l.memories.marks.keys l.vertex-counter

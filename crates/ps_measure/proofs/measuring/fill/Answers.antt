@@ -1,7 +1,5 @@
-use Rattle.std.proofs.Common.{◌≡◌, ◌∙◌, List, ℕ, arith, sym, subst, length, vec_len}
+use Rattle.std.proofs.Common.{◌≡◌, ◌∙◌, arith, sym, length, vec_len}
 use Rattle.std.proofs.lemmas.Bool.{eqb-true}
-use Rattle.ps_measure.specs.Remaining.{low_graph, low_weight}
-use Rattle.ps_measure.specs.Filling.{IsFilled}
 use Rattle.ps_measure.proofs.Rows.{filled_none}
 use Rattle.ps_measure.proofs.measuring.fill.Goals as goal
 
@@ -10,4 +8,4 @@ returns-then-is_empty-clause-filled g c =
     let roots = c.in_ok-roots.roots.items in
     let empty = eqb-true (vec_len c.in_ok-roots.roots) 0 (sym c.is_empty.ensures ∙ c.if-is_empty.true) in
     let none : length roots ≡ 0 = omega (arith, empty, c.in_ok-roots.roots.ok.0) in
-    subst (λ (column : List ℕ). IsFilled (low_graph c.args.low.now) (low_weight c.args.low.now) column 0) (sym c.empty.ensures) (filled_none c.args.low.now roots none c.in_ok-roots.ensures)
+    filled_none c.args.low.now roots c.args.table.now c.args.place none c.in_ok-roots.ensures c.requires.none

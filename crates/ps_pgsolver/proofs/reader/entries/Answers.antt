@@ -2,7 +2,8 @@ use Rattle.std.proofs.Common.{Some, sym, ◌∙◌, subst}
 use Rattle.std.specs.Option.{option_copied}
 use Rattle.ps_pgsolver.specs.GameTexts.{entry, entries}
 use Rattle.ps_pgsolver.proofs.Choices.{number_entered, number_avoided, entry_shrinks}
-use Rattle.ps_pgsolver.proofs.Exits.{Done, Halts, exit, stops_left, continues_start, continues_then, continues_many, many_halts, many_done}
+use Rattle.ps_pgsolver.proofs.Exits.{Done, Halts, exit, stops_left, continues_start, continues_then, continues_many}
+use Rattle.ps_pgsolver.proofs.Exits.{many_halts, many_done}
 use Rattle.ps_pgsolver.proofs.PartLaws.{joint_entries, laws_entry}
 use Rattle.ps_pgsolver.proofs.reader.entries.Goals as goal
 
@@ -11,17 +12,21 @@ unfolding entries
 returns-in_err-entry-clause-part c =
     let known = option_copied c.args.known in
     exit _ _ _ _ _ _ (stops_left (joint_entries known) _ _
-    (subst (λ nodes. Halts (entry known nodes) c.args.tokens.now c.in_err-entry.field-0.0) c.new-nodes.ensures c.in_err-entry.ensures.part)) c.from_residual.ensures.1
+    (subst (λ nodes. Halts (entry known nodes) c.args.tokens.now c.in_err-entry.field-0.0) c.in_ok-nodes.ensures
+    c.in_err-entry.ensures.part)) c.from_residual-in_err-entry.ensures.1
 
 pub more-init : goal.more-init
 unfolding entries
 more-init c =
     let known = option_copied c.args.known in
-    let from_none = c.new-nodes.ensures in (
+    let from_none = c.in_ok-nodes.ensures in (
       continues_then (joint_entries known) (entries known) _ _ _ _ (continues_start (entries known) c.args.tokens.now)
-          (subst (λ nodes. Done (entry known nodes) c.args.tokens.now c.entry.new.nodes c.entry.new.tokens) from_none c.in_ok-entry.ensures.part),
-      λ ids each. continues_then (joint_entries (Some ids)) (entries (Some ids)) _ _ _ _ (continues_start (entries (Some ids)) c.args.tokens.now)
-          (subst (λ nodes. Done (entry (Some ids) nodes) c.args.tokens.now c.entry.new.nodes c.entry.new.tokens) from_none (c.in_ok-entry.ensures.later ids each).1),
+          (subst (λ nodes. Done (entry known nodes) c.args.tokens.now c.entry.new.nodes c.entry.new.tokens) from_none
+          c.in_ok-entry.ensures.part),
+      λ ids each. continues_then (joint_entries (Some ids)) (entries (Some ids)) _ _ _ _
+          (continues_start (entries (Some ids)) c.args.tokens.now)
+          (subst (λ nodes. Done (entry (Some ids) nodes) c.args.tokens.now c.entry.new.nodes c.entry.new.tokens)
+          from_none (c.in_ok-entry.ensures.later ids each).1),
     )
 
 pub more-smaller : goal.more-smaller
@@ -30,23 +35,28 @@ more-smaller c = entry_shrinks _ _ _ _ _ c.in_ok-entry-2.ensures.part
 pub more-preserved : goal.more-preserved
 more-preserved c =
     let known = option_copied c.args.known in (
-      continues_many (entry known) (laws_entry known) (λ t h k. h) (entries known) _ _ _ _ _ c.more.invariant.0 c.in_ok-entry-2.ensures.part,
+      continues_many (entry known) (laws_entry known) (λ t h k. h) (entries known) _ _ _ _ _ c.more.invariant.0
+          c.in_ok-entry-2.ensures.part,
       λ ids each.
           let added = c.in_ok-entry-2.ensures.later ids each in
-          continues_many (entry (Some ids)) (laws_entry (Some ids)) (λ t h k. h) (entries (Some ids)) _ _ _ _ _ (c.more.invariant.1 ids added.0) added.1,
+          continues_many (entry (Some ids)) (laws_entry (Some ids)) (λ t h k. h) (entries (Some ids)) _ _ _ _ _
+          (c.more.invariant.1 ids added.0) added.1,
     )
 
 pub returns-in_err-entry-2-clause-part : goal.returns-in_err-entry-2-clause-part
 returns-in_err-entry-2-clause-part c =
     let known = option_copied c.args.known in
     exit _ _ _ _ _ _ (c.more.invariant.0.stops _ (many_halts (entry known) (laws_entry known) (λ t h k. h) _ _ _
-    (number_entered known c.more.nodes c.more.tokens (sym c.is_at_number.ensures ∙ c.more-test.true)) c.in_err-entry-2.ensures.part)) c.from_residual-in_err-entry-2.ensures.1
+    (number_entered known c.more.nodes c.more.tokens (sym c.is_at_number.ensures ∙ c.more-test.true))
+    c.in_err-entry-2.ensures.part)) c.from_residual-in_err-entry-2.ensures.1
 
 pub returns-clause-part : goal.returns-clause-part
 returns-clause-part c =
     let known = option_copied c.args.known in
-    c.more.invariant.0.done _ _ (many_done (entry known) (laws_entry known) (λ t h k. h) _ _ (number_avoided c.more.tokens (sym c.is_at_number.ensures ∙ c.more-test.false)))
+    c.more.invariant.0.done _ _ (many_done (entry known) (laws_entry known) (λ t h k. h) _ _
+    (number_avoided c.more.tokens (sym c.is_at_number.ensures ∙ c.more-test.false)))
 
 pub returns-clause-later : goal.returns-clause-later
 returns-clause-later c = λ ids each.
-    (c.more.invariant.1 ids each).done _ _ (many_done (entry (Some ids)) (laws_entry (Some ids)) (λ t h k. h) _ _ (number_avoided c.more.tokens (sym c.is_at_number.ensures ∙ c.more-test.false)))
+    (c.more.invariant.1 ids each).done _ _ (many_done (entry (Some ids)) (laws_entry (Some ids)) (λ t h k. h) _ _
+    (number_avoided c.more.tokens (sym c.is_at_number.ensures ∙ c.more-test.false)))

@@ -12,7 +12,8 @@ unfolding game
 returns-in_err-_parity-clause-answer c =
     let known = option_copied c.args.known in
     subst (λ s. TextAnswers known s c.from_residual.result) c.new-tokens.ensures
-    (answer_exit known c.new-tokens.result _ _ (stops_left (joint_parity known) _ _ c.in_err-_parity.ensures) c.from_residual.ensures.1)
+    (answer_exit known c.new-tokens.result _ _ (stops_left (joint_parity known) _ _ c.in_err-_parity.ensures)
+    c.from_residual.ensures.1)
 
 pub returns-in_err-_start-clause-answer : goal.returns-in_err-_start-clause-answer
 unfolding game
@@ -28,7 +29,8 @@ returns-in_err-nodes-clause-answer c =
     let known = option_copied c.args.known in
     subst (λ s. TextAnswers known s c.from_residual-in_err-nodes.result) c.new-tokens.ensures
     (answer_exit known c.new-tokens.result _ _ (stops_right (joint_parity known) _ _ _ _ c.in_ok-_parity.ensures
-    (stops_right (joint_start known) _ _ _ _ c.in_ok-_start.ensures c.in_err-nodes.ensures.part)) c.from_residual-in_err-nodes.ensures.1)
+    (stops_right (joint_start known) _ _ _ _ c.in_ok-_start.ensures c.in_err-nodes.ensures.part))
+    c.from_residual-in_err-nodes.ensures.1)
 
 pub returns-in_err-finish-clause-answer : goal.returns-in_err-finish-clause-answer
 unfolding game
@@ -36,7 +38,8 @@ returns-in_err-finish-clause-answer c =
     let known = option_copied c.args.known in
     subst (λ s. TextAnswers known s c.from_residual-in_err-finish.result) c.new-tokens.ensures
     (not_ended known c.new-tokens.result _ _ _ _ (done_then (joint_parity known) _ _ _ _ _ c.in_ok-_parity.ensures
-    (done_then (joint_start known) _ _ _ _ _ c.in_ok-_start.ensures c.in_ok-nodes.ensures.part)) c.in_err-finish.ensures c.from_residual-in_err-finish.ensures.1)
+    (done_then (joint_start known) _ _ _ _ _ c.in_ok-_start.ensures c.in_ok-nodes.ensures.part)) c.in_err-finish.ensures
+    c.from_residual-in_err-finish.ensures.1)
 
 pub returns-clause-answer : goal.returns-clause-answer
 unfolding game
@@ -51,4 +54,5 @@ unfolding game
 returns-clause-later c = λ ids each.
     subst (λ s. TextAnswers (Some ids) s (Ok c.in_ok-nodes.nodes)) c.new-tokens.ensures
     (ended (Some ids) c.new-tokens.result _ _ _ (done_then (joint_parity (Some ids)) _ _ _ _ _ c.in_ok-_parity.ensures
-    (done_then (joint_start (Some ids)) _ _ _ _ _ c.in_ok-_start.ensures (c.in_ok-nodes.ensures.later ids each))) c.in_ok-finish.ensures)
+    (done_then (joint_start (Some ids)) _ _ _ _ _ c.in_ok-_start.ensures (c.in_ok-nodes.ensures.later ids each)))
+    c.in_ok-finish.ensures)

@@ -13,13 +13,15 @@ unfolding more_successor
 returns-clause-part c =
     let known = option_copied c.args.known in
     let list = c.args.list.now.items in
-    done_value (more_successor known list) _ _ _ _ (sym c.in_ok-push.ensures.ok)
+    done_value (more_successor known list) _ _ _ _ (sym c.in_ok-push.ensures.items)
     (done_then (joint_more known list) _ _ _ _ _ c.in_ok-comma.ensures
     (done_mapped (λ (n : ℕ). list ++ n ∷ []) (successor known) _ _ c.in_ok-id.id c.in_ok-id.ensures.part))
 
 pub returns-in_err-comma-clause-part : goal.returns-in_err-comma-clause-part
 unfolding more_successor
-returns-in_err-comma-clause-part c = exit _ _ _ _ _ _ (stops_left (joint_more (option_copied c.args.known) c.args.list.now.items) _ _ c.in_err-comma.ensures) c.from_residual.ensures.1
+returns-in_err-comma-clause-part c =
+    exit _ _ _ _ _ _ (stops_left (joint_more (option_copied c.args.known) c.args.list.now.items) _ _
+    c.in_err-comma.ensures) c.from_residual.ensures.1
 
 pub returns-in_err-id-clause-part : goal.returns-in_err-id-clause-part
 unfolding more_successor
@@ -27,15 +29,17 @@ returns-in_err-id-clause-part c =
     let known = option_copied c.args.known in
     let list = c.args.list.now.items in
     exit _ _ _ _ _ _ (stops_right (joint_more known list) _ _ _ _ c.in_ok-comma.ensures
-    (stops_mapped (λ (n : ℕ). list ++ n ∷ []) (successor known) _ _ c.in_err-id.ensures.part)) c.from_residual-in_err-id.ensures.1
+    (stops_mapped (λ (n : ℕ). list ++ n ∷ []) (successor known) _ _ c.in_err-id.ensures.part))
+    c.from_residual-in_err-id.ensures.1
 
 pub returns-clause-later : goal.returns-clause-later
 unfolding more_successor
 returns-clause-later c = λ ids known.
     let list = c.args.list.now.items in
-    let all : KnowsEach ids (list ++ c.in_ok-id.id ∷ []) = subst (KnowsEach ids) c.in_ok-push.ensures.ok known in (
+    let all : KnowsEach ids (list ++ c.in_ok-id.id ∷ []) = subst (KnowsEach ids) c.in_ok-push.ensures.items known in (
       all_before (λ id. Contains ids id) list c.in_ok-id.id all,
-      done_value (more_successor (Some ids) list) _ _ _ _ (sym c.in_ok-push.ensures.ok)
+      done_value (more_successor (Some ids) list) _ _ _ _ (sym c.in_ok-push.ensures.items)
           (done_then (joint_more (Some ids) list) _ _ _ _ _ c.in_ok-comma.ensures
-          (done_mapped (λ (n : ℕ). list ++ n ∷ []) (successor (Some ids)) _ _ c.in_ok-id.id (c.in_ok-id.ensures.later ids (all_last (λ id. Contains ids id) list c.in_ok-id.id all)))),
+          (done_mapped (λ (n : ℕ). list ++ n ∷ []) (successor (Some ids)) _ _ c.in_ok-id.id
+          (c.in_ok-id.ensures.later ids (all_last (λ id. Contains ids id) list c.in_ok-id.id all)))),
     )

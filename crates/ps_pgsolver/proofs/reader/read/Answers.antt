@@ -4,28 +4,34 @@ use Rattle.ps_pgsolver.proofs.Answering.{first_exit, unknown_answer, answer, wit
 use Rattle.ps_pgsolver.proofs.reader.read.Goals as goal
 
 pub returns-in_err-nodes-clause-answer : goal.returns-in_err-nodes-clause-answer
-returns-in_err-nodes-clause-answer c = first_exit c.args.text.now c.if-text-gt-TEXT_LIMIT.false _ _ c.in_err-nodes.ensures.answer c.from_residual.ensures.1
+returns-in_err-nodes-clause-answer c =
+    first_exit c.args.text.now c.if-text-gt-TEXT_LIMIT.false _ _ c.in_err-nodes.ensures.answer c.from_residual.ensures.1
 
 pub returns-in_err-nodes-clause-within : goal.returns-in_err-nodes-clause-within
 returns-in_err-nodes-clause-within c = within_text c.args.text.now _ (returns-in_err-nodes-clause-answer c)
 
 pub unknown_successor-requires-clause-some : goal.unknown_successor-requires-clause-some
 unknown_successor-requires-clause-some c = λ known.
-    let both : true ≡ false = sym (all_tested _ _ known) ∙ sym c.know_successors.ensures ∙ c.if-not-know_successors.true in cc
+    let both : true ≡ false = sym (all_tested _ _ known) ∙ sym c.know_successors.ensures
+    ∙ c.if-not-know_successors.true in cc
 
 pub returns-then-not-know_successors-clause-answer : goal.returns-then-not-know_successors-clause-answer
 returns-then-not-know_successors-clause-answer c =
-    unknown_answer c.args.text.now c.if-text-gt-TEXT_LIMIT.false c.in_ok-nodes.nodes c.in_ok-nodes.ensures.answer c.unknown_successor.result c.unknown_successor.ensures
+    unknown_answer c.args.text.now c.if-text-gt-TEXT_LIMIT.false c.in_ok-nodes.nodes c.in_ok-nodes.ensures.answer
+    c.unknown_successor.result c.unknown_successor.ensures
 
 pub returns-then-not-know_successors-clause-within : goal.returns-then-not-know_successors-clause-within
-returns-then-not-know_successors-clause-within c = within_text c.args.text.now (Err c.unknown_successor.result) (returns-then-not-know_successors-clause-answer c)
+returns-then-not-know_successors-clause-within c =
+    within_text c.args.text.now (Err c.unknown_successor.result) (returns-then-not-know_successors-clause-answer c)
 
 pub named_game-requires : goal.named_game-requires
 named_game-requires c = all_known _ _ (sym c.know_successors.ensures ∙ c.if-not-know_successors.false)
 
 pub returns-clause-answer : goal.returns-clause-answer
-returns-clause-answer c = answer c.args.text.now c.if-text-gt-TEXT_LIMIT.false c.in_ok-nodes.nodes c.in_ok-nodes.ensures.answer
-    (c.in_ok-nodes.ensures.later _ (all_known _ _ (sym c.know_successors.ensures ∙ c.if-not-know_successors.false))) _ c.named_game.ensures.value c.named_game.ensures.memory
+returns-clause-answer c =
+    answer c.args.text.now c.if-text-gt-TEXT_LIMIT.false c.in_ok-nodes.nodes c.in_ok-nodes.ensures.answer
+    (c.in_ok-nodes.ensures.later _ (all_known _ _ (sym c.know_successors.ensures ∙ c.if-not-know_successors.false))) _
+    c.named_game.ensures.value c.named_game.ensures.memory
 
 pub returns-clause-within : goal.returns-clause-within
 returns-clause-within c = within_text c.args.text.now _ (returns-clause-answer c)

@@ -1,6 +1,5 @@
-use Rattle.std.proofs.Common.{◌<◌, length, ℕ, List, Some}
+use Rattle.std.proofs.Common.{◌<◌, length, vec_len, ℕ, List, Some}
 use Rattle.ps_pgsolver.specs.Nodes.{KnowsEach}
-use Rattle.smallvec.specs.SmallVec.{small_vec_len}
 use Rattle.std.specs.Option.{option_copied}
 use Rattle.ps_text.specs.Parts.{many}
 use Rattle.ps_pgsolver.specs.GameTexts.{successors, more_successor}
@@ -8,8 +7,11 @@ use Rattle.ps_pgsolver.proofs.Exits.{Continues}
 use Rattle.ps_pgsolver.proofs.reader.successors.Given as goal
 
 abbrev pub invariant-more : goal.invariant-more
-invariant-more l = (0 < small_vec_len l.list) × Continues (successors (option_copied l.known)) (many (more_successor (option_copied l.known)) l.list.items) l.fn.tokens l.tokens
-    × ((ids : List ℕ) → KnowsEach ids l.list.items → Continues (successors (Some ids)) (many (more_successor (Some ids)) l.list.items) l.fn.tokens l.tokens)
+invariant-more l =
+    (0 < vec_len l.list) × Continues (successors (option_copied l.known))
+    (many (more_successor (option_copied l.known)) l.list.items) l.fn.tokens l.tokens
+    × ((ids : List ℕ) → KnowsEach ids l.list.items → Continues (successors (Some ids))
+    (many (more_successor (Some ids)) l.list.items) l.fn.tokens l.tokens)
 
 abbrev pub decreases-more : goal.decreases-more
 decreases-more l = length l.tokens.pieces

@@ -7,8 +7,11 @@ use Rattle.ps_pgsolver.proofs.reader.value_line.Goals as goal
 
 pub returns-in_err-number : goal.returns-in_err-number
 unfolding value_line
-returns-in_err-number c = exit _ _ _ _ _ _ (stops_left joint_value _ _ c.in_err-number.ensures) c.from_residual.ensures.1
+returns-in_err-number c =
+    exit _ _ _ _ _ _ (stops_left joint_value _ _ c.in_err-number.ensures) c.from_residual.ensures.1
 
 pub returns : goal.returns
 unfolding value_line
-returns c = then_meets found_of pg_causes joint_value (λ n. n) (λ u. u) _ _ _ c.in_ok-number.field-0 _ c.in_ok-number.ensures c.semicolon.ensures
+returns c =
+    then_meets found_of pg_causes joint_value (λ n. n) (λ u. u) _ _ _ c.in_ok-number.field-0 _ c.in_ok-number.ensures
+    c.semicolon.ensures

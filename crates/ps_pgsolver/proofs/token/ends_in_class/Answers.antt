@@ -6,4 +6,5 @@ use Rattle.ps_pgsolver.proofs.token.ends_in_class.Goals as goal
 pub returns-in-Some : goal.returns-in-Some
 returns-in-Some c =
     let some = c.in-Some.ensures.item.3.0 in
-    c.has.ensures ∙ ap (in_class c.args.class) (c.in-Some.ensures.item.3.1 0) ∙ sym (ends_in-last (in_class c.args.class) c.args.text.now some)
+    c.has.ensures ∙ ap (in_class c.args.class) (c.in-Some.ensures.item.3.1 0)
+    ∙ sym (ends_in-last (in_class c.args.class) c.args.text.now some)

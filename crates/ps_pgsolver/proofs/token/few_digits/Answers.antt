@@ -31,6 +31,7 @@ loop-digits-preserved c =
       subst (λ n. IsReadTo c.args.text.now n (digits + 1)) (sym next)
           (read_one c.args.text.now value digits within digit c.loop-digits.invariant.0),
       subst (λ n. n < 10 ^ (digits + 1)) (sym next)
-          (few_more value digits (get_or c.args.text.now digits 0 - 48) c.loop-digits.invariant.1 (digit_small (get_or c.args.text.now digits 0) digit)),
+          (few_more value digits (get_or c.args.text.now digits 0 - 48) c.loop-digits.invariant.1
+          (digit_small (get_or c.args.text.now digits 0) digit)),
       omega (arith, c.loop-digits-test.true),
     )

@@ -4,16 +4,27 @@ use Rattle.ps_pgsolver.proofs.TokenLemmas.{reads_split, stream_from-blanks}
 use Rattle.ps_pgsolver.proofs.token.token_from.Goals as goal
 
 pub returns-clause-blanks : goal.returns-clause-blanks
-returns-clause-blanks c = stream_from-blanks c.args.text.now c.args.at ∙ ap (stream_from c.args.text.now) (sym c.next_start-start.ensures.start)
+returns-clause-blanks c = stream_from-blanks c.args.text.now c.args.at
+    ∙ ap (stream_from c.args.text.now) (sym c.next_start-start.ensures.start)
 
 pub returns-clause-ahead : goal.returns-clause-ahead
 returns-clause-ahead c =
-    let read = reads_split c.args.text.now c.split_at.result.0.now c.split_at.result.1.now _ _ _ _ _ c.next_start-start.ensures.start c.next_start-start.ensures.within
-    c.split_at.ensures.front c.split_at.ensures.back c.token_at-size.ensures.end c.token_at-size.ensures.sign c.token_at-size.ensures.size (returns-clause-blanks c) in
+    let read =
+    reads_split c.args.text.now c.split_at.result.0.now c.split_at.result.1.now _ _ _ _ _
+    c.next_start-start.ensures.start c.next_start-start.ensures.within
+    c.split_at.ensures.front c.split_at.ensures.back c.token_at-size.ensures.end c.token_at-size.ensures.sign
+    c.token_at-size.ensures.size (returns-clause-blanks c) in
     record {
       head = read.head;
       plain = c.token_at-size.ensures.plain;
       rest = read.rest;
       start = c.next_start-start.ensures.within;
-      within = omega (arith, c.token_at-size.ensures.within, ap length c.split_at.ensures.back, length-drop c.next_start-start.result c.args.text.now, c.next_start-start.ensures.within);
+      within =
+          omega (
+            arith,
+            c.token_at-size.ensures.within,
+            ap length c.split_at.ensures.back,
+            length-drop c.next_start-start.result c.args.text.now,
+            c.next_start-start.ensures.within,
+          );
     }

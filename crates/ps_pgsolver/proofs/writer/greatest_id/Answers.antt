@@ -14,7 +14,8 @@ loop-vertex-preserved c =
     let v = c.loop-vertex.vertex in
     let count = c.count-vertex-end.ensures.vertices ∙ ap vertex_count c.game.ensures.game in
     let within : v < length ids = omega (arith, c.loop-vertex-test.true, count, c.game.ensures.well_formed.id_each) in
-    ap (λ m. max m (greatest (drop (v + 1) ids))) (c.max-most.ensures ∙ ap (λ x. max x c.loop-vertex.most) c.id.ensures) ∙ greatest_step ids v c.loop-vertex.most within ∙ c.loop-vertex.invariant
+    ap (λ m. max m (greatest (drop (v + 1) ids))) (c.max-most.ensures ∙ ap (λ x. max x c.loop-vertex.most) c.id.ensures)
+    ∙ greatest_step ids v c.loop-vertex.most within ∙ c.loop-vertex.invariant
 
 pub returns : goal.returns
 returns c =

@@ -10,7 +10,11 @@ returns-clause-read_again c =
     let game = c.args.game.now in
     let lines = vertex_lines game.ids game.names 0 game.game in
     let bytes : c.write_vertices.new.out.items ≡ game_text game =
-    c.in_ok-write_vertices.ensures.bytes ∙ ap (λ out. out ++ lines) (c.in_ok-write_head.ensures.bytes ∙ ap (λ out. out ++ head_text c.greatest_id.result) c.new-out.ensures.items ∙ ap head_text c.greatest_id.ensures) in
+    c.in_ok-write_vertices.ensures.bytes ∙ ap (λ out. out ++ lines)
+    (c.in_ok-write_head.ensures.bytes ∙ ap (λ out. out ++ head_text c.greatest_id.result) c.new-out.ensures.items
+    ∙ ap head_text c.greatest_id.ensures) in
     let word : IsWord (greatest game.ids) = subst IsWord c.greatest_id.ensures c.in_ok-write_head.ensures.word in
     let written = c.in_ok-write_vertices.ensures in
-    λ short. subst (λ t. IsGameAnswer t (Ok game)) (sym bytes) (reads_again game written.well_formed c.requires written.ids written.priorities word (omega (arith, short, ap length bytes)))
+    λ short. subst (λ t. IsGameAnswer t (Ok game)) (sym bytes)
+    (reads_again game written.well_formed c.requires written.ids written.priorities word
+    (omega (arith, short, ap length bytes)))

@@ -10,32 +10,51 @@ unfolding vertex_count priority_of
 loop-vertex-preserved c =
     let game = c.args.game.now in
     let v = c.loop-vertex.vertex in
-    let count : c.count-vertex-end.result ≡ length game.game = c.count-vertex-end.ensures.vertices ∙ ap length c.game.ensures.game in
+    let count : c.count-vertex-end.result ≡ length game.game = c.count-vertex-end.ensures.vertices
+    ∙ ap length c.game.ensures.game in
     let within : v < length game.game = omega (arith, c.loop-vertex-test.true, count) in
     record {
-      bytes = lines_step game.ids game.names game.game v c.loop-vertex.out.items c.write_vertex.new.out.items (c.args.out.now.items ++ vertex_lines game.ids game.names 0 game.game) within c.in_ok-write_vertex.ensures.bytes c.loop-vertex.invariant.bytes;
-      ids = All-more IsWord game.ids v 0 (omega (arith, within, c.game.ensures.well_formed.id_each)) c.loop-vertex.invariant.ids c.in_ok-write_vertex.ensures.id;
-      priorities = All-more (λ (x : VertexData). IsWord x.priority) game.game v no_vertex within c.loop-vertex.invariant.priorities c.in_ok-write_vertex.ensures.priority;
+      bytes =
+          lines_step game.ids game.names game.game v c.loop-vertex.out.items c.write_vertex.new.out.items
+          (c.args.out.now.items ++ vertex_lines game.ids game.names 0 game.game) within
+          c.in_ok-write_vertex.ensures.bytes c.loop-vertex.invariant.bytes;
+      ids =
+          All-more IsWord game.ids v 0 (omega (arith, within, c.game.ensures.well_formed.id_each))
+          c.loop-vertex.invariant.ids c.in_ok-write_vertex.ensures.id;
+      priorities =
+          All-more (λ (x : VertexData). IsWord x.priority) game.game v no_vertex within
+          c.loop-vertex.invariant.priorities c.in_ok-write_vertex.ensures.priority;
     }
 
 pub returns-clause-bytes : goal.returns-clause-bytes
 unfolding vertex_count
 returns-clause-bytes c =
     let game = c.args.game.now in
-    let count : c.count-vertex-end.result ≡ length game.game = c.count-vertex-end.ensures.vertices ∙ ap length c.game.ensures.game in
+    let count : c.count-vertex-end.result ≡ length game.game = c.count-vertex-end.ensures.vertices
+    ∙ ap length c.game.ensures.game in
     sym (append-nil c.loop-vertex.out.items)
-    ∙ lines_end game.ids game.names game.game c.loop-vertex.vertex c.loop-vertex.out.items (c.args.out.now.items ++ vertex_lines game.ids game.names 0 game.game) (omega (arith, c.loop-vertex-test.false, count)) c.loop-vertex.invariant.bytes
+    ∙ lines_end game.ids game.names game.game c.loop-vertex.vertex c.loop-vertex.out.items
+    (c.args.out.now.items ++ vertex_lines game.ids game.names 0 game.game)
+    (omega (arith, c.loop-vertex-test.false, count)) c.loop-vertex.invariant.bytes
 
 pub returns-clause-ids : goal.returns-clause-ids
 unfolding vertex_count
 returns-clause-ids c =
     let game = c.args.game.now in
-    let count : c.count-vertex-end.result ≡ length game.game = c.count-vertex-end.ensures.vertices ∙ ap length c.game.ensures.game in
-    all_taken_all IsWord game.ids c.loop-vertex.vertex (omega (arith, c.loop-vertex-test.false, count, c.game.ensures.well_formed.id_each)) c.loop-vertex.invariant.ids
+    let count : c.count-vertex-end.result ≡ length game.game = c.count-vertex-end.ensures.vertices
+    ∙ ap length c.game.ensures.game in
+    all_taken_all IsWord game.ids c.loop-vertex.vertex (omega (
+      arith,
+      c.loop-vertex-test.false,
+      count,
+      c.game.ensures.well_formed.id_each,
+    )) c.loop-vertex.invariant.ids
 
 pub returns-clause-priorities : goal.returns-clause-priorities
 unfolding vertex_count
 returns-clause-priorities c =
     let game = c.args.game.now in
-    let count : c.count-vertex-end.result ≡ length game.game = c.count-vertex-end.ensures.vertices ∙ ap length c.game.ensures.game in
-    all_taken_all (λ (x : VertexData). IsWord x.priority) game.game c.loop-vertex.vertex (omega (arith, c.loop-vertex-test.false, count)) c.loop-vertex.invariant.priorities
+    let count : c.count-vertex-end.result ≡ length game.game = c.count-vertex-end.ensures.vertices
+    ∙ ap length c.game.ensures.game in
+    all_taken_all (λ (x : VertexData). IsWord x.priority) game.game c.loop-vertex.vertex
+    (omega (arith, c.loop-vertex-test.false, count)) c.loop-vertex.invariant.priorities

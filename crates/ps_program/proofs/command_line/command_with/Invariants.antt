@@ -6,4 +6,6 @@ use Rattle.ps_program.proofs.command_line.command_with.Given as goal
 
 -- the command has the flags before this one, none of which is for other commands too
 abbrev pub invariant-loop-given : goal.invariant-loop-given
-invariant-loop-given l = (app_of l.command ≡ app_with l.name (map (λ flag. flag.now) (take l.given-index l.flags))) × ((fields_of l.command).has_globals ≡ false)
+invariant-loop-given l =
+    (app_of l.command ≡ app_with l.name (map (λ flag. flag.now) (take l.given-index l.flags))) ×
+    ((fields_of l.command).has_globals ≡ false)

@@ -11,8 +11,10 @@ pub returns-in-Ok : goal.returns-in-Ok
 returns-in-Ok c =
     let words = map (λ word. word.now) c.args.words.now in
     let app = app_of c.in_ok-commands.field-0 in
-    let none : fault_of app words ≡ [] = c.in-Ok.ensures.kinds (ap is_simple_and_free c.in_ok-commands.ensures ∙ table-free) in
-    let named : subcommand_rows_of c.in-Ok.matches ≡ subcommand_of app words = (c.in-Ok.ensures.matches (ap is_simple c.in_ok-commands.ensures ∙ table-simple)).1 in
+    let none : fault_of app words ≡ [] =
+    c.in-Ok.ensures.kinds (ap is_simple_and_free c.in_ok-commands.ensures ∙ table-free) in
+    let named : subcommand_rows_of c.in-Ok.matches ≡ subcommand_of app words =
+    (c.in-Ok.ensures.matches (ap is_simple c.in_ok-commands.ensures ∙ table-simple)).1 in
     inl (
       subst (λ (a : App). fault_of a words ≡ []) c.in_ok-commands.ensures none,
       c.line_of.ensures ∙ ap line_said (named ∙ ap (λ (a : App). subcommand_of a words) c.in_ok-commands.ensures),

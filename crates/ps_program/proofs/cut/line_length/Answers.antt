@@ -4,10 +4,13 @@ use Rattle.ps_program.proofs.cut.line_length.Goals as goal
 
 pub returns-then-byte-eq10-clause-length : goal.returns-then-byte-eq10-clause-length
 returns-then-byte-eq10-clause-length c =
-    sym (position_or_len_is _ c.args.input.now c.loop-place.place 0 (omega arith) c.loop-place.invariant (λ _. search rules))
+    sym (position_or_len_is _ c.args.input.now c.loop-place.place 0 (omega arith) c.loop-place.invariant
+    (λ _. search rules))
 
 pub returns-clause-length : goal.returns-clause-length
 returns-clause-length c =
     let end : c.loop-place.place ≡ length c.args.input.now = omega arith in
-    let none : (k : ℕ) → k < length c.args.input.now → (get_or c.args.input.now k 0 == 10) ≡ false = λ k h. c.loop-place.invariant k (omega arith) in
-    sym (position_or_len_is _ c.args.input.now (length c.args.input.now) 0 (omega arith) none (λ h. absurd (omega arith)))
+    let none : (k : ℕ) → k < length c.args.input.now → (get_or c.args.input.now k 0 == 10) ≡ false =
+    λ k h. c.loop-place.invariant k (omega arith) in
+    sym (position_or_len_is _ c.args.input.now (length c.args.input.now) 0 (omega arith) none
+    (λ h. absurd (omega arith)))

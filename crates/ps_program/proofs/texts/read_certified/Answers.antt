@@ -12,12 +12,21 @@ returns-in_err-game-clause-read c =
 pub returns-in_err-certificate-clause-read : goal.returns-in_err-certificate-clause-read
 returns-in_err-certificate-clause-read c =
     gives_passed both_view (ReadsCertified c.args.texts.now) _ _ c.from_residual-in_err-certificate.ensures.1
-    (certified_certificate_fault _ _ _ _ c.in_err-certificate.field-0.0 c.in_ok-first.ensures c.in_ok-game.ensures c.in_err-certificate.ensures.read)
+    (certified_certificate_fault _ _ _ _ c.in_err-certificate.field-0.0 c.in_ok-first.ensures c.in_ok-game.ensures
+    c.in_err-certificate.ensures.read)
 
 pub returns-clause-read : goal.returns-clause-read
 returns-clause-read c =
     inr (
       (c.in_ok-first.first.now, c.in_ok-first.second.now),
       c.in_ok-first.ensures,
-      inr (c.in_ok-game.game, c.in_ok-game.ensures, inr (c.in_ok-certificate.certificate, c.in_ok-certificate.ensures.read, refl)),
+      inr (
+        c.in_ok-game.game,
+        c.in_ok-game.ensures,
+        inr (
+          c.in_ok-certificate.certificate,
+          c.in_ok-certificate.ensures.read,
+          refl,
+        ),
+      ),
     )

@@ -10,4 +10,5 @@ returns-in-Ok c = c.in-Ok.ensures.exact
 
 pub returns-in-Err : goal.returns-in-Err
 returns-in-Err c =
-    gives_fault {X = CircuitData} {V = CircuitData} cause_number cause_name (ReadsCircuit c.args.text.now) (λ circuit. circuit) c.in-Err.fault c.from.result c.in-Err.ensures.exact c.from.ensures
+    gives_fault {X = CircuitData} {V = CircuitData} cause_number cause_name (ReadsCircuit c.args.text.now)
+    (λ circuit. circuit) c.in-Err.fault c.from.result c.in-Err.ensures.exact c.from.ensures

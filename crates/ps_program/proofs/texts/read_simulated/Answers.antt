@@ -15,7 +15,8 @@ pub returns-in_err-letters-clause-read : goal.returns-in_err-letters-clause-read
 returns-in_err-letters-clause-read c =
     gives_passed run_view (ReadsSimulated c.args.texts.now) _ _ c.from_residual-in_err-letters.ensures.1
     (simulated_stimulus_fault _ _ _ _ c.in_err-letters.field-0.0 c.in_ok-text.ensures c.in_ok-circuit.ensures
-    (subst (λ (width : ℕ). Gives {X = List (List Bool)} stem_of (ReadsStimulusText width false c.in_ok-text.stimulus.now) (Err c.in_err-letters.field-0.0))
+    (subst (λ (width : ℕ). Gives {X = List (List Bool)} stem_of
+    (ReadsStimulusText width false c.in_ok-text.stimulus.now) (Err c.in_err-letters.field-0.0))
     (ap length c.inputs-width.ensures.inputs) c.in_err-letters.ensures))
 
 pub returns-clause-read : goal.returns-clause-read
@@ -28,7 +29,8 @@ returns-clause-read c =
         c.in_ok-circuit.ensures,
         inr (
           stem_of c.in_ok-letters.letters,
-          subst (λ (width : ℕ). ReadsStimulusText width false c.in_ok-text.stimulus.now (Ok (stem_of c.in_ok-letters.letters))) (ap length c.inputs-width.ensures.inputs) c.in_ok-letters.ensures,
+          subst (λ (width : ℕ). ReadsStimulusText width false c.in_ok-text.stimulus.now
+              (Ok (stem_of c.in_ok-letters.letters))) (ap length c.inputs-width.ensures.inputs) c.in_ok-letters.ensures,
           refl,
         ),
       ),

@@ -1,4 +1,5 @@
-use Rattle.std.proofs.Common.{◌≡◌, ◌∙◌, ◌+◌, ◌-◌, ◌*◌, ◌≤◌, ◌++◌, [], ◌∷◌, ℕ, suc, List, Bool, false, sym, ap, subst, take, drop, length, arith, length-take, length-drop}
+use Rattle.std.proofs.Common.{◌≡◌, ◌∙◌, ◌+◌, ◌-◌, ◌*◌, ◌≤◌, ◌++◌, [], ◌∷◌, ℕ, suc, List, Bool, false, sym, ap, subst}
+use Rattle.std.proofs.Common.{take, drop, length, arith, length-take, length-drop}
 use Rattle.std.proofs.lemmas.Result.{err_from_is_err_and}
 use Rattle.std.proofs.lemmas.List.{length-map}
 use Rattle.ps_simulate.specs.Stimuli.{letters_in, stem_of}
@@ -9,8 +10,10 @@ use Rattle.ps_simulate.proofs.StimulusSteps.{HasRead-letter}
 use Rattle.ps_simulate.proofs.letters.parse_letters.Goals as goal
 
 -- the line ends where it was found to end
-length_is : (text : List ℕ) (start end : ℕ) → start ≤ end → end ≤ length text → start + length (take (end - start) (drop start text)) ≡ end
-length_is text start end from within = omega (arith, length-take (end - start) (drop start text), length-drop start text)
+length_is : (text : List ℕ) (start end : ℕ) → start ≤ end → end ≤ length text →
+    start + length (take (end - start) (drop start text)) ≡ end
+length_is text start end from within =
+    omega (arith, length-take (end - start) (drop start text), length-drop start text)
 
 pub returns-in_err-letter : goal.returns-in_err-letter
 returns-in_err-letter c =
@@ -20,7 +23,8 @@ returns-in_err-letter c =
     let ends = length_is text start end c.line_end-end.ensures.from c.line_end-end.ensures.within in
     let p = err_from_is_err_and c.from_residual.result c.from_residual.ensures.1 in
     rw (p.1, p.2)
-    (IsLettersAnswer-line text c.args.width start end _ c.loop-start.invariant.read _ c.line_end-end.ensures.lines ends c.loop-start-test.true c.line_end-end.ensures.within
+    (IsLettersAnswer-line text c.args.width start end _ c.loop-start.invariant.read _ c.line_end-end.ensures.lines ends
+    c.loop-start-test.true c.line_end-end.ensures.within
     c.in_err-letter.field-0.0 c.in_err-letter.ensures)
 
 pub loop-start-preserved : goal.loop-start-preserved
@@ -34,16 +38,22 @@ loop-start-preserved c =
     let letter = c.in_ok-letter.letter.items in
     let line = take (end - start) (drop start text) in
     let ends = length_is text start end c.line_end-end.ensures.from c.line_end-end.ensures.within in
-    let fits : length letter ≡ width = sym (length-map letter digit_of) ∙ sym (ap length c.in_ok-letter.ensures.0) ∙ c.in_ok-letter.ensures.1 in
-    let now : c.extend_from_slice.new.self.items ≡ bits ++ letter = c.in_ok-extend_from_slice.ensures.items ∙ ap (λ (l : List Bool). bits ++ l) c.deref.ensures.value in
+    let fits : length letter ≡ width = sym (length-map letter digit_of) ∙ sym (ap length c.in_ok-letter.ensures.0)
+    ∙ c.in_ok-letter.ensures.1 in
+    let now : c.extend_from_slice.new.self.items ≡ bits ++ letter = c.in_ok-extend_from_slice.ensures.items
+    ∙ ap (λ (l : List Bool). bits ++ l) c.deref.ensures.value in
     let next : count + 1 ≡ suc count = omega arith in
-    let more : letters_in width (count + 1) c.extend_from_slice.new.self.items ≡ letters_in width count bits ++ letter ∷ [] =
+    let more : letters_in width (count + 1) c.extend_from_slice.new.self.items ≡ letters_in width count bits ++
+    letter ∷ [] =
     ap (letters_in width (count + 1)) now ∙ ap (λ (n : ℕ). letters_in width n (bits ++ letter)) next
     ∙ letters_in-push width count bits letter c.loop-start.invariant.whole fits in
     record {
-      read = subst (λ (letters : List (List Bool)). HasRead text width false false (end + 1) (stem_of letters)) (sym more)
-          (HasRead-letter text width false false start end (stem_of (letters_in width count bits)) c.loop-start.invariant.read line c.line_end-end.ensures.lines ends letter
+      read =
+          subst (λ (letters : List (List Bool)). HasRead text width false false (end + 1) (stem_of letters)) (sym more)
+          (HasRead-letter text width false false start end (stem_of (letters_in width count bits))
+          c.loop-start.invariant.read line c.line_end-end.ensures.lines ends letter
           c.in_ok-letter.ensures.0 c.in_ok-letter.ensures.1);
-      whole = ap length now ∙ whole-push width count bits letter c.loop-start.invariant.whole fits ∙ ap (λ (n : ℕ). n * width) (sym next);
+      whole = ap length now ∙ whole-push width count bits letter c.loop-start.invariant.whole fits
+          ∙ ap (λ (n : ℕ). n * width) (sym next);
       few = omega (arith, c.line_end-end.ensures.from);
     }

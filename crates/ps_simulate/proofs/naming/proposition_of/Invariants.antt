@@ -4,4 +4,5 @@ use Rattle.ps_hoa.specs.Memory.{bytes_of}
 use Rattle.ps_simulate.proofs.naming.proposition_of.Given as goal
 
 abbrev pub invariant-loop-p : goal.invariant-loop-p
-invariant-loop-p l = (p : ℕ) → p < l.p → is_among p l.controllable ≡ l.wanted → ¬ (get_or (map bytes_of l.names) p [] ≡ l.symbol)
+invariant-loop-p l =
+    (p : ℕ) → p < l.p → is_among p l.controllable ≡ l.wanted → ¬ (get_or (map bytes_of l.names) p [] ≡ l.symbol)

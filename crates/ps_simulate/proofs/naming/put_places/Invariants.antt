@@ -5,4 +5,5 @@ use Rattle.ps_simulate.specs.Namings.{ArePut}
 use Rattle.ps_simulate.proofs.naming.put_places.Given as goal
 
 abbrev pub invariant-loop-k : goal.invariant-loop-k
-invariant-loop-k l = ArePut (map bytes_of l.names) l.controllable l.wanted (map option_copied l.symbols) l.k l.places.items
+invariant-loop-k l =
+    ArePut (map bytes_of l.names) l.controllable l.wanted (map option_copied l.symbols) l.k l.places.items

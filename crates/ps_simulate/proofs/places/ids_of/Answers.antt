@@ -7,4 +7,5 @@ push-requires c =
     let variables = c.args.variables.now in
     let place = c.loop-variable.variable-index in
     subst (λ (ids : List ℕ). Contains ids c.from.result → ⊥) (sym c.loop-variable.invariant)
-    (subst (λ (v : ℕ). Contains (take place variables) v → ⊥) (sym c.from.ensures) (absent_before variables place c.requires c.loop-variable-test.true))
+    (subst (λ (v : ℕ). Contains (take place variables) v → ⊥) (sym c.from.ensures)
+    (absent_before variables place c.requires c.loop-variable-test.true))

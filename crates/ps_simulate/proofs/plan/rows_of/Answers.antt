@@ -11,7 +11,8 @@ use Rattle.ps_simulate.proofs.plan.rows_of.Goals as goal
 use Rattle.ps_simulate.proofs.plan.rows_of.Goals.{After-order-order}
 
 -- an item of the order is the place of a gate
-within : (c : After-order-order) (k : ℕ) → k < length c.order-order.result.now → get_or c.order-order.result.now k 0 < length c.args.circuit.now.gates
+within : (c : After-order-order) (k : ℕ) → k < length c.order-order.result.now →
+    get_or c.order-order.result.now k 0 < length c.args.circuit.now.gates
 within c k lt = c.order-order.ensures.within k _ (slice_get-get_or c.order-order.result.now k 0 lt)
 
 pub wire-requires : goal.wire-requires
@@ -24,13 +25,15 @@ pub wire-requires-in-loop-place : goal.wire-requires-in-loop-place
 wire-requires-in-loop-place c =
     rw (c.requires, c.index-gates-place.is, c.gates-gates.ensures.gates)
     (sides_known c.args.circuit.now c.gates-gates.ensures.well_formed _ c.index-gates-place.result
-    (within (goal.at.wire-requires-in-loop-place c).After-order-order c.loop-place.place-index c.loop-place-test.true)).0
+    (within (goal.at.wire-requires-in-loop-place c).After-order-order c.loop-place.place-index
+    c.loop-place-test.true)).0
 
 pub wire-requires-in-loop-place-2 : goal.wire-requires-in-loop-place-2
 wire-requires-in-loop-place-2 c =
     rw (c.requires, c.index-gates-place.is, c.gates-gates.ensures.gates)
     (sides_known c.args.circuit.now c.gates-gates.ensures.well_formed _ c.index-gates-place.result
-    (within (goal.at.wire-requires-in-loop-place-2 c).After-order-order c.loop-place.place-index c.loop-place-test.true)).1
+    (within (goal.at.wire-requires-in-loop-place-2 c).After-order-order c.loop-place.place-index
+    c.loop-place-test.true)).1
 
 pub loop-place-preserved : goal.loop-place-preserved
 loop-place-preserved c =
@@ -39,14 +42,22 @@ loop-place-preserved c =
     let k = c.loop-place.place-index in
     let place = get_or order k 0 in
     let gate = c.index-gates-place.result in
-    let is : gate ≡ get_or circuit.gates place no_gate = c.index-gates-place.is ∙ ap (λ (gs : List Gate). get_or gs place gate) c.gates-gates.ensures.gates
-    ∙ get_or_default circuit.gates place gate no_gate (within (goal.at.loop-place-preserved c).After-order-order k c.loop-place-test.true) in
-    let made : Wire → Wire → Wire → Row = λ own first second. record { target = own.place; first = first; second = second } in
+    let is : gate ≡ get_or circuit.gates place no_gate = c.index-gates-place.is
+    ∙ ap (λ (gs : List Gate). get_or gs place gate) c.gates-gates.ensures.gates
+    ∙ get_or_default circuit.gates place gate no_gate (within (goal.at.loop-place-preserved c).After-order-order k
+    c.loop-place-test.true) in
+    let made : Wire → Wire → Wire → Row =
+    λ own first second. record { target = own.place; first = first; second = second } in
     let g = get_or circuit.gates place no_gate in
     let own = c.wire.ensures ∙ ap₂ (λ (d : CircuitData) (h : Gate). wire_of d h.literal) c.requires is in
     let first = c.wire-in-loop-place.ensures ∙ ap₂ (λ (d : CircuitData) (h : Gate). wire_of d h.first) c.requires is in
-    let second = c.wire-in-loop-place-2.ensures ∙ ap₂ (λ (d : CircuitData) (h : Gate). wire_of d h.second) c.requires is in
-    let row : made c.wire.result c.wire-in-loop-place.result c.wire-in-loop-place-2.result ≡ row_at circuit place = ap (λ (w : Wire). made w c.wire-in-loop-place.result c.wire-in-loop-place-2.result) own
-    ∙ ap (λ (w : Wire). made (wire_of circuit g.literal) w c.wire-in-loop-place-2.result) first ∙ ap (made (wire_of circuit g.literal) (wire_of circuit g.first)) second in
-    c.in_ok-push.ensures.items ∙ ap (λ (r : Row). c.loop-place.rows.items ++ r ∷ []) row ∙ ap (λ (rows : List Row). rows ++ row_at circuit place ∷ []) c.loop-place.invariant
-    ∙ sym (ap (map (row_at circuit)) (take_more order k 0 c.loop-place-test.true) ∙ map-append (row_at circuit) (take k order) (place ∷ []))
+    let second =
+    c.wire-in-loop-place-2.ensures ∙ ap₂ (λ (d : CircuitData) (h : Gate). wire_of d h.second) c.requires is in
+    let row : made c.wire.result c.wire-in-loop-place.result c.wire-in-loop-place-2.result ≡ row_at circuit place =
+    ap (λ (w : Wire). made w c.wire-in-loop-place.result c.wire-in-loop-place-2.result) own
+    ∙ ap (λ (w : Wire). made (wire_of circuit g.literal) w c.wire-in-loop-place-2.result) first
+    ∙ ap (made (wire_of circuit g.literal) (wire_of circuit g.first)) second in
+    c.in_ok-push.ensures.items ∙ ap (λ (r : Row). c.loop-place.rows.items ++ r ∷ []) row
+    ∙ ap (λ (rows : List Row). rows ++ row_at circuit place ∷ []) c.loop-place.invariant
+    ∙ sym (ap (map (row_at circuit)) (take_more order k 0 c.loop-place-test.true)
+    ∙ map-append (row_at circuit) (take k order) (place ∷ []))

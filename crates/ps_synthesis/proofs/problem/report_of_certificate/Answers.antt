@@ -4,15 +4,23 @@ use Rattle.ps_synthesis.proofs.Reporting.{no_report, told_as}
 use Rattle.ps_synthesis.proofs.problem.report_of_certificate.Goals as goal
 
 pub returns-clause-circuit : goal.returns-clause-circuit
-returns-clause-circuit c = (c.in_ok-circuit.circuit, c.in_ok-report_of.ensures.circuit, c.in_ok-circuit.ensures.made, c.in_ok-circuit.ensures.answers)
+returns-clause-circuit c = (
+  c.in_ok-circuit.circuit,
+  c.in_ok-report_of.ensures.circuit,
+  c.in_ok-circuit.ensures.made,
+  c.in_ok-circuit.ensures.answers,
+)
 
 pub returns-in_err-circuit-clause-refused : goal.returns-in_err-circuit-clause-refused
 returns-in_err-circuit-clause-refused c =
-    told_as c.from_residual.result c.in_err-circuit.field-0.0 (IsCircuitFault c.args.order c.args.automaton.now c.args.game.now.game.game c.args.certificate.now) c.in_err-circuit.ensures.refused c.from_residual.ensures.1
+    told_as c.from_residual.result c.in_err-circuit.field-0.0 (IsCircuitFault c.args.order c.args.automaton.now
+    c.args.game.now.game.game c.args.certificate.now) c.in_err-circuit.ensures.refused c.from_residual.ensures.1
 
 pub returns-in_err-report_of-clause-refused : goal.returns-in_err-report_of-clause-refused
 returns-in_err-report_of-clause-refused c =
-    told_as c.from_residual-in_err-report_of.result OutOfMemory (IsCircuitFault c.args.order c.args.automaton.now c.args.game.now.game.game c.args.certificate.now) tt c.from_residual-in_err-report_of.ensures.1
+    told_as c.from_residual-in_err-report_of.result OutOfMemory
+    (IsCircuitFault c.args.order c.args.automaton.now c.args.game.now.game.game c.args.certificate.now) tt
+    c.from_residual-in_err-report_of.ensures.1
 
 pub returns-in_err-circuit-clause-realizable : goal.returns-in_err-circuit-clause-realizable
 returns-in_err-circuit-clause-realizable c = no_report c.from_residual.result _ _ c.from_residual.ensures.1
@@ -27,13 +35,17 @@ pub returns-in_err-circuit-clause-certificate : goal.returns-in_err-circuit-clau
 returns-in_err-circuit-clause-certificate c = no_report c.from_residual.result _ _ c.from_residual.ensures.1
 
 pub returns-in_err-report_of-clause-realizable : goal.returns-in_err-report_of-clause-realizable
-returns-in_err-report_of-clause-realizable c = no_report c.from_residual-in_err-report_of.result _ _ c.from_residual-in_err-report_of.ensures.1
+returns-in_err-report_of-clause-realizable c =
+    no_report c.from_residual-in_err-report_of.result _ _ c.from_residual-in_err-report_of.ensures.1
 
 pub returns-in_err-report_of-clause-circuit : goal.returns-in_err-report_of-clause-circuit
-returns-in_err-report_of-clause-circuit c = no_report c.from_residual-in_err-report_of.result _ _ c.from_residual-in_err-report_of.ensures.1
+returns-in_err-report_of-clause-circuit c =
+    no_report c.from_residual-in_err-report_of.result _ _ c.from_residual-in_err-report_of.ensures.1
 
 pub returns-in_err-report_of-clause-game : goal.returns-in_err-report_of-clause-game
-returns-in_err-report_of-clause-game c = no_report c.from_residual-in_err-report_of.result _ _ c.from_residual-in_err-report_of.ensures.1
+returns-in_err-report_of-clause-game c =
+    no_report c.from_residual-in_err-report_of.result _ _ c.from_residual-in_err-report_of.ensures.1
 
 pub returns-in_err-report_of-clause-certificate : goal.returns-in_err-report_of-clause-certificate
-returns-in_err-report_of-clause-certificate c = no_report c.from_residual-in_err-report_of.result _ _ c.from_residual-in_err-report_of.ensures.1
+returns-in_err-report_of-clause-certificate c =
+    no_report c.from_residual-in_err-report_of.result _ _ c.from_residual-in_err-report_of.ensures.1

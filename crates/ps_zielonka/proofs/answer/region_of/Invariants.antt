@@ -3,4 +3,5 @@ use Rattle.ps_zielonka.specs.Answers.{IsRegionTo}
 use Rattle.ps_zielonka.proofs.answer.region_of.Given as goal
 
 abbrev pub invariant-loop-vertex : goal.invariant-loop-vertex
-invariant-loop-vertex l = record { places : length l.region ≡ length l.winner; won : IsRegionTo l.winner l.vertex l.region }
+invariant-loop-vertex l =
+    record { places : length l.region ≡ length l.winner; won : IsRegionTo l.winner l.vertex l.region }

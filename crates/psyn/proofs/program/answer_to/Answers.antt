@@ -13,10 +13,13 @@ returns g c =
     let r = c.args.replay.now in
     let s = goal.Solver-dyn g (b.vtable, b.value) in
     let t = goal.Solver-dyn g (r.vtable, r.value) in
-    let solvers : Solvers = solvers_of (solver_of (s.is_sure b.value) (s.fed b.value) (s.may_answer b.value)) (solver_of (t.is_sure r.value) (t.fed r.value) (t.may_answer r.value)) in
+    let solvers : Solvers =
+    solvers_of (solver_of (s.is_sure b.value) (s.fed b.value) (s.may_answer b.value))
+    (solver_of (t.is_sure r.value) (t.fed r.value) (t.may_answer r.value)) in
     let line = c.in_ok-line.line in
     let input = c.args.input.now in
-    settled (AnswersLine solvers line c.first_line.result.1.now) c.answer_line.result c.settle.result (λ (answer : Answer). AnswersInput solvers input (reply_of answer)) c.answer_line.ensures c.settle.ensures
+    settled (AnswersLine solvers line c.first_line.result.1.now) c.answer_line.result c.settle.result
+    (λ (answer : Answer). AnswersInput solvers input (reply_of answer)) c.answer_line.ensures c.settle.ensures
     (λ (answer : Answer) (told : Result Reply (List ℕ)) answers same. (
       line,
       subst (λ (first : List ℕ). IsLine first line) c.first_line.ensures.line c.in_ok-line.ensures,

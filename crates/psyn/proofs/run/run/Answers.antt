@@ -12,13 +12,17 @@ returns-in-Ok-answer_to-clause-answered g c =
     let r = c.args.replay in
     let s = goal.Solver-dyn g (b.vtable, b.value) in
     let t = goal.Solver-dyn g (r.vtable, r.value) in
-    let solvers : Solvers = solvers_of (solver_of (s.is_sure b.value) (s.fed b.value) (s.may_answer b.value)) (solver_of (t.is_sure r.value) (t.fed r.value) (t.may_answer r.value)) in
+    let solvers : Solvers =
+    solvers_of (solver_of (s.is_sure b.value) (s.fed b.value) (s.may_answer b.value))
+    (solver_of (t.is_sure r.value) (t.fed r.value) (t.may_answer r.value)) in
     let state = sink_state g.W.Sink.contents g.W.Sink.has_failed g.W.Sink.has_stalled g.W.Sink.is_flushed in
     let answer = c.in-Ok-answer_to.answer in
     let read = c.in-Ok.ensures.read in (
       reply_of answer,
       replies_answer solvers _ _ c.in-Ok.input.items _ read.0 read.1 read.2
-          (subst (λ (input : List ℕ). AnswersInput solvers input (reply_of answer)) c.as_slice.ensures.value c.in-Ok-answer_to.ensures),
-      subst (λ (text : List ℕ). Writes (state c.args.writer.now) (state c.write_reply.new.writer) (record { text = text; status = answer.status }) c.write_reply.result)
+          (subst (λ (input : List ℕ). AnswersInput solvers input (reply_of answer)) c.as_slice.ensures.value
+          c.in-Ok-answer_to.ensures),
+      subst (λ (text : List ℕ). Writes (state c.args.writer.now) (state c.write_reply.new.writer)
+          (record { text = text; status = answer.status }) c.write_reply.result)
           c.as_slice-in-Ok-answer_to.ensures.value c.write_reply.ensures,
     )

@@ -21,8 +21,11 @@ returns-clause-report g c =
     let order = c.args.order in
     let text = c.args.text.now in
     let result = c.report_of_certified.result in
-    let answered = subst (λ (game : NamedGameData). may game (Ok certificate)) c.game.ensures.game c.in_ok-certificate.ensures.answered in
-    report_in may order c.args.compact text result (outcome_by may p.game certificate answered order text c.args.compact result (c.report_of_certified.ensures.outcome order text c.in_ok-problem.ensures.problem))
+    let answered =
+    subst (λ (game : NamedGameData). may game (Ok certificate)) c.game.ensures.game
+    c.in_ok-certificate.ensures.answered in
+    report_in may order c.args.compact text result (outcome_by may p.game certificate answered order text c.args.compact
+    result (c.report_of_certified.ensures.outcome order text c.in_ok-problem.ensures.problem))
 
 pub returns-clause-refused : goal.returns-clause-refused
 returns-clause-refused g c =
@@ -36,8 +39,11 @@ returns-clause-refused g c =
     let order = c.args.order in
     let text = c.args.text.now in
     let result = c.report_of_certified.result in
-    let answered = subst (λ (game : NamedGameData). may game (Ok certificate)) c.game.ensures.game c.in_ok-certificate.ensures.answered in
-    cause_in may order c.args.compact text result (outcome_by may p.game certificate answered order text c.args.compact result (c.report_of_certified.ensures.outcome order text c.in_ok-problem.ensures.problem))
+    let answered =
+    subst (λ (game : NamedGameData). may game (Ok certificate)) c.game.ensures.game
+    c.in_ok-certificate.ensures.answered in
+    cause_in may order c.args.compact text result (outcome_by may p.game certificate answered order text c.args.compact
+    result (c.report_of_certified.ensures.outcome order text c.in_ok-problem.ensures.problem))
 
 pub returns-clause-sure : goal.returns-clause-sure
 returns-clause-sure g c = λ sure file accepted.
@@ -50,8 +56,11 @@ returns-clause-sure g c = λ sure file accepted.
     let certificate = c.in_ok-certificate.certificate in
     let order = c.args.order in
     let text = c.args.text.now in
-    let answered = subst (λ (game : NamedGameData). may game (Ok certificate)) c.game.ensures.game c.in_ok-certificate.ensures.answered in
-    outcome_by may p.game certificate answered order text c.args.compact c.report_of_certified.result (c.report_of_certified.ensures.outcome order text c.in_ok-problem.ensures.problem))
+    let answered =
+    subst (λ (game : NamedGameData). may game (Ok certificate)) c.game.ensures.game
+    c.in_ok-certificate.ensures.answered in
+    outcome_by may p.game certificate answered order text c.args.compact c.report_of_certified.result
+    (c.report_of_certified.ensures.outcome order text c.in_ok-problem.ensures.problem))
 
 pub returns-in_err-certificate-clause-refused : goal.returns-in_err-certificate-clause-refused
 returns-in_err-certificate-clause-refused g c =
@@ -64,9 +73,12 @@ returns-in_err-certificate-clause-refused g c =
     let fault = c.in_err-certificate.field-0.0 in
     let order = c.args.order in
     let text = c.args.text.now in
-    let of_solver = subst (λ (game : NamedGameData). IsSolverFault may game fault) c.game.ensures.game c.in_err-certificate.ensures.refused in
+    let of_solver =
+    subst (λ (game : NamedGameData). IsSolverFault may game fault) c.game.ensures.game
+    c.in_err-certificate.ensures.refused in
     told_as c.from_residual-in_err-certificate.result fault (IsSynthFault may order text)
-    (fault_of may order text p c.in_ok-problem.ensures.problem fault of_solver) c.from_residual-in_err-certificate.ensures.1
+    (fault_of may order text p c.in_ok-problem.ensures.problem fault of_solver)
+    c.from_residual-in_err-certificate.ensures.1
 
 pub returns-in_err-certificate-clause-sure : goal.returns-in_err-certificate-clause-sure
 returns-in_err-certificate-clause-sure g c = λ sure file accepted.
@@ -76,4 +88,5 @@ returns-in_err-certificate-clause-sure g c = λ sure file accepted.
     let t = goal.Solver-dyn g (d.vtable, d.value) in
     let may : MayAnswer = Answered (s.may_answer b.value (s.fed b.value)) (t.gave d.value) in
     lacks_memory may c.args.order c.args.compact c.args.text.now c.from_residual-in_err-certificate.result
-    c.in_err-certificate.field-0.0 (c.in_err-certificate.ensures.sure sure) c.from_residual-in_err-certificate.ensures.1)
+    c.in_err-certificate.field-0.0 (c.in_err-certificate.ensures.sure sure)
+    c.from_residual-in_err-certificate.ensures.1)

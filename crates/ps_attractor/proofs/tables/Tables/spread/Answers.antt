@@ -1,4 +1,5 @@
-use Rattle.std.proofs.Common.{◌<◌, ◌≤◌, length, get_or, sym, ap, ◌∙◌, refl, arith}
+use Rattle.std.proofs.Common.{◌≡◌, ◌<◌, ◌≤◌, ℕ, List, length, map, get_or, sym, ap, ◌∙◌, refl, arith}
+use Rattle.std.proofs.lemmas.List.{get_or-map, length-map}
 use Rattle.ps_game.specs.Games.{vertex_count}
 use Rattle.ps_attractor.specs.Sources.{sources_of}
 use Rattle.ps_attractor.proofs.Reaching.{reaching_leave}
@@ -12,33 +13,70 @@ loop-source-init g c = record {
   longer = omega arith;
   frees = refl;
   here = sym c.vertex_at-reached.ensures;
-  reaching = λ start begins so_far. enter (g.A.Arena.game c.args.arena.now) c.args.aim start c.args.self.now c.args.sources.now c.args.place c.vertex_at-reached.result c.requires.sources (sym c.vertex_at-reached.ensures) so_far;
+  reaching =
+      λ start begins so_far. enter (g.A.Arena.game c.args.arena.now) c.args.aim start c.args.self.now c.args.sources.now
+      c.args.place c.vertex_at-reached.result c.requires.sources (sym c.vertex_at-reached.ensures) so_far;
 }
+
+-- a source as it is kept
+source_is : {X : Type 0} (value : X → ℕ) (kept : List X) (n number : ℕ) (item : X) → n < length kept →
+    item ≡ get_or kept n item → number ≡ value item → get_or (map value kept) n 0 ≡ number
+source_is value kept n number item within is read = get_or-map value kept n item 0 within ∙ ap value (sym is) ∙ sym read
 
 pub look-requires-clause-vertex : goal.look-requires-clause-vertex
 look-requires-clause-vertex g c =
-    let edge = source_edge (g.A.Arena.game c.args.arena.now) c.args.sources.now c.at-source-items.result.now c.vertex_at-reached.result c.loop-source.source-index c.requires.sources c.at-source-items.ensures (omega arith) in
+    let value = g.W.Width.value in
+    let kept = c.at-source-items.result.now in
+    let n = c.loop-source.source-index in
+    let within : n < length kept = omega arith in
+    let is = source_is value kept n c.number.result c.source-item.result within c.source-item.is c.number.ensures in
+    let edge =
+    source_edge (g.A.Arena.game c.args.arena.now) c.args.sources.now (map value kept) c.vertex_at-reached.result n
+    c.number.result c.requires.sources c.at-source-items.ensures (omega (arith, length-map kept value)) is in
     edge.0
+
+pub look-requires-clause-reached : goal.look-requires-clause-reached
+look-requires-clause-reached g c =
+    let here : c.args.place < length c.args.self.now.trail = c.requires.within in
+    let is : c.vertex_at-reached.result ≡ get_or c.args.self.now.trail c.args.place 0 = c.vertex_at-reached.ensures in
+    omega (arith, is, c.requires.fits.vertices c.args.place 0 here)
 
 pub loop-source-preserved : goal.loop-source-preserved
 loop-source-preserved g c =
     let game = g.A.Arena.game c.args.arena.now in
-    let list = c.at-source-items.result.now in
+    let value = g.W.Width.value in
+    let kept = c.at-source-items.result.now in
+    let list = map value kept in
+    let n = c.loop-source.source-index in
+    let source = c.number.result in
     let so_far = c.loop-source.invariant in
     let longer : length c.args.self.now.trail ≤ length c.loop-source.self.trail = so_far.longer in
-    let within : c.loop-source.source-index < length list = omega arith in
-    let edge = source_edge game c.args.sources.now list c.vertex_at-reached.result c.loop-source.source-index c.requires.sources c.at-source-items.ensures within in
-    let is_vertex : get_or list c.loop-source.source-index 0 < vertex_count game = edge.0 in
-    let keeps = keeps_look game c.args.aim c.loop-source.self c.look.new.self (get_or list c.loop-source.source-index 0) c.vertex_at-reached.result c.requires.differ (omega (arith, so_far.fits.levels)) c.in_ok-look.ensures.looked in
+    let is = source_is value kept n source c.source-item.result (omega arith) c.source-item.is c.number.ensures in
+    let within : n < length list = omega (arith, length-map kept value) in
+    let edge =
+    source_edge game c.args.sources.now list c.vertex_at-reached.result n source c.requires.sources
+    c.at-source-items.ensures within is in
+    let is_vertex : source < vertex_count game = edge.0 in
+    let keeps =
+    keeps_look game c.args.aim c.loop-source.self c.look.new.self source c.vertex_at-reached.result
+    c.requires.differ (omega (arith, so_far.fits.levels)) c.in_ok-look.ensures.looked in
     record {
       fits = c.look.ensures.fits;
       longer = omega (arith, keeps.longer);
       frees = keeps.frees ∙ so_far.frees;
       here = keeps.front c.args.place (omega arith) ∙ so_far.here;
-      reaching = λ start begins start_reaching. look_on game c.args.aim start c.loop-source.self c.look.new.self c.args.sources.now list c.args.place c.vertex_at-reached.result c.loop-source.source-index c.requires.sources c.at-source-items.ensures within c.requires.differ begins c.requires.after (omega arith) so_far.fits so_far.here c.in_ok-look.ensures.looked (so_far.reaching start begins start_reaching);
+      reaching =
+          λ start begins start_reaching. look_on game c.args.aim start c.loop-source.self c.look.new.self
+          c.args.sources.now list c.args.place c.vertex_at-reached.result n source c.requires.sources
+          c.at-source-items.ensures within is c.requires.differ begins c.requires.after (omega arith) so_far.fits
+          so_far.here c.in_ok-look.ensures.looked (so_far.reaching start begins start_reaching);
     }
 
 pub returns-clause-reaching : goal.returns-clause-reaching
 returns-clause-reaching g c = λ start begins so_far.
-    let all : length (sources_of c.args.sources.now c.vertex_at-reached.result) ≤ c.loop-source.source-index = omega (arith, ap length c.at-source-items.ensures) in
-    reaching_leave (g.A.Arena.game c.args.arena.now) c.args.aim start c.loop-source.self (sources_of c.args.sources.now c.vertex_at-reached.result) c.args.place c.loop-source.source-index all (c.loop-source.invariant.reaching start begins so_far)
+    let value = g.W.Width.value in
+    let all : length (sources_of c.args.sources.now c.vertex_at-reached.result) ≤ c.loop-source.source-index =
+    omega (arith, ap length c.at-source-items.ensures, length-map c.at-source-items.result.now value) in
+    reaching_leave (g.A.Arena.game c.args.arena.now) c.args.aim start c.loop-source.self
+    (sources_of c.args.sources.now c.vertex_at-reached.result) c.args.place c.loop-source.source-index all
+    (c.loop-source.invariant.reaching start begins so_far)

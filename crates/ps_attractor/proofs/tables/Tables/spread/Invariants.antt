@@ -10,5 +10,8 @@ invariant-loop-source g l = record {
   longer : length l.initial.self.trail ≤ length l.self.trail;
   frees : free_count l.aim l.self + length l.self.trail ≡ free_count l.aim l.initial.self + length l.initial.self.trail;
   here : get_or l.self.trail l.place 0 ≡ l.reached;
-  reaching : (start : TablesData) → l.aim.begin ≤ length start.trail → Reaching (g.A.Arena.game l.arena) l.aim start l.initial.self (From l.place) → Reaching (g.A.Arena.game l.arena) l.aim start l.self (FromSource l.place (sources_of l.sources l.reached) l.source-index);
+  reaching : (start : TablesData) → l.aim.begin ≤ length start.trail →
+      Reaching (g.A.Arena.game l.arena) l.aim start l.initial.self (From l.place) →
+      Reaching (g.A.Arena.game l.arena) l.aim start l.self (FromSource l.place (sources_of l.sources l.reached)
+      l.source-index);
 }

@@ -7,6 +7,8 @@ use Rattle.ps_automaton.proofs.automaton.Automaton.read.Given as goal
 abbrev pub invariant-loop-letter : goal.invariant-loop-letter
 invariant-loop-letter l = record {
   within : l.reached ≤ l.self.states;
-  state : state_behind (auto_of l.self) l.reached (drop l.letter-index l.letters) ≡ state_behind (auto_of l.self) l.state l.letters;
-  greatest : max l.greatest (greatest_along (auto_of l.self) l.reached (drop l.letter-index l.letters)) ≡ greatest_along (auto_of l.self) l.state l.letters;
+  state : state_behind (auto_of l.self) l.reached (drop l.letter-index l.letters) ≡ state_behind (auto_of l.self)
+      l.state l.letters;
+  greatest : max l.greatest (greatest_along (auto_of l.self) l.reached (drop l.letter-index l.letters)) ≡ greatest_along
+      (auto_of l.self) l.state l.letters;
 }

@@ -11,7 +11,8 @@ invariant-loop-laps l = record {
   size : length l.seen.items ≡ l.self.states + 1;
   room : l.laps + count_by (λ n. nat_eq n 0) l.seen.items ≡ l.self.states + 1;
   at : state_after (auto_of l.self) l.first l.lap l.laps ≡ l.state;
-  known : (q : ℕ) → 0 < get_or l.seen.items q 0 → (get_or l.seen.items q 0 ≤ l.laps) × (state_after (auto_of l.self) l.first l.lap (get_or l.seen.items q 0 - 1) ≡ q);
+  known : (q : ℕ) → 0 < get_or l.seen.items q 0 → (get_or l.seen.items q 0 ≤ l.laps) ×
+      (state_after (auto_of l.self) l.first l.lap (get_or l.seen.items q 0 - 1) ≡ q);
 }
 
 abbrev pub decreases-loop-laps : goal.decreases-loop-laps

@@ -7,7 +7,8 @@ use Rattle.ps_certificate.proofs.NumberPart.{judged_fails, number_reads, number_
 use Rattle.ps_certificate.proofs.Steps.{ends_true, ends_false}
 use Rattle.ps_certificate.proofs.EntrySteps.{choice_dash, choice_fails, choice_reads, place_is_vertex}
 use Rattle.ps_certificate.proofs.cursor.Cursor.choice.Goals as goal
-use Rattle.ps_certificate.proofs.cursor.Cursor.choice.Goals.{else-is_none-via-then-is_none+else-ends, else-is_none-via-else-is_none}
+use Rattle.ps_certificate.proofs.cursor.Cursor.choice.Goals.{else-is_none-via-then-is_none+else-ends}
+use Rattle.ps_certificate.proofs.cursor.Cursor.choice.Goals.{else-is_none-via-else-is_none}
 
 pub returns-then-comes : goal.returns-then-comes
 returns-then-comes c = choice_dash c.args.ids.now c.args.self.now

@@ -4,7 +4,8 @@ use Rattle.ps_certificate.proofs.Loops.{fails}
 use Rattle.ps_certificate.proofs.NumberPart.{judged_fails, number_reads, number_wrong}
 use Rattle.ps_certificate.proofs.Steps.{ends_true, ends_false}
 use Rattle.ps_certificate.proofs.cursor.Cursor.exactly.Goals as goal
-use Rattle.ps_certificate.proofs.cursor.Cursor.exactly.Goals.{else-found-number-via-then-found-number+else-ends, else-found-number-via-else-found-number}
+use Rattle.ps_certificate.proofs.cursor.Cursor.exactly.Goals.{else-found-number-via-then-found-number+else-ends}
+use Rattle.ps_certificate.proofs.cursor.Cursor.exactly.Goals.{else-found-number-via-else-found-number}
 
 pub returns-in_err-found : goal.returns-in_err-found
 returns-in_err-found c =

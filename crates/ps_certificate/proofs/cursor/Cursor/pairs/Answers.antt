@@ -3,7 +3,8 @@ use Rattle.std.proofs.lemmas.Grind.{common_steps}
 use Rattle.ps_certificate.specs.Reading.{at_place}
 use Rattle.ps_certificate.specs.Texts.{counts_in}
 use Rattle.ps_certificate.proofs.Loops.{fails}
-use Rattle.ps_certificate.proofs.PairLoops.{PairsSoFar, no_pairs_yet, pair_more, pair_fails, pairs_fail, pairs_done, pair_shrinks}
+use Rattle.ps_certificate.proofs.PairLoops.{PairsSoFar, no_pairs_yet, pair_more, pair_fails, pairs_fail, pairs_done}
+use Rattle.ps_certificate.proofs.PairLoops.{pair_shrinks}
 use Rattle.ps_certificate.proofs.cursor.Cursor.pairs.Goals as goal
 
 pub more-init : goal.more-init

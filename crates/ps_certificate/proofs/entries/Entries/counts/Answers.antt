@@ -7,31 +7,48 @@ use Rattle.ps_certificate.proofs.entries.Entries.counts.Goals as goal
 
 pub index-line-requires : goal.index-line-requires
 index-line-requires c =
-    let is : entries_in c.self.inside.winners.items c.self.inside.lines.items c.self.inside.counts.items ≡ c.args.self.now = c.self.view_is in
-    let within : c.args.vertex < length (entries_in c.self.inside.winners.items c.self.inside.lines.items c.self.inside.counts.items) =
+    let is : entries_in c.self.inside.winners.items c.self.inside.lines.items c.self.inside.counts.items ≡
+    c.args.self.now = c.self.view_is in
+    let within : c.args.vertex < length (entries_in c.self.inside.winners.items c.self.inside.lines.items
+    c.self.inside.counts.items) =
     subst (λ es. c.args.vertex < length es) (sym is) c.requires in
-    omega (arith, has_line c.self.inside.winners.items c.self.inside.lines.items c.self.inside.counts.items c.args.vertex c.self.invariant within)
+    omega (
+      arith,
+      has_line c.self.inside.winners.items c.self.inside.lines.items c.self.inside.counts.items
+          c.args.vertex c.self.invariant within,
+    )
 
 pub part-requires-clause-rises : goal.part-requires-clause-rises
 part-requires-clause-rises c =
-    let is : entries_in c.self.inside.winners.items c.self.inside.lines.items c.self.inside.counts.items ≡ c.args.self.now = c.self.view_is in
-    let within : c.args.vertex < length (entries_in c.self.inside.winners.items c.self.inside.lines.items c.self.inside.counts.items) =
+    let is : entries_in c.self.inside.winners.items c.self.inside.lines.items c.self.inside.counts.items ≡
+    c.args.self.now = c.self.view_is in
+    let within : c.args.vertex < length (entries_in c.self.inside.winners.items c.self.inside.lines.items
+    c.self.inside.counts.items) =
     subst (λ es. c.args.vertex < length es) (sym is) c.requires in
-    (line_within c.self.inside.winners.items c.self.inside.lines.items c.self.inside.counts.items c.args.vertex c.self.invariant within c.index-line.result.now c.index-line.ensures).rises
+    (line_within c.self.inside.winners.items c.self.inside.lines.items c.self.inside.counts.items c.args.vertex
+    c.self.invariant within c.index-line.result.now c.index-line.ensures).rises
 
 pub part-requires-clause-ends : goal.part-requires-clause-ends
 part-requires-clause-ends c =
-    let is : entries_in c.self.inside.winners.items c.self.inside.lines.items c.self.inside.counts.items ≡ c.args.self.now = c.self.view_is in
-    let within : c.args.vertex < length (entries_in c.self.inside.winners.items c.self.inside.lines.items c.self.inside.counts.items) =
+    let is : entries_in c.self.inside.winners.items c.self.inside.lines.items c.self.inside.counts.items ≡
+    c.args.self.now = c.self.view_is in
+    let within : c.args.vertex < length (entries_in c.self.inside.winners.items c.self.inside.lines.items
+    c.self.inside.counts.items) =
     subst (λ es. c.args.vertex < length es) (sym is) c.requires in
-    let inside = line_within c.self.inside.winners.items c.self.inside.lines.items c.self.inside.counts.items c.args.vertex c.self.invariant within c.index-line.result.now c.index-line.ensures in
+    let inside =
+    line_within c.self.inside.winners.items c.self.inside.lines.items c.self.inside.counts.items c.args.vertex
+    c.self.invariant within c.index-line.result.now c.index-line.ensures in
     omega (arith, inside.ends, ap length c.deref.ensures.value)
 
 pub returns : goal.returns
 returns c =
-    let is : entries_in c.self.inside.winners.items c.self.inside.lines.items c.self.inside.counts.items ≡ c.args.self.now = c.self.view_is in
-    let within : c.args.vertex < length (entries_in c.self.inside.winners.items c.self.inside.lines.items c.self.inside.counts.items) =
+    let is : entries_in c.self.inside.winners.items c.self.inside.lines.items c.self.inside.counts.items ≡
+    c.args.self.now = c.self.view_is in
+    let within : c.args.vertex < length (entries_in c.self.inside.winners.items c.self.inside.lines.items
+    c.self.inside.counts.items) =
     subst (λ es. c.args.vertex < length es) (sym is) c.requires in
-    c.part.ensures ∙ ap (λ xs. slice_range xs c.index-line.result.now.start c.index-line.result.now.end) c.deref.ensures.value
-    ∙ counts_at c.self.inside.winners.items c.self.inside.lines.items c.self.inside.counts.items c.args.vertex c.self.invariant within c.index-line.result.now c.index-line.ensures
+    c.part.ensures ∙ ap (λ xs. slice_range xs c.index-line.result.now.start c.index-line.result.now.end)
+    c.deref.ensures.value
+    ∙ counts_at c.self.inside.winners.items c.self.inside.lines.items c.self.inside.counts.items c.args.vertex
+    c.self.invariant within c.index-line.result.now c.index-line.ensures
     ∙ ap (λ es. (get_or es c.args.vertex no_entry).counts) is

@@ -18,7 +18,8 @@ invariant_of-self-2 c =
     let winners : c.push.new.self.items ≡ ws ++ c.entry.inside.winner ∷ [] = search rules in
     let lines : c.push-2.new.self.items ≡ ls ++ line ∷ [] = search rules in
     let within : start + length row ≤ length new = search rules in
-    let pushed = lines_push ws ls cs new c.entry.inside.winner line c.self.invariant c.put.ensures.kept (omega arith) within in
+    let pushed =
+    lines_push ws ls cs new c.entry.inside.winner line c.self.invariant c.put.ensures.kept (omega arith) within in
     let goal_is : AreLines c.push.new.self.items c.push-2.new.self.items new = rw (winners, lines) pushed in
     goal_is
 
@@ -36,9 +37,11 @@ returns-clause-ok c =
     let part : slice_range new start (start + length row) ≡ row = search rules in
     let pushed = entries_push ws ls cs new c.entry.inside.winner line row c.self.invariant c.put.ensures.kept part in
     let view : entries_in c.push.new.self.items c.push-2.new.self.items new
-    ≡ entries_in ws ls cs ++ record { winner = c.entry.inside.winner; choice = c.entry.inside.choice; counts = row } ∷ [] =
+    ≡ entries_in ws ls cs ++ record { winner = c.entry.inside.winner; choice = c.entry.inside.choice; counts = row } ∷
+    [] =
     rw (winners, lines) pushed in
     let before : entries_in ws ls cs ≡ c.args.self.now = c.self.view_is in
     let entry : EntryData = record { winner = c.entry.inside.winner; choice = c.entry.inside.choice; counts = row } in
     let is : entry ≡ c.args.entry.now = c.entry.view_is in
-    view ∙ ap (λ (front : List EntryData). front ++ entry ∷ []) before ∙ ap (λ (last : EntryData). c.args.self.now ++ last ∷ []) is
+    view ∙ ap (λ (front : List EntryData). front ++ entry ∷ []) before
+    ∙ ap (λ (last : EntryData). c.args.self.now ++ last ∷ []) is

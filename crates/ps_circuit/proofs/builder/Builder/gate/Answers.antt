@@ -6,7 +6,9 @@ use Rattle.ps_circuit.specs.Gates.{gate_of}
 use Rattle.ps_circuit.proofs.GateLemmas.{Placed, placed, placed-bit, needs, new-absent, true_is_not_false}
 use Rattle.ps_circuit.proofs.MadeLemmas.{made-placed, above-new}
 use Rattle.ps_circuit.proofs.builder.Builder.gate.Goals as goal
-use Rattle.ps_circuit.proofs.builder.Builder.gate.Goals.{In_ok-place, else-variables-eq-MOST_VARIABLES-via-then-variables-eq-MOST_VARIABLES+else-not-contains, else-variables-eq-MOST_VARIABLES-via-else-variables-eq-MOST_VARIABLES}
+use Rattle.ps_circuit.proofs.builder.Builder.gate.Goals.{In_ok-place}
+use Rattle.ps_circuit.proofs.builder.Builder.gate.Goals.{else-variables-eq-MOST_VARIABLES-via-then-variables-eq-MOST_VARIABLES+else-not-contains}
+use Rattle.ps_circuit.proofs.builder.Builder.gate.Goals.{else-variables-eq-MOST_VARIABLES-via-else-variables-eq-MOST_VARIABLES}
 
 abbrev before : In_ok-place → Drafted
 before c = record { given = c.self.inside.given; gates = c.self.inside.gates.keys }
@@ -19,19 +21,24 @@ returns-then-not-contains-clause-needed c e =
     let d : Drafted = record { given = c.self.inside.given; gates = c.self.inside.gates.keys } in
     let P : Drafted → Type 0 = λ t. AreSides (variables_of t + 1) c.args.sides in
     let Q : Drafted → Type 0 = λ t. NeedsGate t c.args.sides.first c.args.sides.second in
-    subst Q c.self.view_is (needs d _ c.args.sides c.self.invariant (subst P (sym c.self.view_is) c.requires) (new-absent d c.args.sides (sym c.contains.ensures ∙ c.if-not-contains.true)))
+    subst Q c.self.view_is (needs d _ c.args.sides c.self.invariant (subst P (sym c.self.view_is) c.requires)
+    (new-absent d c.args.sides (sym c.contains.ensures ∙ c.if-not-contains.true)))
 
-room : (c : In_ok-place) → list_any ((sides_eq.eq-value).it c.args.sides) c.self.inside.gates.keys ≡ false → IsFull (before c) → ⊥
+room : (c : In_ok-place) → list_any ((sides_eq.eq-value).it c.args.sides) c.self.inside.gates.keys ≡ false →
+    IsFull (before c) → ⊥
 room c none full =
     elim c.else-variables-eq-MOST_VARIABLES.branch [
-      | else-variables-eq-MOST_VARIABLES-via-then-variables-eq-MOST_VARIABLES+else-not-contains w ↦ true_is_not_false (sym w.if-not-contains.false ∙ w.contains.ensures ∙ none)
-      | else-variables-eq-MOST_VARIABLES-via-else-variables-eq-MOST_VARIABLES w ↦ w.if-variables-eq-MOST_VARIABLES.false (ap (λ n. c.self.inside.given + n) c.len.ensures.len ∙ full)
+      | else-variables-eq-MOST_VARIABLES-via-then-variables-eq-MOST_VARIABLES+else-not-contains w ↦
+          true_is_not_false (sym w.if-not-contains.false ∙ w.contains.ensures ∙ none)
+      | else-variables-eq-MOST_VARIABLES-via-else-variables-eq-MOST_VARIABLES w ↦
+          w.if-variables-eq-MOST_VARIABLES.false (ap (λ n. c.self.inside.given + n) c.len.ensures.len ∙ full)
     ]
 
 done : (c : In_ok-place) → Placed (before c) (after c) c.args.sides c.in_ok-place.place
 done c =
     let P : Drafted → Type 0 = λ d. AreSides (variables_of d + 1) c.args.sides in
-    placed (before c) (after c) c.args.sides c.in_ok-place.place c.self.invariant (subst P (sym c.self.view_is) c.requires) (room c) refl c.in_ok-place.ensures.keys c.in_ok-place.ensures.stored
+    placed (before c) (after c) c.args.sides c.in_ok-place.place c.self.invariant
+    (subst P (sym c.self.view_is) c.requires) (room c) refl c.in_ok-place.ensures.keys c.in_ok-place.ensures.stored
 
 pub invariant_of-self-2 : goal.invariant_of-self-2
 invariant_of-self-2 c = (done (goal.at.invariant_of-self-2 c).In_ok-place).sound
@@ -51,10 +58,12 @@ pub returns-then-not-contains-clause-above : goal.returns-then-not-contains-clau
 returns-then-not-contains-clause-above c e =
     let d : Drafted = record { given = c.self.inside.given; gates = c.self.inside.gates.keys } in
     subst (λ t. 2147483647 < variables_of (gate_of t c.args.sides).draft) c.self.view_is
-    (above-new d c.args.sides (sym (ap (λ n. c.self.inside.given + n) c.len.ensures.len) ∙ c.if-variables-eq-MOST_VARIABLES.true) (sym c.contains.ensures ∙ c.if-not-contains.true))
+    (above-new d c.args.sides (sym (ap (λ n. c.self.inside.given + n) c.len.ensures.len)
+    ∙ c.if-variables-eq-MOST_VARIABLES.true) (sym c.contains.ensures ∙ c.if-not-contains.true))
 
 pub returns-clause-made : goal.returns-clause-made
 returns-clause-made c =
     let at = (goal.at.returns-clause-made c).In_ok-place in
-    rw c.positive.ensures (subst (λ t. gate_of t c.args.sides ≡ record { draft = after at; literal = 2 * (c.self.inside.given + 1 + c.in_ok-place.place) }) c.self.view_is
+    rw c.positive.ensures (subst (λ t. gate_of t c.args.sides ≡ record
+    { draft = after at; literal = 2 * (c.self.inside.given + 1 + c.in_ok-place.place) }) c.self.view_is
     (made-placed (before at) (after at) c.args.sides c.in_ok-place.place (done at) refl c.in_ok-place.ensures.keys))

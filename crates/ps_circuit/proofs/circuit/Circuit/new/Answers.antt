@@ -9,7 +9,10 @@ use Rattle.ps_circuit.proofs.circuit.Circuit.new.Goals as goal
 
 pub links_of-requires : goal.links_of-requires
 links_of-requires c =
-    record { once = subst (λ gs. AllPairs (λ g h. variable g.literal ≢ variable h.literal) gs) (sym c.deref.ensures.value) (gates_once (data_of c.args.parts) c.requires.once) }
+    record {
+      once = subst (λ gs. AllPairs (λ g h. variable g.literal ≢ variable h.literal) gs)
+          (sym c.deref.ensures.value) (gates_once (data_of c.args.parts) c.requires.once);
+    }
 
 pub invariant_of-graph : goal.invariant_of-graph
 invariant_of-graph c = record { within = links_within _ _ c.in_ok-links.ensures }
@@ -17,20 +20,24 @@ invariant_of-graph c = record { within = links_within _ _ c.in_ok-links.ensures 
 pub invariant_of-result : goal.invariant_of-result
 invariant_of-result c =
     let links = subst (λ gs. AreLinksOf gs c.in_ok-links.links.items) c.deref.ensures.value c.in_ok-links.ensures in
-    let arranged = subst (λ a. IsArrangement (graph_of c.in_ok-links.links.items) a) c.in-Order.is c.in_ok-arrangement.ensures in
+    let arranged =
+    subst (λ a. IsArrangement (graph_of c.in_ok-links.links.items) a) c.in-Order.is c.in_ok-arrangement.ensures in
     let ended = arranged in
     (record { draft = c.requires; acyclic = acyclic-of_links _ _ links ended.1 }, order-of_links _ _ links _ ended.0)
 
 pub returns-in-Order-clause-well_formed : goal.returns-in-Order-clause-well_formed
 returns-in-Order-clause-well_formed c =
     let links = subst (λ gs. AreLinksOf gs c.in_ok-links.links.items) c.deref.ensures.value c.in_ok-links.ensures in
-    let arranged = subst (λ a. IsArrangement (graph_of c.in_ok-links.links.items) a) c.in-Order.is c.in_ok-arrangement.ensures in
+    let arranged =
+    subst (λ a. IsArrangement (graph_of c.in_ok-links.links.items) a) c.in-Order.is c.in_ok-arrangement.ensures in
     let ended = arranged in
     record { draft = c.requires; acyclic = acyclic-of_links _ _ links ended.1 }
 
 pub returns-in-Cyclic-clause-cyclic : goal.returns-in-Cyclic-clause-cyclic
 returns-in-Cyclic-clause-cyclic c =
     let links = subst (λ gs. AreLinksOf gs c.in_ok-links.links.items) c.deref.ensures.value c.in_ok-links.ensures in
-    let arranged = subst (λ a. IsArrangement (graph_of c.in_ok-links.links.items) a) c.in-Cyclic.is c.in_ok-arrangement.ensures in
+    let arranged =
+    subst (λ a. IsArrangement (graph_of c.in_ok-links.links.items) a) c.in-Cyclic.is c.in_ok-arrangement.ensures in
     let first = cyclic-of_links _ _ links c.in-Cyclic.gate arranged in
-    λ i e. (let same : c.in-Cyclic.gate ≡ i = cc in subst (λ x. IsFirstOnCycle (ReadsGate c.args.parts.gates.items) x) same first)
+    λ i e. (let same : c.in-Cyclic.gate ≡ i = cc in subst (λ x. IsFirstOnCycle (ReadsGate c.args.parts.gates.items) x)
+    same first)

@@ -7,36 +7,77 @@ use Rattle.ps_components.proofs.Stepping.{last_pending, pending_within, at_most_
 use Rattle.ps_components.proofs.search.Search.step.Goals as goal
 
 pub index-requires : goal.index-requires
-index-requires g c = omega (arith, c.args.self.now.marks.ok.0, pending_within (g.G.Graph.graph c.args.graph.now) _ _ _ _ _ c.requires.sound c.in-Some.field-0.now (last_pending c.args.self.now.pending.items c.deref.result.now c.in-Some.field-0.now c.deref.ensures.value c.in-Some.ensures.value))
+index-requires g c =
+    omega (
+      arith,
+      c.args.self.now.marks.ok.0,
+      pending_within (g.G.Graph.graph c.args.graph.now) _ _ _ _ _
+          c.requires.sound c.in-Some.field-0.now (last_pending c.args.self.now.pending.items c.deref.result.now
+          c.in-Some.field-0.now c.deref.ensures.value c.in-Some.ensures.value),
+    )
 
 pub enter-requires-clause-within : goal.enter-requires-clause-within
-enter-requires-clause-within g c = omega (arith, c.requires.sound.marked, pending_within (g.G.Graph.graph c.args.graph.now) _ _ _ _ _ c.requires.sound c.in-Some.field-0.now (last_pending c.args.self.now.pending.items c.deref.result.now c.in-Some.field-0.now c.deref.ensures.value c.in-Some.ensures.value))
+enter-requires-clause-within g c =
+    omega (
+      arith,
+      c.requires.sound.marked,
+      pending_within (g.G.Graph.graph c.args.graph.now) _ _ _ _ _ c.requires.sound
+          c.in-Some.field-0.now (last_pending c.args.self.now.pending.items c.deref.result.now c.in-Some.field-0.now
+          c.deref.ensures.value c.in-Some.ensures.value),
+    )
 
 pub enter-requires-clause-unseen : goal.enter-requires-clause-unseen
-enter-requires-clause-unseen g c = read_mark (g.G.Graph.graph c.args.graph.now) _ _ _ _ _ c.requires.sound c.in-Some.field-0.now (last_pending c.args.self.now.pending.items c.deref.result.now c.in-Some.field-0.now c.deref.ensures.value c.in-Some.ensures.value) c.index.result.now _ c.index.ensures c.in-Unseen.is
+enter-requires-clause-unseen g c =
+    read_mark (g.G.Graph.graph c.args.graph.now) _ _ _ _ _ c.requires.sound c.in-Some.field-0.now
+    (last_pending c.args.self.now.pending.items c.deref.result.now c.in-Some.field-0.now c.deref.ensures.value
+    c.in-Some.ensures.value) c.index.result.now _ c.index.ensures c.in-Unseen.is
 
 pub enter-requires-clause-reached : goal.enter-requires-clause-reached
-enter-requires-clause-reached g c = all_lead (g.G.Graph.graph c.args.graph.now) _ _ _ _ _ c.requires.sound c.in-Some.field-0.now (last_pending c.args.self.now.pending.items c.deref.result.now c.in-Some.field-0.now c.deref.ensures.value c.in-Some.ensures.value) c.args.bound c.requires.last c.if-pending-bound.false
+enter-requires-clause-reached g c =
+    all_lead (g.G.Graph.graph c.args.graph.now) _ _ _ _ _ c.requires.sound c.in-Some.field-0.now
+    (last_pending c.args.self.now.pending.items c.deref.result.now c.in-Some.field-0.now c.deref.ensures.value
+    c.in-Some.ensures.value) c.args.bound c.requires.last c.if-pending-bound.false
 
 pub merge-requires-clause-within : goal.merge-requires-clause-within
-merge-requires-clause-within g c = pending_within (g.G.Graph.graph c.args.graph.now) _ _ _ _ _ c.requires.sound c.in-Some.field-0.now (last_pending c.args.self.now.pending.items c.deref.result.now c.in-Some.field-0.now c.deref.ensures.value c.in-Some.ensures.value)
+merge-requires-clause-within g c =
+    pending_within (g.G.Graph.graph c.args.graph.now) _ _ _ _ _ c.requires.sound c.in-Some.field-0.now
+    (last_pending c.args.self.now.pending.items c.deref.result.now c.in-Some.field-0.now c.deref.ensures.value
+    c.in-Some.ensures.value)
 
 pub merge-requires-clause-last : goal.merge-requires-clause-last
-merge-requires-clause-last g c = λ k b h. omega (arith, at_most_last (g.G.Graph.graph c.args.graph.now) _ _ _ _ _ c.requires.sound c.in-Some.field-0.now (last_pending c.args.self.now.pending.items c.deref.result.now c.in-Some.field-0.now c.deref.ensures.value c.in-Some.ensures.value) c.args.bound c.requires.last k b h, c.if-pending-bound.false)
+merge-requires-clause-last g c =
+    λ k b h. omega (
+      arith,
+      at_most_last (g.G.Graph.graph c.args.graph.now) _ _ _ _ _ c.requires.sound
+          c.in-Some.field-0.now (last_pending c.args.self.now.pending.items c.deref.result.now c.in-Some.field-0.now
+          c.deref.ensures.value c.in-Some.ensures.value) c.args.bound c.requires.last k b h,
+      c.if-pending-bound.false,
+    )
 
 pub merge-requires-clause-marked : goal.merge-requires-clause-marked
-merge-requires-clause-marked g c = read_mark (g.G.Graph.graph c.args.graph.now) _ _ _ _ _ c.requires.sound c.in-Some.field-0.now (last_pending c.args.self.now.pending.items c.deref.result.now c.in-Some.field-0.now c.deref.ensures.value c.in-Some.ensures.value) c.index.result.now _ c.index.ensures c.in-Active.is
+merge-requires-clause-marked g c =
+    read_mark (g.G.Graph.graph c.args.graph.now) _ _ _ _ _ c.requires.sound c.in-Some.field-0.now
+    (last_pending c.args.self.now.pending.items c.deref.result.now c.in-Some.field-0.now c.deref.ensures.value
+    c.in-Some.ensures.value) c.index.result.now _ c.index.ensures c.in-Active.is
 
 pub take-requires-in-Closed-clause-settled : goal.take-requires-in-Closed-clause-settled
-take-requires-in-Closed-clause-settled g c = closed _ (read_mark (g.G.Graph.graph c.args.graph.now) _ _ _ _ _ c.requires.sound c.in-Some.field-0.now (last_pending c.args.self.now.pending.items c.deref.result.now c.in-Some.field-0.now c.deref.ensures.value c.in-Some.ensures.value) c.index.result.now _ c.index.ensures c.in-Closed.is)
+take-requires-in-Closed-clause-settled g c =
+    closed _ (read_mark (g.G.Graph.graph c.args.graph.now) _ _ _ _ _ c.requires.sound c.in-Some.field-0.now
+    (last_pending c.args.self.now.pending.items c.deref.result.now c.in-Some.field-0.now c.deref.ensures.value
+    c.in-Some.ensures.value) c.index.result.now _ c.index.ensures c.in-Closed.is)
 
 pub returns-in-Unseen-clause-reached : goal.returns-in-Unseen-clause-reached
 returns-in-Unseen-clause-reached g c =
     let gr = g.G.Graph.graph c.args.graph.now in
     let s = c.args.self.now in
-    let l = c.requires.sound.pending_links _ c.in-Some.field-0.now (last_pending s.pending.items c.deref.result.now c.in-Some.field-0.now c.deref.ensures.value c.in-Some.ensures.value) in
-    let led = reached-entered gr s.marks.items s.active.items c.in-Some.field-0.now.to (Active (length s.active.items)) (c.in-Some.field-0.now.from, l.0, l.1, inr (last l.2)) in
-    on_ok c.enter.result (λ e. subst (λ m. ChangesReached gr s.active.items s.marks.items m) (sym e) led) c.enter.ensures.entered
+    let l =
+    c.requires.sound.pending_links _ c.in-Some.field-0.now (last_pending s.pending.items c.deref.result.now
+    c.in-Some.field-0.now c.deref.ensures.value c.in-Some.ensures.value) in
+    let led =
+    reached-entered gr s.marks.items s.active.items c.in-Some.field-0.now.to (Active (length s.active.items))
+    (c.in-Some.field-0.now.from, l.0, l.1, inr (last l.2)) in
+    on_ok c.enter.result (λ e. subst (λ m. ChangesReached gr s.active.items s.marks.items m) (sym e) led)
+    c.enter.ensures.entered
   where
     on_ok : {T E A B : Type 0} (r : Result T E) → (A → B) → OnOk r A → OnOk r B
     on_ok (Ok x) f a = f a

@@ -9,9 +9,13 @@ returns-in_ok-run-clause-reached g c =
     let gr = g.G.Graph.graph c.args.graph.now in
     let s = c.args.self.now in
     let new = c.run.new.self.marks.items in
-    let path = subst (λ a. ChangesReached gr a c.enter.new.self.marks.items new) c.in_ok-enter.ensures.path c.in_ok-run.ensures.reached in
-    let marks = subst (λ m. ChangesReached gr (s.active.items ++ c.args.item ∷ []) m new) c.in_ok-enter.ensures.entered path in
-    reached-begun gr s.marks.items _ _ _ _ c.requires.sound c.requires.ended c.args.item (Active (length s.active.items)) new marks
+    let path =
+    subst (λ a. ChangesReached gr a c.enter.new.self.marks.items new) c.in_ok-enter.ensures.path
+    c.in_ok-run.ensures.reached in
+    let marks =
+    subst (λ m. ChangesReached gr (s.active.items ++ c.args.item ∷ []) m new) c.in_ok-enter.ensures.entered path in
+    reached-begun gr s.marks.items _ _ _ _ c.requires.sound c.requires.ended c.args.item
+    (Active (length s.active.items)) new marks
 
 pub returns-in_default-clause-reached : goal.returns-in_default-clause-reached
 returns-in_default-clause-reached g c = λ v. inl refl

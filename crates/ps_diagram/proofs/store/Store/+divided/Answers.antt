@@ -55,7 +55,9 @@ returns-in_err-made-in-Test-clause-known t c = known_divided_kept c.args.other.n
     c.divided-in-Test.ensures.known
 
 pub returns-in_err-insert-in-Test-clause-keeps : goal.returns-in_err-insert-in-Test-clause-keeps
-returns-in_err-insert-in-Test-clause-keeps t c = keeps_trans _ _ _ (keeps_trans _ _ _ c.divided.ensures.keeps c.divided-in-Test.ensures.keeps) c.divided_test.ensures.keeps
+returns-in_err-insert-in-Test-clause-keeps t c =
+    keeps_trans _ _ _ (keeps_trans _ _ _ c.divided.ensures.keeps c.divided-in-Test.ensures.keeps)
+    c.divided_test.ensures.keeps
 
 pub returns-in_err-insert-in-Test-clause-known : goal.returns-in_err-insert-in-Test-clause-known
 returns-in_err-insert-in-Test-clause-known t c =
@@ -95,7 +97,9 @@ returns-in-Leaf-clause-leaf t c =
     (λ f. ap (λ x. leaf_at x f) c.in-Leaf.ensures.part)) c.place_of_leaf-in-Leaf.ensures.leaf
 
 pub returns-in_ok-insert-in-Test-clause-keeps : goal.returns-in_ok-insert-in-Test-clause-keeps
-returns-in_ok-insert-in-Test-clause-keeps t c = keeps_trans _ _ _ (keeps_trans _ _ _ c.divided.ensures.keeps c.divided-in-Test.ensures.keeps) c.divided_test.ensures.keeps
+returns-in_ok-insert-in-Test-clause-keeps t c =
+    keeps_trans _ _ _ (keeps_trans _ _ _ c.divided.ensures.keeps c.divided-in-Test.ensures.keeps)
+    c.divided_test.ensures.keeps
 
 made : (t : ℕ) (c : goal.In_ok-insert-in-Test t) →
     IsDivided c.divided_test.new.self c.args.split (tree_of c.args.other.now c.args.node)
@@ -105,7 +109,8 @@ made t c =
     let both = are_divided c.divided.new.self c.divided-in-Test.new.self c.divided-in-Test.ensures.keeps c.args.split
     (tree_of c.args.other.now c.in-Test.low) (tree_of c.args.other.now c.in-Test.high) _ _
     c.in_ok-low-in-Test.ensures.held c.in_ok-low-in-Test.ensures.leaf c.in_ok-high-in-Test.ensures.leaf in
-    sides_divided c.divided-in-Test.new.self c.divided_test.new.self c.divided_test.ensures.keeps c.args.split c.in-Test.proposition _ _ _ _ _ _ s.leaf c.in_ok-made-in-Test.ensures.leaf both
+    sides_divided c.divided-in-Test.new.self c.divided_test.new.self c.divided_test.ensures.keeps c.args.split
+    c.in-Test.proposition _ _ _ _ _ _ s.leaf c.in_ok-made-in-Test.ensures.leaf both
 
 pub returns-in_ok-insert-in-Test-clause-leaf : goal.returns-in_ok-insert-in-Test-clause-leaf
 returns-in_ok-insert-in-Test-clause-leaf t c = made t c

@@ -119,7 +119,9 @@ returns-in_ok-insert-in-Test-clause-known g t c =
     let then = c.mapped_by.new.self in
     let mid = c.mapped_by-in-Test.new.self in
     let last = c.test.new.self in
-    let k : Keeps now last = keeps_trans _ _ _ (keeps_trans _ _ _ c.mapped_by.ensures.keeps c.mapped_by-in-Test.ensures.keeps) c.test.ensures.keeps in
+    let k : Keeps now last =
+    keeps_trans _ _ _ (keeps_trans _ _ _ c.mapped_by.ensures.keeps c.mapped_by-in-Test.ensures.keeps)
+    c.test.ensures.keeps in
     let j = read_keeps other now last k in
     let read = unwrap_or other now in
     let low = kept (λ u. IsMapped rule (tree_of read c.in-Test.low) u) then mid c.mapped_by-in-Test.ensures.keeps

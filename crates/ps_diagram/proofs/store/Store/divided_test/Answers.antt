@@ -15,11 +15,17 @@ returns-then-split-proposition-eq1-clause-leaf c =
     let now = c.args.self.now in
     let then = c.test.new.self in
     let k = c.test.ensures.keeps in
-    let is : is_in c.args.proposition c.args.split ≡ true = eq-eqb _ 1 (sym (shr_and_one c.args.split c.args.proposition) ∙ c.if-split-proposition-eq1.true) in
-    IfOk-weaker c.test.result _ _ (λ made e. divided_in then c.args.split c.args.proposition (c.args.proposition + 1) (tree_of now c.args.low) (tree_of now c.args.high) (tree_of then made) is
-    (leads_kept now then k _ _ c.requires.low_leads) (leads_kept now then k _ _ c.requires.high_leads) e) c.test.ensures.leaf
+    let is : is_in c.args.proposition c.args.split ≡ true =
+    eq-eqb _ 1 (sym (shr_and_one c.args.split c.args.proposition) ∙ c.if-split-proposition-eq1.true) in
+    IfOk-weaker c.test.result _ _ (λ made e. divided_in then c.args.split c.args.proposition (c.args.proposition + 1)
+    (tree_of now c.args.low) (tree_of now c.args.high) (tree_of then made) is
+    (leads_kept now then k _ _ c.requires.low_leads) (leads_kept now then k _ _ c.requires.high_leads) e)
+    c.test.ensures.leaf
 
 pub returns-clause-leaf : goal.returns-clause-leaf
 returns-clause-leaf c =
-    let isnt : is_in c.args.proposition c.args.split ≡ false = ne_eqb _ 1 (λ e. c.if-split-proposition-eq1.false (shr_and_one c.args.split c.args.proposition ∙ e)) in
-    IfOk-weaker c.tested.result _ _ (λ made e. divided_off c.tested.new.self c.args.split c.args.proposition (tree_of c.args.self.now c.args.low) (tree_of c.args.self.now c.args.high) (tree_of c.tested.new.self made) isnt e) c.tested.ensures.leaf
+    let isnt : is_in c.args.proposition c.args.split ≡ false =
+    ne_eqb _ 1 (λ e. c.if-split-proposition-eq1.false (shr_and_one c.args.split c.args.proposition ∙ e)) in
+    IfOk-weaker c.tested.result _ _ (λ made e. divided_off c.tested.new.self c.args.split c.args.proposition
+    (tree_of c.args.self.now c.args.low) (tree_of c.args.self.now c.args.high) (tree_of c.tested.new.self made) isnt
+    e) c.tested.ensures.leaf

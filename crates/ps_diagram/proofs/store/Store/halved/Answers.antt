@@ -9,11 +9,14 @@ pub test-requires-clause-named : goal.test-requires-clause-named
 test-requires-clause-named c = omega (arith, c.requires.named, c.loop-place.invariant.keeps.propositions)
 
 pub test-requires-clause-low_held : goal.test-requires-clause-low_held
-test-requires-clause-low_held c = c.loop-place.invariant.keeps.held _ (subst (IsNode c.args.self.now) (sym c.node_or-low.ensures) (c.requires.row.held c.loop-place.place))
+test-requires-clause-low_held c =
+    c.loop-place.invariant.keeps.held _ (subst (IsNode c.args.self.now) (sym c.node_or-low.ensures)
+    (c.requires.row.held c.loop-place.place))
 
 pub test-requires-clause-high_held : goal.test-requires-clause-high_held
 test-requires-clause-high_held c =
-    c.loop-place.invariant.keeps.held _ (subst (IsNode c.args.self.now) (sym c.node_or-high.ensures) (c.requires.row.held (c.power-half.result + c.loop-place.place)))
+    c.loop-place.invariant.keeps.held _ (subst (IsNode c.args.self.now) (sym c.node_or-high.ensures)
+    (c.requires.row.held (c.power-half.result + c.loop-place.place)))
 
 pub test-requires-clause-low_later : goal.test-requires-clause-low_later
 test-requires-clause-low_later c =
@@ -21,7 +24,8 @@ test-requires-clause-low_later c =
     let node = c.node_or-low.result in
     let held : IsNode t node = subst (IsNode t) (sym c.node_or-low.ensures) (c.requires.row.held c.loop-place.place) in
     let later : IsBlind (c.args.proposition + 1) (tree_of t node) =
-    subst (λ (x : ℕ). IsBlind (c.args.proposition + 1) (tree_of t x)) (sym c.node_or-low.ensures) (c.requires.row.later c.loop-place.place) in
+    subst (λ (x : ℕ). IsBlind (c.args.proposition + 1) (tree_of t x)) (sym c.node_or-low.ensures)
+    (c.requires.row.later c.loop-place.place) in
     kept (IsBlind (c.args.proposition + 1)) t c.loop-place.self c.loop-place.invariant.keeps node held later
 
 pub test-requires-clause-high_later : goal.test-requires-clause-high_later
@@ -31,7 +35,8 @@ test-requires-clause-high_later c =
     let place = c.power-half.result + c.loop-place.place in
     let held : IsNode t node = subst (IsNode t) (sym c.node_or-high.ensures) (c.requires.row.held place) in
     let later : IsBlind (c.args.proposition + 1) (tree_of t node) =
-    subst (λ (x : ℕ). IsBlind (c.args.proposition + 1) (tree_of t x)) (sym c.node_or-high.ensures) (c.requires.row.later place) in
+    subst (λ (x : ℕ). IsBlind (c.args.proposition + 1) (tree_of t x)) (sym c.node_or-high.ensures)
+    (c.requires.row.later place) in
     kept (IsBlind (c.args.proposition + 1)) t c.loop-place.self c.loop-place.invariant.keeps node held later
 
 pub returns-clause-row : goal.returns-clause-row
@@ -40,8 +45,10 @@ returns-clause-row c =
     let nodes = c.args.nodes.now in
     let half : c.power-half.result ≡ 2 ^ p = c.power-half.ensures.value in
     let done : c.loop-place.place ≡ min (length nodes) (2 ^ p) = omega (arith, half) in
-    half_row c.args.self.now c.loop-place.self p c.args.none nodes c.loop-place.made.items c.requires.row c.loop-place.invariant.keeps
-    (all_tests c.args.self.now c.loop-place.self p c.args.none c.power-half.result nodes c.loop-place.place c.loop-place.made.items half done c.loop-place.invariant.tests)
+    half_row c.args.self.now c.loop-place.self p c.args.none nodes c.loop-place.made.items c.requires.row
+    c.loop-place.invariant.keeps
+    (all_tests c.args.self.now c.loop-place.self p c.args.none c.power-half.result nodes c.loop-place.place
+    c.loop-place.made.items half done c.loop-place.invariant.tests)
 
 pub returns-clause-leads : goal.returns-clause-leads
 returns-clause-leads c =
@@ -49,5 +56,7 @@ returns-clause-leads c =
     let nodes = c.args.nodes.now in
     let half : c.power-half.result ≡ 2 ^ p = c.power-half.ensures.value in
     let done : c.loop-place.place ≡ min (length nodes) (2 ^ p) = omega (arith, half) in
-    half_leads c.args.self.now c.loop-place.self p c.args.none nodes c.loop-place.made.items c.requires.row c.loop-place.invariant.keeps
-    (all_tests c.args.self.now c.loop-place.self p c.args.none c.power-half.result nodes c.loop-place.place c.loop-place.made.items half done c.loop-place.invariant.tests)
+    half_leads c.args.self.now c.loop-place.self p c.args.none nodes c.loop-place.made.items c.requires.row
+    c.loop-place.invariant.keeps
+    (all_tests c.args.self.now c.loop-place.self p c.args.none c.power-half.result nodes c.loop-place.place
+    c.loop-place.made.items half done c.loop-place.invariant.tests)

@@ -19,7 +19,8 @@ done c =
     let O : Table → Type 0 = λ t. IsFrom 0 t.propositions (tree_in t.cells c.args.cell) in
     let R : Table → Type 0 = λ t. IsReduced (tree_in t.cells c.args.cell) in
     interned (old c) (new c) c.args.cell c.in_ok-place.place _ same_view view_same c.self.invariant
-    (subst W was c.requires.within) (subst O was c.requires.ordered) (subst R was c.requires.reduced) refl c.in_ok-place.ensures.keys c.in_ok-place.ensures.stored
+    (subst W was c.requires.within) (subst O was c.requires.ordered) (subst R was c.requires.reduced) refl
+    c.in_ok-place.ensures.keys c.in_ok-place.ensures.stored
 
 pub invariant_of-self-2 : goal.invariant_of-self-2
 unfolding new

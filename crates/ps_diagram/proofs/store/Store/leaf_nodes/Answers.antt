@@ -24,5 +24,7 @@ loop-leaf-preserved c =
     subst (HasLeaf c.constant.new.self node) (sym at) (c.in_ok-constant.ensures.held, c.in_ok-constant.ensures.leaf) in
     record {
       keeps = keeps_trans _ _ _ v.keeps k;
-      nodes_of = leaf_nodes_more l.self c.constant.new.self leaves l.nodes.items c.push.new.self.items l.leaf-index node k v.nodes_of c.in_ok-push.ensures.items has;
+      nodes_of =
+          leaf_nodes_more l.self c.constant.new.self leaves l.nodes.items c.push.new.self.items l.leaf-index node k
+          v.nodes_of c.in_ok-push.ensures.items has;
     }

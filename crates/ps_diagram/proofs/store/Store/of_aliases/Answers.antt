@@ -27,16 +27,22 @@ loop-alias-preserved c =
     let is : items ≡ labels = c.as_slice-alias-items.ensures.value in
     let known : ℕ → List Bool = alias_truths (expressions labels) in
     let within : l.alias-index < length labels = omega (arith, ap length is) in
-    let at : x.result ≡ get_or labels l.alias-index x.result = x.is ∙ ap (λ (ls : List Label). get_or ls l.alias-index x.result) is in
+    let at : x.result ≡ get_or labels l.alias-index x.result = x.is
+    ∙ ap (λ (ls : List Label). get_or ls l.alias-index x.result) is in
     let H : List ℕ → Type 0 = λ ns. HaveTruths l.self ns known in
     let given = subst H (sym c.deref.ensures.value) v.truths in
     let leaf : (letter : ℕ) → leaf_of u node letter ≡ one_where (get_or (known letter) (length l.nodes.items) false) =
-    λ letter. c.in_ok-node.ensures.leaf known given letter ∙ ap one_where (sym (alias_truth labels letter l.alias-index x.result c.as_slice-alias-items.ensures.ordered within at) ∙ ap (λ j. get_or (known letter) j false) (sym v.count)) in
-    let made : HaveTruths u (l.nodes.items ++ node ∷ []) known = truths_push l.self u l.nodes.items node known k v.truths c.in_ok-node.ensures.held leaf in
+    λ letter. c.in_ok-node.ensures.leaf known given letter ∙ ap one_where
+    (sym (alias_truth labels letter l.alias-index x.result c.as_slice-alias-items.ensures.ordered within at)
+    ∙ ap (λ j. get_or (known letter) j false) (sym v.count)) in
+    let made : HaveTruths u (l.nodes.items ++ node ∷ []) known =
+    truths_push l.self u l.nodes.items node known k v.truths c.in_ok-node.ensures.held leaf in
     let N : List ℕ → Type 0 = λ ns. HaveTruths u ns known in
     record {
       keeps = keeps_trans _ _ _ v.keeps k;
       count = omega (arith, c.in_ok-push.ensures.len);
-      within = aliases_kept l.self u _ _ k (aliases_rest l.self.propositions l.alias-index items x.result here x.is v.within).1;
+      within =
+          aliases_kept l.self u _ _ k (aliases_rest l.self.propositions l.alias-index items x.result here
+          x.is v.within).1;
       truths = subst N (sym c.in_ok-push.ensures.items) made;
     }

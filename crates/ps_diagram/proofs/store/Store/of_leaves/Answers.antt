@@ -10,12 +10,18 @@ loop-proposition-init c =
     let leaves = c.args.leaves.now in
     let none = c.in_ok-none.none in
     let nodes = c.in_ok-nodes.nodes.items in
-    let nothing : HasLeaf t none None = has_leaf_kept c.constant.new.self t c.leaf_nodes.ensures.keeps none None (c.in_ok-none.ensures.held, c.in_ok-none.ensures.leaf) in
+    let nothing : HasLeaf t none None =
+    has_leaf_kept c.constant.new.self t c.leaf_nodes.ensures.keeps none None
+    (c.in_ok-none.ensures.held, c.in_ok-none.ensures.leaf) in
     let n = c.propositions-proposition.ensures.value in
     record {
       keeps = keeps_trans _ _ _ c.constant.ensures.keeps c.leaf_nodes.ensures.keeps;
-      row = subst (λ (k : ℕ). IsRow t k none nodes) (sym n) (first_row t leaves nodes none nothing c.in_ok-nodes.ensures.nodes);
-      leads = subst (λ (k : ℕ). LeadsOn t leaves k none nodes) (sym n) (first_leads t leaves nodes none nothing c.in_ok-nodes.ensures.nodes);
+      row =
+          subst (λ (k : ℕ). IsRow t k none nodes) (sym n) (first_row t leaves nodes none nothing
+          c.in_ok-nodes.ensures.nodes);
+      leads =
+          subst (λ (k : ℕ). LeadsOn t leaves k none nodes) (sym n)
+          (first_leads t leaves nodes none nothing c.in_ok-nodes.ensures.nodes);
     }
 
 pub returns-in_err-nodes-2-clause-keeps : goal.returns-in_err-nodes-2-clause-keeps
@@ -28,7 +34,8 @@ loop-proposition-preserved c =
     let leaves = c.args.leaves.now in
     let some : 0 < l.proposition = omega arith in
     let next : l.proposition ≡ l.proposition - 1 + 1 = omega (arith, some) in
-    let leads : LeadsOn l.self leaves (l.proposition - 1 + 1) none l.nodes.items = subst (λ (k : ℕ). LeadsOn l.self leaves k none l.nodes.items) next l.invariant.leads in
+    let leads : LeadsOn l.self leaves (l.proposition - 1 + 1) none l.nodes.items =
+    subst (λ (k : ℕ). LeadsOn l.self leaves k none l.nodes.items) next l.invariant.leads in
     let given : LeadsOn l.self leaves (l.proposition - 1 + 1) none c.deref.result.now =
     subst (λ (ns : List ℕ). LeadsOn l.self leaves (l.proposition - 1 + 1) none ns) (sym c.deref.ensures.value) leads in
     record {

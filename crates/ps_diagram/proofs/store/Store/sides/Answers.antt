@@ -11,7 +11,9 @@ returns-then-own-proposition-clause-sides c =
 
 pub returns-else-own-proposition-clause-sides : goal.returns-else-own-proposition-clause-sides
 returns-else-own-proposition-clause-sides c =
-    let root : root_of c.args.self.now.propositions (tree_of c.args.self.now c.args.node) ≡ c.in-Test.own = ap (λ t. root_of c.args.self.now.propositions t) c.in-Test.ensures.part.tree in
+    let root : root_of c.args.self.now.propositions (tree_of c.args.self.now c.args.node) ≡ c.in-Test.own =
+    ap (λ t. root_of c.args.self.now.propositions t) c.in-Test.ensures.part.tree in
     let later = c.requires.later in
     let other = c.if-own-proposition.false in
-    sides_of_later c.args.self.now c.args.node c.args.proposition c.cell.ensures.sound c.requires.held (omega (arith, root, later, other))
+    sides_of_later c.args.self.now c.args.node c.args.proposition c.cell.ensures.sound c.requires.held
+    (omega (arith, root, later, other))

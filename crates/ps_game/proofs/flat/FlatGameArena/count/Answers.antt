@@ -6,4 +6,11 @@ use Rattle.ps_game.proofs.flat.FlatGameArena.count.Goals as goal
 pub returns-clause-vertices : goal.returns-clause-vertices
 returns-clause-vertices g c =
     let s = c.self.inside in
-    omega (arith, c.len.ensures, s.owners.ok.0, vertices_inside s.offsets s.successors s.owners.items s.priorities.items, ap vertex_count c.self.view_is)
+    omega (
+      arith,
+      c.len.ensures,
+      s.owners.ok.0,
+      vertices_inside s.offsets s.successors s.owners.items
+          s.priorities.items,
+      ap vertex_count c.self.view_is,
+    )

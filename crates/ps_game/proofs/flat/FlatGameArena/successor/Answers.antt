@@ -6,7 +6,13 @@ use Rattle.ps_game.proofs.flat.FlatGameArena.successor.Goals as goal
 pub at-requires : goal.at-requires
 at-requires g c =
     let s = c.self.inside in
-    omega (arith, c.requires.vertex, c.self.invariant.offset_each, vertices_inside s.offsets s.successors s.owners.items s.priorities.items, ap vertex_count c.self.view_is)
+    omega (
+      arith,
+      c.requires.vertex,
+      c.self.invariant.offset_each,
+      vertices_inside s.offsets s.successors s.owners.items s.priorities.items,
+      ap vertex_count c.self.view_is,
+    )
 
 pub overflow_add-at : goal.overflow_add-at
 overflow_add-at g c =
@@ -15,7 +21,8 @@ overflow_add-at g c =
       fits = omega (
         arith,
         c.at.ensures,
-        place_fits s.offsets s.successors s.owners.items s.priorities.items c.self.invariant c.args.self.now c.args.vertex c.args.number c.self.view_is c.requires.vertex c.requires.number,
+        place_fits s.offsets s.successors s.owners.items s.priorities.items c.self.invariant c.args.self.now
+            c.args.vertex c.args.number c.self.view_is c.requires.vertex c.requires.number,
       );
     }
 
@@ -25,11 +32,13 @@ at-requires-2 g c =
     omega (
       arith,
       c.at.ensures,
-      successor_stands s.offsets s.successors s.owners.items s.priorities.items c.self.invariant c.args.self.now c.args.vertex c.args.number c.self.view_is c.requires.vertex c.requires.number,
+      successor_stands s.offsets s.successors s.owners.items s.priorities.items c.self.invariant c.args.self.now
+          c.args.vertex c.args.number c.self.view_is c.requires.vertex c.requires.number,
     )
 
 pub returns : goal.returns
 returns g c =
     let s = c.self.inside in
     c.at-2.ensures ∙ ap (λ n. get_or s.successors (n + c.args.number) 0) c.at.ensures
-    ∙ sym (successor_inside s.offsets s.successors s.owners.items s.priorities.items c.self.invariant c.args.self.now c.args.vertex c.args.number c.self.view_is c.requires.vertex c.requires.number)
+    ∙ sym (successor_inside s.offsets s.successors s.owners.items s.priorities.items c.self.invariant c.args.self.now
+    c.args.vertex c.args.number c.self.view_is c.requires.vertex c.requires.number)

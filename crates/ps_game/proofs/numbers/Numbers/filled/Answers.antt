@@ -7,7 +7,8 @@ map_replicate f (suc n) x = ap (λ xs. f x ∷ xs) (map_replicate f n x)
 
 pub returns : goal.returns
 returns g c =
-    let same = c.in_ok-items.ensures.items_if_clones_equal (λ y clone. g.met.W.Width.clones_equal c.of.result y clone) in
+    let same =
+    c.in_ok-items.ensures.items_if_clones_equal (λ y clone. g.met.W.Width.clones_equal c.of.result y clone) in
     ap (map g.W.Width.value) same
     ∙ map_replicate g.W.Width.value c.args.count c.of.result
     ∙ ap (replicate c.args.count) c.of.ensures

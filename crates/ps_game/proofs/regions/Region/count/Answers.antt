@@ -11,7 +11,8 @@ count_set-requires c =
     omega (
       arith,
       ap (λ (words : List ℕ). sum_by count_ones words) same,
-      count_fits s.places s.words.items c.self.invariant (λ k. subst (λ (words : List ℕ). get_or words k 0 < 2 ^ 64) same (c.type_inv.words k).fits),
+      count_fits s.places s.words.items c.self.invariant (λ k. subst (λ (words : List ℕ). get_or words k 0 < 2 ^ 64)
+          same (c.type_inv.words k).fits),
     )
 
 pub returns : goal.returns
@@ -19,5 +20,6 @@ returns c =
     let s = c.self.inside in
     let same = c.as_slice-words.ensures.value in
     c.count_set.ensures.counted ∙ ap (λ (words : List ℕ). sum_by count_ones words) same
-    ∙ sym (count_is s.places s.words.items c.self.invariant (λ k. subst (λ (words : List ℕ). get_or words k 0 < 2 ^ 64) same (c.count_set.ensures.in_range k)))
+    ∙ sym (count_is s.places s.words.items c.self.invariant (λ k.
+    subst (λ (words : List ℕ). get_or words k 0 < 2 ^ 64) same (c.count_set.ensures.in_range k)))
     ∙ ap (λ (region : List Bool). count_by (λ member. member) region) c.self.view_is

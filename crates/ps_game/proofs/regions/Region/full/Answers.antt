@@ -10,10 +10,13 @@ full c =
     elim c.if-rest-gt0.branch [
       | then-rest-gt0 w ↦
           let is = ap (λ v. v.items) w.words-is
-          ∙ ap (λ (words : List ℕ). set words (c.args.places / 64) ((2 ^ 64 - 1) / 2 ^ (64 - c.args.places % 64))) ones in
-          subst (AreFull c.args.places) (sym is) (full_part c.args.places n w.if-rest-gt0.true (omega (arith, c.div_ceil.ensures)))
+          ∙ ap (λ (words : List ℕ). set words (c.args.places / 64) ((2 ^ 64 - 1) / 2 ^ (64 - c.args.places % 64))) ones
+          in
+          subst (AreFull c.args.places) (sym is) (full_part c.args.places n w.if-rest-gt0.true
+          (omega (arith, c.div_ceil.ensures)))
       | else-rest-gt0 w ↦
-          subst (AreFull c.args.places) (sym (ap (λ v. v.items) w.words-is ∙ ones)) (full_whole c.args.places n (omega arith) (omega (arith, c.div_ceil.ensures)))
+          subst (AreFull c.args.places) (sym (ap (λ v. v.items) w.words-is ∙ ones))
+          (full_whole c.args.places n (omega arith) (omega (arith, c.div_ceil.ensures)))
     ]
 
 pub invariant_of-result : goal.invariant_of-result

@@ -7,9 +7,12 @@ pub returns : goal.returns
 returns c =
     let s = c.self.inside in
     let same = c.deref.ensures.value in
-    let fits = λ (k : ℕ). subst (λ (words : List ℕ). get_or words k 0 < 2 ^ 64) same (c.is_clear.ensures.in_range k) in (
+    let fits =
+    λ (k : ℕ). subst (λ (words : List ℕ). get_or words k 0 < 2 ^ 64) same (c.is_clear.ensures.in_range k) in (
       λ holds v. sym (ap (λ (region : List Bool). has region v) c.self.view_is)
-          ∙ clear_has_none s.places s.words.items c.self.invariant (λ k. sym (ap (λ (words : List ℕ). get_or words k 0) same) ∙ c.is_clear.ensures.clear.0 holds k) v,
+          ∙ clear_has_none s.places s.words.items c.self.invariant
+          (λ k. sym (ap (λ (words : List ℕ). get_or words k 0) same) ∙ c.is_clear.ensures.clear.0 holds k) v,
       λ none. c.is_clear.ensures.clear.1 (λ k. ap (λ (words : List ℕ). get_or words k 0) same
-          ∙ none_is_clear s.places s.words.items c.self.invariant fits (λ v. ap (λ (region : List Bool). has region v) c.self.view_is ∙ none v) k),
+          ∙ none_is_clear s.places s.words.items c.self.invariant fits
+          (λ v. ap (λ (region : List Bool). has region v) c.self.view_is ∙ none v) k),
     )

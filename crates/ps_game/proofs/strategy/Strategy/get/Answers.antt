@@ -13,14 +13,17 @@ pub returns-then-contains : goal.returns-then-contains
 returns-then-contains c =
     let s = c.self.inside in
     let v = c.args.vertex in
-    let lt : v < length s.moves.items = omega (arith, c.requires, length-moves_of s.chosen s.moves.items, ap length c.self.view_is) in
-    ap₂ (λ b n. cond b (Some n) None) (sym c.if-contains.true ∙ c.contains.ensures) (c.index.ensures ∙ get_or_default_zero s.moves.items v c.index.result.now lt)
+    let lt : v < length s.moves.items =
+    omega (arith, c.requires, length-moves_of s.chosen s.moves.items, ap length c.self.view_is) in
+    ap₂ (λ b n. cond b (Some n) None) (sym c.if-contains.true ∙ c.contains.ensures)
+    (c.index.ensures ∙ get_or_default_zero s.moves.items v c.index.result.now lt)
     ∙ sym (move_inside s.chosen s.moves.items v lt) ∙ ap (λ (table : List (Option ℕ)). move_at table v) c.self.view_is
 
 pub returns-else-contains : goal.returns-else-contains
 returns-else-contains c =
     let s = c.self.inside in
     let v = c.args.vertex in
-    let lt : v < length s.moves.items = omega (arith, c.requires, length-moves_of s.chosen s.moves.items, ap length c.self.view_is) in
+    let lt : v < length s.moves.items =
+    omega (arith, c.requires, length-moves_of s.chosen s.moves.items, ap length c.self.view_is) in
     ap (λ b. cond b (Some (get_or s.moves.items v 0)) None) (sym c.if-contains.false ∙ c.contains.ensures)
     ∙ sym (move_inside s.chosen s.moves.items v lt) ∙ ap (λ (table : List (Option ℕ)). move_at table v) c.self.view_is

@@ -16,7 +16,8 @@ index_mut-requires c =
 pub returns : goal.returns
 returns c =
     let s = c.self.inside in
-    let lt : c.args.vertex < length s.moves.items = omega (arith, c.requires, length-moves_of s.chosen s.moves.items, ap length c.self.view_is) in
+    let lt : c.args.vertex < length s.moves.items =
+    omega (arith, c.requires, length-moves_of s.chosen s.moves.items, ap length c.self.view_is) in
     ap (λ chosen. moves_of chosen (set s.moves.items c.args.vertex c.args.successor)) c.insert.ensures
     ∙ one_moved s.chosen s.moves.items c.args.vertex c.args.successor c.self.invariant lt
     ∙ ap (λ (table : List (Option ℕ)). set table c.args.vertex (Some c.args.successor)) c.self.view_is

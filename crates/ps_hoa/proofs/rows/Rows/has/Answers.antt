@@ -5,4 +5,5 @@ use Rattle.ps_hoa.proofs.RowTable.{has_place_row}
 use Rattle.ps_hoa.proofs.rows.Rows.has.Goals as goal
 
 pub returns : goal.returns
-returns c = c.contains_key.ensures ∙ ap is_some (c.args.self.now.places_are c.args.state) ∙ has_place_row c.args.state (map row_data c.args.self.now.rows.items)
+returns c = c.contains_key.ensures ∙ ap is_some (c.args.self.now.places_are c.args.state)
+    ∙ has_place_row c.args.state (map row_data c.args.self.now.rows.items)

@@ -11,12 +11,15 @@ use Rattle.ps_hoa.proofs.rows.Rows.push.Goals as goal
 pub invariant_of-self-2-clause-places_are : goal.invariant_of-self-2-clause-places_are
 invariant_of-self-2-clause-places_are c = λ state.
     let rows = c.args.self.now.rows.items in
-    let room : vec_len c.reserve.new.self < vec_capacity c.reserve.new.self = omega (arith, c.in_ok-reserve.ensures.ok) in
+    let room : vec_len c.reserve.new.self < vec_capacity c.reserve.new.self =
+    omega (arith, c.in_ok-reserve.ensures.ok) in
     let done : is_ok c.push.result ≡ true = c.push.ensures.succeeds room in
     let pushed : c.push.new.self.items ≡ rows ++ c.args.row ∷ [] =
-    c.push.ensures.items ∙ ap (λ (b : Bool). cond b (c.reserve.new.self.items ++ c.args.row ∷ []) c.reserve.new.self.items) done ∙ ap (λ rs. rs ++ c.args.row ∷ []) c.in_ok-reserve.ensures.items in
+    c.push.ensures.items ∙ ap (λ (b : Bool). cond b (c.reserve.new.self.items ++ c.args.row ∷ [])
+    c.reserve.new.self.items) done ∙ ap (λ rs. rs ++ c.args.row ∷ []) c.in_ok-reserve.ensures.items in
     let same : length c.reserve.new.self.items ≡ length rows = ap length c.in_ok-reserve.ensures.items in
-    let count : c.len.result ≡ length (map row_data rows) = omega (arith, c.len.ensures, c.reserve.new.self.ok.0, same, length-map rows row_data) in
+    let count : c.len.result ≡ length (map row_data rows) =
+    omega (arith, c.len.ensures, c.reserve.new.self.ok.0, same, length-map rows row_data) in
     c.in_ok-insert.ensures.updates.0 state
     ∙ (λ i. cond (nat_same c.args.row.state state i) (Some (count i)) (c.args.self.now.places_are state i))
     ∙ place_push state (map row_data rows) (row_data c.args.row) c.requires.new

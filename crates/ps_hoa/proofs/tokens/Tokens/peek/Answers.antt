@@ -5,7 +5,8 @@ use Rattle.ps_hoa.proofs.tokens.Tokens.peek.Goals as goal
 pub returns-clause-next : goal.returns-clause-next
 returns-clause-next c =
     let f = c.found-kind.ensures in let t = c.token.ensures in
-    piece_same t.kind t.text t.start ∙ sym (next_is c.args.self.now c.found-kind.result.0 c.found-kind.result.1 f.rises f.within f.token f.some)
+    piece_same t.kind t.text t.start ∙ sym (next_is c.args.self.now c.found-kind.result.0 c.found-kind.result.1 f.rises
+    f.within f.token f.some)
 
 pub returns-clause-finish : goal.returns-clause-finish
 returns-clause-finish c =

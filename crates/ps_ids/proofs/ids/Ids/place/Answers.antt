@@ -1,4 +1,5 @@
-use Rattle.std.proofs.Common.{◌≡◌, ◌≢◌, ◌<◌, ◌==◌, ℕ, List, length, get_or, Option, None, Some, IfSome, sym, ap, subst, ◌∙◌, arith, position}
+use Rattle.std.proofs.Common.{◌≡◌, ◌≢◌, ◌<◌, ◌==◌, ℕ, List, length, get_or, Option, None, Some, IfSome, sym, ap, subst}
+use Rattle.std.proofs.Common.{◌∙◌, arith, position}
 use Rattle.std.proofs.lemmas.Grind.{common_steps, get_or_default_zero}
 use Rattle.std.specs.BTreeMap.{get}
 use Rattle.std.specs.Option.{is_some}
@@ -6,14 +7,16 @@ use Rattle.std.specs.Ordering.{nat_cmp}
 use Rattle.ps_ids.specs.Ids.{own_place}
 use Rattle.ps_ids.proofs.IdPlaces.{position_here, position_by_table, position_within, some_position}
 use Rattle.ps_ids.proofs.ids.Ids.place.Goals as goal
-use Rattle.ps_ids.proofs.ids.Ids.place.Goals.{else-place-len-via-then-place-len+else-index-id, else-place-len-via-else-place-len}
+use Rattle.ps_ids.proofs.ids.Ids.place.Goals.{else-place-len-via-then-place-len+else-index-id}
+use Rattle.ps_ids.proofs.ids.Ids.place.Goals.{else-place-len-via-else-place-len}
 
 pub returns-then-index-id-clause-place : goal.returns-then-index-id-clause-place
 returns-then-index-id-clause-place c =
     let ids : List ℕ = c.self.inside.list.items in
     let place = c.own_place-place.result in
     let within : place < length ids = omega (arith, c.if-place-len.true, c.len.ensures) in
-    let here : get_or ids place 0 ≡ c.args.id = grind (arith, common_steps, get_or_default_zero ids place c.index.result.now within) in
+    let here : get_or ids place 0 ≡ c.args.id =
+    grind (arith, common_steps, get_or_default_zero ids place c.index.result.now within) in
     subst (λ xs. Some place ≡ position (λ other. c.args.id == other) xs) c.self.view_is
     (sym (position_here ids c.args.id place c.self.invariant.distinct within here))
 
@@ -24,22 +27,28 @@ returns-else-place-len-clause-place c =
     let place = c.own_place-place.result in
     let is : place ≡ own = c.own_place-place.ensures in
     let not_there : place < length ids → get_or ids place 0 ≢ c.args.id = elim c.else-place-len.branch [
-      | else-place-len-via-then-place-len+else-index-id w ↦ (λ l same. w.if-index-id.false (grind (arith, common_steps, get_or_default_zero ids place w.index.result.now l)))
+      | else-place-len-via-then-place-len+else-index-id w ↦ (λ l same.
+          w.if-index-id.false (grind (arith, common_steps, get_or_default_zero ids place w.index.result.now l)))
       | else-place-len-via-else-place-len w ↦ (λ l same. absurd (omega (arith, l, w.if-place-len.false, c.len.ensures)))
     ] in
-    let not_own : own < length ids → get_or ids own 0 ≢ c.args.id = subst (λ p. p < length ids → get_or ids p 0 ≢ c.args.id) is not_there in
-    c.copied.ensures ∙ c.get.ensures.value ∙ position_by_table c.self.inside.first ids (λ id. get nat_cmp c.self.inside.others id) c.args.id c.self.invariant not_own
+    let not_own : own < length ids → get_or ids own 0 ≢ c.args.id =
+    subst (λ p. p < length ids → get_or ids p 0 ≢ c.args.id) is not_there in
+    c.copied.ensures ∙ c.get.ensures.value ∙ position_by_table c.self.inside.first ids
+    (λ id. get nat_cmp c.self.inside.others id) c.args.id c.self.invariant not_own
     ∙ ap (λ xs. position (λ other. c.args.id == other) xs) c.self.view_is
 
 pub returns-else-place-len-clause-within : goal.returns-else-place-len-clause-within
 returns-else-place-len-clause-within c = go c.copied.result (returns-else-place-len-clause-place c)
   where
-    go : (o : Option ℕ) → o ≡ position (λ other. c.args.id == other) c.args.self.now → IfSome o (λ place. place < length c.args.self.now)
+    go : (o : Option ℕ) → o ≡ position (λ other. c.args.id == other) c.args.self.now →
+        IfSome o (λ place. place < length c.args.self.now)
     go None e = tt
     go (Some place) e = position_within c.args.self.now c.args.id place (sym e)
 
 pub returns-then-index-id-clause-member : goal.returns-then-index-id-clause-member
-returns-then-index-id-clause-member c = ap is_some (returns-then-index-id-clause-place c) ∙ some_position (λ other. c.args.id == other) c.args.self.now
+returns-then-index-id-clause-member c =
+    ap is_some (returns-then-index-id-clause-place c) ∙ some_position (λ other. c.args.id == other) c.args.self.now
 
 pub returns-else-place-len-clause-member : goal.returns-else-place-len-clause-member
-returns-else-place-len-clause-member c = ap is_some (returns-else-place-len-clause-place c) ∙ some_position (λ other. c.args.id == other) c.args.self.now
+returns-else-place-len-clause-member c =
+    ap is_some (returns-else-place-len-clause-place c) ∙ some_position (λ other. c.args.id == other) c.args.self.now

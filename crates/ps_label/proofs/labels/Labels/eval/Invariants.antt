@@ -7,6 +7,7 @@ use Rattle.ps_label.proofs.labels.Labels.eval.Given as goal
 abbrev pub invariant-loop-k : goal.invariant-loop-k
 invariant-loop-k l = record {
   room : length l.scratch ≡ length l.alias-items;
-  known : truths_behind (take l.k l.scratch) l.letter (expressions (drop l.k l.alias-items)) ≡ alias_truths (expressions l.self) l.letter;
+  known : truths_behind (take l.k l.scratch) l.letter (expressions (drop l.k l.alias-items)) ≡ alias_truths
+      (expressions l.self) l.letter;
   ordered : AreOrderedFrom l.k (expressions (drop l.k l.alias-items));
 }

@@ -7,5 +7,7 @@ use Rattle.ps_label.proofs.labels.Labels.push.Goals as goal
 
 pub invariant_of-self-2 : goal.invariant_of-self-2
 invariant_of-self-2 c =
-    let within : IsWithin (0 + length (expressions c.self.inside.aliases.items)) (expression c.args.label) = rw (zero-add, length-map, c.self.view_is) c.requires.within in
-    rw (c.in_ok-push.ensures.items, map-append) (push_ordered 0 (expressions c.self.inside.aliases.items) (expression c.args.label) c.self.invariant within)
+    let within : IsWithin (0 + length (expressions c.self.inside.aliases.items)) (expression c.args.label) =
+    rw (zero-add, length-map, c.self.view_is) c.requires.within in
+    rw (c.in_ok-push.ensures.items, map-append) (push_ordered 0 (expressions c.self.inside.aliases.items)
+    (expression c.args.label) c.self.invariant within)

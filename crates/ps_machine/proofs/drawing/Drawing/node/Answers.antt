@@ -7,30 +7,49 @@ use Rattle.ps_machine.proofs.drawing.Drawing.node.Goals as goal
 pub bounds : goal.bounds
 bounds c =
     let p = c.args.plan.now in
-    subst (λ (l : List Key). c.args.vertex < length l) (sym c.as_slice.ensures.keys) (kept_within p.order p.automaton.now p.keys.now.keys p.certificate.now p.moves_first p.memories.now.kept.items p.memories.now.marks.keys c.requires.plan c.args.vertex c.requires.kept)
+    subst (λ (l : List Key). c.args.vertex < length l) (sym c.as_slice.ensures.keys)
+    (kept_within p.order p.automaton.now p.keys.now.keys p.certificate.now p.moves_first p.memories.now.kept.items
+    p.memories.now.marks.keys c.requires.plan c.args.vertex c.requires.kept)
 
 pub bounds-as_slice-vertex : goal.bounds-as_slice-vertex
 bounds-as_slice-vertex c =
     let p = c.args.plan.now in
-    subst (λ (l : List Key). c.args.vertex < length l) (sym c.as_slice.ensures.keys) (kept_within p.order p.automaton.now p.keys.now.keys p.certificate.now p.moves_first p.memories.now.kept.items p.memories.now.marks.keys c.requires.plan c.args.vertex c.requires.kept)
+    subst (λ (l : List Key). c.args.vertex < length l) (sym c.as_slice.ensures.keys)
+    (kept_within p.order p.automaton.now p.keys.now.keys p.certificate.now p.moves_first p.memories.now.kept.items
+    p.memories.now.marks.keys c.requires.plan c.args.vertex c.requires.kept)
 
 pub offset_bounds-as_slice-vertex : goal.offset_bounds-as_slice-vertex
 offset_bounds-as_slice-vertex c =
     let p = c.args.plan.now in
-    let below = subst (λ (l : List Key). c.args.vertex < length l) (sym c.as_slice.ensures.keys) (kept_within p.order p.automaton.now p.keys.now.keys p.certificate.now p.moves_first p.memories.now.kept.items p.memories.now.marks.keys c.requires.plan c.args.vertex c.requires.kept) in
+    let below =
+    subst (λ (l : List Key). c.args.vertex < length l) (sym c.as_slice.ensures.keys)
+    (kept_within p.order p.automaton.now p.keys.now.keys p.certificate.now p.moves_first p.memories.now.kept.items
+    p.memories.now.marks.keys c.requires.plan c.args.vertex c.requires.kept) in
     record { fits = omega (arith, below, c.as_slice.type_inv.1) }
 
 pub first_node-requires-clause-stands : goal.first_node-requires-clause-stands
 first_node-requires-clause-stands c =
-    let p = c.args.plan.now in
-    (c.in-First.priority, kept_stands p.order p.automaton.now p.keys.now.keys p.certificate.now p.moves_first p.memories.now.kept.items p.memories.now.marks.keys c.requires.plan c.args.vertex c.requires.kept c.in-First.state c.in-First.priority (ap (λ (l : List Key). get_or l c.args.vertex (First 0 0)) (sym c.as_slice.ensures.keys) ∙ c.in-First.is))
+    let p = c.args.plan.now in (
+      c.in-First.priority,
+      kept_stands p.order p.automaton.now p.keys.now.keys p.certificate.now p.moves_first
+          p.memories.now.kept.items p.memories.now.marks.keys c.requires.plan c.args.vertex c.requires.kept
+          c.in-First.state c.in-First.priority (ap (λ (l : List Key). get_or l c.args.vertex (First 0 0))
+          (sym c.as_slice.ensures.keys) ∙ c.in-First.is),
+    )
 
 pub second_node-requires-clause-stands : goal.second_node-requires-clause-stands
 second_node-requires-clause-stands c =
-    let p = c.args.plan.now in
-    (c.in-First.priority, kept_stands p.order p.automaton.now p.keys.now.keys p.certificate.now p.moves_first p.memories.now.kept.items p.memories.now.marks.keys c.requires.plan c.args.vertex c.requires.kept c.in-First.state c.in-First.priority (ap (λ (l : List Key). get_or l c.args.vertex (First 0 0)) (sym c.as_slice.ensures.keys) ∙ c.in-First.is))
+    let p = c.args.plan.now in (
+      c.in-First.priority,
+      kept_stands p.order p.automaton.now p.keys.now.keys p.certificate.now p.moves_first
+          p.memories.now.kept.items p.memories.now.marks.keys c.requires.plan c.args.vertex c.requires.kept
+          c.in-First.state c.in-First.priority (ap (λ (l : List Key). get_or l c.args.vertex (First 0 0))
+          (sym c.as_slice.ensures.keys) ∙ c.in-First.is),
+    )
 
 pub unreachable-requires : goal.unreachable-requires
 unreachable-requires c =
     let p = c.args.plan.now in
-    kept_not_second p.order p.automaton.now p.keys.now.keys p.certificate.now p.moves_first p.memories.now.kept.items p.memories.now.marks.keys c.requires.plan c.args.vertex c.requires.kept c.in-Second.state c.in-Second.letter (ap (λ (l : List Key). get_or l c.args.vertex (First 0 0)) (sym c.as_slice.ensures.keys) ∙ c.in-Second.is)
+    kept_not_second p.order p.automaton.now p.keys.now.keys p.certificate.now p.moves_first p.memories.now.kept.items
+    p.memories.now.marks.keys c.requires.plan c.args.vertex c.requires.kept c.in-Second.state c.in-Second.letter
+    (ap (λ (l : List Key). get_or l c.args.vertex (First 0 0)) (sym c.as_slice.ensures.keys) ∙ c.in-Second.is)

@@ -7,5 +7,7 @@ use Rattle.ps_machine.proofs.drawing.Drawing.place_rows.Given as goal
 abbrev pub invariant-loop-leaf : goal.invariant-loop-leaf
 invariant-loop-leaf l = record {
   store : l.self.store ≡ l.fn.self.store;
-  noted : AreNoted l.plan.automaton.now l.plan.keys.now.keys l.plan.moves_first (board_of l.plan.order l.plan.automaton.now) l.plan.memories.now.kept.items l.letter l.leaves l.fn.self.rows.keys l.self.rows.keys l.self.places.items l.leaf-index;
+  noted : AreNoted l.plan.automaton.now l.plan.keys.now.keys l.plan.moves_first
+      (board_of l.plan.order l.plan.automaton.now) l.plan.memories.now.kept.items l.letter l.leaves l.fn.self.rows.keys
+      l.self.rows.keys l.self.places.items l.leaf-index;
 }

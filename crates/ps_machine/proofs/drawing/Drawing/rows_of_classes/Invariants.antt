@@ -10,6 +10,9 @@ abbrev pub invariant-loop-class : goal.invariant-loop-class
 invariant-loop-class l = record {
   store : l.self.store ≡ l.fn.self.store;
   same_rows : KeepsRows l.fn.self.rows.keys l.self.rows.keys;
-  rows : All (IsRow l.plan.moves_first (board_of l.plan.order l.plan.automaton.now) l.plan.memories.now.kept.items) l.self.rows.keys;
-  values : AllZip (λ (class : Class) value. NamesAnswer (board_of l.plan.order l.plan.automaton.now) l.plan.keys.now.keys l.plan.memories.now.kept.items l.plan.certificate.now l.self.rows.keys l.state class.letter value) (take l.class-index l.classes) l.values.items;
+  rows : All (IsRow l.plan.moves_first (board_of l.plan.order l.plan.automaton.now) l.plan.memories.now.kept.items)
+      l.self.rows.keys;
+  values : AllZip (λ (class : Class) value. NamesAnswer (board_of l.plan.order l.plan.automaton.now)
+      l.plan.keys.now.keys l.plan.memories.now.kept.items l.plan.certificate.now l.self.rows.keys l.state class.letter
+      value) (take l.class-index l.classes) l.values.items;
 }

@@ -22,8 +22,17 @@ of-classes-requires c = is_divided (get nat_eq c.args.plan.now.divided.now.class
 pub rows_of_classes-requires-clause-entered : goal.rows_of_classes-requires-clause-entered
 rows_of_classes-requires-clause-entered c =
     let plan = c.args.plan.now in
-    let used = kept_used plan.order plan.automaton.now plan.keys.now.keys plan.certificate.now plan.moves_first plan.memories.now.kept.items plan.memories.now.marks.keys c.requires.plan c.args.vertex c.requires.kept in
-    (c.requires.stands.0, record { plan = c.requires.plan; vertex = c.args.vertex; stands = c.requires.stands.1; is_used = used })
+    let used =
+    kept_used plan.order plan.automaton.now plan.keys.now.keys plan.certificate.now plan.moves_first
+    plan.memories.now.kept.items plan.memories.now.marks.keys c.requires.plan c.args.vertex c.requires.kept in (
+      c.requires.stands.0,
+      record {
+        plan = c.requires.plan;
+        vertex = c.args.vertex;
+        stands = c.requires.stands.1;
+        is_used = used;
+      },
+    )
 
 pub rows_of_classes-requires-clause-classes : goal.rows_of_classes-requires-clause-classes
 rows_of_classes-requires-clause-classes c =
@@ -82,7 +91,10 @@ relabel_from-requires-clause-within c letter within =
     let kept = plan.memories.now.kept.items in
     let rows = c.rows_of_classes.new.self.rows.keys in
     let N = Names (board_of plan.order a) keys kept plan.certificate.now q rows in
-    let named = subst (λ (l : List Class). AllZip N l c.deref-2.result.now) c.deref.ensures.value (subst (λ (v : List ℕ). AllZip N c.deref.result.now v) (sym c.deref-2.ensures.value) c.in_ok-values.ensures.values) in
+    let named =
+    subst (λ (l : List Class). AllZip N l c.deref-2.result.now) c.deref.ensures.value
+    (subst (λ (v : List ℕ). AllZip N c.deref.result.now v) (sym c.deref-2.ensures.value)
+    c.in_ok-values.ensures.values) in
     places_within plan.order a d.mask t keys kept plan.certificate.now rows q k.places k.list.items
     c.deref-2.result.now d.fit of.state of.are named letter
 
@@ -104,11 +116,15 @@ returns-clause-drawn c =
     let kept = plan.memories.now.kept.items in
     let rows = c.rows_of_classes.new.self.rows.keys in
     let N = Names (board_of plan.order a) keys kept plan.certificate.now q rows in
-    let named = subst (λ (l : List Class). AllZip N l c.deref-2.result.now) c.deref.ensures.value (subst (λ (v : List ℕ). AllZip N c.deref.result.now v) (sym c.deref-2.ensures.value) c.in_ok-values.ensures.values) in
+    let named =
+    subst (λ (l : List Class). AllZip N l c.deref-2.result.now) c.deref.ensures.value
+    (subst (λ (v : List ℕ). AllZip N c.deref.result.now v) (sym c.deref-2.ensures.value)
+    c.in_ok-values.ensures.values) in
     let u = c.relabel_from.new.self in
     both_ok _ _ (λ node. IsDrawn plan.moves_first (board_of plan.order a) keys kept plan.certificate.now u rows
     c.args.vertex node) c.relabel_from.result c.relabel_from.ensures.held c.relabel_from.ensures.leaf
-    (λ node held leaf. subst (λ b. IsDrawn b (board_of plan.order a) keys kept plan.certificate.now u rows c.args.vertex node) (sym c.requires.turn)
+    (λ node held leaf. subst (λ b. IsDrawn b (board_of plan.order a) keys kept plan.certificate.now u rows c.args.vertex
+    node) (sym c.requires.turn)
     (drawn_second plan.order a d.mask t keys kept plan.certificate.now rows q k.places k.list.items
     c.deref-2.result.now d.fit of.state of.are named u node leaf c.args.vertex c.requires.stands.0
     c.requires.stands.1 held))

@@ -9,5 +9,6 @@ invariant-loop-place l = record {
   counting : IsCounting (low_graph l.low) (low_weight l.low) l.self.components l.self.values.items;
   components : l.self.components ≡ l.initial.self.components;
   grows : GrowsBelow l.initial.self.values.items l.self.values.items l.number;
-  passed : (to : ℕ) (link : Link (low_graph l.low) l.from to) → link.place < l.place → IsPassed (low_weight l.low) l.self.components l.self.values.items l.from to;
+  passed : (to : ℕ) (link : Link (low_graph l.low) l.from to) → link.place < l.place →
+      IsPassed (low_weight l.low) l.self.components l.self.values.items l.from to;
 }

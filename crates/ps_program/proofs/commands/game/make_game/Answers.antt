@@ -9,4 +9,5 @@ returns-clause-game c = λ file chain built. c.in_ok-game_of.ensures.file file c
 
 pub returns-in_err-game_of-clause-game : goal.returns-in_err-game_of-clause-game
 returns-in_err-game_of-clause-game c = λ file chain built.
-    gives_passed (λ (game : NamedGameData). game) (MakesGame c.args.order file) c.from_residual.result refusal.OutOfMemory c.from_residual.ensures.1 tt
+    gives_passed (λ (game : NamedGameData). game) (MakesGame c.args.order file) c.from_residual.result
+    refusal.OutOfMemory c.from_residual.ensures.1 tt

@@ -1,42 +1,59 @@
-use Rattle.std.proofs.Common.{◌≡◌, ◌∙◌, ℕ, ◌+◌, ◌-◌, ◌^◌, ◌<◌, ◌≤◌, List, length, map, All, ap, ap₂, refl, subst, sym, arith}
+use Rattle.std.proofs.Common.{◌≡◌, ◌∙◌, ℕ, ◌+◌, ◌-◌, ◌^◌, ◌<◌, ◌≤◌, List, length, map, All, ap, ap₂, refl, subst, sym}
+use Rattle.std.proofs.Common.{arith}
 use Rattle.ps_simulate.specs.declared.plan.Row.{Row}
 use Rattle.ps_simulate.specs.declared.plan.Wire.{Wire}
 use Rattle.ps_simulate.specs.LanePlans.{AreInOrder, AreMoved, move_row, move_wire}
 use Rattle.ps_simulate.specs.Plans.{IsWithin, variables}
 use Rattle.ps_simulate.proofs.RowLemmas.{length-variables}
 use Rattle.ps_simulate.proofs.StepLemmas.{rows_within, outputs_within, nexts_within}
-use Rattle.ps_simulate.proofs.LanePlanLemmas.{few_variables, few_rows, gate_rows_at, rows_once_at, AreMoved_at, moved_small}
+use Rattle.ps_simulate.proofs.LanePlanLemmas.{few_variables, few_rows, gate_rows_at, rows_once_at, AreMoved_at}
+use Rattle.ps_simulate.proofs.LanePlanLemmas.{moved_small}
 use Rattle.ps_simulate.proofs.lane_plan.LanePlan.new.Goals as goal
 use Rattle.ps_simulate.proofs.lane_plan.LanePlan.new.Goals.{After-deref, After-deref-2}
 
 size_is : (c : After-deref) → c.in_ok-plan.plan.size ≡ length (variables c.args.circuit.now)
 size_is c = c.in_ok-plan.ensures.size_is
 
-front_is : (c : After-deref) → c.in_ok-plan.plan.size - length c.gates-gates.result.now ≡ 1 + length c.args.circuit.now.inputs + length c.args.circuit.now.latches
+front_is : (c : After-deref) → c.in_ok-plan.plan.size - length c.gates-gates.result.now ≡ 1 + length
+    c.args.circuit.now.inputs + length c.args.circuit.now.latches
 front_is c = omega (arith, ap length c.gates-gates.ensures.gates, size_is c, length-variables c.args.circuit.now)
 
-are_moved : (c : After-deref-2) → AreMoved c.in_ok-plan.plan.size (c.in_ok-plan.plan.size - length c.gates-gates.result.now) c.in_ok-places.places.items
+are_moved : (c : After-deref-2) → AreMoved c.in_ok-plan.plan.size
+    (c.in_ok-plan.plan.size - length c.gates-gates.result.now) c.in_ok-places.places.items
 are_moved c =
     let p = c.in_ok-plan.plan in
-    AreMoved_at c.args.circuit.now c.gates-gates.ensures.well_formed p.rows.items c.in_ok-plan.ensures.rows_are p.size _ c.deref.result.now c.in_ok-places.places.items c.in_ok-plan.ensures.size_is
-    (omega (arith, ap length c.gates-gates.ensures.gates, c.in_ok-plan.ensures.size_is, length-variables c.args.circuit.now))
+    AreMoved_at c.args.circuit.now c.gates-gates.ensures.well_formed p.rows.items c.in_ok-plan.ensures.rows_are p.size _
+    c.deref.result.now c.in_ok-places.places.items c.in_ok-plan.ensures.size_is
+    (omega (
+      arith,
+      ap length c.gates-gates.ensures.gates,
+      c.in_ok-plan.ensures.size_is,
+      length-variables c.args.circuit.now,
+    ))
     c.deref.ensures.value c.in_ok-places.ensures.size c.in_ok-places.ensures.kept c.in_ok-places.ensures.in_order
 
 -- the places of the table have room in literals
 small : (c : After-deref-2) (given : List ℕ) → given ≡ c.in_ok-places.places.items → All (λ p. p < 2 ^ 31) given
 small c given e =
-    let few : length (variables c.args.circuit.now) ≤ 2 ^ 31 = few_variables c.args.circuit.now c.gates-gates.ensures.well_formed in
-    subst (λ (ps : List ℕ). All (λ p. p < 2 ^ 31) ps) (sym e) (moved_small _ _ c.in_ok-places.places.items (are_moved c) (omega (arith, few, c.in_ok-plan.ensures.size_is)))
+    let few : length (variables c.args.circuit.now) ≤ 2 ^ 31 =
+    few_variables c.args.circuit.now c.gates-gates.ensures.well_formed in
+    subst (λ (ps : List ℕ). All (λ p. p < 2 ^ 31) ps) (sym e) (moved_small _ _ c.in_ok-places.places.items (are_moved c)
+    (omega (arith, few, c.in_ok-plan.ensures.size_is)))
 
-many : (c : After-deref-2) (given : List ℕ) → given ≡ c.in_ok-places.places.items → length (variables c.args.circuit.now) ≡ length given
+many : (c : After-deref-2) (given : List ℕ) → given ≡ c.in_ok-places.places.items →
+    length (variables c.args.circuit.now) ≡ length given
 many c given e = sym (ap length e ∙ c.in_ok-places.ensures.size ∙ c.in_ok-plan.ensures.size_is)
 
 -- wires and rows within the table, as the calls have them
-wires_fit : (wires given : List Wire) (m n : ℕ) → given ≡ wires → m ≡ n → All (λ w. w.place < m) wires → All (λ w. w.place < n) given
-wires_fit wires given m n e same within = subst (λ (ws : List Wire). All (λ w. w.place < n) ws) (sym e) (subst (λ (k : ℕ). All (λ w. w.place < k) wires) same within)
+wires_fit : (wires given : List Wire) (m n : ℕ) → given ≡ wires → m ≡ n → All (λ w. w.place < m) wires →
+    All (λ w. w.place < n) given
+wires_fit wires given m n e same within =
+    subst (λ (ws : List Wire). All (λ w. w.place < n) ws) (sym e)
+    (subst (λ (k : ℕ). All (λ w. w.place < k) wires) same within)
 
 rows_fit : (rows given : List Row) (m n : ℕ) → given ≡ rows → m ≡ n → All (IsWithin m) rows → All (IsWithin n) given
-rows_fit rows given m n e same within = subst (λ (rs : List Row). All (IsWithin n) rs) (sym e) (subst (λ (k : ℕ). All (IsWithin k) rows) same within)
+rows_fit rows given m n e same within =
+    subst (λ (rs : List Row). All (IsWithin n) rs) (sym e) (subst (λ (k : ℕ). All (IsWithin k) rows) same within)
 
 pub moved_places-requires-clause-fit : goal.moved_places-requires-clause-fit
 moved_places-requires-clause-fit c =
@@ -55,14 +72,17 @@ pub moved_places-requires-clause-gates : goal.moved_places-requires-clause-gates
 moved_places-requires-clause-gates c =
     let a = (goal.at.moved_places-requires-clause-gates c).After-deref in
     let p = c.in_ok-plan.plan in
-    gate_rows_at c.args.circuit.now c.gates-gates.ensures.well_formed p.rows.items c.in_ok-plan.ensures.rows_are p.size _ c.deref.result.now (size_is a) (front_is a) c.deref.ensures.value
+    gate_rows_at c.args.circuit.now c.gates-gates.ensures.well_formed p.rows.items c.in_ok-plan.ensures.rows_are p.size
+    _ c.deref.result.now (size_is a) (front_is a) c.deref.ensures.value
 
 pub moved_places-requires-clause-once : goal.moved_places-requires-clause-once
 moved_places-requires-clause-once c =
-    rows_once_at c.args.circuit.now c.gates-gates.ensures.well_formed c.in_ok-plan.plan.rows.items c.in_ok-plan.ensures.rows_are c.deref.result.now c.deref.ensures.value
+    rows_once_at c.args.circuit.now c.gates-gates.ensures.well_formed c.in_ok-plan.plan.rows.items
+    c.in_ok-plan.ensures.rows_are c.deref.result.now c.deref.ensures.value
 
 pub gates_of-requires-clause-places : goal.gates_of-requires-clause-places
-gates_of-requires-clause-places c = small (goal.at.gates_of-requires-clause-places c).After-deref-2 c.deref-2.result.now c.deref-2.ensures.value
+gates_of-requires-clause-places c =
+    small (goal.at.gates_of-requires-clause-places c).After-deref-2 c.deref-2.result.now c.deref-2.ensures.value
 
 pub gates_of-requires-clause-within : goal.gates_of-requires-clause-within
 gates_of-requires-clause-within c =
@@ -71,16 +91,19 @@ gates_of-requires-clause-within c =
     (rows_within c.args.circuit.now c.gates-gates.ensures.well_formed c.in_ok-plan.plan c.in_ok-plan.ensures)
 
 pub literals-requires-clause-places : goal.literals-requires-clause-places
-literals-requires-clause-places c = small (goal.at.literals-requires-clause-places c).After-deref-2 c.deref-4.result.now c.deref-4.ensures.value
+literals-requires-clause-places c =
+    small (goal.at.literals-requires-clause-places c).After-deref-2 c.deref-4.result.now c.deref-4.ensures.value
 
 pub literals-requires-clause-within : goal.literals-requires-clause-within
 literals-requires-clause-within c =
-    wires_fit c.in_ok-plan.plan.outputs.items c.deref-5.result.now _ (length c.deref-4.result.now) c.deref-5.ensures.value
+    wires_fit c.in_ok-plan.plan.outputs.items c.deref-5.result.now _ (length c.deref-4.result.now)
+    c.deref-5.ensures.value
     (many (goal.at.literals-requires-clause-within c).After-deref-2 c.deref-4.result.now c.deref-4.ensures.value)
     (outputs_within c.args.circuit.now c.gates-gates.ensures.well_formed c.in_ok-plan.plan c.in_ok-plan.ensures)
 
 pub literals-requires-2-clause-places : goal.literals-requires-2-clause-places
-literals-requires-2-clause-places c = small (goal.at.literals-requires-2-clause-places c).After-deref-2 c.deref-6.result.now c.deref-6.ensures.value
+literals-requires-2-clause-places c =
+    small (goal.at.literals-requires-2-clause-places c).After-deref-2 c.deref-6.result.now c.deref-6.ensures.value
 
 pub literals-requires-2-clause-within : goal.literals-requires-2-clause-within
 literals-requires-2-clause-within c =
@@ -89,8 +112,10 @@ literals-requires-2-clause-within c =
     (nexts_within c.args.circuit.now c.gates-gates.ensures.well_formed c.in_ok-plan.plan c.in_ok-plan.ensures)
 
 -- what a call wrote for the wires that it was given
-written : (places given : List ℕ) (wires taken : List Wire) (found : List Wire) → found ≡ map (move_wire given) taken → given ≡ places → taken ≡ wires → found ≡ map (move_wire places) wires
-written places given wires taken found e same same_wires = e ∙ ap₂ (λ (ps : List ℕ) (ws : List Wire). map (move_wire ps) ws) same same_wires
+written : (places given : List ℕ) (wires taken : List Wire) (found : List Wire) → found ≡ map (move_wire given) taken →
+    given ≡ places → taken ≡ wires → found ≡ map (move_wire places) wires
+written places given wires taken found e same same_wires =
+    e ∙ ap₂ (λ (ps : List ℕ) (ws : List Wire). map (move_wire ps) ws) same same_wires
 
 pub returns-clause-plan : goal.returns-clause-plan
 returns-clause-plan c =
@@ -101,7 +126,8 @@ returns-clause-plan c =
     let f = p.size - length c.gates-gates.result.now in
     let order : AreInOrder f c.deref-2.result.now c.deref-3.result.now =
     subst (λ (ps : List ℕ). AreInOrder f ps c.deref-3.result.now) (sym c.deref-2.ensures.value)
-    (subst (λ (rs : List Row). AreInOrder f places rs) (c.deref.ensures.value ∙ sym c.deref-3.ensures.value) c.in_ok-places.ensures.in_order) in (
+    (subst (λ (rs : List Row). AreInOrder f places rs) (c.deref.ensures.value ∙ sym c.deref-3.ensures.value)
+    c.in_ok-places.ensures.in_order) in (
       p,
       places,
       record {
@@ -109,8 +135,14 @@ returns-clause-plan c =
         are_moved = are_moved b;
         size_is = refl;
         front_is = front_is a;
-        gates_are = c.in_ok-gates_of.ensures f order ∙ ap₂ (λ (ps : List ℕ) (rs : List Row). map (move_row ps) rs) c.deref-2.ensures.value c.deref-3.ensures.value;
-        outputs_are = written places _ p.outputs.items _ _ c.in_ok-literals.ensures c.deref-4.ensures.value c.deref-5.ensures.value;
-        nexts_are = written places _ p.nexts.items _ _ c.in_ok-literals-2.ensures c.deref-6.ensures.value c.deref-7.ensures.value;
+        gates_are =
+            c.in_ok-gates_of.ensures f order ∙ ap₂ (λ (ps : List ℕ) (rs : List Row). map (move_row ps) rs)
+            c.deref-2.ensures.value c.deref-3.ensures.value;
+        outputs_are =
+            written places _ p.outputs.items _ _ c.in_ok-literals.ensures c.deref-4.ensures.value
+            c.deref-5.ensures.value;
+        nexts_are =
+            written places _ p.nexts.items _ _ c.in_ok-literals-2.ensures c.deref-6.ensures.value
+            c.deref-7.ensures.value;
       },
     )

@@ -1,11 +1,14 @@
-use Rattle.std.proofs.Common.{◌≡◌, ◌∙◌, ◌++◌, ℕ, ◌/◌, ◌<◌, Bool, List, length, get_or, map, take, drop, All, ap, ap₂, subst, sym, arith}
+use Rattle.std.proofs.Common.{◌≡◌, ◌∙◌, ◌++◌, ℕ, ◌/◌, ◌<◌, Bool, List, length, get_or, map, take, drop, All, ap, ap₂}
+use Rattle.std.proofs.Common.{subst, sym, arith}
 use Rattle.std.proofs.lemmas.List.{take_at}
 use Rattle.ps_simulate.specs.declared.lane_plan.Operands.{Operands}
 use Rattle.ps_simulate.specs.LanePlans.{rows_from, wire_in}
 use Rattle.ps_simulate.specs.Lanes.{LaneSimulation, AreTables, lane_of}
 use Rattle.ps_simulate.specs.Plans.{IsWithin, IsWorkedOut, read}
 use Rattle.ps_circuit.specs.Values.{Steps}
-use Rattle.ps_simulate.proofs.LaneStepLemmas.{room, latches_many, gates_fit, gates_within, outputs_in_table, nexts_in_table, outputs_many, nexts_many, constant_there, Steps-lane, IsTable-lane}
+use Rattle.ps_simulate.proofs.LaneStepLemmas.{room, latches_many, gates_fit, gates_within, outputs_in_table}
+use Rattle.ps_simulate.proofs.LaneStepLemmas.{nexts_in_table, outputs_many, nexts_many, constant_there, Steps-lane}
+use Rattle.ps_simulate.proofs.LaneStepLemmas.{IsTable-lane}
 use Rattle.ps_simulate.proofs.lanes.LaneSimulator.step_lanes.Goals as goal
 use Rattle.ps_simulate.proofs.lanes.LaneSimulator.step_lanes.Goals.{After-fill_words, After-read_words-2}
 
@@ -14,8 +17,12 @@ replaced : (new old : List (List ℕ)) (n : ℕ) → length new ≡ n → take n
 replaced new old n each = take_at new _ n each
 
 -- the table behind the gates
-table_is : (c : After-fill_words) → take c.self.inside.values.len (c.fill_words.new.values ++ drop (length c.fill_words.new.values) c.self.inside.values.items) ≡ c.fill_words.new.values
-table_is c = replaced c.fill_words.new.values c.self.inside.values.items c.self.inside.values.len (omega (arith, c.fill_words.auto.values, c.deref_mut.ensures.len))
+table_is : (c : After-fill_words) → take c.self.inside.values.len
+    (c.fill_words.new.values ++ drop (length c.fill_words.new.values) c.self.inside.values.items) ≡
+    c.fill_words.new.values
+table_is c =
+    replaced c.fill_words.new.values c.self.inside.values.items c.self.inside.values.len
+    (omega (arith, c.fill_words.auto.values, c.deref_mut.ensures.len))
 
 size_is : (c : After-fill_words) → length c.deref_mut.result.now ≡ c.self.inside.plan.size
 size_is c = ap length c.deref_mut.ensures.value ∙ c.self.invariant.values_each
@@ -24,28 +31,38 @@ table_size : (c : After-fill_words) → length c.fill_words.new.values ≡ c.sel
 table_size c = c.fill_words.auto.values ∙ size_is c
 
 worked : (c : After-fill_words) (lane : ℕ) → lane < 256
-    → IsWorkedOut (rows_from c.self.inside.plan.front c.self.inside.plan.gates.items) (lane_of c.args.inputs.now lane) (lane_of c.self.inside.latches.items lane) c.self.inside.plan.size
+    → IsWorkedOut (rows_from c.self.inside.plan.front c.self.inside.plan.gates.items) (lane_of c.args.inputs.now lane)
+    (lane_of c.self.inside.latches.items lane) c.self.inside.plan.size
     (lane_of c.fill_words.new.values lane)
 worked c lane lt =
     let P : List Operands → List (List ℕ) → ℕ → Type 0 = λ gates latches size.
-    IsWorkedOut (rows_from c.self.inside.plan.front gates) (lane_of c.args.inputs.now lane) (lane_of latches lane) size (lane_of c.fill_words.new.values lane) in
+    IsWorkedOut (rows_from c.self.inside.plan.front gates) (lane_of c.args.inputs.now lane) (lane_of latches lane) size
+    (lane_of c.fill_words.new.values lane) in
     let by_gates : P c.self.inside.plan.gates.items c.deref-2.result.now (length c.deref_mut.result.now) =
-    subst (λ (gates : List Operands). P gates c.deref-2.result.now (length c.deref_mut.result.now)) c.deref.ensures.value (c.fill_words.ensures lane lt) in
+    subst (λ (gates : List Operands). P gates c.deref-2.result.now (length c.deref_mut.result.now))
+    c.deref.ensures.value (c.fill_words.ensures lane lt) in
     let by_latches : P c.self.inside.plan.gates.items c.self.inside.latches.items (length c.deref_mut.result.now) =
-    subst (λ (latches : List (List ℕ)). P c.self.inside.plan.gates.items latches (length c.deref_mut.result.now)) c.deref-2.ensures.value by_gates in
+    subst (λ (latches : List (List ℕ)). P c.self.inside.plan.gates.items latches (length c.deref_mut.result.now))
+    c.deref-2.ensures.value by_gates in
     subst (λ (size : ℕ). P c.self.inside.plan.gates.items c.self.inside.latches.items size) (size_is c) by_latches
 
 -- literals within the table, as the calls have them
-fits : (literals given : List ℕ) (m n : ℕ) → given ≡ literals → m ≡ n → All (λ l. l / 2 < n) literals → All (λ l. l / 2 < m) given
+fits : (literals given : List ℕ) (m n : ℕ) → given ≡ literals → m ≡ n → All (λ l. l / 2 < n) literals →
+    All (λ l. l / 2 < m) given
 fits literals given m n same size within k d lt =
     let there : k < length literals = omega (arith, lt, ap length same) in
     omega (arith, within k d there, size, ap (λ (ls : List ℕ). get_or ls k d / 2) same)
 
-next_is : (c : After-read_words-2) → take c.self.inside.latches.len (c.read_words-2.new.words ++ drop (length c.read_words-2.new.words) c.self.inside.latches.items) ≡ c.read_words-2.new.words
-next_is c = replaced c.read_words-2.new.words c.self.inside.latches.items c.self.inside.latches.len (omega (arith, c.read_words-2.auto.words, c.deref_mut-2.ensures.len))
+next_is : (c : After-read_words-2) → take c.self.inside.latches.len
+    (c.read_words-2.new.words ++ drop (length c.read_words-2.new.words) c.self.inside.latches.items) ≡
+    c.read_words-2.new.words
+next_is c =
+    replaced c.read_words-2.new.words c.self.inside.latches.items c.self.inside.latches.len
+    (omega (arith, c.read_words-2.auto.words, c.deref_mut-2.ensures.len))
 
 -- the bits that a call read
-bits_are : (lane : ℕ) (bits : List Bool) (values given : List (List ℕ)) (literals taken : List ℕ) → bits ≡ map (λ l. read (lane_of given lane) (wire_in l)) taken → given ≡ values → taken ≡ literals
+bits_are : (lane : ℕ) (bits : List Bool) (values given : List (List ℕ)) (literals taken : List ℕ) →
+    bits ≡ map (λ l. read (lane_of given lane) (wire_in l)) taken → given ≡ values → taken ≡ literals
     → bits ≡ map (λ l. read (lane_of values lane) (wire_in l)) literals
 bits_are lane bits values given literals taken is same same_literals =
     is ∙ ap₂ (λ (v : List (List ℕ)) (ls : List ℕ). map (λ l. read (lane_of v lane) (wire_in l)) ls) same same_literals
@@ -53,10 +70,13 @@ bits_are lane bits values given literals taken is same same_literals =
 pub fill_words-requires-clause-within : goal.fill_words-requires-clause-within
 fill_words-requires-clause-within c =
     let s = c.self.inside in
-    let size : s.plan.size ≡ length c.deref_mut.result.now = sym (ap length c.deref_mut.ensures.value ∙ c.self.invariant.values_each) in
-    let P : List Operands → Type 0 = λ gates. All (IsWithin (length c.deref_mut.result.now)) (rows_from s.plan.front gates) in
+    let size : s.plan.size ≡ length c.deref_mut.result.now =
+    sym (ap length c.deref_mut.ensures.value ∙ c.self.invariant.values_each) in
+    let P : List Operands → Type 0 =
+    λ gates. All (IsWithin (length c.deref_mut.result.now)) (rows_from s.plan.front gates) in
     subst P (sym c.deref.ensures.value)
-    (subst (λ (n : ℕ). All (IsWithin n) (rows_from s.plan.front s.plan.gates.items)) size (gates_within s.circuit.now s.plan s.values.items s.latches.items c.self.invariant))
+    (subst (λ (n : ℕ). All (IsWithin n) (rows_from s.plan.front s.plan.gates.items)) size
+    (gates_within s.circuit.now s.plan s.values.items s.latches.items c.self.invariant))
 
 pub fill_words-requires-clause-fit : goal.fill_words-requires-clause-fit
 fill_words-requires-clause-fit c =
@@ -95,7 +115,8 @@ read_words-requires-clause-within c =
     let a = (goal.at.read_words-requires-clause-within c).After-fill_words in
     let s = c.self.inside in
     fits s.plan.outputs.items c.deref-3.result.now (length c.deref-4.result.now) s.plan.size c.deref-3.ensures.value
-    (ap length (c.deref-4.ensures.value ∙ table_is a) ∙ table_size a) (outputs_in_table s.circuit.now s.plan s.values.items s.latches.items c.self.invariant)
+    (ap length (c.deref-4.ensures.value ∙ table_is a) ∙ table_size a)
+    (outputs_in_table s.circuit.now s.plan s.values.items s.latches.items c.self.invariant)
 
 pub read_words-requires-clause-fit : goal.read_words-requires-clause-fit
 read_words-requires-clause-fit c =
@@ -113,7 +134,8 @@ read_words-requires-2-clause-within c =
     let a = (goal.at.read_words-requires-2-clause-within c).After-fill_words in
     let s = c.self.inside in
     fits s.plan.nexts.items c.deref-5.result.now (length c.deref-6.result.now) s.plan.size c.deref-5.ensures.value
-    (ap length (c.deref-6.ensures.value ∙ table_is a) ∙ table_size a) (nexts_in_table s.circuit.now s.plan s.values.items s.latches.items c.self.invariant)
+    (ap length (c.deref-6.ensures.value ∙ table_is a) ∙ table_size a)
+    (nexts_in_table s.circuit.now s.plan s.values.items s.latches.items c.self.invariant)
 
 pub read_words-requires-2-clause-fit : goal.read_words-requires-2-clause-fit
 read_words-requires-2-clause-fit c =
@@ -134,7 +156,8 @@ letters_fit c = c.requires.inputs_fit ∙ sym (ap (λ (v : LaneSimulation). leng
 next_length : (c : After-read_words-2) → length c.read_words-2.new.words ≡ length c.self.inside.circuit.now.latches
 next_length c =
     let s = c.self.inside in
-    c.read_words-2.auto.words ∙ ap length c.deref_mut-2.ensures.value ∙ latches_many s.circuit.now s.plan s.values.items s.latches.items c.self.invariant
+    c.read_words-2.auto.words ∙ ap length c.deref_mut-2.ensures.value
+    ∙ latches_many s.circuit.now s.plan s.values.items s.latches.items c.self.invariant
 
 pub invariant_of-self : goal.invariant_of-self
 invariant_of-self c =
@@ -143,13 +166,16 @@ invariant_of-self c =
     let s = c.self.inside in
     let t = c.self.invariant in
     let P : List (List ℕ) → List (List ℕ) → Type 0 = λ values latches. AreTables s.circuit.now s.plan values latches in
-    subst (λ (values : List (List ℕ)). P values (take s.latches.len (c.read_words-2.new.words ++ drop (length c.read_words-2.new.words) s.latches.items))) (sym (table_is a))
+    subst (λ (values : List (List ℕ)). P values (take s.latches.len
+    (c.read_words-2.new.words ++ drop (length c.read_words-2.new.words) s.latches.items))) (sym (table_is a))
     (subst (P c.fill_words.new.values) (sym (next_is b)) (record {
       plan = t.plan;
       places = t.places;
       is_lane_plan = t.is_lane_plan;
       values_each = table_size a;
-      tables = λ lane lt. IsTable-lane s.circuit.now s.plan s.values.items s.latches.items t c.args.inputs.now c.fill_words.new.values lane lt (letters_fit b) (worked a lane lt) c.read_words-2.new.words
+      tables =
+          λ lane lt. IsTable-lane s.circuit.now s.plan s.values.items s.latches.items t c.args.inputs.now
+          c.fill_words.new.values lane lt (letters_fit b) (worked a lane lt) c.read_words-2.new.words
           (next_length b);
     }))
 
@@ -158,8 +184,13 @@ returns-clause-steps c lane lt =
     let a = (goal.at.returns-clause-steps c).After-fill_words in
     let b = (goal.at.returns-clause-steps c).After-read_words-2 in
     let s = c.self.inside in
-    let next = take s.latches.len (c.read_words-2.new.words ++ drop (length c.read_words-2.new.words) s.latches.items) in
-    subst (λ (v : LaneSimulation). Steps v.circuit (lane_of v.latches lane) (lane_of c.args.inputs.now lane) (lane_of c.read_words.new.words lane) (lane_of next lane)) c.self.view_is
-    (Steps-lane s.circuit.now s.plan s.values.items s.latches.items c.self.invariant c.args.inputs.now c.fill_words.new.values lane lt (letters_fit b) (worked a lane lt) c.read_words.new.words next
-    (bits_are lane _ _ _ _ _ (c.read_words.ensures lane lt) (c.deref-4.ensures.value ∙ table_is a) c.deref-3.ensures.value)
-    (ap (λ (ws : List (List ℕ)). lane_of ws lane) (next_is b) ∙ bits_are lane _ _ _ _ _ (c.read_words-2.ensures lane lt) (c.deref-6.ensures.value ∙ table_is a) c.deref-5.ensures.value))
+    let next =
+    take s.latches.len (c.read_words-2.new.words ++ drop (length c.read_words-2.new.words) s.latches.items) in
+    subst (λ (v : LaneSimulation). Steps v.circuit (lane_of v.latches lane) (lane_of c.args.inputs.now lane)
+    (lane_of c.read_words.new.words lane) (lane_of next lane)) c.self.view_is
+    (Steps-lane s.circuit.now s.plan s.values.items s.latches.items c.self.invariant c.args.inputs.now
+    c.fill_words.new.values lane lt (letters_fit b) (worked a lane lt) c.read_words.new.words next
+    (bits_are lane _ _ _ _ _ (c.read_words.ensures lane lt) (c.deref-4.ensures.value ∙ table_is a)
+    c.deref-3.ensures.value)
+    (ap (λ (ws : List (List ℕ)). lane_of ws lane) (next_is b) ∙ bits_are lane _ _ _ _ _ (c.read_words-2.ensures lane lt)
+    (c.deref-6.ensures.value ∙ table_is a) c.deref-5.ensures.value))

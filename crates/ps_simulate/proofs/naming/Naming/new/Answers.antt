@@ -12,13 +12,18 @@ returns-clause-some c =
     let set = c.controllable-controllable.result.now in
     let reads = c.reads_controllable-reads.result in
     let sets = c.sets_controllable-sets.result in
-    let at_inputs : map (option_copied {T = List ℕ}) c.deref.result.now ≡ c.args.circuit.now.input_names = ap (map (option_copied {T = List ℕ})) c.deref.ensures.value ∙ c.in_ok-symbols.ensures.symbols in
-    let at_outputs : map (option_copied {T = List ℕ}) c.deref-2.result.now ≡ c.args.circuit.now.output_names = ap (map (option_copied {T = List ℕ})) c.deref-2.ensures.value ∙ c.in_ok-symbols-2.ensures.symbols in
+    let at_inputs : map (option_copied {T = List ℕ}) c.deref.result.now ≡ c.args.circuit.now.input_names =
+    ap (map (option_copied {T = List ℕ})) c.deref.ensures.value ∙ c.in_ok-symbols.ensures.symbols in
+    let at_outputs : map (option_copied {T = List ℕ}) c.deref-2.result.now ≡ c.args.circuit.now.output_names =
+    ap (map (option_copied {T = List ℕ})) c.deref-2.ensures.value ∙ c.in_ok-symbols-2.ensures.symbols in
     let a : ArePlacesOf names set reads c.args.circuit.now.input_names c.in-Some.inputs.items =
-    subst (λ (ss : List (Option (List ℕ))). ArePlacesOf names set reads ss c.in-Some.inputs.items) at_inputs (rw c.in-Some.is at c.in_ok-inputs.ensures.places) in
+    subst (λ (ss : List (Option (List ℕ))). ArePlacesOf names set reads ss c.in-Some.inputs.items) at_inputs
+    (rw c.in-Some.is at c.in_ok-inputs.ensures.places) in
     let b : ArePlacesOf names set sets c.args.circuit.now.output_names c.in-Some-2.outputs.items =
-    subst (λ (ss : List (Option (List ℕ))). ArePlacesOf names set sets ss c.in-Some-2.outputs.items) at_outputs (rw c.in-Some-2.is at c.in_ok-outputs.ensures.places) in
-    let differ : reads ≢ sets = λ e. role_apart c.args.role (sym c.reads_controllable-reads.ensures ∙ e ∙ c.sets_controllable-sets.ensures) in
+    subst (λ (ss : List (Option (List ℕ))). ArePlacesOf names set sets ss c.in-Some-2.outputs.items) at_outputs
+    (rw c.in-Some-2.is at c.in_ok-outputs.ensures.places) in
+    let differ : reads ≢ sets =
+    λ e. role_apart c.args.role (sym c.reads_controllable-reads.ensures ∙ e ∙ c.sets_controllable-sets.ensures) in
     let back : sets ≢ reads = λ e. differ (sym e) in
     let size = length-map c.names-names.result.now bytes_of in
     record {
@@ -29,6 +34,10 @@ returns-clause-some c =
       outputs_within = λ p k e. let h = b.within p k e in omega (arith, h, c.in_ok-symbols-2.ensures.each);
       inputs_placed = λ p k s. a.placed p k s;
       outputs_placed = λ p k s. b.placed p k s;
-      inputs_alone = λ p k s. apart names set reads sets c.args.circuit.now.input_names c.args.circuit.now.output_names c.in-Some.inputs.items c.in-Some-2.outputs.items differ a b p k s;
-      outputs_alone = λ p k s. apart names set sets reads c.args.circuit.now.output_names c.args.circuit.now.input_names c.in-Some-2.outputs.items c.in-Some.inputs.items back b a p k s;
+      inputs_alone =
+          λ p k s. apart names set reads sets c.args.circuit.now.input_names c.args.circuit.now.output_names
+          c.in-Some.inputs.items c.in-Some-2.outputs.items differ a b p k s;
+      outputs_alone =
+          λ p k s. apart names set sets reads c.args.circuit.now.output_names c.args.circuit.now.input_names
+          c.in-Some-2.outputs.items c.in-Some.inputs.items back b a p k s;
     }

@@ -15,15 +15,18 @@ found c =
     let circuit = c.self.inside.circuit.now in
     let v = variable c.args.literal in
     let same : circuit ≡ c.args.self.now = c.self.view_is in
-    let known : IsKnown (definitions circuit) c.args.literal = subst (λ (d : CircuitData). IsKnown (definitions d) c.args.literal) (sym same) c.requires in
+    let known : IsKnown (definitions circuit) c.args.literal =
+    subst (λ (d : CircuitData). IsKnown (definitions d) c.args.literal) (sym same) c.requires in
     let at = place_known circuit c.self.invariant.1 c.args.literal known in
-    c.place.ensures.place ∙ ap (λ (id : ℕ). position (λ other. id == other) c.self.inside.ids) (c.from.ensures ∙ c.variable.ensures)
+    c.place.ensures.place ∙ ap (λ (id : ℕ). position (λ other. id == other) c.self.inside.ids)
+    (c.from.ensures ∙ c.variable.ensures)
     ∙ ap (λ (vs : List ℕ). position (λ other. v == other) vs) c.self.invariant.0
     ∙ position_here (variables circuit) v (place_of circuit v) (variables_once circuit c.self.invariant.1) at.0 at.1
     ∙ ap (λ (d : CircuitData). Some (place_of d v)) same
 
 pub unwrap-place-requires : goal.unwrap-place-requires
-unwrap-place-requires c = subst (λ (o : Option ℕ). IsSome o) (sym (found (goal.at.unwrap-place-requires c).After-place)) refl
+unwrap-place-requires c =
+    subst (λ (o : Option ℕ). IsSome o) (sym (found (goal.at.unwrap-place-requires c).After-place)) refl
 
 pub returns : goal.returns
 returns c =

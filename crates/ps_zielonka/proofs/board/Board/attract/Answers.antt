@@ -1,8 +1,14 @@
-use Rattle.std.proofs.Common.{subst, sym}
+use Rattle.std.proofs.Common.{inl, subst, sym}
 use Rattle.ps_attractor.specs.declared.aim.Aim.{Aim}
 use Rattle.ps_attractor.specs.Tables.{TablesData, moves_of}
 use Rattle.ps_attractor.specs.Aims.{IsPosed, IsTaken, IsAttracted, IsGrown, rank_of}
+use Rattle.ps_attractor.specs.Levels.{IsLevel}
 use Rattle.ps_zielonka.proofs.board.Board.attract.Goals as goal
+
+pub attract-requires-clause-fits_width : goal.attract-requires-clause-fits_width
+attract-requires-clause-fits_width g c =
+    let Fits : Aim → Type 0 = λ aim. IsLevel g.W.Width.LIMIT aim.mark in
+    subst Fits (sym c.aim.ensures) (inl c.requires.fits_width)
 
 pub returns-clause-grown : goal.returns-clause-grown
 returns-clause-grown g c =

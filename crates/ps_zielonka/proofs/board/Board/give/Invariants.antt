@@ -4,7 +4,7 @@ use Rattle.ps_zielonka.specs.Nests.{StandsBetween}
 use Rattle.ps_zielonka.proofs.board.Board.give.Given as goal
 
 abbrev pub invariant-loop-place : goal.invariant-loop-place
-invariant-loop-place l = record {
+invariant-loop-place g l = record {
   tables : l.self.tables ≡ l.initial.self.tables;
   winners : length l.self.winner.items ≡ length l.initial.self.winner.items;
   given : (j : ℕ) → l.begin ≤ j → j < l.place → slice_index l.self.winner.items (slice_index l.self.tables.trail j) ≡

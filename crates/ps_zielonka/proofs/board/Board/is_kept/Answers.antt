@@ -13,7 +13,8 @@ loop-place-preserved g c =
     let so_far = c.loop-place.invariant in
     let place = c.loop-place.place in
     let u = c.vertex_at-vertex.result in
-    let at : get_or old.trail place 0 ≡ u = ap (λ xs. get_or xs place 0) (sym so_far.moved.trail) ∙ sym c.vertex_at-vertex.ensures in
+    let at : get_or old.trail place 0 ≡ u = ap (λ xs. get_or xs place 0) (sym so_far.moved.trail)
+    ∙ sym c.vertex_at-vertex.ensures in
     let Kept : List ℕ → Type 0 = λ ws. IsKeptAt game new ws (mark_of c.args.level) c.args.frame.now.player
     (1 - c.args.frame.now.player) u in
     record {

@@ -11,31 +11,33 @@ use Rattle.ps_zielonka.proofs.board.Board.reopen.Goals as goal
 use Rattle.ps_zielonka.proofs.board.Board.reopen.Goals.{then-eq, else-eq+in_ok-place}
 
 pub loop-place-preserved : goal.loop-place-preserved
-loop-place-preserved c =
+loop-place-preserved g c =
     let old = c.args.self.now.tables in
     let cut = c.take_off.new.self.tables in
     let mid = c.loop-place.self.tables in
     let winner = c.take_off.new.self.winner.items in
-    let spare = c.take_off.new.self.spare.items in
+    let spare = c.take_off.new.self.spare in
     let so_far = c.loop-place.invariant in
     let place = c.loop-place.place in
     let turn = c.args.frame.now.turn in
-    let u = c.index-vertex.result.now in
+    let u = c.at-vertex.result in
     let taken = c.in_ok-take_off.ensures.spare in
     let below : place < length spare = omega (arith, c.loop-place-test.true, c.len-place-end.ensures) in
-    let size : length c.loop-place.self.spare.items ≡ length spare = ap length so_far.spare in
+    let size : length c.loop-place.self.spare ≡ length spare = ap length so_far.spare in
     let all : length spare + turn ≡ length old.trail = taken.all in
-    let at : get_or spare place 0 ≡ u = ap (λ xs. get_or xs place 0) (sym so_far.spare) ∙ sym (get_or_read c.loop-place.self.spare.items place u (omega arith) c.index-vertex.ensures 0) in
-    let is_vertex : get_or old.trail (turn + place) 0 < length old.level = c.requires.vertices (turn + place) (omega arith) in
+    let at : get_or spare place 0 ≡ u = ap (λ xs. get_or xs place 0) (sym so_far.spare) ∙ sym c.at-vertex.ensures in
+    let is_vertex : get_or old.trail (turn + place) 0 < length old.level =
+    c.requires.vertices (turn + place) (omega arith) in
     let same_level : length mid.level ≡ length old.level = so_far.reopened.sizes ∙ ap length c.take_off.ensures.level in
     let within : u < length mid.level = omega (arith, at, taken.same place below) in
-    let who : get_or winner u 0 ≡ c.index.result.now = ap (λ xs. get_or xs u 0) (sym so_far.winner) ∙ sym (get_or_read c.loop-place.self.winner.items u c.index.result.now (search rules) c.index.ensures 0) in
-    let Put : Board → Type 0 = λ b. IsReopened winner c.args.frame.now.player (mark_of c.args.level) turn
+    let who : get_or winner u 0 ≡ c.index.result.now = ap (λ xs. get_or xs u 0) (sym so_far.winner)
+    ∙ sym (get_or_read c.loop-place.self.winner.items u c.index.result.now (search rules) c.index.ensures 0) in
+    let Put : Board g.row.W.Denot → Type 0 = λ b. IsReopened winner c.args.frame.now.player (mark_of c.args.level) turn
     (StandsBefore spare (place + 1)) cut b.tables in
     elim c.if-eq.branch [
       | then-eq w ↦ record {
-        spare = ap (λ (b : Board). b.spare.items) w.self-is ∙ so_far.spare;
-        winner = ap (λ (b : Board). b.winner.items) w.self-is ∙ so_far.winner;
+        spare = ap (λ (b : Board g.row.W.Denot). b.spare) w.self-is ∙ so_far.spare;
+        winner = ap (λ (b : Board g.row.W.Denot). b.winner.items) w.self-is ∙ so_far.winner;
         reopened = subst Put (sym w.self-is) (reopened_free winner c.args.frame.now.player (mark_of c.args.level) turn
             spare
             place u cut mid w.set_level.new.self at within (who ∙ eqb-true _ _ (sym c.eq.ensures ∙ w.if-eq.true))
@@ -43,8 +45,8 @@ loop-place-preserved c =
             w.set_level.ensures.trail so_far.reopened);
       }
       | else-eq+in_ok-place w ↦ record {
-        spare = ap (λ (b : Board). b.spare.items) w.self-is ∙ so_far.spare;
-        winner = ap (λ (b : Board). b.winner.items) w.self-is ∙ so_far.winner;
+        spare = ap (λ (b : Board g.row.W.Denot). b.spare) w.self-is ∙ so_far.spare;
+        winner = ap (λ (b : Board g.row.W.Denot). b.winner.items) w.self-is ∙ so_far.winner;
         reopened = subst Put (sym w.self-is) (reopened_lost winner c.args.frame.now.player (mark_of c.args.level) turn
             spare
             place u cut mid w.place.new.self at within (λ won. false≢true
@@ -54,9 +56,10 @@ loop-place-preserved c =
     ]
 
 pub returns-clause-reopened : goal.returns-clause-reopened
-returns-clause-reopened c =
-    let spare = c.take_off.new.self.spare.items in
-    let at_end : c.loop-place.place ≡ length spare = omega (arith, c.loop-place-test.false, c.len-place-end.ensures, c.loop-place.auto.place-end) in
+returns-clause-reopened g c =
+    let spare = c.take_off.new.self.spare in
+    let at_end : c.loop-place.place ≡ length spare =
+    omega (arith, c.loop-place-test.false, c.len-place-end.ensures, c.loop-place.auto.place-end) in
     let Reopened : List ℕ → Type 0 = λ ws. IsReopened ws c.args.frame.now.player (mark_of c.args.level)
     c.args.frame.now.turn
     (StandsBefore spare c.loop-place.place) c.take_off.new.self.tables c.loop-place.self.tables in

@@ -4,9 +4,9 @@ use Rattle.ps_zielonka.specs.Nests.{StandsBefore, IsReopened}
 use Rattle.ps_zielonka.proofs.board.Board.reopen.Given as goal
 
 abbrev pub invariant-loop-place : goal.invariant-loop-place
-invariant-loop-place l = record {
-  spare : l.self.spare.items ≡ l.initial.self.spare.items;
+invariant-loop-place g l = record {
+  spare : l.self.spare ≡ l.initial.self.spare;
   winner : l.self.winner.items ≡ l.initial.self.winner.items;
   reopened : IsReopened l.initial.self.winner.items l.frame.player (mark_of l.level) l.frame.turn
-      (StandsBefore l.initial.self.spare.items l.place) l.initial.self.tables l.self.tables;
+      (StandsBefore l.initial.self.spare l.place) l.initial.self.tables l.self.tables;
 }

@@ -1,9 +1,10 @@
-use Rattle.std.proofs.Common.{◌≡◌, ◌≢◌, ◌+◌, ◌%◌, ◌<◌, ℕ, List, [], ◌∷◌, ◌++◌, Bool, length, get_or, refl, subst, sym, ap, ◌∙◌, arith}
-use Rattle.std.proofs.lemmas.List.{get_or_default, length_push}
+use Rattle.std.proofs.Common.{◌≡◌, ◌+◌, ◌%◌, ◌<◌, ℕ, List, [], ◌∷◌, ◌++◌, Bool, length, get_or, refl, subst, sym, ap}
+use Rattle.std.proofs.Common.{◌∙◌, arith}
+use Rattle.std.proofs.lemmas.List.{length_push}
 use Rattle.ps_game.specs.Games.{priority_of}
 use Rattle.ps_attractor.specs.declared.aim.Aim.{Aim}
 use Rattle.ps_zielonka.specs.declared.frame.Frame.{Frame}
-use Rattle.ps_zielonka.specs.Nests.{IsNest, ArePlaced, steps_left}
+use Rattle.ps_zielonka.specs.Nests.{IsNest, steps_left}
 use Rattle.ps_zielonka.specs.Levels.{aim_of}
 use Rattle.ps_zielonka.specs.declared.level.Level.TheVariants.{Attracted}
 use Rattle.ps_zielonka.proofs.Begins.{Begun, frame_of, begun_nest, begun_falls}
@@ -18,11 +19,9 @@ returns g c =
       begin = c.placed-turn.result;
       level = Attracted c.len-depth.result;
     }) in
-    let order : List ℕ = c.args.self.now.order.items in
+    let order : List ℕ = c.args.self.now.order in
     let frames : List Frame = c.args.self.now.frames.items in
-    let Placed : List ℕ → Type 0 = λ order. ArePlaced game aim c.args.self.now.board.tables c.place_tops.new.tables order c.args.cursor c.in_ok-behind.behind in
-    let Ends : List ℕ → Type 0 = λ order. c.in_ok-behind.behind < length order → priority_of game (get_or order c.in_ok-behind.behind 0) ≢ priority_of game (get_or order c.args.cursor 0) in
-    let first : c.index.result.now ≡ get_or order c.args.cursor 0 = c.index.ensures ∙ get_or_default order c.args.cursor c.index.result.now 0 c.requires.within in
+    let first : c.at.result ≡ get_or order c.args.cursor 0 = c.at.ensures in
     let b : Begun = record {
       game = game;
       aim = aim;
@@ -45,19 +44,26 @@ returns g c =
       within = c.requires.within;
       unplaced = c.requires.unplaced;
       first = c.requires.first;
-      placed = subst Placed c.deref.ensures.value c.in_ok-behind.ensures.placed;
-      ends = subst Ends c.deref.ensures.value c.in_ok-behind.ensures.ends;
+      placed = c.in_ok-behind.ensures.placed;
+      ends = c.in_ok-behind.ensures.ends;
       fits = c.in_ok-attract.ensures.fits;
       winners = c.in_ok-attract.ensures.winners;
       grown = c.in_ok-attract.ensures.grown;
       attracted = c.in_ok-attract.ensures.attracted;
       given = c.in_ok-attract.ensures.given;
     } in
-    let pushed : c.push.new.self.items ≡ frames ++ frame_of b ∷ [] = cc (c.in_ok-push.ensures.items, c.placed-turn.ensures, c.placed-top.ensures) in
+    let pushed : c.push.new.self.items ≡ frames ++ frame_of b ∷ [] =
+    cc (c.in_ok-push.ensures.items, c.placed-turn.ensures, c.placed-top.ensures) in
     let size : length c.push.new.self.items ≡ length frames + 1 = ap length pushed ∙ length_push frames (frame_of b) in
-    let Falls : Bool → Type 0 = λ solved. steps_left c.attract.new.self.tables.level (length c.push.new.self.items) solved < steps_left c.args.self.now.board.tables.level (length frames) solved in
-    let Nest : List Frame → Type 0 = λ more. IsNest game c.attract.new.self.tables c.attract.new.self.winner.items order more c.in_ok-behind.behind c.args.self.now.solved in
-    let nest = subst Nest (sym pushed) (begun_nest b frames c.args.self.now.solved refl c.requires.searches c.requires.stack.waits c.requires.stack.rises) in
+    let Falls : Bool → Type 0 =
+    λ solved. steps_left c.attract.new.self.tables.level (length c.push.new.self.items) solved < steps_left
+    c.args.self.now.board.tables.level (length frames) solved in
+    let Nest : List Frame → Type 0 =
+    λ more. IsNest game c.attract.new.self.tables c.attract.new.self.winner.items order more c.in_ok-behind.behind
+    c.args.self.now.solved in
+    let nest =
+    subst Nest (sym pushed) (begun_nest b frames c.args.self.now.solved refl c.requires.searches
+    c.requires.stack.waits c.requires.stack.rises) in
     record {
       stack = nest;
       falls = subst Falls (sym c.requires.searches) (begun_falls b frames c.push.new.self.items refl size);

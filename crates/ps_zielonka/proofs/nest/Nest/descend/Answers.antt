@@ -1,7 +1,5 @@
-use Rattle.std.proofs.Common.{◌≢◌, ◌<◌, ◌≤◌, ℕ, List, Bool, true, length, get_or, subst, sym, arith}
-use Rattle.ps_attractor.specs.Tables.{level_of}
+use Rattle.std.proofs.Common.{◌<◌, ℕ, List, Bool, true, length, subst, sym, arith}
 use Rattle.ps_zielonka.specs.Nests.{steps_left}
-use Rattle.ps_zielonka.specs.declared.level.TheConstants.{UNPLACED}
 use Rattle.ps_zielonka.proofs.Done.{done_nest}
 use Rattle.ps_zielonka.proofs.Measure.{falls_done}
 use Rattle.ps_zielonka.proofs.Deep.{depth_done}
@@ -10,10 +8,10 @@ use Rattle.ps_zielonka.proofs.nest.Nest.descend.Goals as goal
 pub returns-else-cursor-len-clause-stack : goal.returns-else-cursor-len-clause-stack
 returns-else-cursor-len-clause-stack g c =
     let nest = c.args.self.now in
-    let order : List ℕ = nest.order.items in
-    let Placed : List ℕ → Type 0 = λ order. (j : ℕ) → nest.cursor ≤ j → j < c.first_unplaced-cursor.result → level_of nest.board.tables (get_or order j 0) ≢ UNPLACED in
-    let placed = subst Placed c.deref.ensures.value c.first_unplaced-cursor.ensures.placed in
-    done_nest (g.A.Arena.game c.args.arena.now) nest.board.tables nest.board.winner.items order nest.frames.items nest.cursor nest.solved c.requires.searches c.requires.stack
+    let order : List ℕ = nest.order in
+    let placed = c.first_unplaced-cursor.ensures.placed in
+    done_nest (g.A.Arena.game c.args.arena.now) nest.board.tables nest.board.winner.items order nest.frames.items
+    nest.cursor nest.solved c.requires.searches c.requires.stack
     (λ j after within. placed j after (omega (arith, c.len.ensures)))
 
 pub returns-else-cursor-len-clause-falls : goal.returns-else-cursor-len-clause-falls
@@ -26,9 +24,11 @@ returns-else-cursor-len-clause-falls g c =
 pub returns-else-cursor-len-clause-deep : goal.returns-else-cursor-len-clause-deep
 returns-else-cursor-len-clause-deep g c so_far =
     let nest = c.args.self.now in
-    let order : List ℕ = nest.order.items in
-    let Placed : List ℕ → Type 0 = λ order. (j : ℕ) → nest.cursor ≤ j → j < c.first_unplaced-cursor.result → level_of nest.board.tables (get_or order j 0) ≢ UNPLACED in
-    let placed = subst Placed c.deref.ensures.value c.first_unplaced-cursor.ensures.placed in
-    let done = done_nest (g.A.Arena.game c.args.arena.now) nest.board.tables nest.board.winner.items order nest.frames.items nest.cursor nest.solved c.requires.searches c.requires.stack
+    let order : List ℕ = nest.order in
+    let placed = c.first_unplaced-cursor.ensures.placed in
+    let done =
+    done_nest (g.A.Arena.game c.args.arena.now) nest.board.tables nest.board.winner.items order nest.frames.items
+    nest.cursor nest.solved c.requires.searches c.requires.stack
     (λ j after within. placed j after (omega (arith, c.len.ensures))) in
-    depth_done (g.A.Arena.game c.args.arena.now) nest.board.tables nest.board.winner.items order nest.frames.items nest.cursor nest.solved nest.depth done so_far
+    depth_done (g.A.Arena.game c.args.arena.now) nest.board.tables nest.board.winner.items order nest.frames.items
+    nest.cursor nest.solved nest.depth done so_far

@@ -10,7 +10,9 @@ use Rattle.ps_zielonka.proofs.nest.Nest.go_on.Goals as goal
 pub attract-requires-clause-fits : goal.attract-requires-clause-fits
 attract-requires-clause-fits g c =
     let game = g.A.Arena.game c.args.arena.now in
-    let waits = last_waits game c.args.self.now.board.tables c.args.self.now.board.winner.items c.args.self.now.order.items c.args.self.now.frames.items c.args.frame c.args.self.now.cursor true c.requires.nest in
+    let waits =
+    last_waits game c.args.self.now.board.tables c.args.self.now.board.winner.items c.args.self.now.order
+    c.args.self.now.frames.items c.args.frame c.args.self.now.cursor true c.requires.nest in
     fits_reopened game c.args.self.now.board.winner.items c.args.frame.player (mark_of c.args.level) c.args.frame.turn
     c.args.self.now.board.tables c.reopen.new.self.tables waits.segment.within c.requires.nest.sound.fits
     c.in_ok-reopen.ensures.reopened
@@ -21,7 +23,7 @@ returns g c =
     let frame = c.args.frame in
     let frames = c.args.self.now.frames.items in
     let cursor = c.args.self.now.cursor in
-    let order = c.args.self.now.order.items in
+    let order = c.args.self.now.order in
     let old = c.args.self.now.board.tables in
     let mid = c.reopen.new.self.tables in
     let new = c.attract.new.self.tables in

@@ -1,5 +1,6 @@
-use Rattle.std.proofs.Common.{◌≡◌, ℕ, ◌+◌, ◌*◌, ◌<◌, ◌≤◌, List, false, get_or, length, replicate, subst, sym, ap, ◌∙◌, arith}
-use Rattle.std.proofs.lemmas.List.{get_or-replicate, length-replicate}
+use Rattle.std.proofs.Common.{◌≡◌, ℕ, ◌+◌, ◌*◌, ◌<◌, ◌≤◌, List, false, get_or, length, replicate, subst, sym, ap, ◌∙◌}
+use Rattle.std.proofs.Common.{arith}
+use Rattle.std.proofs.lemmas.List.{get_or-replicate}
 use Rattle.ps_game.specs.Games.{vertex_count}
 use Rattle.ps_attractor.specs.Tables.{TablesData}
 use Rattle.ps_zielonka.specs.declared.level.TheConstants.{UNPLACED}
@@ -15,7 +16,7 @@ returns g c =
     let game = g.A.Arena.game c.args.arena.now in
     let tables = c.in_ok-tables.tables in
     let winner = c.in_ok-winner.winner.items in
-    let order = c.in_ok-order.order.items in
+    let order = c.in_ok-order.order in
     let count = c.count-count.ensures.vertices in
     let Nest : List Frame → Type 0 = λ frames. IsNest game tables winner order frames 0 false in
     let Marked : ℕ → Type 0 = λ mark. tables.level ≡ replicate c.count-count.result mark in
@@ -23,12 +24,9 @@ returns g c =
     subst Marked c.mark.ensures c.in_ok-tables.ensures.levels in
     let Levels : ℕ → Type 0 = λ n. tables.level ≡ replicate n UNPLACED in
     let Moves : ℕ → Type 0 = λ n. tables.moves ≡ replicate n 0 in
-    let winners : length winner ≡ vertex_count game = omega (arith, c.in_ok-winner.ensures.len, c.in_ok-winner.winner.ok.0, count) in
-    let few : c.tables.inside.level.cap * 8 < 9223372036854775808 = c.tables.ranges.0.1.0 in
-    let inside : length c.tables.inside.level.items ≡ length tables.level = ap (λ (t : TablesData). length t.level) c.tables.view_is in
-    let size : length tables.level ≡ c.count-count.result =
-    ap length levels ∙ length-replicate c.count-count.result UNPLACED in
-    let high : 2 * vertex_count game + 4 ≤ UNPLACED = omega (arith, c.tables.inside.level.ok.0, c.tables.inside.level.ok.1, count) in
+    let winners : length winner ≡ vertex_count game =
+    omega (arith, c.in_ok-winner.ensures.len, c.in_ok-winner.winner.ok.0, count) in
+    let high : 2 * vertex_count game + 4 ≤ UNPLACED = omega (arith, c.requires.levels, c.requires.counted) in
     let places = λ (v : ℕ) (is_vertex : v < vertex_count game). (
     let same : get_or tables.level v 0 ≡ UNPLACED =
     ap (λ xs. get_or xs v 0) levels ∙ get_or-replicate c.count-count.result v UNPLACED 0 (omega arith) in same) in
@@ -36,7 +34,11 @@ returns g c =
     let start = nest_start game tables winner order c.count-count.ensures.well_formed (subst Levels count levels)
     (subst Moves count c.in_ok-tables.ensures.moves) c.in_ok-tables.ensures.trail winners c.in_ok-order.ensures
     high in
+    let Deep : TablesData → Type 0 = λ t. IsDepthSoFar game t.level (length c.new-2.result.items) false 0 in
+    let Stack : TablesData → Type 0 = λ t. IsNest game t winner order c.new-2.result.items 0 false in
     record {
-      deep = subst Calls (sym c.new-3.ensures.items) (depth_start game tables.level places);
-      stack = subst Nest (sym c.new-3.ensures.items) start;
+      deep =
+          subst Deep (sym c.tables.view_is) (subst Calls (sym c.new-2.ensures.items)
+          (depth_start game tables.level places));
+      stack = subst Stack (sym c.tables.view_is) (subst Nest (sym c.new-2.ensures.items) start);
     }

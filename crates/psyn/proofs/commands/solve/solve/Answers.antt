@@ -11,12 +11,15 @@ returns-in_err-game g c =
     let b = c.args.solver.now in
     let s = goal.Solver-dyn g (b.vtable, b.value) in
     let solver : SolverData = solver_of (s.is_sure b.value) (s.fed b.value) (s.may_answer b.value) in
-    gives_passed reply_of (AnswersSolve solver c.args.compact c.args.text.now) c.from_residual.result c.in_err-game.field-0.0 c.from_residual.ensures.1
-    (gives_failed (λ (x : NamedGameData). x) (ReadsGameText c.args.text.now) reply_of (AnswersGame solver c.args.compact) c.in_err-game.field-0.0 c.in_err-game.ensures)
+    gives_passed reply_of (AnswersSolve solver c.args.compact c.args.text.now) c.from_residual.result
+    c.in_err-game.field-0.0 c.from_residual.ensures.1
+    (gives_failed (λ (x : NamedGameData). x) (ReadsGameText c.args.text.now) reply_of
+    (AnswersGame solver c.args.compact) c.in_err-game.field-0.0 c.in_err-game.ensures)
 
 pub returns : goal.returns
 returns g c =
     let b = c.args.solver.now in
     let s = goal.Solver-dyn g (b.vtable, b.value) in
     let solver : SolverData = solver_of (s.is_sure b.value) (s.fed b.value) (s.may_answer b.value) in
-    gives_after (ReadsGameText c.args.text.now) reply_of (AnswersGame solver c.args.compact) c.in_ok-game.game c.certify.result c.in_ok-game.ensures c.certify.ensures
+    gives_after (ReadsGameText c.args.text.now) reply_of (AnswersGame solver c.args.compact) c.in_ok-game.game
+    c.certify.result c.in_ok-game.ensures c.certify.ensures

@@ -25,18 +25,24 @@ returns-in_err-report g c =
     let asked = c.args.asked in
     let text = c.args.text.now in
     let fault = c.in_err-report.field-0.0 in
-    let Prints : Report → Result Reply (List ℕ) → Type 0 = λ report outcome. outcome ≡ Ok (report_reply asked.full report) in
-    gives_handed reply_of (AnswersReport solver asked c.args.text.now) c.from_residual.result (IsTold fault) c.from_residual.ensures.1
-    (λ (refused : Refusal) told. gives_failed (λ (x : Report). x) (Synthesises solver asked.order asked.compact c.args.text.now) reply_of Prints refused
-    (gives_told solver asked.order asked.compact text fault refused (fault_more both may (λ game answer h. h.0) asked.order text fault c.in_err-report.ensures.refused)
-    (λ sure file accepted. outcome_more both may (λ game answer h. h.0) asked.order text asked.compact (Err fault) (c.in_err-report.ensures.sure sure file accepted)) told))
+    let Prints : Report → Result Reply (List ℕ) → Type 0 =
+    λ report outcome. outcome ≡ Ok (report_reply asked.full report) in
+    gives_handed reply_of (AnswersReport solver asked c.args.text.now) c.from_residual.result (IsTold fault)
+    c.from_residual.ensures.1
+    (λ (refused : Refusal) told. gives_failed (λ (x : Report). x)
+    (Synthesises solver asked.order asked.compact c.args.text.now) reply_of Prints refused
+    (gives_told solver asked.order asked.compact text fault refused
+    (fault_more both may (λ game answer h. h.0) asked.order text fault c.in_err-report.ensures.refused)
+    (λ sure file accepted. outcome_more both may (λ game answer h. h.0) asked.order text asked.compact (Err fault)
+    (c.in_err-report.ensures.sure sure file accepted)) told))
 
 pub returns-in_err-print : goal.returns-in_err-print
 returns-in_err-print g c =
     let b = c.args.solver.now in
     let s = goal.Solver-dyn g (b.vtable, b.value) in
     let solver : SolverData = solver_of (s.is_sure b.value) (s.fed b.value) (s.may_answer b.value) in
-    gives_passed reply_of (AnswersReport solver c.args.asked c.args.text.now) c.from_residual-in_err-print.result refusal.OutOfMemory c.from_residual-in_err-print.ensures.1 tt
+    gives_passed reply_of (AnswersReport solver c.args.asked c.args.text.now) c.from_residual-in_err-print.result
+    refusal.OutOfMemory c.from_residual-in_err-print.ensures.1 tt
 
 pub returns : goal.returns
 returns g c =
@@ -49,6 +55,7 @@ returns g c =
     let report = c.in_ok-report.report in
     inr (
       report,
-      report_more (Answered may (t.gave d.value)) may (λ game answer h. h.0) asked.order c.args.text.now asked.compact report c.in_ok-report.ensures.report,
+      report_more (Answered may (t.gave d.value)) may (λ game answer h. h.0) asked.order c.args.text.now asked.compact
+          report c.in_ok-report.ensures.report,
       ap Ok c.in_ok-print.ensures,
     )

@@ -17,7 +17,9 @@ returns g c =
     let asked = c.args.asked in
     let text = c.in_ok-text.text.now in
     let certificate = c.in_ok-text.certificate.now in
-    gives_after (CutsInTwo c.args.texts.now) reply_of (λ (parts : List ℕ × List ℕ). AnswersReport (feed parts.1 solver) asked parts.0) (text, certificate) c.report.result
+    gives_after (CutsInTwo c.args.texts.now) reply_of (λ (parts : List ℕ × List ℕ).
+    AnswersReport (feed parts.1 solver) asked parts.0) (text, certificate) c.report.result
     c.in_ok-text.ensures
-    (gives_fed (s.is_sure b.value) (t.is_sure d.value) (fed_with certificate (s.fed b.value)) (t.fed d.value) (s.may_answer b.value) (t.may_answer d.value) c.feed.ensures.steady
+    (gives_fed (s.is_sure b.value) (t.is_sure d.value) (fed_with certificate (s.fed b.value)) (t.fed d.value)
+    (s.may_answer b.value) (t.may_answer d.value) c.feed.ensures.steady
     c.in_ok-feed.ensures.fed c.feed.ensures.same asked text c.report.result c.report.ensures)

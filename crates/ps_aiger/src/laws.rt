@@ -1,0 +1,21 @@
+//! Laws on the definitions.
+
+ghost use Rattle.std.specs.Prelude.{◌≡◌};
+ghost use Rattle.ps_machine.specs.Behaviours.{Behaviour, IsMachine};
+ghost use Rattle.ps_machine.specs.Behaving.{BehavesAs};
+ghost use Rattle.ps_circuit.specs.Circuits.{CircuitData};
+ghost use Rattle.ps_aiger.specs.Encoded.{Encodes, IsTidy};
+ghost use Rattle.ps_aiger.specs.Wires.{IsOutOfLiterals, IsWired};
+
+/// Machines that do the same have one circuit at most: any two of them are equal, in all that is printed.
+pub fn one_circuit()
+    ensures { (b o : Behaviour) (c d : CircuitData) → IsMachine b → BehavesAs b o → Encodes b c →
+        IsTidy c → IsWired b c →
+        Encodes o d → IsTidy d → IsWired o d → c ≡ d }
+{}
+
+/// A circuit has a literal for each variable: a machine whose gates need too many has none.
+pub fn circuit_has_literals()
+    ensures { (b o : Behaviour) (c : CircuitData) → IsMachine b → BehavesAs b o → Encodes b c → IsTidy c → IsWired b c →
+        ¬ IsOutOfLiterals o }
+{}

@@ -1,0 +1,134 @@
+-- A run of bytes has an outcome from each list of signs: what its first sign sees judges it.
+--     has_run      the outcome, where the run's bytes are judged
+--     run_of      the longest run that a list begins with
+use Rattle.std.proofs.Common.{◌≡◌, ℕ, ◌+◌, Bool, true, false, List, [], ◌∷◌, ◌++◌, length, Option, None, Some, refl}
+use Rattle.std.proofs.Common.{sym, ap, subst, ◌∙◌, arith}
+use Rattle.std.specs.List.{AllByRecursion}
+use Rattle.ps_text.specs.Answers.{first_of}
+use Rattle.ps_text.specs.Parts.{IsRead, is_cause, CleanUpTo, StopsAt}
+use Rattle.ps_text.specs.Outcomes.{Outcome, was_read, has_fault, HasOutcomes}
+use Rattle.ps_text.proofs.Outcomes.{Judged, bad, good, has_refusal}
+use Rattle.ps_text.proofs.Simple.{none_is_some, same_some}
+use Rattle.ps_text.proofs.Splits.{same_head}
+use Rattle.ps_circuit.specs.declared.fault.AigCause.{AigCause}
+use Rattle.ps_circuit.specs.Causes.{cause_number}
+use Rattle.ps_circuit.specs.Signs.{Seen, bytes_of, aig_causes, Field, AllOf, StopsBefore, BeginsRun, IsBadRun, run}
+use Rattle.ps_circuit.proofs.Runs.{bytes_append, all_left, all_right, same_run, laws_run}
+
+abbrev pub Has : {V : Type 0} → Field V → Type 0
+Has part = HasOutcomes aig_causes part
+
+-- the longest beginning whose items pass
+pub record Spanned {X : Type 0} (q : X → Bool) (xs : List X) : Type 0 where
+  pub text : List X
+  pub rest : List X
+  pub split : xs ≡ text ++ rest
+  pub all : AllByRecursion (λ x. q x ≡ true) text
+  pub longest : (x : X) → first_of rest ≡ Some x → q x ≡ false
+
+pub run_of : {X : Type 0} (q : X → Bool) (xs : List X) → Spanned q xs
+run_of q [] = record { text = []; rest = []; split = refl; all = tt; longest = λ x e. absurd (none_is_some x e) }
+run_of {X} q (x ∷ xs) = go (q x) refl (run_of q xs)
+  where
+    go : (b : Bool) → q x ≡ b → Spanned q xs → Spanned q (x ∷ xs)
+    go true e s = record {
+      text = x ∷ s.text;
+      rest = s.rest;
+      split = ap (λ z. x ∷ z) s.split;
+      all = (e, s.all);
+      longest = s.longest;
+    }
+    go false e s = record
+        { text = []; rest = x ∷ xs; split = refl; all = tt; longest = λ y i. ap q (sym (same_some x y i)) ∙ e }
+
+all_bytes : (p : ℕ → Bool) (text : List Seen) → AllByRecursion (λ (s : Seen). p s.byte ≡ true) text →
+    AllOf p (bytes_of text)
+all_bytes p [] h = tt
+all_bytes p (s ∷ text) h = (h.0, all_bytes p text h.1)
+
+pub stops_bytes : (p : ℕ → Bool) (bytes : List ℕ) → ((b : ℕ) → first_of bytes ≡ Some b → p b ≡ false) →
+    StopsBefore p bytes
+stops_bytes p [] h = tt
+stops_bytes p (b ∷ bytes) h = h b refl
+
+module _ {V : Type 0} (p : ℕ → Bool) (see : ℕ → List ℕ → V) (Bad : List ℕ → AigCause → Type 0) where
+  -- a byte that passes comes first
+  module _ (t : Seen) (after : List Seen) (passes : p t.byte ≡ true) where
+    abbrev seen : Spanned p t.behind
+    seen = run_of p t.behind
+
+    abbrev whole : List ℕ
+    whole = t.byte ∷ seen.text
+
+    begins : BeginsRun p whole (t.byte ∷ t.behind)
+    begins = record {
+      rest = seen.rest;
+      split = ap (λ z. t.byte ∷ z) seen.split;
+      some = omega arith;
+      all = (passes, seen.all);
+      longest = stops_bytes p seen.rest seen.longest;
+    }
+
+    bad_is : (f : AigCause) → IsBadRun p Bad t f → Bad whole f
+    bad_is f b = subst (λ z. Bad z f)
+        (same_run p b.run whole b.begins.rest begins.rest (sym b.begins.split ∙ begins.split) b.begins.all begins.all
+        b.begins.longest begins.longest) b.bad
+
+    abbrev taken : Spanned (λ (s : Seen). p s.byte) after
+    taken = run_of (λ s. p s.byte) after
+
+    abbrev text : List Seen
+    text = t ∷ taken.text
+
+    stops : (there : Option Seen) → ((s : Seen) → there ≡ Some s → p s.byte ≡ false) →
+        StopsAt (run p see Bad) text there
+    stops None h = tt
+    stops (Some c) h = λ b.
+        let one : AllOf p (bytes_of (text ++ c ∷ []) ++ bytes_of b.more) = subst (AllOf p)
+        (bytes_append (text ++ c ∷ []) b.more) b.is_text.all in
+        let two : AllOf p (bytes_of text ++ c.byte ∷ []) = subst (AllOf p) (bytes_append text (c ∷ []))
+        (all_left p (bytes_of (text ++ c ∷ [])) (bytes_of b.more) one) in
+        let three : p c.byte ≡ true = (all_right p (bytes_of text) (c.byte ∷ []) two).0 in
+        let four : p c.byte ≡ false = h c refl in
+        absurd cc
+
+    clean : ((f : AigCause) → Bad whole f → ⊥) → CleanUpTo (run p see Bad) (t ∷ after) (length text + 1)
+    clean right front more u f e n c = right f
+        (bad_is f (subst (λ s. IsBadRun p Bad s f) (sym (same_head t u after more (e ∙ ap (λ z. z ++ u ∷ more) c.0)))
+        c.1))
+
+    run_read : ((f : AigCause) → Bad whole f → ⊥) →
+        IsRead (run p see Bad) (t ∷ after) (see t.at (bytes_of text)) taken.rest
+    run_read right = record {
+      text = text;
+      split = ap (λ z. t ∷ z) taken.split;
+      is_text = record { some = omega arith; all = (passes, all_bytes p taken.text taken.all); value = refl };
+      stops = stops (first_of taken.rest) taken.longest;
+      clean = clean right;
+    }
+
+    judged : Judged cause_number (Bad whole) → Outcome aig_causes (run p see Bad) (t ∷ after)
+    judged (bad f b least) = has_fault f (t ∷ after) (record {
+      front = [];
+      split = refl;
+      clean = λ front rest u g e n c. absurd (omega (arith, n));
+      fault = is_cause t refl (refl, record { run = whole; begins = begins; bad = b }) (λ g c. least g (bad_is g c.1));
+    })
+    judged (good right) = was_read _ _ (run_read right)
+
+  -- b is any byte that passes
+  pub has_run : (b : ℕ) → p b ≡ true → ((bytes : List ℕ) → Judged cause_number (Bad bytes)) → Has (run p see Bad)
+  has_run b e judge = record { outcome = go }
+    where
+      at_sign : (t : Seen) (after : List Seen) (c : Bool) → p t.byte ≡ c →
+          Outcome aig_causes (run p see Bad) (t ∷ after)
+      at_sign t after true x = judged t after x (judge (whole t after x))
+      at_sign t after false x = has_refusal aig_causes (laws_run p see Bad b e) (t ∷ after)
+          (λ u i h. true_false (sym (ap (λ (s : Seen). p s.byte) (same_some t u i) ∙ h) ∙ x))
+        where
+          true_false : true ≡ false → ⊥
+          true_false y = let z : true ≡ false = y in cc
+
+      go : (all : List Seen) → Outcome aig_causes (run p see Bad) all
+      go [] = has_refusal aig_causes (laws_run p see Bad b e) [] (λ u i h. none_is_some u i)
+      go (t ∷ after) = at_sign t after (p t.byte) refl

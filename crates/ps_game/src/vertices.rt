@@ -1,0 +1,290 @@
+//! Vertices in arrays, put one behind the other: what a reader of games makes.
+
+ghost use Rattle.std.specs.Prelude.{◌≡◌, ◌≢◌, ◌==◌, ◌<◌, ◌≤◌, ◌+◌, ◌++◌, ◌∷◌, [], IfOk, OnOk, OnErr, Contains, length};
+ghost use Rattle.std.specs.Prelude.{map, take, vec_len, vec_capacity};
+ghost use Rattle.std.specs.Bool.{OnTrue};
+ghost use Rattle.std.specs.List.{All, AllPairs, list_all, list_any};
+ghost use Rattle.ps_ids.specs.Ids.{place_of};
+ghost use Rattle.ps_game.specs.Games.{ParityGame, IsGame, vertex_count, successors_of};
+ghost use Rattle.ps_game.specs.Drafts.{without_repeats, with_places, NoneBare, NoneUnknown, HaveNoRepeats};
+ghost use Rattle.ps_game.specs.Flat.{game_in, AreVertices};
+
+use crate::builder::{Vertex, distinct_game, listed_vertex};
+use crate::flat::FlatGame;
+use crate::games::Game;
+use crate::numbers::Numbers;
+use ps_ids::Ids;
+use std::alloc::{AllocError, Global};
+use std::marker::Model;
+
+/// Vertices in order, each with any numbers as successors, kept in four arrays: 17 bytes for each vertex and 8 for each
+/// successor.
+#[derive(Drop)]
+pub struct Vertices {
+    offsets: Vec<usize>,
+    successors: Vec<usize>,
+    owners: Vec<u8>,
+    priorities: Vec<u64>,
+}
+
+impl Model for Vertices {
+    ghost Value = { ParityGame };
+
+    ghost view = { λ v. game_in v.offsets.items v.successors.items v.owners.items v.priorities.items };
+
+    ghost invariant = { λ v. AreVertices v.offsets.items v.successors.items v.owners.items v.priorities.items };
+}
+
+#[tactic(auto, unfolding(crate::specs::Games::vertex_count, crate::specs::Games::successors_of))]
+impl Vertices {
+    /// No vertices.
+    ///
+    /// # Errors
+    ///
+    /// Fails where a growth was refused.
+    pub fn new(alloc: Global) -> Result<Self, AllocError>
+        ensures { IfOk result (λ vertices. vertices ≡ []) }
+    {
+        let mut offsets = Vec::new(alloc);
+        offsets.push(0)?;
+        Ok(Vertices {
+            offsets,
+            successors: Vec::new(alloc),
+            owners: Vec::new(alloc),
+            priorities: Vec::new(alloc),
+        })
+    }
+
+    /// How many vertices there are.
+    pub fn len(&self) -> usize
+        ensures { result ≡ length self.now }
+    {
+        self.owners.len()
+    }
+
+    /// Puts a vertex of an owner, 0 or 1, behind the others. For want of memory they stay as they were.
+    ///
+    /// # Errors
+    ///
+    /// Fails where a growth was refused.
+    pub fn push(&mut self, owner: u8, priority: u64, successors: &[usize]) -> Result<(), AllocError>
+        requires { owner < 2 }
+        ensures ok { OnOk result (self.new ≡ self.old ++ record {
+          owner = owner;
+          priority = priority;
+          successors = successors.now;
+        } ∷ []) }
+        ensures err { OnErr result (self.new ≡ self.old) }
+    {
+        make_room(
+            &mut self.offsets,
+            &mut self.owners,
+            &mut self.priorities,
+            &mut self.successors,
+            successors.len(),
+        )?;
+        put_all(&mut self.successors, successors);
+        let end = self.successors.len();
+        self.offsets.push_reserved(end);
+        self.owners.push_reserved(owner);
+        self.priorities.push_reserved(priority);
+        Ok(())
+    }
+
+    /// Keeps so many vertices, and drops the rest.
+    pub fn truncate(&mut self, count: usize)
+        ensures { self.new ≡ take count self.old }
+    {
+        if count >= self.owners.len() {
+            return;
+        }
+        let end = self.offsets[count];
+        self.offsets.truncate(count + 1);
+        self.successors.truncate(end);
+        self.owners.truncate(count);
+        self.priorities.truncate(count);
+    }
+
+    /// Whether each successor is one of these ids.
+    pub fn know_successors(&self, ids: &Ids) -> bool
+        ensures { result ≡ list_all (λ v. list_all (λ w. list_any (λ id. w == id) ids.now) v.successors) self.now }
+    {
+        are_ids(ids, &self.successors)
+    }
+
+    /// Puts the place of each successor, which is an id, where the id stands.
+    pub fn resolve(&mut self, ids: &Ids)
+        requires { All (λ v. All (λ w. Contains ids.now w) v.successors) self.old }
+        ensures { self.new ≡ map (with_places ids.now) self.old }
+    {
+        places_in(&mut self.successors, ids);
+    }
+
+    /// The game of these vertices, in which a repeated successor counts once, at its first place.
+    ///
+    /// # Errors
+    ///
+    /// Fails where a growth was refused.
+    pub fn into_game(self, alloc: Global) -> Result<Game, AllocError>
+        requires bare { NoneBare self }
+        requires known { NoneUnknown self }
+        ensures { IfOk result (λ game. game ≡ without_repeats self) }
+    {
+        if self.are_distinct() {
+            return Ok(self.as_game());
+        }
+        let listed = self.listed(alloc)?;
+        distinct_game(alloc, listed)
+    }
+
+    /// The game of these vertices.
+    pub(crate) fn as_game(self) -> Game
+        requires { IsGame self }
+        ensures { result ≡ self }
+    {
+        let Vertices {
+            offsets,
+            successors,
+            owners,
+            priorities,
+        } = self;
+        Game {
+            flat: FlatGame {
+                offsets: Numbers::of(offsets),
+                successors: Numbers::of(successors),
+                owners,
+                priorities,
+            },
+        }
+    }
+
+    /// The successors of a vertex.
+    fn successors(&self, vertex: usize) -> &[usize]
+        requires { vertex < vertex_count self.now }
+        ensures { result.now ≡ successors_of self.now vertex }
+    {
+        let start = self.offsets[vertex];
+        let end = self.offsets[vertex + 1];
+        let (_, behind) = self.successors.split_at(start);
+        let (own, _) = behind.split_at(end - start);
+        own
+    }
+
+    /// Whether it is seen at once that no vertex has a successor twice.
+    fn are_distinct(&self) -> bool
+        ensures { OnTrue result (HaveNoRepeats self.now) }
+    {
+        for vertex in 0..self.len() {
+            if !are_different(self.successors(vertex)) {
+                return false;
+            }
+        }
+        true
+    }
+
+    /// The same vertices, each with a list of its own.
+    fn listed(&self, alloc: Global) -> Result<Vec<Vertex>, AllocError>
+        ensures { IfOk result (λ vertices. vertices.items ≡ self.now) }
+    {
+        let mut vertices = Vec::new(alloc);
+        for vertex in 0..self.len() {
+            let listed = listed_vertex(
+                alloc,
+                self.owners[vertex],
+                self.priorities[vertex],
+                self.successors(vertex),
+            )?;
+            vertices.push(listed)?;
+        }
+        Ok(vertices)
+    }
+}
+
+/// Makes room for one more vertex of so many successors.
+fn make_room(
+    offsets: &mut Vec<usize>,
+    owners: &mut Vec<u8>,
+    priorities: &mut Vec<u64>,
+    successors: &mut Vec<usize>,
+    degree: usize,
+) -> Result<(), AllocError>
+    ensures offsets { offsets.new.items ≡ offsets.old.items }
+    ensures owners { owners.new.items ≡ owners.old.items }
+    ensures priorities { priorities.new.items ≡ priorities.old.items }
+    ensures successors { successors.new.items ≡ successors.old.items }
+    ensures offset { OnOk result (vec_len offsets.new < vec_capacity offsets.new) }
+    ensures owner { OnOk result (vec_len owners.new < vec_capacity owners.new) }
+    ensures priority { OnOk result (vec_len priorities.new < vec_capacity priorities.new) }
+    ensures more { OnOk result (vec_len successors.new + degree ≤ vec_capacity successors.new) }
+{
+    offsets.reserve(1)?;
+    owners.reserve(1)?;
+    priorities.reserve(1)?;
+    successors.reserve(degree)
+}
+
+/// Puts numbers at the end of others, where there is room.
+fn put_all(numbers: &mut Vec<usize>, more: &[usize])
+    requires { vec_len numbers.old + length more.now ≤ vec_capacity numbers.old }
+    ensures { numbers.new.items ≡ numbers.old.items ++ more.now }
+{
+    for number in more {
+        numbers.push_reserved(*number);
+    }
+}
+
+/// Whether each number of a list is one of the ids.
+fn are_ids(ids: &Ids, list: &[usize]) -> bool
+    ensures { result ≡ list_all (λ w. list_any (λ id. w == id) ids.now) list.now }
+{
+    list.iter().all(|id| ids.has(*id as u64))
+}
+
+/// Puts the place of each id where the id stands.
+fn places_in(numbers: &mut [usize], ids: &Ids)
+    requires { All (λ id. Contains ids.now id) numbers.old }
+    ensures { numbers.new ≡ map (place_of ids.now) numbers.old }
+{
+    for at in 0..numbers.len() {
+        let place = ids.place(numbers[at] as u64).unwrap();
+        numbers[at] = place;
+    }
+}
+
+/// So many numbers are compared with one another.
+const FEW: usize = 8;
+
+/// Whether it is seen at once that no number stands in a list twice: few are compared with one another, more must rise.
+fn are_different(numbers: &[usize]) -> bool
+    ensures { OnTrue result (AllPairs (λ x y. x ≢ y) numbers.now) }
+{
+    if numbers.len() <= FEW {
+        have_no_repeat(numbers)
+    } else {
+        are_rising(numbers)
+    }
+}
+
+/// Whether no number stands in a list twice.
+fn have_no_repeat(numbers: &[usize]) -> bool
+    ensures { OnTrue result (AllPairs (λ x y. x ≢ y) numbers.now) }
+{
+    for place in 0..numbers.len() {
+        if numbers[..place].contains(&numbers[place]) {
+            return false;
+        }
+    }
+    true
+}
+
+/// Whether each number is below the next one.
+fn are_rising(numbers: &[usize]) -> bool
+    ensures { OnTrue result (AllPairs (λ x y. x ≢ y) numbers.now) }
+{
+    for place in 1..numbers.len() {
+        if numbers[place] <= numbers[place - 1] {
+            return false;
+        }
+    }
+    true
+}

@@ -1,0 +1,5 @@
+use Rattle.ps_machine.proofs.OneMachine.{one_machine}
+use Rattle.ps_machine.proofs.laws.one_machine.Goals as goal
+
+pub returns : goal.returns
+returns c = one_machine

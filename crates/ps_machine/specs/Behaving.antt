@@ -1,0 +1,16 @@
+-- When two machines do the same.
+--     BehavesAs b c      they have the same propositions and player; and at each memory, whatever is read,
+--               the same memory comes
+--                        next, and the same letter is played
+use Rattle.std.specs.Prelude.{◌≡◌, ℕ, ◌<◌}
+use Rattle.ps_machine.specs.Behaviours.{Behaviour}
+
+pub record BehavesAs (b c : Behaviour) : Type 0 where
+  pub names : b.names ≡ c.names
+  pub inputs : b.inputs ≡ c.inputs
+  pub outputs : b.outputs ≡ c.outputs
+  pub player : b.player ≡ c.player
+  pub is_first : b.is_first ≡ c.is_first
+  pub memories : b.memories ≡ c.memories
+  pub next : (memory x : ℕ) → memory < b.memories → b.next memory x ≡ c.next memory x
+  pub plays : (memory x : ℕ) → memory < b.memories → b.plays memory x ≡ c.plays memory x

@@ -1,0 +1,355 @@
+-- Chains of cells that hold counts: with one more cell, and as rows.
+use Rattle.std.proofs.Common.{◌≡◌, ◌≢◌, ℕ, zero, suc, ◌+◌, ◌-◌, ◌<◌, ◌≤◌, ◌==◌, ◌∙◌, ◌++◌, ◌∷◌, [], List, length, map}
+use Rattle.std.proofs.Common.{max, get_or, inl, inr, refl, sym, ap, subst, add-one, arith, Option, None, Some, cond}
+use Rattle.std.proofs.Common.{replicate}
+use Rattle.std.specs.Prelude.{slice_get, slice_index, slice_set}
+use Rattle.std.proofs.Math.Nat.{zero-max}
+use Rattle.std.proofs.lemmas.Bool.{cases_eq, cases_lt, ne_eqb, eq-eqb}
+use Rattle.std.proofs.lemmas.List.{get_or_past, get_or-set_same, get_or-set_other, length-map, length-set, length_push}
+use Rattle.std.proofs.lemmas.List.{get_or-map, get_or-replicate, length-replicate}
+use Rattle.std.proofs.lemmas.List.FromFn.{fill_by_all, get_or-map-range_with_len, length-map-range_with_len}
+use Rattle.std.proofs.lemmas.Option.{slice_get-get_or, slice_get_past}
+use Rattle.ps_components.proofs.Places.{slice_get-append_left, slice_get-push, slice_get-push_cases}
+use Rattle.ps_measure.specs.declared.table.CountCell.{CountCell}
+use Rattle.ps_measure.specs.Ranks.{count_of, count_in, width_of, width_in}
+use Rattle.ps_measure.specs.Tables.{next_of, count_here, count_from, row_from, rows_in, AreChained, AreHeaded, AreZero}
+use Rattle.ps_measure.specs.Tables.{HasPut}
+
+get_or-replicate_zero : (count v : ℕ) → slice_index (replicate count 0) v ≡ 0
+get_or-replicate_zero count v = elim (cases_lt v count) [
+  | inl less ↦ get_or-replicate count v 0 0 less
+  | inr more ↦ get_or_past (replicate count 0) v 0 (omega (arith, length-replicate {A = ℕ} count 0, more))
+]
+
+pub from_none : (cells : List CountCell) (fuel k : ℕ) → count_from cells fuel zero k ≡ 0
+unfolding count_from
+from_none cells zero k = refl
+from_none cells (suc fuel) k = refl
+
+no_fuel : (cells : List CountCell) (n k : ℕ) → count_from cells zero n k ≡ 0
+unfolding count_from
+no_fuel cells n k = refl
+
+from_cell : (cells : List CountCell) (fuel i k : ℕ) (o : Option CountCell) → slice_get cells i ≡ o →
+    count_from cells (suc fuel) (suc i) k ≡ max (count_here o k) (count_from cells fuel (next_of o) k)
+unfolding count_from
+from_cell cells fuel i k o is = ap (λ p. max (count_here p k) (count_from cells fuel (next_of p) k)) is
+
+next_falls : (cells : List CountCell) → ((i : ℕ) (cell : CountCell) → slice_get cells i ≡ Some cell → cell.next ≤ i) →
+    (i : ℕ) (o : Option CountCell) → slice_get cells i ≡ o → next_of o ≤ i
+next_falls cells falls i None is = omega arith
+next_falls cells falls i (Some cell) is = falls i cell is
+
+module _ (cells : List CountCell)
+    (falls : (i : ℕ) (cell : CountCell) → slice_get cells i ≡ Some cell → cell.next ≤ i) where
+  -- a bound on the cells may be greater
+  pub any_fuel : (f g n k : ℕ) → n ≤ f → n ≤ g → count_from cells f n k ≡ count_from cells g n k
+  any_fuel f g zero k a b = from_none cells f k ∙ sym (from_none cells g k)
+  any_fuel zero g (suc i) k a b = absurd (omega arith)
+  any_fuel (suc f) zero (suc i) k a b = absurd (omega arith)
+  any_fuel (suc f) (suc g) (suc i) k a b =
+      let less = next_falls cells falls i (slice_get cells i) refl in
+      let rest = any_fuel f g (next_of (slice_get cells i)) k (omega (arith, less, a)) (omega (arith, less, b)) in
+      from_cell cells f i k (slice_get cells i) refl
+      ∙ ap (max (count_here (slice_get cells i) k)) rest
+      ∙ sym (from_cell cells g i k (slice_get cells i) refl)
+
+  -- the cell of a number, and those behind it
+  pub from_number : (i k : ℕ) (cell : CountCell) → slice_get cells i ≡ Some cell →
+      count_from cells (suc i) (suc i) k ≡ max (count_here (Some cell) k) (count_from cells cell.next cell.next k)
+  from_number i k cell at =
+      from_cell cells i i k (Some cell) at
+      ∙ ap (max (count_here (Some cell) k)) (any_fuel i cell.next cell.next k (falls i cell at) (omega arith))
+
+  -- one more cell leaves the chains that were there
+  pub from_longer : (cell : CountCell) (f n k : ℕ) → n ≤ length cells →
+      count_from (cells ++ cell ∷ []) f n k ≡ count_from cells f n k
+  from_longer cell f zero k within = from_none (cells ++ cell ∷ []) f k ∙ sym (from_none cells f k)
+  from_longer cell zero (suc i) k within =
+      no_fuel (cells ++ cell ∷ []) (suc i) k ∙ sym (no_fuel cells (suc i) k)
+  from_longer cell (suc f) (suc i) k within =
+      let old = get_or cells i cell in
+      let at : slice_get cells i ≡ Some old = slice_get-get_or cells i cell (omega arith) in
+      let less = falls i old at in
+      let rest = from_longer cell f old.next k (omega (arith, less, within)) in
+      from_cell (cells ++ cell ∷ []) f i k (Some old) (slice_get-append_left cells (cell ∷ []) i old at)
+      ∙ ap (max (count_here (Some old) k)) rest
+      ∙ sym (from_cell cells f i k (Some old) at)
+
+  -- the chain that begins with the new cell
+  pub from_new : (cell : CountCell) (k : ℕ) → cell.next ≤ length cells →
+      count_from (cells ++ cell ∷ []) (suc (length cells)) (suc (length cells)) k
+      ≡ max (count_here (Some cell) k) (count_from cells cell.next cell.next k)
+  from_new cell k within =
+      from_cell (cells ++ cell ∷ []) (length cells) (length cells) k (Some cell) (slice_get-push cells cell)
+      ∙ ap (max (count_here (Some cell) k))
+      (from_longer cell (length cells) cell.next k within
+      ∙ any_fuel (length cells) cell.next cell.next k within (omega arith))
+
+-- ---- one cell of a chain, taken into a row
+
+abbrev pub cell_at : List CountCell → ℕ → CountCell
+cell_at cells n = get_or cells (n - 1) (record { place = 0; count = 0; next = 0 })
+
+module _ (width : ℕ) (cells : List CountCell) (chained : AreChained width cells) (n : ℕ) (some : 0 < n)
+    (first : n ≤ length cells) where
+  there : slice_get cells (n - 1) ≡ Some (cell_at cells n)
+  there = slice_get-get_or cells (n - 1) (record { place = 0; count = 0; next = 0 }) (omega (arith, some, first))
+
+  pub next_below : (cell_at cells n).next < n
+  next_below = omega (arith, some, chained.falls (n - 1) (cell_at cells n) there)
+
+  pub place_below : (cell_at cells n).place < width
+  place_below = chained.places (n - 1) (cell_at cells n) there
+
+  here_and_behind : (k : ℕ) →
+      count_from cells n n k
+      ≡ max (count_here (Some (cell_at cells n)) k) (count_from cells (cell_at cells n).next (cell_at cells n).next k)
+  here_and_behind k =
+      let number : suc (n - 1) ≡ n = omega (arith, some) in
+      subst (λ m. count_from cells m m k ≡ max (count_here (Some (cell_at cells n)) k)
+      (count_from cells (cell_at cells n).next (cell_at cells n).next k)) number
+      (from_number cells chained.falls (n - 1) k (cell_at cells n) there)
+
+  -- another place has no count here
+  elsewhere : (k : ℕ) → k ≢ (cell_at cells n).place →
+      count_from cells n n k ≡ count_from cells (cell_at cells n).next (cell_at cells n).next k
+  elsewhere k apart =
+      here_and_behind k
+      ∙ ap (λ b. max (cond b (cell_at cells n).count 0)
+      (count_from cells (cell_at cells n).next (cell_at cells n).next k))
+      (ne_eqb (cell_at cells n).place k (λ e. apart (sym e)))
+      ∙ zero-max (count_from cells (cell_at cells n).next (cell_at cells n).next k)
+
+  at_place : (k : ℕ) → k ≡ (cell_at cells n).place →
+      count_from cells n n k
+      ≡ max (cell_at cells n).count (count_from cells (cell_at cells n).next (cell_at cells n).next k)
+  at_place k same =
+      here_and_behind k
+      ∙ ap (λ b. max (cond b (cell_at cells n).count 0)
+      (count_from cells (cell_at cells n).next (cell_at cells n).next k))
+      (eq-eqb (cell_at cells n).place k (sym same))
+
+  module _ (row : List ℕ) where
+    abbrev behind : ℕ → ℕ
+    behind k = count_from cells (cell_at cells n).next (cell_at cells n).next k
+
+    pub row_raised : slice_index row (cell_at cells n).place < (cell_at cells n).count → length row ≡ width → (k : ℕ) →
+        max (slice_index (slice_set row (cell_at cells n).place (cell_at cells n).count) k) (behind k)
+        ≡ max (slice_index row k) (count_from cells n n k)
+    row_raised less long k = elim (cases_eq k (cell_at cells n).place) [
+      | inl same ↦
+          let new : slice_index (slice_set row (cell_at cells n).place (cell_at cells n).count) k ≡
+          (cell_at cells n).count =
+          ap (slice_index (slice_set row (cell_at cells n).place (cell_at cells n).count)) same
+          ∙ get_or-set_same row (cell_at cells n).place (cell_at cells n).count 0 (omega (arith, long, place_below)) in
+          let old : slice_index row k ≡ slice_index row (cell_at cells n).place = ap (slice_index row) same in
+          omega (arith, new, old, less, at_place k same)
+      | inr apart ↦
+          let new : slice_index (slice_set row (cell_at cells n).place (cell_at cells n).count) k ≡ slice_index row k =
+          get_or-set_other row (cell_at cells n).place k (cell_at cells n).count 0 apart in
+          omega (arith, new, elsewhere k apart)
+    ]
+
+    pub row_stays : (cell_at cells n).count ≤ slice_index row (cell_at cells n).place → (k : ℕ) →
+        max (slice_index row k) (behind k) ≡ max (slice_index row k) (count_from cells n n k)
+    row_stays most k = elim (cases_eq k (cell_at cells n).place) [
+      | inl same ↦
+          let old : slice_index row k ≡ slice_index row (cell_at cells n).place = ap (slice_index row) same in
+          omega (arith, old, most, at_place k same)
+      | inr apart ↦ omega (arith, elsewhere k apart)
+    ]
+
+-- ---- the rows
+
+module _ (width : ℕ) (heads : List ℕ) (cells : List CountCell) where
+  pub rows_each : length (rows_in width heads cells) ≡ length heads
+  unfolding rows_in
+  rows_each = length-map heads (row_from width cells)
+
+  pub row_at : (v : ℕ) → v < length heads →
+      slice_get (rows_in width heads cells) v ≡ Some (row_from width cells (slice_index heads v))
+  unfolding rows_in
+  row_at v below =
+      slice_get-get_or (map (row_from width cells) heads) v []
+      (omega (arith, below, length-map heads (row_from width cells)))
+      ∙ ap Some (get_or-map (row_from width cells) heads v 0 [] below)
+
+  pub width_at : (v : ℕ) → v < length heads → width_of (rows_in width heads cells) v ≡ width
+  width_at v below =
+      ap width_in (row_at v below) ∙ length-map-range_with_len
+      (count_from cells (slice_index heads v) (slice_index heads v)) 0 width
+
+  pub width_past : (v : ℕ) → length heads ≤ v → width_of (rows_in width heads cells) v ≡ 0
+  width_past v past = ap width_in (slice_get_past (rows_in width heads cells) v (omega (arith, past, rows_each)))
+
+  pub count_at : (v k : ℕ) → v < length heads → k < width →
+      count_of (rows_in width heads cells) v k ≡ count_from cells (slice_index heads v) (slice_index heads v) k
+  count_at v k below within =
+      ap (λ o. count_in o k) (row_at v below)
+      ∙ get_or-map-range_with_len (count_from cells (slice_index heads v) (slice_index heads v)) 0 width k k 0
+      within (omega arith)
+
+  pub count_past : (v k : ℕ) → length heads ≤ v → count_of (rows_in width heads cells) v k ≡ 0
+  count_past v k past = ap (λ o. count_in o k)
+      (slice_get_past (rows_in width heads cells) v (omega (arith, past, rows_each)))
+
+  pub count_behind : (v k : ℕ) → v < length heads → width ≤ k → count_of (rows_in width heads cells) v k ≡ 0
+  count_behind v k below past =
+      ap (λ o. count_in o k) (row_at v below)
+      ∙ get_or_past (row_from width cells (slice_index heads v)) k 0
+      (omega (
+        arith,
+        past,
+        length-map-range_with_len (count_from cells (slice_index heads v) (slice_index heads v)) 0 width,
+      ))
+
+-- ---- one more count
+
+module _ (width : ℕ) (heads : List ℕ) (cells : List CountCell) (headed : AreHeaded width heads cells)
+    (vertex place count : ℕ) (below : vertex < length heads) (within : place < width) where
+  abbrev cell : CountCell
+  cell = record { place = place; count = count; next = slice_index heads vertex }
+
+  abbrev new_heads : List ℕ
+  new_heads = slice_set heads vertex (length cells + 1)
+
+  abbrev new_cells : List CountCell
+  new_cells = cells ++ cell ∷ []
+
+  pub put_headed : AreHeaded width new_heads new_cells
+  put_headed = record {
+    chained = record {
+      falls = λ i c at. elim (slice_get-push_cases cells cell i c at) [
+        | inl old ↦ headed.chained.falls i c old
+        | inr new ↦
+            (let is : slice_index heads vertex ≡ c.next = ap (λ (x : CountCell). x.next) new.1 in
+            omega (arith, is, new.0, headed.first vertex))
+      ];
+      places = λ i c at. elim (slice_get-push_cases cells cell i c at) [
+        | inl old ↦ headed.chained.places i c old
+        | inr new ↦ (let is : place ≡ c.place = ap (λ (x : CountCell). x.place) new.1 in omega (arith, is, within))
+      ];
+    };
+    first = λ v. elim (cases_eq v vertex) [
+      | inl same ↦
+          (let is : slice_index new_heads v ≡ length cells + 1 = ap (slice_index new_heads) same ∙ new_head in
+          omega (arith, is, length_push cells cell))
+      | inr apart ↦
+          (let is : slice_index new_heads v ≡ slice_index heads v = old_head v apart in
+          omega (arith, is, headed.first v, length_push cells cell))
+    ];
+  }
+    where
+      new_head : slice_index new_heads vertex ≡ length cells + 1
+      new_head = get_or-set_same heads vertex (length cells + 1) 0 below
+
+      old_head : (v : ℕ) → v ≢ vertex → slice_index new_heads v ≡ slice_index heads v
+      old_head v apart = get_or-set_other heads vertex v (length cells + 1) 0 apart
+
+  pub put_done : HasPut (rows_in width heads cells) (rows_in width new_heads new_cells) vertex place count
+  put_done = record {
+    each = rows_each width new_heads new_cells ∙ as_many ∙ sym (rows_each width heads cells);
+    wide = λ v. elim (cases_lt v (length heads)) [
+      | inl less ↦
+          width_at width new_heads new_cells v (omega (arith, less, as_many)) ∙ sym (width_at width heads cells v less)
+      | inr past ↦
+          width_past width new_heads new_cells v (omega (arith, past, as_many)) ∙ sym
+          (width_past width heads cells v past)
+    ];
+    here =
+        at_vertex place within
+        ∙ ap (λ b. max (cond b count 0) (count_of old vertex place)) (eq-eqb place place refl);
+    others = λ v k other. elim (cases_lt v (length heads)) [
+      | inr past ↦
+          count_past width new_heads new_cells v k (omega (arith, past, as_many)) ∙ sym
+          (count_past width heads cells v k past)
+      | inl less ↦ elim (cases_lt k width) [
+        | inr far ↦
+            count_behind width new_heads new_cells v k (omega (arith, less, as_many)) far
+            ∙ sym (count_behind width heads cells v k less far)
+        | inl inside ↦ elim (cases_eq v vertex) [
+          | inl same ↦
+              ap (λ u. count_of new u k) same
+              ∙ at_vertex k inside
+              ∙ ap (λ b. max (cond b count 0) (count_of old vertex k)) (ne_eqb place k (λ e. other same (sym e)))
+              ∙ zero-max (count_of old vertex k)
+              ∙ ap (λ u. count_of old u k) (sym same)
+          | inr apart ↦
+              count_at width new_heads new_cells v k (omega (arith, less, as_many)) inside
+              ∙ ap (λ h. count_from new_cells h h k) (get_or-set_other heads vertex v (length cells + 1) 0 apart)
+              ∙ from_longer cells headed.chained.falls cell (slice_index heads v) (slice_index heads v) k
+              (headed.first v)
+              ∙ sym (count_at width heads cells v k less inside)
+        ]
+      ]
+    ];
+  }
+    where
+      old : List (List ℕ)
+      old = rows_in width heads cells
+
+      new : List (List ℕ)
+      new = rows_in width new_heads new_cells
+
+      as_many : length new_heads ≡ length heads
+      as_many = length-set heads vertex (length cells + 1)
+
+      at_vertex : (k : ℕ) → k < width →
+          count_of (rows_in width new_heads new_cells) vertex k
+          ≡ max (cond (place == k) count 0) (count_of (rows_in width heads cells) vertex k)
+      at_vertex k inside =
+          count_at width new_heads new_cells vertex k (omega (arith, below, as_many)) inside
+          ∙ ap (λ h. count_from new_cells h h k)
+          (get_or-set_same heads vertex (length cells + 1) 0 below ∙ add-one (length cells))
+          ∙ from_new cells headed.chained.falls cell k (headed.first vertex)
+          ∙ ap (max (cond (place == k) count 0)) (sym (count_at width heads cells vertex k below inside))
+
+-- ---- no cell
+
+pub none_headed : (width count : ℕ) → AreHeaded width (replicate count 0) []
+none_headed width count = record {
+  chained = record { falls = λ i cell at. absurd cc; places = λ i cell at. absurd cc };
+  first = λ v. (let is : slice_index (replicate count 0) v ≡ 0 = get_or-replicate_zero count v in omega (arith, is));
+}
+
+pub none_zero : (width count : ℕ) → AreZero (rows_in width (replicate count 0) []) count width
+none_zero width count = record {
+  shape = record {
+    each = rows_each width (replicate count 0) [] ∙ length-replicate {A = ℕ} count 0;
+    wide = λ v below. width_at width (replicate count 0) [] v (omega (arith, below, length-replicate {A = ℕ} count 0));
+  };
+  none = λ v k. elim (cases_lt v (length (replicate count 0))) [
+    | inr past ↦ count_past width (replicate count 0) [] v k past
+    | inl less ↦ elim (cases_lt k width) [
+      | inr far ↦ count_behind width (replicate count 0) [] v k less far
+      | inl inside ↦
+          count_at width (replicate count 0) [] v k less inside
+          ∙ ap (λ h. count_from [] h h k) (get_or-replicate_zero count v) ∙ from_none [] 0 k
+    ]
+  ];
+}
+
+-- ---- a row that was raised from zeros
+
+pub row_done : (width : ℕ) (heads : List ℕ) (cells : List CountCell) (v head : ℕ) (zeros row : List ℕ) →
+    v < length heads → head ≡ slice_index heads v → zeros ≡ replicate width 0 → length row ≡ length zeros →
+    ((k : ℕ) → k < length zeros → slice_index row k ≡ max (slice_index zeros k) (count_from cells head head k)) →
+    slice_get (rows_in width heads cells) v ≡ Some row
+row_done width heads cells v head zeros row below head_is zeros_are long raised =
+    row_at width heads cells v below
+    ∙ ap (λ h. Some (row_from width cells h)) (sym head_is)
+    ∙ ap Some (sym (fill_by_all (count_from cells head head) row width 0 as_long each))
+  where
+    many : length zeros ≡ width
+    many = ap (λ (list : List ℕ). length list) zeros_are ∙ length-replicate {A = ℕ} width 0
+
+    as_long : length row ≡ width
+    as_long = long ∙ many
+
+    each : (k : ℕ) → k < width → get_or row k 0 ≡ count_from cells head head k
+    each k within =
+        raised k (omega (arith, within, many))
+        ∙ ap (λ n. max n (count_from cells head head k))
+        (ap (λ (list : List ℕ). slice_index list k) zeros_are ∙ get_or-replicate_zero width k)
+        ∙ zero-max (count_from cells head head k)

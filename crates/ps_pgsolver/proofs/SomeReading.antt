@@ -1,0 +1,260 @@
+-- Each game text has an answer.
+use Rattle.std.proofs.Common.{◌≡◌, ℕ, ◌<◌, ◌≤◌, ◌⊎◌, true, false, List, [], ◌∷◌, ◌++◌, length, Option, None, Some}
+use Rattle.std.proofs.Common.{Result, Ok, Err, refl, sym, subst, inl, inr, ⊎_elim, ◌∙◌, arith}
+use Rattle.std.specs.Prelude.{codes}
+use Rattle.std.specs.List.{Contains}
+use Rattle.std.proofs.lemmas.Bool.{cases_Bool, cases_lt}
+use Rattle.ps_text.specs.Answers.{Stream, Found, signs}
+use Rattle.ps_text.specs.Parts.{Part, PartAnswers, NoBad}
+use Rattle.ps_text.specs.Outcomes.{HasOutcomes}
+use Rattle.ps_text.proofs.Outcomes.{Judged, good, bad_only, has_give, has_one, has_mapped, has_then, has_either}
+use Rattle.ps_text.proofs.Outcomes.{has_many, some_answer}
+use Rattle.ps_game.specs.Games.{NamedGameData}
+use Rattle.ps_ids.proofs.Members.{Contains-any, any-from_Contains}
+use Rattle.ps_pgsolver.specs.Causes.{cause_number}
+use Rattle.ps_pgsolver.specs.GamesOf.{named_game_of}
+use Rattle.ps_pgsolver.specs.GameTexts.{pg_causes, too_large, number_in, comma_in, semicolon_in, name_in, keyword_in}
+use Rattle.ps_pgsolver.specs.GameTexts.{BadNumber, BadId, BadOwner, BadSuccessor, BadFirst, IsUnknown, number, new_id}
+use Rattle.ps_pgsolver.specs.GameTexts.{owner, successor, first_successor, comma, semicolon, more_successor, successors}
+use Rattle.ps_pgsolver.specs.GameTexts.{name, node, entry, entries, keyword, value_line, setting, game}
+use Rattle.ps_pgsolver.specs.Lexer.{stream_of}
+use Rattle.ps_pgsolver.specs.Nodes.{NodeData, ids_of, is_member}
+use Rattle.ps_pgsolver.specs.Reading.{Answer, HasTokens, text_limit, too_long, refused, unknown, meaning}
+use Rattle.ps_pgsolver.specs.Signs.{Sign, Number, Word, Name, Comma, Semicolon, OpenName, Wrong}
+use Rattle.ps_pgsolver.specs.declared.fault.PgCause.{PgCause}
+use Rattle.ps_pgsolver.specs.declared.fault.PgCause.TheVariants as causes
+use Rattle.ps_pgsolver.proofs.GameTokens.{tokens_found}
+use Rattle.ps_pgsolver.proofs.PartLaws.{laws_one_name, laws_no_name, laws_more, laws_entry, laws_line, laws_no_line}
+use Rattle.ps_pgsolver.proofs.PartLaws.{laws_game, takes_word, joint_more, joint_successors, joint_name, joint_list}
+use Rattle.ps_pgsolver.proofs.PartLaws.{joint_owner, joint_priority, joint_id, joint_entries, joint_value, joint_line}
+use Rattle.ps_pgsolver.proofs.PartLaws.{joint_start, joint_parity}
+use Rattle.ps_pgsolver.proofs.Sound.{same_nodes}
+
+abbrev Judges : (Sign → PgCause → Type 0) → Type 0
+Judges Bad = (t : Sign) → Judged cause_number (Bad t)
+
+-- ## Which cause a sign is
+
+no_bad : Judges NoBad
+no_bad t = good (λ f b. b)
+
+module _ (ids : List ℕ) (n : ℕ) where
+  member : Contains ids n ⊎ ¬ Contains ids n
+  member = ⊎_elim
+      (λ (yes : is_member ids n ≡ true). inl (Contains-any n ids yes))
+      (λ (no : is_member ids n ≡ false). inr (λ h. true_false (sym (any-from_Contains n ids h) ∙ no)))
+      (cases_Bool (is_member ids n))
+    where
+      true_false : true ≡ false → ⊥
+      true_false e = let x : true ≡ false = e in cc
+
+judge_number : Judges BadNumber
+judge_number (Number n) = go (cases_lt n too_large)
+  where
+    go : (n < too_large) ⊎ (too_large ≤ n) → Judged cause_number (BadNumber (Number n))
+    go (inl small) = good (λ f b. omega (arith, small, b.0))
+    go (inr large) = bad_only cause_number _ causes.Number (large, refl) (λ g b. sym b.1)
+judge_number (Word x) = good (λ f b. b)
+judge_number (Name x) = good (λ f b. b)
+judge_number Comma = good (λ f b. b)
+judge_number Semicolon = good (λ f b. b)
+judge_number OpenName = good (λ f b. b)
+judge_number Wrong = good (λ f b. b)
+
+judge_owner : Judges BadOwner
+judge_owner (Number n) = go (cases_lt n 2)
+  where
+    go : (n < 2) ⊎ (2 ≤ n) → Judged cause_number (BadOwner (Number n))
+    go (inl small) = good (λ f b. omega (arith, small, b.0))
+    go (inr large) = bad_only cause_number _ causes.Number (large, refl) (λ g b. sym b.1)
+judge_owner (Word x) = good (λ f b. b)
+judge_owner (Name x) = good (λ f b. b)
+judge_owner Comma = good (λ f b. b)
+judge_owner Semicolon = good (λ f b. b)
+judge_owner OpenName = good (λ f b. b)
+judge_owner Wrong = good (λ f b. b)
+
+-- a number that is too large, or of which A tells the cause
+module _ (A : Type 0) (cause : PgCause) (n : ℕ) where
+  abbrev pub OneOf : PgCause → Type 0
+  OneOf f = ((too_large ≤ n) × (f ≡ causes.Number)) ⊎ ((n < too_large) × A × (f ≡ cause))
+
+  judge_two : A ⊎ ¬ A → Judged cause_number OneOf
+  judge_two holds = go (cases_lt n too_large) holds
+    where
+      large_only : too_large ≤ n → (f : PgCause) → OneOf f → causes.Number ≡ f
+      large_only large f (inl b) = sym b.1
+      large_only large f (inr b) = absurd (omega (arith, large, b.0))
+
+      small_only : n < too_large → (f : PgCause) → OneOf f → cause ≡ f
+      small_only small f (inl b) = absurd (omega (arith, small, b.0))
+      small_only small f (inr b) = sym b.2
+
+      none : n < too_large → ¬ A → (f : PgCause) → OneOf f → ⊥
+      none small failing f (inl b) = omega (arith, small, b.0)
+      none small failing f (inr b) = failing b.1
+
+      go : (n < too_large) ⊎ (too_large ≤ n) → A ⊎ ¬ A → Judged cause_number OneOf
+      go (inr large) h = bad_only cause_number OneOf causes.Number (inl (large, refl)) (large_only large)
+      go (inl small) (inl holding) = bad_only cause_number OneOf cause (inr (small, holding, refl)) (small_only small)
+      go (inl small) (inr failing) = good (none small failing)
+
+judge_id : (ids : List ℕ) → Judges (BadId ids)
+judge_id ids (Number n) = judge_two (Contains ids n) causes.NodeTwice n (member ids n)
+judge_id ids (Word x) = good (λ f b. b)
+judge_id ids (Name x) = good (λ f b. b)
+judge_id ids Comma = good (λ f b. b)
+judge_id ids Semicolon = good (λ f b. b)
+judge_id ids OpenName = good (λ f b. b)
+judge_id ids Wrong = good (λ f b. b)
+
+unknown_or_not : (known : Option (List ℕ)) (n : ℕ) → IsUnknown known n ⊎ ¬ IsUnknown known n
+unknown_or_not None n = inr (λ h. h)
+unknown_or_not (Some ids) n = go (member ids n)
+  where
+    go : Contains ids n ⊎ ¬ Contains ids n → (¬ Contains ids n) ⊎ ¬ ¬ Contains ids n
+    go (inl there) = inr (λ none. none there)
+    go (inr none) = inl none
+
+judge_successor : (known : Option (List ℕ)) → Judges (BadSuccessor known)
+judge_successor known (Number n) = judge_two (IsUnknown known n) causes.UnknownSuccessor n (unknown_or_not known n)
+judge_successor known (Word x) = good (λ f b. b)
+judge_successor known (Name x) = good (λ f b. b)
+judge_successor known Comma = good (λ f b. b)
+judge_successor known Semicolon = good (λ f b. b)
+judge_successor known OpenName = good (λ f b. b)
+judge_successor known Wrong = good (λ f b. b)
+
+judge_first : (known : Option (List ℕ)) → Judges (BadFirst known)
+judge_first known (Number n) = judge_successor known (Number n)
+judge_first known (Word x) = good (λ f b. b)
+judge_first known (Name x) = bad_only cause_number _ causes.NoSuccessor refl (λ g b. sym b)
+judge_first known Comma = good (λ f b. b)
+judge_first known Semicolon = bad_only cause_number _ causes.NoSuccessor refl (λ g b. sym b)
+judge_first known OpenName = bad_only cause_number _ causes.NoSuccessor refl (λ g b. sym b)
+judge_first known Wrong = good (λ f b. b)
+
+-- ## The parts of the grammar, in its order
+
+abbrev Has : {V : Type 0} → Part Sign V PgCause → Type 0
+Has part = HasOutcomes pg_causes part
+
+has_number : Has number
+unfolding number
+has_number = has_one pg_causes number_in BadNumber (Number 0) 0 refl judge_number
+
+has_id : (ids : List ℕ) → Has (new_id ids)
+unfolding new_id
+has_id ids = has_one pg_causes number_in (BadId ids) (Number 0) 0 refl (judge_id ids)
+
+has_owner : Has owner
+unfolding owner
+has_owner = has_one pg_causes number_in BadOwner (Number 0) 0 refl judge_owner
+
+has_successor : (known : Option (List ℕ)) → Has (successor known)
+unfolding successor
+has_successor known = has_one pg_causes number_in (BadSuccessor known) (Number 0) 0 refl (judge_successor known)
+
+has_first : (known : Option (List ℕ)) → Has (first_successor known)
+unfolding first_successor
+has_first known = has_one pg_causes number_in (BadFirst known) (Number 0) 0 refl (judge_first known)
+
+has_comma : Has comma
+unfolding comma
+has_comma = has_one pg_causes comma_in NoBad Comma tt refl no_bad
+
+has_semicolon : Has semicolon
+unfolding semicolon
+has_semicolon = has_one pg_causes semicolon_in NoBad Semicolon tt refl no_bad
+
+has_keyword : (word : List ℕ) → Has (keyword word)
+unfolding keyword
+has_keyword word = has_one pg_causes (keyword_in word) NoBad (Word word) tt (takes_word word) no_bad
+
+has_name : Has name
+unfolding name
+has_name = has_either pg_causes laws_one_name laws_no_name (λ t h k. k)
+    (has_one pg_causes name_in NoBad (Name []) (Some []) refl no_bad) (has_give pg_causes None)
+
+module _ (known : Option (List ℕ)) where
+  has_more : (list : List ℕ) → Has (more_successor known list)
+  unfolding more_successor
+  has_more list = has_then pg_causes (joint_more known list) has_comma
+      (λ _. has_mapped pg_causes (λ n. list ++ n ∷ []) (successor known) (has_successor known))
+
+  has_successors : Has (successors known)
+  unfolding successors
+  has_successors = has_then pg_causes (joint_successors known) (has_first known)
+      (λ n. has_many pg_causes (more_successor known) (laws_more known) (λ t h k. h) has_more (n ∷ []))
+
+  has_node : (ids : List ℕ) → Has (node known ids)
+  unfolding node
+  has_node ids =
+      has_then pg_causes (joint_id known ids) (has_id ids) (λ id.
+      has_then pg_causes (joint_priority known ids id) has_number (λ priority.
+      has_then pg_causes (joint_owner known ids id priority) has_owner (λ owner'.
+      has_then pg_causes (joint_list known ids id priority owner') has_successors (λ list.
+      has_then pg_causes (joint_name known ids id priority owner' list) has_name (λ name'.
+      has_mapped pg_causes _ semicolon has_semicolon)))))
+
+  has_entry : (nodes : List NodeData) → Has (entry known nodes)
+  unfolding entry
+  has_entry nodes = has_mapped pg_causes (λ n. nodes ++ n ∷ []) (node known (ids_of nodes)) (has_node (ids_of nodes))
+
+  has_entries : Has (entries known)
+  unfolding entries
+  has_entries = has_then pg_causes (joint_entries known) (has_entry [])
+      (λ nodes. has_many pg_causes (entry known) (laws_entry known) (λ t h k. h) has_entry nodes)
+
+has_value : Has value_line
+unfolding value_line
+has_value = has_then pg_causes joint_value has_number (λ _. has_semicolon)
+
+has_setting : (word : List ℕ) → Has (setting word)
+unfolding setting
+has_setting word = has_either pg_causes (laws_line word) (laws_no_line word) (λ t h k. k)
+    (has_then pg_causes (joint_line word) (has_keyword word) (λ _. has_value)) (has_give pg_causes tt)
+
+has_game : (known : Option (List ℕ)) → Has (game known)
+unfolding game
+has_game known = has_then pg_causes (joint_parity known) (has_setting (codes "parity"))
+    (λ _. has_then pg_causes (joint_start known) (has_setting (codes "start")) (λ _. has_entries known))
+
+-- ## The answer
+
+some_nodes : (known : Option (List ℕ)) (stream : Stream Sign) →
+    (answer : Result (List NodeData) (Found PgCause)) × PartAnswers pg_causes (game known) stream answer
+some_nodes known = some_answer (laws_game known) (has_game known)
+
+module _ (text : List ℕ) (short : length text ≤ text_limit) where
+  abbrev stream : Stream Sign
+  stream = stream_of text
+
+  has_tokens : HasTokens text stream
+  has_tokens = record { short = short; tokens = tokens_found text }
+
+  -- with the ids of its nodes known
+  again : (nodes : List NodeData) → PartAnswers pg_causes (game None) stream (Ok nodes) →
+      (second : Result (List NodeData) (Found PgCause)) →
+      PartAnswers pg_causes (game (Some (ids_of nodes))) stream second →
+      (answer : Result NamedGameData (Found PgCause)) × Answer text answer
+  again nodes p (Ok others) q = (
+    Ok (named_game_of nodes),
+    meaning stream nodes has_tokens p
+        (subst (λ z. PartAnswers pg_causes (game (Some (ids_of nodes))) stream (Ok z))
+        (sym (same_nodes (Some (ids_of nodes)) (signs stream.pieces) nodes others p.0 q.0)) q) refl,
+  )
+  again nodes p (Err found) q = (Err found, unknown stream nodes found has_tokens p q refl)
+
+  first : (one : Result (List NodeData) (Found PgCause)) → PartAnswers pg_causes (game None) stream one →
+      (answer : Result NamedGameData (Found PgCause)) × Answer text answer
+  first (Ok nodes) p = let second = some_nodes (Some (ids_of nodes)) stream in again nodes p second.0 second.1
+  first (Err found) p = (Err found, refused stream found has_tokens p refl)
+
+pub some_reading : (text : List ℕ) → (answer : Result NamedGameData (Found PgCause)) × Answer text answer
+some_reading text = go (cases_lt text_limit (length text))
+  where
+    go : (text_limit < length text) ⊎ (length text ≤ text_limit) → (answer : Result NamedGameData (Found PgCause)) ×
+        Answer text answer
+    go (inl long) = (Err (record { cause = causes.Limit; offset = text_limit }), too_long long refl)
+    go (inr short) = let one = some_nodes None (stream_of text) in first text short one.0 one.1

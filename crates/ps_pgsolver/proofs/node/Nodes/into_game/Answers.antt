@@ -1,0 +1,81 @@
+use Rattle.std.proofs.Common.{◌≡◌, refl, map, length, sym, subst, ap, ◌∙◌, arith}
+use Rattle.std.proofs.lemmas.List.{length-map}
+use Rattle.ps_game.specs.Drafts.{without_repeats, NoneBare, NoneUnknown}
+use Rattle.ps_game.specs.Games.{ParityGame, vertex_count}
+use Rattle.ps_game.specs.Names.{name_bytes, with_none}
+use Rattle.ps_pgsolver.specs.GamesOf.{draft_of, game_of}
+use Rattle.ps_pgsolver.specs.Nodes.{NodeData, AreNodes, ids_of}
+use Rattle.ps_pgsolver.proofs.GameLemmas.{draft_bare, draft_known, named_count, same_named}
+use Rattle.ps_pgsolver.proofs.KeptLemmas.{ids_are, names_are, each_is_id, draft_is, few_names, plain_kept}
+use Rattle.ps_pgsolver.proofs.NodeLemmas.{names_plain}
+use Rattle.ps_pgsolver.proofs.node.Nodes.into_game.Goals as goal
+
+pub resolve-requires : goal.resolve-requires
+resolve-requires c = each_is_id _ _ _ c.self.invariant c.args.self c.self.view_is c.requires
+
+pub into_game-requires-clause-bare : goal.into_game-requires-clause-bare
+into_game-requires-clause-bare c =
+    let nodes = c.args.self in
+    let draft : c.resolve.new.self ≡ draft_of (ids_of nodes) nodes = c.resolve.ensures
+    ∙ draft_is _ _ _ c.self.invariant nodes c.self.view_is in
+    let are = subst AreNodes c.self.view_is c.self.invariant.well_formed in
+    subst (λ (g : ParityGame). NoneBare g) (sym draft) (draft_bare (ids_of nodes) nodes are.each)
+
+pub into_game-requires-clause-known : goal.into_game-requires-clause-known
+into_game-requires-clause-known c =
+    let nodes = c.args.self in
+    let draft : c.resolve.new.self ≡ draft_of (ids_of nodes) nodes = c.resolve.ensures
+    ∙ draft_is _ _ _ c.self.invariant nodes c.self.view_is in
+    subst (λ (g : ParityGame). NoneUnknown g) (sym draft) (draft_known (ids_of nodes) nodes refl c.requires)
+
+pub with_first_names-requires-clause-id_each : goal.with_first_names-requires-clause-id_each
+with_first_names-requires-clause-id_each c =
+    let nodes = c.args.self in
+    let draft : c.resolve.new.self ≡ draft_of (ids_of nodes) nodes = c.resolve.ensures
+    ∙ draft_is _ _ _ c.self.invariant nodes c.self.view_is in
+    let ids : c.self.inside.ids ≡ ids_of nodes = ids_are _ _ _ c.self.invariant nodes c.self.view_is in
+    let game : c.in_ok-game.game ≡ game_of nodes = c.in_ok-game.ensures
+    ∙ ap (λ (g : ParityGame). without_repeats g) draft in
+    let count : vertex_count c.in_ok-game.game ≡ length c.self.inside.ids =
+    named_count c.in_ok-game.game nodes game ∙ sym (length-map nodes (λ (n : NodeData). n.id)) ∙ sym (ap length ids) in
+    omega (arith, c.into_list.result.ok.0, ap length c.into_list.ensures.list, count)
+
+pub with_first_names-requires-clause-names_of_vertices : goal.with_first_names-requires-clause-names_of_vertices
+with_first_names-requires-clause-names_of_vertices c =
+    let nodes = c.args.self in
+    let draft : c.resolve.new.self ≡ draft_of (ids_of nodes) nodes = c.resolve.ensures
+    ∙ draft_is _ _ _ c.self.invariant nodes c.self.view_is in
+    let ids : c.self.inside.ids ≡ ids_of nodes = ids_are _ _ _ c.self.invariant nodes c.self.view_is in
+    let game : c.in_ok-game.game ≡ game_of nodes = c.in_ok-game.ensures
+    ∙ ap (λ (g : ParityGame). without_repeats g) draft in
+    let count : vertex_count c.in_ok-game.game ≡ length c.self.inside.ids =
+    named_count c.in_ok-game.game nodes game ∙ sym (length-map nodes (λ (n : NodeData). n.id)) ∙ sym (ap length ids) in
+    let names = c.self.inside.names.items in
+    omega (
+      arith,
+      c.self.inside.names.ok.0,
+      length-map names name_bytes,
+      few_names (length c.self.inside.ids) (map name_bytes names) c.self.invariant.name_each,
+      count,
+    )
+
+pub with_first_names-requires-clause-names_plain : goal.with_first_names-requires-clause-names_plain
+with_first_names-requires-clause-names_plain c =
+    let are = subst AreNodes c.self.view_is c.self.invariant.well_formed in
+    plain_kept (length c.self.inside.ids) (map name_bytes c.self.inside.names.items)
+    (names_plain c.args.self _ (names_are _ _ _ c.self.invariant c.args.self c.self.view_is) are)
+
+pub returns : goal.returns
+returns c =
+    let nodes = c.args.self in
+    let draft : c.resolve.new.self ≡ draft_of (ids_of nodes) nodes = c.resolve.ensures
+    ∙ draft_is _ _ _ c.self.invariant nodes c.self.view_is in
+    let ids : c.self.inside.ids ≡ ids_of nodes = ids_are _ _ _ c.self.invariant nodes c.self.view_is in
+    let game : c.in_ok-game.game ≡ game_of nodes = c.in_ok-game.ensures
+    ∙ ap (λ (g : ParityGame). without_repeats g) draft in
+    let count : vertex_count c.in_ok-game.game ≡ length c.self.inside.ids =
+    named_count c.in_ok-game.game nodes game ∙ sym (length-map nodes (λ (n : NodeData). n.id)) ∙ sym (ap length ids) in
+    same_named c.with_first_names.result nodes (c.with_first_names.ensures.game ∙ game)
+    (c.with_first_names.ensures.ids ∙ c.into_list.ensures.list ∙ ids)
+    (c.with_first_names.ensures.names ∙ ap (λ k. with_none k (map name_bytes c.self.inside.names.items)) count
+    ∙ names_are _ _ _ c.self.invariant nodes c.self.view_is)

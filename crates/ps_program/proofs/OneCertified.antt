@@ -1,0 +1,347 @@
+-- By a certificate that is given, an automaton's text has one answer: the file, its game and the certificate leave one
+-- report,
+-- or one line of a fault.
+use Rattle.std.proofs.Common.{◌≡◌, ◌⊎◌, ◌∙◌, ◌↔◌, ◌++◌, ℕ, Bool, true, false, List, Option, None, Some, Result, Ok, Err}
+use Rattle.std.proofs.Common.{IsTrue, refl, sym, ap, ap₂, subst, inl, inr, arith}
+use Rattle.std.specs.Prelude.{codes}
+use Rattle.ps_text.specs.Answers.{Found}
+use Rattle.ps_aiger.specs.Wires.{IsOutOfLiterals}
+use Rattle.ps_certificate.specs.Certificates.{CertificateData}
+use Rattle.ps_certificate.specs.Texts.{ReadsCertificate}
+use Rattle.ps_certificate.specs.Written.{text_in}
+use Rattle.ps_certificate.specs.declared.fault.CertCause.{CertCause}
+use Rattle.ps_circuit.specs.Circuits.{CircuitData}
+use Rattle.ps_circuit.specs.Written.{text_of}
+use Rattle.ps_game.specs.Games.{NamedGameData}
+use Rattle.ps_hoa.specs.Files.{FileData}
+use Rattle.ps_machine.specs.Behaviours.{Behaviour}
+use Rattle.ps_machine.specs.FileGames.{IsGameOfFile}
+use Rattle.ps_machine.specs.Solving.{IsCertified, Replays, winner}
+use Rattle.ps_machine.specs.declared.fault.SolveFault.{SolveFault}
+use Rattle.ps_machine.specs.declared.fault.SolveFault.TheVariants as solver_fault
+use Rattle.ps_machine.specs.declared.key.Order.{Order}
+use Rattle.ps_pgsolver.specs.Written.{game_text}
+use Rattle.ps_synthesis.specs.Promises.{IsAcceptedText}
+use Rattle.ps_synthesis.specs.Reports.{IsReport, IsWinners, IsWinnersCircuit}
+use Rattle.ps_synthesis.specs.SynthFaults.{IsSynthFault}
+use Rattle.ps_synthesis.specs.declared.fault.SynthFault.{SynthFault}
+use Rattle.ps_synthesis.specs.declared.fault.SynthFault.TheVariants as stage
+use Rattle.ps_synthesis.specs.declared.report.Report.{Report}
+use Rattle.ps_program.specs.Automata.{ReadsAutomaton}
+use Rattle.ps_program.specs.CommandLine.{IsLine}
+use Rattle.ps_program.specs.Cut.{behind_line, first_line}
+use Rattle.ps_program.specs.Determined.{IsReplaying}
+use Rattle.ps_program.specs.Outcomes.{printed}
+use Rattle.ps_program.specs.Program.{AnswersInput, AnswersLine, AnswersWhole}
+use Rattle.ps_program.specs.Replies.{Reply}
+use Rattle.ps_program.specs.Solvers.{SolverData, Solvers, answers_now, feed}
+use Rattle.ps_program.specs.StageFaults.{stage_line}
+use Rattle.ps_program.specs.Synthesis.{AnswersBy, AnswersReport, AnswersSynth, report_reply, verdict_line}
+use Rattle.ps_program.specs.Synthesis.{verdict_status}
+use Rattle.ps_program.specs.Texts.{CutsInTwo}
+use Rattle.ps_program.specs.declared.command_line.Line.{Line}
+use Rattle.ps_program.specs.declared.command_line.Line.TheVariants as line
+use Rattle.ps_program.specs.declared.command_line.SynthLine.{SynthLine}
+use Rattle.ps_program.proofs.Agreeing.{OneCertificate, OneFile, OneFileGame, ok_same, tests_agree}
+use Rattle.ps_program.proofs.AutomatonLemmas.{no_line, text_refused}
+use Rattle.ps_program.proofs.OneCut.{cut_one}
+use Rattle.ps_program.proofs.OneLine.{is_line_one}
+use Rattle.ps_program.proofs.OneStage.{OneOutcome, OneRefusal, automaton_one}
+use Rattle.ps_program.proofs.OneStep.{IsOne, err_of, err_or, ok_is_not_err, then_one}
+
+-- the laws of the winner's circuit
+abbrev pub OneWinnersCircuit : Type 0
+OneWinnersCircuit =
+    (order : Order) (file : FileData) (game : NamedGameData) (first second : IsGameOfFile order file game)
+    (certificate : CertificateData) (c d : CircuitData) → IsWinnersCircuit order file game first certificate c →
+    IsWinnersCircuit order file game second certificate d → c ≡ d
+
+abbrev pub CircuitOrNone : Type 0
+CircuitOrNone = (order : Order) (file : FileData) (game : NamedGameData) (first second : IsGameOfFile order file game)
+    (certificate : CertificateData) (c : CircuitData) (m : Behaviour) →
+    IsWinnersCircuit order file game first certificate c →
+    IsWinners order file game second certificate m → ¬ IsOutOfLiterals m
+
+-- ---- lines
+
+-- the line of that fault is the outcome
+abbrev IsLineOf : SynthFault → Result Reply (List ℕ) → Type 0
+IsLineOf fault x = (line : List ℕ) × (stage_line fault ≡ Some line) × (x ≡ Err line)
+
+line_or : Option (List ℕ) → List ℕ → List ℕ
+line_or None other = other
+line_or (Some line) other = line
+
+lines_one : (fault : SynthFault) (x y : Result Reply (List ℕ)) → IsLineOf fault x → IsLineOf fault y → x ≡ y
+unfolding line_or
+lines_one fault x y (l, told, e) (m, told', e') =
+    let same : l ≡ m = ap (λ o. line_or o l) (sym told ∙ told') in
+    e ∙ ap (err_of {V = Reply}) same ∙ sym e'
+
+-- ---- reports
+
+-- what is printed of a report
+abbrev reply_by : (full realizable : Bool) (circuit game certificate : List ℕ) → Reply
+reply_by true realizable circuit game certificate = record {
+  text = verdict_line realizable ++ circuit ++ (codes "%%\n" ++ game ++ codes "%%\n" ++ certificate);
+  status = verdict_status realizable;
+}
+reply_by false realizable circuit game certificate =
+    record { text = verdict_line realizable ++ circuit; status = verdict_status realizable }
+
+is_reply_by : (full : Bool) (r : Report) →
+    report_reply full r ≡ reply_by full r.realizable r.circuit_text.items r.game_text.items r.certificate_text.items
+is_reply_by true r = refl
+is_reply_by false r = refl
+
+-- ---- what an answer goes by
+
+module _ (order : Order) (compact full : Bool) where
+  record Reported (file : FileData) (game : NamedGameData) (c : CertificateData) (x : Result Reply (List ℕ)) : Type 0
+    where
+      is_game : IsGameOfFile order file game
+      circuit : CircuitData
+      is_circuit : IsWinnersCircuit order file game is_game c circuit
+      realizable : Bool
+      is_realizable : IsTrue realizable ↔ (winner c ≡ 0)
+      is_reply : x ≡ Ok (reply_by full realizable (text_of circuit) (game_text game) (text_in compact game c))
+
+  record Above (file : FileData) (game : NamedGameData) (c : CertificateData) (x : Result Reply (List ℕ)) : Type 0 where
+    is_game : IsGameOfFile order file game
+    machine : Behaviour
+    winners : IsWinners order file game is_game c machine
+    above : IsOutOfLiterals machine
+    line : IsLineOf stage.CircuitTooLarge x
+
+  -- by the certificate, or by its text's fault
+  abbrev Tells : FileData → NamedGameData → Result Reply (List ℕ) → Result CertificateData (Found CertCause) → Type 0
+  Tells file game x (Ok c) = ((IsCertified game c → ⊥) × IsLineOf stage.NotCertified x)
+      ⊎ (IsCertified game c × (Above file game c x ⊎ Reported file game c x))
+  Tells file game x (Err found) = IsLineOf (stage.Certificate found.cause found.offset) x
+
+  record GoesBy (text : List ℕ) (fed : Option (List ℕ)) (x : Result Reply (List ℕ)) : Type 0 where
+    file : FileData
+    accepted : IsAcceptedText text file
+    game : NamedGameData
+    is_game : IsGameOfFile order file game
+    certificate : List ℕ
+    is_fed : fed ≡ Some certificate
+    answer : Result CertificateData (Found CertCause)
+    reads : ReadsCertificate game certificate answer
+    tells : Tells file game x answer
+
+  module _ (circuits : OneWinnersCircuit) (apart : CircuitOrNone) where
+    reports_one : (file : FileData) (game : NamedGameData) (c : CertificateData) (x y : Result Reply (List ℕ)) →
+        Reported file game c x → Reported file game c y → x ≡ y
+    reports_one file game c x y a b =
+        let one = tests_agree a.realizable b.realizable (winner c) (winner c) a.is_realizable b.is_realizable refl in
+        let circuit = circuits order file game a.is_game b.is_game c a.circuit b.circuit a.is_circuit b.is_circuit in
+        a.is_reply ∙ ap₂ (λ (r : Bool) (z : CircuitData). Ok (reply_by full r (text_of z) (game_text game)
+        (text_in compact game c))) one circuit ∙ sym b.is_reply
+
+    tells_one : (file : FileData) (game : NamedGameData) (x y : Result Reply (List ℕ))
+        (answer : Result CertificateData (Found CertCause)) →
+        Tells file game x answer → Tells file game y answer → x ≡ y
+    tells_one file game x y (Err found) a b = lines_one (stage.Certificate found.cause found.offset) x y a b
+    tells_one file game x y (Ok c) (inl a) (inl b) = lines_one stage.NotCertified x y a.1 b.1
+    tells_one file game x y (Ok c) (inl a) (inr b) = absurd (a.0 b.0)
+    tells_one file game x y (Ok c) (inr a) (inl b) = absurd (b.0 a.0)
+    tells_one file game x y (Ok c) (inr (h, inl a)) (inr (k, inl b)) = lines_one stage.CircuitTooLarge x y a.line b.line
+    tells_one file game x y (Ok c) (inr (h, inl a)) (inr (k, inr b)) =
+        absurd (apart order file game b.is_game a.is_game c b.circuit a.machine b.is_circuit a.winners a.above)
+    tells_one file game x y (Ok c) (inr (h, inr a)) (inr (k, inl b)) =
+        absurd (apart order file game a.is_game b.is_game c a.circuit b.machine a.is_circuit b.winners b.above)
+    tells_one file game x y (Ok c) (inr (h, inr a)) (inr (k, inr b)) = reports_one file game c x y a b
+
+    goes_one : OneFile → OneFileGame → OneCertificate → (text : List ℕ) (fed : Option (List ℕ))
+        (x y : Result Reply (List ℕ)) →
+        GoesBy text fed x → GoesBy text fed y → x ≡ y
+    unfolding line_or
+    goes_one files games certificates text fed x y a b =
+        let file = ok_same a.file b.file (files text (Ok a.file) (Ok b.file) a.accepted.reads b.accepted.reads) in
+        let game =
+        games order b.file a.game b.game (subst (λ f. IsGameOfFile order f a.game) file a.is_game) b.is_game in
+        let certificate : a.certificate ≡ b.certificate = ap (λ o. line_or o a.certificate) (sym a.is_fed ∙ b.is_fed) in
+        let reads : ReadsCertificate b.game b.certificate a.answer =
+        subst (λ g. ReadsCertificate g b.certificate a.answer) game
+        (subst (λ t. ReadsCertificate a.game t a.answer) certificate a.reads) in
+        let answer = certificates b.game b.certificate a.answer b.answer reads b.reads in
+        tells_one b.file b.game x y b.answer
+        (subst (Tells b.file b.game x) answer (subst (λ g. Tells b.file g x a.answer) game
+        (subst (λ f. Tells f a.game x a.answer) file a.tells))) b.tells
+
+-- ---- the answers
+
+-- what a solver that replays a text may answer
+record Replayed (game : NamedGameData) (fed : Option (List ℕ))
+    (answer : Result CertificateData (Found CertCause)) : Type 0 where
+  certificate : List ℕ
+  is_fed : fed ≡ Some certificate
+  reads : ReadsCertificate game certificate answer
+
+replayed : (game : NamedGameData) (fed : Option (List ℕ)) (c : CertificateData) → Replays game fed (Ok c) →
+    Replayed game fed (Ok c)
+replayed game None c h = absurd h
+replayed game (Some text) c h = record { certificate = text; is_fed = refl; reads = h }
+
+replayed_fault : (game : NamedGameData) (fed : Option (List ℕ)) (cause : CertCause) (offset : ℕ) →
+    Replays game fed (Err (solver_fault.Text cause offset)) →
+    Replayed game fed (Err (record { cause = cause; offset = offset }))
+replayed_fault game None cause offset h = absurd h
+replayed_fault game (Some text) cause offset h = record { certificate = text; is_fed = refl; reads = h }
+
+abbrev IsCycle : SolveFault → Type 0
+IsCycle (solver_fault.BadCycle cycle) = Unit {0}
+IsCycle fault = ⊥
+
+never_lost : (game : NamedGameData) (fed : Option (List ℕ)) (fault : SolveFault) → IsCycle fault →
+    Replays game fed (Err fault) → ⊥
+never_lost game None fault is h = h
+never_lost game (Some text) (solver_fault.BadCycle cycle) is h = h
+never_lost game (Some text) (solver_fault.Text cause offset) is h = is
+never_lost game (Some text) solver_fault.OutOfMemory is h = is
+
+module _ (solver : SolverData) (replaying : IsReplaying solver) (asked : SynthLine) (text : List ℕ) where
+  -- the text is refused by a line, or the answer goes by the certificate
+  abbrev Told : Result Reply (List ℕ) → Type 0
+  Told x =
+      ((line : List ℕ) × ReadsAutomaton text (Err line) × (x ≡ Err line)) ⊎
+      GoesBy asked.order asked.compact asked.full text solver.fed x
+
+  certified : (file : FileData) (game : NamedGameData) (c : CertificateData) (x : Result Reply (List ℕ)) →
+      IsAcceptedText text file → IsGameOfFile asked.order file game →
+      answers_now solver game (Ok c) → Tells asked.order asked.compact asked.full file game x (Ok c) → Told x
+  certified file game c x accepted is_game answered tells =
+      let given = replayed game solver.fed c (replaying solver.fed game (Ok c) answered) in
+      inr (record {
+        file = file;
+        accepted = accepted;
+        game = game;
+        is_game = is_game;
+        certificate = given.certificate;
+        is_fed = given.is_fed;
+        answer = Ok c;
+        reads = given.reads;
+        tells = tells;
+      })
+
+  told_fault : (fault : SynthFault) (line : List ℕ) (x : Result Reply (List ℕ)) →
+      IsSynthFault (answers_now solver) asked.order text fault →
+      stage_line fault ≡ Some line → x ≡ Err line → Told x
+  told_fault (stage.Text cause offset) line x h told e =
+      inl (line, text_refused text (stage.Text cause offset) line h told, e)
+  told_fault (stage.Automaton fault) line x h told e =
+      inl (line, text_refused text (stage.Automaton fault) line h told, e)
+  told_fault (stage.BadCycle ids) line x h told e =
+      absurd (never_lost h.game solver.fed (solver_fault.BadCycle h.holds.cycle) tt
+      (replaying solver.fed h.game (Err (solver_fault.BadCycle h.holds.cycle)) h.holds.answered))
+  told_fault (stage.Certificate cause offset) line x h told e =
+      let given =
+      replayed_fault h.game solver.fed cause offset (replaying solver.fed h.game
+      (Err (solver_fault.Text cause offset)) h.holds) in
+      inr (record {
+        file = h.file;
+        accepted = h.accepted;
+        game = h.game;
+        is_game = h.is_game;
+        certificate = given.certificate;
+        is_fed = given.is_fed;
+        answer = Err (record { cause = cause; offset = offset });
+        reads = given.reads;
+        tells = (line, told, e);
+      })
+  told_fault stage.NotCertified line x h told e =
+      certified h.file h.game h.holds.certificate x h.accepted h.is_game h.holds.answered
+      (inl (h.holds.wrong, (line, told, e)))
+  told_fault stage.CircuitTooLarge line x h told e =
+      certified h.file h.game h.holds.certificate x h.accepted h.is_game h.holds.answered
+      (inr (
+        h.holds.certified,
+        inl (record {
+          is_game = h.holds.is_game;
+          machine = h.holds.machine;
+          winners = h.holds.winners;
+          above = h.holds.out_of_literals;
+          line = (line, told, e);
+        }),
+      ))
+  told_fault stage.OutOfMemory line x h told e = absurd (no_line told)
+
+  told_report : (report : Report) (x : Result Reply (List ℕ)) →
+      IsReport (answers_now solver) asked.order asked.compact text report →
+      x ≡ Ok (report_reply asked.full report) → Told x
+  told_report report x r e =
+      let p = r.promise in
+      certified p.file p.game p.certificate x p.accepted p.is_game p.answered (inr (
+        p.certified,
+        inr (record {
+          is_game = p.is_game;
+          circuit = p.circuit;
+          is_circuit = r.circuit;
+          realizable = report.realizable;
+          is_realizable = p.realizable;
+          is_reply = e ∙ ap Ok (is_reply_by asked.full report
+              ∙ ap₂ (λ (z g : List ℕ). reply_by asked.full report.realizable z g report.certificate_text.items)
+              p.circuit_text.written p.game_text.written
+              ∙ ap (reply_by asked.full report.realizable (text_of p.circuit) (game_text p.game))
+              p.certificate_text.written);
+        }),
+      ))
+
+  told : (x : Result Reply (List ℕ)) → AnswersReport solver asked text x → Told x
+  told x (inl (line, (fault, cause, lies, is_line), e)) = told_fault fault line x cause is_line e
+  told x (inr (report, is_report, e)) = told_report report x is_report e
+
+pub report_one : OneFile → OneRefusal → OneOutcome → OneFileGame → OneCertificate → OneWinnersCircuit → CircuitOrNone →
+    (solver : SolverData) → IsReplaying solver → (asked : SynthLine) (text : List ℕ) →
+    IsOne (AnswersReport solver asked text)
+report_one files refusals outcomes games certificates circuits apart solver replaying asked text x y h k =
+    by (told solver replaying asked text x h) (told solver replaying asked text y k)
+  where
+    lines : IsOne (ReadsAutomaton text)
+    lines = automaton_one files refusals outcomes text
+
+    accepted : (file : FileData) → IsAcceptedText text file → ReadsAutomaton text (Ok file)
+    accepted file a = inr (file, a.reads, (a.admitted, refl))
+
+    by : Told solver replaying asked text x → Told solver replaying asked text y → x ≡ y
+    by (inl (l, reads, e)) (inl (m, reads', e')) =
+        let same : l ≡ m = ap (err_or l) (lines (Err l) (Err m) reads reads') in e
+        ∙ ap (err_of {V = Reply}) same ∙ sym e'
+    by (inl (l, reads, e)) (inr b) =
+        absurd (ok_is_not_err b.file l (lines (Ok b.file) (Err l) (accepted b.file b.accepted) reads))
+    by (inr a) (inl (m, reads, e)) =
+        absurd (ok_is_not_err a.file m (lines (Ok a.file) (Err m) (accepted a.file a.accepted) reads))
+    by (inr a) (inr b) =
+        goes_one asked.order asked.compact asked.full circuits apart files games certificates text solver.fed x y a b
+
+-- ---- the whole program
+
+module _ (files : OneFile) (refusals : OneRefusal) (outcomes : OneOutcome) (games : OneFileGame)
+    (certificates : OneCertificate) (circuits : OneWinnersCircuit)
+    (apart : CircuitOrNone) (solvers : Solvers) (replaying : IsReplaying solvers.replay) (asked : SynthLine)
+    (cert : asked.cert ≡ true) where
+  synth_one : (texts : List ℕ) → IsOne (AnswersSynth solvers asked texts)
+  synth_one texts x y h k =
+      then_one (CutsInTwo texts) (λ (parts : List ℕ × List ℕ). AnswersReport (feed parts.1 solvers.replay) asked
+      parts.0) (cut_one texts)
+      (λ parts. report_one files refusals outcomes games certificates circuits apart (feed parts.1 solvers.replay)
+      replaying asked parts.0) x y
+      (subst (λ b. AnswersBy b solvers asked texts x) cert h) (subst (λ b. AnswersBy b solvers asked texts y) cert k)
+
+  outcome_of : (input : List ℕ) → IsLine (first_line input) (line.Synth asked) → (a : Reply) →
+      AnswersInput solvers input a →
+      (x : Result Reply (List ℕ)) × AnswersSynth solvers asked (behind_line input) x × (a ≡ printed x)
+  outcome_of input is_line a (l, is_other, (x, answers, e)) =
+      let same = is_line_one (first_line input) l (line.Synth asked) is_other is_line in
+      (x, subst (λ (k : Line). AnswersLine solvers k (behind_line input) x) same answers, e)
+
+  pub certified_one : (input : List ℕ) → IsLine (first_line input) (line.Synth asked) → (a b : Reply) →
+      AnswersWhole solvers input a → AnswersWhole solvers input b → a ≡ b
+  certified_one input is_line a b (inl (long, e)) (inl (long', e')) = e ∙ sym e'
+  certified_one input is_line a b (inl (long, e)) (inr (short, h)) = absurd (omega (arith, long, short))
+  certified_one input is_line a b (inr (short, h)) (inl (long, e)) = absurd (omega (arith, long, short))
+  certified_one input is_line a b (inr (short, h)) (inr (short', k)) =
+      let one = outcome_of input is_line a h in
+      let other = outcome_of input is_line b k in
+      one.2 ∙ ap printed (synth_one (behind_line input) one.0 other.0 one.1 other.1) ∙ sym other.2

@@ -1,0 +1,29 @@
+//! Laws on the definitions.
+
+ghost use Rattle.std.specs.Prelude.{◌≡◌};
+ghost use Rattle.ps_aiger.specs.Wires.{IsOutOfLiterals};
+ghost use Rattle.ps_certificate.specs.Certificates.{CertificateData};
+ghost use Rattle.ps_circuit.specs.Circuits.{CircuitData};
+ghost use Rattle.ps_game.specs.Games.{NamedGameData};
+ghost use Rattle.ps_hoa.specs.Files.{FileData};
+ghost use Rattle.ps_machine.specs.Behaviours.{Behaviour};
+ghost use Rattle.ps_machine.specs.FileGames.{IsGameOfFile};
+ghost use Rattle.ps_machine.specs.declared.key.Order.{Order};
+ghost use Rattle.ps_synthesis.specs.Reports.{IsWinners, IsWinnersCircuit};
+
+/// By a certificate of a file's game the winner has one circuit at most, and none where the gates of its machine need
+/// too many variables.
+pub fn winners_circuit_is_one()
+    ensures one { (order : Order) (file : FileData) (game : NamedGameData) (first second : IsGameOfFile order file game)
+        (certificate : CertificateData) (c d : CircuitData) → IsWinnersCircuit order file game first certificate c →
+        IsWinnersCircuit order file game second certificate d → c ≡ d }
+    ensures apart { (order : Order) (file : FileData) (game : NamedGameData)
+        (first second : IsGameOfFile order file game)
+        (certificate : CertificateData) (c : CircuitData) (m : Behaviour) →
+        IsWinnersCircuit order file game first certificate c → IsWinners order file game second certificate m →
+        ¬ IsOutOfLiterals m }
+{
+    ps_machine::one_machine_of_file();
+    ps_aiger::one_circuit();
+    ps_aiger::circuit_has_literals();
+}

@@ -1,0 +1,97 @@
+-- What a format says of a sign is decided: which of its causes is the least, or that it has none.
+--     Decided A      A holds, or it does not
+--     decide_not, decide_as, decide_both, decide_one      of facts that are decided
+--     decide_below, decide_in      of two numbers, and of a number in a list
+--     judge_none, judge_cause, judge_one, judge_as      no cause; one cause, if a fact holds; of two sets of causes; a
+--               set of the same causes
+use Rattle.std.proofs.Common.{◌≡◌, ℕ, zero, suc, ◌≤◌, ◌⊎◌, List, [], ◌∷◌, length, get_or, refl, sym, inl, inr, arith}
+use Rattle.std.specs.List.{Contains}
+use Rattle.std.proofs.lemmas.Bool.{cases_eq, cases_lt}
+use Rattle.ps_text.proofs.Outcomes.{Judged, bad, good, bad_only}
+
+abbrev pub Decided : Type 0 → Type 0
+Decided A = A ⊎ ¬ A
+
+pub decide_not : {A : Type 0} → Decided A → Decided (¬ A)
+decide_not (inl h) = inr (λ n. n h)
+decide_not (inr n) = inl n
+
+pub decide_as : {A B : Type 0} → (A → B) → (B → A) → Decided A → Decided B
+decide_as to from (inl a) = inl (to a)
+decide_as to from (inr n) = inr (λ b. n (from b))
+
+pub decide_both : {A B : Type 0} → Decided A → Decided B → Decided (A × B)
+decide_both (inl a) (inl b) = inl (a, b)
+decide_both (inl a) (inr n) = inr (λ h. n h.1)
+decide_both (inr n) b = inr (λ h. n h.0)
+
+pub decide_one : {A B : Type 0} → Decided A → Decided B → Decided (A ⊎ B)
+decide_one (inl a) b = inl (inl a)
+decide_one (inr n) (inl b) = inl (inr b)
+decide_one {A} {B} (inr n) (inr m) = inr go
+  where
+    go : A ⊎ B → ⊥
+    go (inl a) = n a
+    go (inr b) = m b
+
+pub decide_below : (m n : ℕ) → Decided (m ≤ n)
+decide_below m n = go (cases_lt n m)
+  where
+    go : (suc n ≤ m) ⊎ (m ≤ n) → Decided (m ≤ n)
+    go (inl above) = inr (λ h. omega (arith, above, h))
+    go (inr h) = inl h
+
+pub decide_in : (xs : List ℕ) (n : ℕ) → Decided (Contains xs n)
+decide_in [] n = inr (λ c. omega (arith, c.1))
+decide_in (x ∷ xs) n = go (cases_eq x n) (decide_in xs n)
+  where
+    behind : ¬ (x ≡ n) → (k : ℕ) → suc k ≤ length (x ∷ xs) → get_or (x ∷ xs) k n ≡ n → Contains xs n
+    behind other zero l e = absurd (other e)
+    behind other (suc k) l e = (k, omega (arith, l), e)
+
+    go : (x ≡ n) ⊎ ¬ (x ≡ n) → Decided (Contains xs n) → Decided (Contains (x ∷ xs) n)
+    go (inl e) d = inl (0, omega arith, e)
+    go (inr other) (inl c) = inl (suc c.0, omega (arith, c.1), c.2)
+    go (inr other) (inr none) = inr (λ c. none (behind other c.0 c.1 c.2))
+
+module _ {F : Type 0} (number : F → ℕ) where
+  pub judge_none : Judged number (λ f. ⊥)
+  judge_none = good (λ f b. b)
+
+  pub judge_cause : {A : Type 0} (cause : F) → Decided A → Judged number (λ f. A × (f ≡ cause))
+  judge_cause cause (inl a) = bad_only number _ cause (a, refl) (λ g b. sym b.1)
+  judge_cause cause (inr n) = good (λ f b. n b.0)
+
+  pub judge_as : {P Q : F → Type 0} → ((f : F) → P f → Q f) → ((f : F) → Q f → P f) → Judged number P → Judged number Q
+  judge_as to from (bad f b least) = bad f (to f b) (λ g c. least g (from g c))
+  judge_as to from (good n) = good (λ f b. n f (from f b))
+
+  pub judge_one : {P Q : F → Type 0} → Judged number P → Judged number Q → Judged number (λ f. P f ⊎ Q f)
+  judge_one {P} {Q} (bad f b least) (bad g c low) = go (cases_lt (number g) (number f))
+    where
+      under_left : number f ≤ number g → (h : F) → P h ⊎ Q h → number f ≤ number h
+      under_left l h (inl d) = least h d
+      under_left l h (inr d) = omega (arith, l, low h d)
+
+      under_right : number g ≤ number f → (h : F) → P h ⊎ Q h → number g ≤ number h
+      under_right l h (inl d) = omega (arith, l, least h d)
+      under_right l h (inr d) = low h d
+
+      go : (suc (number g) ≤ number f) ⊎ (number f ≤ number g) → Judged number (λ h. P h ⊎ Q h)
+      go (inl l) = bad g (inr c) (under_right (omega (arith, l)))
+      go (inr l) = bad f (inl b) (under_left l)
+  judge_one {P} {Q} (bad f b least) (good n) = bad f (inl b) go
+    where
+      go : (h : F) → P h ⊎ Q h → number f ≤ number h
+      go h (inl d) = least h d
+      go h (inr d) = absurd (n h d)
+  judge_one {P} {Q} (good n) (bad g c low) = bad g (inr c) go
+    where
+      go : (h : F) → P h ⊎ Q h → number g ≤ number h
+      go h (inl d) = absurd (n h d)
+      go h (inr d) = low h d
+  judge_one {P} {Q} (good n) (good m) = good go
+    where
+      go : (h : F) → P h ⊎ Q h → ⊥
+      go h (inl d) = n h d
+      go h (inr d) = m h d

@@ -1,0 +1,317 @@
+-- Each part of a grammar has an outcome from each list of signs, by recursion over the grammar: it is read, or its
+-- first fault is found. Only a single sign asks for a decision, which of its causes is the least: Judged.
+--     has_give, has_one, has_mapped, has_then, has_either, has_times, has_many, has_barred      one for each combinator
+--     entered_or_broken      a part that takes a sign is entered by the next one, or broken there
+--     has_refusal      where no sign comes with which it begins
+--     some_answer      each text that is one such part has an answer; some_answer_of is the law of ps_text
+use Rattle.std.proofs.Common.{◌≡◌, ℕ, zero, suc, ◌<◌, ◌≤◌, ◌⊎◌, List, [], ◌∷◌, ◌++◌, length, Option, None, Some, Result}
+use Rattle.std.proofs.Common.{Ok, Err, refl, sym, ap, subst, inl, inr, ◌∙◌, arith}
+use Rattle.ps_text.specs.Answers.{Begins, Piece, Stream, Found, HasOneMeaning, first_of, signs, offset_of}
+use Rattle.ps_text.specs.Parts.{Part, Causes, PartAnswers, IsRead, IsBroken, IsFault, IsFaultAt, is_cause, is_refusal}
+use Rattle.ps_text.specs.Parts.{StopsAt, NoCauseAt, CleanUpTo, refusal_of, give, one, mapped, then_by, either, times}
+use Rattle.ps_text.specs.Parts.{many, barred}
+use Rattle.ps_text.specs.Outcomes.{Outcome, was_read, has_fault, HasOutcomes, IsOrderly}
+use Rattle.ps_text.proofs.Splits.{same_tail}
+use Rattle.ps_text.proofs.Laws.{Laws, Or, When, Apart, Joint}
+use Rattle.ps_text.proofs.Joined.{begins_less, read_then, fault_left, fault_right}
+use Rattle.ps_text.proofs.Simple.{none_is_some, same_some, nil_is_cons, append_nil_left, read_give, read_one, bad_one}
+use Rattle.ps_text.proofs.Simple.{refused_one, ended_one, read_mapped, fault_mapped, laws_then}
+use Rattle.ps_text.proofs.Covered.{Enters, Avoids, enters_broken, enters_read, read_as, fault_as}
+use Rattle.ps_text.proofs.Repeated.{joint_many, joint_times, more_items, covers_item, laws_many}
+use Rattle.ps_text.proofs.Branches.{Stands, left_entered, right_otherwise, item_entered, shrinks}
+use Rattle.ps_text.proofs.Barred.{Bar, read_barred, fault_barred, fault_bar}
+use Rattle.ps_text.proofs.Whole.{Own, answers_ok, answers_fault, answers_trailing}
+
+-- which cause a sign is: the one with the least number, or none
+pub data Judged {F : Type 0} (number : F → ℕ) (Bad : F → Type 0) : Type 0 where
+  bad : (f : F) → Bad f → ((g : F) → Bad g → number f ≤ number g) → Judged number Bad
+  good : ((f : F) → Bad f → ⊥) → Judged number Bad
+
+-- one cause at most
+pub bad_only : {F : Type 0} (number : F → ℕ) (Bad : F → Type 0) (f : F) → Bad f → ((g : F) → Bad g → f ≡ g) →
+    Judged number Bad
+bad_only number Bad f b only = bad f b (λ g c. subst (λ h. number f ≤ number h) (only g c) (omega arith))
+
+-- a part with the signs that enter it as its first ones
+pub exact : {T V F : Type 0} {odd : T → Type 0} {P : Part T V F} {First More : T → Type 0} {Null : Type 0} →
+    Laws odd P First More Null → Laws odd P (λ t. Enters P (Some t)) More Null
+exact l = record {
+  some = l.some;
+  one_value = l.one_value;
+  first_text = λ t text v h. inl (record { more = text; value = v; is_text = h });
+  first_cause = λ t f c. inr (f, c);
+  more_text = l.more_text;
+  more_cause = l.more_cause;
+  null = l.null;
+  behind = l.behind;
+  plain_text = l.plain_text;
+  plain_cause = l.plain_cause;
+}
+
+module _ {T F : Type 0} (causes : Causes T F) where
+  pub has_give : {V : Type 0} (v : V) → HasOutcomes causes (give {T = T} {V = V} {F = F} v)
+  has_give v = record { outcome = λ all. was_read v all (read_give all v) }
+
+  -- s is any sign that may stand there
+  pub has_one : {V : Type 0} (take : T → Option V) (Bad : T → F → Type 0) (s : T) (w : V) → take s ≡ Some w →
+      ((t : T) → Judged causes.number (Bad t)) → HasOutcomes causes (one take Bad)
+  has_one {V} take Bad s w e judge = record { outcome = go }
+    where
+      taken : (t : T) (rest : List T) → ((f : F) → Bad t f → ⊥) → (o : Option V) → take t ≡ o →
+          Outcome causes (one take Bad) (t ∷ rest)
+      taken t rest b (Some v) x = was_read v rest (read_one take Bad t rest v x b)
+      taken t rest b None x = has_fault _ (t ∷ rest) (refused_one take Bad causes s w e t rest x b)
+
+      by : (t : T) (rest : List T) → Judged causes.number (Bad t) → Outcome causes (one take Bad) (t ∷ rest)
+      by t rest (bad f b least) = has_fault f (t ∷ rest) (bad_one take Bad causes t rest f b least)
+      by t rest (good b) = taken t rest b (take t) refl
+
+      go : (all : List T) → Outcome causes (one take Bad) all
+      go [] = has_fault causes.syntax [] (ended_one take Bad causes s w e)
+      go (t ∷ rest) = by t rest (judge t)
+
+  pub has_mapped : {A B : Type 0} (h : A → B) (P : Part T A F) → HasOutcomes causes P → HasOutcomes causes (mapped h P)
+  has_mapped h P p = record { outcome = λ all. go all (p.outcome all) }
+    where
+      go : (all : List T) → Outcome causes P all → Outcome causes (mapped h P) all
+      go all (was_read a rest r) = was_read (h a) rest (read_mapped h P all rest a r)
+      go all (has_fault f rest r) = has_fault f rest (fault_mapped h P causes all rest f r)
+
+  pub has_then : {A B : Type 0} {P : Part T A F} {Q : A → Part T B F} → Joint P Q → HasOutcomes causes P →
+      ((a : A) → HasOutcomes causes (Q a)) → HasOutcomes causes (then_by P Q)
+  has_then {A} {B} {P} {Q} j p q = record { outcome = λ all. go all (p.outcome all) }
+    where
+      behind : (all mid : List T) (a : A) → IsRead P all a mid → Outcome causes (Q a) mid →
+          Outcome causes (then_by P Q) all
+      behind all mid a r (was_read b rest s) = was_read b rest (read_then P Q j all mid rest a b r s)
+      behind all mid a r (has_fault f rest s) = has_fault f rest (fault_right P Q j causes all mid rest a f r s)
+
+      go : (all : List T) → Outcome causes P all → Outcome causes (then_by P Q) all
+      go all (was_read a mid r) = behind all mid a r ((q a).outcome mid)
+      go all (has_fault f rest r) = has_fault f rest (fault_left P Q j causes all rest f r)
+
+  -- no sign comes with which P begins
+  pub has_refusal : {V : Type 0} {odd : T → Type 0} {P : Part T V F} {First More : T → Type 0} →
+      Laws odd P First More ⊥ → (all : List T) → Avoids First (first_of all) → Outcome causes P all
+  has_refusal {P = P} {First = First} l all avoided = has_fault (refusal_of causes (first_of all)) all (record {
+    front = [];
+    split = refl;
+    clean = λ front rest t f e n c. absurd (omega (arith, n));
+    fault = is_refusal (record {
+      before = l.some;
+      no_text = l.null;
+      stops = stops (first_of all) avoided;
+      no_cause = quiet (first_of all)
+          avoided;
+    }) refl;
+  })
+    where
+      stops : (there : Option T) → Avoids First there → StopsAt P [] there
+      stops None a = tt
+      stops (Some t) a = λ b. a t refl (l.first_text t b.more b.value b.is_text)
+
+      quiet : (there : Option T) → Avoids First there → NoCauseAt P [] there
+      quiet None a = tt
+      quiet (Some t) a = λ f c. a t refl (l.first_cause t f c)
+
+  -- what P comes to, Q comes to that is read as P
+  as_well : {V : Type 0} (P Q : Part T V F) (all : List T) → Stands (first_of all) P Q → Outcome causes P all →
+      Outcome causes Q all
+  as_well P Q all w (was_read v rest r) = was_read v rest (read_as P Q all rest v w.covers r)
+  as_well P Q all w (has_fault f rest r) = has_fault f rest (fault_as P Q causes all rest f w.covers w.starts r)
+
+  module _ {V : Type 0} {odd : T → Type 0} {P : Part T V F} {First More : T → Type 0} {Null : Type 0}
+      (l : Laws odd P First More Null) where
+    entered : (front rest : List T) (there : Option T) (f : F) → first_of (front ++ rest) ≡ there →
+        IsFaultAt causes P front (first_of rest) f → Enters P there ⊎ IsBroken P [] there
+    entered [] rest there f e (is_cause t x c m) = inl (subst (Enters P) (sym x ∙ e) (inr (f, c)))
+    entered [] rest there f e (is_refusal b x) = inr (subst (IsBroken P []) e b)
+    entered (t ∷ front) rest there f e (is_cause u x c m) = inl
+        (subst (Enters P) e (inl (begins_less P.IsText (t ∷ []) front (l.behind (t ∷ front) u f c))))
+    entered (t ∷ front) rest there f e (is_refusal b x) = inl
+        (subst (Enters P) e (inl (begins_less P.IsText (t ∷ []) front b.before)))
+
+    -- the next sign begins P, or P has no text and no cause there
+    pub entered_or_broken : (Null → ⊥) → (all : List T) → Outcome causes P all →
+        Enters P (first_of all) ⊎ IsBroken P [] (first_of all)
+    entered_or_broken n all (was_read v rest r) = inl (enters_read P all rest v (λ w h. n (l.null w h)) r)
+    entered_or_broken n all (has_fault f rest r) = entered r.front rest (first_of all) f (ap first_of (sym r.split))
+        r.fault
+
+  avoids : {V : Type 0} (P : Part T V F) (there : Option T) → IsBroken P [] there →
+      Avoids (λ t. Enters P (Some t)) there
+  avoids P there b t x e = enters_broken P there (subst (Enters P) (sym x) e) b
+
+  -- the first form takes a sign
+  pub has_either : {V : Type 0} {odd : T → Type 0} {P Q : Part T V F} {F1 M1 F2 M2 : T → Type 0} {N2 : Type 0} →
+      Laws odd P F1 M1 ⊥ → Laws odd Q F2 M2 N2 → Apart F1 F2 → HasOutcomes causes P → HasOutcomes causes Q →
+      HasOutcomes causes (either P Q)
+  has_either {V} {odd} {P} {Q} l r apart p q = record
+      { outcome = λ all. go all (entered_or_broken l (λ n. n) all (p.outcome all)) }
+    where
+      go : (all : List T) → Enters P (first_of all) ⊎ IsBroken P [] (first_of all) → Outcome causes (either P Q) all
+      go all (inl e) = as_well P (either P Q) all (left_entered l r (first_of all) apart e) (p.outcome all)
+      go all (inr b) = as_well Q (either P Q) all
+          (right_otherwise (exact l) r (first_of all) (avoids P (first_of all) b) (λ n. n)) (q.outcome all)
+
+  module _ {C : Type 0} {odd : T → Type 0} (item : C → Part T C F) {First More : T → Type 0}
+      (l : (c : C) → Laws odd (item c) First More ⊥) (apart : Apart More First)
+      (p : (c : C) → HasOutcomes causes (item c)) where
+    pub has_times : (n : ℕ) (c : C) → HasOutcomes causes (times n item c)
+    has_times zero c = has_give c
+    has_times (suc n) c = has_then (joint_times item l apart n c) (p c) (λ d. has_times n d)
+
+    -- where no item begins, none is read
+    module _ (c : C) (all : List T) (b : IsBroken (item c) [] (first_of all)) where
+      first_item : Laws odd (more_items item c) (Or (λ t. Enters (item c) (Some t)) (When ⊥ First))
+          (Or (Or More First) (When (Unit {0}) More)) (⊥ × Unit {0})
+      first_item = laws_then (exact (l c)) (λ d. laws_many item l apart d) apart
+
+      no_item : (t : T) → first_of all ≡ Some t → Or (λ t. Enters (item c) (Some t)) (When ⊥ First) t → ⊥
+      no_item t e (inl h) = avoids (item c) (first_of all) b t e h
+      no_item t e (inr h) = h.0
+
+      stops : (there : Option T) → first_of all ≡ there → StopsAt (many item c) [] there
+      stops None e = tt
+      stops (Some u) e = λ h. no_item u e
+          (first_item.first_text u h.more h.value
+          ((covers_item item c (Some u)).text_back u h.more h.value refl h.is_text))
+
+      clean : CleanUpTo (many item c) all 1
+      clean [] rest t f e n k = no_item t (ap first_of e)
+          (first_item.first_cause t f ((covers_item item c (Some t)).cause_back [] t f refl k))
+      clean (s ∷ front) rest t f e n k = absurd (omega (arith, n))
+
+      pub read_no_item : IsRead (many item c) all c all
+      read_no_item = record
+          { text = []; split = refl; is_text = (zero, (refl, refl)); stops = stops (first_of all) refl; clean = clean }
+
+    abbrev Within : ℕ → Type 0
+    Within n = (mid : List T) (d : C) → length mid < n → Outcome causes (many item d) mid
+
+    -- by recursion over how many signs are left
+    many_from : (n : ℕ) (c : C) (all : List T) → length all < n → Outcome causes (many item c) all
+    many_from zero c all less = absurd (omega (arith, less))
+    many_from (suc n) c all less = go (λ mid d short. many_from n d mid short)
+        (entered_or_broken (l c) (λ x. x) all ((p c).outcome all)) ((p c).outcome all)
+      where
+        j : Joint (item c) (λ d. many item d)
+        j = joint_many item l apart c
+
+        behind : (mid : List T) (d : C) → IsRead (item c) all d mid → Outcome causes (many item d) mid →
+            Outcome causes (more_items item c) all
+        behind mid d r (was_read e rest s) = was_read e rest
+            (read_then (item c) (λ d. many item d) j all mid rest d e r s)
+        behind mid d r (has_fault f rest s) = has_fault f rest
+            (fault_right (item c) (λ d. many item d) j causes all mid rest d f r s)
+
+        rest_of : Within n → Outcome causes (item c) all → Outcome causes (more_items item c) all
+        rest_of fewer (was_read d mid r) = behind mid d r (fewer mid d
+            (let x : length mid < length all = shrinks (item c) all mid d (λ w h. (l c).null w h) r in
+            omega (arith, x, less)))
+        rest_of fewer (has_fault f rest r) = has_fault f rest
+            (fault_left (item c) (λ d. many item d) j causes all rest f r)
+
+        go : Within n → Enters (item c) (first_of all) ⊎ IsBroken (item c) [] (first_of all) →
+            Outcome causes (item c) all → Outcome causes (many item c) all
+        go fewer (inl e) o = as_well (more_items item c) (many item c) all
+            (item_entered item l apart c (first_of all) e) (rest_of fewer o)
+        go fewer (inr b) o = was_read c all (read_no_item c all b)
+
+    pub has_many : (c : C) → HasOutcomes causes (many item c)
+    has_many c = record { outcome = λ all. many_from (suc (length all)) c all (omega arith) }
+
+  pub has_barred : {V : Type 0} {odd : T → Type 0} {P : Part T V F} (Bad : V → T → F → Type 0) {First More : T → Type 0}
+      {Null : Type 0} → Laws odd P First More Null → Apart More (Bar Bad) →
+      ((v : V) (t : T) → Judged causes.number (Bad v t)) → HasOutcomes causes P → HasOutcomes causes (barred P Bad)
+  has_barred {V} {odd} {P} Bad l apart judge p = record { outcome = λ all. go all (p.outcome all) }
+    where
+      behind : (all rest : List T) (t : T) (v : V) → IsRead P all v (t ∷ rest) → Judged causes.number (Bad v t) →
+          Outcome causes (barred P Bad) all
+      behind all rest t v r (bad f b least) = has_fault f (t ∷ rest)
+          (fault_bar Bad l apart causes all rest t v f r b least)
+      behind all rest t v r (good b) = was_read v (t ∷ rest)
+          (read_barred Bad l apart all (t ∷ rest) v (λ u f e c. b f (subst (λ z. Bad v z f) (sym (same_some t u e)) c))
+          r)
+
+      go : (all : List T) → Outcome causes P all → Outcome causes (barred P Bad) all
+      go all (was_read v [] r) = was_read v [] (read_barred Bad l apart all [] v (λ u f e c. none_is_some u e) r)
+      go all (was_read v (t ∷ rest) r) = behind all rest t v r (judge v t)
+      go all (has_fault f rest r) = has_fault f rest (fault_barred Bad l apart causes all rest f r)
+
+-- ## The whole text
+
+-- pieces are parted where their signs are
+parted : {T : Type 0} (ps : List (Piece T)) (front rest : List T) → signs ps ≡ front ++ rest →
+    (a : List (Piece T)) × (b : List (Piece T)) × (ps ≡ a ++ b) × (signs b ≡ rest)
+parted ps [] rest e = ([], ps, refl, e)
+parted [] (t ∷ front) rest e = absurd (none_is_some t (ap first_of e))
+parted (p ∷ ps) (t ∷ front) rest e = let x = parted ps front rest (same_tail p.sign t (signs ps) (front ++ rest) e) in
+    (p ∷ x.0, x.1, ap (λ z. p ∷ z) x.2, x.3)
+
+module _ {T V F : Type 0} {causes : Causes T F} {part : Part T V F} {First More : T → Type 0} {Null : Type 0}
+    (l : Laws (Own causes) part First More Null) where
+  pub some_answer : HasOutcomes causes part → (stream : Stream T) →
+      (answer : Result V (Found F)) × PartAnswers causes part stream answer
+  some_answer h stream = go (h.outcome (signs stream.pieces))
+    where
+      behind : (v : V) (rest : List T) (a b : List (Piece T)) → IsRead part (signs stream.pieces) v rest →
+          stream.pieces ≡ a ++ b → signs b ≡ rest →
+          (answer : Result V (Found F)) × PartAnswers causes part stream answer
+      behind v rest a [] r s e = (Ok v, answers_ok l stream v (subst (IsRead part (signs stream.pieces) v) (sym e) r))
+      behind v rest a (p ∷ ps) r s e = (
+        Err (record { cause = refusal_of causes (Some p.sign); offset = p.start }),
+        answers_trailing l stream (record { pieces = p ∷ ps; end = stream.end }) v p ps
+            (record { taken = a; split = s; end = refl }) (subst (IsRead part (signs stream.pieces) v) (sym e) r) refl,
+      )
+
+      go : Outcome causes part (signs stream.pieces) →
+          (answer : Result V (Found F)) × PartAnswers causes part stream answer
+      go (was_read v rest r) = let x = parted stream.pieces r.text rest r.split in behind v rest x.0 x.1 r x.2 x.3
+      go (has_fault f rest r) = let x = parted stream.pieces r.front rest r.split in
+          let found : Found F = record { cause = f; offset = offset_of x.1 stream.end } in (
+            Err found,
+            answers_fault l stream found (record {
+              front = x.0;
+              rest = x.1;
+              split = x.2;
+              fault = subst (IsFault causes part (signs stream.pieces) f) (sym x.3) r;
+              offset = refl;
+            }),
+          )
+
+-- the same from what the law of the format says
+module _ {T V F : Type 0} {causes : Causes T F} {part : Part T V F} where
+  some_text : Outcome causes part [] → Begins part.IsText []
+  some_text (was_read v rest r) = record {
+    more = [];
+    value = v;
+    is_text = subst (λ z. part.IsText z v) (append_nil_left r.text rest (sym r.split))
+        r.is_text;
+  }
+  some_text (has_fault f rest r) = go r.front rest r.split r.fault
+    where
+      go : (front rest : List T) → [] ≡ front ++ rest → IsFaultAt causes part front (first_of rest) f →
+          Begins part.IsText []
+      go [] [] e (is_cause t x c m) = absurd (none_is_some t x)
+      go [] [] e (is_refusal b x) = b.before
+      go [] (t ∷ rest) e x = absurd (nil_is_cons t rest e)
+      go (t ∷ front) rest e x = absurd (nil_is_cons t (front ++ rest) e)
+
+  pub some_answer_of : HasOneMeaning part.IsText → IsOrderly causes part → HasOutcomes causes part →
+      (stream : Stream T) → (answer : Result V (Found F)) × PartAnswers causes part stream answer
+  some_answer_of one o h = some_answer laws h
+    where
+      laws : Laws (Own causes) part (λ _. Unit {0}) (λ _. Unit {0}) (Unit {0})
+      laws = record {
+        some = some_text (h.outcome []);
+        one_value = one;
+        first_text = λ t text v k. tt;
+        first_cause = λ t f k. tt;
+        more_text = λ text more t v w i k. tt;
+        more_cause = λ text t v f i k. tt;
+        null = λ v k. tt;
+        behind = o.behind;
+        plain_text = λ front rest t v k x. o.in_no_text front rest t v x.0 k x.1;
+        plain_cause = λ front t f k x. o.no_cause front t f x.0 k x.1;
+      }

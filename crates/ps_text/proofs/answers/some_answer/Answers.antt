@@ -1,0 +1,6 @@
+-- The law is a lemma.
+use Rattle.ps_text.proofs.Outcomes.{some_answer_of}
+use Rattle.ps_text.proofs.answers.some_answer.Goals as goal
+
+pub returns : goal.returns
+returns g c = some_answer_of
