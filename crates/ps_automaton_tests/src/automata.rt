@@ -11,8 +11,21 @@ fn automaton_of(alloc: Global, text: &str) -> Result<Automaton, Fail> {
 }
 
 /// Two states: a request has to be granted before the next letter without a mark.
-const TWO_STATES: &str =
-    "HOA: v1\nStates: 2\nStart: 0\nAP: 2 \"r\" \"g\"\ncontrollable-AP: 1\nAcceptance: 1 Inf(0)\n--BODY--\nState: 0\n[!0|1] 0 {0}\n[0&!1] 1\nState: 1\n[1] 0 {0}\n[!1] 1\n--END--\n";
+const TWO_STATES: &str = "HOA: v1
+States: 2
+Start: 0
+AP: 2 \"r\" \"g\"
+controllable-AP: 1
+Acceptance: 1 Inf(0)
+--BODY--
+State: 0
+[!0|1] 0 {0}
+[0&!1] 1
+State: 1
+[1] 0 {0}
+[!1] 1
+--END--
+";
 
 /// Whether two lassos over two propositions are accepted.
 fn verdicts(automaton: &Automaton) -> Result<[bool; 2], Fail> {

@@ -44,7 +44,8 @@ const PARTS_OF_UNUSUAL: [&str; 11] = [
 /// Labels that are conjunctions in disjunctions and the other way round, of propositions and aliases, and such a
 /// condition.
 const NESTED: &str =
-    "HOA: v1 Start: 0 AP: 2 \"a\" \"b\" controllable-AP: Alias: @x 0 Alias: @y 1 Acceptance: 3 Inf(0)&Fin(!1)|(f|Fin(2)) --BODY--
+    "HOA: v1 Start: 0 AP: 2 \"a\" \"b\" controllable-AP: Alias: @x 0 Alias: @y 1 Acceptance: 3
+    Inf(0)&Fin(!1)|(f|Fin(2)) --BODY--
     State: 0 [@y|t] 0 [@x&!0] 0 [0&1|f] 0 [0|1|(0|1)] 0 [!(0&1)&1] 0 --END--";
 
 /// What is kept of them.

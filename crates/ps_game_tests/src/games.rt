@@ -56,8 +56,8 @@ fn all_read_as(alloc: Global, game: &Game, rows: &[Row]) -> bool {
         && flat_reads_as(FlatGame::<usize>::of(alloc, game), rows)
 }
 
-/// One more vertex. Where a growth was refused, which `rt try --test --fail-alloc N` does, the same builder is asked once
-/// more.
+/// One more vertex. Where a growth was refused, which `rt try --test --fail-alloc N` does, the same builder is asked
+/// once more.
 #[tactic(auto, unfolding(ps_game::specs::Games::vertex_count))]
 fn vertex(builder: &mut GameBuilder, owner: u8, priority: u64) -> Result<usize, AllocError>
     requires { owner < 2 }
