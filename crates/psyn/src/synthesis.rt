@@ -5,7 +5,9 @@ ghost use Rattle.ps_certificate.specs.Certificates.{CertificateData};
 ghost use Rattle.ps_game.specs.Games.{NamedGameData};
 ghost use Rattle.ps_hoa.specs.Files.{FileData};
 ghost use Rattle.ps_machine.specs.declared.fault.SolveFault.{SolveFault};
+ghost use Rattle.ps_machine.specs.declared.key.Order.{Order};
 ghost use Rattle.ps_synthesis.specs.Asking.{Answered};
+ghost use Rattle.ps_synthesis.specs.Problems.{IsProblemOf};
 ghost use Rattle.ps_synthesis.specs.Promises.{IsAcceptedText};
 ghost use Rattle.ps_synthesis.specs.Reports.{IsReport};
 ghost use Rattle.ps_synthesis.specs.SynthFaults.{IsOutcome, IsSynthFault};
@@ -44,6 +46,27 @@ pub fn synthesise(
         may_answer solver.new text game answer → may_answer solver.old text game answer }
 {
     let problem = Problem::read(alloc, text, order)?;
+    report_by(alloc, &problem, compact, solver)
+}
+
+/// The report of a problem by a solver that is handed in.
+fn report_by(
+    alloc: Global,
+    problem: &Problem,
+    compact: bool,
+    solver: &mut Box<dyn Solver>,
+) -> Result<Report, SynthFault>
+    ensures report { (order : Order) (text : List ℕ) → IsProblemOf order text problem.now →
+        IfOk result (IsReport (Answered (may_answer solver.old (fed solver.old)) (gave solver.new)) order compact text) }
+    ensures refused { (order : Order) (text : List ℕ) → IsProblemOf order text problem.now →
+        IfErr result (IsSynthFault (Answered (may_answer solver.old (fed solver.old)) (gave solver.new)) order text) }
+    ensures sure { is_sure solver.old ≡ true → (order : Order) (text : List ℕ) → IsProblemOf order text problem.now →
+        IsOutcome (Answered (may_answer solver.old (fed solver.old)) (gave solver.new)) order compact text result }
+    ensures steady { is_sure solver.new ≡ is_sure solver.old }
+    ensures kept { fed solver.new ≡ fed solver.old }
+    ensures same { (text : Option (List ℕ)) (game : NamedGameData) (answer : Result CertificateData SolveFault) →
+        may_answer solver.new text game answer → may_answer solver.old text game answer }
+{
     let certificate = certified(alloc, problem.game(), solver)?;
     problem.report_of_certified(alloc, &certificate, compact)
 }

@@ -1,92 +1,13 @@
-use Rattle.std.proofs.Common.{Ok, subst}
-use Rattle.ps_game.specs.Games.{NamedGameData}
-use Rattle.ps_synthesis.specs.Asking.{Answered}
-use Rattle.ps_synthesis.specs.Promises.{MayAnswer}
-use Rattle.ps_synthesis.specs.Stages.{IsSolverFault}
-use Rattle.ps_synthesis.specs.SynthFaults.{IsSynthFault}
-use Rattle.ps_synthesis.proofs.Outcomes.{cause_in, report_in}
-use Rattle.ps_synthesis.proofs.Reporting.{told_as}
-use Rattle.psyn.proofs.SynthesiseLemmas.{fault_of, lacks_memory, outcome_by}
 use Rattle.psyn.proofs.synthesis.synthesise.Goals as goal
 
 pub returns-clause-report : goal.returns-clause-report
 returns-clause-report g c =
-    let b = c.args.solver.now in
-    let s = goal.Solver-dyn g (b.vtable, b.value) in
-    let d = c.certified.new.solver in
-    let t = goal.Solver-dyn g (d.vtable, d.value) in
-    let may : MayAnswer = Answered (s.may_answer b.value (s.fed b.value)) (t.gave d.value) in
-    let p = c.in_ok-problem.problem in
-    let certificate = c.in_ok-certificate.certificate in
-    let order = c.args.order in
-    let text = c.args.text.now in
-    let result = c.report_of_certified.result in
-    let answered =
-    subst (λ (game : NamedGameData). may game (Ok certificate)) c.game.ensures.game
-    c.in_ok-certificate.ensures.answered in
-    report_in may order c.args.compact text result (outcome_by may p.game certificate answered order text c.args.compact
-    result (c.report_of_certified.ensures.outcome order text c.in_ok-problem.ensures.problem))
+    c.report_by.ensures.report c.args.order c.args.text.now c.in_ok-problem.ensures.problem
 
 pub returns-clause-refused : goal.returns-clause-refused
 returns-clause-refused g c =
-    let b = c.args.solver.now in
-    let s = goal.Solver-dyn g (b.vtable, b.value) in
-    let d = c.certified.new.solver in
-    let t = goal.Solver-dyn g (d.vtable, d.value) in
-    let may : MayAnswer = Answered (s.may_answer b.value (s.fed b.value)) (t.gave d.value) in
-    let p = c.in_ok-problem.problem in
-    let certificate = c.in_ok-certificate.certificate in
-    let order = c.args.order in
-    let text = c.args.text.now in
-    let result = c.report_of_certified.result in
-    let answered =
-    subst (λ (game : NamedGameData). may game (Ok certificate)) c.game.ensures.game
-    c.in_ok-certificate.ensures.answered in
-    cause_in may order c.args.compact text result (outcome_by may p.game certificate answered order text c.args.compact
-    result (c.report_of_certified.ensures.outcome order text c.in_ok-problem.ensures.problem))
+    c.report_by.ensures.refused c.args.order c.args.text.now c.in_ok-problem.ensures.problem
 
 pub returns-clause-sure : goal.returns-clause-sure
 returns-clause-sure g c = λ sure file accepted.
-    (let b = c.args.solver.now in
-    let s = goal.Solver-dyn g (b.vtable, b.value) in
-    let d = c.certified.new.solver in
-    let t = goal.Solver-dyn g (d.vtable, d.value) in
-    let may : MayAnswer = Answered (s.may_answer b.value (s.fed b.value)) (t.gave d.value) in
-    let p = c.in_ok-problem.problem in
-    let certificate = c.in_ok-certificate.certificate in
-    let order = c.args.order in
-    let text = c.args.text.now in
-    let answered =
-    subst (λ (game : NamedGameData). may game (Ok certificate)) c.game.ensures.game
-    c.in_ok-certificate.ensures.answered in
-    outcome_by may p.game certificate answered order text c.args.compact c.report_of_certified.result
-    (c.report_of_certified.ensures.outcome order text c.in_ok-problem.ensures.problem))
-
-pub returns-in_err-certificate-clause-refused : goal.returns-in_err-certificate-clause-refused
-returns-in_err-certificate-clause-refused g c =
-    let b = c.args.solver.now in
-    let s = goal.Solver-dyn g (b.vtable, b.value) in
-    let d = c.certified.new.solver in
-    let t = goal.Solver-dyn g (d.vtable, d.value) in
-    let may : MayAnswer = Answered (s.may_answer b.value (s.fed b.value)) (t.gave d.value) in
-    let p = c.in_ok-problem.problem in
-    let fault = c.in_err-certificate.field-0.0 in
-    let order = c.args.order in
-    let text = c.args.text.now in
-    let of_solver =
-    subst (λ (game : NamedGameData). IsSolverFault may game fault) c.game.ensures.game
-    c.in_err-certificate.ensures.refused in
-    told_as c.from_residual-in_err-certificate.result fault (IsSynthFault may order text)
-    (fault_of may order text p c.in_ok-problem.ensures.problem fault of_solver)
-    c.from_residual-in_err-certificate.ensures.1
-
-pub returns-in_err-certificate-clause-sure : goal.returns-in_err-certificate-clause-sure
-returns-in_err-certificate-clause-sure g c = λ sure file accepted.
-    (let b = c.args.solver.now in
-    let s = goal.Solver-dyn g (b.vtable, b.value) in
-    let d = c.certified.new.solver in
-    let t = goal.Solver-dyn g (d.vtable, d.value) in
-    let may : MayAnswer = Answered (s.may_answer b.value (s.fed b.value)) (t.gave d.value) in
-    lacks_memory may c.args.order c.args.compact c.args.text.now c.from_residual-in_err-certificate.result
-    c.in_err-certificate.field-0.0 (c.in_err-certificate.ensures.sure sure)
-    c.from_residual-in_err-certificate.ensures.1)
+    c.report_by.ensures.sure sure c.args.order c.args.text.now c.in_ok-problem.ensures.problem
