@@ -7,3 +7,7 @@ pub mod WiredLemmas
 mod OneCircuit
 mod SameWires
 pub mod WireLemmas
+mod WiredMade
+mod CircuitShape
+mod CircuitSteps
+mod CircuitThere

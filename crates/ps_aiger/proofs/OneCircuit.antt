@@ -16,10 +16,9 @@ use Rattle.ps_circuit.specs.Building.{variables_of}
 use Rattle.ps_circuit.specs.Circuits.{CircuitData, definitions}
 use Rattle.ps_circuit.specs.Values.{resets}
 use Rattle.ps_aiger.specs.Encoded.{Encodes, IsTidy, symbols_of}
-use Rattle.ps_aiger.specs.Wires.{AreGates, IsOutOfLiterals, IsWired, Wired, next_bit, next_wires, output_bit}
-use Rattle.ps_aiger.specs.Wires.{output_wires}
+use Rattle.ps_aiger.specs.Wires.{AreGates, IsOutOfLiterals, IsWired, Wired, next_wires, output_wires}
 use Rattle.ps_aiger.proofs.SameWires.{next_wires_same, output_wires_same}
-use Rattle.ps_aiger.proofs.WireLemmas.{wired-extends}
+use Rattle.ps_aiger.proofs.WireLemmas.{output_given}
 
 -- ## Lists
 
@@ -180,11 +179,7 @@ not_out b o c same encodes tidy wired some out =
     let latches : out.latches ≡ length c.latches = omega (arith, one, two) in
     let wires : output_wires o out.latches ≡ output_wires b (length c.latches) =
     ap (output_wires o) latches ∙ sym (output_wires_same b o some same (length c.latches)) in
-    let first = next_wires b (length c.latches) in
-    let given : (output_wires b (length c.latches)).draft.given ≡ length b.inputs + length c.latches =
-    (wired-extends b (length c.latches) (map (output_bit b) b.outputs) first.draft).given
-    ∙ (wired-extends b (length c.latches) (map (next_bit b) (range_with_len 0 (length c.latches)))
-    (record { given = length b.inputs + length c.latches; gates = [] })).given in
+    let given = output_given b (length c.latches) in
     let inputs : length b.inputs ≡ length c.inputs =
     sym (length-map b.inputs (λ p. Some (slice_index_or b.names p []))) ∙ ap length (sym encodes.input_names)
     ∙ encodes.is_circuit.draft.inputs_named in

@@ -9,11 +9,12 @@ use Rattle.std.proofs.lemmas.List.{same_lists, length-map, get_or-map, drop_more
 use Rattle.std.proofs.lemmas.List.FromFn.{length-range_with_len, get_or-range_with_len}
 use Rattle.std.proofs.lemmas.Option.{get_or_from_slice_get}
 use Rattle.std.proofs.lemmas.Simd.{map-map}
+use Rattle.ps_machine.specs.Behaviours.{Behaviour}
 use Rattle.ps_machine.specs.Machines.{MachineData, behaviour}
 use Rattle.ps_aiger.specs.declared.functions.Wanted.{Wanted}
 use Rattle.ps_aiger.specs.declared.functions.Wanted.TheVariants.{Next, Output}
 use Rattle.ps_circuit.specs.declared.parts.Latch.{Latch}
-use Rattle.ps_circuit.specs.Building.{Drafted, Extends, variables_of}
+use Rattle.ps_circuit.specs.Building.{Drafted, Extends, IsHeld, variables_of}
 use Rattle.ps_aiger.specs.Built.{IsBuilt}
 use Rattle.ps_circuit.specs.Circuits.{CircuitData}
 use Rattle.ps_aiger.specs.Encoded.{memory_at}
@@ -21,8 +22,8 @@ use Rattle.ps_aiger.specs.Functions.{KnowsMade, bit_wanted, bits_wired, code_wan
 use Rattle.ps_circuit.specs.Gates.{Made, mux_of}
 use Rattle.ps_aiger.specs.Wires.{AreGates, IsOutOfLiterals, IsWired, IsWiredBy, Wired, code_made, next_bit, next_wires}
 use Rattle.ps_aiger.specs.Wires.{output_bit, output_wires, wired}
-use Rattle.ps_aiger.proofs.EncodeLemmas.{no_latch}
-use Rattle.ps_circuit.proofs.GateLemmas.{bool_cases, drafted_are, extends-refl, extends-trans}
+use Rattle.ps_aiger.proofs.CircuitShape.{no_latch}
+use Rattle.ps_circuit.proofs.GateLemmas.{bool_cases, drafted_are, extends-refl, extends-trans, held-extends}
 use Rattle.ps_circuit.proofs.MadeLemmas.{above-extends, mux-extends}
 use Rattle.ps_aiger.proofs.OverLemmas.{choose, inputs-again}
 use Rattle.ps_aiger.proofs.WireLemmas.{wired-extends}
@@ -60,21 +61,30 @@ pub made-kept : (m : MachineData) (w : Wanted) (d e : Drafted) (known : ℕ → 
     KnowsMade m w d known → KnowsMade m w e known
 made-kept m w d e known x h node literal is =
     let there = h node literal is in
-    inputs-again m w node d e (subst (λ (n : Made). Extends n.draft e) (sym there) x)
-    ∙ ap (λ (n : Made). record { draft = e; literal = n.literal }) there
+    record {
+      held = held-extends d e x literal there.held;
+      made =
+          inputs-again m w node d e (subst (λ (n : Made). Extends n.draft e) (sym there.made) x)
+          ∙ ap (λ (n : Made). record { draft = e; literal = n.literal }) there.made;
+    }
 
 pub made-more : (m : MachineData) (w : Wanted) (d e : Drafted) (known new : ℕ → Option ℕ) (key value : ℕ) →
-    ((q : ℕ) → new q ≡ cond (eqb key q) (Some value) (known q)) → KnowsMade m w e known →
+    ((q : ℕ) → new q ≡ cond (eqb key q) (Some value) (known q)) → KnowsMade m w e known → IsHeld e value →
     node_made m w key d ≡ record { draft = e; literal = value } → KnowsMade m w e new
-made-more m w d e known new key value update h made node literal is =
+made-more m w d e known new key value update h held made node literal is =
     elim (bool_cases (eqb key node)) [
       | inl one ↦
           let same : key ≡ node = eqb-true key node one in
           let value_is : value ≡ literal =
           some_is value literal (sym (update node ∙ ap (λ b. cond b (Some value) (known node)) one) ∙ is) in
           let there = inputs-again m w key d e (subst (λ (n : Made). Extends n.draft e) (sym made) (extends-refl e)) in
-          ap (λ k. node_made m w k e) (sym same) ∙ there ∙ ap (λ (n : Made). record { draft = e; literal = n.literal })
-          made ∙ ap (λ n. record { draft = e; literal = n }) value_is
+          record {
+            held = subst (IsHeld e) value_is held;
+            made =
+                ap (λ k. node_made m w k e) (sym same) ∙ there
+                ∙ ap (λ (n : Made). record { draft = e; literal = n.literal }) made
+                ∙ ap (λ n. record { draft = e; literal = n }) value_is;
+          }
       | inr other ↦ h node literal (sym (update node ∙ ap (λ b. cond b (Some value) (known node)) other) ∙ is)
     ]
   where
@@ -201,13 +211,13 @@ out_of_literals m latches memories e room least above = record {
   above = above;
 }
 
-pub is_wired : (m : MachineData) (latches : ℕ) (d : Drafted) (next outputs : List ℕ) (c : CircuitData) →
-    length next ≡ latches → d.given ≡ length m.inputs + latches → IsBuilt m d next outputs c →
-    next ≡ (next_wires (behaviour m) latches).literals →
-    output_wires (behaviour m) latches ≡ record { draft = d; literals = outputs } → IsWired (behaviour m) c
-is_wired m latches d next outputs c many given built is all =
+pub is_wired : (b : Behaviour) (latches : ℕ) (next : List ℕ) (c : CircuitData) → length next ≡ latches →
+    (output_wires b latches).draft.given ≡ length b.inputs + latches →
+    IsBuilt b (output_wires b latches).draft next (output_wires b latches).literals c →
+    next ≡ (next_wires b latches).literals → IsWired b c
+is_wired b latches next c many given built is =
     let count : latches ≡ length c.latches = sym many ∙ sym built.latches.many in
-    let as_built : IsWiredBy (behaviour m) c latches = record {
+    let as_built : IsWiredBy b c latches = record {
       next =
           same_lists (map (λ (l : Latch). l.next) c.latches) next
           (length-map c.latches (λ (l : Latch). l.next) ∙ built.latches.many)
@@ -217,9 +227,7 @@ is_wired m latches d next outputs c many given built is all =
           (subst (λ n. k < n) (length-map c.latches (λ (l : Latch). l.next)) lt)
           ∙ ap (λ (l : Latch). l.next) (get_or_from_slice_get c.latches k _ no_latch (built.latches.each k within))
           ∙ get_or_default next k 0 e within)) ∙ is;
-      outputs = built.output_literals ∙ sym (ap (λ (w : Wired). w.literals) all);
-      gates =
-          subst (λ (w : Wired). AreGates (length m.inputs + latches + 1) w.draft.gates c.gates) (sym all)
-          (subst (λ n. AreGates (n + 1) d.gates c.gates) given built.gates);
+      outputs = built.output_literals;
+      gates = subst (λ n. AreGates (n + 1) (output_wires b latches).draft.gates c.gates) given built.gates;
     } in
-    subst (IsWiredBy (behaviour m) c) count as_built
+    subst (IsWiredBy b c) count as_built

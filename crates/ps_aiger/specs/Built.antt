@@ -1,36 +1,27 @@
 -- What the circuit of a machine is made of. (Of private functions.)
---     AreLiterals m d latches wanted literals      each literal has its wanted bit, in each memory and at each input
---               letter
---     IsBuilt m d next outputs c      the circuit of these gates, next literals and outputs
+--     AreLatches from next latches      the latches from that variable on, with these next literals
+--     IsBuilt b d next outputs c      the circuit of these gates, next literals and outputs
 use Rattle.std.specs.Prelude.{◌≡◌, ℕ, ◌+◌, ◌*◌, ◌<◌, false, List, length, map, slice_get, slice_index, Some, None}
 use Rattle.std.specs.Prelude.{replicate}
 use Rattle.std.specs.List.{range_with_len}
-use Rattle.ps_machine.specs.Machines.{MachineData}
-use Rattle.ps_aiger.specs.declared.functions.Wanted.{Wanted}
+use Rattle.ps_machine.specs.Behaviours.{Behaviour}
 use Rattle.ps_circuit.specs.declared.parts.Latch.{Latch}
 use Rattle.ps_circuit.specs.Circuits.{CircuitData}
 use Rattle.ps_aiger.specs.Encoded.{symbols_of}
 use Rattle.ps_circuit.specs.Building.{Drafted, variables_of}
-use Rattle.ps_aiger.specs.Functions.{IsLiteralAt}
 use Rattle.ps_aiger.specs.Wires.{AreGates}
 
-pub record AreLiterals (m : MachineData) (d : Drafted) (latches : ℕ) (wanted : List Wanted) (literals : List ℕ) : Type 0
-  where
-    pub many : length literals ≡ length wanted
-    pub each : (k : ℕ) (w : Wanted) → slice_get wanted k ≡ Some w → IsLiteralAt m w d latches 0 (slice_index literals k)
-
--- the latches from that variable on, with these next literals
 pub record AreLatches (from : ℕ) (next : List ℕ) (latches : List Latch) : Type 0 where
   pub many : length latches ≡ length next
   pub each : (k : ℕ) → k < length next → slice_get latches k ≡ Some
       (record { literal = 2 * (from + k); next = slice_index next k; reset = false })
 
-pub record IsBuilt (m : MachineData) (d : Drafted) (next outputs : List ℕ) (c : CircuitData) : Type 0 where
+pub record IsBuilt (b : Behaviour) (d : Drafted) (next outputs : List ℕ) (c : CircuitData) : Type 0 where
   pub most : c.most ≡ variables_of d
-  pub inputs : c.inputs ≡ map (λ v. 2 * v) (range_with_len 1 (length m.inputs))
-  pub latches : AreLatches (length m.inputs + 1) next c.latches
+  pub inputs : c.inputs ≡ map (λ v. 2 * v) (range_with_len 1 (length b.inputs))
+  pub latches : AreLatches (length b.inputs + 1) next c.latches
   pub output_literals : c.outputs ≡ outputs
   pub gates : AreGates (d.given + 1) d.gates c.gates
-  pub input_names : c.input_names ≡ symbols_of m.names m.inputs
-  pub output_names : c.output_names ≡ symbols_of m.names m.outputs
+  pub input_names : c.input_names ≡ symbols_of b.names b.inputs
+  pub output_names : c.output_names ≡ symbols_of b.names b.outputs
   pub latch_names : c.latch_names ≡ replicate (length next) None

@@ -9,9 +9,9 @@ ghost use Rattle.ps_circuit.specs.Drafts.{data_of, name_bytes};
 ghost use Rattle.ps_aiger.specs.Encoded.{Encodes, IsTidy, symbols_of};
 ghost use Rattle.ps_aiger.specs.Timing.{SeesNoInput};
 ghost use Rattle.ps_circuit.specs.Building.{Extends, IsSoundDraft, variables_of};
-ghost use Rattle.ps_aiger.specs.Built.{AreLatches, AreLiterals, IsBuilt};
+ghost use Rattle.ps_aiger.specs.Built.{AreLatches, IsBuilt};
 ghost use Rattle.ps_aiger.specs.Wires.{AreGates, IsOutOfLiterals, IsWired, next_wires, output_wires};
-ghost use Rattle.ps_aiger.specs.Functions.{IsLiteralAt, bits_wired, wanted_place};
+ghost use Rattle.ps_aiger.specs.Functions.{bits_wired, wanted_place};
 ghost use Rattle.ps_aiger.specs.declared.functions.Wanted.TheVariants.{Next, Output};
 
 use crate::functions::{Wanted, literal_of};
@@ -52,9 +52,6 @@ fn next_literals(
     requires empty { builder.old.gates ≡ [] }
     requires small { length machine.now.inputs ≤ 64 }
     ensures extends { Extends builder.old builder.new }
-    ensures many { IfOk result (λ next. length next.items ≡ latches) }
-    ensures each { IfOk result (λ next. (j : ℕ) → j < latches →
-        IsLiteralAt machine.now (Next j) builder.new latches 0 (slice_index next.items j)) }
     ensures made { IfOk result (λ next. next_wires (behaviour machine.now) latches ≡ record
         { draft = builder.new; literals = next.items }) }
     ensures too_large { result ≡ Err EncodeFault.CircuitTooLarge →
@@ -76,8 +73,6 @@ fn output_literals(
     requires behind { builder.old ≡ (next_wires (behaviour machine.now) latches).draft }
     requires machine { IsMachine (behaviour machine.now) }
     ensures extends { Extends builder.old builder.new }
-    ensures literals { IfOk result (λ outputs. AreLiterals machine.now builder.new latches
-        (map Output machine.now.outputs) outputs.items) }
     ensures made { IfOk result (λ outputs. output_wires (behaviour machine.now) latches ≡ record
         { draft = builder.new; literals = outputs.items }) }
     ensures too_large { result ≡ Err EncodeFault.CircuitTooLarge →
@@ -100,10 +95,6 @@ fn circuit_of(
     requires small { length machine.now.inputs ≤ 64 }
     requires enough { length machine.now.nodes ≤ 2 ^ latches }
     requires least { (n : ℕ) → length machine.now.nodes ≤ 2 ^ n → latches ≤ n }
-    requires many { length next.now ≡ latches }
-    requires next { (j : ℕ) → j < latches → IsLiteralAt machine.now (Next j) builder.now latches 0
-        (slice_index next.now j) }
-    requires outputs { AreLiterals machine.now builder.now latches (map Output machine.now.outputs) outputs.items }
     requires next_wired { next.now ≡ (next_wires (behaviour machine.now) latches).literals }
     requires output_wired { output_wires (behaviour machine.now) latches ≡ record
         { draft = builder.now; literals = outputs.items } }
@@ -166,7 +157,6 @@ fn literals_of(
     requires given { builder.old.given ≡ length machine.now.inputs + latches }
     requires small { length machine.now.inputs ≤ 64 }
     ensures extends { Extends builder.old builder.new }
-    ensures literals { IfOk result (λ literals. AreLiterals machine.now builder.new latches wanted.now literals.items) }
     ensures made { IfOk result (λ literals. bits_wired machine.now latches wanted.now builder.old ≡ record
         { draft = builder.new; literals = literals.items }) }
     ensures too_large { result ≡ Err EncodeFault.CircuitTooLarge →
@@ -192,7 +182,8 @@ fn parts_of(
     requires small { length machine.now.inputs ≤ 64 }
     ensures machine { IsMachine (behaviour machine.now) }
     ensures sound { IsSoundDraft builder.now }
-    ensures built { IfOk result (λ parts. IsBuilt machine.now builder.now next.now outputs.items (data_of parts)) }
+    ensures built { IfOk result (λ parts. IsBuilt (behaviour machine.now) builder.now next.now outputs.items
+        (data_of parts)) }
 {
     let inputs = machine.inputs();
     let first_latch = inputs.len() as u32 + 1;

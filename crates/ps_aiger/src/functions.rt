@@ -6,9 +6,9 @@ ghost use Rattle.ps_hoa.specs.Files.{is_among};
 ghost use Rattle.indexmap.specs.IndexMap.{get};
 ghost use Rattle.ps_diagram.specs.Table.{IsNode};
 ghost use Rattle.ps_machine.specs.Machines.{behaviour, row_of};
-ghost use Rattle.ps_circuit.specs.Building.{Extends, variables_of};
+ghost use Rattle.ps_circuit.specs.Building.{Extends, IsHeld, variables_of};
 ghost use Rattle.ps_aiger.specs.Encoded.{memory_at};
-ghost use Rattle.ps_aiger.specs.Functions.{IsLiteralAt, IsLiteralOf, KnowsLiterals, KnowsMade, code_wanted, node_made};
+ghost use Rattle.ps_aiger.specs.Functions.{KnowsMade, code_wanted, node_made};
 ghost use Rattle.ps_aiger.specs.Functions.{wanted_bit, wanted_place};
 
 use indexmap::IndexMap;
@@ -40,7 +40,6 @@ pub(crate) fn literal_of(
     requires given { builder.old.given ≡ length machine.now.inputs + latches }
     requires small { length machine.now.inputs ≤ 64 }
     ensures extends { Extends builder.old builder.new }
-    ensures literal { IfOk result (λ literal. IsLiteralAt machine.now wanted builder.new latches 0 literal) }
     ensures made { IfOk result (λ literal. code_wanted machine.now wanted latches 0 builder.old ≡ record
         { draft = builder.new; literal = literal }) }
     ensures too_large { result ≡ Err EncodeFault.CircuitTooLarge →
@@ -65,11 +64,9 @@ fn over_latches(
     requires fits { code + 2 ^ latches ≤ 2 ^ 64 }
     requires given { length machine.now.inputs + latches ≤ builder.old.given }
     requires small { length machine.now.inputs ≤ 64 }
-    requires known { KnowsLiterals machine.now wanted builder.old (get nat_eq known.old) }
     requires known_made { KnowsMade machine.now wanted builder.old (get nat_eq known.old) }
     ensures extends { Extends builder.old builder.new }
-    ensures known { KnowsLiterals machine.now wanted builder.new (get nat_eq known.new) }
-    ensures literal { IfOk result (λ literal. IsLiteralAt machine.now wanted builder.new latches code literal) }
+    ensures held { IfOk result (λ literal. IsHeld builder.new literal) }
     ensures made { IfOk result (λ literal. code_wanted machine.now wanted latches code builder.old ≡ record
         { draft = builder.new; literal = literal }) }
     ensures too_large { result ≡ Err EncodeFault.CircuitTooLarge →
@@ -110,11 +107,9 @@ fn over_inputs(
     requires held { IsNode machine.now.store node }
     requires given { length machine.now.inputs ≤ builder.old.given }
     requires small { length machine.now.inputs ≤ 64 }
-    requires known { KnowsLiterals machine.now wanted builder.old (get nat_eq known.old) }
     requires known_made { KnowsMade machine.now wanted builder.old (get nat_eq known.old) }
     ensures extends { Extends builder.old builder.new }
-    ensures known { KnowsLiterals machine.now wanted builder.new (get nat_eq known.new) }
-    ensures literal { IfOk result (λ literal. IsLiteralOf machine.now wanted builder.new node literal) }
+    ensures held { IfOk result (λ literal. IsHeld builder.new literal) }
     ensures made { IfOk result (λ literal. node_made machine.now wanted node builder.old ≡ record
         { draft = builder.new; literal = literal }) }
     ensures too_large { result ≡ Err EncodeFault.CircuitTooLarge →

@@ -1,6 +1,6 @@
 //! Laws on the definitions.
 
-ghost use Rattle.std.specs.Prelude.{◌≡◌};
+ghost use Rattle.std.specs.Prelude.{◌≡◌, ◌⊎◌};
 ghost use Rattle.ps_machine.specs.Behaviours.{Behaviour, IsMachine};
 ghost use Rattle.ps_machine.specs.Behaving.{BehavesAs};
 ghost use Rattle.ps_circuit.specs.Circuits.{CircuitData};
@@ -18,4 +18,10 @@ pub fn one_circuit()
 pub fn circuit_has_literals()
     ensures { (b o : Behaviour) (c : CircuitData) → IsMachine b → BehavesAs b o → Encodes b c → IsTidy c → IsWired b c →
         ¬ IsOutOfLiterals o }
+{}
+
+/// Each machine has a circuit, unless its gates need more variables than have literals.
+pub fn circuit_is_there()
+    ensures { (b : Behaviour) → IsMachine b →
+        IsOutOfLiterals b ⊎ ((c : CircuitData) × Encodes b c × IsTidy c × IsWired b c) }
 {}

@@ -9,6 +9,7 @@
 //! |---|---|
 //! | `one_circuit` | machines that do the same have one circuit at most |
 //! | `circuit_has_literals` | and none, where their gates need more variables than have literals |
+//! | `circuit_is_there` | else there is one |
 //!
 //! Memories are numbered in binary in the latches. Each output and each latch is a literal that is made from the
 //! machine's decision diagrams node by node, as a choice by the proposition that the node tests; a gate that is there
@@ -20,7 +21,7 @@ mod functions;
 mod laws;
 
 pub use encoding::encode;
-pub use laws::{circuit_has_literals, one_circuit};
+pub use laws::{circuit_has_literals, circuit_is_there, one_circuit};
 pub use ps_circuit::{
     AigCause, AigFault, Builder, Circuit, EncodeFault, Gate, Latch, Literal, Sides, one_answer,
     read, write,

@@ -20,3 +20,4 @@ pub mod SomeReading
 pub mod Ordered
 pub mod GateLemmas
 pub mod MadeLemmas
+pub mod MadeSound

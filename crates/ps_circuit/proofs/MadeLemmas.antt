@@ -29,7 +29,7 @@ made_are a b e f = ap (λ d. made_with d a.literal) e ∙ ap (made_with b.draft)
 
 -- ## One gate
 
-abbrev place_of : Drafted → Sides → ℕ
+abbrev pub place_of : Drafted → Sides → ℕ
 place_of d s = position_or_len (has_sides s) d.gates
 
 absent_place : (d : Drafted) (s : Sides) → list_any (has_sides s) d.gates ≡ false → place_of d s ≡ length d.gates
@@ -55,7 +55,7 @@ gate-extends d s = elim (bool_cases (list_any (has_sides s) d.gates)) [
   | inr none ↦ rw none (extends-more d s)
 ]
 
-gate_at : (d : Drafted) (s : Sides) → slice_get (gate_of d s).draft.gates (place_of d s) ≡ Some s
+pub gate_at : (d : Drafted) (s : Sides) → slice_get (gate_of d s).draft.gates (place_of d s) ≡ Some s
 unfolding gate_of
 gate_at d s = elim (bool_cases (list_any (has_sides s) d.gates)) [
   | inl there ↦
@@ -117,7 +117,7 @@ gate-again d e s x =
 
 -- ## Conjunctions
 
-abbrev both_by : Bool → Bool → Bool → Bool → ℕ → ℕ → Drafted → Made
+abbrev pub both_by : Bool → Bool → Bool → Bool → ℕ → ℕ → Drafted → Made
 both_by never is_second is_first falls x y d =
     if never then record { draft = d; literal = 0 }
     else if is_second then record { draft = d; literal = y }
@@ -181,7 +181,7 @@ chosen-again d e s high low h =
     ∙ ap (λ q. again (record { draft = e; literal = a.literal }) q) (and-again a.draft e (negated s) low hb)
     ∙ or-again b.draft e a.literal b.literal h
 
-abbrev choice_by : Bool → Bool → Bool → Bool → Bool → Bool → Bool → ℕ → ℕ → ℕ → Drafted → Made
+abbrev pub choice_by : Bool → Bool → Bool → Bool → Bool → Bool → Bool → ℕ → ℕ → ℕ → Drafted → Made
 choice_by same is_s is_not_s high_true high_false low_false low_true s high low d =
     if same then record { draft = d; literal = high }
     else if is_s then record { draft = d; literal = s }

@@ -1,20 +1,18 @@
 -- Links of the graphs, and the edges that remain.
-use Rattle.std.proofs.Common.{◌≡◌, ℕ, ◌+◌, ◌-◌, ◌<◌, ◌≤◌, ◌∙◌, List, [], ◌∷◌, ◌++◌, length, inl, inr, refl, sym, ap}
+use Rattle.std.proofs.Common.{◌≡◌, ℕ, ◌+◌, ◌-◌, ◌<◌, ◌≤◌, ◌∙◌, length, inl, inr, refl, sym, ap}
 use Rattle.std.proofs.Common.{subst, arith, Option, None, Some, Bool, true, false, cond, nat_le, not, ◌&&◌, ◌||◌}
-use Rattle.std.specs.Prelude.{slice_index, slice_get, ◌==◌}
+use Rattle.std.specs.Prelude.{slice_index, ◌==◌}
 use Rattle.std.specs.List.{Contains}
 use Rattle.std.proofs.lemmas.Bool.{cases_eq, eqb-true, eq-eqb, ne_eqb, and_parts, and_from, or_cases, or_left, or_right}
-use Rattle.std.proofs.lemmas.Bool.{leb-true, leb-false, le-leb, not-true, not_from_false}
+use Rattle.std.proofs.lemmas.Bool.{cases_Bool, leb-true, leb-false, le-leb, not-true, not_from_false}
 use Rattle.std.proofs.lemmas.List.{get_or_default}
-use Rattle.std.proofs.lemmas.Option.{slice_get_within}
 use Rattle.ps_components.specs.Graphs.{Digraph, Link}
-use Rattle.ps_components.proofs.Places.{slice_get-append_left, slice_get-push, slice_get-push_cases}
 use Rattle.ps_game.specs.Games.{ParityGame, IsGame, vertex_count, owner_of, successors_of}
 use Rattle.ps_game.specs.Regions.{has, move_at}
 use Rattle.ps_game.specs.Ranking.{RemainsWithin}
-use Rattle.ps_measure.specs.Columns.{AreRoots}
 use Rattle.ps_measure.specs.Remaining.{RemainingData, is_move, may_remain, remaining_graph, star_graph, IsReverse}
 use Rattle.ps_measure.specs.Remaining.{LowData, low_graph, low_weight}
+use Rattle.ps_measure.specs.Sums.{counted}
 
 -- the edges that remain within the region, of the data of a graph
 abbrev pub Remains : RemainingData → ℕ → ℕ → Type 0
@@ -205,49 +203,10 @@ leads_nowhere g low v k w reverse all none link =
     let high = none.none w there (let h = there.at in omega arith) in
     omega (arith, high, parts.1)
 
--- the roots among the vertices below n
-pub record RootsBelow (low : LowData) (roots : List ℕ) (n : ℕ) : Type 0 where
-  pub sound : (i v : ℕ) → slice_get roots i ≡ Some v → (w : ℕ) × Link (low_graph low) w v × (low_weight low v ≡ 1)
-  pub complete : (w v : ℕ) → v < n → Link (low_graph low) w v → low_weight low v ≡ 1 →
-      (i : ℕ) × (slice_get roots i ≡ Some v)
-
-pub roots_none : (low : LowData) (roots : List ℕ) → roots ≡ [] → RootsBelow low roots 0
-roots_none low roots none = record {
-  sound =
-      λ i v at. (let h : i < length roots = slice_get_within roots i v at in
-      let e : length roots ≡ 0 = ap length none in absurd (omega arith));
-  complete = λ w v below link heavy. absurd (omega (arith, below));
-}
-
-pub roots_more : (low : LowData) (roots : List ℕ) (n w : ℕ) → Link (low_graph low) w n → low_weight low n ≡ 1 →
-    RootsBelow low roots n → RootsBelow low (roots ++ n ∷ []) (n + 1)
-roots_more low roots n w link heavy so_far = record {
-  sound = λ i v at. elim (slice_get-push_cases roots n i v at) [
-    | inl old ↦ so_far.sound i v old
-    | inr new ↦ subst (λ x. (u : ℕ) × Link (low_graph low) u x × (low_weight low x ≡ 1)) new.1 (w, link, heavy)
-  ];
-  complete = λ u v below to is. elim (cases_eq v n) [
-    | inl same ↦ (length roots, slice_get-push roots n ∙ ap Some (sym same))
-    | inr apart ↦ (let found = so_far.complete u v (omega (arith, below, apart)) to is in
-        (found.0, slice_get-append_left roots (n ∷ []) found.0 v found.1))
-  ];
-}
-
-pub roots_skip : (low : LowData) (roots : List ℕ) (n : ℕ) → ((w : ℕ) → Link (low_graph low) w n → low_weight low n ≡ 1 →
-    ⊥) → RootsBelow low roots n → RootsBelow low roots (n + 1)
-roots_skip low roots n none so_far = record {
-  sound = so_far.sound;
-  complete = λ u v below to is. elim (cases_eq v n) [
-    | inl same ↦ absurd (none u (subst (Link (low_graph low) u) same to) (ap (low_weight low) (sym same) ∙ is))
-    | inr apart ↦ so_far.complete u v (omega (arith, below, apart)) to is
-  ];
-}
-
-pub roots_all : (low : LowData) (roots : List ℕ) (n : ℕ) → low.star.count ≤ n →
-    ((w v : ℕ) → Link (low_graph low) w v → v < low.star.count) → RootsBelow low roots n →
-    AreRoots (low_graph low) (low_weight low) roots
-roots_all low roots n all within so_far = record {
-  sound = so_far.sound;
-  complete =
-      λ w v link heavy. so_far.complete w v (let h : v < low.star.count = within w v link in omega arith) link heavy;
-}
+-- a vertex of weight 1 has the priority
+pub heavy_level : (low : LowData) (v : ℕ) → low_weight low v ≡ 1 → slice_index low.levels v ≡ low.priority
+heavy_level low v heavy = elim (cases_Bool (slice_index low.levels v == low.priority)) [
+  | inl same ↦ eqb-true (slice_index low.levels v) low.priority same
+  | inr other ↦ (let e : low_weight low v ≡ 0 = ap (λ b. counted (b && has low.region v)) other in
+      absurd (omega (arith, heavy)))
+]

@@ -3,7 +3,7 @@
 use Rattle.std.proofs.Common.{◌≡◌, ◌≢◌, ℕ, zero, suc, ◌+◌, ◌-◌, ◌%◌, ◌<◌, ◌≤◌, ◌∙◌, List, [], ◌∷◌, length, map, get_or}
 use Rattle.std.proofs.Common.{inl, inr, refl, sym, ap, subst, arith, Bool, true, false, cond, nat_le, nat_lt, ◌&&◌}
 use Rattle.std.specs.Prelude.{slice_index, IsTrue, ◌==◌}
-use Rattle.std.proofs.lemmas.Bool.{cases_Bool, cases_eq, cases_lt, eqb-true, eq-eqb, ne_eqb, and_from, le-leb, lt-leb}
+use Rattle.std.proofs.lemmas.Bool.{cases_eq, cases_lt, eq-eqb, ne_eqb, and_from, le-leb, lt-leb}
 use Rattle.std.proofs.lemmas.Bool.{lt-ltb, le-ltb}
 use Rattle.std.proofs.lemmas.List.{length-map, get_or-map}
 use Rattle.std.proofs.lemmas.Option.{slice_get_within, slice_get-get_or, get_or_from_slice_get}
@@ -19,7 +19,7 @@ use Rattle.ps_measure.specs.Columns.{AreCounts, AreLeast}
 use Rattle.ps_measure.specs.Filling.{IsLowCycle, AreLevels}
 use Rattle.ps_measure.specs.Ranks.{count_with, AreLeastFor, IsLostCycle}
 use Rattle.ps_measure.proofs.Summing.{sum_below-le}
-use Rattle.ps_measure.proofs.Edges.{Remains, link_remains, remains_link, low_link, link_low}
+use Rattle.ps_measure.proofs.Edges.{Remains, link_remains, remains_link, low_link, link_low, heavy_level}
 
 greatest-bound : (xs : List ℕ) (p : ℕ) → ((k : ℕ) → k < length xs → get_or xs k 0 ≤ p) → greatest xs ≤ p
 greatest-bound [] p each = omega arith
@@ -67,13 +67,6 @@ module _ (r : RemainingData) (low : LowData) (is_game : IsGame r.game) (levels :
   light_none v below apart =
       ap (λ b. counted (b && has low.region v)) (ne_eqb (slice_index low.levels v) low.priority
       (λ e. apart (sym (levels.is v below) ∙ e)))
-
-  pub heavy_is : (v : ℕ) → low_weight low v ≡ 1 → slice_index low.levels v ≡ low.priority
-  heavy_is v heavy = elim (cases_Bool (slice_index low.levels v == low.priority)) [
-    | inl same ↦ eqb-true (slice_index low.levels v) low.priority same
-    | inr other ↦ (let e : low_weight low v ≡ 0 = ap (λ b. counted (b && has low.region v)) other in
-        absurd (omega (arith, heavy)))
-  ]
 
   -- counts that keep the rule are counts of the graph
   from_rule : (other : ℕ → ℕ) → KeepRuleWithin r.game r.player (has r.region) (move_at r.strategy) low.priority other →
@@ -227,7 +220,7 @@ module _ (r : RemainingData) (low : LowData) (is_game : IsGame r.game) (levels :
       at_map k within = get_or-map (priority_of r.game) cycle k 0 0 within
 
       heavy : priority_of r.game way.to ≡ low.priority
-      heavy = sym (levels.is way.to closing.0.remains.edge.0) ∙ heavy_is way.to way.closing.heavy
+      heavy = sym (levels.is way.to closing.0.remains.edge.0) ∙ heavy_level low way.to way.closing.heavy
 
       long : length (map (priority_of r.game) cycle) ≡ length cycle
       long = length-map cycle (priority_of r.game)

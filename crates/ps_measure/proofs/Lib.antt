@@ -2,11 +2,13 @@ pub mod Cells
 pub mod Chaining
 pub mod Edges
 pub mod Existing
+pub mod Grouping
 pub mod Growing
 pub mod Held
 pub mod Least
 pub mod Passing
 pub mod Placing
+pub mod Roots
 pub mod Rows
 pub mod Steps
 pub mod Summing

@@ -2,6 +2,7 @@ pub mod Chains
 pub mod Columns
 pub mod FaultNames
 pub mod Filling
+pub mod Groups
 pub mod Outcomes
 pub mod Ranks
 pub mod Remaining

@@ -74,8 +74,8 @@ impl Column {
         }
     }
 
-    /// Puts the count of each vertex that was met, and is not 0, into a table, at the place of the priority, and says how
-    /// many these are.
+    /// Puts the count of each vertex that was met, and is not 0, into a table, at the place of the priority, and says
+    /// how many these are.
     pub(crate) fn put_into(&self, place: usize, table: &mut CountTable) -> Result<u64, AllocError>
         requires components { (g : Digraph) × AreComponents g self.now.components }
         requires each { length table.old ≡ length self.now.components.numbers }

@@ -23,9 +23,19 @@ impl<'a> Model for Low<'a> {
 
     ghost Value = { LowData };
 
-    ghost view = { λ l. record { star = l.back.now; region = l.region.now; levels = l.levels.now; priority = l.priority } };
+    ghost view = { λ l. record {
+      star = l.back.now;
+      region = l.region.now;
+      levels = l.levels.now;
+      priority = l.priority;
+    } };
 
-    ghost invariant = { λ l. IsLow (record { star = l.back.now; region = l.region.now; levels = l.levels.now; priority = l.priority }) };
+    ghost invariant = { λ l. IsLow (record {
+      star = l.back.now;
+      region = l.region.now;
+      levels = l.levels.now;
+      priority = l.priority;
+    }) };
 }
 
 impl<'a> Low<'a> {

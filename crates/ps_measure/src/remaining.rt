@@ -22,7 +22,12 @@ impl<'a, A: Arena> Model for Remaining<'a, A> {
 
     ghost Value = { RemainingData };
 
-    ghost view = { λ r. record { game = A.game r.arena.now; player = r.player; region = r.region.now; strategy = r.strategy.now } };
+    ghost view = { λ r. record {
+      game = A.game r.arena.now;
+      player = r.player;
+      region = r.region.now;
+      strategy = r.strategy.now;
+    } };
 
     ghost invariant = { λ r. IsRemaining (record {
       game = A.game r.arena.now;

@@ -1,13 +1,15 @@
 //! Laws on the definitions.
 
-ghost use Rattle.std.specs.Prelude.{◌≡◌};
+ghost use Rattle.std.specs.Prelude.{◌≡◌, ◌⊎◌};
 ghost use Rattle.ps_aiger.specs.Wires.{IsOutOfLiterals};
 ghost use Rattle.ps_certificate.specs.Certificates.{CertificateData};
 ghost use Rattle.ps_circuit.specs.Circuits.{CircuitData};
 ghost use Rattle.ps_game.specs.Games.{NamedGameData};
 ghost use Rattle.ps_hoa.specs.Files.{FileData};
+ghost use Rattle.ps_hoa.specs.Sound.{IsSoundFile};
 ghost use Rattle.ps_machine.specs.Behaviours.{Behaviour};
 ghost use Rattle.ps_machine.specs.FileGames.{IsGameOfFile};
+ghost use Rattle.ps_machine.specs.Solving.{IsCertified};
 ghost use Rattle.ps_machine.specs.declared.key.Order.{Order};
 ghost use Rattle.ps_synthesis.specs.Reports.{IsWinners, IsWinnersCircuit};
 
@@ -26,4 +28,16 @@ pub fn winners_circuit_is_one()
     ps_machine::one_machine_of_file();
     ps_aiger::one_circuit();
     ps_aiger::circuit_has_literals();
+}
+
+/// By each certificate of a file's game that fits and is valid the winner has a circuit, unless the gates of its machine
+/// need too many variables.
+pub fn winners_circuit_is_there()
+    ensures { (order : Order) (file : FileData) (game : NamedGameData) (is_game : IsGameOfFile order file game)
+        (certificate : CertificateData) → IsSoundFile file → IsCertified game certificate →
+        ((m : Behaviour) × IsWinners order file game is_game certificate m × IsOutOfLiterals m) ⊎
+        ((c : CircuitData) × IsWinnersCircuit order file game is_game certificate c) }
+{
+    ps_machine::machine_is_there();
+    ps_aiger::circuit_is_there();
 }

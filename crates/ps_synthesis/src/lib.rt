@@ -22,6 +22,7 @@
 //! | `report_of`, `certificate_text` | the three texts of a report, and that of a certificate alone |
 //! | `SynthFault::number`, `name` | a fault as psyn's list has it |
 //! | `winners_circuit_is_one` | a law: a certificate of a game has one circuit at most |
+//! | `winners_circuit_is_there` | a law: it has one, unless too many variables are needed |
 #![tactic(auto)]
 
 mod automata;
@@ -34,6 +35,6 @@ mod report;
 pub use automata::read_automaton;
 pub use circuits::circuit_of_certificate;
 pub use fault::SynthFault;
-pub use laws::winners_circuit_is_one;
+pub use laws::{winners_circuit_is_one, winners_circuit_is_there};
 pub use problem::Problem;
 pub use report::{Report, certificate_text, report_of};

@@ -1,62 +1,73 @@
-use Rattle.std.proofs.Common.{◌≡◌, subst, sym}
+use Rattle.std.proofs.Common.{◌≡◌, ◌∙◌, ◌+◌, length, ap, subst, sym}
 use Rattle.std.proofs.lemmas.Result.{IfOk-weaker}
 use Rattle.ps_circuit.specs.Circuits.{CircuitData, IsCircuit}
 use Rattle.ps_circuit.specs.Drafts.{data_of}
-use Rattle.ps_aiger.specs.Encoded.{Encodes, IsTidy}
-use Rattle.ps_aiger.specs.Timing.{SeesNoInput}
 use Rattle.ps_machine.specs.Machines.{behaviour}
-use Rattle.ps_aiger.proofs.EncodeLemmas.{draft, ordered, is_tidy, sees, encodes, ok_with}
+use Rattle.ps_aiger.specs.Encoded.{Encodes, IsTidy}
 use Rattle.ps_aiger.specs.Wires.{IsWired}
-use Rattle.ps_aiger.proofs.WiredLemmas.{is_wired}
+use Rattle.ps_aiger.proofs.CircuitSteps.{sees}
+use Rattle.ps_aiger.proofs.CircuitThere.{draft, encodes, is_tidy, ordered, whole, wired}
+use Rattle.ps_aiger.proofs.EncodeLemmas.{ok_with}
+use Rattle.ps_aiger.proofs.WireLemmas.{next_many}
 use Rattle.ps_aiger.proofs.encoding.circuit_of.Goals as goal
+
+pub parts_of-requires-clause-given : goal.parts_of-requires-clause-given
+parts_of-requires-clause-given c =
+    let b = behaviour c.args.machine.now in
+    c.requires.given ∙ ap (λ n. length b.inputs + n) (sym (ap length c.requires.next_wired
+    ∙ next_many b c.args.latches))
 
 pub in_order-requires : goal.in_order-requires
 in_order-requires c =
+    let b = behaviour c.args.machine.now in
     let e = c.parts_of.ensures in
-    let r = c.requires in record {
-      draft =
-          draft c.args.machine.now e.machine c.args.builder.now e.sound c.args.latches c.args.next.now
-          c.args.outputs.items (data_of c.in_ok-parts.parts) c.in_ok-parts.ensures.built r.given r.many r.next
-          r.outputs r.enough;
-      ordered =
-          ordered c.args.machine.now e.machine c.args.builder.now e.sound c.args.latches c.args.next.now
-          c.args.outputs.items (data_of c.in_ok-parts.parts) c.in_ok-parts.ensures.built r.given r.many;
-    }
+    let r = c.requires in
+    let x = data_of c.in_ok-parts.parts in
+    let w =
+    whole b c.args.latches c.args.builder.now c.args.next.now c.args.outputs.items x e.sound r.next_wired r.output_wired
+    c.in_ok-parts.ensures.built in
+    record { draft = draft b e.machine c.args.latches x w; ordered = ordered b e.machine c.args.latches x w }
 
 pub returns-clause-encodes : goal.returns-clause-encodes
 returns-clause-encodes c =
+    let b = behaviour c.args.machine.now in
     let e = c.parts_of.ensures in
     let r = c.requires in
-    ok_with c.in_order.result (λ (x : CircuitData). x ≡ data_of c.in_ok-parts.parts) IsCircuit
-    (λ x. Encodes (behaviour c.args.machine.now) x)
-    (λ x is well. subst (Encodes (behaviour c.args.machine.now)) (sym is)
-    (encodes c.args.machine.now e.machine c.args.builder.now e.sound c.args.latches c.args.next.now
-    c.args.outputs.items (data_of c.in_ok-parts.parts) c.in_ok-parts.ensures.built r.given r.many r.next r.outputs
-    r.enough (subst IsCircuit is well) r.least))
+    let x = data_of c.in_ok-parts.parts in
+    let w =
+    whole b c.args.latches c.args.builder.now c.args.next.now c.args.outputs.items x e.sound r.next_wired r.output_wired
+    c.in_ok-parts.ensures.built in
+    ok_with c.in_order.result (λ (y : CircuitData). y ≡ x) IsCircuit (Encodes b)
+    (λ y is well. subst (Encodes b) (sym is)
+    (encodes b e.machine c.args.latches x w r.enough r.least (subst IsCircuit is well)))
     c.in_order.ensures.ok c.in_order.ensures.well_formed
 
 pub returns-clause-tidy : goal.returns-clause-tidy
 returns-clause-tidy c =
+    let b = behaviour c.args.machine.now in
     let e = c.parts_of.ensures in
     let r = c.requires in
-    IfOk-weaker c.in_order.result _ _ (λ x is. subst IsTidy (sym is)
-    (is_tidy c.args.machine.now e.machine c.args.builder.now e.sound c.args.latches c.args.next.now
-    c.args.outputs.items (data_of c.in_ok-parts.parts) c.in_ok-parts.ensures.built r.given r.many))
+    let x = data_of c.in_ok-parts.parts in
+    let w =
+    whole b c.args.latches c.args.builder.now c.args.next.now c.args.outputs.items x e.sound r.next_wired r.output_wired
+    c.in_ok-parts.ensures.built in
+    IfOk-weaker c.in_order.result _ _ (λ y is. subst IsTidy (sym is) (is_tidy b e.machine c.args.latches x w))
     c.in_order.ensures.ok
 
 pub returns-clause-sees_no_input : goal.returns-clause-sees_no_input
 returns-clause-sees_no_input c =
-    let e = c.parts_of.ensures in
-    let r = c.requires in
-    IfOk-weaker c.in_order.result _ _ (λ x is first. subst SeesNoInput (sym is)
-    (sees c.args.machine.now e.machine c.args.builder.now e.sound c.args.latches c.args.next.now
-    c.args.outputs.items (data_of c.in_ok-parts.parts) c.in_ok-parts.ensures.built r.given r.many r.next r.outputs
-    r.enough first)) c.in_order.ensures.ok
+    let b = behaviour c.args.machine.now in
+    IfOk-weaker c.in_order.result _ _ (λ y encodes first. sees b y c.parts_of.ensures.machine encodes first)
+    (returns-clause-encodes c)
 
 pub returns-clause-wired : goal.returns-clause-wired
 returns-clause-wired c =
+    let b = behaviour c.args.machine.now in
+    let e = c.parts_of.ensures in
     let r = c.requires in
-    IfOk-weaker c.in_order.result _ _ (λ x is. subst (IsWired (behaviour c.args.machine.now)) (sym is)
-    (is_wired c.args.machine.now c.args.latches c.args.builder.now c.args.next.now c.args.outputs.items
-    (data_of c.in_ok-parts.parts) r.many r.given c.in_ok-parts.ensures.built r.next_wired r.output_wired))
+    let x = data_of c.in_ok-parts.parts in
+    let w =
+    whole b c.args.latches c.args.builder.now c.args.next.now c.args.outputs.items x e.sound r.next_wired r.output_wired
+    c.in_ok-parts.ensures.built in
+    IfOk-weaker c.in_order.result _ _ (λ y is. subst (IsWired b) (sym is) (wired b e.machine c.args.latches x w))
     c.in_order.ensures.ok

@@ -1,39 +1,27 @@
-use Rattle.std.proofs.Common.{Err, ◌≡◌, ◌∙◌, ◌+◌, ◌^◌, ◌<◌, ◌≤◌, ℕ, List, get_or, length, subst, sym, ap, arith}
-use Rattle.ps_machine.specs.Machines.{MachineData}
-use Rattle.ps_aiger.specs.declared.functions.Wanted.TheVariants.{Next}
-use Rattle.ps_circuit.specs.Building.{Drafted, Extends}
+use Rattle.std.proofs.Common.{Err, ◌≡◌, ◌∙◌, ◌+◌, ◌^◌, ◌≤◌, length, subst, sym, ap, arith}
+use Rattle.ps_machine.specs.Machines.{behaviour}
 use Rattle.ps_aiger.specs.Wires.{Wired}
-use Rattle.ps_aiger.specs.Functions.{IsLiteralAt}
 use Rattle.ps_circuit.proofs.GateLemmas.{passed}
 use Rattle.ps_aiger.proofs.EncodeLemmas.{few_inputs}
-use Rattle.ps_aiger.proofs.FunctionLemmas.{at-kept}
 use Rattle.ps_aiger.proofs.WiredLemmas.{above-outputs, out_of_literals}
 use Rattle.ps_aiger.proofs.encoding.encode.Goals as goal
 
--- the next literals stay where the draft grows
-next_given : (m : MachineData) (d e : Drafted) (latches : ℕ) (next given : List ℕ) → given ≡ next → Extends d e →
-    ((j : ℕ) → j < latches → IsLiteralAt m (Next j) d latches 0 (get_or next j 0)) → (j : ℕ) → j < latches →
-    IsLiteralAt m (Next j) e latches 0 (get_or given j 0)
-next_given m d e latches next given same x each j lt =
-    subst (λ xs. IsLiteralAt m (Next j) e latches 0 (get_or xs j 0)) (sym same)
-    (at-kept m (Next j) d e latches 0 (get_or next j 0) x (each j lt))
-
 pub overflow_cast-inputs : goal.overflow_cast-inputs
 overflow_cast-inputs c =
-    let few = few_inputs c.args.machine.now c.memories.ensures.machine.is_machine in
+    let few = few_inputs (behaviour c.args.machine.now) c.memories.ensures.machine.is_machine in
     let same : length c.inputs.result.now ≡ length c.args.machine.now.inputs = ap length c.inputs.ensures.inputs in
     omega arith
 
 pub overflow_add-inputs : goal.overflow_add-inputs
 overflow_add-inputs c =
-    let few = few_inputs c.args.machine.now c.memories.ensures.machine.is_machine in
+    let few = few_inputs (behaviour c.args.machine.now) c.memories.ensures.machine.is_machine in
     let same : length c.inputs.result.now ≡ length c.args.machine.now.inputs = ap length c.inputs.ensures.inputs in
     let less = c.latches_for-latches.ensures.few in
     omega arith
 
 pub new-builder-requires : goal.new-builder-requires
 new-builder-requires c =
-    let few = few_inputs c.args.machine.now c.memories.ensures.machine.is_machine in
+    let few = few_inputs (behaviour c.args.machine.now) c.memories.ensures.machine.is_machine in
     let same : length c.inputs.result.now ≡ length c.args.machine.now.inputs = ap length c.inputs.ensures.inputs in
     let less = c.latches_for-latches.ensures.few in
     omega arith
@@ -43,7 +31,7 @@ next_literals-requires-clause-given c =
     c.new-builder.ensures.given ∙ ap (λ xs. length xs + c.latches_for-latches.result) c.inputs.ensures.inputs
 
 pub next_literals-requires-clause-small : goal.next_literals-requires-clause-small
-next_literals-requires-clause-small c = few_inputs c.args.machine.now c.memories.ensures.machine.is_machine
+next_literals-requires-clause-small c = few_inputs (behaviour c.args.machine.now) c.memories.ensures.machine.is_machine
 
 pub output_literals-requires-clause-given : goal.output_literals-requires-clause-given
 output_literals-requires-clause-given c = c.in_ok-next.ensures.extends.given ∙ c.new-builder.ensures.given
@@ -57,7 +45,7 @@ circuit_of-requires-clause-given c = c.in_ok-outputs.ensures.extends.given ∙ c
     ∙ c.new-builder.ensures.given ∙ ap (λ xs. length xs + c.latches_for-latches.result) c.inputs.ensures.inputs
 
 pub circuit_of-requires-clause-small : goal.circuit_of-requires-clause-small
-circuit_of-requires-clause-small c = few_inputs c.args.machine.now c.memories.ensures.machine.is_machine
+circuit_of-requires-clause-small c = few_inputs (behaviour c.args.machine.now) c.memories.ensures.machine.is_machine
 
 pub circuit_of-requires-clause-enough : goal.circuit_of-requires-clause-enough
 circuit_of-requires-clause-enough c =
@@ -66,15 +54,6 @@ circuit_of-requires-clause-enough c =
 pub circuit_of-requires-clause-least : goal.circuit_of-requires-clause-least
 circuit_of-requires-clause-least c =
     λ n h. c.latches_for-latches.ensures.least n (subst (λ k. k ≤ 2 ^ n) (sym c.memories.ensures.memories) h)
-
-pub circuit_of-requires-clause-many : goal.circuit_of-requires-clause-many
-circuit_of-requires-clause-many c = ap length c.deref.ensures.value ∙ c.in_ok-next.ensures.many
-
-pub circuit_of-requires-clause-next : goal.circuit_of-requires-clause-next
-circuit_of-requires-clause-next c =
-    next_given c.args.machine.now c.next_literals.new.builder c.output_literals.new.builder c.latches_for-latches.result
-    c.in_ok-next.next.items c.deref.result.now c.deref.ensures.value c.in_ok-outputs.ensures.extends
-    c.in_ok-next.ensures.each
 
 pub circuit_of-requires-clause-next_wired : goal.circuit_of-requires-clause-next_wired
 circuit_of-requires-clause-next_wired c =

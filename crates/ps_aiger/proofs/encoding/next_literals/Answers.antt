@@ -1,12 +1,11 @@
-use Rattle.std.proofs.Common.{◌≡◌, ◌∙◌, ◌<◌, ℕ, List, Vec, All, length, refl, subst, sym, ap}
+use Rattle.std.proofs.Common.{◌≡◌, ◌∙◌, ◌<◌, ℕ, List, Vec, All, subst, sym}
 use Rattle.std.specs.Global.{Global}
 use Rattle.std.proofs.lemmas.Result.{IfOk-weaker}
 use Rattle.ps_aiger.specs.declared.functions.Wanted.{Wanted}
-use Rattle.ps_aiger.specs.Built.{AreLiterals}
 use Rattle.ps_aiger.specs.Functions.{bits_wired, wanted_place}
 use Rattle.ps_circuit.specs.Building.{variables_of}
 use Rattle.ps_aiger.specs.Wires.{Wired}
-use Rattle.ps_aiger.proofs.EncodeLemmas.{next_bits_within, next_of_bits}
+use Rattle.ps_aiger.proofs.EncodeLemmas.{next_bits_within}
 use Rattle.ps_aiger.proofs.WiredLemmas.{first_wired, bits_are}
 use Rattle.ps_aiger.proofs.encoding.next_literals.Goals as goal
 
@@ -15,24 +14,6 @@ literals_of-requires-clause-within c =
     subst (λ (xs : List Wanted). All (λ bit. wanted_place bit < 64) xs) (sym c.deref.ensures.value)
     (next_bits_within c.args.latches c.in_ok-next_bits.next_bits.items c.requires.few c.in_ok-next_bits.ensures.many
     c.in_ok-next_bits.ensures.each)
-
-pub returns-clause-many : goal.returns-clause-many
-returns-clause-many c =
-    let P : Vec ℕ Global → Type 0 =
-    λ literals. AreLiterals c.args.machine.now c.literals_of.new.builder c.args.latches c.deref.result.now
-    literals.items in
-    IfOk-weaker c.literals_of.result P _ (λ literals l. l.many ∙ ap length c.deref.ensures.value
-    ∙ c.in_ok-next_bits.ensures.many) c.literals_of.ensures.literals
-
-pub returns-clause-each : goal.returns-clause-each
-returns-clause-each c =
-    let P : Vec ℕ Global → Type 0 =
-    λ literals. AreLiterals c.args.machine.now c.literals_of.new.builder c.args.latches c.deref.result.now
-    literals.items in
-    IfOk-weaker c.literals_of.result P _
-    (λ literals l. next_of_bits c.args.machine.now c.literals_of.new.builder c.args.latches
-    c.in_ok-next_bits.next_bits.items c.deref.result.now literals.items literals.items c.deref.ensures.value refl
-    c.in_ok-next_bits.ensures.each l) c.literals_of.ensures.literals
 
 pub returns-clause-made : goal.returns-clause-made
 returns-clause-made c =

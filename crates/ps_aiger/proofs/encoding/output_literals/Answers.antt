@@ -2,8 +2,8 @@ use Rattle.std.proofs.Common.{◌≡◌, ◌∙◌, ◌<◌, ℕ, List, Vec, All
 use Rattle.std.specs.Global.{Global}
 use Rattle.std.proofs.lemmas.Result.{IfOk-weaker}
 use Rattle.ps_aiger.specs.declared.functions.Wanted.{Wanted}
-use Rattle.ps_aiger.specs.Built.{AreLiterals}
 use Rattle.ps_aiger.specs.Functions.{bits_wired, wanted_place}
+use Rattle.ps_machine.specs.Machines.{behaviour}
 use Rattle.ps_circuit.specs.Building.{variables_of}
 use Rattle.ps_aiger.specs.Wires.{Wired}
 use Rattle.ps_aiger.proofs.EncodeLemmas.{few_inputs, output_bits_within}
@@ -13,20 +13,11 @@ use Rattle.ps_aiger.proofs.encoding.output_literals.Goals as goal
 pub literals_of-requires-clause-within : goal.literals_of-requires-clause-within
 literals_of-requires-clause-within c =
     subst (λ (xs : List Wanted). All (λ bit. wanted_place bit < 64) xs) (sym c.deref.ensures.value)
-    (output_bits_within c.args.machine.now c.requires.machine c.in_ok-output_bits.output_bits.items
+    (output_bits_within (behaviour c.args.machine.now) c.requires.machine c.in_ok-output_bits.output_bits.items
     c.in_ok-output_bits.ensures)
 
 pub literals_of-requires-clause-small : goal.literals_of-requires-clause-small
-literals_of-requires-clause-small c = few_inputs c.args.machine.now c.requires.machine
-
-pub returns-clause-literals : goal.returns-clause-literals
-returns-clause-literals c =
-    let m = c.args.machine.now in
-    let P : Vec ℕ Global → Type 0 =
-    λ literals. AreLiterals m c.literals_of.new.builder c.args.latches c.deref.result.now literals.items in
-    IfOk-weaker c.literals_of.result P _
-    (λ literals l. subst (λ (xs : List Wanted). AreLiterals m c.literals_of.new.builder c.args.latches xs
-    literals.items) (c.deref.ensures.value ∙ c.in_ok-output_bits.ensures) l) c.literals_of.ensures.literals
+literals_of-requires-clause-small c = few_inputs (behaviour c.args.machine.now) c.requires.machine
 
 pub returns-clause-made : goal.returns-clause-made
 returns-clause-made c =

@@ -1,6 +1,5 @@
 use Rattle.std.proofs.Common.{◌≡◌, ◌∙◌, ℕ, ◌+◌, ◌*◌, Err, None, false, ◌<◌, ◌≤◌, List, Some, slice_get, ap, sym, subst}
 use Rattle.std.proofs.Common.{arith, length, nat_eq}
-use Rattle.std.specs.Map.{lookup}
 use Rattle.std.proofs.lemmas.Result.{IfOk-weaker}
 use Rattle.ps_hoa.specs.Files.{is_among}
 use Rattle.indexmap.specs.IndexMap.{get}
@@ -9,16 +8,11 @@ use Rattle.ps_diagram.specs.Views.{SeesTest}
 use Rattle.ps_circuit.specs.Building.{variables_of}
 use Rattle.ps_circuit.specs.Gates.{Made}
 use Rattle.ps_aiger.specs.Functions.{node_made}
-use Rattle.ps_circuit.proofs.GateLemmas.{extends-trans, passed}
-use Rattle.ps_aiger.proofs.FunctionLemmas.{literal-kept, literal-test, knows-kept, knows-more, knows-same, place_small}
-use Rattle.ps_aiger.proofs.FunctionLemmas.{held_place}
+use Rattle.ps_circuit.proofs.GateLemmas.{passed}
+use Rattle.ps_aiger.proofs.FunctionLemmas.{held_place, place_small}
 use Rattle.ps_aiger.proofs.OverLemmas.{inputs-extends, made-nothing, made-leaf, made-low, made-test}
 use Rattle.ps_aiger.proofs.WiredLemmas.{choice-made, choice-above, choice-above_low, made-kept, made-more}
 use Rattle.ps_aiger.proofs.functions.+over_inputs.Goals as goal
-
-pub returns-in-Some-get-clause-literal : goal.returns-in-Some-get-clause-literal
-returns-in-Some-get-clause-literal t c =
-    c.requires.known c.args.node c.in-Some-get.literal.now (sym c.in-Some-get.ensures.value)
 
 pub overflow_cast-place : goal.overflow_cast-place
 overflow_cast-place t c = let lt : c.in-Some.place < length c.args.machine.now.inputs =
@@ -43,55 +37,6 @@ mux-requires-clause-chooses t c =
     (place_small c.args.machine.now.inputs c.inputs.result.now c.in-Some.place c.in-Test.proposition
     c.inputs.ensures.inputs c.in-Some.ensures.found)
     (subst (λ n. length c.args.machine.now.inputs ≤ n) (sym given) c.requires.given))
-
-pub returns-in_err-literal-in-Test-clause-known : goal.returns-in_err-literal-in-Test-clause-known
-returns-in_err-literal-in-Test-clause-known t c =
-    knows-kept c.args.machine.now c.args.wanted c.over_inputs-in-Test-2.new.builder c.mux.new.self
-    (get nat_eq c.over_inputs-in-Test-2.new.known) c.mux.ensures.extends c.over_inputs-in-Test-2.ensures.known
-
-pub returns-in_err-insert-in-Test-clause-known : goal.returns-in_err-insert-in-Test-clause-known
-returns-in_err-insert-in-Test-clause-known t c =
-    knows-same c.args.machine.now c.args.wanted c.mux.new.self (get nat_eq c.over_inputs-in-Test-2.new.known)
-    (get nat_eq c.insert.new.self) (λ q. ap (λ es. lookup (nat_eq q) es) c.in_err-insert-in-Test.ensures.err)
-    (knows-kept c.args.machine.now c.args.wanted c.over_inputs-in-Test-2.new.builder c.mux.new.self
-    (get nat_eq c.over_inputs-in-Test-2.new.known) c.mux.ensures.extends c.over_inputs-in-Test-2.ensures.known)
-
-pub returns-in_ok-insert-in-Test-clause-literal : goal.returns-in_ok-insert-in-Test-clause-literal
-returns-in_ok-insert-in-Test-clause-literal t c =
-    literal-test c.args.machine.now c.args.wanted c.mux.new.self c.args.node c.in-Test.proposition c.in-Test.low
-    c.in-Test.high c.in-Some.place c.in_ok-where_true-in-Test.where_true c.in_ok-where_false-in-Test.where_false
-    c.in_ok-literal-in-Test.literal
-    (subst (λ (s : Table). SeesTest s c.args.node c.in-Test.proposition c.in-Test.low c.in-Test.high)
-    c.store.ensures.store c.in-Test.ensures)
-    (subst (λ (xs : List ℕ). slice_get xs c.in-Some.place ≡ Some c.in-Test.proposition) c.inputs.ensures.inputs
-    c.in-Some.ensures.found)
-    (literal-kept c.args.machine.now c.args.wanted c.over_inputs-in-Test.new.builder c.mux.new.self c.in-Test.high
-    c.in_ok-where_true-in-Test.where_true (extends-trans _ _ _ c.over_inputs-in-Test-2.ensures.extends
-    c.mux.ensures.extends) c.in_ok-where_true-in-Test.ensures.literal)
-    (literal-kept c.args.machine.now c.args.wanted c.over_inputs-in-Test-2.new.builder c.mux.new.self c.in-Test.low
-    c.in_ok-where_false-in-Test.where_false c.mux.ensures.extends c.in_ok-where_false-in-Test.ensures.literal)
-    c.in_ok-literal-in-Test.ensures.held (rw c.positive-input.ensures at c.in_ok-literal-in-Test.ensures.bit)
-
-pub returns-in_ok-insert-in-Test-clause-known : goal.returns-in_ok-insert-in-Test-clause-known
-returns-in_ok-insert-in-Test-clause-known t c =
-    knows-more c.args.machine.now c.args.wanted c.mux.new.self (get nat_eq c.over_inputs-in-Test-2.new.known)
-    (get nat_eq c.insert.new.self) c.args.node c.in_ok-literal-in-Test.literal
-    c.in_ok-insert-in-Test.ensures.updates.0
-    (knows-kept c.args.machine.now c.args.wanted c.over_inputs-in-Test-2.new.builder c.mux.new.self
-    (get nat_eq c.over_inputs-in-Test-2.new.known) c.mux.ensures.extends c.over_inputs-in-Test-2.ensures.known)
-    (literal-test c.args.machine.now c.args.wanted c.mux.new.self c.args.node c.in-Test.proposition c.in-Test.low
-    c.in-Test.high c.in-Some.place c.in_ok-where_true-in-Test.where_true c.in_ok-where_false-in-Test.where_false
-    c.in_ok-literal-in-Test.literal
-    (subst (λ (s : Table). SeesTest s c.args.node c.in-Test.proposition c.in-Test.low c.in-Test.high)
-    c.store.ensures.store c.in-Test.ensures)
-    (subst (λ (xs : List ℕ). slice_get xs c.in-Some.place ≡ Some c.in-Test.proposition) c.inputs.ensures.inputs
-    c.in-Some.ensures.found)
-    (literal-kept c.args.machine.now c.args.wanted c.over_inputs-in-Test.new.builder c.mux.new.self c.in-Test.high
-    c.in_ok-where_true-in-Test.where_true (extends-trans _ _ _ c.over_inputs-in-Test-2.ensures.extends
-    c.mux.ensures.extends) c.in_ok-where_true-in-Test.ensures.literal)
-    (literal-kept c.args.machine.now c.args.wanted c.over_inputs-in-Test-2.new.builder c.mux.new.self c.in-Test.low
-    c.in_ok-where_false-in-Test.where_false c.mux.ensures.extends c.in_ok-where_false-in-Test.ensures.literal)
-    c.in_ok-literal-in-Test.ensures.held (rw c.positive-input.ensures at c.in_ok-literal-in-Test.ensures.bit))
 
 pub returns-in-Nothing-clause-made : goal.returns-in-Nothing-clause-made
 returns-in-Nothing-clause-made t c =
@@ -131,7 +76,11 @@ returns-in_default-clause-too_large t c e =
 
 pub returns-in-Some-get-clause-made : goal.returns-in-Some-get-clause-made
 returns-in-Some-get-clause-made t c =
-    c.requires.known_made c.args.node c.in-Some-get.literal.now (sym c.in-Some-get.ensures.value)
+    (c.requires.known_made c.args.node c.in-Some-get.literal.now (sym c.in-Some-get.ensures.value)).made
+
+pub returns-in-Some-get-clause-held : goal.returns-in-Some-get-clause-held
+returns-in-Some-get-clause-held t c =
+    (c.requires.known_made c.args.node c.in-Some-get.literal.now (sym c.in-Some-get.ensures.value)).held
 
 pub returns-in_err-where_true-in-Test-clause-too_large : goal.returns-in_err-where_true-in-Test-clause-too_large
 returns-in_err-where_true-in-Test-clause-too_large t c e =
@@ -223,6 +172,7 @@ returns-in_ok-insert-in-Test-clause-known_made t c =
     c.in_ok-insert-in-Test.ensures.updates.0
     (made-kept m w c.over_inputs-in-Test-2.new.builder c.mux.new.self (get nat_eq c.over_inputs-in-Test-2.new.known)
     c.mux.ensures.extends c.in_ok-where_false-in-Test.ensures.known_made)
+    c.in_ok-literal-in-Test.ensures.held
     (choice-made _ _ (node_made m w c.in-Test.low) c.over_inputs-in-Test.new.builder c.over_inputs-in-Test-2.new.builder
     s c.in_ok-where_true-in-Test.where_true c.in_ok-where_false-in-Test.where_false whole
     c.in_ok-where_true-in-Test.ensures.made c.in_ok-where_false-in-Test.ensures.made

@@ -1,5 +1,5 @@
-use Rattle.ps_measure.proofs.Edges.{RootsBelow}
+use Rattle.ps_measure.proofs.Roots.{RootsAmong, member}
 use Rattle.ps_measure.proofs.measuring.roots_of.Given as goal
 
-abbrev pub invariant-loop-vertex : goal.invariant-loop-vertex
-invariant-loop-vertex g l = RootsBelow l.low l.roots.items l.vertex
+abbrev pub invariant-loop-number : goal.invariant-loop-number
+invariant-loop-number g l = RootsAmong l.low (member l.members l.place) l.roots.items l.number

@@ -4,6 +4,7 @@ use Rattle.ps_game.specs.Regions.{has, move_at}
 use Rattle.ps_measure.specs.Remaining.{RemainingData, LowData}
 use Rattle.ps_measure.specs.Filling.{AreLevels, AreRanked}
 use Rattle.ps_measure.specs.Tables.{AreZero}
+use Rattle.ps_measure.proofs.Grouping.{group_at}
 use Rattle.ps_measure.proofs.Rows.{ranked_none, ranked_empty, ranked_fits, filled_bound}
 use Rattle.ps_measure.proofs.Whole.{IsAtPlace, column_done, refused}
 use Rattle.ps_measure.proofs.measuring.table_by.Goals as goal
@@ -28,7 +29,7 @@ loop-place-preserved g c =
     let within : c.loop-place.place < length c.args.priorities.now = omega (arith, c.loop-place-test.true) in
     let at : IsAtPlace r low c.args.priorities.now c.loop-place.place = record {
       is_game = c.count.ensures.well_formed;
-      levels = subst (AreLevels r.game) (sym c.as_slice.ensures.value) c.in_ok-levels.ensures;
+      levels = subst (AreLevels r.game) (sym c.as_slice.ensures.value) c.in_ok-groups.ensures.levels;
       reverse = c.in_ok-back.ensures;
       regions = refl;
       within = within;
@@ -45,9 +46,9 @@ overflow_add-raises g c =
     c.loop-place.raises
     (omega (
       arith,
-      c.in_ok-levels.ensures.each,
-      c.in_ok-levels.levels.ok.0,
-      c.in_ok-levels.levels.small,
+      c.in_ok-groups.ensures.levels.each,
+      c.in_ok-groups.groups.levels.ok.0,
+      c.in_ok-groups.groups.levels.small,
     )) c.loop-place.invariant in
     let few = filled_bound c.in_ok-raised.ensures.filled in
     let count_is = c.in_ok-back.ensures.count in
@@ -58,9 +59,9 @@ overflow_add-raises g c =
             fits,
             few,
             count_is,
-            c.in_ok-levels.ensures.each,
-            c.in_ok-levels.levels.ok.0,
-            c.in_ok-levels.levels.small,
+            c.in_ok-groups.ensures.levels.each,
+            c.in_ok-groups.groups.levels.ok.0,
+            c.in_ok-groups.groups.levels.small,
             c.from-raises.ensures,
             c.loop-place-test.true,
             c.type_inv.priorities,
@@ -87,7 +88,7 @@ returns-in_err-raised-clause-cycle g c =
     let within : c.loop-place.place < length c.args.priorities.now = omega (arith, c.loop-place-test.true) in
     let at : IsAtPlace r low c.args.priorities.now c.loop-place.place = record {
       is_game = c.count.ensures.well_formed;
-      levels = subst (AreLevels r.game) (sym c.as_slice.ensures.value) c.in_ok-levels.ensures;
+      levels = subst (AreLevels r.game) (sym c.as_slice.ensures.value) c.in_ok-groups.ensures.levels;
       reverse = c.in_ok-back.ensures;
       regions = refl;
       within = within;
@@ -121,3 +122,17 @@ loop-place-init g c =
     c.in_ok-table.ensures in
     ranked_none game c.args.player (has c.args.region.now) (move_at c.args.strategy.now) c.args.priorities.now
     c.in_ok-table.table zeros
+
+pub fill-requires-clause-group : goal.fill-requires-clause-group
+fill-requires-clause-group g c =
+    let low : LowData =
+    (record {
+      star = c.in_ok-back.back;
+      region = c.args.region.now;
+      levels = c.as_slice.result.now;
+      priority =
+          get_or c.args.priorities.now c.loop-place.place 0;
+    }) in
+    group_at c.in_ok-groups.groups.levels.items c.args.priorities.now c.in_ok-groups.groups.members c.loop-place.place
+    low c.in_ok-groups.ensures.groups (omega (arith, c.loop-place-test.true))
+    (omega (arith, c.in_ok-groups.ensures.levels.each, c.in_ok-back.ensures.count)) c.as_slice.ensures.value refl

@@ -1,0 +1,253 @@
+-- The circuit of some gates: what it is made of is a circuit, and tidy.
+use Rattle.std.proofs.Common.{◌≡◌, ◌≢◌, ◌∙◌, ℕ, zero, suc, ◌+◌, ◌-◌, ◌*◌, ◌/◌, ◌<◌, ◌≤◌, false, List, [], ◌∷◌, ◌++◌}
+use Rattle.std.proofs.Common.{map, length, get_or, slice_get, Option, Some, None, refl, sym, ap, subst, arith, inl, inr}
+use Rattle.std.proofs.Common.{All, replicate}
+use Rattle.std.specs.Prelude.{slice_index_or}
+use Rattle.std.specs.List.{flat_map}
+use Rattle.std.proofs.lemmas.Bool.{cases_eq}
+use Rattle.std.proofs.lemmas.List.{length-map, get_or-map, same_lists, length-replicate}
+use Rattle.std.proofs.lemmas.List.Concat.{flat_map-cons}
+use Rattle.std.proofs.lemmas.List.Elements.{All-append, All-map}
+use Rattle.std.proofs.lemmas.Option.{slice_get_within, slice_get-get_or, get_or_from_slice_get}
+use Rattle.ps_circuit.specs.declared.builder.Sides.{Sides}
+use Rattle.ps_circuit.specs.declared.parts.Gate.{Gate}
+use Rattle.ps_circuit.specs.declared.parts.Latch.{Latch}
+use Rattle.ps_machine.specs.Behaviours.{Behaviour}
+use Rattle.ps_circuit.specs.Circuits.{CircuitData, IsDraft, IsDefinition, IsKnown, IsName, ReadsGate, definitions}
+use Rattle.ps_circuit.specs.Literals.{variable}
+use Rattle.ps_circuit.specs.Building.{Drafted, AreSides, IsSoundDraft}
+use Rattle.ps_aiger.specs.Built.{IsBuilt}
+use Rattle.ps_aiger.specs.Encoded.{IsTidy, IsTidyGate, symbols_of}
+use Rattle.ps_aiger.proofs.RangeLemmas.{even_literals, even-append, length-even, even-at}
+use Rattle.ps_circuit.proofs.GateLemmas.{sides_are}
+
+pub no_gate : Gate
+no_gate = record { literal = 0; first = 0; second = 0 }
+
+pub no_sides : Sides
+no_sides = record { first = 0; second = 0 }
+
+pub no_latch : Latch
+no_latch = record { literal = 0; next = 0; reset = false }
+
+pub none_at : (n k : ℕ) (e : Option (List ℕ)) → k < n → get_or (replicate n None) k e ≡ None
+none_at zero k e lt = absurd (omega arith)
+none_at (suc n) zero e lt = refl
+none_at (suc n) (suc k) e lt = none_at n k e (omega arith)
+
+two_hold : (P : ℕ → Type 0) (x y : ℕ) → P x → P y → All P (x ∷ y ∷ [])
+two_hold P x y a b zero e lt = a
+two_hold P x y a b (suc zero) e lt = b
+two_hold P x y a b (suc (suc k)) e lt = absurd (omega arith)
+
+each_side : (P : ℕ → Type 0) (gates : List Gate) → All (λ g. P g.first × P g.second) gates →
+    All P (flat_map (λ g. g.first ∷ g.second ∷ []) gates)
+each_side P [] all = λ k e lt. absurd (omega arith)
+each_side P (g ∷ gates) all =
+    let here = all 0 g (omega arith) in
+    subst (λ xs. All P xs) (sym (flat_map-cons (λ (g : Gate). g.first ∷ g.second ∷ []) g gates))
+    (All-append P (g.first ∷ g.second ∷ []) (flat_map (λ (g : Gate). g.first ∷ g.second ∷ []) gates)
+    (two_hold P g.first g.second here.0 here.1) (each_side P gates (λ k e lt. all (suc k) e (omega arith))))
+
+module _ (m : Behaviour) (d : Drafted) (sound : IsSoundDraft d) (latches : ℕ) (next outputs : List ℕ)
+    (c : CircuitData) (built : IsBuilt m d next outputs c)
+    (given : d.given ≡ length m.inputs + latches) (many : length next ≡ latches) where
+  latch_is : (k : ℕ) → k < latches → get_or c.latches k no_latch ≡ record
+      { literal = 2 * (length m.inputs + 1 + k); next = get_or next k 0; reset = false }
+  latch_is k lt = get_or_from_slice_get c.latches k _ no_latch (built.latches.each k (subst (λ n. k < n) (sym many) lt))
+
+  many_latches : length c.latches ≡ latches
+  many_latches = built.latches.many ∙ many
+
+  latch_literals : map (λ l. l.literal) c.latches ≡ even_literals (length m.inputs + 1) latches
+  latch_literals =
+      same_lists _ _ (length-map c.latches (λ l. l.literal) ∙ many_latches
+      ∙ sym (length-even (length m.inputs + 1) latches))
+      (λ k e lt. (let within : k < latches = subst (λ n. k < n)
+      (length-map c.latches (λ l. l.literal) ∙ many_latches) lt in
+      get_or-map (λ (l : Latch). l.literal) c.latches k no_latch e (subst (λ n. k < n) (sym many_latches) within)
+      ∙ ap (λ (l : Latch). l.literal) (latch_is k within) ∙ sym (even-at (length m.inputs + 1) latches k e within)))
+
+  many_gates : length c.gates ≡ length d.gates
+  many_gates = built.gates.many
+
+  side : ℕ → Sides
+  side k = get_or d.gates k no_sides
+
+  side_at : (k : ℕ) → k < length d.gates → slice_get d.gates k ≡ Some (side k)
+  unfolding side
+  side_at k lt = slice_get-get_or d.gates k no_sides lt
+
+  are_sides : (k : ℕ) → k < length d.gates → AreSides (d.given + 1 + k) (side k)
+  are_sides k lt = sound.sides k (side k) (side_at k lt)
+
+  gate_at : (k : ℕ) → k < length d.gates → slice_get c.gates k ≡ Some
+      (record { literal = 2 * (d.given + 1 + k); first = (side k).first; second = (side k).second })
+  gate_at k lt = built.gates.each k (side k) (side_at k lt)
+
+  gate_is : (k : ℕ) (e : Gate) → k < length d.gates → get_or c.gates k e ≡ record
+      { literal = 2 * (d.given + 1 + k); first = (side k).first; second = (side k).second }
+  gate_is k e lt = get_or_from_slice_get c.gates k _ e (gate_at k lt)
+
+  gate_literals : map (λ g. g.literal) c.gates ≡ even_literals (d.given + 1) (length d.gates)
+  gate_literals =
+      same_lists _ _ (length-map c.gates (λ g. g.literal) ∙ many_gates
+      ∙ sym (length-even (d.given + 1) (length d.gates)))
+      (λ k e lt. (let within : k < length d.gates = subst (λ n. k < n)
+      (length-map c.gates (λ g. g.literal) ∙ many_gates) lt in
+      get_or-map (λ (g : Gate). g.literal) c.gates k no_gate e (subst (λ n. k < n) (sym many_gates) within)
+      ∙ ap (λ (g : Gate). g.literal) (gate_is k no_gate within)
+      ∙ sym (even-at (d.given + 1) (length d.gates) k e within)))
+
+  -- ## The circuit
+
+  most_is : c.most ≡ length m.inputs + latches + length d.gates
+  most_is = built.most ∙ ap (λ n. n + length d.gates) given
+
+  definitions_are : definitions c ≡ even_literals 1 c.most
+  definitions_are =
+      (let i = length m.inputs in
+      let a = length d.gates in
+      let before : even_literals 1 (i + latches) ≡ even_literals 1 i ++ even_literals (i + 1) latches =
+      even-append 1 i latches ∙ ap (λ x. even_literals 1 i ++ even_literals x latches)
+      (let e : 1 + i ≡ i + 1 = omega arith in e) in
+      let all : even_literals 1 (i + latches + a) ≡ even_literals 1 (i + latches) ++ even_literals (d.given + 1) a =
+      even-append 1 (i + latches) a ∙ ap (λ x. even_literals 1 (i + latches) ++ even_literals x a)
+      (let e : 1 + (i + latches) ≡ d.given + 1 = omega arith in e) in
+      ap (λ xs. xs ++ map (λ l. l.literal) c.latches ++ map (λ g. g.literal) c.gates) built.inputs
+      ∙ ap (λ xs. even_literals 1 i ++ xs ++ map (λ g. g.literal) c.gates) latch_literals
+      ∙ ap (λ xs. even_literals 1 i ++ even_literals (i + 1) latches ++ xs) gate_literals
+      ∙ ap (λ xs. xs ++ even_literals (d.given + 1) a) (sym before) ∙ sym all ∙ ap (even_literals 1) (sym most_is))
+
+  many_definitions : length (definitions c) ≡ c.most
+  many_definitions = ap length definitions_are ∙ length-even 1 c.most
+
+  definition_at : (k e : ℕ) → k < c.most → get_or (definitions c) k e ≡ 2 * (1 + k)
+  definition_at k e lt = ap (λ xs. get_or xs k e) definitions_are ∙ even-at 1 c.most k e lt
+
+  within_most : (k : ℕ) → k < length (definitions c) → k < c.most
+  within_most k lt = subst (λ n. k < n) many_definitions lt
+
+  half : (k : ℕ) → variable (2 * (1 + k)) ≡ 1 + k
+  half k = omega arith
+
+  known_of : (literal : ℕ) → variable literal ≤ c.most → IsKnown (definitions c) literal
+  known_of literal le = elim (cases_eq (variable literal) 0) [
+    | inl e ↦ inl e
+    | inr ne ↦
+        let v = variable literal in
+        let k : ℕ = v - 1 in
+        let is : 1 + k ≡ v = omega arith in
+        let lt : k < c.most = omega arith in
+        let within : k < length (definitions c) = subst (λ n. k < n) (sym many_definitions) lt in
+        inr (
+          k,
+          subst (λ n. k < n) (sym (length-map (definitions c) variable)) within,
+          get_or-map variable (definitions c) k 0 v within ∙ ap variable (definition_at k 0 lt) ∙ half k ∙ is,
+        )
+  ]
+
+  side_below : (k : ℕ) → k < length d.gates → (variable (side k).first ≤ c.most) × (variable (side k).second ≤ c.most)
+  side_below k lt =
+      (let a = (are_sides k lt).below in let b = (are_sides k lt).falls in let e = most_is in
+      (omega arith, omega arith))
+
+  module _ (next_held : (k : ℕ) → k < latches → variable (get_or next k 0) ≤ c.most)
+      (outputs_held : (k e : ℕ) → k < length outputs → variable (get_or outputs k e) ≤ c.most) where
+    next_known : All (IsKnown (definitions c)) (map (λ l. l.next) c.latches)
+    next_known = All-map (IsKnown (definitions c)) (λ (l : Latch). l.next) c.latches (λ k e lt.
+        (let within : k < latches = subst (λ n. k < n) many_latches lt in
+        let is : get_or c.latches k e ≡ record {
+          literal = 2 * (length m.inputs + 1 + k);
+          next = get_or next k 0;
+          reset = false;
+        } = get_or_from_slice_get c.latches k _ e
+        (built.latches.each k (subst (λ n. k < n) (sym many) within)) in
+        subst (λ (l : Latch). IsKnown (definitions c) l.next) (sym is)
+        (known_of (get_or next k 0) (next_held k within))))
+
+    outputs_known : All (IsKnown (definitions c)) c.outputs
+    outputs_known =
+        subst (λ xs. All (IsKnown (definitions c)) xs) (sym built.output_literals)
+        (λ k e lt. known_of (get_or outputs k e) (outputs_held k e lt))
+
+    sides_known : All (IsKnown (definitions c)) (flat_map (λ g. g.first ∷ g.second ∷ []) c.gates)
+    sides_known = each_side (IsKnown (definitions c)) c.gates (λ k e lt.
+        (let within : k < length d.gates = subst (λ n. k < n) many_gates lt in
+        let b = side_below k within in
+        subst (λ (g : Gate). IsKnown (definitions c) g.first × IsKnown (definitions c) g.second)
+        (sym (gate_is k e within)) (known_of _ b.0, known_of _ b.1)))
+
+    pub is_draft : All IsName (symbols_of m.names m.inputs) → All IsName (symbols_of m.names m.outputs) →
+        length m.outputs ≡ length outputs → IsDraft c
+    is_draft named_in named_out many_outputs = record {
+      limit = subst (λ n. n < 2147483648) (sym built.most) sound.room;
+      defined =
+          λ k e lt. (let within = within_most k lt in subst (IsDefinition c.most) (sym (definition_at k e within))
+          (omega arith, omega arith, omega arith));
+      once = λ i j e lt within. (let there = within_most j within in let here : i < c.most = omega arith in
+          subst (λ x. variable x ≢ variable (get_or (definitions c) j e)) (sym (definition_at i e here))
+          (subst (λ y. variable (2 * (1 + i)) ≢ variable y) (sym (definition_at j e there))
+          (λ same. (let a = half i in let b = half j in absurd (omega arith)))));
+      known =
+          All-append (IsKnown (definitions c)) (map (λ l. l.next) c.latches ++ c.outputs)
+          (flat_map (λ g. g.first ∷ g.second ∷ []) c.gates) (All-append (IsKnown (definitions c))
+          (map (λ l. l.next) c.latches) c.outputs next_known outputs_known) sides_known;
+      inputs_named = ap length built.input_names ∙ length-map m.inputs (λ p. Some (slice_index_or m.names p []))
+          ∙ sym (ap length built.inputs ∙ length-even 1 (length m.inputs));
+      latches_named = ap length built.latch_names ∙ length-replicate (length next) None ∙ sym built.latches.many;
+      outputs_named = ap length built.output_names ∙ length-map m.outputs (λ p. Some (slice_index_or m.names p []))
+          ∙ many_outputs ∙ sym (ap length built.output_literals);
+      input_names = subst (λ xs. All IsName xs) (sym built.input_names) named_in;
+      latch_names =
+          subst (λ xs. All IsName xs) (sym built.latch_names) (λ k e lt.
+          subst IsName (sym (none_at (length next) k e (subst (λ n. k < n) (length-replicate (length next) None) lt)))
+          tt);
+      output_names = subst (λ xs. All IsName xs) (sym built.output_names) named_out;
+    }
+
+  pub ordered : (i j : ℕ) → ReadsGate c.gates i j → j < i
+  ordered i j r =
+      (let i_lt : i < length d.gates = subst (λ n. i < n) many_gates (slice_get_within c.gates i r.reader r.at_i) in
+      let j_lt : j < length d.gates = subst (λ n. j < n) many_gates (slice_get_within c.gates j r.read r.at_j) in
+      let reader : r.reader ≡ record {
+        literal = 2 * (d.given + 1 + i);
+        first = (side i).first;
+        second = (side i).second;
+      } = sym (get_or_from_slice_get c.gates i r.reader no_gate r.at_i)
+      ∙ gate_is i no_gate i_lt in
+      let read : r.read ≡ record { literal = 2 * (d.given + 1 + j); first = (side j).first; second = (side j).second } =
+      sym (get_or_from_slice_get c.gates j r.read no_gate r.at_j) ∙ gate_is j no_gate j_lt in
+      let a = are_sides i i_lt in
+      let own : variable r.read.literal ≡ d.given + 1 + j = ap (λ (g : Gate). variable g.literal) read
+      ∙ (let e : 2 * (d.given + 1 + j) / 2 ≡ d.given + 1 + j = omega arith in e) in
+      let below : variable (side i).first < d.given + 1 + i = a.below in
+      let falls : (side i).second < (side i).first = a.falls in
+      elim r.side [
+        | inl e ↦ let f : variable (side i).first ≡ d.given + 1 + j = sym (ap (λ (g : Gate). variable g.first) reader)
+            ∙ e ∙ own in omega arith
+        | inr e ↦ let f : variable (side i).second ≡ d.given + 1 + j = sym (ap (λ (g : Gate). variable g.second) reader)
+            ∙ e ∙ own in omega arith
+      ])
+
+  pub is_tidy : IsTidy c
+  is_tidy = record {
+    numbered = definitions_are;
+    gates =
+        λ k e lt. (let within : k < length d.gates = subst (λ n. k < n) many_gates lt in let a = are_sides k within in
+        subst IsTidyGate (sym (gate_is k e within)) (record {
+          below = (let p = a.below in omega arith);
+          falls = a.falls;
+          different = a.different;
+          not_constant = a.not_constant;
+        }));
+    once = λ i j e lt within.
+        (let there : j < length d.gates = subst (λ n. j < n) many_gates within in
+        let here : i < length d.gates = omega arith in
+        subst (λ (g : Gate). ¬ ((g.first ≡ (get_or c.gates j e).first) × (g.second ≡ (get_or c.gates j e).second)))
+        (sym (gate_is i e here))
+        (subst (λ (h : Gate). ¬ (((side i).first ≡ h.first) × ((side i).second ≡ h.second))) (sym (gate_is j e there))
+        (λ both. (let same : side i ≡ side j = sides_are (side i) (side j) both.0 both.1 in
+        let one : i ≡ j = sound.once i j (side i) (side_at i here) (side_at j there ∙ ap (λ s. Some s) (sym same)) in
+        absurd (omega arith)))));
+  }
