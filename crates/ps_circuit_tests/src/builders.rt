@@ -69,8 +69,8 @@ fn gates_are_right(builder: &mut Builder) -> bool {
     or(builder, 3, 5) == Some(Ok(7)) && builder.gates().len() == 1
 }
 
-/// The same of a new builder. Where a growth was refused, which `rt try --test --fail-alloc N` does, the same builder is
-/// asked once more.
+/// The same of a new builder. Where a growth was refused, which `rt try --test --fail-alloc N` does, the same builder
+/// is asked once more.
 fn new_gates_are_right(alloc: Global) -> bool {
     let mut builder = Builder::new(alloc, 2);
     gates_are_right(&mut builder) || gates_are_right(&mut builder)
