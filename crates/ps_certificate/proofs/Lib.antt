@@ -20,4 +20,5 @@ pub mod Steps
 pub mod TextLaws
 pub mod Windows
 pub mod Writing
+pub mod Zeros
 mod OneWinner

@@ -1,6 +1,7 @@
 //! Writing the texts of a certificate.
 
-ghost use Rattle.std.specs.Prelude.{◌≡◌, ◌++◌, ◌+◌, ◌∷◌, [], ◌<◌, length, decimal, OnOk, IfOk, IfSome, Ok, slice_index};
+ghost use Rattle.std.specs.Prelude.{◌≡◌, ◌++◌, ◌+◌, ◌∷◌, [], ◌<◌, ◌≤◌, length, decimal, OnOk, IfOk, IfSome, Ok, slice_index};
+ghost use Rattle.std.specs.Prelude.{take, replicate};
 ghost use Rattle.std.specs.List.{All};
 ghost use Rattle.ps_game.specs.Games.{vertex_count};
 ghost use Rattle.ps_certificate.specs.Certificates.{Fits};
@@ -13,6 +14,10 @@ use crate::entries::{Entries, Entry};
 use ps_game::{Arena, NamedGame};
 use ps_text::numbers::write_number;
 use std::alloc::{AllocError, Global};
+
+/// Forty zeros, each behind a space.
+const ZEROS: &[u8; 80] =
+    b" 0 0 0 0 0 0 0 0 0 0 0 0 0 0 0 0 0 0 0 0 0 0 0 0 0 0 0 0 0 0 0 0 0 0 0 0 0 0 0 0";
 
 /// How many bytes a line has beside its counts, where ids have six digits.
 const LINE: usize = 18;
@@ -219,14 +224,51 @@ fn write_pair(out: &mut Vec<u8>, priority: u64, count: u64) -> Result<(), AllocE
     write_number(out, count)
 }
 
-/// Writes numbers, each behind a space.
+/// Writes numbers, each behind a space. Most counts are 0, so a run of them is written as one.
 fn write_fields(out: &mut Vec<u8>, numbers: &[u64]) -> Result<(), AllocError>
     ensures bytes { OnOk result (out.new.items ≡ out.old.items ++ fields numbers.now) }
     ensures words { OnOk result (All IsWord numbers.now) }
 {
-    for &number in numbers {
-        out.push(b' ')?;
-        write_number(out, number)?;
+    let mut place = 0;
+    while place < numbers.len() {
+        let zeros = leading_zeros(&numbers[place..]);
+        if zeros > 0 {
+            write_zeros(out, zeros)?;
+            place += zeros;
+        } else {
+            write_field(out, numbers[place])?;
+            place += 1;
+        }
     }
     Ok(())
+}
+
+/// Writes so many zeros, each behind a space.
+fn write_zeros(out: &mut Vec<u8>, zeros: usize) -> Result<(), AllocError>
+    requires { zeros ≤ 40 }
+    ensures { OnOk result (out.new.items ≡ out.old.items ++ fields (replicate zeros 0)) }
+{
+    out.extend_from_slice(&ZEROS[..2 * zeros])?;
+    Ok(())
+}
+
+/// Writes a number behind a space.
+fn write_field(out: &mut Vec<u8>, number: u64) -> Result<(), AllocError>
+    ensures { OnOk result (out.new.items ≡ out.old.items ++ 32 ∷ decimal number) }
+{
+    out.push(b' ')?;
+    write_number(out, number)
+}
+
+/// With how many zeros a list begins, up to as many as are written as one.
+fn leading_zeros(numbers: &[u64]) -> usize
+    ensures within { result ≤ length numbers.now }
+    ensures few { result ≤ 40 }
+    ensures zeros { take result numbers.now ≡ replicate result 0 }
+{
+    let mut zeros = 0;
+    while zeros < numbers.len() && zeros < ZEROS.len() / 2 && numbers[zeros] == 0 {
+        zeros += 1;
+    }
+    zeros
 }

@@ -253,21 +253,21 @@ by_other : (b : Bool) → not b ≡ cond b false true
 by_other true = refl
 by_other false = refl
 
-by_true : (b x : Bool) → (b || x) ≡ cond b true x
-by_true true x = refl
-by_true false x = refl
+then_true : (b x : Bool) → (b || x) ≡ cond b true x
+then_true true x = refl
+then_true false x = refl
 
-by_false : (b x : Bool) → (not b && x) ≡ cond b false x
-by_false true x = refl
-by_false false x = refl
+then_false : (b x : Bool) → (not b && x) ≡ cond b false x
+then_false true x = refl
+then_false false x = refl
 
-or_false : (b x : Bool) → (b && x) ≡ cond b x false
-or_false true x = refl
-or_false false x = refl
+else_false : (b x : Bool) → (b && x) ≡ cond b x false
+else_false true x = refl
+else_false false x = refl
 
-or_true : (b x : Bool) → (not b || x) ≡ cond b x true
-or_true true x = refl
-or_true false x = refl
+else_true : (b x : Bool) → (not b || x) ≡ cond b x true
+else_true true x = refl
+else_true false x = refl
 
 choice_made : (a b c f g h i : Bool) (s high low : ℕ) (d : Drafted) → (high == low) ≡ a →
     (high == 1 && low == 0) ≡ b → (high == 0 && low == 1) ≡ c → (high == 1) ≡ f → (high == 0) ≡ g → (low == 0) ≡ h →
@@ -286,20 +286,20 @@ choice_made false false true f g h i s high low d ea eb ec ef eg eh ei sound hs 
     there d (negated s) _ sound (held-negated d s hs) (λ v zero. bit-negated v s ∙ by_other (bit v s)
     ∙ sym (ap₂ (cond (bit v s)) (zero_is v high zero both.0) (one_is v low zero both.1)))
 choice_made false false false true g h i s high low d ea eb ec ef eg eh ei sound hs hh hl room =
-    made-as (or_of d s low) _ _ (λ v zero. by_true (bit v s) (bit v low)
+    made-as (or_of d s low) _ _ (λ v zero. then_true (bit v s) (bit v low)
     ∙ sym (ap (λ t. cond (bit v s) t (bit v low)) (one_is v high zero ef)))
     (or-made d s low sound hs hl room)
 choice_made false false false false true h i s high low d ea eb ec ef eg eh ei sound hs hh hl room =
     made-as (and_of d (negated s) low) _ _ (λ v zero. ap (λ t. t && bit v low) (bit-negated v s)
-    ∙ by_false (bit v s) (bit v low) ∙ sym (ap (λ t. cond (bit v s) t (bit v low)) (zero_is v high zero eg)))
+    ∙ then_false (bit v s) (bit v low) ∙ sym (ap (λ t. cond (bit v s) t (bit v low)) (zero_is v high zero eg)))
     (and-made d (negated s) low sound (held-negated d s hs) hl room)
 choice_made false false false false false true i s high low d ea eb ec ef eg eh ei sound hs hh hl room =
-    made-as (and_of d s high) _ _ (λ v zero. or_false (bit v s) (bit v high)
+    made-as (and_of d s high) _ _ (λ v zero. else_false (bit v s) (bit v high)
     ∙ sym (ap (cond (bit v s) (bit v high)) (zero_is v low zero eh)))
     (and-made d s high sound hs hh room)
 choice_made false false false false false false true s high low d ea eb ec ef eg eh ei sound hs hh hl room =
     made-as (or_of d (negated s) high) _ _ (λ v zero. ap (λ t. t || bit v high) (bit-negated v s)
-    ∙ or_true (bit v s) (bit v high) ∙ sym (ap (cond (bit v s) (bit v high)) (one_is v low zero ei)))
+    ∙ else_true (bit v s) (bit v high) ∙ sym (ap (cond (bit v s) (bit v high)) (one_is v low zero ei)))
     (or-made d (negated s) high sound (held-negated d s hs) hh room)
 choice_made false false false false false false false s high low d ea eb ec ef eg eh ei sound hs hh hl room =
     chosen-made d s high low sound hs hh hl room

@@ -1,6 +1,6 @@
 -- What the search has found when its path is empty.
-use Rattle.std.proofs.Common.{◌≡◌, ◌∙◌, ℕ, ◌<◌, List, length, map, refl, sym, ap, arith, Option, Some, None, get_or}
-use Rattle.std.proofs.Common.{slice_get}
+use Rattle.std.proofs.Common.{◌≡◌, ◌∙◌, ℕ, ◌<◌, ◌⊎◌, inl, inr, List, length, map, refl, sym, ap, arith, Option, Some}
+use Rattle.std.proofs.Common.{None, get_or, slice_get}
 use Rattle.std.specs.Option.{option_map}
 use Rattle.std.proofs.lemmas.Option.{slice_get_within, slice_get-get_or, slice_get-map}
 use Rattle.std.proofs.lemmas.List.{length-map}
@@ -9,7 +9,7 @@ use Rattle.ps_components.specs.declared.search.Mark.TheVariants.{Unseen, Active,
 use Rattle.ps_components.specs.declared.search.Pending.{Pending}
 use Rattle.ps_components.specs.Graphs.{Digraph, IsReached}
 use Rattle.ps_components.specs.ComponentLists.{ComponentsData, IsIn, AreComponents, AreMet, AreAllMet}
-use Rattle.ps_components.specs.Searching.{IsSoundSearch, number_of}
+use Rattle.ps_components.specs.Searching.{IsSoundSearch, AreListed, number_of}
 use Rattle.ps_components.proofs.Reaching.{met_is_reached}
 
 module _ (g : Digraph) (marks : List Mark) (active bounds : List ℕ) (pending : List Pending) (order : List ℕ)
@@ -43,6 +43,24 @@ module _ (g : Digraph) (marks : List Mark) (active bounds : List ℕ) (pending :
     rises = λ i j v w k m lt hi hj hv hw. s.rises i j v w k m lt hi hj (in-closed v k hv) (in-closed w m hw);
     once = s.once;
   }
+
+  -- with an empty path, what was seen stands in order
+  pub all_listed : length bounds ≡ 0 → AreListed marks order
+  all_listed none = record {
+    within = λ i v at. (let found = s.ordered i v at in slice_get_within marks v (Closed found.0) found.1);
+    listed = which;
+  }
+    where
+      which : (v : ℕ) (m : Mark) → slice_get marks v ≡ Some m → (m ≡ Unseen) ⊎ ((i : ℕ) × (slice_get order i ≡ Some v))
+      which v Unseen at = inl refl
+      which v (Active p) at =
+          absurd (omega (
+            arith,
+            none,
+            slice_get_within bounds 0 0
+                (s.bounds_start (omega (arith, slice_get_within active p v (s.marked_active p v at)))),
+          ))
+      which v (Closed k) at = inr (s.listed v k at)
 
   -- with an empty path, what was seen has a number
   met : length bounds ≡ 0 → (v : ℕ) → v < g.count → (slice_get marks v ≡ Some Unseen → ⊥) → (k : ℕ) × IsIn found v k

@@ -7,4 +7,5 @@ pub mod Closing
 pub mod Ended
 pub mod Spreads
 pub mod Knots
+pub mod Renewing
 mod Reaching

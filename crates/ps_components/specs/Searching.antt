@@ -55,6 +55,17 @@ pub record IsSoundSearch (g : Digraph) (marks : List Mark) (active bounds : List
       slice_get marks v ≡ Some (Closed k) → slice_get marks w ≡ Some (Closed m) → k ≤ m
   pub once : (i j v : ℕ) → slice_get order i ≡ Some v → slice_get order j ≡ Some v → i ≡ j
 
+-- what is marked stands in the order, of items that have marks
+pub record AreListed (marks : List Mark) (order : List ℕ) : Type 0 where
+  pub within : (i v : ℕ) → slice_get order i ≡ Some v → v < length marks
+  pub listed : (v : ℕ) (m : Mark) → slice_get marks v ≡ Some m →
+      (m ≡ Unseen) ⊎ ((i : ℕ) × (slice_get order i ≡ Some v))
+
+-- the roots were seen, and what is closed is one of them, or reached from them
+pub record HasMet (g : Digraph) (roots : List ℕ) (marks : List Mark) : Type 0 where
+  pub seen : (i v : ℕ) → slice_get roots i ≡ Some v → ¬ (slice_get marks v ≡ Some Unseen)
+  pub reached : (v k : ℕ) → slice_get marks v ≡ Some (Closed k) → IsReached g roots v
+
 -- only of vertices to which these lead the mark changed
 abbrev pub ChangesReached : Digraph → List ℕ → List Mark → List Mark → Type 0
 ChangesReached g from old new = (v : ℕ) → (slice_get new v ≡ slice_get old v) ⊎ IsReached g from v

@@ -1,6 +1,6 @@
 //! Components by their numbers.
 
-ghost use Rattle.std.specs.Prelude.{◌≡◌, ◌<◌, length, slice_get, Some, IfOk, All};
+ghost use Rattle.std.specs.Prelude.{◌≡◌, ◌<◌, [], length, slice_get, Some, IfOk, OnOk, OnErr, All};
 ghost use Rattle.ps_components.specs.ComponentLists.{AreComponents, AreMet, AreAllMet};
 
 use crate::graph::Graph;
@@ -9,30 +9,65 @@ use std::alloc::{AllocError, Global};
 use std::marker::Model;
 
 /// The components of the vertices of a graph that were met. A component's number is the place where it begins in the
-/// order.
+/// order. One value can serve for one graph after the other: its memory stays.
 #[derive(Drop)]
 pub struct Components {
-    marks: Vec<Mark>,
-    order: Vec<usize>,
+    search: Search,
 }
 
 impl Model for Components {
     ghost use Rattle.std.specs.Prelude.{map};
     ghost use Rattle.ps_components.specs.ComponentLists.{ComponentsData};
-    ghost use Rattle.ps_components.specs.Searching.{number_of};
+    ghost use Rattle.ps_components.specs.Searching.{number_of, AreListed};
 
     ghost Value = { ComponentsData };
 
-    ghost view = { λ c. record { numbers = map number_of c.marks.items; order = c.order.items } };
+    ghost view = { λ c. record {
+      numbers = map number_of c.search.marks.items;
+      order = c.search.order.items;
+    } };
+
+    ghost invariant = { λ c. AreListed c.search.marks.items c.search.order.items };
 }
 
 impl Components {
+    /// None, of no graph.
+    pub fn new(alloc: Global) -> Self
+        ensures numbers { result.numbers ≡ [] }
+        ensures order { result.order ≡ [] }
+    {
+        Components {
+            search: Search::empty(alloc),
+        }
+    }
+
+    /// Takes the components of the roots, and of all vertices to which they lead, in place of those that it has, which
+    /// are forgotten in the time that it took to list them.
+    ///
+    /// # Errors
+    ///
+    /// Fails where a growth was refused, and then has none.
+    pub fn renew<G: Graph>(&mut self, graph: &G, roots: &[usize]) -> Result<(), AllocError>
+        requires { All (λ v. v < (G.graph graph.now).count) roots.now }
+        ensures components { OnOk result (AreComponents (G.graph graph.now) self.new) }
+        ensures met { OnOk result (AreMet (G.graph graph.now) roots.now self.new) }
+        ensures none { OnErr result (self.new.order ≡ []) }
+    {
+        match self.search.again(graph, roots) {
+            Ok(()) => Ok(()),
+            Err(error) => {
+                self.search.forget();
+                Err(error)
+            }
+        }
+    }
+
     /// The number of a vertex's component, if the vertex was met.
     pub fn number(&self, item: usize) -> Option<usize>
         requires { item < length self.now.numbers }
         ensures { slice_get self.now.numbers item ≡ Some result }
     {
-        match self.marks[item] {
+        match self.search.marks[item] {
             Mark::Closed(number) => Some(number),
             _ => None,
         }
@@ -42,14 +77,14 @@ impl Components {
     pub fn order(&self) -> &[usize]
         ensures { result.now ≡ self.now.order }
     {
-        &self.order
+        &self.search.order
     }
 
     /// That order alone.
     pub fn into_order(self) -> Vec<usize>
         ensures { result.items ≡ self.order }
     {
-        self.order
+        self.search.order
     }
 }
 
@@ -66,10 +101,7 @@ pub fn components_of<G: Graph>(alloc: Global, graph: &G) -> Result<Components, A
     for item in 0..graph.count() {
         search.visit(graph, item)?;
     }
-    Ok(Components {
-        marks: search.marks,
-        order: search.order,
-    })
+    Ok(Components { search })
 }
 
 /// The components of the roots, and of all vertices to which they lead.
@@ -86,12 +118,7 @@ pub fn components_from<G: Graph>(
     ensures components { IfOk result (AreComponents (G.graph graph.now)) }
     ensures met { IfOk result (AreMet (G.graph graph.now) roots.now) }
 {
-    let mut search = Search::new(alloc, graph)?;
-    for &root in roots {
-        search.visit(graph, root)?;
-    }
-    Ok(Components {
-        marks: search.marks,
-        order: search.order,
-    })
+    let mut components = Components::new(alloc);
+    components.renew(graph, roots)?;
+    Ok(components)
 }

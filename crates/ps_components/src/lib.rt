@@ -11,6 +11,7 @@
 //! | `components_from(graph, roots)` | those of the roots and of all vertices to which they lead |
 //! | `arrange(graph)` | an order in which each stands behind those to which it has a link, or the first on a cycle |
 //! | `way_back(graph, start, end)` | a trail from start to end, listed from its end, or none; breadth first |
+//! | `Components::renew(graph, roots)` | as `components_from`, in the memory of components that are done with |
 //! | `Components::number`, `order`, `into_order` | a vertex's component, by where it begins in the order; that order |
 #![tactic(auto)]
 

@@ -5,7 +5,7 @@ ghost use Rattle.std.specs.Prelude.{◌≡◌, ℕ, ◌<◌, ◌≤◌, ◌++◌
 ghost use Rattle.std.specs.Prelude.{OnOk, IfOk};
 ghost use Rattle.ps_components.specs.Graphs.{Way, Link};
 ghost use Rattle.ps_components.specs.Searching.{IsSoundSearch, IsSettled, KeepsMarks, ChangesReached, turns, waits};
-ghost use Rattle.ps_components.specs.Searching.{IsCut, close_all};
+ghost use Rattle.ps_components.specs.Searching.{IsCut, AreListed, HasMet, close_all};
 ghost use Rattle.ps_components.specs.declared.search.Pending.{Pending};
 
 use crate::graph::Graph;
@@ -60,6 +60,81 @@ impl Search {
             pending: Vec::new(alloc),
             order: Vec::new(alloc),
         })
+    }
+
+    /// A search of no graph.
+    pub fn empty(alloc: Global) -> Self
+        ensures marks { result.marks.items ≡ [] }
+        ensures order { result.order.items ≡ [] }
+    {
+        Search {
+            marks: Vec::new(alloc),
+            active: Vec::new(alloc),
+            bounds: Vec::new(alloc),
+            pending: Vec::new(alloc),
+            order: Vec::new(alloc),
+        }
+    }
+
+    /// Forgets the graph, and keeps the memory.
+    pub fn forget(&mut self)
+        ensures marks { self.new.marks.items ≡ [] }
+        ensures order { self.new.order.items ≡ [] }
+    {
+        self.marks.clear();
+        self.order.clear();
+    }
+
+    /// Forgets what was seen, and looks at all that the roots lead to.
+    ///
+    /// # Errors
+    ///
+    /// Fails where a growth was refused.
+    pub fn again<G: Graph>(&mut self, graph: &G, roots: &[usize]) -> Result<(), AllocError>
+        requires listed { AreListed self.old.marks.items self.old.order.items }
+        requires within { All (λ v. v < (G.graph graph.now).count) roots.now }
+        ensures sound { OnOk result (IsSoundSearch (G.graph graph.now) self.new.marks.items self.new.active.items
+            self.new.bounds.items self.new.pending.items self.new.order.items) }
+        ensures ended { OnOk result (length self.new.bounds.items ≡ 0) }
+        ensures met { OnOk result (HasMet (G.graph graph.now) roots.now self.new.marks.items) }
+    {
+        self.renew(graph)?;
+        self.visit_each(graph, roots)
+    }
+
+    /// Forgets what was seen, of which all is listed, and has seen nothing of a graph.
+    fn renew<G: Graph>(&mut self, graph: &G) -> Result<(), AllocError>
+        requires { AreListed self.old.marks.items self.old.order.items }
+        ensures sound { OnOk result (IsSoundSearch (G.graph graph.now) self.new.marks.items self.new.active.items
+            self.new.bounds.items self.new.pending.items self.new.order.items) }
+        ensures ended { OnOk result (length self.new.bounds.items ≡ 0) }
+        ensures unseen { OnOk result (All (λ m. m ≡ Mark.Unseen) self.new.marks.items) }
+    {
+        unmark(&mut self.marks, &self.order);
+        self.marks.resize(graph.count(), Mark::Unseen)?;
+        self.active.clear();
+        self.bounds.clear();
+        self.pending.clear();
+        self.order.clear();
+        Ok(())
+    }
+
+    /// Looks at all that the roots lead to.
+    fn visit_each<G: Graph>(&mut self, graph: &G, roots: &[usize]) -> Result<(), AllocError>
+        requires within { All (λ v. v < (G.graph graph.now).count) roots.now }
+        requires sound { IsSoundSearch (G.graph graph.now) self.old.marks.items self.old.active.items
+            self.old.bounds.items self.old.pending.items self.old.order.items }
+        requires ended { length self.old.bounds.items ≡ 0 }
+        requires unseen { All (λ m. m ≡ Mark.Unseen) self.old.marks.items }
+        ensures sound { OnOk result (IsSoundSearch (G.graph graph.now) self.new.marks.items self.new.active.items
+            self.new.bounds.items self.new.pending.items self.new.order.items) }
+        ensures ended { OnOk result (length self.new.bounds.items ≡ 0) }
+        ensures met { OnOk result (HasMet (G.graph graph.now) roots.now self.new.marks.items) }
+    {
+        for &root in roots {
+            self.visit(graph, root)?;
+        }
+        Ok(())
     }
 
     /// Looks at all that an item leads to, unless it was seen.
@@ -250,6 +325,16 @@ fn cut(bounds: &mut Vec<usize>, place: usize)
             break;
         }
         bounds.pop();
+    }
+}
+
+/// Has no item seen, of marks of which all are listed.
+fn unmark(marks: &mut Vec<Mark>, items: &[usize])
+    requires { AreListed marks.old.items items.now }
+    ensures { All (λ m. m ≡ Mark.Unseen) marks.new.items }
+{
+    for &item in items {
+        marks[item] = Mark::Unseen;
     }
 }
 

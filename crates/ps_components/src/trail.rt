@@ -72,7 +72,8 @@ impl Spread {
     fn reach_from<G: Graph>(&mut self, graph: &G, place: usize) -> Result<(), AllocError>
         requires place { place < length self.old.steps.items }
         requires spread { IsSpread (G.graph graph.now) self.old.seen.items self.old.steps.items place }
-        ensures spread { OnOk result (IsSpread (G.graph graph.now) self.new.seen.items self.new.steps.items (place + 1)) }
+        ensures spread { OnOk result (IsSpread (G.graph graph.now) self.new.seen.items self.new.steps.items
+            (place + 1)) }
         ensures kept { OnOk result (KeepsSteps self.old.steps.items self.new.steps.items) }
         ensures fewer { OnOk result (unseen self.new.seen.items + length self.new.steps.items ≤ unseen
             self.old.seen.items + length self.old.steps.items) }

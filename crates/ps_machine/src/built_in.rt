@@ -147,8 +147,8 @@ fn counts_of<A: Arena>(
     }
 }
 
-/// The entry of each vertex: its winner, the winner's move, and the winner's row of counts. There is room from the start
-/// for a stated number of counts.
+/// The entry of each vertex: its winner, the winner's move, and the winner's row of counts. There is room from the
+/// start for a stated number of counts.
 fn entries_of<A: Arena>(
     alloc: Global,
     arena: &A,

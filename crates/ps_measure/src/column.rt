@@ -6,61 +6,69 @@ ghost use Rattle.ps_components.specs.Graphs.{Digraph, Link};
 ghost use Rattle.ps_components.specs.ComponentLists.{AreComponents, AreMet, IsIn};
 ghost use Rattle.ps_measure.specs.Remaining.{low_graph, low_weight};
 ghost use Rattle.ps_measure.specs.Columns.{AreRoots, AreRaised, IsCounting, IsPassed, GrowsBelow, ArePassedFrom};
-ghost use Rattle.ps_measure.specs.Columns.{IsLost, value_of};
-ghost use Rattle.ps_measure.specs.Outcomes.{IsOutcome};
+ghost use Rattle.ps_measure.specs.Columns.{IsLost, AreLeast, value_of};
+ghost use Rattle.ps_measure.specs.Outcomes.{IsClosing};
 ghost use Rattle.ps_measure.specs.Ranks.{count_of, width_of};
 ghost use Rattle.ps_measure.specs.Tables.{HasColumn};
 ghost use Rattle.ps_measure.specs.Sums.{count_below};
 
 use crate::low::Low;
 use crate::table::CountTable;
-use ps_components::{Components, Graph, components_from};
+use ps_components::{Components, Graph};
 use std::alloc::{AllocError, Global};
 
-/// A count for each component of the vertices that were met.
+/// A count for each component of the vertices that were met. One value serves for one priority after the other.
 #[derive(Drop)]
 pub(crate) struct Column {
     components: Components,
     values: Vec<u64>,
 }
 
-/// The least counts, or a link that leads back to where a way to it began, and to a vertex with the priority.
-#[derive(Drop)]
-pub(crate) enum Outcome {
-    Counts(Column),
-    Lost { from: usize, to: usize },
-}
-
-/// The least counts for the priority of a graph.
-pub(crate) fn column_of(alloc: Global, low: &Low, roots: &[usize]) -> Result<Outcome, AllocError>
-    requires { AreRoots (low_graph low.now) (low_weight low.now) roots.now }
-    ensures { IfOk result (IsOutcome (low_graph low.now) (low_weight low.now)) }
-{
-    let mut column = Column::of(alloc, low, roots)?;
-    match column.settle(low) {
-        Some((from, to)) => Ok(Outcome::Lost { from, to }),
-        None => Ok(Outcome::Counts(column)),
-    }
-}
-
 impl Column {
-    /// The components of what the roots lead to, with the values 1 at the roots and 0 else.
-    fn of(alloc: Global, low: &Low, roots: &[usize]) -> Result<Self, AllocError>
+    /// Of no graph.
+    pub(crate) fn new(alloc: Global) -> Self {
+        Column {
+            components: Components::new(alloc),
+            values: Vec::new(alloc),
+        }
+    }
+
+    /// Works out the least counts for the priority of a graph. Where there are none, answers a link that leads back to
+    /// where a way to it began, and to a vertex with the priority.
+    pub(crate) fn work_out(
+        &mut self,
+        low: &Low,
+        roots: &[usize],
+    ) -> Result<Option<(usize, usize)>, AllocError>
         requires { AreRoots (low_graph low.now) (low_weight low.now) roots.now }
-        ensures counting { IfOk result (λ c. IsCounting (low_graph low.now) (low_weight low.now) c.components
-            c.values.items) }
-        ensures met { IfOk result (λ c. AreMet (low_graph low.now) roots.now c.components) }
-        ensures raised { IfOk result (λ c. AreRaised c.components c.values.items roots.now) }
+        ensures components { IfOk result (λ _. AreComponents (low_graph low.now) self.new.components) }
+        ensures counts { IfOk result (λ lost. IfNone lost (AreLeast (low_graph low.now) (low_weight low.now)
+            (value_of self.new.components self.new.values.items))) }
+        ensures lost { IfOk result (λ lost. IfSome lost (λ link. IsClosing (low_graph low.now) (low_weight low.now)
+            link.0 link.1)) }
+    {
+        self.begin(low, roots)?;
+        Ok(self.settle(low))
+    }
+
+    /// Takes the components of what the roots lead to, with the values 1 at the roots and 0 else.
+    fn begin(&mut self, low: &Low, roots: &[usize]) -> Result<(), AllocError>
+        requires { AreRoots (low_graph low.now) (low_weight low.now) roots.now }
+        ensures counting { OnOk result (IsCounting (low_graph low.now) (low_weight low.now) self.new.components
+            self.new.values.items) }
+        ensures met { OnOk result (AreMet (low_graph low.now) roots.now self.new.components) }
+        ensures raised { OnOk result (AreRaised self.new.components self.new.values.items roots.now) }
     {
         let _vertices = low.count();
-        let components = components_from(alloc, low, roots)?;
-        let mut values = vec![in alloc; 0; components.order().len()]?;
+        self.components.renew(low, roots)?;
+        self.values.clear();
+        self.values.resize(self.components.order().len(), 0)?;
         for root in roots {
-            if let Some(number) = components.number(*root) {
-                values[number] = 1;
+            if let Some(number) = self.components.number(*root) {
+                self.values[number] = 1;
             }
         }
-        Ok(Column { components, values })
+        Ok(())
     }
 
     /// The count of a vertex.

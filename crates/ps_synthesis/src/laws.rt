@@ -30,8 +30,8 @@ pub fn winners_circuit_is_one()
     ps_aiger::circuit_has_literals();
 }
 
-/// By each certificate of a file's game that fits and is valid the winner has a circuit, unless the gates of its machine
-/// need too many variables.
+/// By each certificate of a file's game that fits and is valid the winner has a circuit, unless the gates of its
+/// machine need too many variables.
 pub fn winners_circuit_is_there()
     ensures { (order : Order) (file : FileData) (game : NamedGameData) (is_game : IsGameOfFile order file game)
         (certificate : CertificateData) → IsSoundFile file → IsCertified game certificate →

@@ -1,0 +1,73 @@
+-- Runs of zeros, and how they are written.
+use Rattle.std.proofs.Common.{◌≡◌, ℕ, zero, suc, ◌+◌, ◌*◌, ◌<◌, ◌≤◌, ◌∙◌, List, [], ◌∷◌, ◌++◌, length, get_or, take, drop}
+use Rattle.std.proofs.Common.{replicate, refl, sym, ap, arith, add-one}
+use Rattle.std.specs.Prelude.{decimal}
+use Rattle.std.proofs.Math.Seq.{take-suc, drop-cons}
+use Rattle.std.proofs.lemmas.Fmt.{decimal_digit}
+use Rattle.std.proofs.lemmas.List.{append_assoc, take-append-drop, drop-drop, replicate-append-replicate}
+use Rattle.ps_certificate.specs.Written.{fields}
+
+fields-append : (xs ys : List ℕ) → fields (xs ++ ys) ≡ fields xs ++ fields ys
+fields-append [] ys = refl
+fields-append (x ∷ xs) ys =
+    ap (λ text. 32 ∷ decimal x ++ text) (fields-append xs ys)
+    ∙ ap (λ text. 32 ∷ text) (sym (append_assoc (decimal x) (fields xs) (fields ys)))
+
+-- the text of so many zeros
+abbrev pub zeros_text : ℕ → List ℕ
+zeros_text zero = []
+zeros_text (suc n) = 32 ∷ 48 ∷ zeros_text n
+
+pub fields-zeros : (n : ℕ) → zeros_text n ≡ fields (replicate n 0)
+fields-zeros zero = refl
+fields-zeros (suc n) =
+    ap (λ text. 32 ∷ 48 ∷ text) (fields-zeros n)
+    ∙ ap (λ digits. 32 ∷ digits ++ fields (replicate n 0)) (sym (decimal_digit 0 (omega arith)))
+
+-- the text of fewer zeros begins that of more
+pub take-zeros : (n m : ℕ) → n ≤ m → take (2 * n) (zeros_text m) ≡ zeros_text n
+take-zeros zero m few = refl
+take-zeros (suc n) zero few = absurd (omega (arith, few))
+take-zeros (suc n) (suc m) few =
+    let twice : 2 * suc n ≡ suc (suc (2 * n)) = omega arith in
+    ap (λ k. take k (32 ∷ 48 ∷ zeros_text m)) twice
+    ∙ ap (λ text. 32 ∷ 48 ∷ text) (take-zeros n m (omega (arith, few)))
+
+-- one zero more
+pub zero_more : (xs : List ℕ) (n : ℕ) → n < length xs → get_or xs n 0 ≡ 0 → take n xs ≡ replicate n 0 →
+    take (n + 1) xs ≡ replicate (n + 1) 0
+zero_more xs n within none zeros =
+    ap (λ k. take k xs) (add-one n)
+    ∙ take-suc xs n 0 within
+    ∙ ap (λ ys. ys ++ get_or xs n 0 ∷ []) zeros
+    ∙ ap (λ x. replicate n 0 ++ x ∷ []) none
+    ∙ replicate-append-replicate n 1 0
+
+-- the zeros with which the rest begins are written
+pub zeros_written : (out numbers total : List ℕ) (place n : ℕ) → take n (drop place numbers) ≡ replicate n 0 →
+    out ++ fields (drop place numbers) ≡ total →
+    (out ++ fields (replicate n 0)) ++ fields (drop (place + n) numbers) ≡ total
+zeros_written out numbers total place n zeros so_far =
+    append_assoc out (fields (replicate n 0)) (fields (drop (place + n) numbers))
+    ∙ ap (λ text. out ++ text) (sym (fields-append (replicate n 0) (drop (place + n) numbers)) ∙ ap fields parts)
+    ∙ so_far
+  where
+    parts : replicate n 0 ++ drop (place + n) numbers ≡ drop place numbers
+    parts =
+        ap (λ ys. ys ++ drop (place + n) numbers) (sym zeros)
+        ∙ ap (λ ys. take n (drop place numbers) ++ ys) (sym (drop-drop n place numbers))
+        ∙ take-append-drop n (drop place numbers)
+
+-- the first number of the rest is written
+pub number_written : (out numbers total : List ℕ) (place : ℕ) → place < length numbers →
+    out ++ fields (drop place numbers) ≡ total →
+    (out ++ 32 ∷ decimal (get_or numbers place 0)) ++ fields (drop (place + 1) numbers) ≡ total
+number_written out numbers total place within so_far =
+    append_assoc out (32 ∷ decimal (get_or numbers place 0)) (fields (drop (place + 1) numbers))
+    ∙ ap (λ text. out ++ text) (ap fields (sym next))
+    ∙ so_far
+  where
+    next : drop place numbers ≡ get_or numbers place 0 ∷ drop (place + 1) numbers
+    next =
+        drop-cons numbers place 0 within
+        ∙ ap (λ k. get_or numbers place 0 ∷ drop k numbers) (sym (add-one place))
