@@ -16,6 +16,7 @@ pub mod LetterLists
 pub mod StimulusLemmas
 pub mod StimulusSteps
 pub mod OneStimulus
+pub mod SomeStimulus
 pub mod NamingLemmas
 pub mod LetterLemmas
 pub mod LassoLemmas

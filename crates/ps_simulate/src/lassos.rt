@@ -261,8 +261,8 @@ impl<'a> Run<'a> {
     }
 }
 
-/// Puts latches behind those that were seen, unless they were seen before; then it answers their place. The places stand
-/// in a tree, so that no choice of latches makes a search long.
+/// Puts latches behind those that were seen, unless they were seen before; then it answers their place. The places
+/// stand in a tree, so that no choice of latches makes a search long.
 fn see(
     alloc: Global,
     seen: &mut BTreeMap<Vec<bool>, usize>,

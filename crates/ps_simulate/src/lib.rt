@@ -16,6 +16,7 @@
 //! | `circuit_has_one_values` | for given inputs and latches a circuit has values, and one for each literal |
 //! | `lanes_are_plain_runs` | each of the 256 runs goes as a plain run on its letters |
 //! | `verdict_is_one`, `stimulus_text_has_one_answer` | there is one verdict at most, and one answer to a text |
+//! | `stimulus_text_has_some_answer` | there is an answer to each text |
 //!
 //! Steps take no memory, and time in proportion to the gates. A lasso is run until the latches come back at the
 //! beginning of a lap, which may take as many laps as there are values of the latches; those that came are kept in a
@@ -42,4 +43,6 @@ pub use laws::{circuit_has_one_values, lanes_are_plain_runs, verdict_is_one};
 pub use letters::{Letters, parse_letters};
 pub use role::Role;
 pub use simulator::Simulator;
-pub use stimulus::{Stimulus, parse_stimulus, stimulus_text_has_one_answer};
+pub use stimulus::{
+    Stimulus, parse_stimulus, stimulus_text_has_one_answer, stimulus_text_has_some_answer,
+};
