@@ -158,7 +158,12 @@ module _ (text : List ℕ) (start : ℕ) (some : start < length text) where
           Decided (get_or text k 0 ≡ 10) → (end : ℕ) × LineEnd text start end
       go next (inl newline) = (
         k,
-        (from, omega (arith, within), lines_of-drop_ended text start k from (omega (arith, within)) none within newline),
+        (
+          from,
+          omega (arith, within),
+          lines_of-drop_ended text start k from (omega (arith, within)) none
+              within newline,
+        ),
       )
       go next (inr other) = next (omega (arith, e)) (omega (arith, from)) (further other)
 
