@@ -45,3 +45,9 @@ pub mod HeaderExits
 pub mod HeaderLoops
 pub mod NewAliases
 pub mod LeastFlaws
+pub mod Judging
+pub mod HeaderFlaws
+pub mod LabelOutcomes
+pub mod HeaderOutcomes
+pub mod BodyOutcomes
+pub mod SomeReading

@@ -877,7 +877,7 @@ nothing_begins : (n : ℕ) → step_of [] ≡ Skip n → ⊥
 unfolding step_of
 nothing_begins n is = cc
 
-skip_sound : (bytes : List ℕ) (n : ℕ) → step_of bytes ≡ Skip n → Sound bytes (Skip n)
+pub skip_sound : (bytes : List ℕ) (n : ℕ) → step_of bytes ≡ Skip n → Sound bytes (Skip n)
 skip_sound [] n is = absurd (nothing_begins n is)
 skip_sound (b ∷ bs) n is = subst (λ (s : Step). Sound (b ∷ bs) s) is (sound b bs)
 
