@@ -13,10 +13,9 @@ use Rattle.ps_hoa.specs.Files.{RowData, once}
 use Rattle.ps_hoa.specs.Header.{HeaderData, int_in, string, IsAlternating}
 use Rattle.ps_hoa.specs.Body.{BodyData, no_rows, IsBadState, IsBadSet, BadIn, sets_of, is_left_brace, is_right_brace}
 use Rattle.ps_hoa.specs.Body.{set_number, sets, marks, is_left_bracket, is_right_bracket, body_scope, some_label}
-use Rattle.ps_hoa.specs.Body.{label_in_brackets, state_label, is_bracket, IsBadBracket}
-use Rattle.ps_hoa.specs.Body.{IsBadPlainTarget, with_edge, labelled_edge, plain_edge, edge, edges, IsBadRow}
-use Rattle.ps_hoa.specs.Body.{nothing_of, state_name, empty_row, with_row, state_value, IsBadNext}
-use Rattle.ps_hoa.specs.Body.{state, is_end, IsBadClose, ended, body}
+use Rattle.ps_hoa.specs.Body.{label_in_brackets, state_label, is_bracket, IsBadBracket, IsBadPlainTarget, with_edge}
+use Rattle.ps_hoa.specs.Body.{labelled_edge, plain_edge, edge, edges, IsBadRow, nothing_of, state_name, empty_row}
+use Rattle.ps_hoa.specs.Body.{with_row, state_value, IsBadNext, state, is_end, IsBadClose, ended, body}
 use Rattle.ps_hoa.specs.Texts.{file_of, file}
 use Rattle.ps_hoa.specs.declared.fault.HoaCause.{HoaCause}
 use Rattle.ps_hoa.specs.declared.tokens.Kind.TheVariants.{Header, Int, LeftBrace, RightBrace, LeftBracket, RightBracket}
@@ -24,10 +23,9 @@ use Rattle.ps_hoa.specs.declared.tokens.Kind.TheVariants.{End}
 use Rattle.ps_hoa.proofs.OperandLaws.{Of, nothing_apart}
 use Rattle.ps_hoa.proofs.BodyLaws.{is_int, laws_set_number, joint_sets, joint_braces, laws_sets, laws_no_sets}
 use Rattle.ps_hoa.proofs.BodyLaws.{joint_label, joint_bracket, laws_bracketed, laws_no_label, laws_target_number}
-use Rattle.ps_hoa.proofs.BodyLaws.{number_barred, joint_edge_marks, joint_edge_target}
-use Rattle.ps_hoa.proofs.BodyLaws.{joint_edge_label, joint_plain_marks, laws_labelled_edge, laws_plain_edge}
-use Rattle.ps_hoa.proofs.BodyLaws.{bracket_int}
-use Rattle.ps_hoa.proofs.BodyLaws.{laws_edge, edge_apart}
+use Rattle.ps_hoa.proofs.BodyLaws.{number_barred, joint_edge_marks, joint_edge_target, joint_edge_label}
+use Rattle.ps_hoa.proofs.BodyLaws.{joint_plain_marks, laws_labelled_edge, laws_plain_edge, bracket_int, laws_edge}
+use Rattle.ps_hoa.proofs.BodyLaws.{edge_apart}
 use Rattle.ps_hoa.proofs.StateLaws.{laws_named, laws_no_name, joint_marks, joint_name, joint_number, joint_state_label}
 use Rattle.ps_hoa.proofs.StateLaws.{joint_state, laws_state, state_apart, joint_body}
 use Rattle.ps_hoa.proofs.FileLaws.{joint_file}

@@ -9,8 +9,7 @@ use Rattle.ps_text.specs.Choices.{choice}
 use Rattle.ps_text.specs.Outcomes.{Outcome, was_read, has_fault, HasOutcomes}
 use Rattle.ps_text.proofs.Laws.{Laws}
 use Rattle.ps_text.proofs.Outcomes.{has_give, has_one, has_mapped, has_then, has_either, has_times, has_many}
-use Rattle.ps_text.proofs.Outcomes.{has_barred}
-use Rattle.ps_text.proofs.Outcomes.{has_refusal}
+use Rattle.ps_text.proofs.Outcomes.{has_barred, has_refusal}
 use Rattle.ps_text.proofs.Covered.{read_as, fault_as}
 use Rattle.ps_text.proofs.Choices.{Begins, laws_choice, stands_form}
 use Rattle.ps_text.proofs.Simple.{none_is_some, same_some}
@@ -21,8 +20,7 @@ use Rattle.ps_hoa.specs.Conditions.{condition}
 use Rattle.ps_hoa.specs.Header.{HeaderData, no_items, state_limit, proposition_limit, set_limit, name_value, item_name}
 use Rattle.ps_hoa.specs.Header.{IsAbove, int, int_in, string, string_in, with_states, states_item, IsSecondStart}
 use Rattle.ps_hoa.specs.Header.{IsAlternating, with_start, start_item, IsBadName, with_name, proposition_name}
-use Rattle.ps_hoa.specs.Header.{with_names}
-use Rattle.ps_hoa.specs.Header.{names_item, alias_value, IsBadAlias, header_scope, with_alias, alias_item}
+use Rattle.ps_hoa.specs.Header.{with_names, names_item, alias_value, IsBadAlias, header_scope, with_alias, alias_item}
 use Rattle.ps_hoa.specs.Header.{with_acceptance, acceptance_item, kept, index, with_controllable, controllable_item}
 use Rattle.ps_hoa.specs.Header.{unchanged, tool_item, name_item, other_value, read_over_value, read_over, other_item}
 use Rattle.ps_hoa.specs.Header.{form_of, item, body_value, IsBadBody, body_mark, header}
@@ -34,11 +32,11 @@ use Rattle.ps_hoa.proofs.OperandLaws.{nothing_apart, Of}
 use Rattle.ps_hoa.proofs.BodyLaws.{number_barred}
 use Rattle.ps_hoa.proofs.ConditionLaws.{is_int}
 use Rattle.ps_hoa.proofs.SignLaws.{is_string, is_value, same_name, laws_int, laws_proposition_name}
-use Rattle.ps_hoa.proofs.HeaderLaws.{joint_states, joint_start, joint_names}
-use Rattle.ps_hoa.proofs.HeaderLaws.{joint_counted_names, joint_alias, joint_named_label, joint_acceptance}
-use Rattle.ps_hoa.proofs.HeaderLaws.{joint_counted_condition, joint_controllable, joint_tool, joint_strings}
-use Rattle.ps_hoa.proofs.HeaderLaws.{joint_name_item, joint_other, laws_index, laws_read_string, laws_no_string}
-use Rattle.ps_hoa.proofs.HeaderLaws.{laws_read_over, laws_form, laws_item, item_apart, joint_header}
+use Rattle.ps_hoa.proofs.HeaderLaws.{joint_states, joint_start, joint_names, joint_counted_names, joint_alias}
+use Rattle.ps_hoa.proofs.HeaderLaws.{joint_named_label, joint_acceptance, joint_counted_condition, joint_controllable}
+use Rattle.ps_hoa.proofs.HeaderLaws.{joint_tool, joint_strings, joint_name_item, joint_other, laws_index}
+use Rattle.ps_hoa.proofs.HeaderLaws.{laws_read_string, laws_no_string, laws_read_over}
+use Rattle.ps_hoa.proofs.WholeHeader.{laws_form, laws_item, item_apart, joint_header}
 use Rattle.ps_hoa.proofs.Judging.{no_bad, judge_above, judge_second, judge_alternating, judge_name, judge_alias}
 use Rattle.ps_hoa.proofs.HeaderFlaws.{judge_body_mark}
 use Rattle.ps_hoa.proofs.LabelOutcomes.{Has, has_label, has_condition}

@@ -14,14 +14,13 @@ use Rattle.ps_text.proofs.Decisions.{Decided, decide_not, decide_as, decide_both
 use Rattle.ps_text.proofs.Decisions.{judge_one, judge_as}
 use Rattle.ps_text.proofs.Simple.{none_is_some, same_some}
 use Rattle.ps_hoa.specs.Causes.{cause_number}
-use Rattle.ps_hoa.specs.Operands.{number_limit}
+use Rattle.ps_hoa.specs.Operands.{number_limit, is_and}
 use Rattle.ps_hoa.specs.Labels.{ScopeData, alias_number, IsBeyond, IsBadLeaf, BadLeaf}
 use Rattle.ps_hoa.specs.Conditions as conditions
 use Rattle.ps_hoa.specs.Conditions.{IsBadStart, BadStart}
 use Rattle.ps_hoa.specs.Files.{RowData}
 use Rattle.ps_hoa.specs.Header.{HeaderData, state_limit, name_value, int_in, IsAbove, string_in, IsSecondStart}
-use Rattle.ps_hoa.specs.Header.{IsAlternating, is_name_among, IsBadName, alias_limit}
-use Rattle.ps_hoa.specs.Header.{alias_value, IsBadAlias, names_of}
+use Rattle.ps_hoa.specs.Header.{IsAlternating, is_name_among, IsBadName, alias_limit, alias_value, IsBadAlias, names_of}
 use Rattle.ps_hoa.specs.Body.{BodyData, edge_limit, IsBadState, IsBadSet, BadIn, labelling, MayHaveNoLabel}
 use Rattle.ps_hoa.specs.Body.{MayHaveLabel, IsBadBracket, IsBadPlainTarget, IsWrongCount, last_row, IsBadEnd, has_row}
 use Rattle.ps_hoa.specs.Body.{IsBadRow, state_value, IsBadNext, is_end, IsBadClose, is_left_bracket}
@@ -31,7 +30,6 @@ use Rattle.ps_hoa.specs.declared.fault.HoaCause.{HoaCause}
 use Rattle.ps_hoa.specs.declared.fault.HoaCause.TheVariants as causes
 use Rattle.ps_hoa.specs.declared.tokens.Kind.{Kind}
 use Rattle.ps_hoa.specs.declared.tokens.Kind.TheVariants.{And, AliasName, Int, LeftBracket, LeftParen, Not}
-use Rattle.ps_hoa.specs.Operands.{is_and}
 use Rattle.ps_hoa.specs.Signs.{IsTestOf}
 use Rattle.ps_hoa.proofs.OperandLaws.{false_true}
 use Rattle.ps_hoa.proofs.BodyReading.{test_left_bracket}

@@ -3,6 +3,7 @@
 --     has_label, has_condition      the outcomes
 use Rattle.std.proofs.Common.{◌≡◌, ℕ, zero, suc, Bool, true, false, cond, List, [], None, Some, refl, ap}
 use Rattle.std.specs.Prelude.{codes}
+use Rattle.ps_label.specs.Expression.{Expression, not_of}
 use Rattle.ps_text.specs.Parts.{Part, NoBad}
 use Rattle.ps_text.specs.Outcomes.{HasOutcomes}
 use Rattle.ps_text.proofs.Laws.{Laws, Nothing, Apart}
@@ -11,9 +12,7 @@ use Rattle.ps_text.proofs.Simple.{laws_mapped}
 use Rattle.ps_hoa.specs.Tokens.{Sign}
 use Rattle.ps_hoa.specs.Causes.{hoa_causes}
 use Rattle.ps_hoa.specs.Operands.{is_not, is_and, is_or, is_left, is_right, mark_in, mark, before, closed, inner}
-use Rattle.ps_hoa.specs.Operands.{single}
-use Rattle.ps_hoa.specs.Operands.{with_last, joined, further, operands, row, rows}
-use Rattle.ps_label.specs.Expression.{Expression, not_of}
+use Rattle.ps_hoa.specs.Operands.{single, with_last, joined, further, operands, row, rows}
 use Rattle.ps_hoa.specs.Labels as labels
 use Rattle.ps_hoa.specs.Labels.{ScopeData, leaf_in, BadLeaf, leaf, negation}
 use Rattle.ps_hoa.specs.Conditions as conditions

@@ -10,8 +10,7 @@ use Rattle.ps_simulate.specs.declared.fault.StimulusCause.TheVariants.{Width, St
 use Rattle.ps_simulate.specs.Faults.{rank}
 use Rattle.ps_simulate.specs.Stimuli.{StimulusData}
 use Rattle.ps_simulate.specs.StimulusTexts.{put_byte, lines_of, digits_of, divider, spelled, IsDigit, StandsInLine}
-use Rattle.ps_simulate.specs.StimulusTexts.{IsFirst}
-use Rattle.ps_simulate.specs.StimulusTexts.{HasSomeAnswer}
+use Rattle.ps_simulate.specs.StimulusTexts.{IsFirst, HasSomeAnswer}
 use Rattle.ps_simulate.specs.StimulusReading.{HasRead}
 use Rattle.ps_simulate.proofs.LineLemmas.{digit_of-is, letter_none}
 use Rattle.ps_simulate.proofs.StimulusSteps.{HasRead-start, HasRead-letter, HasRead-divider, at_line, IsFirst-in_line}
