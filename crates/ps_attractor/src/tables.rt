@@ -133,8 +133,8 @@ impl<W: Width> Tables<W> {
         self.trail.truncate(placed);
     }
 
-    /// The number of the successor at which the last search from a vertex ended. A greater one than 32 bits hold is kept as
-    /// the greatest of these.
+    /// The number of the successor at which the last search from a vertex ended. A greater one than 32 bits hold is
+    /// kept as the greatest of these.
     pub(crate) fn watched(&self, vertex: usize) -> usize
         requires { vertex < length self.now.level }
     {

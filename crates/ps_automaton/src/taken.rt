@@ -57,7 +57,8 @@ pub(crate) fn first_clash(
     requires ready { IsReady store.old guards.now }
     requires within { second < length guards.now.row.now.edges.items }
     requires clash { (first : ℕ) × AreClashing guards.now.file.now (row_data guards.now.row.now) first second }
-    ensures clashing { IfOk result (λ first. AreClashing guards.now.file.now (row_data guards.now.row.now) first second) }
+    ensures clashing { IfOk result (λ first. AreClashing guards.now.file.now (row_data guards.now.row.now) first
+        second) }
     ensures least { IfOk result (λ first. (a : ℕ) → AreClashing guards.now.file.now (row_data guards.now.row.now) a
         second → first ≤ a) }
 {

@@ -1,7 +1,7 @@
 //! Writing the texts of a certificate.
 
-ghost use Rattle.std.specs.Prelude.{◌≡◌, ◌++◌, ◌+◌, ◌∷◌, [], ◌<◌, ◌≤◌, length, decimal, OnOk, IfOk, IfSome, Ok, slice_index};
-ghost use Rattle.std.specs.Prelude.{take, replicate};
+ghost use Rattle.std.specs.Prelude.{◌≡◌, ◌++◌, ◌+◌, ◌∷◌, [], ◌<◌, ◌≤◌, length, decimal, OnOk, IfOk, IfSome, Ok};
+ghost use Rattle.std.specs.Prelude.{slice_index, take, replicate};
 ghost use Rattle.std.specs.List.{All};
 ghost use Rattle.ps_game.specs.Games.{vertex_count};
 ghost use Rattle.ps_certificate.specs.Certificates.{Fits};

@@ -91,7 +91,8 @@ impl Builder {
         requires second { IsHeld self.old y }
         ensures extends { Extends self.old self.new }
         ensures held { IfOk result (λ literal. IsHeld self.new literal) }
-        ensures bit { IfOk result (λ literal. (v : ℕ → Bool) → Meets self.new v → bit v literal ≡ (bit v x && bit v y)) }
+        ensures bit { IfOk result (λ literal. (v : ℕ → Bool) → Meets self.new v →
+            bit v literal ≡ (bit v x && bit v y)) }
         ensures too_large { result ≡ Err EncodeFault.CircuitTooLarge → IsFull self.new }
         ensures needed { result ≡ Err EncodeFault.CircuitTooLarge → NeedsGate self.new x y }
         ensures made { IfOk result (λ literal. and_of self.old x y ≡ record { draft = self.new; literal = literal }) }
@@ -131,7 +132,8 @@ impl Builder {
         requires second { IsHeld self.old y }
         ensures extends { Extends self.old self.new }
         ensures held { IfOk result (λ literal. IsHeld self.new literal) }
-        ensures bit { IfOk result (λ literal. (v : ℕ → Bool) → Meets self.new v → bit v literal ≡ (bit v x || bit v y)) }
+        ensures bit { IfOk result (λ literal. (v : ℕ → Bool) → Meets self.new v →
+            bit v literal ≡ (bit v x || bit v y)) }
         ensures too_large { result ≡ Err EncodeFault.CircuitTooLarge → IsFull self.new }
         ensures needed { result ≡ Err EncodeFault.CircuitTooLarge → NeedsGate self.new (negated x) (negated y) }
         ensures made { IfOk result (λ literal. or_of self.old x y ≡ record { draft = self.new; literal = literal }) }
@@ -216,7 +218,8 @@ impl Builder {
             bit v literal ≡ (bit v sides.first && bit v sides.second)) }
         ensures too_large { result ≡ Err EncodeFault.CircuitTooLarge → IsFull self.new }
         ensures needed { result ≡ Err EncodeFault.CircuitTooLarge → NeedsGate self.new sides.first sides.second }
-        ensures made { IfOk result (λ literal. gate_of self.old sides ≡ record { draft = self.new; literal = literal }) }
+        ensures made { IfOk result (λ literal. gate_of self.old sides ≡ record
+            { draft = self.new; literal = literal }) }
         ensures above { result ≡ Err EncodeFault.CircuitTooLarge →
             2147483647 < variables_of (gate_of self.old sides).draft }
     {

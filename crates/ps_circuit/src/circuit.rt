@@ -80,8 +80,8 @@ impl Model for Circuit {
 
     ghost view = { λ c. data_of c.parts };
 
-    ghost invariant = { λ c. IsCircuit (data_of c.parts) × IsOrder (ReadsGate c.parts.gates.items) (length c.parts.gates.items)
-        c.order.items };
+    ghost invariant = { λ c. IsCircuit (data_of c.parts)
+        × IsOrder (ReadsGate c.parts.gates.items) (length c.parts.gates.items) c.order.items };
 }
 
 impl Circuit {

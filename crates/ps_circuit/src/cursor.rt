@@ -122,7 +122,10 @@ impl<'a> Model for Cursor<'a> {
 
     ghost Value = { Stream Seen };
 
-    ghost view = { λ c. record { pieces = pieces_at c.at (ended c.unended c.rest.now); end = c.at + length c.rest.now } };
+    ghost view = { λ c. record {
+      pieces = pieces_at c.at (ended c.unended c.rest.now);
+      end = c.at + length c.rest.now;
+    } };
 
     ghost invariant = { λ c. c.at + length c.rest.now < 2 ^ 63 };
 }

@@ -68,7 +68,8 @@ pub trait Line {
         requires { most < 2 ^ 31 }
         ensures exact { Tells (λ _. lines_of items.new.items noted.new) (part most (lines_of items.old.items noted.old))
             cursor.old result cursor.new }
-        ensures adds { OnOk result (adds most (lines_of items.old.items noted.old) (lines_of items.new.items noted.new)) };
+        ensures adds { OnOk result (adds most (lines_of items.old.items noted.old)
+            (lines_of items.new.items noted.new)) };
 }
 
 /// Reads the lines of one kind.

@@ -8,7 +8,7 @@
 //! |---|---|
 //! | `GameBuilder::vertex`, `edge`, `finish` | a `Game` of vertices and edges in any order, or the first `GameFault` |
 //! | `Vertices::push`, `resolve`, `into_game` | a `Game` of vertices in order, whose successors may be ids at first |
-//! | `NamedGame::new`, `with_first_names`, `game`, `id`, `name` | the game with an id, and a name or none, for each vertex |
+//! | `NamedGame::new`, `with_first_names`, `game`, `id`, `name` | the game with ids, and names or none |
 //! | `Arena::count`, `owner`, `priority`, `degree`, `successor` | what every form of a game answers, without memory |
 //! | `FlatGame::of`, `fits_narrow` | the same game in four arrays, with numbers of 4 or 8 bytes; whether 4 do |
 //! | `Player::EVEN`, `ODD`, `of_priority`, `opponent`, `owns`, `number` | one of the two players |

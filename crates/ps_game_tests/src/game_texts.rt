@@ -24,8 +24,13 @@ fn is_written_as(alloc: Global, text: &[u8], wanted: &[u8]) -> bool {
 
 #[test]
 fn a_game_is_written_as_it_was_read(rt: HostRuntime) {
-    let sink =
-        b"parity 4;\n0 0 1 1,2 \"0/0\";\n1 0 0 0,3 \"0:0\";\n2 0 0 3,0 \"0:1\";\n3 1 1 4 \"sink/1\";\n4 0 0 3 \"sink:0\";\n";
+    let sink = b"parity 4;
+0 0 1 1,2 \"0/0\";
+1 0 0 0,3 \"0:0\";
+2 0 0 3,0 \"0:1\";
+3 1 1 4 \"sink/1\";
+4 0 0 3 \"sink:0\";
+";
     assert!(rt; is_written_as(rt.alloc(), sink, sink));
     let great = b"parity 9;\n9 3 1 4,9;\n4 18446744073709551615 0 9 \"\";\n";
     assert!(rt; is_written_as(rt.alloc(), great, great));

@@ -12,7 +12,7 @@ use Rattle.ps_hoa.specs.Texts.{file_of, file}
 use Rattle.ps_hoa.specs.declared.fault.HoaCause.{HoaCause}
 use Rattle.ps_hoa.proofs.OperandLaws.{Odd, Of, nothing_apart}
 use Rattle.ps_hoa.proofs.SignLaws.{laws_behind_sign}
-use Rattle.ps_hoa.proofs.HeaderLaws.{HeaderFirst, laws_header}
+use Rattle.ps_hoa.proofs.WholeHeader.{HeaderFirst, laws_header}
 use Rattle.ps_hoa.proofs.StateLaws.{IsState, laws_body}
 use Rattle.ps_text.proofs.Joined.{joint}
 

@@ -1,41 +1,35 @@
--- The laws of the header's items and of the header, and how their parts are joined.
---     laws_states, .., laws_other, laws_form, laws_item, laws_items, laws_header      the laws
---     joint_states, .., joint_other, joint_header      the parts of an item, from the front
--- proofs/ItemChoice goes on with which item stands.
-use Rattle.std.proofs.Common.{◌≡◌, ℕ, true, false, List, [], codes, Some, refl, sym, ap, inl, inr, ◌∙◌}
+-- The laws of the header's items, and how their parts are joined.
+--     laws_states, .., laws_other      the laws
+--     joint_states, .., joint_other      the parts of an item, from the front
+-- proofs/WholeHeader goes on with any item and the header.
+use Rattle.std.proofs.Common.{◌≡◌, ℕ, true, false, List, [], codes, Some, refl, ap, inl, inr}
 use Rattle.ps_text.specs.Parts.{Part, NoBad, give, one, then_by, either, times, many, mapped, barred}
-use Rattle.ps_text.proofs.Laws.{Laws, Joint, Nothing, Or, When, Within, Apart, weaker}
-use Rattle.ps_text.proofs.Joined.{joint}
-use Rattle.ps_text.proofs.Simple.{Taken, BadSign, none_is_some, laws_give, laws_one, laws_mapped, laws_then}
+use Rattle.ps_text.proofs.Laws.{Laws, Joint, Nothing, Or, When, Within, weaker}
+use Rattle.ps_text.proofs.Simple.{Taken, BadSign, none_is_some, laws_give, laws_one, laws_mapped}
 use Rattle.ps_text.proofs.Covered.{laws_either}
 use Rattle.ps_text.proofs.Repeated.{laws_times, laws_many}
 use Rattle.ps_text.proofs.Barred.{Bar, laws_barred}
-use Rattle.ps_text.proofs.Choices.{Begins, BeginsSome, laws_choice}
 use Rattle.ps_hoa.specs.Tokens.{Sign}
 use Rattle.ps_hoa.specs.Causes.{is_unknown_capital}
 use Rattle.ps_hoa.specs.Operands.{number_limit, nesting_limit, is_and, is_or}
 use Rattle.ps_hoa.specs.Labels.{label}
 use Rattle.ps_hoa.specs.Conditions.{condition}
-use Rattle.ps_hoa.specs.Header.{HeaderData, no_items, state_limit, proposition_limit, set_limit, name_value, item_name}
-use Rattle.ps_hoa.specs.Header.{IsAbove, int, string, with_states, states_item, IsSecondStart, IsAlternating}
-use Rattle.ps_hoa.specs.Header.{with_start, start_item, proposition_name, with_names, names_item, header_scope}
-use Rattle.ps_hoa.specs.Header.{with_alias, alias_item, with_acceptance, acceptance_item, index, with_controllable}
+use Rattle.ps_hoa.specs.Header.{HeaderData, state_limit, proposition_limit, set_limit, name_value, item_name, IsAbove}
+use Rattle.ps_hoa.specs.Header.{int, string, with_states, states_item, IsSecondStart, IsAlternating, with_start}
+use Rattle.ps_hoa.specs.Header.{start_item, proposition_name, with_names, names_item, header_scope, with_alias}
+use Rattle.ps_hoa.specs.Header.{alias_item, with_acceptance, acceptance_item, index, with_controllable}
 use Rattle.ps_hoa.specs.Header.{controllable_item, unchanged, tool_item, name_item, other_value, read_over_value}
-use Rattle.ps_hoa.specs.Header.{read_over, other_item, form_of, item, body_value, IsBadBody, body_mark, header}
-use Rattle.ps_hoa.specs.ItemNames as items
-use Rattle.ps_hoa.specs.ItemNames.{ItemName}
-use Rattle.ps_hoa.specs.Items.{item_names, item_among, item_at}
+use Rattle.ps_hoa.specs.Header.{read_over, other_item}
 use Rattle.ps_hoa.specs.declared.fault.HoaCause.{HoaCause}
 use Rattle.ps_hoa.specs.declared.tokens.Kind.{Kind}
-use Rattle.ps_hoa.specs.declared.tokens.Kind.TheVariants.{Header, Word, Int, Text, And, Or as OrSign, Body}
+use Rattle.ps_hoa.specs.declared.tokens.Kind.TheVariants.{Header, Word, Int, Text, And, Or as OrSign}
 use Rattle.ps_hoa.proofs.OperandLaws.{Odd, Of, false_true, plain_odd, nothing_apart, only_first}
 use Rattle.ps_hoa.proofs.LabelLaws.{is_start, AndOrMore, laws_label}
 use Rattle.ps_hoa.proofs.ConditionLaws.{is_int, laws_condition}
-use Rattle.ps_hoa.proofs.ItemNames.{StartsWith, begins}
-use Rattle.ps_hoa.proofs.SignLaws.{is_string, is_alias, is_body, is_value, is_argument, plain_body, plain_value}
-use Rattle.ps_hoa.proofs.SignLaws.{plain_and, laws_sign, laws_behind_sign, joint_behind_sign, Named, Other, named_there}
-use Rattle.ps_hoa.proofs.SignLaws.{plain_named, plain_other, laws_name, above_int, laws_int, laws_string}
-use Rattle.ps_hoa.proofs.SignLaws.{laws_proposition_name, new_alias, laws_new_alias}
+use Rattle.ps_hoa.proofs.SignLaws.{is_string, is_alias, is_value, is_argument, plain_value, plain_and, laws_sign}
+use Rattle.ps_hoa.proofs.SignLaws.{laws_behind_sign, joint_behind_sign, Named, Other, named_there, plain_named}
+use Rattle.ps_hoa.proofs.SignLaws.{plain_other, laws_name, above_int, laws_int, laws_string, laws_proposition_name}
+use Rattle.ps_hoa.proofs.SignLaws.{new_alias, laws_new_alias}
 
 -- ## Items
 
@@ -356,74 +350,3 @@ laws_other h = behind_name laws_other_name (laws_values h) (λ t k. value_argume
 
 pub joint_other : (h : HeaderData) → Joint other_name (λ _. many read_over h)
 joint_other h = joint_behind_sign laws_other_name (λ _. laws_values h)
-
--- ## Any item
-
-form_laws : (h : HeaderData) (name : ItemName) → Laws Odd (form_of h name) (StartsWith name) ItemMore ⊥
-form_laws h items.states = laws_states h
-form_laws h items.start = laws_start h
-form_laws h items.propositions = laws_names h
-form_laws h items.alias = laws_alias h
-form_laws h items.acceptance = laws_acceptance h
-form_laws h items.controllable = laws_controllable h
-form_laws h items.tool = laws_tool h
-form_laws h items.name = laws_name_item h
-form_laws h items.other = laws_other h
-
-pub laws_form : (h : HeaderData) (name : ItemName) → Laws Odd (form_of h name) (Begins item_at name) ItemMore ⊥
-laws_form h name = weaker (form_laws h name) (begins name) (λ t k. k) (λ k. k)
-
--- the names of items
-abbrev pub ItemFirst : Sign → Type 0
-ItemFirst = BeginsSome item_at
-
-pub laws_item : (h : HeaderData) → Laws Odd (item h) ItemFirst ItemMore ⊥
-laws_item h = laws_choice (form_of h) item_at (laws_form h) items.other
-
--- ## The header
-
--- an item begins with a name
-pub first_header : (t : Sign) → ItemFirst t → t.kind ≡ Header
-first_header t h = go t.kind t.text h.0 h.1
-  where
-    go : (kind : Kind) (text : List ℕ) (name : ItemName) → item_among item_names kind text ≡ Some name → kind ≡ Header
-    go Header text name e = refl
-    go kind text name e = absurd (none_is_some name e)
-
-pub item_apart : Apart ItemMore ItemFirst
-item_apart t h k = false_true (ap is_argument (sym (first_header t k)) ∙ h)
-
-pub laws_items : (h : HeaderData) → Laws Odd (many item h) ItemFirst (Or ItemMore ItemFirst) (Unit {0})
-laws_items h = laws_many item laws_item item_apart h
-
-body_taken : (h g : HeaderData) (kind : Kind) → body_value h kind ≡ Some g → is_body kind ≡ true
-body_taken h g Body e = refl
-body_taken h g kind e = absurd (none_is_some g e)
-
-pub laws_body_mark : (h : HeaderData) → Laws Odd (body_mark h) (Of is_body) Nothing ⊥
-laws_body_mark h =
-    laws_sign is_body (λ s. body_value h s.kind) (IsBadBody h) (record { kind = Body; text = [] }) h refl plain_body
-    (λ t k. body_taken h k.0 t.kind k.1) (λ t k. ap is_body k.1.0)
-
-item_body : Apart (Or ItemMore ItemFirst) (Of is_body)
-item_body t (inl h) k = go t.kind h k
-  where
-    go : (kind : Kind) → is_argument kind ≡ true → is_body kind ≡ true → ⊥
-    go Body h k = false_true h
-    go kind h k = false_true k
-item_body t (inr h) k = false_true (ap is_body (sym (first_header t h)) ∙ k)
-
-abbrev pub HeaderFirst : Sign → Type 0
-HeaderFirst = Or ItemFirst (Of is_body)
-
-pub laws_header : Laws Odd header HeaderFirst Nothing ⊥
-laws_header =
-    weaker (laws_then (laws_items no_items) laws_body_mark item_body) first
-    (only_first Nothing (Or ItemMore ItemFirst)) (λ h. h.1)
-  where
-    first : Within (Or ItemFirst (When (Unit {0}) (Of is_body))) HeaderFirst
-    first t (inl h) = inl h
-    first t (inr h) = inr h.1
-
-pub joint_header : Joint (many item no_items) body_mark
-joint_header = joint (laws_items no_items) laws_body_mark item_body

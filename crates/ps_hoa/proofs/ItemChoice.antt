@@ -19,7 +19,7 @@ use Rattle.ps_hoa.specs.declared.fault.HoaCause.{HoaCause}
 use Rattle.ps_hoa.specs.declared.tokens.Kind.TheVariants.{Header, Finish}
 use Rattle.ps_hoa.proofs.HeaderLaws.{joint_states, start_name, joint_start, joint_names, joint_alias, joint_acceptance}
 use Rattle.ps_hoa.proofs.HeaderLaws.{joint_controllable, joint_tool, joint_name_item, other_name, joint_other}
-use Rattle.ps_hoa.proofs.HeaderLaws.{laws_form, ItemFirst, first_header}
+use Rattle.ps_hoa.proofs.WholeHeader.{laws_form, ItemFirst, first_header}
 use Rattle.ps_hoa.proofs.ItemNames.{StartsWith, begun}
 use Rattle.ps_hoa.proofs.NextSign.{next_there, next_same}
 use Rattle.ps_hoa.proofs.SignLaws.{Named}

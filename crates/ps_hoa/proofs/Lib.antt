@@ -1,5 +1,8 @@
 pub mod Scanning
 pub mod Streams
+pub mod TokenSteps
+pub mod Enclosed
+pub mod StepMeanings
 pub mod Relation
 pub mod Openings
 pub mod SingleSigns
@@ -22,6 +25,7 @@ pub mod StateLaws
 pub mod SignLaws
 pub mod ItemNames
 pub mod HeaderLaws
+pub mod WholeHeader
 pub mod ItemChoice
 pub mod FileLaws
 pub mod Answering
@@ -45,3 +49,9 @@ pub mod HeaderExits
 pub mod HeaderLoops
 pub mod NewAliases
 pub mod LeastFlaws
+pub mod Judging
+pub mod HeaderFlaws
+pub mod LabelOutcomes
+pub mod HeaderOutcomes
+pub mod BodyOutcomes
+pub mod SomeReading

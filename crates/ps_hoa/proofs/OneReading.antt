@@ -20,7 +20,8 @@ use Rattle.ps_hoa.specs.declared.fault.HoaCause.{HoaCause}
 use Rattle.ps_hoa.specs.declared.fault.HoaCause.TheVariants as causes
 use Rattle.ps_hoa.specs.declared.tokens.Step.TheVariants.{Skip}
 use Rattle.ps_hoa.proofs.FileLaws.{laws_file}
-use Rattle.ps_hoa.proofs.Relation.{only_lex, part_is, run_len}
+use Rattle.ps_hoa.proofs.Relation.{only_lex, part_is}
+use Rattle.ps_hoa.proofs.TokenSteps.{run_len}
 
 -- ## Causes have numbers of their own
 

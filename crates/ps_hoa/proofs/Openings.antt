@@ -18,7 +18,9 @@ use Rattle.ps_hoa.specs.Texts.{IsBehindBlanks, IsVersion, is_version_byte, Reads
 use Rattle.ps_hoa.specs.Texts.{at_offset, text_limit, file}
 use Rattle.ps_hoa.specs.declared.fault.HoaCause.{HoaCause}
 use Rattle.ps_hoa.specs.declared.fault.HoaCause.TheVariants as causes
-use Rattle.ps_hoa.proofs.Relation.{run_sound, begins_is, whole, no_blank_begins, some_tokens}
+use Rattle.ps_hoa.proofs.Relation.{whole, no_blank_begins, some_tokens}
+use Rattle.ps_hoa.proofs.StepMeanings.{begins_is}
+use Rattle.ps_hoa.proofs.TokenSteps.{run_sound}
 
 -- what a slice to the end is
 pub to_end : (text : List ℕ) (at : ℕ) → take (length text - at) (drop at text) ≡ drop at text

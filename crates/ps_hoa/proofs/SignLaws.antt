@@ -160,7 +160,7 @@ own_other kind text e = absurd (none_is_some tt e)
 pub plain_other : Apart Other Odd
 plain_other t h o = none_is_some o.0 (sym (own_other t.kind t.text h) ∙ o.1)
 
-same_name : (name : List ℕ) → name_value name Header name ≡ Some tt
+pub same_name : (name : List ℕ) → name_value name Header name ≡ Some tt
 same_name name = ap (λ (b : Bool). cond b (Some tt) None) ((bytes_eq-Decides name name).1 refl)
 
 pub laws_name : (name : List ℕ) → is_unknown_capital name ≡ false → Laws Odd (item_name name) (Named name) Nothing ⊥

@@ -14,6 +14,11 @@ pub fn one_answer()
     ensures { (text : List ℕ) (a b : Result FileData (Found HoaCause)) → ReadsFile text a → ReadsFile text b → a ≡ b }
 {}
 
+/// A text has an answer. This asks no call, so that want of memory is no answer here.
+pub fn some_answer()
+    ensures { (text : List ℕ) → (answer : Result FileData (Found HoaCause)) × ReadsFile text answer }
+{}
+
 /// In a file that is read every number is that of a state, a proposition, a set or an earlier alias; names
 /// and rows differ; and the edges of a state are labelled by it, each by its own label, or one for each letter.
 pub fn sound_files()

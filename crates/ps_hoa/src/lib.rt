@@ -12,6 +12,7 @@
 //! | Law | What it says |
 //! |---|---|
 //! | `one_answer`, `tokens::one_list_of_tokens` | a text has one answer, and one list of tokens |
+//! | `some_answer` | there is an answer to each text |
 //! | `expressions::one_expression`, `bounded_nesting` | tokens are one label or condition; the limit of nesting |
 //! | `sound_files`, `sound_parts`, `sound_labels` | numbers are in range, names and rows differ, labels have a truth |
 //!
@@ -49,6 +50,6 @@ pub mod tokens;
 pub use condition::Cond;
 pub use fault::{HoaCause, HoaFault};
 pub use file::{Edge, Guard, HoaFile, Row};
-pub use laws::{one_answer, sound_files, sound_labels, sound_parts};
+pub use laws::{one_answer, some_answer, sound_files, sound_labels, sound_parts};
 pub use reader::read;
 pub use tokens::{Kind, Token, Tokens};

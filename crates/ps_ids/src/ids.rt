@@ -117,7 +117,8 @@ fn keep_place(
     id: u64,
     place: usize,
 ) -> Result<(), AllocError>
-    ensures ok { OnOk result (KeepsPlace first (λ q. get nat_cmp others.old q) (λ q. get nat_cmp others.new q) id place) }
+    ensures ok { OnOk result (KeepsPlace first (λ q. get nat_cmp others.old q) (λ q. get nat_cmp others.new q) id
+        place) }
     ensures err { OnErr result ((q : ℕ) → get nat_cmp others.new q ≡ get nat_cmp others.old q) }
 {
     if own_place(first, id) != place {

@@ -25,8 +25,8 @@ pub struct Node {
     pub name: Option<Vec<u8>>,
 }
 
-/// The nodes of a text: a table of their ids; vertices, whose successors are ids; and names up to the last node that has
-/// one.
+/// The nodes of a text: a table of their ids; vertices, whose successors are ids; and names up to the last node that
+/// has one.
 #[derive(Drop)]
 pub struct Nodes {
     ids: Ids,

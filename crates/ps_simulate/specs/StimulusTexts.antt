@@ -124,3 +124,8 @@ abbrev pub HasOneAnswer : List ℕ → ℕ → Bool → Type 0
 HasOneAnswer text width split =
     (answer other : Result StimulusData (Found StimulusCause)) → ReadsStimulus text width split answer →
     ReadsStimulus text width split other → answer ≡ other
+
+-- this asks no call, so that want of memory is no answer here
+abbrev pub HasSomeAnswer : List ℕ → ℕ → Bool → Type 0
+HasSomeAnswer text width split =
+    (answer : Result StimulusData (Found StimulusCause)) × ReadsStimulus text width split answer

@@ -1,12 +1,9 @@
 //! Stimuli: the letters that a circuit is given, read from their texts.
 
 ghost use Rattle.std.specs.Prelude.{◌≡◌, ◌+◌, ◌-◌, ◌^◌, ◌<◌, ◌≤◌, ◌↔◌, ◌∷◌, ℕ, Bool, List, length, take, drop};
-ghost use Rattle.std.specs.Prelude.{slice_index, All, IsTrue, Result, IfOk, IfSome, IfNone};
-ghost use Rattle.ps_text.specs.Answers.{Found};
-ghost use Rattle.ps_simulate.specs.declared.fault.StimulusCause.{StimulusCause};
-ghost use Rattle.ps_simulate.specs.Stimuli.{StimulusData};
+ghost use Rattle.std.specs.Prelude.{slice_index, All, IsTrue, IfOk, IfSome, IfNone};
 ghost use Rattle.ps_simulate.specs.StimulusTexts.{IsDigit, lines_of, digits_of, divider, IsStimulusAnswer};
-ghost use Rattle.ps_simulate.specs.StimulusTexts.{HasOneAnswer, ReadsStimulus};
+ghost use Rattle.ps_simulate.specs.StimulusTexts.{HasOneAnswer, HasSomeAnswer};
 ghost use Rattle.ps_simulate.specs.StimulusReading.{ReadsLine};
 
 use crate::fault::{StimulusCause, StimulusFault};
@@ -69,15 +66,14 @@ pub fn parse_stimulus(
     Ok(Stimulus { stem, lap })
 }
 
-/// A law: the text of a stimulus has one answer at most.
+/// A law: the text of a stimulus has one answer.
 pub fn stimulus_text_has_one_answer()
     ensures { (text : List ℕ) (width : ℕ) (split : Bool) → HasOneAnswer text width split }
 {}
 
 /// A law: the text of a stimulus has an answer. This asks no call, so that want of memory is no answer here.
 pub fn stimulus_text_has_some_answer()
-    ensures { (text : List ℕ) (width : ℕ) (split : Bool) → (answer : Result StimulusData (Found StimulusCause))
-        × ReadsStimulus text width split answer }
+    ensures { (text : List ℕ) (width : ℕ) (split : Bool) → HasSomeAnswer text width split }
 {}
 
 /// Where the line that begins at `start` ends: at a newline, or at the end of the text.

@@ -49,7 +49,12 @@ impl Model for Problem {
 
     ghost Value = { ProblemData };
 
-    ghost view = { λ p. record { order = p.order; automaton = p.automaton; keys = p.game.keys.keys; game = p.game.game } };
+    ghost view = { λ p. record {
+      order = p.order;
+      automaton = p.automaton;
+      keys = p.game.keys.keys;
+      game = p.game.game;
+    } };
 
     ghost invariant = { λ p.
         IsProblem (record { order = p.order; automaton = p.automaton; keys = p.game.keys.keys; game = p.game.game })

@@ -57,7 +57,8 @@ fn report_by(
     solver: &mut Box<dyn Solver>,
 ) -> Result<Report, SynthFault>
     ensures report { (order : Order) (text : List ℕ) → IsProblemOf order text problem.now →
-        IfOk result (IsReport (Answered (may_answer solver.old (fed solver.old)) (gave solver.new)) order compact text) }
+        IfOk result (IsReport (Answered (may_answer solver.old (fed solver.old)) (gave solver.new)) order compact
+        text) }
     ensures refused { (order : Order) (text : List ℕ) → IsProblemOf order text problem.now →
         IfErr result (IsSynthFault (Answered (may_answer solver.old (fed solver.old)) (gave solver.new)) order text) }
     ensures sure { is_sure solver.old ≡ true → (order : Order) (text : List ℕ) → IsProblemOf order text problem.now →

@@ -13,7 +13,7 @@ use Rattle.ps_hoa.specs.Tokens.{Sign}
 use Rattle.ps_hoa.specs.declared.items.Item.{Item}
 use Rattle.ps_hoa.specs.Views.{header_data}
 use Rattle.ps_hoa.proofs.HeaderExits.{exit}
-use Rattle.ps_hoa.proofs.HeaderLaws.{laws_item, item_apart}
+use Rattle.ps_hoa.proofs.WholeHeader.{laws_item, item_apart}
 use Rattle.ps_hoa.proofs.ItemChoice.{stands_next, enters_next, avoids_next}
 use Rattle.ps_hoa.proofs.items.items.Goals as goal
 

@@ -1,5 +1,5 @@
-use Rattle.ps_simulate.proofs.SomeStimulus.{some_answer}
+use Rattle.ps_simulate.proofs.SomeStimulus.{some_stimulus}
 use Rattle.ps_simulate.proofs.stimulus.stimulus_text_has_some_answer.Goals as goal
 
 pub returns : goal.returns
-returns c = some_answer
+returns c = some_stimulus
