@@ -20,5 +20,5 @@ pub mod Steps
 pub mod TextLaws
 pub mod Windows
 pub mod Writing
-pub mod Zeros
+pub mod ZeroRuns
 mod OneWinner

@@ -23,8 +23,7 @@
 //! | `closed_regions_are_kept` | paths by the moves of a closed certificate stay in their region |
 //! | `valid_regions_are_held` | the moves of a valid one hold both regions |
 //! | `no_strategy_wins_outside` | no strategy, whatever its memory, wins outside the region that a valid one gives |
-//! | `first_flaw_is_one` | there is one first flaw |
-//! | `certificate_text_has_one_answer` | there is at most one answer to a text |
+//! | `first_flaw_is_one`, `certificate_text_has_one_answer` | one first flaw, and one answer to a text at most |
 //! | `certificate_text_has_some_answer` | there is an answer to each text |
 #![tactic(auto)]
 
@@ -41,6 +40,7 @@ mod pairs;
 mod rising;
 mod text;
 mod writer;
+mod zeros;
 
 pub use certificate::Certificate;
 pub use checking::check;

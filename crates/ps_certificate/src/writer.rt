@@ -1,7 +1,7 @@
 //! Writing the texts of a certificate.
 
-ghost use Rattle.std.specs.Prelude.{◌≡◌, ◌++◌, ◌+◌, ◌∷◌, [], ◌<◌, ◌≤◌, length, decimal, OnOk, IfOk, IfSome, Ok};
-ghost use Rattle.std.specs.Prelude.{slice_index, take, replicate};
+ghost use Rattle.std.specs.Prelude.{◌≡◌, ◌++◌, ◌+◌, ◌∷◌, [], ◌<◌, ◌≤◌, length, decimal, replicate, OnOk, IfOk, IfSome};
+ghost use Rattle.std.specs.Prelude.{Ok, slice_index};
 ghost use Rattle.std.specs.List.{All};
 ghost use Rattle.ps_game.specs.Games.{vertex_count};
 ghost use Rattle.ps_certificate.specs.Certificates.{Fits};
@@ -11,6 +11,7 @@ ghost use Rattle.ps_certificate.specs.Written.{version_digit, head_text, text_in
 
 use crate::certificate::Certificate;
 use crate::entries::{Entries, Entry};
+use crate::zeros::leading_zeros;
 use ps_game::{Arena, NamedGame};
 use ps_text::numbers::write_number;
 use std::alloc::{AllocError, Global};
@@ -231,7 +232,7 @@ fn write_fields(out: &mut Vec<u8>, numbers: &[u64]) -> Result<(), AllocError>
 {
     let mut place = 0;
     while place < numbers.len() {
-        let zeros = leading_zeros(&numbers[place..]);
+        let zeros = leading_zeros(&numbers[place..], ZEROS.len() / 2);
         if zeros > 0 {
             write_zeros(out, zeros)?;
             place += zeros;
@@ -258,17 +259,4 @@ fn write_field(out: &mut Vec<u8>, number: u64) -> Result<(), AllocError>
 {
     out.push(b' ')?;
     write_number(out, number)
-}
-
-/// With how many zeros a list begins, up to as many as are written as one.
-fn leading_zeros(numbers: &[u64]) -> usize
-    ensures within { result ≤ length numbers.now }
-    ensures few { result ≤ 40 }
-    ensures zeros { take result numbers.now ≡ replicate result 0 }
-{
-    let mut zeros = 0;
-    while zeros < numbers.len() && zeros < ZEROS.len() / 2 && numbers[zeros] == 0 {
-        zeros += 1;
-    }
-    zeros
 }

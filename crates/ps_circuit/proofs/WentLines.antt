@@ -128,10 +128,6 @@ module _ {C X : Type 0} (item : C → Field C) (laws : (c : C) → Laws Odd (ite
       (went_then (joint_times item laws separates_digit (length xs) c) (step x xs c h at (texts xs ++ rest))
       (λ d g to. went_lines xs d g to rest))
 
-went_ended : {V : Type 0} (v : V) (e at : ℕ) (rest : List ℕ) →
-    Went (mapped (λ _. v) line_end) e (λ w. w ≡ v) rest at (10 ∷ rest)
-went_ended v e at rest = went_mapped (λ _. v) (went_end e at rest) (λ _ _. refl)
-
 -- ## The parts of a line
 
 -- fields, and what stands behind them

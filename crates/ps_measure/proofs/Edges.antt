@@ -203,6 +203,18 @@ leads_nowhere g low v k w reverse all none link =
     let high = none.none w there (let h = there.at in omega arith) in
     omega (arith, high, parts.1)
 
+-- a vertex of weight 1 is in the region
+pub heavy_inside : (low : LowData) (v : ℕ) → low_weight low v ≡ 1 → has low.region v ≡ true
+heavy_inside low v heavy = elim (cases_Bool (has low.region v)) [
+  | inl is ↦ is
+  | inr none ↦ (let e : low_weight low v ≡ 0 = ap counted (and_none (slice_index low.levels v == low.priority)
+      (has low.region v) none) in absurd (omega (arith, heavy)))
+]
+  where
+    and_none : (a b : Bool) → b ≡ false → (a && b) ≡ false
+    and_none true b e = e
+    and_none false b e = refl
+
 -- a vertex of weight 1 has the priority
 pub heavy_level : (low : LowData) (v : ℕ) → low_weight low v ≡ 1 → slice_index low.levels v ≡ low.priority
 heavy_level low v heavy = elim (cases_Bool (slice_index low.levels v == low.priority)) [

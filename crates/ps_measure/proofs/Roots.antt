@@ -9,7 +9,7 @@ use Rattle.ps_components.proofs.Places.{slice_get-append_left, slice_get-push, s
 use Rattle.ps_measure.specs.Columns.{AreRoots}
 use Rattle.ps_measure.specs.Groups.{IsGroup}
 use Rattle.ps_measure.specs.Remaining.{StarData, star_graph, LowData, low_graph, low_weight}
-use Rattle.ps_measure.proofs.Edges.{heavy_level}
+use Rattle.ps_measure.proofs.Edges.{heavy_inside, heavy_level}
 
 -- the target of a place of a vertex
 abbrev pub member : StarData → ℕ → ℕ → ℕ
@@ -64,7 +64,8 @@ pub roots_all : (low : LowData) (members : StarData) (place : ℕ) (roots : List
 roots_all low members place roots n all within group so_far = record {
   sound = so_far.sound;
   complete = λ w v link heavy.
-      let found = group.complete v (within w v link) (heavy_level low v heavy) in
+      let found = group.complete v (within w v link) (heavy_inside low v heavy)
+      (heavy_level low v heavy) in
       let is : member members place found.place ≡ v = one (member members place found.place) v found.target in
       let below : found.place < n = (let h = found.at in omega arith) in
       let root = so_far.complete w found.place below (subst (Link (low_graph low) w) (sym is) link)

@@ -1,10 +1,10 @@
 -- Runs of zeros, and how they are written.
-use Rattle.std.proofs.Common.{◌≡◌, ℕ, zero, suc, ◌+◌, ◌*◌, ◌<◌, ◌≤◌, ◌∙◌, List, [], ◌∷◌, ◌++◌, length, get_or, take}
-use Rattle.std.proofs.Common.{drop, replicate, refl, sym, ap, arith, add-one}
+use Rattle.std.proofs.Common.{◌≡◌, ℕ, zero, suc, ◌+◌, ◌*◌, ◌<◌, ◌≤◌, ◌∙◌, List, [], ◌∷◌, ◌++◌, length, get_or}
+use Rattle.std.proofs.Common.{take, drop, replicate, refl, sym, ap, arith, add-one}
 use Rattle.std.specs.Prelude.{decimal}
-use Rattle.std.proofs.Math.Seq.{take-suc, drop-cons}
+use Rattle.std.proofs.Math.Seq.{drop-cons}
 use Rattle.std.proofs.lemmas.Fmt.{decimal_digit}
-use Rattle.std.proofs.lemmas.List.{append_assoc, take-append-drop, drop-drop, replicate-append-replicate}
+use Rattle.std.proofs.lemmas.List.{append_assoc, take-append-drop, drop-drop}
 use Rattle.ps_certificate.specs.Written.{fields}
 
 fields-append : (xs ys : List ℕ) → fields (xs ++ ys) ≡ fields xs ++ fields ys
@@ -32,16 +32,6 @@ take-zeros (suc n) (suc m) few =
     let twice : 2 * suc n ≡ suc (suc (2 * n)) = omega arith in
     ap (λ k. take k (32 ∷ 48 ∷ zeros_text m)) twice
     ∙ ap (λ text. 32 ∷ 48 ∷ text) (take-zeros n m (omega (arith, few)))
-
--- one zero more
-pub zero_more : (xs : List ℕ) (n : ℕ) → n < length xs → get_or xs n 0 ≡ 0 → take n xs ≡ replicate n 0 →
-    take (n + 1) xs ≡ replicate (n + 1) 0
-zero_more xs n within none zeros =
-    ap (λ k. take k xs) (add-one n)
-    ∙ take-suc xs n 0 within
-    ∙ ap (λ ys. ys ++ get_or xs n 0 ∷ []) zeros
-    ∙ ap (λ x. replicate n 0 ++ x ∷ []) none
-    ∙ replicate-append-replicate n 1 0
 
 -- the zeros with which the rest begins are written
 pub zeros_written : (out numbers total : List ℕ) (place n : ℕ) → take n (drop place numbers) ≡ replicate n 0 →
