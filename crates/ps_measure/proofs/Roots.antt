@@ -76,6 +76,16 @@ roots_all low members place roots n all within group so_far = record {
     one : (x y : ℕ) → Some x ≡ Some y → x ≡ y
     one x y e = cc
 
+-- all roots are among all vertices
+pub roots_everywhere : (low : LowData) (roots : List ℕ) (n : ℕ) → low.star.count ≤ n →
+    ((w v : ℕ) → Link (low_graph low) w v → v < low.star.count) → RootsAmong low (λ k. k) roots n →
+    AreRoots (low_graph low) (low_weight low) roots
+roots_everywhere low roots n all within so_far = record {
+  sound = so_far.sound;
+  complete =
+      λ w v link heavy. so_far.complete w v (let h : v < low.star.count = within w v link in omega arith) link heavy;
+}
+
 -- a vertex to which a place of the group leads
 pub member_within : (low : LowData) (members : StarData) (place k v : ℕ) → IsGroup members place low →
     k < (star_graph members).degree place → (star_graph members).target place k ≡ Some v → v < low.star.count

@@ -5,10 +5,10 @@
 //! raised; or it answers a cycle of such edges that the player loses, and that only where there is one.
 //!
 //! Counts are what a progress measure (Jurdzinski) has for one priority; the least ones are not lifted step by step.
-//! Vertices are grouped by their priorities once. For each priority one search goes against the edges, from the
-//! vertices of its group, and one pass over the strong components in that order gives each vertex its count. That takes
-//! time in proportion to the vertices and edges for each priority, and memory for each count that is not 0, besides the
-//! edges turned round.
+//! Where there are many priorities, vertices are grouped by them once. For each priority one search goes against the
+//! edges, from the vertices of that priority, and one pass over the strong components in that order gives each vertex
+//! its count. That takes time in proportion to the vertices and edges for each priority, and memory for each count that
+//! is not 0, besides the edges turned round.
 //!
 //! | Call | What it gives |
 //! |---|---|

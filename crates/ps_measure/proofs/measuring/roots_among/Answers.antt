@@ -1,10 +1,10 @@
 use Rattle.std.proofs.Common.{◌≡◌, ℕ, Some, arith, sym, ◌∙◌}
 use Rattle.std.proofs.lemmas.Bool.{both_ways}
 use Rattle.ps_measure.proofs.Roots.{member, roots_more, roots_skip, roots_all, member_within}
-use Rattle.ps_measure.proofs.measuring.roots_of.Goals as goal
-use Rattle.ps_measure.proofs.measuring.roots_of.Goals.{then-weight-eq1+then-leads_down+in_ok-push, else-weight-eq1}
-use Rattle.ps_measure.proofs.measuring.roots_of.Goals.{else-weight-eq1-via-then-weight-eq1+else-leads_down}
-use Rattle.ps_measure.proofs.measuring.roots_of.Goals.{else-weight-eq1-via-else-weight-eq1}
+use Rattle.ps_measure.proofs.measuring.roots_among.Goals as goal
+use Rattle.ps_measure.proofs.measuring.roots_among.Goals.{then-weight-eq1+then-leads_down+in_ok-push, else-weight-eq1}
+use Rattle.ps_measure.proofs.measuring.roots_among.Goals.{else-weight-eq1-via-then-weight-eq1+else-leads_down}
+use Rattle.ps_measure.proofs.measuring.roots_among.Goals.{else-weight-eq1-via-else-weight-eq1}
 
 pub weight-requires : goal.weight-requires
 weight-requires g c =
