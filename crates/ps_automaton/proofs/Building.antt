@@ -9,7 +9,7 @@ use Rattle.ps_diagram.specs.Table.{Table, IsNode, leaf_of}
 use Rattle.ps_hoa.specs.Edges.{Goes}
 use Rattle.ps_hoa.specs.Files.{FileData}
 use Rattle.ps_hoa.specs.Sound.{AreBelow, AreNames, IsSoundFile}
-use Rattle.ps_hoa.proofs.SoundLaws.{row_of_state}
+use Rattle.ps_hoa.proofs.Soundness.SoundLaws.{row_of_state}
 use Rattle.ps_automaton.specs.Answers.{IsDeterministic, IsRefused}
 use Rattle.ps_automaton.specs.Automata.{AutomatonData, IsWhole, auto_of, node_of, pair_of, step_of}
 use Rattle.ps_automaton.specs.Autos.{IsAutoOf, TakesEdge, TakesNone}

@@ -5,7 +5,7 @@ use Rattle.std.specs.List.{AllByRecursion}
 use Rattle.ps_hoa.specs.Conditions.{SetData, Condition, Conditions, constant, infinitely, finitely, all_hold, any_holds}
 use Rattle.ps_hoa.specs.Conditions.{last, more}
 use Rattle.ps_hoa.specs.Sound.{AreConditions, IsCondition}
-use Rattle.ps_hoa.proofs.SoundLaws.{all_at}
+use Rattle.ps_hoa.proofs.Soundness.SoundLaws.{all_at}
 use Rattle.ps_automaton.specs.Chains.{Chain, Link, chain_of, chain_of_all, in_front, link_of, link_to, links_of}
 use Rattle.ps_automaton.specs.Chains.{one_link}
 use Rattle.ps_automaton.specs.Numbering.{AreSetsBelow}

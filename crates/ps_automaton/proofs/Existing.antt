@@ -6,7 +6,7 @@ use Rattle.std.proofs.lemmas.Option.{slice_get_within}
 use Rattle.ps_hoa.specs.Files.{EdgeData, RowData, FileData}
 use Rattle.ps_hoa.specs.Edges.{row_of, IsTaken, is_marked, Goes}
 use Rattle.ps_hoa.specs.Sound.{IsSoundFile}
-use Rattle.ps_hoa.proofs.SoundLaws.{row_of_state, sound_edge}
+use Rattle.ps_hoa.proofs.Soundness.SoundLaws.{row_of_state, sound_edge}
 use Rattle.ps_automaton.specs.Answers.{AreAlike, IsDeterministic, IsAdmitted}
 use Rattle.ps_automaton.specs.Autos.{Auto, IsAutoOf}
 use Rattle.ps_automaton.specs.Chains.{Chain, Link, chain_of, first_number, level, level_by}

@@ -19,7 +19,7 @@ use Rattle.ps_hoa.specs.Sound.{AreAliases, AreAtLetters, AreBelow, AreLabelled, 
 use Rattle.ps_hoa.specs.Sound.{IsSoundFile, IsSoundRow, IsStated}
 use Rattle.ps_hoa.specs.Views.{edge_data}
 use Rattle.ps_hoa.specs.declared.file.Edge.{Edge}
-use Rattle.ps_hoa.proofs.SoundLaws.{all_at, all_get, sound_edge}
+use Rattle.ps_hoa.proofs.Soundness.SoundLaws.{all_at, all_get, sound_edge}
 use Rattle.ps_automaton.specs.Answers.{AreAlike}
 use Rattle.ps_automaton.specs.Drafts.{IsByLetters, IsFit}
 use Rattle.ps_automaton.specs.Targets.{IsTargetOf}

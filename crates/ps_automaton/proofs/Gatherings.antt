@@ -7,7 +7,7 @@ use Rattle.std.proofs.lemmas.List.{map-append, get_or-drop, drop_all}
 use Rattle.ps_hoa.specs.Conditions.{Condition, Conditions, last, more, row_of}
 use Rattle.ps_hoa.specs.Values.{condition_of}
 use Rattle.ps_hoa.specs.declared.condition.Cond.{Cond, All, Any}
-use Rattle.ps_hoa.proofs.CondRows.{condition_of-All, condition_of-Any}
+use Rattle.ps_hoa.proofs.Reading.CondRows.{condition_of-All, condition_of-Any}
 use Rattle.ps_automaton.specs.Chains as chains
 use Rattle.ps_automaton.specs.Chains.{Chain, chain_of, chain_of_all, link_of, links_of, in_front, base_alone}
 use Rattle.ps_automaton.specs.Gathering.{IsGathered, whole, with_base}

@@ -9,7 +9,7 @@ use Rattle.ps_text.proofs.Simple.{same_some}
 use Rattle.ps_hoa.specs.Edges.{IsOpen}
 use Rattle.ps_hoa.specs.Files.{EdgeData, GuardData, RowData, FileData, of_state, at_letter}
 use Rattle.ps_hoa.specs.Sound.{IsSoundRow}
-use Rattle.ps_hoa.proofs.SoundLaws.{sound_edge}
+use Rattle.ps_hoa.proofs.Soundness.SoundLaws.{sound_edge}
 use Rattle.ps_automaton.specs.Drafts.{AreJoined, AreTargets, IsByLetters, IsTargetAt}
 use Rattle.ps_automaton.specs.Targets.{IsTargetOf}
 use Rattle.ps_automaton.specs.declared.targets.Target.{Target}

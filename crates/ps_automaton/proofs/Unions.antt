@@ -10,7 +10,7 @@ use Rattle.ps_diagram.specs.Table.{Table, IsNode, Keeps, leaf_of}
 use Rattle.ps_hoa.specs.Edges.{IsTaken}
 use Rattle.ps_hoa.specs.Files.{EdgeData, RowData, FileData}
 use Rattle.ps_hoa.specs.Sound.{IsSoundFile, IsSoundRow}
-use Rattle.ps_hoa.proofs.SoundLaws.{sound_edge}
+use Rattle.ps_hoa.proofs.Soundness.SoundLaws.{sound_edge}
 use Rattle.ps_automaton.specs.Answers.{AreAlike, AreClashing}
 use Rattle.ps_automaton.specs.Drafts.{AreJoined, IsFirstOfRow, IsTargetAt, IsUnion, IsWhere, ShowsEdge, TakenEdge}
 use Rattle.ps_automaton.specs.Places.{AreDistinct}

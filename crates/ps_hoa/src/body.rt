@@ -10,8 +10,8 @@ ghost use Rattle.ps_hoa.specs.Body.{BadIn, edge_limit, has_row, IsBadClose, IsBa
 ghost use Rattle.ps_hoa.specs.Body.{last_row, no_rows, state_value, with_row};
 ghost use Rattle.ps_hoa.specs.Header.{HeaderData, int_in, names_of, name_value};
 ghost use Rattle.ps_hoa.specs.Operands.{mark_in};
-ghost use Rattle.ps_hoa.specs.Reads.{ReadsAs, Takes};
-ghost use Rattle.ps_hoa.specs.Rows.{body_data, IsEndWrong};
+ghost use Rattle.ps_hoa.specs.Inner.Reads.{ReadsAs, Takes};
+ghost use Rattle.ps_hoa.specs.Inner.Rows.{body_data, IsEndWrong};
 ghost use Rattle.ps_hoa.specs.Scan.{next_of, stream_of};
 ghost use Rattle.ps_hoa.specs.Spans.{piece_of};
 ghost use Rattle.ps_hoa.specs.Views.{header_data, row_data};

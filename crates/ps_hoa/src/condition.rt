@@ -4,16 +4,15 @@ ghost use Rattle.std.specs.Prelude.{◌≡◌, map};
 ghost use Rattle.ps_text.specs.Parts.{one};
 ghost use Rattle.ps_hoa.specs.Conditions as conditions;
 ghost use Rattle.ps_hoa.specs.Operands.{between, nesting_limit, rows};
-ghost use Rattle.ps_hoa.specs.Reads.{ReadsAs, Takes};
+ghost use Rattle.ps_hoa.specs.Inner.Reads.{ReadsAs, Takes};
 ghost use Rattle.ps_hoa.specs.Spans.{piece_of};
 ghost use Rattle.ps_hoa.specs.Values.{condition_of, set_data};
 
 use crate::connective::{Connective, is_at};
 use crate::fault::{HoaCause, HoaFault};
 use crate::label::NESTING_LIMIT;
-use crate::number::int_of;
 use crate::refusal::{fault_at, refused};
-use crate::signs::mark;
+use crate::signs::{int_of, mark};
 use crate::tokens::{Kind, Token, Tokens, is_same};
 use std::alloc::Global;
 

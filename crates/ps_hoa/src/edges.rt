@@ -7,10 +7,10 @@ ghost use Rattle.ps_hoa.specs.Body.{BadIn, IsBadBracket, IsBadPlainTarget, IsBad
 ghost use Rattle.ps_hoa.specs.Body.{is_bracket, MayHaveLabel, MayHaveNoLabel};
 ghost use Rattle.ps_hoa.specs.Files.{once};
 ghost use Rattle.ps_hoa.specs.Header.{int_in};
-ghost use Rattle.ps_hoa.specs.Reads.{ReadsAs, Takes};
+ghost use Rattle.ps_hoa.specs.Inner.Reads.{ReadsAs, Takes};
 ghost use Rattle.ps_hoa.specs.Spans.{piece_of};
 ghost use Rattle.ps_hoa.specs.Scan.{next_of, stream_of};
-ghost use Rattle.ps_hoa.specs.Ahead.{begins_edge, StandsAlone};
+ghost use Rattle.ps_hoa.specs.Inner.Ahead.{begins_edge, StandsAlone};
 ghost use Rattle.ps_hoa.specs.Views.{guard_data, header_data, row_data};
 ghost use Rattle.ps_text.specs.Parts.{many, one};
 
@@ -18,9 +18,8 @@ use crate::fault::{HoaCause, HoaFault};
 use crate::file::{Edge, Guard, Row};
 use crate::header::Header;
 use crate::label::label;
-use crate::number::int_of;
 use crate::refusal::{fault_at, refused};
-use crate::signs::mark;
+use crate::signs::{int_of, mark};
 use crate::tokens::{Kind, Token, Tokens};
 use ps_label::Label;
 use smallvec::SmallVec;

@@ -4,7 +4,7 @@ ghost use Rattle.std.specs.Prelude.{◌≡◌, ◌↔◌, true, MatchOption, opt
 ghost use Rattle.ps_label.specs.Expression.{expression};
 ghost use Rattle.ps_label.specs.Truth.{expressions};
 ghost use Rattle.ps_hoa.specs.Header as parts;
-ghost use Rattle.ps_hoa.specs.Flaws.{IsLeastFlaw, IsSoundHeader};
+ghost use Rattle.ps_hoa.specs.Inner.Flaws.{IsLeastFlaw, IsSoundHeader};
 ghost use Rattle.ps_hoa.specs.Values.{condition_of};
 ghost use Rattle.ps_hoa.specs.Views.{header_data, acceptance_data};
 

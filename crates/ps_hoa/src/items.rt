@@ -3,13 +3,13 @@
 ghost use Rattle.std.specs.Prelude.{◌≡◌, [], None, is_some, option_map, true};
 ghost use Rattle.ps_label.specs.Expression.{expression};
 ghost use Rattle.ps_text.specs.Parts.{one, many};
-ghost use Rattle.ps_hoa.specs.Flaws.{body_in};
+ghost use Rattle.ps_hoa.specs.Inner.Flaws.{body_in};
 ghost use Rattle.ps_hoa.specs.Header as parts;
 ghost use Rattle.ps_hoa.specs.Header.{header as header_part, no_items};
-ghost use Rattle.ps_hoa.specs.Items.{item_at as item_at_sign, item_name_of, start_name_in};
+ghost use Rattle.ps_hoa.specs.Inner.Items.{item_at as item_at_sign, item_name_of, start_name_in};
 ghost use Rattle.ps_hoa.specs.Labels as labels;
 ghost use Rattle.ps_hoa.specs.Operands.{nesting_limit};
-ghost use Rattle.ps_hoa.specs.Reads.{ReadsAs, Takes};
+ghost use Rattle.ps_hoa.specs.Inner.Reads.{ReadsAs, Takes};
 ghost use Rattle.ps_hoa.specs.Spans.{piece_of};
 ghost use Rattle.ps_hoa.specs.Views.{header_data};
 

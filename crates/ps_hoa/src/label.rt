@@ -5,15 +5,14 @@ ghost use Rattle.ps_label.specs.Expression.{expression};
 ghost use Rattle.ps_label.specs.Truth.{expressions};
 ghost use Rattle.ps_hoa.specs.Labels as labels;
 ghost use Rattle.ps_hoa.specs.Operands.{between, nesting_limit, rows};
-ghost use Rattle.ps_hoa.specs.Reads.{ReadsAs, Takes};
+ghost use Rattle.ps_hoa.specs.Inner.Reads.{ReadsAs, Takes};
 ghost use Rattle.ps_hoa.specs.Spans.{piece_of};
 
 use crate::connective::{Connective, is_at};
 use crate::fault::{HoaCause, HoaFault};
 use crate::names::Scope;
-use crate::number::int_of;
 use crate::refusal::{fault_at, refused};
-use crate::signs::mark;
+use crate::signs::{int_of, mark};
 use crate::tokens::{Kind, Token, Tokens, is_same};
 use ps_label::Label;
 use std::alloc::Global;

@@ -37,7 +37,6 @@ mod label;
 mod laws;
 mod names;
 mod new_names;
-mod number;
 mod opening;
 mod propositions;
 mod reader;

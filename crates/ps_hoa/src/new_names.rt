@@ -3,9 +3,9 @@
 ghost use Rattle.std.specs.Prelude.{◌≡◌, [], IfOk, None, false};
 ghost use Rattle.ps_text.specs.Parts.{one, times};
 ghost use Rattle.ps_hoa.specs.Header as parts;
-ghost use Rattle.ps_hoa.specs.Items.{alias_name_in};
+ghost use Rattle.ps_hoa.specs.Inner.Items.{alias_name_in};
 ghost use Rattle.ps_hoa.specs.Labels.{alias_number};
-ghost use Rattle.ps_hoa.specs.Reads.{ReadsAs, Takes};
+ghost use Rattle.ps_hoa.specs.Inner.Reads.{ReadsAs, Takes};
 ghost use Rattle.ps_hoa.specs.Spans.{piece_of};
 
 use crate::fault::{HoaCause, HoaFault};

@@ -4,7 +4,7 @@ ghost use Rattle.std.specs.Prelude.{IfOk};
 ghost use Rattle.ps_hoa.specs.Scan.{next_of, stream_of};
 ghost use Rattle.ps_hoa.specs.Sound.{IsSoundFile};
 ghost use Rattle.ps_hoa.specs.Texts.{IsFileAnswer};
-ghost use Rattle.ps_hoa.specs.Reader.{EndsHere};
+ghost use Rattle.ps_hoa.specs.Inner.Reader.{EndsHere};
 
 use crate::assembly::file;
 use crate::body::body;

@@ -5,7 +5,7 @@ ghost use Rattle.std.specs.Ordering.{nat_cmp};
 ghost use Rattle.std.specs.Prelude.{◌≡◌, ℕ, ◌+◌, ◌≤◌, OnOk, false, length, map, option_map, option_copied, slice_get};
 ghost use Rattle.ps_hoa.specs.Body.{edge_limit};
 ghost use Rattle.ps_hoa.specs.Edges.{row_among};
-ghost use Rattle.ps_hoa.specs.RowPlaces.{row_place};
+ghost use Rattle.ps_hoa.specs.Inner.RowPlaces.{row_place};
 ghost use Rattle.ps_hoa.specs.Views.{row_data};
 
 use crate::file::Row;
@@ -24,7 +24,7 @@ pub(crate) struct Rows {
 
 impl Rows {
     ghost use Rattle.ps_hoa.specs.Body.{has_row, last_row, no_rows, with_row};
-    ghost use Rattle.ps_hoa.specs.Rows.{body_data};
+    ghost use Rattle.ps_hoa.specs.Inner.Rows.{body_data};
 
     /// No rows.
     pub(crate) fn new(alloc: Global) -> Self

@@ -1,17 +1,18 @@
 //! Single signs of a text.
 
-ghost use Rattle.std.specs.Prelude.{◌≡◌, ◌≢◌, ◌≤◌, ◌↔◌, Bool, IfOk, false, is_some, true};
+ghost use Rattle.std.specs.Prelude.{◌≡◌, ◌≢◌, ◌≤◌, ◌↔◌, Bool, IfOk, false, is_some, true, None, Some, nat_le};
+ghost use Rattle.std.specs.Prelude.{if◌then◌else◌};
+ghost use Rattle.ps_text.specs.Digits.{decimal_value};
 ghost use Rattle.ps_text.specs.Parts.{NoBad, barred as barred_by};
 ghost use Rattle.ps_hoa.specs.Header.{int as int_part, int_in, IsAbove, IsAlternating, item_name as item_name_part};
 ghost use Rattle.ps_hoa.specs.Header.{name_value, string as string_part, string_in, unescaped as meaning};
 ghost use Rattle.ps_hoa.specs.Operands.{mark as mark_part, mark_in, number_limit};
-ghost use Rattle.ps_hoa.specs.Reads.{ReadsAs, Takes};
-ghost use Rattle.ps_hoa.specs.Signs.{inside, IsTestOf, name_in};
+ghost use Rattle.ps_hoa.specs.Inner.Reads.{ReadsAs, Takes};
+ghost use Rattle.ps_hoa.specs.Inner.Signs.{inside, IsTestOf, name_in};
 ghost use Rattle.ps_hoa.specs.Spans.{piece_of};
 ghost use Rattle.ps_hoa.specs.declared.tokens.Kind.{Kind};
 
 use crate::fault::{HoaCause, HoaFault};
-use crate::number::int_of;
 use crate::refusal::{fault_at, refused};
 use crate::tokens::{Kind, Token, Tokens, is_same};
 use std::alloc::{AllocError, Global};
@@ -149,4 +150,19 @@ pub(crate) fn unescaped(alloc: Global, inner: &[u8]) -> Result<Vec<u8>, AllocErr
         }
     }
     Ok(bytes)
+}
+
+/// The number that digits write, if it is no more than the greatest `INT`. A byte below `0` counts as `0`, so that
+/// nothing is asked of the bytes.
+pub(crate) fn int_of(digits: &[u8]) -> Option<u32>
+    ensures { result ≡ (if nat_le (decimal_value digits.now) number_limit then Some
+        (decimal_value digits.now) else None) }
+{
+    let mut value = 0u32;
+    for digit in digits {
+        value = value
+            .checked_mul(10)?
+            .checked_add(u32::from(digit.saturating_sub(b'0')))?;
+    }
+    Some(value)
 }

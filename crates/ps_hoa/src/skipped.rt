@@ -4,15 +4,14 @@ ghost use Rattle.std.specs.Prelude.{◌≡◌, is_some};
 ghost use Rattle.ps_text.specs.Parts.{NoBad, one};
 ghost use Rattle.ps_hoa.specs.Header as parts;
 ghost use Rattle.ps_hoa.specs.Header.{HeaderData};
-ghost use Rattle.ps_hoa.specs.Items.{is_value as is_value_kind, other_in, read_over_in};
+ghost use Rattle.ps_hoa.specs.Inner.Items.{is_value as is_value_kind, other_in, read_over_in};
 ghost use Rattle.ps_hoa.specs.Operands.{number_limit};
-ghost use Rattle.ps_hoa.specs.Reads.{ReadsAs, Takes};
+ghost use Rattle.ps_hoa.specs.Inner.Reads.{ReadsAs, Takes};
 ghost use Rattle.ps_hoa.specs.Spans.{piece_of};
 
 use crate::fault::{HoaCause, HoaFault};
-use crate::number::int_of;
 use crate::refusal::{begins_capital, fault_at, is_spelled, refused};
-use crate::signs::{is_item_name, item_name, quoted};
+use crate::signs::{int_of, is_item_name, item_name, quoted};
 use crate::tokens::{Kind, Token, Tokens};
 
 /// Reads over the name of a tool, and its version if it stands there.

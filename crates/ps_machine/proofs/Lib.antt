@@ -36,3 +36,8 @@ mod SecondDrawing
 mod Starting
 mod Standing
 mod Visiting
+pub mod GameKeys
+pub mod Diagrams
+pub mod Machines
+pub mod Lassos
+pub mod Uniqueness

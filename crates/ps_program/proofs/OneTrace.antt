@@ -2,7 +2,7 @@
 use Rattle.std.proofs.Common.{◌≡◌, ◌∙◌, ℕ, Bool, List, flat_map, sym, ap}
 use Rattle.ps_circuit.specs.Circuits.{CircuitData, IsCircuit}
 use Rattle.ps_circuit.specs.Values.{HasOneValues, resets}
-use Rattle.ps_simulate.proofs.OneTrace.{runs_agree}
+use Rattle.ps_simulate.proofs.Uniqueness.OneTrace.{runs_agree}
 use Rattle.ps_program.specs.Simulating.{PrintsTrace, moment_line}
 
 module _ (c : CircuitData) (is_circuit : IsCircuit c) (one : HasOneValues c) where

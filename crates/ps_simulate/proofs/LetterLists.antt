@@ -10,7 +10,7 @@ use Rattle.ps_simulate.specs.Faults.{StimulusFault}
 use Rattle.ps_simulate.specs.Stimuli.{StimulusData, letters_in}
 use Rattle.ps_simulate.specs.StimulusTexts.{lines_of, digits_of, extent, IsLettersAnswer}
 use Rattle.ps_simulate.specs.StimulusReading.{HasRead, ReadsLine}
-use Rattle.ps_simulate.proofs.StimulusSteps.{IsStimulusAnswer-line}
+use Rattle.ps_simulate.proofs.Stimuli.StimulusSteps.{IsStimulusAnswer-line}
 
 pub length-letters_in : (width count : ℕ) (bits : List Bool) → length (letters_in width count bits) ≡ count
 length-letters_in width zero bits = refl

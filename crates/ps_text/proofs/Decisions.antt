@@ -1,13 +1,19 @@
 -- What a format says of a sign is decided: which of its causes is the least, or that it has none.
 --     Decided A      A holds, or it does not
 --     decide_not, decide_as, decide_both, decide_one      of facts that are decided
+--     decide_true, decide_none      of a test, and of what may be none
 --     decide_below, decide_in      of two numbers, and of a number in a list
 --     judge_none, judge_cause, judge_one, judge_as      no cause; one cause, if a fact holds; of two sets of causes; a
 --               set of the same causes
-use Rattle.std.proofs.Common.{◌≡◌, ℕ, zero, suc, ◌≤◌, ◌⊎◌, List, [], ◌∷◌, length, get_or, refl, sym, inl, inr, arith}
+--     judge_if, judge_also      of what a sign has, where it has it; of causes that stand where a fact holds
+use Rattle.std.proofs.Common.{◌≡◌, ℕ, zero, suc, ◌≤◌, ◌⊎◌, Bool, true, false, List, [], ◌∷◌, length, get_or, refl, sym}
+use Rattle.std.proofs.Common.{inl}
+use Rattle.std.proofs.Common.{inr, Option, None, Some, arith}
+use Rattle.std.specs.Prelude.{IfSome}
 use Rattle.std.specs.List.{Contains}
 use Rattle.std.proofs.lemmas.Bool.{cases_eq, cases_lt}
 use Rattle.ps_text.proofs.Outcomes.{Judged, bad, good, bad_only}
+use Rattle.ps_text.proofs.Simple.{none_is_some}
 
 abbrev pub Decided : Type 0 → Type 0
 Decided A = A ⊎ ¬ A
@@ -33,6 +39,14 @@ decide_one {A} {B} (inr n) (inr m) = inr go
     go : A ⊎ B → ⊥
     go (inl a) = n a
     go (inr b) = m b
+
+pub decide_true : (b : Bool) → Decided (b ≡ true)
+decide_true true = inl refl
+decide_true false = inr (λ e. cc)
+
+pub decide_none : {A : Type 0} (o : Option A) → Decided (o ≡ None)
+decide_none None = inl refl
+decide_none (Some a) = inr (λ e. none_is_some a (sym e))
 
 pub decide_below : (m n : ℕ) → Decided (m ≤ n)
 decide_below m n = go (cases_lt n m)
@@ -65,6 +79,16 @@ module _ {F : Type 0} (number : F → ℕ) where
   pub judge_as : {P Q : F → Type 0} → ((f : F) → P f → Q f) → ((f : F) → Q f → P f) → Judged number P → Judged number Q
   judge_as to from (bad f b least) = bad f (to f b) (λ g c. least g (from g c))
   judge_as to from (good n) = good (λ f b. n f (from f b))
+
+  pub judge_if : {A : Type 0} (o : Option A) (Bad : A → F → Type 0) → ((a : A) → Judged number (Bad a)) →
+      Judged number (λ f. IfSome o (λ a. Bad a f) × (o ≡ None → ⊥))
+  judge_if None Bad judge = good (λ f b. b.1 refl)
+  judge_if (Some a) Bad judge = judge_as (λ f b. (b, λ e. none_is_some a (sym e))) (λ f b. b.0) (judge a)
+
+  pub judge_also : {A : Type 0} {Bad : F → Type 0} → Decided A → Judged number Bad → Judged number (λ f. A × Bad f)
+  judge_also (inl a) (bad f b least) = bad f (a, b) (λ g c. least g c.1)
+  judge_also (inl a) (good none) = good (λ f b. none f b.1)
+  judge_also (inr n) judged = good (λ f b. n b.0)
 
   pub judge_one : {P Q : F → Type 0} → Judged number P → Judged number Q → Judged number (λ f. P f ⊎ Q f)
   judge_one {P} {Q} (bad f b least) (bad g c low) = go (cases_lt (number g) (number f))

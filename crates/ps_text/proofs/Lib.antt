@@ -12,6 +12,7 @@ pub mod Branches
 pub mod Choices
 pub mod Barred
 pub mod Outcomes
+pub mod ChoiceOutcomes
 pub mod Decisions
 pub mod OneTokenisation
 pub mod LeadingDigits

@@ -12,7 +12,7 @@ use Rattle.ps_simulate.specs.Symbols.{IsSymbol, AreNamesOnce, HasSymbols, reads_
 use Rattle.ps_simulate.specs.Lassos.{IsLetterOf, AreLetters}
 use Rattle.ps_simulate.specs.declared.role.Role.{Role}
 use Rattle.ps_simulate.proofs.NamingLemmas.{names_differ, role_apart, some_same, within}
-use Rattle.ps_simulate.proofs.OneLetter.{one_letters, side}
+use Rattle.ps_simulate.proofs.Uniqueness.OneLetter.{one_letters, side}
 use Rattle.ps_traces.specs.Inputs.{HasLetters}
 
 module _ (role : Role) (names : List (List ℕ)) (controllable : List ℕ) (c : CircuitData) (are_names : AreNames names)

@@ -19,7 +19,7 @@ use Rattle.ps_simulate.proofs.NamingLemmas.{names_differ, role_apart}
 use Rattle.ps_traces.specs.Roles.{IsMachineFor, is_read_by}
 use Rattle.ps_traces.specs.Shapes.{HasShape}
 use Rattle.ps_traces.proofs.Bits.{is_there, stands_in}
-use Rattle.ps_simulate.proofs.OneLetter.{side}
+use Rattle.ps_simulate.proofs.Uniqueness.OneLetter.{side}
 use Rattle.ps_traces.proofs.Words.{memory_below}
 
 some_same : {X : Type 0} (x y : X) → Some x ≡ Some y → x ≡ y

@@ -1,6 +1,6 @@
 use Rattle.std.proofs.Common.{ap, ◌∙◌, refl}
 use Rattle.ps_hoa.specs.Values.{condition_of}
-use Rattle.ps_hoa.proofs.CondRows.{condition_of-All, condition_of-Any}
+use Rattle.ps_hoa.proofs.Reading.CondRows.{condition_of-All, condition_of-Any}
 use Rattle.ps_automaton.proofs.chain.+is_complemented.Goals as goal
 
 pub loop-operand-init : goal.loop-operand-init

@@ -7,17 +7,17 @@ use Rattle.ps_hoa.specs.Files.{RowData, count_of_states}
 use Rattle.ps_hoa.specs.Header.{names_of, state_limit}
 use Rattle.ps_hoa.specs.Values.{condition_of}
 use Rattle.ps_hoa.specs.Views.{acceptance_data, header_data, row_data}
-use Rattle.ps_hoa.proofs.SoundLaws.{aliases_ordered}
+use Rattle.ps_hoa.proofs.Soundness.SoundLaws.{aliases_ordered}
 use Rattle.ps_hoa.specs.declared.condition.Cond.{Always}
 use Rattle.ps_hoa.specs.Body.{BodyData}
 use Rattle.ps_hoa.specs.FileViews.{file_data}
-use Rattle.ps_hoa.specs.Rows.{body_data}
+use Rattle.ps_hoa.specs.Inner.Rows.{body_data}
 use Rattle.ps_hoa.specs.Sound.{IsSoundFile}
 use Rattle.ps_hoa.specs.Texts.{file_of}
 use Rattle.ps_hoa.specs.declared.file.HoaFile.TheInside.{Inside}
 use Rattle.ps_hoa.specs.declared.header.Acceptance.{Acceptance}
 use Rattle.ps_hoa.specs.declared.header.Header.{Header}
-use Rattle.ps_hoa.proofs.SoundFiles.{sets_in, condition_in}
+use Rattle.ps_hoa.proofs.Soundness.SoundFiles.{sets_in, condition_in}
 use Rattle.ps_hoa.proofs.assembly.file.Goals as goal
 
 abbrev nothing : Acceptance

@@ -1,7 +1,7 @@
 use Rattle.ps_text.proofs.Exits.{exits, reads_then, stops_first, stops_behind}
 use Rattle.ps_hoa.specs.Causes.{found_of, hoa_causes}
 use Rattle.ps_hoa.specs.Views.{header_data}
-use Rattle.ps_hoa.proofs.StateLaws.{joint_body}
+use Rattle.ps_hoa.proofs.Grammar.StateLaws.{joint_body}
 use Rattle.ps_hoa.proofs.body.body.Goals as goal
 
 pub returns-in_err-rows : goal.returns-in_err-rows

@@ -4,11 +4,11 @@ use Rattle.ps_text.proofs.Meeting.{meets_mapped}
 use Rattle.ps_hoa.specs.Body.{is_end, IsBadClose}
 use Rattle.ps_hoa.specs.Causes.{found_of, hoa_causes}
 use Rattle.ps_hoa.specs.Operands.{mark_in}
-use Rattle.ps_hoa.specs.Reads.{Takes}
-use Rattle.ps_hoa.specs.Rows.{body_data}
+use Rattle.ps_hoa.specs.Inner.Reads.{Takes}
+use Rattle.ps_hoa.specs.Inner.Rows.{body_data}
 use Rattle.ps_hoa.specs.Views.{header_data}
-use Rattle.ps_hoa.proofs.SingleSigns.{reads_one}
-use Rattle.ps_hoa.proofs.StateReading.{end_signs}
+use Rattle.ps_hoa.proofs.Reading.SingleSigns.{reads_one}
+use Rattle.ps_hoa.proofs.Reading.StateReading.{end_signs}
 use Rattle.ps_hoa.proofs.body.end.Goals as goal
 
 pub returns : goal.returns

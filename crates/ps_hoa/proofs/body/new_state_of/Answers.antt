@@ -2,14 +2,14 @@ use Rattle.std.proofs.Common.{◌≡◌, ℕ, ◌≤◌, true, Err, refl, sym, s
 use Rattle.ps_hoa.specs.Body.{BodyData, BadIn, IsBadState, IsBadRow, has_row}
 use Rattle.ps_hoa.specs.Causes.{cause_number}
 use Rattle.ps_hoa.specs.Header.{int_in}
-use Rattle.ps_hoa.specs.Reads.{Takes}
-use Rattle.ps_hoa.specs.Rows.{body_data}
+use Rattle.ps_hoa.specs.Inner.Reads.{Takes}
+use Rattle.ps_hoa.specs.Inner.Rows.{body_data}
 use Rattle.ps_hoa.specs.Spans.{piece_of}
 use Rattle.ps_hoa.specs.Views.{header_data}
 use Rattle.ps_hoa.specs.declared.fault.HoaCause.{HoaCause}
 use Rattle.ps_hoa.specs.declared.fault.HoaCause.TheVariants.{StateTwice}
-use Rattle.ps_hoa.proofs.OperandLaws.{false_true}
-use Rattle.ps_hoa.proofs.IntSigns.{takes_further, takes_both}
+use Rattle.ps_hoa.proofs.Grammar.OperandLaws.{false_true}
+use Rattle.ps_hoa.proofs.Reading.IntSigns.{takes_further, takes_both}
 use Rattle.ps_hoa.proofs.body.new_state_of.Goals as goal
 
 abbrev Again : BodyData → ℕ → HoaCause → Type 0

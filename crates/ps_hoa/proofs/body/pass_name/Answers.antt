@@ -4,11 +4,11 @@ use Rattle.ps_text.proofs.Branches.{reads_as}
 use Rattle.ps_hoa.specs.Body.{nothing_of}
 use Rattle.ps_hoa.specs.Scan.{stream_of}
 use Rattle.ps_hoa.specs.declared.tokens.Kind.TheVariants.{Text}
-use Rattle.ps_hoa.proofs.BodyLaws.{is_text}
-use Rattle.ps_hoa.proofs.BodyReading.{avoids_test, test_text}
-use Rattle.ps_hoa.proofs.HeaderSigns.{signs_string}
-use Rattle.ps_hoa.proofs.SingleSigns.{reads_one}
-use Rattle.ps_hoa.proofs.StateReading.{at_name, at_no_name, string_next}
+use Rattle.ps_hoa.proofs.Grammar.BodyLaws.{is_text}
+use Rattle.ps_hoa.proofs.Reading.BodyReading.{avoids_test, test_text}
+use Rattle.ps_hoa.proofs.Grammar.HeaderSigns.{signs_string}
+use Rattle.ps_hoa.proofs.Reading.SingleSigns.{reads_one}
+use Rattle.ps_hoa.proofs.Reading.StateReading.{at_name, at_no_name, string_next}
 use Rattle.ps_hoa.proofs.body.pass_name.Goals as goal
 
 pub returns-then-is_at : goal.returns-then-is_at

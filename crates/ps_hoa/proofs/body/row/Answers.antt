@@ -4,10 +4,10 @@ use Rattle.ps_text.proofs.Exits.{exits, reads_mapped, reads_then, stops_mapped, 
 use Rattle.ps_hoa.specs.Body.{edges, empty_row, with_row}
 use Rattle.ps_hoa.specs.Causes.{found_of, hoa_causes}
 use Rattle.ps_hoa.specs.Files.{EdgeData}
-use Rattle.ps_hoa.specs.Rows.{body_data}
+use Rattle.ps_hoa.specs.Inner.Rows.{body_data}
 use Rattle.ps_hoa.specs.Views.{edge_data, header_data}
-use Rattle.ps_hoa.proofs.StateLaws.{joint_state, joint_state_label, joint_number, joint_name, joint_marks}
-use Rattle.ps_hoa.proofs.StateReading.{of_empty_row, stops_of_empty_row}
+use Rattle.ps_hoa.proofs.Grammar.StateLaws.{joint_state, joint_state_label, joint_number, joint_name, joint_marks}
+use Rattle.ps_hoa.proofs.Reading.StateReading.{of_empty_row, stops_of_empty_row}
 use Rattle.ps_hoa.proofs.body.row.Goals as goal
 
 pub returns-in_err-begin-clause-part : goal.returns-in_err-begin-clause-part

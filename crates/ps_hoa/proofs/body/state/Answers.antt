@@ -1,5 +1,5 @@
 use Rattle.std.proofs.Common.{sym}
-use Rattle.ps_hoa.proofs.BodyReading.{reads_value}
+use Rattle.ps_hoa.proofs.Reading.BodyReading.{reads_value}
 use Rattle.ps_hoa.proofs.body.state.Goals as goal
 
 pub returns : goal.returns

@@ -5,9 +5,9 @@ use Rattle.ps_hoa.specs.Causes.{found_of, hoa_causes}
 use Rattle.ps_hoa.specs.Scan.{stream_of}
 use Rattle.ps_hoa.specs.Views.{header_data}
 use Rattle.ps_hoa.specs.declared.tokens.Kind.TheVariants.{LeftBracket}
-use Rattle.ps_hoa.proofs.BodyLaws.{joint_bracket}
-use Rattle.ps_hoa.proofs.BodyReading.{avoids_test, test_left_bracket}
-use Rattle.ps_hoa.proofs.StateReading.{at_label, at_no_label}
+use Rattle.ps_hoa.proofs.Grammar.BodyLaws.{joint_bracket}
+use Rattle.ps_hoa.proofs.Reading.BodyReading.{avoids_test, test_left_bracket}
+use Rattle.ps_hoa.proofs.Reading.StateReading.{at_label, at_no_label}
 use Rattle.ps_hoa.proofs.body.state_label.Goals as goal
 
 pub returns-then-not-is_at : goal.returns-then-not-is_at

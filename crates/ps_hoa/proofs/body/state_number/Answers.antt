@@ -1,11 +1,11 @@
 use Rattle.std.proofs.Common.{ℕ, subst}
 use Rattle.ps_hoa.specs.Body.{BadIn, IsBadRow}
 use Rattle.ps_hoa.specs.Header.{int_in}
-use Rattle.ps_hoa.specs.Reads.{Takes}
-use Rattle.ps_hoa.specs.Rows.{body_data}
+use Rattle.ps_hoa.specs.Inner.Reads.{Takes}
+use Rattle.ps_hoa.specs.Inner.Rows.{body_data}
 use Rattle.ps_hoa.specs.Views.{header_data}
-use Rattle.ps_hoa.proofs.BodyReading.{int_signs}
-use Rattle.ps_hoa.proofs.SingleSigns.{reads_one}
+use Rattle.ps_hoa.proofs.Reading.BodyReading.{int_signs}
+use Rattle.ps_hoa.proofs.Reading.SingleSigns.{reads_one}
 use Rattle.ps_hoa.proofs.body.state_number.Goals as goal
 
 pub returns-clause-part : goal.returns-clause-part

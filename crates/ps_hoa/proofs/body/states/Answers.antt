@@ -5,11 +5,11 @@ use Rattle.ps_text.proofs.Exits.{exits, carries_start, carries_reads, carries_st
 use Rattle.ps_text.proofs.Branches.{many_ends, many_fails, carries_many, reads_shrinks}
 use Rattle.ps_hoa.specs.Body.{BodyData, state, no_rows}
 use Rattle.ps_hoa.specs.Causes.{found_of, hoa_causes}
-use Rattle.ps_hoa.specs.Rows.{body_data}
+use Rattle.ps_hoa.specs.Inner.Rows.{body_data}
 use Rattle.ps_hoa.specs.Scan.{stream_of}
 use Rattle.ps_hoa.specs.Views.{header_data}
-use Rattle.ps_hoa.proofs.StateLaws.{laws_state, state_apart}
-use Rattle.ps_hoa.proofs.StateReading.{enters_state, avoids_state}
+use Rattle.ps_hoa.proofs.Grammar.StateLaws.{laws_state, state_apart}
+use Rattle.ps_hoa.proofs.Reading.StateReading.{enters_state, avoids_state}
 use Rattle.ps_hoa.proofs.body.states.Goals as goal
 
 pub more-init : goal.more-init

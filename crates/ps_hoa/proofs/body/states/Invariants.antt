@@ -3,7 +3,7 @@ use Rattle.ps_text.specs.Parts.{many}
 use Rattle.ps_text.specs.Readers.{Carries}
 use Rattle.ps_hoa.specs.Body.{state, no_rows}
 use Rattle.ps_hoa.specs.Causes.{hoa_causes}
-use Rattle.ps_hoa.specs.Rows.{body_data}
+use Rattle.ps_hoa.specs.Inner.Rows.{body_data}
 use Rattle.ps_hoa.specs.Scan.{stream_of}
 use Rattle.ps_hoa.specs.Views.{header_data}
 use Rattle.ps_hoa.proofs.body.states.Given as goal

@@ -5,13 +5,13 @@ use Rattle.ps_text.proofs.Exits.{exits}
 use Rattle.ps_hoa.specs.Causes.{hoa_causes, found_of}
 use Rattle.ps_hoa.specs.Conditions.{operand, together}
 use Rattle.ps_hoa.specs.Scan.{stream_of}
-use Rattle.ps_hoa.proofs.RowReading.{first_value, last_value, first_fails, first_alone, row_starts, row_more}
-use Rattle.ps_hoa.proofs.RowReading.{row_fails_later, row_done, row_shrinks}
+use Rattle.ps_hoa.proofs.Reading.RowReading.{first_value, last_value, first_fails, first_alone, row_starts, row_more}
+use Rattle.ps_hoa.proofs.Reading.RowReading.{row_fails_later, row_done, row_shrinks}
 use Rattle.ps_hoa.specs.Operands.{is_right, rows}
-use Rattle.ps_hoa.proofs.OperandLaws.{false_true}
-use Rattle.ps_hoa.proofs.MarkReading.{tests_right}
-use Rattle.ps_hoa.proofs.ConditionReading.{condition_operands, atom_stands}
-use Rattle.ps_hoa.proofs.OperandReading.{operand_row, paren_reads, paren_fails, paren_stays_open}
+use Rattle.ps_hoa.proofs.Grammar.OperandLaws.{false_true}
+use Rattle.ps_hoa.proofs.Reading.MarkReading.{tests_right}
+use Rattle.ps_hoa.proofs.Reading.ConditionReading.{condition_operands, atom_stands}
+use Rattle.ps_hoa.proofs.Reading.OperandReading.{operand_row, paren_reads, paren_fails, paren_stays_open}
 use Rattle.ps_hoa.proofs.condition.+condition.Goals as goal
 use Rattle.ps_hoa.proofs.condition.+condition.Goals.{operand-else-room-gt0-via-then-room-gt0+else-is_at}
 use Rattle.ps_hoa.proofs.condition.+condition.Goals.{operand-else-room-gt0-via-else-room-gt0}

@@ -3,7 +3,7 @@ use Rattle.ps_hoa.specs.Values.{condition_of}
 use Rattle.ps_hoa.specs.Conditions.{operand, together}
 use Rattle.ps_hoa.specs.Operands.{is_sign_of, between}
 use Rattle.ps_hoa.specs.Scan.{stream_of}
-use Rattle.ps_hoa.proofs.RowReading.{IsRow, binding}
+use Rattle.ps_hoa.proofs.Reading.RowReading.{IsRow, binding}
 use Rattle.ps_hoa.proofs.condition.+condition.Given as goal
 
 abbrev pub decreases-row : goal.decreases-row

@@ -1,7 +1,7 @@
 use Rattle.std.proofs.Common.{sym, ◌∙◌}
 use Rattle.ps_hoa.specs.Values.{set_data}
-use Rattle.ps_hoa.proofs.OperandLaws.{false_true}
-use Rattle.ps_hoa.proofs.ConditionReading.{complement_stands, set_stands}
+use Rattle.ps_hoa.proofs.Grammar.OperandLaws.{false_true}
+use Rattle.ps_hoa.proofs.Reading.ConditionReading.{complement_stands, set_stands}
 use Rattle.ps_hoa.proofs.condition.any_set.Goals as goal
 
 pub returns-then-is_at : goal.returns-then-is_at

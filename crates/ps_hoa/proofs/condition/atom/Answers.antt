@@ -6,8 +6,9 @@ use Rattle.ps_hoa.specs.Conditions.{often_in, atom}
 use Rattle.ps_hoa.specs.Operands.{is_left, is_right}
 use Rattle.ps_hoa.specs.Scan.{stream_of}
 use Rattle.ps_hoa.specs.Values.{condition_of}
-use Rattle.ps_hoa.proofs.MarkReading.{tests_left, tests_right}
-use Rattle.ps_hoa.proofs.ConditionReading.{visit_unopened, visit_fails, visit_stays_open, visit_reads, constant_stands}
+use Rattle.ps_hoa.proofs.Reading.MarkReading.{tests_left, tests_right}
+use Rattle.ps_hoa.proofs.Reading.ConditionReading.{visit_unopened, visit_fails, visit_stays_open, visit_reads}
+use Rattle.ps_hoa.proofs.Reading.ConditionReading.{constant_stands}
 use Rattle.ps_hoa.proofs.condition.atom.Goals as goal
 
 pub returns-in_default : goal.returns-in_default

@@ -1,9 +1,9 @@
 use Rattle.std.proofs.Common.{subst}
 use Rattle.ps_hoa.specs.Conditions.{constant_in, BadStart}
-use Rattle.ps_hoa.specs.Reads.{Takes}
+use Rattle.ps_hoa.specs.Inner.Reads.{Takes}
 use Rattle.ps_hoa.specs.Values.{condition_of}
-use Rattle.ps_hoa.proofs.SingleSigns.{reads_one}
-use Rattle.ps_hoa.proofs.ConditionReading.{constant_signs}
+use Rattle.ps_hoa.proofs.Reading.SingleSigns.{reads_one}
+use Rattle.ps_hoa.proofs.Reading.ConditionReading.{constant_signs}
 use Rattle.ps_hoa.proofs.condition.constant.Goals as goal
 
 pub returns : goal.returns

@@ -1,9 +1,9 @@
 use Rattle.std.proofs.Common.{subst}
 use Rattle.ps_hoa.specs.Conditions.{set_in, BadSet}
-use Rattle.ps_hoa.specs.Reads.{Takes}
+use Rattle.ps_hoa.specs.Inner.Reads.{Takes}
 use Rattle.ps_hoa.specs.Values.{set_data}
-use Rattle.ps_hoa.proofs.SingleSigns.{reads_one}
-use Rattle.ps_hoa.proofs.ConditionReading.{set_signs}
+use Rattle.ps_hoa.proofs.Reading.SingleSigns.{reads_one}
+use Rattle.ps_hoa.proofs.Reading.ConditionReading.{set_signs}
 use Rattle.ps_hoa.proofs.condition.one_set.Goals as goal
 
 pub returns : goal.returns

@@ -2,7 +2,7 @@ use Rattle.std.proofs.Common.{◌≡◌, map, sym, subst}
 use Rattle.ps_hoa.specs.Conditions.{together}
 use Rattle.ps_hoa.specs.Values.{condition_of}
 use Rattle.ps_hoa.specs.declared.condition.Cond.{All, Any}
-use Rattle.ps_hoa.proofs.CondRows.{condition_of-All, condition_of-Any}
+use Rattle.ps_hoa.proofs.Reading.CondRows.{condition_of-All, condition_of-Any}
 use Rattle.ps_hoa.proofs.condition.together.Goals as goal
 
 pub returns-in-And : goal.returns-in-And

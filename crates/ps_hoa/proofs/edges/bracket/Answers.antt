@@ -1,9 +1,9 @@
 use Rattle.std.proofs.Common.{subst}
 use Rattle.ps_hoa.specs.Body.{is_bracket, IsBadBracket}
-use Rattle.ps_hoa.specs.Reads.{Takes}
+use Rattle.ps_hoa.specs.Inner.Reads.{Takes}
 use Rattle.ps_hoa.specs.Views.{row_data}
-use Rattle.ps_hoa.proofs.BodyReading.{bracket_signs}
-use Rattle.ps_hoa.proofs.SingleSigns.{reads_one}
+use Rattle.ps_hoa.proofs.Reading.BodyReading.{bracket_signs}
+use Rattle.ps_hoa.proofs.Reading.SingleSigns.{reads_one}
 use Rattle.ps_hoa.proofs.edges.bracket.Goals as goal
 
 pub returns-clause-part : goal.returns-clause-part

@@ -4,7 +4,7 @@ use Rattle.ps_hoa.specs.Causes.{found_of, hoa_causes}
 use Rattle.ps_hoa.specs.Scan.{stream_of}
 use Rattle.ps_hoa.specs.Views.{header_data, row_data}
 use Rattle.ps_hoa.specs.declared.tokens.Kind.TheVariants.{LeftBracket}
-use Rattle.ps_hoa.proofs.BodyReading.{avoids_test, test_left_bracket, at_bracket, at_no_bracket}
+use Rattle.ps_hoa.proofs.Reading.BodyReading.{avoids_test, test_left_bracket, at_bracket, at_no_bracket}
 use Rattle.ps_hoa.proofs.edges.edge.Goals as goal
 
 pub returns-then-is_at-clause-part : goal.returns-then-is_at-clause-part

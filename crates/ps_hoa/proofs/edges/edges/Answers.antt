@@ -2,14 +2,14 @@ use Rattle.std.proofs.Common.{sym, ◌∙◌}
 use Rattle.ps_text.specs.Parts.{many}
 use Rattle.ps_text.proofs.Exits.{exits, carries_reads, carries_stops}
 use Rattle.ps_text.proofs.Branches.{many_ends, many_fails, carries_many, reads_shrinks}
-use Rattle.ps_hoa.specs.Ahead.{begins_edge}
+use Rattle.ps_hoa.specs.Inner.Ahead.{begins_edge}
 use Rattle.ps_hoa.specs.Body.{edge}
 use Rattle.ps_hoa.specs.Causes.{found_of, hoa_causes}
 use Rattle.ps_hoa.specs.Scan.{stream_of}
 use Rattle.ps_hoa.specs.Views.{header_data, row_data}
-use Rattle.ps_hoa.proofs.OperandLaws.{false_true}
-use Rattle.ps_hoa.proofs.BodyLaws.{laws_edge, edge_apart}
-use Rattle.ps_hoa.proofs.BodyReading.{avoids_kind, enters_edge}
+use Rattle.ps_hoa.proofs.Grammar.OperandLaws.{false_true}
+use Rattle.ps_hoa.proofs.Grammar.BodyLaws.{laws_edge, edge_apart}
+use Rattle.ps_hoa.proofs.Reading.BodyReading.{avoids_kind, enters_edge}
 use Rattle.ps_hoa.proofs.edges.edges.Goals as goal
 
 pub more-smaller : goal.more-smaller

@@ -8,8 +8,8 @@ use Rattle.ps_hoa.specs.Labels.{label}
 use Rattle.ps_hoa.specs.Operands.{mark, nesting_limit}
 use Rattle.ps_hoa.specs.Scan.{stream_of}
 use Rattle.ps_hoa.specs.Views.{header_data}
-use Rattle.ps_hoa.proofs.BodyLaws.{joint_label}
-use Rattle.ps_hoa.proofs.BodyReading.{test_right_bracket}
+use Rattle.ps_hoa.proofs.Grammar.BodyLaws.{joint_label}
+use Rattle.ps_hoa.proofs.Reading.BodyReading.{test_right_bracket}
 use Rattle.ps_hoa.proofs.edges.label_in_brackets.Goals as goal
 
 pub returns-in_err-label : goal.returns-in_err-label

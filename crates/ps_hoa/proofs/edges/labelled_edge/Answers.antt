@@ -5,8 +5,8 @@ use Rattle.ps_hoa.specs.Body.{marks, with_edge}
 use Rattle.ps_hoa.specs.Causes.{found_of, hoa_causes}
 use Rattle.ps_hoa.specs.Files.{EdgeData}
 use Rattle.ps_hoa.specs.Views.{header_data, row_data}
-use Rattle.ps_hoa.proofs.BodyLaws.{joint_edge_label, joint_edge_target, joint_edge_marks}
-use Rattle.ps_hoa.proofs.BodyReading.{reads_value, pushed_edge}
+use Rattle.ps_hoa.proofs.Grammar.BodyLaws.{joint_edge_label, joint_edge_target, joint_edge_marks}
+use Rattle.ps_hoa.proofs.Reading.BodyReading.{reads_value, pushed_edge}
 use Rattle.ps_hoa.proofs.edges.labelled_edge.Goals as goal
 
 pub returns-in_err-bracket-clause-part : goal.returns-in_err-bracket-clause-part

@@ -3,11 +3,11 @@ use Rattle.ps_text.proofs.Exits.{reads_give}
 use Rattle.ps_text.proofs.Branches.{meets_as, reads_as}
 use Rattle.ps_hoa.specs.Body.{is_left_brace, sets}
 use Rattle.ps_hoa.specs.Causes.{found_of, hoa_causes}
-use Rattle.ps_hoa.specs.Reads.{ReadsAs}
+use Rattle.ps_hoa.specs.Inner.Reads.{ReadsAs}
 use Rattle.ps_hoa.specs.Scan.{stream_of}
 use Rattle.ps_hoa.specs.Views.{header_data}
 use Rattle.ps_hoa.specs.declared.tokens.Kind.TheVariants.{LeftBrace}
-use Rattle.ps_hoa.proofs.BodyReading.{avoids_test, test_left_brace, reads_value, at_brace, at_no_brace}
+use Rattle.ps_hoa.proofs.Reading.BodyReading.{avoids_test, test_left_brace, reads_value, at_brace, at_no_brace}
 use Rattle.ps_hoa.proofs.edges.marks.Goals as goal
 
 pub returns-then-is_at : goal.returns-then-is_at

@@ -4,8 +4,8 @@ use Rattle.ps_hoa.specs.Body.{marks, with_edge}
 use Rattle.ps_hoa.specs.Causes.{found_of, hoa_causes}
 use Rattle.ps_hoa.specs.Files.{EdgeData, GuardData}
 use Rattle.ps_hoa.specs.Views.{edge_data, header_data, row_data}
-use Rattle.ps_hoa.proofs.BodyLaws.{joint_plain_marks}
-use Rattle.ps_hoa.proofs.BodyReading.{reads_value, pushed_edge}
+use Rattle.ps_hoa.proofs.Grammar.BodyLaws.{joint_plain_marks}
+use Rattle.ps_hoa.proofs.Reading.BodyReading.{reads_value, pushed_edge}
 use Rattle.ps_hoa.proofs.edges.plain_edge.Goals as goal
 
 pub returns-in_err-target-clause-part : goal.returns-in_err-target-clause-part

@@ -3,9 +3,9 @@ use Rattle.ps_text.proofs.Exits.{exits}
 use Rattle.ps_hoa.specs.Body.{BadIn, IsBadPlainTarget}
 use Rattle.ps_hoa.specs.Causes.{found_of, hoa_causes}
 use Rattle.ps_hoa.specs.Header.{int_in}
-use Rattle.ps_hoa.specs.Reads.{Takes}
+use Rattle.ps_hoa.specs.Inner.Reads.{Takes}
 use Rattle.ps_hoa.specs.Views.{row_data}
-use Rattle.ps_hoa.proofs.BodyReading.{reads_target, stops_number, stops_alternating}
+use Rattle.ps_hoa.proofs.Reading.BodyReading.{reads_target, stops_number, stops_alternating}
 use Rattle.ps_hoa.proofs.edges.plain_target.Goals as goal
 
 pub returns-in_err-target-clause-part : goal.returns-in_err-target-clause-part

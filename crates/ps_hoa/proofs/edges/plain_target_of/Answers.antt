@@ -9,7 +9,7 @@ use Rattle.ps_hoa.specs.Files.{RowData}
 use Rattle.ps_hoa.specs.Header.{int_in}
 use Rattle.ps_hoa.specs.Body as parts
 use Rattle.ps_hoa.specs.Body.{BadIn, IsBadState, IsBadPlainTarget, MayHaveNoLabel, edge_limit}
-use Rattle.ps_hoa.specs.Reads.{Takes, IsWorst}
+use Rattle.ps_hoa.specs.Inner.Reads.{Takes, IsWorst}
 use Rattle.ps_hoa.specs.Spans.{piece_of}
 use Rattle.ps_hoa.specs.Views.{row_data, edge_data}
 use Rattle.ps_hoa.specs.declared.edges.Labelling.{Labelling}
@@ -18,7 +18,7 @@ use Rattle.ps_hoa.specs.declared.fault.HoaCause.{HoaCause}
 use Rattle.ps_hoa.specs.declared.fault.HoaCause.TheVariants.{Limit, Range, Labels}
 use Rattle.ps_hoa.specs.declared.tokens.Kind.{Kind}
 use Rattle.ps_hoa.specs.declared.tokens.Kind.TheVariants.{Int}
-use Rattle.ps_hoa.proofs.IntSigns.{takes_err, takes_further, takes_both}
+use Rattle.ps_hoa.proofs.Reading.IntSigns.{takes_err, takes_further, takes_both}
 use Rattle.ps_hoa.proofs.edges.plain_target_of.Goals as goal
 
 abbrev OfRow : ℕ → RowData → ℕ → HoaCause → Type 0

@@ -8,13 +8,13 @@ use Rattle.ps_hoa.specs.Body.{BadIn, IsBadSet, set_number}
 use Rattle.ps_hoa.specs.Causes.{found_of, hoa_causes}
 use Rattle.ps_hoa.specs.Files.{once}
 use Rattle.ps_hoa.specs.Header.{int_in}
-use Rattle.ps_hoa.specs.Reads.{Takes}
+use Rattle.ps_hoa.specs.Inner.Reads.{Takes}
 use Rattle.ps_hoa.specs.Scan.{stream_of}
 use Rattle.ps_hoa.specs.declared.tokens.Kind.TheVariants.{Int}
-use Rattle.ps_hoa.proofs.OperandLaws.{nothing_apart}
-use Rattle.ps_hoa.proofs.BodyLaws.{is_int, laws_set_number}
-use Rattle.ps_hoa.proofs.BodyReading.{int_signs, test_int, avoids_test, enters_int}
-use Rattle.ps_hoa.proofs.SingleSigns.{reads_one}
+use Rattle.ps_hoa.proofs.Grammar.OperandLaws.{nothing_apart}
+use Rattle.ps_hoa.proofs.Grammar.BodyLaws.{is_int, laws_set_number}
+use Rattle.ps_hoa.proofs.Reading.BodyReading.{int_signs, test_int, avoids_test, enters_int}
+use Rattle.ps_hoa.proofs.Reading.SingleSigns.{reads_one}
 use Rattle.ps_hoa.proofs.edges.set_numbers.Goals as goal
 
 pub returns-in_err-set : goal.returns-in_err-set

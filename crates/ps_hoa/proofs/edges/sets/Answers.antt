@@ -2,8 +2,8 @@ use Rattle.ps_text.proofs.Exits.{exits, reads_mapped, reads_then, stops_mapped, 
 use Rattle.ps_hoa.specs.Body.{is_left_brace, is_right_brace}
 use Rattle.ps_hoa.specs.Causes.{found_of, hoa_causes}
 use Rattle.ps_hoa.specs.Operands.{mark}
-use Rattle.ps_hoa.proofs.BodyLaws.{joint_braces, joint_sets}
-use Rattle.ps_hoa.proofs.BodyReading.{test_left_brace, test_right_brace}
+use Rattle.ps_hoa.proofs.Grammar.BodyLaws.{joint_braces, joint_sets}
+use Rattle.ps_hoa.proofs.Reading.BodyReading.{test_left_brace, test_right_brace}
 use Rattle.ps_hoa.proofs.edges.sets.Goals as goal
 
 pub returns-in_err-mark : goal.returns-in_err-mark

@@ -1,6 +1,6 @@
 use Rattle.std.proofs.Common.{ap, ◌∙◌, inl, inr}
 use Rattle.ps_hoa.specs.Values.{condition_of}
-use Rattle.ps_hoa.proofs.CondRows.{condition_of-All, condition_of-Any}
+use Rattle.ps_hoa.proofs.Reading.CondRows.{condition_of-All, condition_of-Any}
 use Rattle.ps_hoa.proofs.flaws.+names_set_beyond.Goals as goal
 
 pub loop-operand-init : goal.loop-operand-init

@@ -1,8 +1,8 @@
 use Rattle.std.proofs.Common.{not, ap, ◌≡◌, true, false, sym, ◌∙◌}
 use Rattle.ps_hoa.specs.Views.{header_data, acceptance_data}
-use Rattle.ps_hoa.proofs.LeastFlaws.{no_acceptance_least, too_large_least, no_start_least, range_least}
-use Rattle.ps_hoa.proofs.LeastFlaws.{no_controllable_least, none_is_sound, said_none, said_some, is_said_none}
-use Rattle.ps_hoa.proofs.LeastFlaws.{is_said_some}
+use Rattle.ps_hoa.proofs.Outcomes.LeastFlaws.{no_acceptance_least, too_large_least, no_start_least, range_least}
+use Rattle.ps_hoa.proofs.Outcomes.LeastFlaws.{no_controllable_least, none_is_sound, said_none, said_some, is_said_none}
+use Rattle.ps_hoa.proofs.Outcomes.LeastFlaws.{is_said_some}
 use Rattle.ps_hoa.proofs.flaws.flaw.Goals as goal
 
 pub returns-then-is_none : goal.returns-then-is_none

@@ -3,8 +3,8 @@ use Rattle.ps_hoa.specs.Conditions.{condition}
 use Rattle.ps_hoa.specs.Header.{with_acceptance}
 use Rattle.ps_hoa.specs.Operands.{nesting_limit}
 use Rattle.ps_hoa.specs.Views.{header_data}
-use Rattle.ps_hoa.proofs.HeaderExits.{exit, first_fails, rest_fails, value_fails}
-use Rattle.ps_hoa.proofs.HeaderLaws.{joint_acceptance, joint_counted_condition}
+use Rattle.ps_hoa.proofs.Reading.HeaderExits.{exit, first_fails, rest_fails, value_fails}
+use Rattle.ps_hoa.proofs.Grammar.HeaderLaws.{joint_acceptance, joint_counted_condition}
 use Rattle.ps_hoa.proofs.items.acceptance.Goals as goal
 
 pub returns-in_err-item_name : goal.returns-in_err-item_name

@@ -6,8 +6,8 @@ use Rattle.ps_hoa.specs.Header.{with_alias, header_scope, alias_item}
 use Rattle.ps_hoa.specs.Labels.{label}
 use Rattle.ps_hoa.specs.Operands.{nesting_limit}
 use Rattle.ps_hoa.specs.Views.{header_data}
-use Rattle.ps_hoa.proofs.HeaderExits.{exit, first_fails, rest_fails, value_fails, value_is}
-use Rattle.ps_hoa.proofs.HeaderLaws.{joint_alias, joint_named_label}
+use Rattle.ps_hoa.proofs.Reading.HeaderExits.{exit, first_fails, rest_fails, value_fails, value_is}
+use Rattle.ps_hoa.proofs.Grammar.HeaderLaws.{joint_alias, joint_named_label}
 use Rattle.ps_hoa.proofs.items.alias.Goals as goal
 
 pub returns-in_err-item_name : goal.returns-in_err-item_name

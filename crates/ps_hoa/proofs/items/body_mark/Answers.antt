@@ -1,5 +1,5 @@
 use Rattle.ps_hoa.specs.Views.{header_data}
-use Rattle.ps_hoa.proofs.HeaderSigns.{reads_token, signs_body}
+use Rattle.ps_hoa.proofs.Grammar.HeaderSigns.{reads_token, signs_body}
 use Rattle.ps_hoa.proofs.items.body_mark.Goals as goal
 
 pub returns : goal.returns

@@ -1,6 +1,6 @@
 use Rattle.ps_text.proofs.Exits.{reads_then}
-use Rattle.ps_hoa.proofs.HeaderExits.{exit, first_fails, rest_fails}
-use Rattle.ps_hoa.proofs.WholeHeader.{joint_header}
+use Rattle.ps_hoa.proofs.Reading.HeaderExits.{exit, first_fails, rest_fails}
+use Rattle.ps_hoa.proofs.Grammar.WholeHeader.{joint_header}
 use Rattle.ps_hoa.proofs.items.header.Goals as goal
 
 pub returns-in_err-header : goal.returns-in_err-header

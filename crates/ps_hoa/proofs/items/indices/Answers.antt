@@ -8,11 +8,11 @@ use Rattle.ps_hoa.specs.Header.{index, int, kept}
 use Rattle.ps_hoa.specs.Operands.{number_limit}
 use Rattle.ps_hoa.specs.Scan.{stream_of}
 use Rattle.ps_hoa.specs.declared.tokens.Kind.TheVariants.{Int}
-use Rattle.ps_hoa.proofs.ConditionLaws.{is_int}
-use Rattle.ps_hoa.proofs.HeaderExits.{exit, value_fails}
-use Rattle.ps_hoa.proofs.HeaderLaws.{laws_index}
-use Rattle.ps_hoa.proofs.HeaderLoops.{avoids_at, only_int, enters_index}
-use Rattle.ps_hoa.proofs.OperandLaws.{Of, nothing_apart}
+use Rattle.ps_hoa.proofs.Grammar.ConditionLaws.{is_int}
+use Rattle.ps_hoa.proofs.Reading.HeaderExits.{exit, value_fails}
+use Rattle.ps_hoa.proofs.Grammar.HeaderLaws.{laws_index}
+use Rattle.ps_hoa.proofs.Reading.HeaderLoops.{avoids_at, only_int, enters_index}
+use Rattle.ps_hoa.proofs.Grammar.OperandLaws.{Of, nothing_apart}
 use Rattle.ps_hoa.proofs.items.indices.Goals as goal
 
 pub returns-in_err-number : goal.returns-in_err-number

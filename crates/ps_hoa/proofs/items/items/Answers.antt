@@ -6,15 +6,15 @@ use Rattle.ps_text.proofs.Branches.{many_ends, many_fails, carries_many, reads_s
 use Rattle.ps_text.proofs.Exits.{carries_start, carries_reads, carries_stops}
 use Rattle.ps_hoa.specs.Causes.{hoa_causes}
 use Rattle.ps_hoa.specs.Header.{no_items, item}
-use Rattle.ps_hoa.specs.Items.{item_at, item_name_of}
+use Rattle.ps_hoa.specs.Inner.Items.{item_at, item_name_of}
 use Rattle.ps_hoa.specs.Scan.{stream_of, next_of}
 use Rattle.ps_hoa.specs.Spans.{piece_of}
 use Rattle.ps_hoa.specs.Tokens.{Sign}
 use Rattle.ps_hoa.specs.declared.items.Item.{Item}
 use Rattle.ps_hoa.specs.Views.{header_data}
-use Rattle.ps_hoa.proofs.HeaderExits.{exit}
-use Rattle.ps_hoa.proofs.WholeHeader.{laws_item, item_apart}
-use Rattle.ps_hoa.proofs.ItemChoice.{stands_next, enters_next, avoids_next}
+use Rattle.ps_hoa.proofs.Reading.HeaderExits.{exit}
+use Rattle.ps_hoa.proofs.Grammar.WholeHeader.{laws_item, item_apart}
+use Rattle.ps_hoa.proofs.Grammar.ItemChoice.{stands_next, enters_next, avoids_next}
 use Rattle.ps_hoa.proofs.items.items.Goals as goal
 
 told : (piece : Piece Sign) (s : Stream Sign) (o : Option Item) → piece ≡ next_of s →

@@ -1,5 +1,5 @@
 use Rattle.ps_hoa.specs.Views.{header_data}
-use Rattle.ps_hoa.proofs.HeaderSigns.{reads_token, signs_start}
+use Rattle.ps_hoa.proofs.Grammar.HeaderSigns.{reads_token, signs_start}
 use Rattle.ps_hoa.proofs.items.start_name.Goals as goal
 
 pub returns : goal.returns

@@ -1,8 +1,8 @@
 use Rattle.ps_text.proofs.Exits.{reads_then, reads_mapped}
 use Rattle.ps_hoa.specs.Header.{with_states, int, state_limit}
 use Rattle.ps_hoa.specs.Views.{header_data}
-use Rattle.ps_hoa.proofs.HeaderExits.{exit, first_fails, rest_fails, value_fails}
-use Rattle.ps_hoa.proofs.HeaderLaws.{joint_states}
+use Rattle.ps_hoa.proofs.Reading.HeaderExits.{exit, first_fails, rest_fails, value_fails}
+use Rattle.ps_hoa.proofs.Grammar.HeaderLaws.{joint_states}
 use Rattle.ps_hoa.proofs.items.states.Goals as goal
 
 pub returns-in_err-item_name : goal.returns-in_err-item_name

@@ -1,9 +1,9 @@
 use Rattle.std.proofs.Common.{subst}
 use Rattle.ps_label.specs.Expression.{expression}
 use Rattle.ps_hoa.specs.Labels.{leaf_in, BadLeaf}
-use Rattle.ps_hoa.specs.Reads.{Takes}
-use Rattle.ps_hoa.proofs.SingleSigns.{reads_one}
-use Rattle.ps_hoa.proofs.LabelReading.{leaf_signs}
+use Rattle.ps_hoa.specs.Inner.Reads.{Takes}
+use Rattle.ps_hoa.proofs.Reading.SingleSigns.{reads_one}
+use Rattle.ps_hoa.proofs.Reading.LabelReading.{leaf_signs}
 use Rattle.ps_hoa.proofs.label.leaf.Goals as goal
 
 pub returns : goal.returns

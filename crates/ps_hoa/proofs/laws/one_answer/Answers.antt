@@ -1,5 +1,5 @@
 -- The law is a lemma.
-use Rattle.ps_hoa.proofs.OneReading.{one_reading}
+use Rattle.ps_hoa.proofs.Outcomes.OneReading.{one_reading}
 use Rattle.ps_hoa.proofs.laws.one_answer.Goals as goal
 
 pub returns : goal.returns

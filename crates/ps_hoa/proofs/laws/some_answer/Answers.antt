@@ -1,5 +1,5 @@
 -- The law is a lemma.
-use Rattle.ps_hoa.proofs.SomeReading.{some_reading}
+use Rattle.ps_hoa.proofs.Outcomes.SomeReading.{some_reading}
 use Rattle.ps_hoa.proofs.laws.some_answer.Goals as goal
 
 pub returns : goal.returns

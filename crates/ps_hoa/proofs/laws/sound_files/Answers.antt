@@ -1,5 +1,5 @@
 -- The law is a lemma.
-use Rattle.ps_hoa.proofs.SoundFiles.{sound_file}
+use Rattle.ps_hoa.proofs.Soundness.SoundFiles.{sound_file}
 use Rattle.ps_hoa.proofs.laws.sound_files.Goals as goal
 
 pub returns : goal.returns

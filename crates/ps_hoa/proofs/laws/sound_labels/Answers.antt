@@ -1,5 +1,5 @@
 -- The laws are lemmas.
-use Rattle.ps_hoa.proofs.SoundLaws.{sound_aliases_ordered, state_label, edge_label}
+use Rattle.ps_hoa.proofs.Soundness.SoundLaws.{sound_aliases_ordered, state_label, edge_label}
 use Rattle.ps_hoa.proofs.laws.sound_labels.Goals as goal
 
 pub returns-clause-aliases : goal.returns-clause-aliases

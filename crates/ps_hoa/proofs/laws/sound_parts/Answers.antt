@@ -1,5 +1,5 @@
 -- The laws are lemmas.
-use Rattle.ps_hoa.proofs.SoundLaws.{sound_row, row_of_state, sound_edge}
+use Rattle.ps_hoa.proofs.Soundness.SoundLaws.{sound_row, row_of_state, sound_edge}
 use Rattle.ps_hoa.proofs.laws.sound_parts.Goals as goal
 
 pub returns-clause-row : goal.returns-clause-row

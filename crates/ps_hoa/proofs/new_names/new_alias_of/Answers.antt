@@ -1,10 +1,10 @@
 use Rattle.std.proofs.Common.{ℕ, List, Bor, sym, ap, ◌∙◌, is_some, arith}
 use Rattle.ps_hoa.specs.Header.{IsBadAlias}
-use Rattle.ps_hoa.specs.Items.{alias_name_in}
+use Rattle.ps_hoa.specs.Inner.Items.{alias_name_in}
 use Rattle.ps_hoa.specs.Spans.{piece_of}
 use Rattle.ps_hoa.specs.declared.fault.HoaCause.TheVariants.{Alias}
-use Rattle.ps_hoa.proofs.HeaderSigns.{takes_bad}
-use Rattle.ps_hoa.proofs.NewAliases.{number-among, new_alias_taken, old_alias_bad, old_alias_least}
+use Rattle.ps_hoa.proofs.Grammar.HeaderSigns.{takes_bad}
+use Rattle.ps_hoa.proofs.Reading.NewAliases.{number-among, new_alias_taken, old_alias_bad, old_alias_least}
 use Rattle.ps_hoa.proofs.new_names.new_alias_of.Goals as goal
 
 pub returns-then-is_some-clause-sign : goal.returns-then-is_some-clause-sign

@@ -2,7 +2,7 @@ use Rattle.std.proofs.Common.{sym}
 use Rattle.ps_text.specs.Parts.{one}
 use Rattle.ps_text.proofs.Exits.{reads_mapped}
 use Rattle.ps_hoa.specs.Header.{proposition_name, with_name, string_in, IsBadName}
-use Rattle.ps_hoa.proofs.HeaderExits.{exit, value_fails, value_is}
+use Rattle.ps_hoa.proofs.Reading.HeaderExits.{exit, value_fails, value_is}
 use Rattle.ps_hoa.proofs.new_names.proposition.Goals as goal
 
 pub returns-in_err-name : goal.returns-in_err-name

@@ -3,7 +3,7 @@ use Rattle.std.specs.Prelude.{codes}
 use Rattle.std.specs.Str.{bytes_eq}
 use Rattle.ps_hoa.specs.Scan.{begins_with, stream_of}
 use Rattle.ps_hoa.specs.Texts.{too_long}
-use Rattle.ps_hoa.proofs.Openings.{to_end, without_hoa, Opens, with_other_version, with_version, run_taken}
+use Rattle.ps_hoa.proofs.Reading.Openings.{to_end, without_hoa, Opens, with_other_version, with_version, run_taken}
 use Rattle.ps_hoa.proofs.opening.opened.Goals as goal
 
 pub returns-then-text-gt-TEXT_LIMIT-clause-refused : goal.returns-then-text-gt-TEXT_LIMIT-clause-refused

@@ -5,7 +5,7 @@ use Rattle.ps_text.proofs.Exits.{reads_mapped, reads_then}
 use Rattle.ps_hoa.specs.Body.{BodyData, body}
 use Rattle.ps_hoa.specs.Files.{FileData}
 use Rattle.ps_hoa.specs.Header.{HeaderData, header}
-use Rattle.ps_hoa.specs.Rows.{body_data}
+use Rattle.ps_hoa.specs.Inner.Rows.{body_data}
 use Rattle.ps_hoa.specs.Scan.{next_of, stream_of}
 use Rattle.ps_hoa.specs.Sound.{IsSoundFile}
 use Rattle.ps_hoa.specs.Texts.{file_of, file, IsFileAnswer, IsFaultOf}
@@ -14,10 +14,10 @@ use Rattle.ps_text.specs.declared.faults.Fault.TheVariants.{OutOfMemory}
 use Rattle.ps_hoa.specs.declared.file.HoaFile.{HoaFile}
 use Rattle.ps_hoa.specs.Tokens.{Sign}
 use Rattle.ps_hoa.specs.Views.{header_data}
-use Rattle.ps_hoa.proofs.Answering.{refused_answers, header_fails, body_fails, ends_answers, trails_answers}
-use Rattle.ps_hoa.proofs.FileLaws.{joint_file}
-use Rattle.ps_hoa.proofs.Keeping.{keeps_read}
-use Rattle.ps_hoa.proofs.SoundFiles.{keeps_file}
+use Rattle.ps_hoa.proofs.Reading.Answering.{refused_answers, header_fails, body_fails, ends_answers, trails_answers}
+use Rattle.ps_hoa.proofs.Grammar.FileLaws.{joint_file}
+use Rattle.ps_hoa.proofs.Soundness.Keeping.{keeps_read}
+use Rattle.ps_hoa.proofs.Soundness.SoundFiles.{keeps_file}
 use Rattle.ps_hoa.proofs.reader.read.Goals as goal
 
 -- what a header and a body that were read say together is sound

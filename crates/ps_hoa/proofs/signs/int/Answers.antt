@@ -1,4 +1,4 @@
-use Rattle.ps_hoa.proofs.HeaderSigns.{reads_token, signs_int}
+use Rattle.ps_hoa.proofs.Grammar.HeaderSigns.{reads_token, signs_int}
 use Rattle.ps_hoa.proofs.signs.int.Goals as goal
 
 pub returns-clause-part : goal.returns-clause-part

@@ -1,4 +1,4 @@
-use Rattle.ps_hoa.proofs.HeaderSigns.{reads_token, signs_mark}
+use Rattle.ps_hoa.proofs.Grammar.HeaderSigns.{reads_token, signs_mark}
 use Rattle.ps_hoa.proofs.signs.mark.Goals as goal
 
 pub returns : goal.returns

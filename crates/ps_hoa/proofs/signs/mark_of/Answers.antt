@@ -2,7 +2,7 @@ use Rattle.std.proofs.Common.{◌≡◌, true, false, sym, ◌∙◌}
 use Rattle.ps_text.specs.Parts.{NoBad}
 use Rattle.ps_hoa.specs.Operands.{mark_in}
 use Rattle.ps_hoa.specs.Spans.{piece_of}
-use Rattle.ps_hoa.proofs.HeaderSigns.{takes_refused, mark_none}
+use Rattle.ps_hoa.proofs.Grammar.HeaderSigns.{takes_refused, mark_none}
 use Rattle.ps_hoa.proofs.signs.mark_of.Goals as goal
 
 pub returns-else-is_kind : goal.returns-else-is_kind

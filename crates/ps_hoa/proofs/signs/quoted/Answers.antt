@@ -1,6 +1,6 @@
 use Rattle.std.proofs.Common.{false}
 use Rattle.ps_hoa.specs.Header.{unescaped}
-use Rattle.ps_hoa.proofs.HeaderSigns.{reads_token, signs_string}
+use Rattle.ps_hoa.proofs.Grammar.HeaderSigns.{reads_token, signs_string}
 use Rattle.ps_hoa.proofs.signs.quoted.Goals as goal
 
 pub returns : goal.returns

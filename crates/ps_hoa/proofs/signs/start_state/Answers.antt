@@ -7,10 +7,10 @@ use Rattle.ps_hoa.specs.Operands.{number_limit}
 use Rattle.ps_hoa.specs.Scan.{stream_of, next_of}
 use Rattle.ps_hoa.specs.declared.fault.HoaCause.TheVariants.{Alternating}
 use Rattle.ps_text.specs.declared.faults.Fault.TheVariants.{Text}
-use Rattle.ps_hoa.proofs.HeaderSigns.{least_same}
-use Rattle.ps_hoa.proofs.NextSign.{next_there, next_same, start_there}
-use Rattle.ps_hoa.proofs.OperandLaws.{nothing_apart}
-use Rattle.ps_hoa.proofs.SignLaws.{laws_int}
+use Rattle.ps_hoa.proofs.Grammar.HeaderSigns.{least_same}
+use Rattle.ps_hoa.proofs.Reading.NextSign.{next_there, next_same, start_there}
+use Rattle.ps_hoa.proofs.Grammar.OperandLaws.{nothing_apart}
+use Rattle.ps_hoa.proofs.Grammar.SignLaws.{laws_int}
 use Rattle.ps_hoa.proofs.signs.start_state.Goals as goal
 
 pub returns-in_err-state : goal.returns-in_err-state

@@ -1,7 +1,7 @@
 use Rattle.ps_text.proofs.Exits.{reads_then, reads_mapped}
 use Rattle.ps_hoa.specs.Header.{string, unchanged}
-use Rattle.ps_hoa.proofs.HeaderExits.{exit, first_fails, rest_fails, value_fails}
-use Rattle.ps_hoa.proofs.HeaderLaws.{joint_name_item}
+use Rattle.ps_hoa.proofs.Reading.HeaderExits.{exit, first_fails, rest_fails, value_fails}
+use Rattle.ps_hoa.proofs.Grammar.HeaderLaws.{joint_name_item}
 use Rattle.ps_hoa.proofs.skipped.name.Goals as goal
 
 pub returns-in_err-item_name : goal.returns-in_err-item_name

@@ -4,13 +4,13 @@ use Rattle.ps_text.proofs.Branches.{many_ends, many_fails, carries_many, reads_s
 use Rattle.ps_text.proofs.Exits.{carries_start, carries_then, carries_reads, carries_stops}
 use Rattle.ps_hoa.specs.Causes.{hoa_causes}
 use Rattle.ps_hoa.specs.Header.{no_items, other_item, read_over}
-use Rattle.ps_hoa.specs.Items.{is_value}
+use Rattle.ps_hoa.specs.Inner.Items.{is_value}
 use Rattle.ps_hoa.specs.Scan.{stream_of}
-use Rattle.ps_hoa.proofs.HeaderExits.{exit, first_fails}
-use Rattle.ps_hoa.proofs.HeaderLaws.{joint_other, laws_read_over}
-use Rattle.ps_hoa.proofs.HeaderLoops.{enters_read_over, avoids_read_over}
-use Rattle.ps_hoa.proofs.OperandLaws.{Of, nothing_apart}
-use Rattle.ps_hoa.proofs.SignLaws.{is_value as is_value_sign}
+use Rattle.ps_hoa.proofs.Reading.HeaderExits.{exit, first_fails}
+use Rattle.ps_hoa.proofs.Grammar.HeaderLaws.{joint_other, laws_read_over}
+use Rattle.ps_hoa.proofs.Reading.HeaderLoops.{enters_read_over, avoids_read_over}
+use Rattle.ps_hoa.proofs.Grammar.OperandLaws.{Of, nothing_apart}
+use Rattle.ps_hoa.proofs.Grammar.SignLaws.{is_value as is_value_sign}
 use Rattle.ps_hoa.proofs.skipped.other.Goals as goal
 
 pub returns-in_err-other_name : goal.returns-in_err-other_name

@@ -1,4 +1,4 @@
-use Rattle.ps_hoa.proofs.HeaderSigns.{reads_token, signs_other}
+use Rattle.ps_hoa.proofs.Grammar.HeaderSigns.{reads_token, signs_other}
 use Rattle.ps_hoa.proofs.skipped.other_name.Goals as goal
 
 pub returns : goal.returns

@@ -1,4 +1,4 @@
-use Rattle.ps_hoa.proofs.HeaderSigns.{reads_token, signs_read_over}
+use Rattle.ps_hoa.proofs.Grammar.HeaderSigns.{reads_token, signs_read_over}
 use Rattle.ps_hoa.proofs.skipped.read_over.Goals as goal
 
 pub returns : goal.returns

@@ -5,10 +5,10 @@ use Rattle.ps_hoa.specs.Causes.{hoa_causes}
 use Rattle.ps_hoa.specs.Header.{string, unchanged}
 use Rattle.ps_hoa.specs.Scan.{stream_of}
 use Rattle.ps_hoa.specs.declared.tokens.Kind.TheVariants.{Text}
-use Rattle.ps_hoa.proofs.HeaderExits.{exit, first_fails, rest_fails, value_fails}
-use Rattle.ps_hoa.proofs.HeaderLaws.{joint_tool, joint_strings, laws_read_string, laws_no_string}
-use Rattle.ps_hoa.proofs.HeaderLoops.{avoids_at, only_string, enters_string}
-use Rattle.ps_hoa.proofs.SignLaws.{is_string}
+use Rattle.ps_hoa.proofs.Reading.HeaderExits.{exit, first_fails, rest_fails, value_fails}
+use Rattle.ps_hoa.proofs.Grammar.HeaderLaws.{joint_tool, joint_strings, laws_read_string, laws_no_string}
+use Rattle.ps_hoa.proofs.Reading.HeaderLoops.{avoids_at, only_string, enters_string}
+use Rattle.ps_hoa.proofs.Grammar.SignLaws.{is_string}
 use Rattle.ps_hoa.proofs.skipped.tool.Goals as goal
 
 pub returns-in_err-item_name : goal.returns-in_err-item_name

@@ -3,8 +3,8 @@ use Rattle.std.proofs.Common.{◌≡◌, ◌-◌, arith, length, take, drop, len
 use Rattle.std.proofs.lemmas.List.{take_all}
 use Rattle.ps_hoa.specs.declared.tokens.Step.TheVariants.{Skip}
 use Rattle.ps_hoa.specs.Scan.{step_of}
-use Rattle.ps_hoa.proofs.Scanning.{lex_step}
-use Rattle.ps_hoa.proofs.Relation.{no_blanks, more_blanks}
+use Rattle.ps_hoa.proofs.Lexing.Scanning.{lex_step}
+use Rattle.ps_hoa.proofs.Lexing.Relation.{no_blanks, more_blanks}
 use Rattle.ps_hoa.proofs.tokens.behind_blanks.Goals as goal
 
 pub loop-count-preserved : goal.loop-count-preserved

@@ -1,5 +1,5 @@
 use Rattle.std.proofs.Common.{◌∙◌, sym, length, arith}
-use Rattle.ps_hoa.proofs.Relation.{only_lex, some_tokens}
+use Rattle.ps_hoa.proofs.Lexing.Relation.{only_lex, some_tokens}
 use Rattle.ps_hoa.proofs.tokens.one_list_of_tokens.Goals as goal
 
 pub returns-clause-some : goal.returns-clause-some

@@ -1,5 +1,5 @@
 use Rattle.std.proofs.Common.{sym, ◌∙◌}
-use Rattle.ps_hoa.proofs.Scanning.{quoted_skip, quoted_ends, quoted_on, quoted_past, plus_zero}
+use Rattle.ps_hoa.proofs.Lexing.Scanning.{quoted_skip, quoted_ends, quoted_on, quoted_past, plus_zero}
 use Rattle.ps_hoa.proofs.tokens.quoted_at.Goals as goal
 use Rattle.ps_hoa.proofs.tokens.quoted_at.Goals.{then-skip, else-skip+else-byte-eq34}
 

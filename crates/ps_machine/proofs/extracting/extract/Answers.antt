@@ -5,7 +5,7 @@ use Rattle.ps_machine.specs.BuiltBoards.{board_of}
 use Rattle.ps_machine.specs.Extracting.{IsMachineOf}
 use Rattle.ps_machine.specs.Keys.{mover_of}
 use Rattle.ps_machine.specs.Machines.{behaviour}
-use Rattle.ps_machine.proofs.OneGame.{one_game_of}
+use Rattle.ps_machine.proofs.Uniqueness.OneGame.{one_game_of}
 use Rattle.ps_machine.proofs.extracting.extract.Goals as goal
 
 pub machine_of_certificate-requires : goal.machine_of_certificate-requires

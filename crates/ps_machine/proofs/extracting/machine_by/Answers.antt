@@ -5,10 +5,10 @@ use Rattle.ps_machine.specs.BuiltBoards.{board_of}
 use Rattle.ps_machine.specs.Extracting.{HasPropositions, IsMachineOf}
 use Rattle.ps_machine.specs.Keys.{mover_of}
 use Rattle.ps_machine.specs.Machines.{behaviour}
-use Rattle.ps_machine.proofs.Extracted.{assembled, has_propositions, is_machine_of, some_vertices}
-use Rattle.ps_machine.proofs.LassosAreWon.{each_lasso_won}
-use Rattle.ps_machine.proofs.MachineLemmas.{is_machine}
-use Rattle.ps_machine.proofs.OneGame.{one_game_of}
+use Rattle.ps_machine.proofs.Machines.Extracted.{assembled, has_propositions, is_machine_of, some_vertices}
+use Rattle.ps_machine.proofs.Lassos.LassosAreWon.{each_lasso_won}
+use Rattle.ps_machine.proofs.Machines.MachineLemmas.{is_machine}
+use Rattle.ps_machine.proofs.Uniqueness.OneGame.{one_game_of}
 use Rattle.ps_machine.proofs.extracting.machine_by.Goals as goal
 
 pub winner-player-requires : goal.winner-player-requires

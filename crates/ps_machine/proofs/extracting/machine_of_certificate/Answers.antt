@@ -1,6 +1,6 @@
 use Rattle.std.proofs.Common.{nat_eq, ap₂, ◌∙◌}
 use Rattle.std.proofs.lemmas.Result.{IfOk-weaker}
-use Rattle.ps_machine.proofs.Extracted.{plan_is}
+use Rattle.ps_machine.proofs.Machines.Extracted.{plan_is}
 use Rattle.ps_machine.proofs.extracting.machine_of_certificate.Goals as goal
 
 pub machine_by-requires-clause-plan : goal.machine_by-requires-clause-plan

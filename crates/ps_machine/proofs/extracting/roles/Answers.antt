@@ -3,8 +3,8 @@ use Rattle.std.specs.Global.{Global}
 use Rattle.ps_machine.specs.Boards.{is_first_of}
 use Rattle.ps_machine.specs.BuiltBoards.{board_of}
 use Rattle.ps_machine.specs.Extracting.{is_others}
-use Rattle.ps_machine.proofs.Assembling.{same_names, plays_own, reads_others}
-use Rattle.ps_machine.proofs.Listing.{listed_with, listed_without}
+use Rattle.ps_machine.proofs.Machines.Assembling.{same_names, plays_own, reads_others}
+use Rattle.ps_machine.proofs.Machines.Listing.{listed_with, listed_without}
 use Rattle.ps_machine.proofs.extracting.roles.Goals as goal
 use Rattle.ps_machine.proofs.extracting.roles.Goals.{then-is_first-moves_first+in_ok-push}
 use Rattle.ps_machine.proofs.extracting.roles.Goals.{else-is_first-moves_first+in_ok-push-2}

@@ -8,8 +8,8 @@ use Rattle.ps_machine.specs.Moving.{pair_eq}
 use Rattle.ps_machine.specs.declared.divided.Divided.{Divided}
 use Rattle.ps_machine.specs.declared.key.Key.TheVariants.{First}
 use Rattle.ps_machine.specs.declared.key.Order.{Order}
-use Rattle.ps_machine.proofs.ClassTables.{all_divided, no_classes}
-use Rattle.ps_machine.proofs.Starting.{known_start, game_is}
+use Rattle.ps_machine.proofs.Diagrams.ClassTables.{all_divided, no_classes}
+use Rattle.ps_machine.proofs.GameKeys.Starting.{known_start, game_is}
 use Rattle.ps_machine.proofs.game.divided_game_of.Goals as goal
 
 pub game_by_keys-requires : goal.game_by_keys-requires

@@ -1,4 +1,4 @@
-use Rattle.ps_machine.proofs.NamingLemmas.{range_more}
+use Rattle.ps_machine.proofs.GameKeys.NamingLemmas.{range_more}
 use Rattle.ps_machine.proofs.game.ids_of.Goals as goal
 
 pub loop-id-preserved : goal.loop-id-preserved

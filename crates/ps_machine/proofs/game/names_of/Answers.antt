@@ -1,6 +1,6 @@
 use Rattle.ps_machine.specs.BuiltBoards.{board_of}
 use Rattle.ps_machine.specs.declared.key.Key.TheVariants.{First}
-use Rattle.ps_machine.proofs.Starting.{names_more, plain_names_more}
+use Rattle.ps_machine.proofs.GameKeys.Starting.{names_more, plain_names_more}
 use Rattle.ps_machine.proofs.game.names_of.Goals as goal
 
 pub loop-key-preserved : goal.loop-key-preserved

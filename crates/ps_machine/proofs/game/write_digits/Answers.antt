@@ -2,7 +2,7 @@ use Rattle.std.proofs.Common.{ap, ◌∙◌, nat_eq}
 use Rattle.std.proofs.lemmas.Nat.Bits.{shr_and_one}
 use Rattle.ps_machine.specs.Boards.{is_first_of}
 use Rattle.ps_machine.specs.BuiltBoards.{board_of}
-use Rattle.ps_machine.proofs.NamingLemmas.{digits_more, plain_more}
+use Rattle.ps_machine.proofs.GameKeys.NamingLemmas.{digits_more, plain_more}
 use Rattle.ps_machine.proofs.game.write_digits.Goals as goal
 
 pub loop-proposition-preserved : goal.loop-proposition-preserved

@@ -1,4 +1,4 @@
-use Rattle.ps_machine.proofs.NamingLemmas.{plain_decimal}
+use Rattle.ps_machine.proofs.GameKeys.NamingLemmas.{plain_decimal}
 use Rattle.ps_machine.proofs.game.write_number.Goals as goal
 
 pub returns-clause-plain : goal.returns-clause-plain

@@ -1,4 +1,4 @@
-use Rattle.ps_machine.proofs.LassosAreWon.{each_lasso_won}
+use Rattle.ps_machine.proofs.Lassos.LassosAreWon.{each_lasso_won}
 use Rattle.ps_machine.proofs.laws.lassos_won.Goals as goal
 
 pub returns : goal.returns

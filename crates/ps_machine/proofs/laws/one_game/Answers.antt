@@ -1,4 +1,4 @@
-use Rattle.ps_machine.proofs.OneGame.{one_game_of}
+use Rattle.ps_machine.proofs.Uniqueness.OneGame.{one_game_of}
 use Rattle.ps_machine.proofs.laws.one_game.Goals as goal
 
 pub returns : goal.returns

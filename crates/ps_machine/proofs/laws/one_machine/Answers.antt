@@ -1,4 +1,4 @@
-use Rattle.ps_machine.proofs.OneMachine.{one_machine}
+use Rattle.ps_machine.proofs.Uniqueness.OneMachine.{one_machine}
 use Rattle.ps_machine.proofs.laws.one_machine.Goals as goal
 
 pub returns : goal.returns

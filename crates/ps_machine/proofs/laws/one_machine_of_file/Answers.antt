@@ -1,4 +1,4 @@
-use Rattle.ps_machine.proofs.OneFileMachine.{one_machine_of_file}
+use Rattle.ps_machine.proofs.Uniqueness.OneFileMachine.{one_machine_of_file}
 use Rattle.ps_machine.proofs.laws.one_machine_of_file.Goals as goal
 
 pub returns : goal.returns

@@ -1,4 +1,4 @@
-use Rattle.ps_machine.proofs.MemorySteps.{AreMemoriesBelow}
+use Rattle.ps_machine.proofs.Machines.MemorySteps.{AreMemoriesBelow}
 use Rattle.ps_machine.proofs.memories.remembered.Given as goal
 
 abbrev pub invariant-loop-vertex : goal.invariant-loop-vertex

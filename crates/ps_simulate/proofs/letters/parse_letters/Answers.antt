@@ -6,7 +6,7 @@ use Rattle.ps_simulate.specs.Stimuli.{letters_in, stem_of}
 use Rattle.ps_simulate.specs.StimulusTexts.{digit_of}
 use Rattle.ps_simulate.specs.StimulusReading.{HasRead}
 use Rattle.ps_simulate.proofs.LetterLists.{letters_in-push, whole-push, IsLettersAnswer-line}
-use Rattle.ps_simulate.proofs.StimulusSteps.{HasRead-letter}
+use Rattle.ps_simulate.proofs.Stimuli.StimulusSteps.{HasRead-letter}
 use Rattle.ps_simulate.proofs.letters.parse_letters.Goals as goal
 
 -- the line ends where it was found to end

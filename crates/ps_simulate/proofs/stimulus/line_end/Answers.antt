@@ -1,5 +1,5 @@
 use Rattle.std.proofs.Common.{arith}
-use Rattle.ps_simulate.proofs.LineLemmas.{lines_of-drop_ended, lines_of-drop_last}
+use Rattle.ps_simulate.proofs.Stimuli.LineLemmas.{lines_of-drop_ended, lines_of-drop_last}
 use Rattle.ps_simulate.proofs.stimulus.line_end.Goals as goal
 
 pub returns-then-text-end-eq10-clause-lines : goal.returns-then-text-end-eq10-clause-lines

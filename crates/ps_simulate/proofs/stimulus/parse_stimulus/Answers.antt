@@ -5,8 +5,8 @@ use Rattle.std.proofs.lemmas.Result.{err_from_is_err_and}
 use Rattle.ps_simulate.specs.Stimuli.{StimulusData, letters_of}
 use Rattle.ps_simulate.specs.Faults.{StimulusFault}
 use Rattle.ps_simulate.specs.StimulusTexts.{lines_of, spelled, divider, IsStimulusAnswer}
-use Rattle.ps_simulate.proofs.StimulusSteps.{HasRead-letter, HasRead-divider, HasRead-same, IsFirst-end}
-use Rattle.ps_simulate.proofs.StimulusSteps.{IsStimulusAnswer-line, at_line, letters_of-push}
+use Rattle.ps_simulate.proofs.Stimuli.StimulusSteps.{HasRead-letter, HasRead-divider, HasRead-same, IsFirst-end}
+use Rattle.ps_simulate.proofs.Stimuli.StimulusSteps.{IsStimulusAnswer-line, at_line, letters_of-push}
 use Rattle.ps_simulate.proofs.stimulus.parse_stimulus.Goals as goal
 use Rattle.ps_simulate.proofs.stimulus.parse_stimulus.Goals.{After-line_end-end}
 use Rattle.ps_simulate.proofs.stimulus.parse_stimulus.Goals.{then-split+then-not-in_lap+then-is_divider}

@@ -1,4 +1,4 @@
-use Rattle.ps_simulate.proofs.OneStimulus.{one_answer}
+use Rattle.ps_simulate.proofs.Stimuli.OneStimulus.{one_answer}
 use Rattle.ps_simulate.proofs.stimulus.stimulus_text_has_one_answer.Goals as goal
 
 pub returns : goal.returns

@@ -1,7 +1,7 @@
 use Rattle.std.proofs.Common.{ap, map, ◌∙◌}
 use Rattle.std.specs.Option.{is_some}
 use Rattle.ps_hoa.specs.Views.{row_data}
-use Rattle.ps_hoa.proofs.RowTable.{has_place_row}
+use Rattle.ps_hoa.proofs.Reading.RowTable.{has_place_row}
 use Rattle.ps_hoa.proofs.rows.Rows.has.Goals as goal
 
 pub returns : goal.returns

@@ -5,7 +5,7 @@ use Rattle.std.specs.Option.{option_copied}
 use Rattle.std.specs.Prelude.{option_map}
 use Rattle.std.proofs.lemmas.Option.{slice_get-map}
 use Rattle.ps_hoa.specs.Views.{row_data}
-use Rattle.ps_hoa.proofs.RowTable.{at_place, row_at}
+use Rattle.ps_hoa.proofs.Reading.RowTable.{at_place, row_at}
 use Rattle.ps_hoa.proofs.rows.Rows.of_state.Goals as goal
 
 pub returns-in_err-place : goal.returns-in_err-place

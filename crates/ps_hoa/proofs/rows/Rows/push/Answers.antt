@@ -3,9 +3,9 @@ use Rattle.std.proofs.Common.{◌≡◌, ◌<◌, true, cond, Bool, ◌++◌, �
 use Rattle.std.specs.Vec.{vec_len, vec_capacity}
 use Rattle.std.specs.Result.{is_ok}
 use Rattle.std.proofs.lemmas.List.{map-append, length-map}
-use Rattle.ps_hoa.specs.RowPlaces.{row_place}
+use Rattle.ps_hoa.specs.Inner.RowPlaces.{row_place}
 use Rattle.ps_hoa.specs.Views.{row_data}
-use Rattle.ps_hoa.proofs.RowTable.{nat_same, place_push}
+use Rattle.ps_hoa.proofs.Reading.RowTable.{nat_same, place_push}
 use Rattle.ps_hoa.proofs.rows.Rows.push.Goals as goal
 
 pub invariant_of-self-2-clause-places_are : goal.invariant_of-self-2-clause-places_are

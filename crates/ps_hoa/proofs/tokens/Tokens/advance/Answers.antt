@@ -2,7 +2,7 @@ use Rattle.std.proofs.Common.{◌≡◌, ◌∙◌, sym, ap, List, ℕ, drop}
 use Rattle.ps_hoa.specs.Tokens.{marks_after}
 use Rattle.ps_hoa.specs.Scan.{Reading, lex}
 use Rattle.ps_hoa.specs.declared.tokens.Marks.{Marks}
-use Rattle.ps_hoa.proofs.Streams.{next_is, rest_is, piece_same, stream_same}
+use Rattle.ps_hoa.proofs.Lexing.Streams.{next_is, rest_is, piece_same, stream_same}
 use Rattle.ps_hoa.proofs.tokens.Tokens.advance.Goals as goal
 
 pub returns-clause-next : goal.returns-clause-next

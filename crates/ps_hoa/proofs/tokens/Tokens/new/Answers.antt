@@ -1,5 +1,5 @@
-use Rattle.ps_hoa.proofs.Streams.{pieces_new, end_is}
-use Rattle.ps_hoa.proofs.Relation.{only_lex}
+use Rattle.ps_hoa.proofs.Lexing.Streams.{pieces_new, end_is}
+use Rattle.ps_hoa.proofs.Lexing.Relation.{only_lex}
 use Rattle.std.proofs.Common.{sym, drop}
 use Rattle.ps_hoa.proofs.tokens.Tokens.new.Goals as goal
 

@@ -1,5 +1,5 @@
 use Rattle.std.proofs.Common.{◌∙◌, sym}
-use Rattle.ps_hoa.proofs.Streams.{next_is, finish_iff, piece_same}
+use Rattle.ps_hoa.proofs.Lexing.Streams.{next_is, finish_iff, piece_same}
 use Rattle.ps_hoa.proofs.tokens.Tokens.peek.Goals as goal
 
 pub returns-clause-next : goal.returns-clause-next

@@ -5,10 +5,10 @@ use Rattle.ps_diagram.specs.Table.{Table, Keeps}
 use Rattle.ps_machine.specs.BuiltBoards.{board_of}
 use Rattle.ps_machine.specs.Dividing.{AreClassesOf}
 use Rattle.ps_machine.specs.Drawing.{IsDrawn, IsOwn}
-use Rattle.ps_machine.proofs.ClassTables.{classes_at, is_divided}
-use Rattle.ps_machine.proofs.Exploring.{both_ok}
-use Rattle.ps_machine.proofs.FirstDrawing.{class_listed, left_behind, entered, all_noted, drawn_first, renamed}
-use Rattle.ps_machine.proofs.FirstDrawing.{renamed_within}
+use Rattle.ps_machine.proofs.Diagrams.ClassTables.{classes_at, is_divided}
+use Rattle.ps_machine.proofs.GameKeys.Exploring.{both_ok}
+use Rattle.ps_machine.proofs.Diagrams.FirstDrawing.{class_listed, left_behind, entered, all_noted, drawn_first, renamed}
+use Rattle.ps_machine.proofs.Diagrams.FirstDrawing.{renamed_within}
 use Rattle.ps_machine.proofs.drawing.Drawing.first_node.Goals as goal
 
 pub of-requires : goal.of-requires

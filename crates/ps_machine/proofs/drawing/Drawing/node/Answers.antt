@@ -1,7 +1,7 @@
 use Rattle.std.proofs.Common.{◌<◌, List, length, get_or, ap, sym, subst, ◌∙◌, arith}
 use Rattle.ps_machine.specs.declared.key.Key.{Key}
 use Rattle.ps_machine.specs.declared.key.Key.TheVariants.{First}
-use Rattle.ps_machine.proofs.DrawingLemmas.{kept_within, kept_stands, kept_not_second}
+use Rattle.ps_machine.proofs.Diagrams.DrawingLemmas.{kept_within, kept_stands, kept_not_second}
 use Rattle.ps_machine.proofs.drawing.Drawing.node.Goals as goal
 
 pub bounds : goal.bounds

@@ -8,8 +8,8 @@ use Rattle.ps_machine.specs.Numbering.{StandsAt}
 use Rattle.ps_machine.specs.declared.key.Key.TheVariants.{First}
 use Rattle.ps_machine.specs.contracts.machine.RowPartialEq.TheImpl as row_eq
 use Rattle.ps_machine.specs.declared.machine.Row.{Row}
-use Rattle.ps_machine.proofs.FirstDrawing.{add_row, note_more}
-use Rattle.ps_machine.proofs.RowTests.{same_row}
+use Rattle.ps_machine.proofs.Diagrams.FirstDrawing.{add_row, note_more}
+use Rattle.ps_machine.proofs.Diagrams.RowTests.{same_row}
 use Rattle.ps_machine.proofs.drawing.Drawing.place_rows.Goals as goal
 
 pub returns-in_err-note-clause-same_rows : goal.returns-in_err-note-clause-same_rows

@@ -1,6 +1,6 @@
 use Rattle.std.proofs.Common.{◌≡◌}
 use Rattle.ps_machine.specs.BuiltBoards.{board_of}
-use Rattle.ps_machine.proofs.FirstDrawing.{AreNoted}
+use Rattle.ps_machine.proofs.Diagrams.FirstDrawing.{AreNoted}
 use Rattle.ps_machine.proofs.drawing.Drawing.place_rows.Given as goal
 
 -- the rows of the leaves that were looked at are noted

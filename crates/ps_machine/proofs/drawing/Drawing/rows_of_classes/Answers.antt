@@ -8,8 +8,8 @@ use Rattle.ps_machine.specs.Drawing.{IsRow, KeepsRows}
 use Rattle.ps_machine.specs.Planning.{IsRestBy}
 use Rattle.ps_machine.specs.declared.machine.Row.{Row}
 use Rattle.ps_machine.specs.contracts.machine.RowPartialEq.TheImpl as row_eq
-use Rattle.ps_machine.proofs.DrawingLemmas.{all_rows, keeps_rows, keeps_rows_same, keeps_rows_trans}
-use Rattle.ps_machine.proofs.SecondDrawing.{Names, answer_row, named_next}
+use Rattle.ps_machine.proofs.Diagrams.DrawingLemmas.{all_rows, keeps_rows, keeps_rows_same, keeps_rows_trans}
+use Rattle.ps_machine.proofs.Diagrams.SecondDrawing.{Names, answer_row, named_next}
 use Rattle.ps_machine.proofs.drawing.Drawing.rows_of_classes.Goals as goal
 
 pub loop-class-init : goal.loop-class-init

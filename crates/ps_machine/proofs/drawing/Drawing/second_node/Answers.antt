@@ -9,10 +9,10 @@ use Rattle.ps_machine.specs.Dividing.{AreClassesOf}
 use Rattle.ps_machine.specs.Drawing.{IsDrawn}
 use Rattle.ps_machine.specs.Planning.{IsRestBy}
 use Rattle.ps_machine.proofs.BoardSteps.{class_rests}
-use Rattle.ps_machine.proofs.ClassTables.{classes_at, is_divided}
-use Rattle.ps_machine.proofs.DrawingLemmas.{kept_used}
-use Rattle.ps_machine.proofs.Exploring.{both_ok}
-use Rattle.ps_machine.proofs.SecondDrawing.{Names, class_each, drawn_second, places_within}
+use Rattle.ps_machine.proofs.Diagrams.ClassTables.{classes_at, is_divided}
+use Rattle.ps_machine.proofs.Diagrams.DrawingLemmas.{kept_used}
+use Rattle.ps_machine.proofs.GameKeys.Exploring.{both_ok}
+use Rattle.ps_machine.proofs.Diagrams.SecondDrawing.{Names, class_each, drawn_second, places_within}
 use Rattle.ps_machine.proofs.drawing.Drawing.second_node.Goals as goal
 
 pub of-classes-requires : goal.of-classes-requires

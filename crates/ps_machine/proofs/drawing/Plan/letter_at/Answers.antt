@@ -1,8 +1,8 @@
 use Rattle.std.proofs.Common.{◌<◌, List, length, get_or, ap, sym, subst, ◌∙◌, arith, is_some}
 use Rattle.ps_machine.specs.declared.key.Key.{Key}
 use Rattle.ps_machine.specs.declared.key.Key.TheVariants.{First}
-use Rattle.ps_machine.proofs.DrawingLemmas.{kept_entry}
-use Rattle.ps_machine.proofs.FirstDrawing.{has_choice, chosen_within, chosen_not_first, plays_class}
+use Rattle.ps_machine.proofs.Diagrams.DrawingLemmas.{kept_entry}
+use Rattle.ps_machine.proofs.Diagrams.FirstDrawing.{has_choice, chosen_within, chosen_not_first, plays_class}
 use Rattle.ps_machine.proofs.drawing.Plan.letter_at.Goals as goal
 
 pub choice-requires : goal.choice-requires

@@ -4,9 +4,9 @@ use Rattle.std.proofs.lemmas.Bool.{eqb-true}
 use Rattle.ps_machine.specs.Drawing.{mark_of}
 use Rattle.ps_machine.specs.Numbering.{StandsAt}
 use Rattle.ps_machine.specs.declared.key.Key.TheVariants.{First}
-use Rattle.ps_machine.proofs.DrawingLemmas.{at_position, has_key, has_mark, stands_for}
-use Rattle.ps_machine.proofs.KeyTests.{same_key}
-use Rattle.ps_machine.proofs.Rounds.{one_place}
+use Rattle.ps_machine.proofs.Diagrams.DrawingLemmas.{at_position, has_key, has_mark, stands_for}
+use Rattle.ps_machine.proofs.GameKeys.KeyTests.{same_key}
+use Rattle.ps_machine.proofs.Lassos.Rounds.{one_place}
 use Rattle.ps_machine.proofs.drawing.Plan.memory_behind.Goals as goal
 
 pub unwrap-vertex-requires : goal.unwrap-vertex-requires

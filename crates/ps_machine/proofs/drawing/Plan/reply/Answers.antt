@@ -1,8 +1,8 @@
 use Rattle.std.proofs.Common.{refl, sym, subst, ◌∙◌}
 use Rattle.std.specs.Prelude.{IsSome}
 use Rattle.ps_machine.specs.declared.key.Key.TheVariants.{First, Second}
-use Rattle.ps_machine.proofs.DrawingLemmas.{has_key, not_both}
-use Rattle.ps_machine.proofs.SecondDrawing.{found_at, replies, reply_choice, reply_key, reply_is, reply_enters}
+use Rattle.ps_machine.proofs.Diagrams.DrawingLemmas.{has_key, not_both}
+use Rattle.ps_machine.proofs.Diagrams.SecondDrawing.{found_at, replies, reply_choice, reply_key, reply_is, reply_enters}
 use Rattle.ps_machine.proofs.drawing.Plan.reply.Goals as goal
 
 pub unwrap-at-requires : goal.unwrap-at-requires

@@ -1,4 +1,4 @@
-use Rattle.ps_machine.proofs.MemorySteps.{keeps_known}
+use Rattle.ps_machine.proofs.Machines.MemorySteps.{keeps_known}
 use Rattle.ps_machine.proofs.memories.Memories.keep.Goals as goal
 
 pub returns-else-branch : goal.returns-else-branch

@@ -1,0 +1,14 @@
+-- The laws of the parts of a text: which sign each begins with, and how parts are joined.
+
+pub mod SignLaws
+pub mod OperandLaws
+pub mod LabelLaws
+pub mod ConditionLaws
+pub mod HeaderSigns
+pub mod ItemNames
+pub mod ItemChoice
+pub mod HeaderLaws
+pub mod WholeHeader
+pub mod BodyLaws
+pub mod StateLaws
+pub mod FileLaws

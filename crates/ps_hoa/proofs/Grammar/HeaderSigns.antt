@@ -1,0 +1,135 @@
+-- The single signs of a header, as parts of one sign.
+--     reads_token      what is answered to the next token is the reading of its part
+--     signs_mark, .., signs_body      some sign is taken, and the end of the text is neither taken nor bad
+--     takes_refused, takes_bad      what is answered to a sign that can't stand, and to one that is bad
+use Rattle.std.proofs.Common.{◌≡◌, ℕ, ◌≤◌, Bool, true, false, cond, List, [], codes, Option, None, Some, Result, Err}
+use Rattle.std.proofs.Common.{refl, sym, ap, subst, inl, inr, arith}
+use Rattle.std.proofs.lemmas.Slice.Eq.{bytes_eq-Decides}
+use Rattle.ps_text.specs.Answers.{Piece, Stream}
+use Rattle.ps_text.specs.Parts.{one, NoBad, refusal_of}
+use Rattle.ps_text.specs.Readers.{Meets}
+use Rattle.ps_hoa.specs.Causes.{cause_number, hoa_causes, found_of}
+use Rattle.ps_hoa.specs.Inner.Flaws.{body_in}
+use Rattle.ps_hoa.specs.Header.{HeaderData, int_in, IsAbove, string_in, IsBadName, IsBadAlias, IsSecondStart, IsBadBody}
+use Rattle.ps_hoa.specs.Inner.Items.{start_name_in, alias_name_in, read_over_in, other_in}
+use Rattle.ps_hoa.specs.Operands.{mark_in, number_limit}
+use Rattle.ps_hoa.specs.Inner.Reads.{Takes}
+use Rattle.ps_hoa.specs.Scan.{next_of, behind_next}
+use Rattle.ps_hoa.specs.Inner.Signs.{IsTestOf, name_in}
+use Rattle.ps_hoa.specs.Tokens.{Sign}
+use Rattle.ps_hoa.specs.declared.fault.HoaCause.{HoaCause}
+use Rattle.ps_hoa.specs.Causes.{HoaFault}
+use Rattle.ps_text.specs.declared.faults.Fault.TheVariants.{Text as Fault}
+use Rattle.ps_hoa.specs.declared.tokens.Kind.{Kind}
+use Rattle.ps_hoa.specs.declared.tokens.Kind.TheVariants.{Header, Int, Text, Word, AliasName, Body, Finish}
+use Rattle.ps_hoa.proofs.Reading.SingleSigns.{IsOfSigns, reads_one}
+
+pub reads_token : {V X : Type 0} (view : X → V) {take : Sign → Option V} {Bad : Sign → HoaCause → Type 0} →
+    IsOfSigns take Bad → (piece : Piece Sign) (old new : Stream Sign) (r : Result X HoaFault) →
+    Takes view take Bad piece r → piece ≡ next_of old → new ≡ behind_next old →
+    Meets found_of hoa_causes view (one take Bad) old r new
+reads_token view {take} {Bad} o piece old new r t e n =
+    reads_one view o old new r (subst (λ p. Takes view take Bad p r) e t) n
+
+-- a test that the end of the text does not pass
+no_finish : (test : Kind → Bool) (kind : Kind) → IsTestOf test kind → (kind ≡ Finish → ⊥) → test Finish ≡ false
+no_finish test kind is differs = go (test Finish) refl
+  where
+    go : (b : Bool) → test Finish ≡ b → test Finish ≡ false
+    go true e = absurd (differs (sym (is.1 Finish e)))
+    go false e = e
+
+pub signs_mark : (test : Kind → Bool) (kind : Kind) → IsTestOf test kind → (kind ≡ Finish → ⊥) →
+    IsOfSigns (mark_in test) NoBad
+signs_mark test kind is differs = record {
+  sign = record { kind = kind; text = [] };
+  value = tt;
+  taken = ap (λ (b : Bool). cond b (Some tt) None) is.0;
+  end = ap (λ (b : Bool). cond b (Some tt) None) (no_finish test kind is differs);
+  good = λ f b. b;
+}
+
+pub signs_name : (name : List ℕ) → IsOfSigns (name_in name) NoBad
+signs_name name = record {
+  sign = record { kind = Header; text = name };
+  value = tt;
+  taken = ap (λ (b : Bool). cond b (Some tt) None) ((bytes_eq-Decides name name).1 refl);
+  end = refl;
+  good = λ f b. b;
+}
+
+pub signs_int : (limit : ℕ) → IsOfSigns int_in (IsAbove limit)
+signs_int limit =
+    record { sign = record { kind = Int; text = [] }; value = _; taken = refl; end = refl; good = λ f b. b.1 refl }
+
+pub signs_string : IsOfSigns string_in NoBad
+signs_string = record { sign = record { kind = Text; text = [] }; value = _; taken = refl; end = refl; good = λ f b. b }
+
+pub signs_new_name : (names : List (List ℕ)) → IsOfSigns string_in (IsBadName names)
+signs_new_name names =
+    record { sign = record { kind = Text; text = [] }; value = _; taken = refl; end = refl; good = λ f b. b.1 refl }
+
+pub signs_start : (h : HeaderData) → IsOfSigns start_name_in (IsSecondStart h)
+signs_start h =
+    record {
+      sign = record { kind = Header; text = codes "Start:" };
+      value = tt;
+      taken = refl;
+      end = refl;
+      good = λ f b. b.0 refl;
+    }
+
+pub signs_alias : (names : List (List ℕ)) → IsOfSigns alias_name_in (IsBadAlias names)
+signs_alias names =
+    record {
+      sign = record { kind = AliasName; text = [] };
+      value = _;
+      taken = refl;
+      end = refl;
+      good = λ f b. b.1 refl;
+    }
+
+pub signs_other : IsOfSigns other_in NoBad
+signs_other =
+    record { sign = record { kind = Header; text = codes "a:" }; value = tt; taken = refl; end = refl; good = λ f b. b }
+
+pub signs_read_over : (h : HeaderData) → IsOfSigns (read_over_in h) (IsAbove number_limit)
+signs_read_over h =
+    record { sign = record { kind = Word; text = [] }; value = h; taken = refl; end = refl; good = λ f b. b.1 refl }
+
+pub signs_body : (h : HeaderData) → IsOfSigns (body_in h) (IsBadBody h)
+signs_body h =
+    record { sign = record { kind = Body; text = [] }; value = h; taken = refl; end = refl; good = λ f b. cc }
+
+-- ## What is answered to one token
+
+module _ {V X : Type 0} (view : X → V) (take : Sign → Option V) (Bad : Sign → HoaCause → Type 0) (piece : Piece Sign)
+    (e : HoaFault) where
+  pub takes_refused : take piece.sign ≡ None → ((g : HoaCause) → Bad piece.sign g → ⊥) →
+      e ≡ Fault (refusal_of hoa_causes (Some piece.sign)) piece.start → Takes view take Bad piece (Err e)
+  takes_refused none good is =
+      subst (λ f. Takes view take Bad piece (Err f)) (sym is) (
+        refl,
+        inr (record { none = none; good = good; cause = refl }),
+      )
+
+  pub takes_bad : (f : HoaCause) → Bad piece.sign f → ((g : HoaCause) → Bad piece.sign g →
+      cause_number f ≤ cause_number g) → e ≡ Fault f piece.start → Takes view take Bad piece (Err e)
+  takes_bad f bad least is =
+      subst (λ y. Takes view take Bad piece (Err y)) (sym is) (refl, inl (record { stands = bad; least = least }))
+
+-- the only cause that there is
+pub least_same : (f g : HoaCause) → g ≡ f → cause_number f ≤ cause_number g
+least_same f g e = subst (λ z. cause_number f ≤ cause_number z) (sym e) (omega arith)
+
+abbrev no_value : Option (Unit {0})
+no_value = None
+
+-- a sign of another kind
+pub mark_none : (test : Kind → Bool) (kind : Kind) (sign : Sign) → IsTestOf test kind → (sign.kind ≡ kind → ⊥) →
+    mark_in test sign ≡ None
+mark_none test kind sign is differs = go (test sign.kind) refl
+  where
+    go : (b : Bool) → test sign.kind ≡ b → cond b (Some tt) None ≡ no_value
+    go true e = absurd (differs (is.1 sign.kind e))
+    go false e = refl

@@ -1,0 +1,348 @@
+-- What a step over the bytes says of them: a blank part, or a token that is the longest one.
+--     sound      of the step at any bytes
+--     begins_is      of a word with which bytes begin
+use Rattle.std.proofs.Common.{◌≡◌, ◌≢◌, ℕ, suc, zero, ◌+◌, ◌<◌, ◌≤◌, ◌&&◌, Bool, true, false, cond, List, [], ◌∷◌, ◌++◌}
+use Rattle.std.proofs.Common.{length, take, drop, subst, min, length-take, refl, ap, sym, ◌∙◌, arith, inl, inr}
+use Rattle.std.specs.Prelude.{Option, None, Some, codes, nat_eq, nat_lt}
+use Rattle.std.specs.List.{prefix_len}
+use Rattle.std.proofs.lemmas.Bool.{eqb-true, eq-eqb, ltb-true}
+use Rattle.std.proofs.lemmas.Slice.Eq.{bytes_eq-Decides}
+use Rattle.std.proofs.lemmas.List.Folds.{length-prefix_len}
+use Rattle.ps_hoa.specs.Bytes.{is_between, class_of, is_digit, is_name_byte, digits}
+use Rattle.ps_hoa.specs.Tokens.{IsBlankPart, lengthens, StopsBefore, Stands, IsToken}
+use Rattle.ps_hoa.specs.Scan.{comment_len, quoted_len, head_or_zero, step_of, class_step, name_step, text_by}
+use Rattle.ps_hoa.specs.Scan.{comment_by, mark_step, begins_with, comment_step, alias_step, text_step}
+use Rattle.ps_hoa.specs.declared.tokens.Kind.{Kind}
+use Rattle.ps_hoa.specs.declared.tokens.Kind.TheVariants.{Header, Word, Text, Not, And, Or, LeftParen, RightParen}
+use Rattle.ps_hoa.specs.declared.tokens.Kind.TheVariants.{LeftBracket, RightBracket, LeftBrace, RightBrace, Body, End}
+use Rattle.ps_hoa.specs.declared.tokens.Kind.TheVariants.{Abort, Odd}
+use Rattle.ps_hoa.specs.declared.tokens.Class.{Class}
+use Rattle.ps_hoa.specs.declared.tokens.Class.TheVariants.{Blank, Digit, Letter, At, Quote, Dash, Slash, Sign as SignOf}
+use Rattle.ps_hoa.specs.declared.tokens.Class.TheVariants.{Other}
+use Rattle.ps_hoa.specs.declared.tokens.Step.{Step}
+use Rattle.ps_hoa.specs.declared.tokens.Step.TheVariants.{Skip, Found}
+use Rattle.ps_hoa.proofs.Lexing.TokenSteps.{class_47, step_is, by_class, run_sound, comment_found, zero_test}
+use Rattle.ps_hoa.proofs.Lexing.TokenSteps.{stand_step}
+use Rattle.ps_hoa.proofs.Lexing.Enclosed.{comment_sound, quoted_sound}
+
+-- ## What a class says of its byte
+
+abbrev is_sign : Kind → Bool
+is_sign Not = true
+is_sign And = true
+is_sign Or = true
+is_sign LeftParen = true
+is_sign RightParen = true
+is_sign LeftBracket = true
+is_sign RightBracket = true
+is_sign LeftBrace = true
+is_sign RightBrace = true
+is_sign kind = false
+
+abbrev Tells : ℕ → Class → Type 0
+Tells b At = b ≡ 64
+Tells b Quote = b ≡ 34
+Tells b Dash = b ≡ 45
+Tells b Slash = b ≡ 47
+Tells b (SignOf kind) = is_sign kind ≡ true
+Tells b class = Unit {0}
+
+chosen : (b : ℕ) (t : Bool) (x y : Class) → (t ≡ true → Tells b x) → Tells b y → Tells b (cond t x y)
+chosen b true x y p q = p refl
+chosen b false x y p q = q
+
+class_tells : (b : ℕ) → Tells b (class_of b)
+unfolding class_of
+class_tells b =
+    chosen b (is_between 9 13 b) Blank _ (λ _. tt)
+    (chosen b (nat_eq b 32) Blank _ (λ _. tt)
+    (chosen b (is_between 48 57 b) Digit _ (λ _. tt)
+    (chosen b (is_between 97 122 b) Letter _ (λ _. tt)
+    (chosen b (is_between 65 90 b) Letter _ (λ _. tt)
+    (chosen b (nat_eq b 95) Letter _ (λ _. tt)
+    (chosen b (nat_eq b 64) At _ (λ t. eqb-true b 64 t)
+    (chosen b (nat_eq b 34) Quote _ (λ t. eqb-true b 34 t)
+    (chosen b (nat_eq b 45) Dash _ (λ t. eqb-true b 45 t)
+    (chosen b (nat_eq b 47) Slash _ (λ t. eqb-true b 47 t)
+    (chosen b (nat_eq b 33) (SignOf Not) _ (λ _. refl)
+    (chosen b (nat_eq b 38) (SignOf And) _ (λ _. refl)
+    (chosen b (nat_eq b 124) (SignOf Or) _ (λ _. refl)
+    (chosen b (nat_eq b 40) (SignOf LeftParen) _ (λ _. refl)
+    (chosen b (nat_eq b 41) (SignOf RightParen) _ (λ _. refl)
+    (chosen b (nat_eq b 91) (SignOf LeftBracket) _ (λ _. refl)
+    (chosen b (nat_eq b 93) (SignOf RightBracket) _ (λ _. refl)
+    (chosen b (nat_eq b 123) (SignOf LeftBrace) _ (λ _. refl)
+    (chosen b (nat_eq b 125) (SignOf RightBrace) _ (λ _. refl)
+    (tt)))))))))))))))))))
+
+abbrev pub Sound : List ℕ → Step → Type 0
+Sound bytes (Skip n) = IsBlankPart (take n bytes) × (n ≤ length bytes) × (0 < n)
+Sound bytes (Found kind n) = IsToken kind (take n bytes) (drop n bytes) × (n ≤ length bytes) × (0 < n)
+
+-- a byte that begins nothing
+odd_here : (b : ℕ) (bs : List ℕ) → step_of (b ∷ bs) ≡ Found Odd 1 → Sound (b ∷ bs) (Found Odd 1)
+odd_here b bs is = (
+  record {
+    byte = b;
+    text_is = refl;
+    no_blank = λ e. not_skip 1 (sym (by_class b bs Blank e) ∙ is);
+    no_comment =
+        λ more e. not_comment (comment_len more false 0) (sym (by_class 47 (42 ∷ more) Slash class_47)
+        ∙ ap step_of (sym e) ∙ is);
+    no_token =
+        λ kind token more e stands. not_token kind token more stands
+        (sym (stand_step kind token more stands).0 ∙ ap step_of (sym e) ∙ is);
+  },
+  omega arith,
+  omega arith,
+)
+  where
+    not_skip : (n : ℕ) → Skip n ≡ Found Odd 1 → ⊥
+    not_skip n e = cc
+
+    not_comment : (o : Option ℕ) → comment_by o ≡ Found Odd 1 → ⊥
+    not_comment None e = cc
+    not_comment (Some n) e = cc
+
+    odd_form : (kind : Kind) (token more : List ℕ) → kind ≡ Odd → Stands kind token more → ⊥
+    odd_form kind token more e stands = (rw e at stands).form
+
+    not_token : (kind : Kind) (token more : List ℕ) → Stands kind token more →
+        Found kind (length token) ≡ Found Odd 1 → ⊥
+    not_token kind token more stands e = odd_form kind token more (let k : kind ≡ Odd = cc in k) stands
+
+-- the test by which a step is chosen
+cond_sound : (bytes : List ℕ) (t : Bool) (x y : Step) → (t ≡ true → Sound bytes x) → (t ≡ false → Sound bytes y) →
+    Sound bytes (cond t x y)
+cond_sound bytes true x y p q = p refl
+cond_sound bytes false x y p q = q refl
+
+and_true : (p q : Bool) → (p && q) ≡ true → (p ≡ true) × (q ≡ true)
+and_true true true h = (refl, refl)
+and_true true false h = cc
+and_true false q h = cc
+
+stops_never : (kind : Kind) → ((b : ℕ) → lengthens kind b ≡ false) → (rest : List ℕ) → StopsBefore (lengthens kind) rest
+stops_never kind h [] = tt
+stops_never kind h (b ∷ rest) = h b
+
+number_sound : (b : ℕ) (bs : List ℕ) → class_of b ≡ Digit → Sound (b ∷ bs) (class_step Digit b bs)
+number_sound b bs e =
+    let k = prefix_len is_digit bs in
+    let r = run_sound is_digit bs in
+    let within = r.2 in
+    let len : length (take k bs) ≡ k = length-prefix_len is_digit bs in
+    let one : 1 + k ≡ suc k = omega arith in
+    let digit : is_digit b ≡ true = ap digits e in
+    cond_sound (b ∷ bs) (nat_eq b 48 && nat_lt 0 k) _ _
+    (λ t. let h = and_true (nat_eq b 48) (nat_lt 0 k) t in let some : 0 < k = ltb-true 0 k h.1 in
+    rw one (
+      record {
+        form = (
+          let long : 1 < suc (length (take k bs)) = omega arith in long,
+          (digit, r.0),
+          eqb-true b 48 h.0,
+        );
+        longest = r.1;
+      },
+      omega arith,
+      omega arith,
+    ))
+    (λ t. rw one (
+      record {
+        form = (
+          let some : 0 < suc (length (take k bs)) = omega arith in some,
+          (digit, r.0),
+          λ long zero'. plain_form b k t (rw len at long) zero',
+        );
+        longest = r.1;
+      },
+      omega arith,
+      omega arith,
+    ))
+  where
+    plain_form : (b k : ℕ) → (nat_eq b 48 && nat_lt 0 k) ≡ false → 1 < suc k → b ≡ 48 → ⊥
+    plain_form b k t long e = let both = sym (zero_test b k e long) ∙ t in cc
+
+-- a byte that stands behind a front
+take_head : (k : ℕ) (bs : List ℕ) (c : ℕ) → 0 < c → head_or_zero (drop k bs) ≡ c →
+    (take (suc k) bs ≡ take k bs ++ c ∷ []) × (suc k ≤ length bs)
+take_head zero [] c some e = absurd (omega arith)
+take_head zero (b ∷ bs) c some e = (ap (λ (x : ℕ). x ∷ []) e, omega arith)
+take_head (suc k) [] c some e = absurd (omega arith)
+take_head (suc k) (b ∷ bs) c some e =
+    let r = take_head k bs c some e in let l = r.1 in (ap (λ (xs : List ℕ). b ∷ xs) r.0, omega arith)
+
+word_stops : (rest : List ℕ) → StopsBefore is_name_byte rest → nat_eq (head_or_zero rest) 58 ≡ false →
+    StopsBefore (lengthens Word) rest
+word_stops [] s e = tt
+word_stops (c ∷ rest) s e = rw (s, e) refl
+
+name_sound : (b : ℕ) (bs : List ℕ) → class_of b ≡ Letter → Sound (b ∷ bs) (name_step bs)
+name_sound b bs e =
+    let k = prefix_len is_name_byte bs in
+    let r = run_sound is_name_byte bs in
+    let within = r.2 in
+    let one : 1 + k ≡ suc k = omega arith in
+    let two : 2 + k ≡ suc (suc k) = omega arith in
+    cond_sound (b ∷ bs) (nat_eq (head_or_zero (drop k bs)) 58) _ _
+    (λ t. let h = take_head k bs 58 (omega arith) (eqb-true _ 58 t) in let w = h.1 in
+    rw two (
+      record {
+        form = (b ∷ take k bs, (e, r.0), ap (λ (xs : List ℕ). b ∷ xs) h.0);
+        longest = stops_never Header (λ c. refl) (drop (suc k) bs);
+      },
+      omega arith,
+      omega arith,
+    ))
+    (λ t. rw one (record { form = (e, r.0); longest = word_stops (drop k bs) r.1 t }, omega arith, omega arith))
+
+tells_of : (b : ℕ) (c : Class) → class_of b ≡ c → Tells b c
+tells_of b c e = subst (λ (k : Class). Tells b k) e (class_tells b)
+
+alias_sound : (b : ℕ) (bs : List ℕ) → class_of b ≡ At → Sound (b ∷ bs) (alias_step bs)
+alias_sound b bs e =
+    let k = prefix_len is_name_byte bs in
+    let r = run_sound is_name_byte bs in
+    let within = r.2 in
+    let len : length (take k bs) ≡ k = length-prefix_len is_name_byte bs in
+    let one : 1 + k ≡ suc k = omega arith in
+    let at : b ≡ 64 = tells_of b At e in
+    cond_sound (b ∷ bs) (nat_eq k 0) _ _
+    (λ t. odd_here b bs (by_class b bs At e ∙ rw t refl))
+    (λ t. let some : k ≢ 0 = λ z. wrong (sym (eq-eqb k 0 z) ∙ t) in
+    rw one (
+      record {
+        form = (
+          take k bs,
+          (let more : 0 < length (take k bs) = omega arith in more),
+          r.0,
+          ap (λ (x : ℕ). x ∷ take k bs) at,
+        );
+        longest = r.1;
+      },
+      omega arith,
+      omega arith,
+    ))
+  where
+    wrong : true ≡ false → ⊥
+    wrong e = cc
+
+text_sound : (b : ℕ) (bs : List ℕ) → class_of b ≡ Quote → Sound (b ∷ bs) (text_step bs)
+text_sound b bs e = go (quoted_len bs false) refl
+  where
+    go : (o : Option ℕ) → quoted_len bs false ≡ o → Sound (b ∷ bs) (text_by o)
+    go None is = odd_here b bs (by_class b bs Quote e ∙ ap text_by is)
+    go (Some n) is =
+        let q = quoted_sound (length bs) bs n (omega arith) is in
+        let within = q.3 in
+        let one : 1 + n ≡ suc n = omega arith in
+        let quote : b ≡ 34 = tells_of b Quote e in
+        rw one (
+          record {
+            form = (q.0, q.1, (λ i. quote i ∷ q.2 i));
+            longest = stops_never Text (λ c. refl) (drop n bs);
+          },
+          omega arith,
+          omega arith,
+        )
+
+pub begins_is : (bs word : List ℕ) → begins_with bs word ≡ true →
+    (take (length word) bs ≡ word) × (length word ≤ length bs)
+begins_is bs word t =
+    let e = (bytes_eq-Decides (take (length word) bs) word).0 t in (
+      e,
+      (let l : min (length word) (length bs) ≡ length word = sym (length-take (length word) bs)
+          ∙ ap length e in omega arith),
+    )
+
+mark_sound : (b : ℕ) (bs : List ℕ) → class_of b ≡ Dash → Sound (b ∷ bs) (mark_step bs)
+mark_sound b bs e =
+    let dash : b ≡ 45 = tells_of b Dash e in
+    cond_sound (b ∷ bs) (begins_with bs (codes "-BODY--")) _ _
+    (λ t. let w = begins_is bs (codes "-BODY--") t in let l = w.1 in
+    (record { form = (λ i. dash i ∷ w.0 i); longest = stops_never Body (λ c. refl) _ }, omega arith, omega arith))
+    (λ t1. cond_sound (b ∷ bs) (begins_with bs (codes "-END--")) _ _
+    (λ t. let w = begins_is bs (codes "-END--") t in let l = w.1 in
+    (record { form = (λ i. dash i ∷ w.0 i); longest = stops_never End (λ c. refl) _ }, omega arith, omega arith))
+    (λ t2. cond_sound (b ∷ bs) (begins_with bs (codes "-ABORT--")) _ _
+    (λ t. let w = begins_is bs (codes "-ABORT--") t in let l = w.1 in
+    (record { form = (λ i. dash i ∷ w.0 i); longest = stops_never Abort (λ c. refl) _ }, omega arith, omega arith))
+    (λ t3. odd_here b bs (by_class b bs Dash e ∙ tested (begins_with bs (codes "-BODY--"))
+    (begins_with bs (codes "-END--")) (begins_with bs (codes "-ABORT--")) t1 t2 t3))))
+  where
+    tested : (p q r : Bool) → p ≡ false → q ≡ false → r ≡ false →
+        cond p (Found Body 8) (cond q (Found End 7) (cond r (Found Abort 9) (Found Odd 1))) ≡ Found Odd 1
+    tested p q r e f g = rw (e, f, g) refl
+
+slash_sound : (b : ℕ) (bs : List ℕ) → class_of b ≡ Slash → Sound (b ∷ bs) (comment_step bs)
+slash_sound b [] e = odd_here b [] (by_class b [] Slash e)
+slash_sound b (c ∷ cs) e = cond_sound (b ∷ c ∷ cs) (nat_eq c 42) _ _
+    (λ t. go (eqb-true c 42 t) (comment_len cs false 0) refl)
+    (λ t. odd_here b (c ∷ cs) (by_class b (c ∷ cs) Slash e ∙ ap
+    (λ (p : Bool). cond p (comment_by (comment_len cs false 0)) (Found Odd 1)) t))
+  where
+    slash : b ≡ 47
+    slash = tells_of b Slash e
+
+    shut : (o : Option ℕ) (n : ℕ) → o ≡ None → o ≡ Some n → ⊥
+    shut o n e f = cc
+
+    go : c ≡ 42 → (o : Option ℕ) → comment_len cs false 0 ≡ o → Sound (b ∷ c ∷ cs) (comment_by o)
+    go star None is = (
+      record {
+        begins = (λ i. slash i ∷ star i ∷ []);
+        unclosed = λ comment more f closed. shut (comment_len cs false 0) (length closed.0) is (
+            let same : b ∷ c ∷ cs ≡ 47 ∷ 42 ∷ closed.0 ++ more = f ∙ ap (λ (xs : List ℕ). xs ++ more) closed.1 in
+            ap (λ (xs : List ℕ). comment_len (drop 2 xs) false 0) same ∙ comment_found more closed.2);
+      },
+      omega arith,
+      omega arith,
+    )
+    go star (Some n) is =
+        let s = comment_sound (length cs) cs 0 n (omega arith) is in
+        let within = s.1 in
+        let two : 2 + n ≡ suc (suc n) = omega arith in
+        rw two (inr (take n cs, (λ i. slash i ∷ star i ∷ take n cs), s.0), omega arith, omega arith)
+
+sign_sound : (kind : Kind) (b : ℕ) (bs : List ℕ) → class_of b ≡ SignOf kind → is_sign kind ≡ true →
+    Sound (b ∷ bs) (Found kind 1)
+sign_sound Not b bs e h =
+    (record { form = (b, refl, e); longest = stops_never Not (λ c. refl) bs }, omega arith, omega arith)
+sign_sound And b bs e h =
+    (record { form = (b, refl, e); longest = stops_never And (λ c. refl) bs }, omega arith, omega arith)
+sign_sound Or b bs e h =
+    (record { form = (b, refl, e); longest = stops_never Or (λ c. refl) bs }, omega arith, omega arith)
+sign_sound LeftParen b bs e h =
+    (record { form = (b, refl, e); longest = stops_never LeftParen (λ c. refl) bs }, omega arith, omega arith)
+sign_sound RightParen b bs e h =
+    (record { form = (b, refl, e); longest = stops_never RightParen (λ c. refl) bs }, omega arith, omega arith)
+sign_sound LeftBracket b bs e h =
+    (record { form = (b, refl, e); longest = stops_never LeftBracket (λ c. refl) bs }, omega arith, omega arith)
+sign_sound RightBracket b bs e h =
+    (record { form = (b, refl, e); longest = stops_never RightBracket (λ c. refl) bs }, omega arith, omega arith)
+sign_sound LeftBrace b bs e h =
+    (record { form = (b, refl, e); longest = stops_never LeftBrace (λ c. refl) bs }, omega arith, omega arith)
+sign_sound RightBrace b bs e h =
+    (record { form = (b, refl, e); longest = stops_never RightBrace (λ c. refl) bs }, omega arith, omega arith)
+sign_sound kind b bs e h = absurd (no_sign h)
+  where
+    no_sign : false ≡ true → ⊥
+    no_sign f = cc
+
+other_sound : (b : ℕ) (bs : List ℕ) → class_of b ≡ Other → Sound (b ∷ bs) (Found Odd 1)
+other_sound b bs e = odd_here b bs (by_class b bs Other e)
+
+pub sound : (b : ℕ) (bs : List ℕ) → Sound (b ∷ bs) (step_of (b ∷ bs))
+sound b bs = subst (λ (s : Step). Sound (b ∷ bs) s) (sym (step_is b bs)) (go (class_of b) refl)
+  where
+    go : (c : Class) → class_of b ≡ c → Sound (b ∷ bs) (class_step c b bs)
+    go Blank e = (inl (b, refl, e), omega arith, omega arith)
+    go Digit e = number_sound b bs e
+    go Letter e = name_sound b bs e
+    go At e = alias_sound b bs e
+    go Quote e = text_sound b bs e
+    go Dash e = mark_sound b bs e
+    go Slash e = slash_sound b bs e
+    go (SignOf kind) e = sign_sound kind b bs e (tells_of b (SignOf kind) e)
+    go Other e = other_sound b bs e

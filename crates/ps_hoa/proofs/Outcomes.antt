@@ -1,0 +1,11 @@
+-- Each text has one answer: its meaning, or its first cause.
+
+pub mod Judging
+pub mod Nesting
+pub mod LeastFlaws
+pub mod HeaderFlaws
+pub mod LabelOutcomes
+pub mod HeaderOutcomes
+pub mod BodyOutcomes
+pub mod OneReading
+pub mod SomeReading

@@ -1,0 +1,113 @@
+-- What is wrong with a header where `--BODY--` stands: the flaw of the least number, or none.
+--     judge_header      of a header
+--     judge_body_mark      of the sign
+use Rattle.std.proofs.Common.{◌≡◌, ℕ, true, List, [], ◌∷◌, length, Option, None, Some, refl, inl, inr}
+use Rattle.ps_label.specs.Expression.{Expression, constant, proposition, alias, not_of, all_of, any_of, Operands, last}
+use Rattle.ps_label.specs.Expression.{more}
+use Rattle.ps_text.proofs.Outcomes.{Judged, bad, good}
+use Rattle.ps_text.proofs.Decisions.{Decided, decide_one, decide_below}
+use Rattle.ps_hoa.specs.Causes.{cause_number}
+use Rattle.ps_hoa.specs.Conditions as conditions
+use Rattle.ps_hoa.specs.Conditions.{Condition, Conditions}
+use Rattle.ps_hoa.specs.Inner.Flaws.{IsLeastFlaw}
+use Rattle.ps_hoa.specs.Header.{AcceptanceData, HeaderData, state_limit, names_of, SpeaksBeyond, SomeSpeaksBeyond}
+use Rattle.ps_hoa.specs.Header.{AnAliasBeyond, NamesSetBeyond, SomeNamesSetBeyond, AnIndexBeyond, IsStartBeyond}
+use Rattle.ps_hoa.specs.Header.{IsStartTooLarge, IsConditionBeyond, IsControlBeyond, IsRangeBroken, IsBadHeader}
+use Rattle.ps_hoa.specs.Header.{IsBadBody}
+use Rattle.ps_hoa.specs.Inner.Signs.{IsTestOf}
+use Rattle.ps_hoa.specs.declared.fault.HoaCause.{HoaCause}
+use Rattle.ps_hoa.specs.declared.tokens.Kind.{Kind}
+use Rattle.ps_hoa.specs.declared.tokens.Kind.TheVariants.{Body}
+use Rattle.ps_hoa.proofs.Grammar.OperandLaws.{false_true}
+use Rattle.ps_hoa.proofs.Grammar.SignLaws.{is_body}
+use Rattle.ps_hoa.proofs.Outcomes.Judging.{JudgesAll, decide_kind}
+use Rattle.ps_hoa.proofs.Outcomes.LeastFlaws.{no_acceptance_least, too_large_least, no_start_least, range_least}
+use Rattle.ps_hoa.proofs.Outcomes.LeastFlaws.{no_controllable_least, none_is_sound}
+
+-- ## What is out of range
+
+module _ (count : ℕ) where
+  mutual
+    speaks_beyond : (e : Expression) → Decided (SpeaksBeyond count e)
+    speaks_beyond (constant b) = inr (λ h. h)
+    speaks_beyond (proposition p) = decide_below count p
+    speaks_beyond (alias k) = inr (λ h. h)
+    speaks_beyond (not_of e) = speaks_beyond e
+    speaks_beyond (all_of es) = some_speaks_beyond es
+    speaks_beyond (any_of es) = some_speaks_beyond es
+
+    some_speaks_beyond : (es : Operands) → Decided (SomeSpeaksBeyond count es)
+    some_speaks_beyond last = inr (λ h. h)
+    some_speaks_beyond (more e es) = decide_one (speaks_beyond e) (some_speaks_beyond es)
+
+  alias_beyond : (es : List Expression) → Decided (AnAliasBeyond count es)
+  alias_beyond [] = inr (λ h. h)
+  alias_beyond (e ∷ es) = decide_one (speaks_beyond e) (alias_beyond es)
+
+  mutual
+    set_beyond : (c : Condition) → Decided (NamesSetBeyond count c)
+    set_beyond (conditions.constant b) = inr (λ h. h)
+    set_beyond (conditions.infinitely s) = decide_below count s.number
+    set_beyond (conditions.finitely s) = decide_below count s.number
+    set_beyond (conditions.all_hold cs) = some_set_beyond cs
+    set_beyond (conditions.any_holds cs) = some_set_beyond cs
+
+    some_set_beyond : (cs : Conditions) → Decided (SomeNamesSetBeyond count cs)
+    some_set_beyond conditions.last = inr (λ h. h)
+    some_set_beyond (conditions.more c cs) = decide_one (set_beyond c) (some_set_beyond cs)
+
+  index_beyond : (ns : List ℕ) → Decided (AnIndexBeyond count ns)
+  index_beyond [] = inr (λ h. h)
+  index_beyond (n ∷ ns) = decide_one (decide_below count n) (index_beyond ns)
+
+  control_beyond : (ns : Option (List ℕ)) → Decided (IsControlBeyond count ns)
+  control_beyond None = inr (λ h. h)
+  control_beyond (Some ns) = index_beyond ns
+
+condition_beyond : (a : Option AcceptanceData) → Decided (IsConditionBeyond a)
+condition_beyond None = inr (λ h. h)
+condition_beyond (Some a) = set_beyond a.sets a.condition
+
+start_beyond : (states start : Option ℕ) → Decided (IsStartBeyond states start)
+start_beyond (Some n) (Some start) = decide_below n start
+start_beyond (Some n) None = inr (λ h. h)
+start_beyond None start = inr (λ h. h)
+
+start_large : (states start : Option ℕ) → Decided (IsStartTooLarge states start)
+start_large None (Some start) = decide_below state_limit start
+start_large None None = inr (λ h. h)
+start_large (Some n) start = inr (λ h. h)
+
+range_broken : (h : HeaderData) → Decided (IsRangeBroken h)
+range_broken h = decide_one (start_beyond h.states h.start)
+    (decide_one (alias_beyond (length (names_of h)) h.aliases)
+    (decide_one (condition_beyond h.acceptance) (control_beyond (length (names_of h)) h.controllable)))
+
+-- ## The least flaw
+
+module _ (h : HeaderData) where
+  least_bad : (f : HoaCause) → IsLeastFlaw h f → Judged cause_number (IsBadHeader h)
+  least_bad f l = bad f l.stands l.least
+
+  by_flaw : Decided (h.acceptance ≡ None) → Decided (IsStartTooLarge h.states h.start) → Decided (h.start ≡ None) →
+      Decided (IsRangeBroken h) → Decided (h.controllable ≡ None) → Judged cause_number (IsBadHeader h)
+  by_flaw (inl a) b c d e = least_bad _ (no_acceptance_least h a)
+  by_flaw (inr a) (inl b) c d e = least_bad _ (too_large_least h a b)
+  by_flaw (inr a) (inr b) (inl c) d e = least_bad _ (no_start_least h a b c)
+  by_flaw (inr a) (inr b) (inr c) (inl d) e = least_bad _ (range_least h a b c d)
+  by_flaw (inr a) (inr b) (inr c) (inr d) (inl e) = least_bad _ (no_controllable_least h a b c d e)
+  by_flaw (inr a) (inr b) (inr c) (inr d) (inr e) = good (none_is_sound h a b c d e)
+
+  judge_header : Judged cause_number (IsBadHeader h)
+  judge_header = by_flaw (decide_none h.acceptance) (start_large h.states h.start) (decide_none h.start)
+      (range_broken h) (decide_none h.controllable)
+
+test_body : IsTestOf is_body Body
+test_body = (refl, only)
+  where
+    only : (k : Kind) → is_body k ≡ true → k ≡ Body
+    only Body e = refl
+    only k e = absurd (false_true e)
+
+pub judge_body_mark : (h : HeaderData) → JudgesAll (IsBadBody h)
+judge_body_mark h t = judge_also cause_number (decide_kind is_body Body test_body t.kind) (judge_header h)

@@ -1,0 +1,186 @@
+-- What may be wrong with a sign of labels, conditions, the header and the body: the least cause, or that there is none.
+--     decide_kind      a sign's kind, where a test tells it
+--     judge_above, .., judge_close      the least cause of each
+use Rattle.std.proofs.Common.{◌≡◌, ℕ, suc, ◌+◌, ◌<◌, ◌≤◌, ◌^◌, Bool, true, false, List, length, Option, None, Some}
+use Rattle.std.proofs.Common.{refl, sym, inl, inr, ◌∙◌, subst}
+use Rattle.std.specs.Prelude.{IfSome, codes}
+use Rattle.std.proofs.lemmas.Bool.{cases_eq}
+use Rattle.ps_text.specs.Digits.{decimal_value}
+use Rattle.ps_text.specs.Parts.{NoBad}
+use Rattle.ps_text.proofs.Outcomes.{Judged, bad, good}
+use Rattle.ps_text.proofs.Decisions.{Decided, decide_true, decide_none, decide_not, decide_as, decide_both}
+use Rattle.ps_text.proofs.Decisions.{decide_below}
+use Rattle.ps_text.proofs.Decisions.{judge_none, judge_cause, judge_one, judge_as, judge_if, judge_also}
+use Rattle.ps_text.proofs.Simple.{none_is_some, same_some}
+use Rattle.ps_hoa.specs.Causes.{cause_number}
+use Rattle.ps_hoa.specs.Operands.{number_limit, is_and}
+use Rattle.ps_hoa.specs.Labels.{ScopeData, alias_number, IsBeyond, IsBadLeaf, BadLeaf}
+use Rattle.ps_hoa.specs.Conditions as conditions
+use Rattle.ps_hoa.specs.Conditions.{IsBadStart, BadStart}
+use Rattle.ps_hoa.specs.Files.{RowData}
+use Rattle.ps_hoa.specs.Header.{HeaderData, state_limit, name_value, int_in, IsAbove, string_in, IsSecondStart}
+use Rattle.ps_hoa.specs.Header.{IsAlternating, is_name_among, IsBadName, alias_limit, alias_value, IsBadAlias, names_of}
+use Rattle.ps_hoa.specs.Body.{BodyData, edge_limit, IsBadState, IsBadSet, BadIn, labelling, MayHaveNoLabel}
+use Rattle.ps_hoa.specs.Body.{MayHaveLabel, IsBadBracket, IsBadPlainTarget, IsWrongCount, last_row, IsBadEnd, has_row}
+use Rattle.ps_hoa.specs.Body.{IsBadRow, state_value, IsBadNext, is_end, IsBadClose, is_left_bracket}
+use Rattle.ps_hoa.specs.declared.edges.Labelling.{Labelling}
+use Rattle.ps_hoa.specs.declared.edges.Labelling.TheVariants.{ByState, ByEdge, ByPlace, NotKnown}
+use Rattle.ps_hoa.specs.declared.fault.HoaCause.{HoaCause}
+use Rattle.ps_hoa.specs.declared.fault.HoaCause.TheVariants as causes
+use Rattle.ps_hoa.specs.declared.tokens.Kind.{Kind}
+use Rattle.ps_hoa.specs.declared.tokens.Kind.TheVariants.{And, AliasName, Int, LeftBracket, LeftParen, Not}
+use Rattle.ps_hoa.specs.Inner.Signs.{IsTestOf}
+use Rattle.ps_hoa.proofs.Grammar.OperandLaws.{false_true}
+use Rattle.ps_hoa.proofs.Reading.BodyReading.{test_left_bracket}
+
+abbrev pub JudgesAll : {A : Type 0} → (A → HoaCause → Type 0) → Type 0
+JudgesAll {A} Bad = (a : A) → Judged cause_number (Bad a)
+
+-- ## Facts
+
+pub decide_kind : (test : Kind → Bool) (kind : Kind) → IsTestOf test kind → (k : Kind) → Decided (k ≡ kind)
+decide_kind test kind i k = decide_as (i.1 k) (λ e. subst (λ x. test x ≡ true) (sym e) i.0) (decide_true (test k))
+
+test_and : IsTestOf is_and And
+test_and = (refl, only)
+  where
+    only : (k : Kind) → is_and k ≡ true → k ≡ And
+    only And e = refl
+    only k e = absurd (false_true e)
+
+-- ## Causes
+
+pub no_bad : {A : Type 0} → JudgesAll (NoBad {T = A} {F = HoaCause})
+no_bad a = judge_none cause_number
+
+-- a number that is too large
+large : (limit n : ℕ) → Judged cause_number (λ f. (limit < n) × (f ≡ causes.Limit))
+large limit n = judge_cause cause_number causes.Limit (decide_below (suc limit) n)
+
+-- ## Labels and conditions
+
+decide_beyond : (count : Option ℕ) (n : ℕ) → Decided (IsBeyond count n)
+decide_beyond None n = inr (λ h. h)
+decide_beyond (Some count) n = decide_below count n
+
+-- where no more may nest
+no_room : (room : ℕ) → Judged cause_number (λ f. (room ≡ 0) × (f ≡ causes.Limit))
+no_room room = judge_cause cause_number causes.Limit (cases_eq room 0)
+
+pub judge_leaf : (scope : ScopeData) (room : ℕ) → JudgesAll (BadLeaf scope room)
+judge_leaf scope room t = go t.kind t.text
+  where
+    go : (kind : Kind) (text : List ℕ) → Judged cause_number (IsBadLeaf scope room kind text)
+    go Int text = judge_one cause_number (large number_limit (decimal_value text))
+        (judge_cause cause_number causes.Range (decide_beyond scope.propositions (decimal_value text)))
+    go AliasName text = judge_cause cause_number causes.Alias (decide_none (alias_number scope.names text))
+    go Not text = no_room room
+    go LeftParen text = no_room room
+    go kind text = judge_none cause_number
+
+pub judge_set : JudgesAll conditions.BadSet
+judge_set t = go t.kind t.text
+  where
+    go : (kind : Kind) (text : List ℕ) → Judged cause_number (conditions.IsBadSet kind text)
+    go Int text = large number_limit (decimal_value text)
+    go kind text = judge_none cause_number
+
+pub judge_start : (room : ℕ) → JudgesAll (BadStart room)
+judge_start room t = go t.kind
+  where
+    go : (kind : Kind) → Judged cause_number (IsBadStart room kind)
+    go LeftParen = no_room room
+    go kind = judge_none cause_number
+
+-- ## The header
+
+pub judge_above : (limit : ℕ) → JudgesAll (IsAbove limit)
+judge_above limit t = judge_if cause_number (int_in t) (λ n f. (limit < n) × (f ≡ causes.Limit)) (large limit)
+
+pub judge_second : (h : HeaderData) → JudgesAll (IsSecondStart h)
+judge_second h t = judge_as cause_number (λ f b. (b.0.0, b.0.1, b.1)) (λ f b. ((b.0, b.1), b.2))
+    (judge_cause cause_number causes.Start
+    (decide_both (decide_not (decide_none (name_value (codes "Start:") t.kind t.text)))
+    (decide_not (decide_none h.start))))
+
+pub judge_alternating : (state : ℕ) → JudgesAll (IsAlternating state)
+judge_alternating state t = judge_cause cause_number causes.Alternating (decide_kind is_and And test_and t.kind)
+
+pub judge_name : (names : List (List ℕ)) → JudgesAll (IsBadName names)
+judge_name names t =
+    judge_if cause_number (string_in t) _ (λ name. judge_cause cause_number causes.Name (decide_true _))
+
+pub judge_alias : (names : List (List ℕ)) → JudgesAll (IsBadAlias names)
+judge_alias names t = judge_if cause_number (alias_value t.kind t.text) _ (λ name. judge_one cause_number
+    (judge_cause cause_number causes.Limit (decide_below alias_limit (length names)))
+    (judge_cause cause_number causes.Alias (decide_true (is_name_among name names))))
+
+-- ## The body
+
+pub judge_in : (Bad : ℕ → HoaCause → Type 0) → JudgesAll Bad → JudgesAll (BadIn Bad)
+judge_in Bad judge t = judge_if cause_number (int_in t) Bad judge
+
+pub judge_state : (states : Option ℕ) → JudgesAll (IsBadState states)
+judge_state (Some states) n = judge_one cause_number (large number_limit n)
+    (judge_cause cause_number causes.Range (decide_below states n))
+judge_state None n = judge_cause cause_number causes.Limit (decide_below state_limit n)
+
+pub judge_mark : (sets : ℕ) → JudgesAll (IsBadSet sets)
+judge_mark sets n = judge_one cause_number (large number_limit n)
+    (judge_cause cause_number causes.Range (decide_below sets n))
+
+may_have_no_label : (l : Labelling) → Decided (MayHaveNoLabel l)
+may_have_no_label ByEdge = inr (λ h. h)
+may_have_no_label ByState = inl tt
+may_have_no_label ByPlace = inl tt
+may_have_no_label NotKnown = inl tt
+
+may_have_label : (l : Labelling) → Decided (MayHaveLabel l)
+may_have_label ByEdge = inl tt
+may_have_label NotKnown = inl tt
+may_have_label ByState = inr (λ h. h)
+may_have_label ByPlace = inr (λ h. h)
+
+-- one edge too many
+full : (before : ℕ) (row : RowData) →
+    Judged cause_number (λ f. (edge_limit ≤ before + length row.edges) × (f ≡ causes.Limit))
+full before row = judge_cause cause_number causes.Limit (decide_below edge_limit (before + length row.edges))
+
+pub judge_bracket : (before : ℕ) (row : RowData) → JudgesAll (IsBadBracket before row)
+judge_bracket before row t = judge_also cause_number (decide_kind is_left_bracket LeftBracket test_left_bracket t.kind)
+    (judge_one cause_number (full before row)
+    (judge_cause cause_number causes.Labels (decide_not (may_have_label (labelling row)))))
+
+pub judge_plain : (states : Option ℕ) (before : ℕ) (row : RowData) → JudgesAll (IsBadPlainTarget states before row)
+judge_plain states before row n = judge_one cause_number (judge_state states n)
+    (judge_one cause_number (full before row)
+    (judge_cause cause_number causes.Labels (decide_not (may_have_no_label (labelling row)))))
+
+by_place : (l : Labelling) → Decided (l ≡ ByPlace)
+by_place ByPlace = inl refl
+by_place ByState = inr (λ e. cc)
+by_place ByEdge = inr (λ e. cc)
+by_place NotKnown = inr (λ e. cc)
+
+wrong_count : (h : HeaderData) (row : RowData) → Decided (IsWrongCount h row)
+wrong_count h row = decide_both (by_place (labelling row))
+    (decide_not (cases_eq (length row.edges) (2 ^ length (names_of h))))
+
+pub judge_end : (h : HeaderData) (body : BodyData) → Judged cause_number (IsBadEnd h body)
+judge_end h body = judge_cause cause_number causes.Labels (go (last_row body) refl)
+  where
+    go : (o : Option RowData) → last_row body ≡ o →
+        Decided ((row : RowData) × (last_row body ≡ Some row) × IsWrongCount h row)
+    go None e = inr (λ b. none_is_some b.0 (sym e ∙ b.1))
+    go (Some row) e = decide_as (λ w. (row, e, w))
+        (λ b. subst (IsWrongCount h) (same_some b.0 row (sym b.1 ∙ e)) b.2) (wrong_count h row)
+
+pub judge_row : (h : HeaderData) (body : BodyData) → JudgesAll (IsBadRow h body)
+judge_row h body n = judge_one cause_number (judge_state h.states n)
+    (judge_cause cause_number causes.StateTwice (decide_true (has_row n body.rows)))
+
+pub judge_next : (h : HeaderData) (body : BodyData) → JudgesAll (IsBadNext h body)
+judge_next h body t = judge_also cause_number (decide_not (decide_none (state_value t))) (judge_end h body)
+
+pub judge_close : (h : HeaderData) (body : BodyData) → JudgesAll (IsBadClose h body)
+judge_close h body t = judge_also cause_number (decide_true (is_end t.kind)) (judge_end h body)

@@ -1,0 +1,20 @@
+-- How the reading functions read the parts of a text.
+
+pub mod NextSign
+pub mod SingleSigns
+pub mod MarkReading
+pub mod IntSigns
+pub mod RowReading
+pub mod NestedRows
+pub mod OperandReading
+pub mod LabelReading
+pub mod CondRows
+pub mod ConditionReading
+pub mod NewAliases
+pub mod HeaderExits
+pub mod HeaderLoops
+pub mod BodyReading
+pub mod RowTable
+pub mod StateReading
+pub mod Openings
+pub mod Answering

@@ -1,0 +1,77 @@
+-- The answer to a text, from what was read of it: the exits of the reader of whole texts.
+--     refused_answers      the text did not open
+--     header_fails, body_fails      the header, or the body behind it, stopped at its first fault
+--     ends_answers      both were read, and the text ends behind them
+--     trails_answers      both were read, and a token stands behind them
+-- `reads` says of the tokens behind the version that what they mean, or the first cause in them, is the answer to the
+-- text.
+use Rattle.std.proofs.Common.{◌≡◌, ℕ, List, [], ◌∷◌, Some, Result, Ok, Err, IsErrAnd, refl, sym, ap, subst, ◌∙◌}
+use Rattle.std.proofs.lemmas.Result.{err_from_is_err_and}
+use Rattle.ps_text.specs.Answers.{Piece, Stream, Found, signs}
+use Rattle.ps_text.specs.Parts.{PartAnswers, IsRead, refusal_of}
+use Rattle.ps_text.specs.Readers.{Stops, Reads as PartReads}
+use Rattle.ps_text.proofs.Exits.{reads_then, reads_mapped, stops_first, stops_behind, stops_mapped}
+use Rattle.ps_text.proofs.Whole.{answers_ok, answers_fault, answers_trailing}
+use Rattle.ps_hoa.specs.Causes.{hoa_causes, found_of}
+use Rattle.ps_hoa.specs.Files.{FileData}
+use Rattle.ps_hoa.specs.Header.{HeaderData, header}
+use Rattle.ps_hoa.specs.Body.{BodyData, body}
+use Rattle.ps_hoa.specs.Scan.{next_of}
+use Rattle.ps_hoa.specs.Texts.{file_of, file, ReadsFile, IsRefusedAs, IsFaultOf, IsFileAnswer}
+use Rattle.ps_hoa.specs.Tokens.{Sign}
+use Rattle.ps_hoa.specs.declared.fault.HoaCause.{HoaCause}
+use Rattle.ps_hoa.specs.Causes.{HoaFault}
+use Rattle.ps_text.specs.declared.faults.Fault.TheVariants.{Text, OutOfMemory}
+use Rattle.ps_hoa.proofs.Grammar.FileLaws.{laws_file, joint_file}
+
+module _ {X : Type 0} (view : X → FileData) (text : List ℕ) where
+  exit : (e : HoaFault) (r : Result X HoaFault) → IsFaultOf text e → IsErrAnd r (λ y. y ≡ e) → IsFileAnswer view text r
+  exit e r h i = let y = err_from_is_err_and r i in subst (IsFileAnswer view text) (sym (y.1 ∙ ap Err y.2)) h
+
+  is_fault : (e : HoaFault) → IsRefusedAs text e → IsFaultOf text e
+  is_fault (Text cause offset) h = h
+  is_fault OutOfMemory h = tt
+
+  pub refused_answers : (e : HoaFault) (r : Result X HoaFault) → IsRefusedAs text e → IsErrAnd r (λ y. y ≡ e) →
+      IsFileAnswer view text r
+  refused_answers e r h i = exit e r (is_fault e h) i
+
+  module _ (stream : Stream Sign) (reads : (answer : Result FileData (Found HoaCause)) →
+      PartAnswers hoa_causes file stream answer → ReadsFile text answer) where
+    stopped : (e : HoaFault) → Stops hoa_causes file stream (found_of e) → IsFaultOf text e
+    stopped (Text cause offset) s =
+        reads _ (answers_fault laws_file stream (record { cause = cause; offset = offset }) s)
+    stopped OutOfMemory s = tt
+
+    pub header_fails : (e : HoaFault) (r : Result X HoaFault) → Stops hoa_causes header stream (found_of e) →
+        IsErrAnd r (λ y. y ≡ e) → IsFileAnswer view text r
+    header_fails e r s i = exit e r (stopped e (stops_first hoa_causes joint_file stream (found_of e) s)) i
+
+    module _ (h : HeaderData) (mid : Stream Sign) (m : PartReads header stream h mid) where
+      pub body_fails : (e : HoaFault) (r : Result X HoaFault) → Stops hoa_causes (body h) mid (found_of e) →
+          IsErrAnd r (λ y. y ≡ e) → IsFileAnswer view text r
+      body_fails e r s i =
+          exit e r (stopped e (stops_behind hoa_causes joint_file m (found_of e)
+          (stops_mapped hoa_causes (file_of h) (body h) mid (found_of e) s))) i
+
+      module _ (b : BodyData) (new : Stream Sign) (n : PartReads (body h) mid b new) where
+        whole : PartReads file stream (file_of h b) new
+        whole = reads_then joint_file m (reads_mapped (file_of h) n)
+
+        pub ends_answers : (x : X) → view x ≡ file_of h b → new.pieces ≡ [] → IsFileAnswer view text (Ok x)
+        ends_answers x v e = reads _ (subst (λ z. PartAnswers hoa_causes file stream (Ok z)) (sym v)
+            (answers_ok laws_file stream (file_of h b) (subst (λ ps.
+            IsRead file (signs stream.pieces) (file_of h b) (signs ps)) e whole.1)))
+
+        pub trails_answers : (p : Piece Sign) (e : HoaFault) (r : Result X HoaFault) → p ≡ next_of new →
+            (new.pieces ≡ [] → ⊥) → e ≡ Text (refusal_of hoa_causes (Some p.sign)) p.start →
+            IsErrAnd r (λ y. y ≡ e) → IsFileAnswer view text r
+        trails_answers p e r is some f i = exit e r (subst (IsFaultOf text) (sym f) (go new.pieces refl)) i
+          where
+            go : (ps : List (Piece Sign)) → new.pieces ≡ ps → IsFaultOf text
+                (Text (refusal_of hoa_causes (Some p.sign)) p.start)
+            go [] k = absurd (some k)
+            go (q ∷ qs) k =
+                let same : q ≡ p = sym (is ∙ ap (λ ps. next_of (record { pieces = ps; end = new.end })) k) in
+                subst (λ z. IsFaultOf text (Text (refusal_of hoa_causes (Some z.sign)) z.start)) same
+                (reads _ (answers_trailing laws_file stream new (file_of h b) q qs whole.0 whole.1 k))

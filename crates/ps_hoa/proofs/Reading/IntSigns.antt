@@ -1,0 +1,93 @@
+-- An INT that may be wrong in two ways, where the causes of the second way have no smaller numbers than those of the
+-- first.
+--     takes_err      it is wrong in the first way
+--     takes_further      it is wrong in the second way only
+--     takes_both      it is wrong in neither
+use Rattle.std.proofs.Common.{◌≡◌, ℕ, ◌≤◌, ◌⊎◌, Option, None, Some, IfSome, Result, Err, IsErrAnd, refl, sym, ap, subst}
+use Rattle.std.proofs.Common.{inl, inr, ◌∙◌}
+use Rattle.std.proofs.lemmas.Result.{err_from_is_err_and}
+use Rattle.ps_text.specs.Answers.{Piece}
+use Rattle.ps_text.proofs.Simple.{none_is_some, same_some}
+use Rattle.ps_hoa.specs.Tokens.{Sign}
+use Rattle.ps_hoa.specs.Causes.{cause_number}
+use Rattle.ps_hoa.specs.Header.{int_in}
+use Rattle.ps_hoa.specs.Body.{BadIn}
+use Rattle.ps_hoa.specs.Inner.Reads.{Takes, IsTaken, IsWorst, IsRefusal}
+use Rattle.ps_hoa.specs.declared.fault.HoaCause.{HoaCause}
+use Rattle.ps_hoa.specs.Causes.{HoaFault}
+use Rattle.ps_text.specs.declared.faults.Fault.TheVariants.{Text, OutOfMemory}
+
+-- what holds of the number that is there
+there : (o : Option ℕ) (P : ℕ → Type 0) → IfSome o P → (o ≡ None → ⊥) → (n : ℕ) × (o ≡ Some n) × P n
+there None P h some = absurd (some refl)
+there (Some n) P h some = (n, refl, h)
+
+holds : (o : Option ℕ) (P : ℕ → Type 0) (n : ℕ) → o ≡ Some n → P n → IfSome o P
+holds o P n e h = subst (λ z. IfSome z P) (sym e) h
+
+is_there : (o : Option ℕ) (n : ℕ) → o ≡ Some n → o ≡ None → ⊥
+is_there o n e k = none_is_some n (sym k ∙ e)
+
+pub bad_at : (Bad : ℕ → HoaCause → Type 0) (s : Sign) (f : HoaCause) (n : ℕ) → int_in s ≡ Some n →
+    Bad n f → BadIn Bad s f
+bad_at Bad s f n e b = (holds (int_in s) (λ m. Bad m f) n e b, is_there (int_in s) n e)
+
+pub bad_of : (Bad : ℕ → HoaCause → Type 0) (s : Sign) (f : HoaCause) (n : ℕ) → int_in s ≡ Some n →
+    BadIn Bad s f → Bad n f
+bad_of Bad s f n e b =
+    let t = there (int_in s) (λ m. Bad m f) b.0 b.1 in subst (λ m. Bad m f) (same_some t.0 n (sym t.1 ∙ e)) t.2
+
+module _ (B E : ℕ → HoaCause → Type 0) where
+  abbrev pub BothBad : ℕ → HoaCause → Type 0
+  BothBad n f = B n f ⊎ E n f
+
+  module _ (later : (n : ℕ) (f g : HoaCause) → B n f → E n g → cause_number f ≤ cause_number g) where
+    worst : (s : Sign) (f : HoaCause) → IsWorst (BadIn B) s f → IsWorst (BadIn BothBad) s f
+    worst s f w = let t = there (int_in s) (λ n. B n f) w.stands.0 w.stands.1 in go t.0 t.1 t.2
+      where
+        go : (n : ℕ) → int_in s ≡ Some n → B n f → IsWorst (BadIn BothBad) s f
+        go n e b = record { stands = bad_at BothBad s f n e (inl b); least = λ g c. least g (bad_of BothBad s g n e c) }
+          where
+            least : (g : HoaCause) → BothBad n g → cause_number f ≤ cause_number g
+            least g (inl c) = w.least g (bad_at B s g n e c)
+            least g (inr c) = later n f g b c
+
+    refusal : (s : Sign) (f : HoaCause) → IsRefusal int_in (BadIn B) s f → IsRefusal int_in (BadIn BothBad) s f
+    refusal s f r = record { none = r.none; good = λ g b. b.1 r.none; cause = r.cause }
+
+    takes_fault : (p : Piece Sign) (e : HoaFault) → Takes {X = ℕ} (λ n. n) int_in (BadIn B) p (Err e) →
+        Takes {X = ℕ} (λ n. n) int_in (BadIn BothBad) p (Err e)
+    takes_fault p (Text cause offset) t = (t.0, go t.1)
+      where
+        go : IsWorst (BadIn B) p.sign cause ⊎ IsRefusal int_in (BadIn B) p.sign cause →
+            IsWorst (BadIn BothBad) p.sign cause ⊎ IsRefusal int_in (BadIn BothBad) p.sign cause
+        go (inl w) = inl (worst p.sign cause w)
+        go (inr r) = inr (refusal p.sign cause r)
+    takes_fault p OutOfMemory t = tt
+
+    pub takes_err : (p : Piece Sign) (e : HoaFault) (r : Result ℕ HoaFault) →
+        Takes {X = ℕ} (λ n. n) int_in (BadIn B) p (Err e) → IsErrAnd r (λ y. y ≡ e) →
+        Takes (λ n. n) int_in (BadIn BothBad) p r
+    takes_err p e r t i = let y = err_from_is_err_and r i in
+        subst (λ z. Takes (λ n. n) int_in (BadIn BothBad) p z) (sym (y.1 ∙ ap Err y.2)) (takes_fault p e t)
+
+  pub takes_further : (p : Piece Sign) (n : ℕ) (f : HoaCause) → IsTaken int_in (BadIn B) p.sign n → E n f →
+      ((g : HoaCause) → E n g → cause_number f ≤ cause_number g) →
+      IsWorst (BadIn BothBad) p.sign f
+  takes_further p n f k b least =
+      record {
+        stands = bad_at BothBad p.sign f n k.some (inr b);
+        least = λ g c. go g (bad_of BothBad p.sign g n k.some c);
+      }
+    where
+      go : (g : HoaCause) → BothBad n g → cause_number f ≤ cause_number g
+      go g (inl c) = absurd (k.good g (bad_at B p.sign g n k.some c))
+      go g (inr c) = least g c
+
+  pub takes_both : (s : Sign) (n : ℕ) → IsTaken int_in (BadIn B) s n → ((f : HoaCause) → E n f → ⊥) →
+      IsTaken int_in (BadIn BothBad) s n
+  takes_both s n k none = record { some = k.some; good = λ f b. go f (bad_of BothBad s f n k.some b) }
+    where
+      go : (f : HoaCause) → BothBad n f → ⊥
+      go f (inl c) = k.good f (bad_at B s f n k.some c)
+      go f (inr c) = none f c

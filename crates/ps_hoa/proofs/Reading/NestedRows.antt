@@ -1,0 +1,81 @@
+-- Rows of operands, one behind the other: what a grammar by parts says of them, and a grammar of its own.
+use Rattle.std.proofs.Common.{◌≡◌, ℕ, zero, suc, Bool, true, cond, List, [], ◌∷◌, ◌++◌, None, Some, refl, sym, ap}
+use Rattle.std.proofs.Common.{subst, ◌∙◌, append_assoc, append-nil}
+use Rattle.ps_text.specs.Parts.{Part, times}
+use Rattle.ps_hoa.specs.Operands.{mark_in, single, with_last, joined, further, row}
+use Rattle.ps_hoa.specs.Tokens.{Sign}
+use Rattle.ps_hoa.specs.declared.fault.HoaCause.{HoaCause}
+use Rattle.ps_hoa.specs.declared.tokens.Kind.{Kind}
+use Rattle.ps_hoa.proofs.Grammar.OperandLaws.{taken_mark}
+
+pub mark_taken : (test : Kind → Bool) (t : Sign) → test t.kind ≡ true → mark_in test t ≡ Some tt
+mark_taken test t e = ap (λ (b : Bool). cond b (Some tt) None) e
+
+-- ## Rows
+
+module _ {V : Type 0} (sign : Kind → Bool) (P : Part Sign V HoaCause) where
+  -- these operands stand behind others, each behind its sign
+  abbrev pub Rest : List Sign → List V → Type 0
+  Rest text vs = (k : ℕ) × ((ws : List V) → (times k (λ us. further sign P us) ws).IsText text (ws ++ vs))
+
+  pub rest_none : Rest [] []
+  rest_none = (0, λ ws. (refl, append-nil ws))
+
+  pub rest_more : (t : Sign) (text rest : List Sign) (v : V) (vs : List V) → sign t.kind ≡ true → P.IsText text v →
+      Rest rest vs → Rest (t ∷ text ++ rest) (v ∷ vs)
+  rest_more t text rest v vs e p r = (
+    suc r.0,
+    λ ws. record {
+      left = t ∷ text;
+      right = rest;
+      value = with_last ws v;
+      split = refl;
+      is_left =
+          record {
+            left = t ∷ [];
+            right = text;
+            value = tt;
+            split = refl;
+            is_left = (t, refl, mark_taken sign t e);
+            is_right = (v, p, refl);
+          };
+      is_right =
+          subst (λ us. (times r.0 (λ us. further sign P us) (with_last ws v)).IsText rest us)
+          (append_assoc ws (v ∷ []) vs) (r.1 (with_last ws v));
+    },
+  )
+
+  pub row_text : (join : List V → V) (text rest : List Sign) (v : V) (vs : List V) → P.IsText text v → Rest rest vs →
+      (row sign join P).IsText (text ++ rest) (joined join (v ∷ vs))
+  row_text join text rest v vs p r = (
+    v ∷ vs,
+    record {
+      left = text;
+      right = rest;
+      value = single v;
+      split = refl;
+      is_left = (v, p, refl);
+      is_right = (r.0, r.1 (single v));
+    },
+    refl,
+  )
+
+  -- and each such text is so
+  module _ (More : List Sign → List V → Type 0) (none : More [] [])
+      (some : (t : Sign) (text rest : List Sign) (v : V) (vs : List V) → sign t.kind ≡ true → P.IsText text v →
+      More rest vs → More (t ∷ text ++ rest) (v ∷ vs)) where
+    pub rest_of : (k : ℕ) (ws us : List V) (text : List Sign) → (times k (λ us. further sign P us) ws).IsText text us →
+        (vs : List V) × (us ≡ ws ++ vs) × More text vs
+    rest_of zero ws us text i = ([], i.1 ∙ sym (append-nil ws), subst (λ z. More z []) (sym i.0) none)
+    rest_of (suc k) ws us text i =
+        let m = i.is_left in
+        let v = m.is_right.0 in
+        let t = m.is_left.0 in
+        let r = rest_of k i.value us i.right i.is_right in
+        let e : text ≡ t ∷ m.right ++ i.right =
+        i.split ∙ ap (λ z. z ++ i.right) (m.split ∙ ap (λ z. z ++ m.right) m.is_left.1) in (
+          v ∷ r.0,
+          r.1 ∙ ap (λ z. z ++ r.0) m.is_right.2 ∙ append_assoc ws (v ∷ []) r.0,
+          subst (λ z. More z (v ∷ r.0)) (sym e) (some t m.right i.right v r.0 (taken_mark sign t m.value m.is_left.2)
+              m.is_right.1 r.2),
+        )

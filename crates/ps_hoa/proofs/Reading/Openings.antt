@@ -1,0 +1,130 @@
+-- How a text opens, and what its answer is by that.
+use Rattle.std.proofs.Common.{◌≡◌, ℕ, ◌+◌, ◌-◌, ◌≤◌, true, false, List, ◌++◌, length, take, drop, ap, sym, subst, ◌∙◌}
+use Rattle.std.proofs.Common.{arith, length-drop}
+use Rattle.std.specs.Prelude.{codes, Result}
+use Rattle.std.specs.List.{prefix_len}
+use Rattle.std.specs.Str.{bytes_eq}
+use Rattle.std.proofs.lemmas.List.{take_all, drop-drop, length-take-le}
+use Rattle.std.proofs.lemmas.Slice.Eq.{bytes_eq-Decides}
+use Rattle.std.proofs.Math.Seq.{take-append_seam}
+use Rattle.ps_text.specs.Answers.{Piece, Stream, Found}
+use Rattle.ps_text.specs.Parts.{PartAnswers}
+use Rattle.ps_hoa.specs.Causes.{hoa_causes}
+use Rattle.ps_hoa.specs.Files.{FileData}
+use Rattle.ps_hoa.specs.Scan.{IsNoBlank, step_of, begins_with, fresh}
+use Rattle.ps_hoa.specs.Spans.{AreBlanks}
+use Rattle.ps_hoa.specs.Tokens.{Sign, AreTokens, marked}
+use Rattle.ps_hoa.specs.Texts.{IsBehindBlanks, IsVersion, is_version_byte, ReadsFile, not_hoa, other_version, by_tokens}
+use Rattle.ps_hoa.specs.Texts.{at_offset, text_limit, file}
+use Rattle.ps_hoa.specs.declared.fault.HoaCause.{HoaCause}
+use Rattle.ps_hoa.specs.declared.fault.HoaCause.TheVariants as causes
+use Rattle.ps_hoa.proofs.Lexing.Relation.{whole, no_blank_begins, some_tokens}
+use Rattle.ps_hoa.proofs.Lexing.StepMeanings.{begins_is}
+use Rattle.ps_hoa.proofs.Lexing.TokenSteps.{run_sound}
+
+-- what a slice to the end is
+pub to_end : (text : List ℕ) (at : ℕ) → take (length text - at) (drop at text) ≡ drop at text
+to_end text at = take_all (length text - at) (drop at text) (rw length-drop (omega arith))
+
+word_stands : (rest word : List ℕ) → begins_with rest word ≡ true → rest ≡ word ++ drop (length word) rest
+word_stands rest word h =
+    whole (length word) rest ∙ ap (λ (xs : List ℕ). xs ++ drop (length word) rest) (begins_is rest word h).0
+
+word_missing : (rest word : List ℕ) → begins_with rest word ≡ false → (more : List ℕ) → rest ≡ word ++ more → ⊥
+word_missing rest word h more e =
+    wrong (sym ((bytes_eq-Decides (take (length word) rest) word).1
+    (ap (λ (xs : List ℕ). take (length word) xs) e ∙ take-append_seam word more)) ∙ h)
+  where
+    wrong : true ≡ false → ⊥
+    wrong f = cc
+
+behind : (text : List ℕ) (from at : ℕ) (b : AreBlanks text from at) → IsNoBlank (step_of (drop at text)) →
+    IsBehindBlanks (drop from text) b.blanks (drop at text)
+behind text from at b h = record { split = b.split; are_blanks = b.run; all = no_blank_begins (drop at text) h }
+
+-- `HOA:` is missing
+pub without_hoa : (text : List ℕ) (first : ℕ) → length text ≤ text_limit → AreBlanks text 0 first →
+    IsNoBlank (step_of (drop first text)) →
+    begins_with (drop first text) (codes "HOA:") ≡ false → ReadsFile text (at_offset causes.NotHoa first)
+without_hoa text first short b h none =
+    let e : length b.blanks ≡ first = let end = b.end in omega arith in
+    subst (λ (k : ℕ). ReadsFile text (at_offset causes.NotHoa k)) e
+    (not_hoa short (behind text 0 first b h) (word_missing (drop first text) (codes "HOA:") none))
+
+-- `HOA:` stands
+pub record Opens (text : List ℕ) (first second : ℕ) : Type 0 where
+  pub short : length text ≤ text_limit
+  pub before : AreBlanks text 0 first
+  pub first_end : IsNoBlank (step_of (drop first text))
+  pub word : begins_with (drop first text) (codes "HOA:") ≡ true
+  pub further : AreBlanks text (first + 4) second
+  pub second_end : IsNoBlank (step_of (drop second text))
+
+module _ (text : List ℕ) (first second : ℕ) (o : Opens text first second) where
+  abbrev more : List ℕ
+  more = drop (first + 4) text
+
+  hoa_stands : IsBehindBlanks text o.before.blanks (codes "HOA:" ++ more)
+  hoa_stands =
+      let e : drop first text ≡ codes "HOA:" ++ more = word_stands (drop first text) (codes "HOA:") o.word
+      ∙ ap (λ (xs : List ℕ). codes "HOA:" ++ xs) (drop-drop 4 first text) in
+      subst (λ (rest : List ℕ). IsBehindBlanks text o.before.blanks rest) e (behind text 0 first o.before o.first_end)
+
+  version_stands : IsBehindBlanks more o.further.blanks (drop second text)
+  version_stands = behind text (first + 4) second o.further o.second_end
+
+  place : length o.before.blanks + 4 + length o.further.blanks ≡ second
+  place = let a = o.before.end in let b = o.further.end in omega arith
+
+  version_is : IsVersion (drop second text) (take (prefix_len is_version_byte (drop second text)) (drop second text))
+      (drop (prefix_len is_version_byte (drop second text)) (drop second text))
+  version_is = let r = run_sound is_version_byte (drop second text) in
+      record {
+        split = whole (prefix_len is_version_byte (drop second text)) (drop second text);
+        run = r.0;
+        longest = r.1;
+      }
+
+  pub with_other_version : bytes_eq (take (prefix_len is_version_byte (drop second text)) (drop second text))
+      (codes "v1") ≡ false → ReadsFile text (at_offset causes.Version second)
+  with_other_version h = subst (λ (k : ℕ). ReadsFile text (at_offset causes.Version k)) place
+      (other_version o.short hoa_stands version_stands version_is
+      (λ e. wrong (sym ((bytes_eq-Decides _ (codes "v1")).1 e) ∙ h)))
+    where
+      wrong : true ≡ false → ⊥
+      wrong f = cc
+
+  pub with_version : (stream : Stream Sign) (stop : ℕ) → stop ≡ second + prefix_len is_version_byte (drop second text) →
+      bytes_eq (take (prefix_len is_version_byte (drop second text)) (drop second text)) (codes "v1") ≡ true →
+      ((pieces : List (Piece Sign)) → AreTokens stop (drop stop text) pieces → stream.pieces ≡ marked fresh pieces) →
+      stream.end ≡ length text →
+      (answer : Result FileData (Found HoaCause)) → PartAnswers hoa_causes file stream answer → ReadsFile text answer
+  with_version stream stop is same pieces_are end_is answer a =
+      let k = prefix_len is_version_byte (drop second text) in
+      let v1 : take k (drop second text) ≡ codes "v1" =
+      (bytes_eq-Decides (take k (drop second text)) (codes "v1")).0 same in
+      let within = (run_sound is_version_byte (drop second text)).2 in
+      let two : k ≡ 2 = sym (length-take-le k (drop second text) within) ∙ ap length v1 in
+      let at : stop ≡ length o.before.blanks + 4 + length o.further.blanks + 2 = let p = place in omega arith in
+      let tail : drop stop text ≡ drop k (drop second text) = ap (λ (n : ℕ). drop n text) is
+      ∙ sym (drop-drop k second text) in
+      let found = some_tokens (length (drop stop text)) stop (drop stop text) (omega arith) in
+      let version = subst (λ (v : List ℕ). IsVersion (drop second text) v (drop k (drop second text))) v1 version_is in
+      let tokens =
+      subst (λ (n : ℕ). AreTokens n (drop k (drop second text)) found.0) at
+      (subst (λ (bytes : List ℕ). AreTokens stop bytes found.0) tail found.1) in
+      let whole_stream : stream ≡ record { pieces = marked fresh found.0; end = length text } =
+      λ i. record { pieces = pieces_are found.0 found.1 i; end = end_is i } in
+      by_tokens found.0 o.short hoa_stands version_stands version tokens
+      (subst (λ (s : Stream Sign). PartAnswers hoa_causes file s answer) whole_stream a)
+
+-- what the code took as the version
+pub run_taken : (text : List ℕ) (second count : ℕ) → count ≡ prefix_len is_version_byte
+    (take (length text - second) (drop second text)) →
+    (count ≡ prefix_len is_version_byte (drop second text)) × (take ((second + count) - second) (drop second text) ≡
+    take (prefix_len is_version_byte (drop second text)) (drop second text))
+run_taken text second count is =
+    let e : count ≡ prefix_len is_version_byte (drop second text) = is
+    ∙ ap (λ (xs : List ℕ). prefix_len is_version_byte xs) (to_end text second) in
+    let same : (second + count) - second ≡ prefix_len is_version_byte (drop second text) = omega arith in
+    (e, ap (λ (k : ℕ). take k (drop second text)) same)

@@ -1,0 +1,11 @@
+-- What holds of each file that was read.
+
+pub mod Keeping
+pub mod NameSets
+pub mod Differences
+pub mod Places
+pub mod SoundLabels
+pub mod SoundHeaders
+pub mod SoundBodies
+pub mod SoundFiles
+pub mod SoundLaws

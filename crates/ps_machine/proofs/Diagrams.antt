@@ -1,0 +1,9 @@
+-- The diagrams of a machine, by which player moves first.
+
+pub mod ClassTables
+pub mod RowTests
+pub mod MaskLemmas
+pub mod Remembering
+pub mod DrawingLemmas
+pub mod FirstDrawing
+pub mod SecondDrawing

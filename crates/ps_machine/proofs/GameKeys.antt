@@ -1,0 +1,9 @@
+-- The game of an automaton: keys that are visited, and their numbers.
+
+pub mod KeyTests
+pub mod NamingLemmas
+pub mod Standing
+pub mod Visiting
+pub mod Exploring
+pub mod Starting
+pub mod GameThere

@@ -1,0 +1,228 @@
+-- A lasso of a machine is read on and on; and its letters are those of the automaton.
+use Rattle.std.proofs.Common.{◌≡◌, ℕ, zero, suc, ◌+◌, ◌-◌, ◌*◌, ◌/◌, ◌%◌, ◌^◌, ◌<◌, ◌≤◌, ◌⊎◌, inl, inr, Bool, true}
+use Rattle.std.proofs.Common.{false, cond, not, ltb, List, ◌++◌, length, get_or, refl, ap, sym, subst, ◌∙◌, arith}
+use Rattle.std.proofs.Common.{rules, add-one}
+use Rattle.std.specs.Prelude.{slice_index}
+use Rattle.ps_diagram.proofs.Letters.{no_bit}
+use Rattle.std.proofs.Math.Nat.{div-add-mod, mod-lt}
+use Rattle.std.proofs.Math.ListN.{get_or-append}
+use Rattle.std.proofs.lemmas.Nat.{mod-mul-add}
+use Rattle.std.proofs.lemmas.List.{length-append, get_or-append-add}
+use Rattle.std.proofs.lemmas.Bool.{cases_lt, le-ltb, lt-ltb}
+use Rattle.ps_label.specs.Truth.{is_in}
+use Rattle.ps_hoa.specs.Files.{is_among}
+use Rattle.ps_automaton.specs.Words.{word}
+use Rattle.ps_automaton.proofs.Orbits.{word_within, word_behind}
+use Rattle.ps_machine.specs.Boards.{Board}
+use Rattle.ps_machine.specs.Behaviours.{Behaviour, IsMachine, IsInput, IsOutput, IsLasso, Makes}
+use Rattle.ps_machine.specs.Extracting.{HasPropositions, IsOther, is_others}
+use Rattle.ps_machine.proofs.LeastLetters.{sum_within}
+use Rattle.ps_machine.proofs.Lassos.Walking.{IsEndless}
+
+-- ## Places
+
+-- a place of the stem and then of the lap again and again, as a place of both together
+folded : ℕ → ℕ → ℕ → ℕ
+folded stem lap t = cond (ltb t stem) t (stem + (t - stem) % lap)
+
+folded_within : (stem lap t : ℕ) → t < stem → folded stem lap t ≡ t
+unfolding folded
+folded_within stem lap t less = ap (λ (b : Bool). cond b t (stem + (t - stem) % lap)) (lt-ltb t stem less)
+
+folded_behind : (stem lap t : ℕ) → stem ≤ t → folded stem lap t ≡ stem + (t - stem) % lap
+unfolding folded
+folded_behind stem lap t more = ap (λ (b : Bool). cond b t (stem + (t - stem) % lap)) (le-ltb t stem more)
+
+-- the next place is the next one of a lap, or its first one
+next_in_lap : (lap n : ℕ) → 0 < lap → ((suc n) % lap ≡ suc (n % lap)) ⊎ ((suc (n % lap) ≡ lap) × ((suc n) % lap ≡ 0))
+next_in_lap lap n some = by (cases_lt (suc (n % lap)) lap)
+  where
+    k : ℕ
+    k = n % lap
+
+    q : ℕ
+    q = n / lap
+
+    parts : lap * q + k ≡ n
+    parts = div-add-mod n lap
+
+    by : (suc k < lap) ⊎ (lap ≤ suc k) → ((suc n) % lap ≡ suc k) ⊎ ((suc k ≡ lap) × ((suc n) % lap ≡ 0))
+    by (inl less) =
+        let is : q * lap + suc k ≡ suc n = omega (arith, parts) in
+        inl (ap (λ m. m % lap) (sym is) ∙ mod-mul-add q lap (suc k) less)
+    by (inr more) =
+        let full : suc k ≡ lap = omega (arith, more, mod-lt n some) in
+        let is : suc q * lap + 0 ≡ suc n = omega (arith, parts, full) in
+        inr (full, ap (λ m. m % lap) (sym is) ∙ mod-mul-add (suc q) lap 0 some)
+
+module _ (m : Behaviour) (stem lap : List ℕ) (l : IsLasso m stem lap) where
+  whole : List ℕ
+  whole = stem ++ lap
+
+  long : length (stem ++ lap) ≡ length stem + length lap
+  long = length-append stem lap
+
+  at_place : ℕ → ℕ
+  at_place t = folded (length stem) (length lap) t
+
+  place_within : (t : ℕ) → at_place t < length (stem ++ lap)
+  unfolding at_place
+  place_within t = elim (cases_lt t (length stem)) [
+    | inl less ↦ (let is = folded_within (length stem) (length lap) t less in omega (arith, is, less, long))
+    | inr more ↦ (let is = folded_behind (length stem) (length lap) t more in
+        omega (arith, is, long, mod-lt (t - length stem) l.some))
+  ]
+
+  letter_at : (t : ℕ) → slice_index (stem ++ lap) (at_place t) ≡ word stem lap t
+  unfolding at_place
+  letter_at t = elim (cases_lt t (length stem)) [
+    | inl less ↦ ap (λ n. get_or (stem ++ lap) n 0) (folded_within (length stem) (length lap) t less)
+        ∙ get_or-append stem lap 0 t less ∙ sym (word_within stem lap t less)
+    | inr more ↦ ap (λ n. get_or (stem ++ lap) n 0) (folded_behind (length stem) (length lap) t more)
+        ∙ get_or-append-add stem lap ((t - length stem) % length lap) 0 ∙ sym (word_behind stem lap t more)
+  ]
+
+  pub memories_on : ℕ → ℕ
+  memories_on t = l.memories (at_place t)
+
+  goes_on : (t : ℕ) → l.memories (at_place t + 1) ≡ l.memories (at_place (suc t))
+  unfolding at_place
+  goes_on t = by (cases_lt t (length stem)) (cases_lt (suc t) (length stem))
+    where
+      u : ℕ
+      u = length stem
+
+      behind : (n : ℕ) → ((suc n) % length lap ≡ suc (n % length lap)) ⊎
+          ((suc (n % length lap) ≡ length lap) × ((suc n) % length lap ≡ 0)) →
+          l.memories (u + n % length lap + 1) ≡ l.memories (u + suc n % length lap)
+      behind n (inl is) =
+          (let same : u + n % length lap + 1 ≡ u + suc n % length lap = omega (arith, is) in ap l.memories same)
+      behind n (inr full) =
+          let last : u + n % length lap + 1 ≡ length (stem ++ lap) = omega (arith, full.0, long) in
+          let first : length stem ≡ u + suc n % length lap = omega (arith, full.1) in
+          ap l.memories last ∙ sym l.returns ∙ ap l.memories first
+
+      by : (t < u) ⊎ (u ≤ t) → (suc t < u) ⊎ (u ≤ suc t) → l.memories (folded u (length lap) t + 1) ≡ l.memories
+          (folded u (length lap) (suc t))
+      by (inl less) (inl next) =
+          let here = folded_within u (length lap) t less in
+          let there = folded_within u (length lap) (suc t) next in
+          let same : folded u (length lap) t + 1 ≡ folded u (length lap) (suc t) = omega (arith, here, there) in
+          ap l.memories same
+      by (inl less) (inr next) =
+          let here = folded_within u (length lap) t less in
+          let there = folded_behind u (length lap) (suc t) next in
+          let none : suc t - u ≡ 0 * length lap + 0 = omega (arith, less) in
+          let begin : (suc t - u) % length lap ≡ 0 = ap (λ n. n % length lap) none
+          ∙ mod-mul-add 0 (length lap) 0 l.some in
+          let same : folded u (length lap) t + 1 ≡ folded u (length lap) (suc t) =
+          omega (arith, here, there, begin, less, next) in
+          ap l.memories same
+      by (inr more) next =
+          let here = folded_behind u (length lap) t more in
+          let there = folded_behind u (length lap) (suc t) (omega (arith, more)) in
+          let minus : suc t - u ≡ suc (t - u) = omega (arith, more) in
+          ap (λ n. l.memories (n + 1)) here ∙ behind (t - u) (next_in_lap (length lap) (t - u) l.some)
+          ∙ ap (λ n. l.memories (u + n % length lap)) (sym minus) ∙ ap l.memories (sym there)
+
+  pub endless : IsEndless m (word stem lap) memories_on
+  unfolding memories_on at_place
+  endless = record {
+    begins = by (cases_lt 0 (length stem));
+    makes = λ t.
+        let makes = l.makes (at_place t) (place_within t) in
+        subst (λ n. Makes m (memories_on t) (word stem lap t) n) (goes_on t)
+        (subst (λ x. Makes m (memories_on t) x (l.memories (at_place t + 1))) (letter_at t) makes);
+  }
+    where
+      by : (0 < length stem) ⊎ (length stem ≤ 0) → l.memories (folded (length stem) (length lap) 0) ≡ 0
+      by (inl less) = ap l.memories (folded_within (length stem) (length lap) 0 less) ∙ l.begins
+      by (inr more) =
+          let none : 0 - length stem ≡ 0 * length lap + 0 = omega arith in
+          let begin : (0 - length stem) % length lap ≡ 0 = ap (λ n. n % length lap) none
+          ∙ mod-mul-add 0 (length lap) 0 l.some in
+          let is : folded (length stem) (length lap) 0 ≡ 0 =
+          omega (arith, folded_behind (length stem) (length lap) 0 more, begin, more) in
+          ap l.memories is ∙ l.begins
+
+  -- behind the first lap it is in the memory before it
+  pub memory_returns : memories_on (length stem + length lap) ≡ memories_on (length stem)
+  unfolding memories_on at_place
+  memory_returns =
+      let u = length stem in
+      let n = length lap in
+      let here : u + n - u ≡ 1 * n + 0 = omega arith in
+      let none : u - u ≡ 0 * n + 0 = omega arith in
+      let one : (u + n - u) % n ≡ 0 = ap (λ k. k % n) here ∙ mod-mul-add 1 n 0 l.some in
+      let zeroth : (u - u) % n ≡ 0 = ap (λ k. k % n) none ∙ mod-mul-add 0 n 0 l.some in
+      let same : folded u n (u + n) ≡ folded u n u =
+      omega (arith, folded_behind u n (u + n) (omega arith), folded_behind u n u (omega arith), one, zeroth) in
+      ap l.memories same
+
+  pub letter_returns : word stem lap (length stem + length lap) ≡ word stem lap (length stem)
+  letter_returns =
+      let u = length stem in
+      let n = length lap in
+      let here : u + n - u ≡ 1 * n + 0 = omega arith in
+      let none : u - u ≡ 0 * n + 0 = omega arith in
+      let same : (u + n - u) % n ≡ (u - u) % n = ap (λ k. k % n) here ∙ mod-mul-add 1 n 0 l.some
+      ∙ sym (mod-mul-add 0 n 0 l.some) ∙ ap (λ k. k % n) (sym none) in
+      word_behind stem lap (u + n) (omega arith) ∙ ap (λ k. get_or lap k 0) same
+      ∙ sym (word_behind stem lap u (omega arith))
+
+-- ## Letters
+
+either_bool : (b : Bool) → (b ≡ true) ⊎ (b ≡ false)
+either_bool true = inl refl
+either_bool false = inr refl
+
+not_both : (b : Bool) → b ≡ true → b ≡ false → ⊥
+not_both b t f = search rules
+
+module _ (m : Behaviour) (is_machine : IsMachine m) where
+  -- a letter that it reads and one that it plays have no proposition in common
+  apart : (x y : ℕ) → IsInput m x → IsOutput m y → (p : ℕ) → is_in p x ≡ true → is_in p y ≡ false
+  apart x y input output p is = elim (either_bool (is_among p m.inputs)) [
+    | inl among ↦ output.own p (is_machine.apart p among)
+    | inr none ↦ absurd (not_both (is_in p x) is (input.own p none))
+  ]
+
+  -- what it makes is a letter
+  pub letter_within : (memory letter next : ℕ) → memory < m.memories → Makes m memory letter next →
+      letter < 2 ^ length m.names
+  letter_within memory letter next within makes =
+      let output = is_machine.plays_own memory makes.input within in
+      let sum =
+      sum_within (length m.names) makes.input (m.plays memory makes.input) makes.is_input.within output.within
+      (apart makes.input (m.plays memory makes.input) makes.is_input output) in
+      omega (arith, sum, makes.joined)
+
+  pub memories_of_lasso : (stem lap : List ℕ) (l : IsLasso m stem lap) (t : ℕ) → t ≤ length (stem ++ lap) →
+      l.memories t < m.memories
+  memories_of_lasso stem lap l zero low = omega (arith, is_machine.some, l.begins)
+  memories_of_lasso stem lap l (suc t) low =
+      let makes = l.makes t (omega (arith, low)) in
+      let next =
+      is_machine.next_within (l.memories t) makes.input (memories_of_lasso stem lap l t (omega (arith, low))) in
+      let place : l.memories (t + 1) ≡ l.memories (suc t) = ap l.memories (add-one t) in
+      omega (arith, next, makes.next_is, place)
+
+  pub reads_other : (names : List (List ℕ)) (board : Board) → HasPropositions names board m → (x : ℕ) → IsInput m x →
+      IsOther m.is_first board x
+  reads_other names board h x input = by m.is_first refl
+    where
+      within : x < 2 ^ board.propositions
+      within =
+          (let many : length m.names ≡ board.propositions = ap length h.names_are ∙ h.as_many in
+          subst (λ n. x < 2 ^ n) many input.within)
+
+      -- of what the other one does not play nothing is true
+      own : (p : ℕ) → is_others m.is_first board p ≡ false → is_in p x ≡ false
+      own p not_others = elim (cases_lt p board.propositions) [
+        | inl less ↦ input.own p (h.reads p less ∙ not_others)
+        | inr more ↦ no_bit board.propositions x p within more
+      ]
+
+      by : (b : Bool) → m.is_first ≡ b → IsOther b board x
+      by true is = record { within = within; own = λ p first. own p (ap (λ b. is_others b board p) is ∙ ap not first) }
+      by false is = record { within = within; own = λ p first. own p (ap (λ b. is_others b board p) is ∙ first) }

@@ -1,0 +1,134 @@
+-- Each word of the machine of a valid certificate is won by the winner of vertex 0.
+use Rattle.std.proofs.Common.{◌≡◌, ℕ, ◌+◌, ◌*◌, ◌%◌, ◌^◌, ◌<◌, List, ◌++◌, length, get_or, ap, sym, subst, ◌∙◌, arith}
+use Rattle.std.specs.Prelude.{All, slice_index}
+use Rattle.std.proofs.Math.ListN.{get_or-append}
+use Rattle.std.proofs.lemmas.List.{length-append, get_or-append-add, get_or_default}
+use Rattle.std.proofs.lemmas.Bool.{eq-eqb, eqb-true}
+use Rattle.ps_hoa.specs.Files.{FileData}
+use Rattle.ps_automaton.specs.Acceptance.{IsAccepted}
+use Rattle.ps_automaton.specs.Automata.{AutomatonData, IsBuiltFrom, auto_of}
+use Rattle.ps_automaton.specs.Autos.{state_at, priority_at, greatest_from}
+use Rattle.ps_automaton.specs.Chains.{Chain}
+use Rattle.ps_automaton.specs.Words.{word}
+use Rattle.ps_automaton.proofs.Accepting.{even_is_accepted, accepted_is_even}
+use Rattle.ps_game.specs.Games.{ParityGame}
+use Rattle.ps_certificate.specs.Certificates.{CertificateData, Fits, IsValid}
+use Rattle.ps_machine.specs.Boards.{IsGameOf}
+use Rattle.ps_machine.specs.BuiltBoards.{board_of}
+use Rattle.ps_machine.specs.Extracting.{IsOther, HasPropositions, IsMachineOf}
+use Rattle.ps_machine.specs.Solving.{winner}
+use Rattle.ps_machine.specs.Keys.{mover_of}
+use Rattle.ps_machine.specs.Behaviours.{Behaviour, IsMachine, IsInput, IsLasso, LassosWon}
+use Rattle.ps_machine.specs.declared.key.Key.{Key}
+use Rattle.ps_machine.specs.declared.key.Order.{Order}
+use Rattle.ps_machine.specs.declared.key.Order.TheVariants.{Mealy, Moore}
+use Rattle.ps_machine.proofs.Lassos.Rounds.{Setting}
+use Rattle.ps_machine.proofs.Lassos.Walking.{state_returns, parity_of_part}
+use Rattle.ps_machine.proofs.Lassos.EndlessRuns.{memories_on, endless, memory_returns, letter_returns, letter_within}
+use Rattle.ps_machine.proofs.Lassos.EndlessRuns.{memories_of_lasso, reads_other}
+
+small_mover : (order : Order) → mover_of order < 2
+small_mover Mealy = omega arith
+small_mover Moore = omega arith
+
+module _ (file : FileData) (chain : Chain) (a : AutomatonData) (order : Order) (keys : List Key) (game : ParityGame)
+    (certificate : CertificateData) (m : Behaviour)
+    (built : IsBuiltFrom file chain a) (is_game : IsGameOf (board_of order a) (mover_of order) keys game)
+    (fits : Fits game certificate) (valid : IsValid game certificate) (is_machine : IsMachine m)
+    (has : HasPropositions a.names (board_of order a) m) (made : IsMachineOf (board_of order a) (mover_of order) keys
+    game certificate m) where
+  setting : Setting (board_of order a) (mover_of order) keys game certificate
+  setting = record { is_mover = small_mover order; by_keys = is_game.by_keys; fits = fits; valid = valid }
+
+  names_are : length m.names ≡ length file.names
+  names_are = ap length (has.names_are ∙ built.names)
+
+  module _ (stem lap : List ℕ) (l : IsLasso m stem lap) where
+    each_letter : (t : ℕ) → t < length (stem ++ lap) → slice_index (stem ++ lap) t < 2 ^ length file.names
+    each_letter t within =
+        let less =
+        letter_within m is_machine (l.memories t) (slice_index (stem ++ lap) t) (l.memories (t + 1))
+        (memories_of_lasso m is_machine stem lap l t (omega (arith, within))) (l.makes t within) in
+        subst (λ n. slice_index (stem ++ lap) t < 2 ^ n) names_are less
+
+    in_stem : All (λ letter. letter < 2 ^ length file.names) stem
+    in_stem t d within =
+        let both : length (stem ++ lap) ≡ length stem + length lap = length-append stem lap in
+        let is : get_or (stem ++ lap) t 0 ≡ get_or stem t 0 = get_or-append stem lap 0 t within in
+        let less = each_letter t (omega (arith, both, within)) in
+        subst (λ x. x < 2 ^ length file.names) (is ∙ get_or_default stem t 0 d within) less
+
+    in_lap : All (λ letter. letter < 2 ^ length file.names) lap
+    in_lap t d within =
+        let both : length (stem ++ lap) ≡ length stem + length lap = length-append stem lap in
+        let is : get_or (stem ++ lap) (length stem + t) 0 ≡ get_or lap t 0 = get_or-append-add stem lap t 0 in
+        let less = each_letter (length stem + t) (omega (arith, both, within)) in
+        subst (λ x. x < 2 ^ length file.names) (is ∙ get_or_default lap t 0 d within) less
+
+    others : (x : ℕ) → IsInput m x → IsOther m.is_first (board_of order a) x
+    others x = reads_other m is_machine a.names (board_of order a) has x
+
+    from : ℕ
+    from = length stem + 0 * length lap
+
+    count : ℕ
+    count = 1 * length lap
+
+    from_is : from ≡ length stem
+    unfolding from
+    from_is = omega arith
+
+    end_is : from + count ≡ length stem + length lap
+    unfolding from count
+    end_is = omega arith
+
+    some_count : 0 < count
+    unfolding count
+    some_count = omega (arith, l.some)
+
+    back : memories_on m stem lap l (from + count) ≡ memories_on m stem lap l from
+    back = ap (memories_on m stem lap l) end_is ∙ memory_returns m stem lap l
+        ∙ ap (memories_on m stem lap l) (sym from_is)
+
+    again : word stem lap (from + count) ≡ word stem lap from
+    again = ap (word stem lap) end_is ∙ letter_returns m stem lap l ∙ ap (word stem lap) (sym from_is)
+
+    parity : greatest_from (priority_at (auto_of a) (word stem lap)) from count % 2 ≡ winner certificate
+    parity =
+        parity_of_part (board_of order a) (mover_of order) keys game certificate setting m made others (word stem lap)
+        (memories_on m stem lap l) (endless m stem lap l) from count some_count back again
+
+    returns : state_at (auto_of a) (word stem lap) (from + count) ≡ state_at (auto_of a) (word stem lap) from
+    returns =
+        state_returns (board_of order a) (mover_of order) keys game certificate setting m made others (word stem lap)
+        (memories_on m stem lap l) (endless m stem lap l) from count some_count back again
+
+    returned : state_at (auto_of a) (word stem lap) (length stem + (0 + 1) * length lap) ≡ state_at (auto_of a)
+        (word stem lap) (length stem + 0 * length lap)
+    unfolding from count
+    returned =
+        (let same : length stem + (0 + 1) * length lap ≡ from + count = omega arith in
+        ap (state_at (auto_of a) (word stem lap)) same ∙ returns)
+
+    if_even : m.player ≡ 0 → IsAccepted file stem lap
+    unfolding from count
+    if_even is =
+        even_is_accepted file chain (auto_of a) built.is_chain built.auto stem lap l.some in_stem in_lap 0 1
+        (omega arith) returned
+        (eq-eqb (greatest_from (priority_at (auto_of a) (word stem lap)) from count % 2) 0
+        (parity ∙ sym made.player ∙ is))
+
+    only_even : IsAccepted file stem lap → m.player ≡ 0
+    unfolding from count
+    only_even accepted =
+        let even =
+        accepted_is_even file chain (auto_of a) built.is_chain built.auto stem lap l.some in_stem in_lap 0 1
+        (omega arith) returned accepted in
+        made.player ∙ sym parity ∙ eqb-true (greatest_from (priority_at (auto_of a) (word stem lap)) from count % 2) 0
+        even
+
+  pub each_lasso_won : LassosWon file m
+  each_lasso_won = record {
+    accepted = λ is stem lap l. if_even stem lap l is;
+    rejected = λ other stem lap l accepted. other (only_even stem lap l accepted);
+  }

@@ -1,0 +1,10 @@
+-- How a machine is made of a certificate.
+
+pub mod Following
+pub mod MemorySteps
+pub mod KeptMemories
+pub mod Listing
+pub mod Assembling
+pub mod MachineLemmas
+pub mod Extracted
+pub mod MachineThere

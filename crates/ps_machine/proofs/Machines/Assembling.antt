@@ -1,0 +1,84 @@
+-- How a machine is put together: its diagrams, its propositions, and the vertices of its certificate.
+use Rattle.std.proofs.Common.{◌≡◌, ℕ, ◌+◌, ◌<◌, Bool, true, false, not, List, [], ◌∷◌, ◌++◌, length, map, get_or, Vec}
+use Rattle.std.proofs.Common.{refl, ap, ap₂, sym, subst, ◌∙◌, arith, inl, inr}
+use Rattle.std.specs.Prelude.{slice_index, vec_len}
+use Rattle.std.specs.Global.{Global}
+use Rattle.std.specs.List.{All, AllZip}
+use Rattle.std.proofs.Math.Bool.{beq}
+use Rattle.std.proofs.lemmas.Bool.{cases_eq}
+use Rattle.std.proofs.lemmas.List.{get_or_push, get_or_append_left, length_push}
+use Rattle.ps_certificate.specs.Certificates.{CertificateData}
+use Rattle.ps_diagram.specs.Table.{Table, Keeps}
+use Rattle.ps_diagram.proofs.Cells.{true_is_not_false}
+use Rattle.ps_hoa.specs.Memory.{bytes_of}
+use Rattle.ps_machine.specs.Assembling.{AreDrawn}
+use Rattle.ps_machine.specs.Boards.{Board}
+use Rattle.ps_machine.specs.Drawing.{IsDrawn, IsRow, KeepsRows}
+use Rattle.ps_machine.specs.Extracting.{is_others}
+use Rattle.ps_machine.specs.declared.key.Key.{Key}
+use Rattle.ps_machine.specs.declared.machine.Row.{Row}
+use Rattle.ps_machine.proofs.Diagrams.DrawingLemmas.{drawn_kept}
+
+-- ## Names
+
+same_items : (xs ys : List ℕ) → AllZip (λ x y. y ≡ x) xs ys → ys ≡ xs
+same_items [] [] zip = refl
+same_items [] (y ∷ ys) zip = absurd zip
+same_items (x ∷ xs) [] zip = absurd zip
+same_items (x ∷ xs) (y ∷ ys) zip = ap₂ (λ (n : ℕ) (ns : List ℕ). n ∷ ns) zip.0 (same_items xs ys zip.1)
+
+pub same_names : (xs ys : List (Vec ℕ Global)) → AllZip (λ v w. AllZip (λ x y. y ≡ x) v.items w.items ×
+    (vec_len w ≡ vec_len v)) xs ys → map bytes_of ys ≡ map bytes_of xs
+same_names [] [] zip = refl
+same_names [] (y ∷ ys) zip = absurd zip
+same_names (x ∷ xs) [] zip = absurd zip
+same_names (x ∷ xs) (y ∷ ys) zip =
+    ap₂ (λ (n : List ℕ) (ns : List (List ℕ)). n ∷ ns) (same_items x.items y.items zip.0.0) (same_names xs ys zip.1)
+
+-- ## Propositions
+
+-- the player who moves first or second plays what that player plays
+pub plays_own : (m : Bool) (board : Board) (p : ℕ) (b : Bool) → b ≡ board.is_first p → beq b m ≡ true →
+    is_others m board p ≡ false
+plays_own true board p true is e = ap not (sym is)
+plays_own true board p false is e = absurd (true_is_not_false (sym e))
+plays_own false board p true is e = absurd (true_is_not_false (sym e))
+plays_own false board p false is e = sym is
+
+pub reads_others : (m : Bool) (board : Board) (p : ℕ) (b : Bool) → b ≡ board.is_first p → beq b m ≡ false →
+    is_others m board p ≡ true
+reads_others true board p true is e = absurd (true_is_not_false e)
+reads_others true board p false is e = ap not (sym is)
+reads_others false board p true is e = sym is
+reads_others false board p false is e = absurd (true_is_not_false e)
+
+-- ## Diagrams
+
+pub drawn_more : (is_first : Bool) (board : Board) (keys : List Key) (kept : List ℕ) (certificate : CertificateData)
+    (t u : Table) (old new : List Row) (nodes more : List ℕ) (i v node : ℕ) → Keeps t u → KeepsRows old new →
+    All (IsRow is_first board kept) new →
+    IsDrawn is_first board keys kept certificate u new v node → v ≡ slice_index kept i → more ≡ nodes ++ node ∷ [] →
+    AreDrawn is_first board keys kept certificate t old nodes i →
+    AreDrawn is_first board keys kept certificate u new more (i + 1)
+drawn_more is_first board keys kept certificate t u old new nodes more i v node keeps rows all here at e d = record {
+  rows_are = all;
+  many = ap (λ (l : List ℕ). length l) e ∙ length_push nodes node ∙ ap (λ n. n + 1) d.many;
+  each = λ memory less. elim (cases_eq memory i) [
+    | inl same ↦ subst (λ j. Drawn (slice_index kept j) (slice_index more j)) (sym same)
+        (subst (Drawn (slice_index kept i)) (sym last) (subst (λ w. Drawn w node) at here))
+    | inr other ↦ (let before : memory < i = omega (arith, less, other) in
+        subst (Drawn (slice_index kept memory)) (sym (earlier memory before))
+        (drawn_kept is_first board keys kept certificate t u old new (slice_index kept memory)
+        (slice_index nodes memory) keeps rows (d.each memory before)))
+  ];
+}
+  where
+    Drawn : ℕ → ℕ → Type 0
+    Drawn w n = IsDrawn is_first board keys kept certificate u new w n
+
+    last : slice_index more i ≡ node
+    last = ap (λ l. get_or l i 0) e ∙ get_or_push nodes node 0 i d.many
+
+    earlier : (memory : ℕ) → memory < i → slice_index more memory ≡ slice_index nodes memory
+    earlier memory less =
+        ap (λ l. get_or l memory 0) e ∙ get_or_append_left nodes (node ∷ []) 0 memory (omega (arith, less, d.many))

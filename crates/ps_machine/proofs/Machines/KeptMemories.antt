@@ -1,0 +1,111 @@
+-- The memories of the used vertices are the kept vertices of the machine.
+use Rattle.std.proofs.Common.{◌≡◌, ◌≢◌, inl, inr, ℕ, ◌<◌, ◌≤◌, Bool, true, false, List, length, get_or, Some, ap, sym}
+use Rattle.std.proofs.Common.{subst, ◌∙◌, arith}
+use Rattle.std.specs.Prelude.{slice_get}
+use Rattle.std.specs.List.{All, AllPairs, Contains}
+use Rattle.std.proofs.lemmas.Bool.{cases_lt}
+use Rattle.std.proofs.lemmas.List.{get_or_default}
+use Rattle.std.proofs.lemmas.Option.{slice_get_within, slice_get-get_or, get_or_from_slice_get}
+use Rattle.ps_diagram.proofs.KnownLemmas.{some_nat}
+use Rattle.ps_game.specs.Games.{ParityGame}
+use Rattle.ps_certificate.specs.Certificates.{CertificateData}
+use Rattle.ps_machine.specs.Drawing.{AreUsed, AreMemories, mark_of}
+use Rattle.ps_machine.specs.Extracting.{IsKept, Shares, StandsFor}
+use Rattle.ps_machine.specs.Numbering.{StandsAt}
+use Rattle.ps_machine.specs.declared.key.Key.{Key}
+use Rattle.ps_machine.specs.declared.key.Key.TheVariants.{First}
+use Rattle.ps_machine.proofs.Diagrams.DrawingLemmas.{stands_for}
+
+-- vertices share a memory just where their marks are the same
+pub shares_mark : (is_first : Bool) (v q w r : ℕ) → Shares is_first v q w r →
+    mark_of is_first v q ≡ mark_of is_first w r
+shares_mark true v q w r e = e
+shares_mark false v q w r e = e
+
+pub mark_shares : (is_first : Bool) (v q w r : ℕ) → mark_of is_first v q ≡ mark_of is_first w r →
+    Shares is_first v q w r
+mark_shares true v q w r e = e
+mark_shares false v q w r e = e
+
+module _ (is_first : Bool) (keys : List Key) (used kept marks : List ℕ) (m : AreMemories is_first keys used kept marks)
+  where
+    -- two memories with one mark are one
+    one_memory : (i j x : ℕ) → slice_get marks i ≡ Some x → slice_get marks j ≡ Some x → i ≡ j
+    one_memory i j x at there = elim (cases_lt i j) [
+      | inl less ↦ absurd (apart i j less at there)
+      | inr high ↦ elim (cases_lt j i) [
+        | inl less ↦ absurd (apart j i less there at)
+        | inr low ↦ omega arith
+      ]
+    ]
+      where
+        apart : (k l : ℕ) → k < l → slice_get marks k ≡ Some x → slice_get marks l ≡ Some x → ⊥
+        apart k l less a b =
+            m.different k l 0 less (slice_get_within marks l x b) (get_or_from_slice_get marks k x 0 a
+            ∙ sym (get_or_from_slice_get marks l x 0 b))
+
+    -- the memory of a used vertex stands for it, and is kept there or before
+    pub memory_of : (w r p : ℕ) → AllPairs (λ x y. x ≢ y) keys → Contains used w → StandsAt keys w (First r p) →
+        (memory : ℕ) × (memory < length kept) × StandsFor is_first keys kept memory w r
+    memory_of w r p differ is_used stands =
+        let h = m.found w r p is_used stands in (
+          h.memory,
+          omega (arith, slice_get_within marks h.memory (mark_of is_first w r) h.is_marked, m.many),
+          stands_for is_first keys used kept marks h.memory w r p differ m stands h.is_marked w stands,
+        )
+
+    -- the first memory is that of vertex 0
+    pub first_kept : (p q : ℕ) → StandsAt keys 0 (First q p) → Contains used 0 → slice_get kept 0 ≡ Some 0
+    first_kept p q stands is_used =
+        let h = m.found 0 q p is_used stands in
+        let within : h.memory < length kept =
+        omega (arith, slice_get_within marks h.memory (mark_of is_first 0 q) h.is_marked, m.many) in
+        let least : get_or kept 0 0 ≡ 0 = elim (cases_lt 0 h.memory) [
+          | inl later ↦ (let rises = m.rising 0 h.memory 0 later within in omega (arith, rises, h.behind))
+          | inr none ↦ (let is : h.memory ≡ 0 = omega (arith, none) in
+              let behind : get_or kept 0 0 ≤ 0 = subst (λ i. get_or kept i 0 ≤ 0) is h.behind in omega (arith, behind))
+        ] in
+        slice_get-get_or kept 0 0 (omega (arith, within)) ∙ ap (λ n. Some n) least
+
+    pub some_kept : (p q : ℕ) → StandsAt keys 0 (First q p) → Contains used 0 → 0 < length kept
+    some_kept p q stands is_used = slice_get_within kept 0 0 (first_kept p q stands is_used)
+
+    module _ (game : ParityGame) (certificate : CertificateData) (are_used : AreUsed game certificate used) where
+      -- at a memory's vertex no vertex before shares the memory
+      kept_at : (memory : ℕ) → memory < length kept → IsKept is_first keys game certificate (get_or kept memory 0)
+      kept_at memory within =
+          let here = m.each memory within in
+          record {
+            state = here.state;
+            priority = here.priority;
+            here = record { used = (are_used (get_or kept memory 0)).0 here.is_used; stands = here.stands };
+            least = λ w r p less there shares.
+                (let h = m.found w r p ((are_used w).1 there.used) there.stands in
+                let same : h.memory ≡ memory =
+                one_memory h.memory memory (mark_of is_first w r) h.is_marked
+                (here.mark ∙ ap (λ n. Some n) (shares_mark is_first (get_or kept memory 0) here.state w r shares)) in
+                let behind : get_or kept memory 0 ≤ w = subst (λ i. get_or kept i 0 ≤ w) same h.behind in
+                omega (arith, behind, less));
+          }
+
+      pub all_kept : All (IsKept is_first keys game certificate) kept
+      all_kept memory d within =
+          subst (IsKept is_first keys game certificate) (get_or_default kept memory 0 d within) (kept_at memory within)
+
+      -- a used vertex that is the least of those that share a memory with it is the one that is kept
+      pub each_kept : (v : ℕ) → IsKept is_first keys game certificate v → Contains kept v
+      each_kept v k =
+          let h = m.found v k.state k.priority ((are_used v).1 k.here.used) k.here.stands in
+          let within : h.memory < length kept =
+          omega (arith, slice_get_within marks h.memory (mark_of is_first v k.state) h.is_marked, m.many) in
+          let at = m.each h.memory within in
+          let same : mark_of is_first v k.state ≡ mark_of is_first (get_or kept h.memory 0) at.state =
+          some_nat (mark_of is_first v k.state) (mark_of is_first (get_or kept h.memory 0) at.state)
+          (sym h.is_marked ∙ at.mark) in
+          let is : get_or kept h.memory 0 ≡ v = elim (cases_lt (get_or kept h.memory 0) v) [
+            | inl less ↦ absurd (k.least (get_or kept h.memory 0) at.state at.priority less
+                (record { used = (are_used (get_or kept h.memory 0)).0 at.is_used; stands = at.stands })
+                (mark_shares is_first v k.state (get_or kept h.memory 0) at.state same))
+            | inr not_less ↦ omega (arith, not_less, h.behind)
+          ] in
+          (h.memory, within, get_or_default kept h.memory v 0 within ∙ is)

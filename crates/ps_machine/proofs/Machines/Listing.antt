@@ -1,0 +1,92 @@
+-- Numbers that are listed in their order, and the propositions that a machine reads and plays.
+use Rattle.std.proofs.Common.{◌≡◌, ◌≢◌, ℕ, zero, suc, ◌+◌, ◌<◌, Bool, true, false, cond, List, [], ◌∷◌, ◌++◌, length}
+use Rattle.std.proofs.Common.{get_or, nat_eq, refl, ap, sym, subst, ◌∙◌, arith, inl, inr}
+use Rattle.std.proofs.lemmas.Bool.{cases_Bool, cases_eq, eq-eqb, ne_eqb}
+use Rattle.std.specs.List.{Contains}
+use Rattle.std.proofs.lemmas.List.Quantifiers.{all_pairs_push}
+use Rattle.ps_diagram.proofs.Cells.{true_is_not_false}
+use Rattle.ps_hoa.specs.Files.{is_among}
+use Rattle.ps_machine.specs.Assembling.{AreListedBelow}
+use Rattle.ps_machine.proofs.Uniqueness.Rising.{Within, same_numbers}
+
+always : (b : Bool) → cond b true true ≡ true
+always true = refl
+always false = refl
+
+among_push : (p n : ℕ) (list : List ℕ) → p ≢ n → is_among p (list ++ n ∷ []) ≡ is_among p list
+among_push p n [] other = ap (λ (b : Bool). cond b true false) (ne_eqb p n other)
+among_push p n (m ∷ list) other = ap (λ (b : Bool). cond (nat_eq p m) true b) (among_push p n list other)
+
+among_last : (p : ℕ) (list : List ℕ) → is_among p (list ++ p ∷ []) ≡ true
+among_last p [] = ap (λ (b : Bool). cond b true false) (eq-eqb p p refl)
+among_last p (m ∷ list) = ap (λ (b : Bool). cond (nat_eq p m) true b) (among_last p list) ∙ always (nat_eq p m)
+
+get_among : (list : List ℕ) (k d : ℕ) → k < length list → is_among (get_or list k d) list ≡ true
+get_among [] k d within = absurd (omega (arith, within))
+get_among (m ∷ list) zero d within = ap (λ (b : Bool). cond b true (is_among m list)) (eq-eqb m m refl)
+get_among (m ∷ list) (suc k) d within =
+    ap (λ (b : Bool). cond (nat_eq (get_or list k d) m) true b) (get_among list k d (omega (arith, within)))
+    ∙ always (nat_eq (get_or list k d) m)
+
+pub among_there : (p : ℕ) (list : List ℕ) → is_among p list ≡ true → Contains list p
+among_there p [] among = absurd (true_is_not_false (sym among))
+among_there p (m ∷ list) among = elim (cases_eq p m) [
+  | inl same ↦ (0, omega arith, sym same)
+  | inr other ↦ (let c = among_there p list (sym (ap (λ (b : Bool). cond b true (is_among p list)) (ne_eqb p m other))
+      ∙ among) in (suc c.0, omega (arith, c.1), c.2))
+]
+
+there_among : (p : ℕ) (list : List ℕ) → Contains list p → is_among p list ≡ true
+there_among p list c = subst (λ q. is_among q list ≡ true) c.2 (get_among list c.0 p c.1)
+
+-- the numbers below n that are so are listed in one way
+pub one_listed : (n : ℕ) (is : ℕ → Bool) (xs ys : List ℕ) → AreListedBelow n is xs → AreListedBelow n is ys → xs ≡ ys
+one_listed n is xs ys a b = same_numbers xs ys a.rising b.rising (into xs ys a b) (into ys xs b a)
+  where
+    into : (us vs : List ℕ) → AreListedBelow n is us → AreListedBelow n is vs → Within us vs
+    into us vs l m p c =
+        let among = there_among p us c in
+        let less = l.within p among in
+        among_there p vs (m.are p less ∙ sym (l.are p less) ∙ among)
+
+pub listed_none : (is : ℕ → Bool) → AreListedBelow 0 is []
+listed_none is = record {
+  rising = λ i j d less within. absurd (omega (arith, within));
+  within = λ p among. absurd (true_is_not_false (sym among));
+  are = λ p less. absurd (omega (arith, less));
+}
+
+pub listed_with : (n : ℕ) (is : ℕ → Bool) (list new : List ℕ) → is n ≡ true → new ≡ list ++ n ∷ [] →
+    AreListedBelow n is list → AreListedBelow (n + 1) is new
+listed_with n is list new here e l =
+    subst (AreListedBelow (n + 1) is) (sym e) (record {
+      rising =
+          all_pairs_push (λ p q. p < q) list n l.rising (λ k d within.
+          l.within (get_or list k d) (get_among list k d within));
+      within = λ p among. elim (cases_eq p n) [
+        | inl same ↦ omega (arith, same)
+        | inr other ↦ (let less = l.within p (sym (among_push p n list other) ∙ among) in omega (arith, less))
+      ];
+      are = λ p less. elim (cases_eq p n) [
+        | inl same ↦ subst (λ q. is_among q (list ++ n ∷ []) ≡ is q) (sym same) (among_last n list ∙ sym here)
+        | inr other ↦ among_push p n list other ∙ l.are p (omega (arith, less, other))
+      ];
+    })
+
+pub listed_without : (n : ℕ) (is : ℕ → Bool) (list new : List ℕ) → is n ≡ false → new ≡ list →
+    AreListedBelow n is list → AreListedBelow (n + 1) is new
+listed_without n is list new isnt e l =
+    subst (AreListedBelow (n + 1) is) (sym e) (record {
+      rising = l.rising;
+      within = λ p among. (let less = l.within p among in omega (arith, less));
+      are = λ p less. elim (cases_eq p n) [
+        | inl same ↦ subst (λ q. is_among q list ≡ is q) (sym same) (none ∙ sym isnt)
+        | inr other ↦ l.are p (omega (arith, less, other))
+      ];
+    })
+  where
+    none : is_among n list ≡ false
+    none = elim (cases_Bool (is_among n list)) [
+      | inl among ↦ absurd (let less = l.within n among in omega (arith, less))
+      | inr absent ↦ absent
+    ]

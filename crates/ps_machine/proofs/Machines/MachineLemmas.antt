@@ -1,0 +1,231 @@
+-- A machine that is put together of right parts is one, and is that of the certificate.
+use Rattle.std.proofs.Common.{◌≡◌, ℕ, ◌+◌, ◌^◌, ◌<◌, ◌⊎◌, inl, inr, Bool, true, false, not, List, length, Some, refl}
+use Rattle.std.proofs.Common.{ap, sym, subst, ◌∙◌, arith}
+use Rattle.std.specs.Prelude.{◌&&◌, IsSomeAnd, slice_get, slice_index}
+use Rattle.std.specs.Option.{unwrap_or}
+use Rattle.std.proofs.lemmas.Bool.{cases_Bool, cases_lt}
+use Rattle.std.proofs.lemmas.Option.{slice_get_within, slice_get-get_or, get_or_from_slice_get}
+use Rattle.ps_label.specs.Truth.{is_in}
+use Rattle.ps_certificate.specs.Certificates.{CertificateData}
+use Rattle.ps_diagram.specs.Letters.{letter_of}
+use Rattle.ps_diagram.specs.Table.{leaf_of}
+use Rattle.ps_diagram.proofs.Cells.{true_is_not_false}
+use Rattle.ps_diagram.proofs.KnownLemmas.{some_nat}
+use Rattle.ps_diagram.proofs.Letters.{letter_lt, letter_is, no_bit}
+use Rattle.ps_hoa.specs.Files.{is_among}
+use Rattle.ps_machine.specs.Assembling.{IsAssembled}
+use Rattle.ps_machine.specs.Behaviours.{AreSameOn, IsMachine, IsOutput}
+use Rattle.ps_machine.specs.Boards.{Board}
+use Rattle.ps_machine.specs.Drawing.{IsOwn, IsRow, IsDrawn, LeadsToRow}
+use Rattle.ps_machine.specs.Extracting.{GoesTo, StandsFor, IsPlayed, IsOther, IsStep, is_others}
+use Rattle.ps_machine.specs.Machines.{MachineData, IsWholeMachine, behaviour, row_of, step_of}
+use Rattle.ps_machine.specs.declared.key.Key.{Key}
+use Rattle.ps_machine.specs.declared.key.Key.TheVariants.{First, Second}
+use Rattle.ps_machine.specs.declared.machine.Row.{Row}
+use Rattle.ps_machine.proofs.GameKeys.Standing.{same_some}
+
+pub back : (b : Bool) → not b ≡ false → b ≡ true
+back true e = refl
+back false e = sym e
+
+back_not : (b : Bool) → not b ≡ true → b ≡ false
+back_not true e = sym e
+back_not false e = refl
+
+letter_in : Key → ℕ
+letter_in (First q p) = 0
+letter_in (Second q x) = x
+
+-- a player who moves first plays the same letter at a vertex, whatever the other one plays
+pub one_letter : (b : Bool) (board : Board) (keys : List Key) (certificate : CertificateData) (v q x y one other : ℕ) →
+    b ≡ true → IsPlayed b board keys certificate v q x one → IsPlayed b board keys certificate v q y other → one ≡ other
+unfolding letter_in
+one_letter true board keys certificate v q x y one other is s t =
+    let chosen = some_nat s.chosen t.chosen (sym s.choice ∙ t.choice) in
+    ap letter_in (same_some (Second q one) (Second q other) (sym s.stands
+    ∙ ap (λ w. slice_get keys w) chosen ∙ t.stands))
+one_letter false board keys certificate v q x y one other is s t = absurd (true_is_not_false (sym is))
+
+pub own_within : (b : Bool) (board : Board) (y : ℕ) → IsOwn b board y → y < 2 ^ board.propositions
+own_within true board y own = own.within
+own_within false board y own = own.within
+
+-- of the other player's propositions none is true
+pub own_none : (b : Bool) (board : Board) (y p : ℕ) → IsOwn b board y → is_others b board p ≡ true → is_in p y ≡ false
+own_none true board y p own is = own.own p (back_not (board.is_first p) is)
+own_none false board y p own is = own.own p is
+
+module _ (board : Board) (keys : List Key) (kept : List ℕ) (certificate : CertificateData) (m : MachineData)
+    (a : IsAssembled board keys kept certificate m) where
+  n : ℕ
+  n = board.propositions
+
+  abbrev Drawn : ℕ → Type 0
+  Drawn memory =
+      IsDrawn m.is_first board keys kept certificate m.store m.rows (slice_index kept memory)
+      (slice_index m.nodes memory)
+
+  of_others : ℕ → ℕ → Bool
+  of_others x p = is_others m.is_first board p && is_in p x
+
+  -- what the other player's propositions are in a letter
+  part : ℕ → ℕ
+  part x = letter_of n (of_others x)
+
+  part_bit : (x p : ℕ) → p < board.propositions → is_others m.is_first board p ≡ true → is_in p x ≡ is_in p (part x)
+  unfolding part n of_others
+  part_bit x p less is = sym (letter_is n (of_others x) p less ∙ ap (λ b. b && is_in p x) is)
+
+  part_none : (x p : ℕ) → is_others m.is_first board p ≡ false → is_in p (part x) ≡ false
+  unfolding part n of_others
+  part_none x p isnt = elim (cases_lt p n) [
+    | inl less ↦ letter_is n (of_others x) p less ∙ ap (λ b. b && is_in p x) isnt
+    | inr more ↦ no_bit n (part x) p (letter_lt n (of_others x)) more
+  ]
+
+  part_other : (x : ℕ) → IsOther m.is_first board (part x)
+  unfolding part n
+  part_other x = by m.is_first refl
+    where
+      within : part x < 2 ^ board.propositions
+      within = letter_lt n (of_others x)
+
+      by : (b : Bool) → m.is_first ≡ b → IsOther b board (part x)
+      by true is =
+          record { within = within; own = λ p first. part_none x p (ap (λ b. is_others b board p) is ∙ ap not first) }
+      by false is =
+          record { within = within; own = λ p first. part_none x p (ap (λ b. is_others b board p) is ∙ first) }
+
+  -- each letter leads to the row of its part
+  leads : (memory x : ℕ) → (d : Drawn memory) → LeadsToRow m.is_first board keys kept certificate m.store m.rows
+      (slice_index m.nodes memory) (slice_index kept memory) d.state (part x)
+  leads memory x d = d.leads (part x) (part_other x)
+
+  leaf_is : (memory x : ℕ) → (d : Drawn memory) → leaf_of m.store (slice_index m.nodes memory) x ≡ Some
+      (leads memory x d).leaf
+  leaf_is memory x d = d.heeds x (part x) (λ p less is. part_bit x p less is) ∙ (leads memory x d).is_leaf
+
+  step_is : (memory x leaf : ℕ) (row : Row) → leaf_of m.store (slice_index m.nodes memory) x ≡ Some leaf →
+      slice_get m.rows leaf ≡ Some row → step_of m memory x ≡ row
+  step_is memory x leaf row e f = ap (λ o. row_of m (unwrap_or o (length m.rows))) e
+      ∙ get_or_from_slice_get m.rows leaf row (record { memory = 0; letter = 0 }) f
+
+  drawn_at : (memory : ℕ) → memory < length m.nodes → Drawn memory
+  drawn_at memory within = a.drawn.each memory (omega (arith, within, a.drawn.many))
+
+  outputs_only : (y : ℕ) → IsOwn m.is_first board y → IsOutput (behaviour m) y
+  outputs_only y own = record {
+    within = subst (λ k. y < 2 ^ k) (sym a.as_many) (own_within m.is_first board y own);
+    own = λ p none. elim (cases_lt p board.propositions) [
+      | inl less ↦ own_none m.is_first board y p own (back (is_others m.is_first board p)
+          (sym (a.roles.played.are p less) ∙ none))
+      | inr more ↦ no_bit board.propositions y p (own_within m.is_first board y own) more
+    ];
+  }
+
+  row_is : (leaf : ℕ) → leaf < length m.rows → ((row_of m leaf).memory < length m.nodes) ×
+      IsOutput (behaviour m) (row_of m leaf).letter
+  row_is leaf within =
+      let row : IsRow m.is_first board kept (row_of m leaf) =
+      a.drawn.rows_are leaf (record { memory = 0; letter = 0 }) within in
+      (omega (arith, row.memory, a.drawn.many), outputs_only (row_of m leaf).letter row.letter)
+
+  plays_same : m.is_first ≡ true → (memory x y : ℕ) → (d : Drawn memory) →
+      (step_of m memory x).letter ≡ (step_of m memory y).letter
+  plays_same is memory x y d =
+      let one = leads memory x d in
+      let other = leads memory y d in
+      ap (λ (r : Row). r.letter) (step_is memory x one.leaf one.row (leaf_is memory x d) one.is_row)
+      ∙ one_letter m.is_first board keys certificate (slice_index kept memory) d.state (part x) (part y) one.row.letter
+      other.row.letter is one.is_right.played other.is_right.played
+      ∙ sym (ap (λ (r : Row). r.letter) (step_is memory y other.leaf other.row (leaf_is memory y d) other.is_row))
+
+  read_or_played : (p : ℕ) → p < length m.names → (is_among p m.inputs ≡ true) ⊎ (is_among p m.outputs ≡ true)
+  read_or_played p within =
+      let less : p < board.propositions = omega (arith, within, a.as_many) in
+      elim (cases_Bool (is_others m.is_first board p)) [
+        | inl is ↦ inl (a.roles.read.are p less ∙ is)
+        | inr isnt ↦ inr (a.roles.played.are p less ∙ ap not isnt)
+      ]
+
+  -- a step goes by a row
+  row_at : (memory x : ℕ) → memory < length m.nodes → ((step_of m memory x).memory < length m.nodes) ×
+      IsOutput (behaviour m) (step_of m memory x).letter
+  row_at memory x within =
+      let l = leads memory x (drawn_at memory within) in
+      let there = slice_get_within m.rows l.leaf l.row l.is_row in
+      let is : step_of m memory x ≡ row_of m l.leaf =
+      ap (λ o. row_of m (unwrap_or o (length m.rows))) (leaf_is memory x (drawn_at memory within)) in
+      subst (λ (r : Row). (r.memory < length m.nodes) × IsOutput (behaviour m) r.letter) (sym is) (row_is l.leaf there)
+
+  leaf_heeds : (memory x y : ℕ) → memory < length m.nodes → AreSameOn m.inputs x y →
+      leaf_of m.store (slice_index m.nodes memory) x ≡ leaf_of m.store (slice_index m.nodes memory) y
+  leaf_heeds memory x y within same =
+      (drawn_at memory within).heeds x y (λ p less is. same p (a.roles.read.are p less ∙ is))
+
+  step_heeds : (memory x y : ℕ) → memory < length m.nodes → AreSameOn m.inputs x y →
+      step_of m memory x ≡ step_of m memory y
+  step_heeds memory x y within same =
+      ap (λ o. row_of m (unwrap_or o (length m.rows))) (leaf_heeds memory x y within same)
+
+  does : IsMachine (behaviour m)
+  does = record {
+    few_names = a.few_names;
+    are_names = a.are_names;
+    inputs_rise = a.roles.read.rising;
+    outputs_rise = a.roles.played.rising;
+    each = λ p. (
+      read_or_played p,
+      λ either. elim either [
+        | inl among ↦ (let less = a.roles.read.within p among in omega (arith, less, a.as_many))
+        | inr among ↦ (let less = a.roles.played.within p among in omega (arith, less, a.as_many))
+      ],
+    );
+    apart =
+        λ p among. (let less = a.roles.read.within p among in a.roles.played.are p less
+        ∙ ap not (sym (a.roles.read.are p less) ∙ among));
+    player = a.player;
+    some = omega (arith, a.some, a.drawn.many);
+    next_within = λ memory x within. (row_at memory x within).0;
+    plays_own = λ memory x within. (row_at memory x within).1;
+    next_heeds = λ memory x y within same. ap (λ (r : Row). r.memory) (step_heeds memory x y within same);
+    plays_heeds = λ memory x y within same. ap (λ (r : Row). r.letter) (step_heeds memory x y within same);
+    blind = λ is memory x y within. plays_same is memory x y (drawn_at memory within);
+  }
+
+  pub is_machine : IsWholeMachine m
+  is_machine = record {
+    is_machine = does;
+    letters = a.letters;
+    held = λ memory within. (drawn_at memory within).held;
+    leaves = λ memory x within.
+        (let d = drawn_at memory within in
+        let l = leads memory x d in
+        subst (λ o. IsSomeAnd o (λ leaf. leaf < length m.rows)) (sym (leaf_is memory x d))
+        (slice_get_within m.rows l.leaf l.row l.is_row));
+    reads = leaf_heeds;
+    rows = row_is;
+  }
+
+  -- its steps are those of the certificate
+  pub is_step : (memory x : ℕ) → memory < length m.nodes → IsOther m.is_first board x →
+      IsStep board keys kept certificate (behaviour m) memory x
+  is_step memory x within other =
+      let d = drawn_at memory within in
+      let l = d.leads x other in
+      let v = slice_index kept memory in
+      let step = sym (step_is memory x l.leaf l.row l.is_leaf l.is_row) in
+      record {
+        vertex = v;
+        state = d.state;
+        priority = d.priority;
+        is_kept = slice_get-get_or kept memory 0 (omega (arith, within, a.drawn.many));
+        stands = d.stands;
+        played =
+            subst (λ (r : Row). IsPlayed m.is_first board keys certificate v d.state x r.letter) step l.is_right.played;
+        entered = l.is_right.entered;
+        goes = subst (λ (r : Row). GoesTo keys board d.state (x + r.letter) l.is_right.entered) step l.is_right.goes;
+        next =
+            subst (λ (r : Row). StandsFor m.is_first keys kept r.memory l.is_right.entered
+            (board.auto.next d.state (x + r.letter))) step l.is_right.next;
+      }

@@ -1,0 +1,231 @@
+-- The memories of the vertices that were looked at, and what one more vertex adds.
+use Rattle.std.proofs.Common.{◌≡◌, ◌≢◌, inl, inr, ℕ, ◌+◌, ◌<◌, ◌≤◌, Bool, true, false, List, [], ◌∷◌, ◌++◌, length}
+use Rattle.std.proofs.Common.{get_or, Some, refl, ap, sym, subst, ◌∙◌, arith, rules, not, nat_eq}
+use Rattle.std.specs.List.{All, AllPairs, Contains, list_any, slice_get}
+use Rattle.std.specs.Cmp.{nat_eq_equiv}
+use Rattle.std.proofs.lemmas.Bool.{eqb-true}
+use Rattle.std.proofs.lemmas.List.{get_or_append_left, get_or_push, length_push}
+use Rattle.std.proofs.lemmas.List.Elements.{All-nil, All-push}
+use Rattle.std.proofs.lemmas.List.Quantifiers.{all_pairs_push}
+use Rattle.std.proofs.lemmas.Option.{slice_get_within, slice_get-get_or, get_or_from_slice_get}
+use Rattle.std.proofs.lemmas.Map.Views.{Contains-from_any, list_any-from_Contains}
+use Rattle.indexmap.specs.IndexSet.{insert_key}
+use Rattle.ps_machine.specs.Drawing.{AreMemories, HasMemory, IsMemory, KeepsAt, Stays, Grows, mark_of}
+use Rattle.ps_machine.specs.Numbering.{StandsAt}
+use Rattle.ps_machine.specs.declared.key.Key.{Key}
+use Rattle.ps_machine.specs.declared.key.Key.TheVariants.{First}
+use Rattle.ps_machine.proofs.GameKeys.Exploring.{less_or_last}
+use Rattle.ps_machine.proofs.Machines.Following.{different_push, inserted}
+use Rattle.ps_machine.proofs.GameKeys.Standing.{one_state}
+
+not_not : (b : Bool) → not (not b) ≡ b
+not_not true = refl
+not_not false = refl
+
+-- what stands at a place of a list stands there in a longer one
+marked_left : (marks : List ℕ) (mark memory x : ℕ) → slice_get marks memory ≡ Some x →
+    slice_get (marks ++ mark ∷ []) memory ≡ Some x
+marked_left marks mark memory x at =
+    let within = slice_get_within marks memory x at in
+    slice_get-get_or (marks ++ mark ∷ []) memory x (omega (arith, within, length_push marks mark))
+    ∙ ap (λ n. Some n) (get_or_append_left marks (mark ∷ []) x memory within
+    ∙ get_or_from_slice_get marks memory x x at)
+
+marked_last : (marks : List ℕ) (mark : ℕ) → slice_get (marks ++ mark ∷ []) (length marks) ≡ Some mark
+marked_last marks mark =
+    slice_get-get_or (marks ++ mark ∷ []) (length marks) 0 (omega (arith, length_push marks mark))
+    ∙ ap (λ n. Some n) (get_or_push marks mark 0 (length marks) refl)
+
+-- ## One memory
+
+-- whether a number is in a list, as a table tells it
+pub is_there : (xs : List ℕ) (x : ℕ) (b : Bool) → b ≡ list_any (nat_eq x) xs → b ≡ true → Contains xs x
+is_there xs x b told is = Contains-from_any (λ y z h. eqb-true y z h) x xs (sym told ∙ is)
+
+pub is_absent : (xs : List ℕ) (x : ℕ) (b : Bool) → b ≡ list_any (nat_eq x) xs → b ≡ false → Contains xs x → ⊥
+is_absent xs x b told is there = both b (told ∙ list_any-from_Contains nat_eq_equiv x xs there) is
+  where
+    both : (b : Bool) → b ≡ true → b ≡ false → ⊥
+    both b t f = search rules
+
+pub keeps_known : (kept marks : List ℕ) (v mark : ℕ) (new : List ℕ) (b : Bool) →
+    b ≡ not (list_any (nat_eq mark) marks) → b ≡ false → new ≡ insert_key nat_eq marks mark →
+    KeepsAt kept marks v mark kept new
+keeps_known kept marks v mark new b told is e = elim (inserted marks mark new e) [
+  | inl there ↦ Stays there.0 refl there.1
+  | inr comes ↦ absurd (comes.0 (is_there marks mark (not b) (ap not told ∙ not_not (list_any (nat_eq mark) marks))
+      (ap not is)))
+]
+
+-- ## The memories of the first vertices
+
+module _ (is_first : Bool) (keys : List Key) (used : List ℕ) where
+  -- the memories of the first n vertices
+  pub record AreMemoriesBelow (kept marks : List ℕ) (n : ℕ) : Type 0 where
+    pub many : length marks ≡ length kept
+    pub rising : AllPairs (λ v w. v < w) kept
+    pub different : AllPairs (λ one other. one ≢ other) marks
+    pub below : All (λ v. v < n) kept
+    pub each : (memory : ℕ) → memory < length kept → IsMemory is_first keys used kept marks memory
+    pub found : (v q p : ℕ) → v < n → Contains used v → StandsAt keys v (First q p) →
+        HasMemory kept marks v (mark_of is_first v q)
+
+  pub none_below : (kept marks : List ℕ) → kept ≡ [] → marks ≡ [] → AreMemoriesBelow kept marks 0
+  none_below kept marks k m =
+      subst (λ l. AreMemoriesBelow l marks 0) (sym k) (subst (λ l. AreMemoriesBelow [] l 0) (sym m) (record {
+        many = refl;
+        rising = λ i j d rises within. absurd (omega (arith, within));
+        different = λ i j d rises within. absurd (omega (arith, within));
+        below = All-nil (λ v. v < 0);
+        each = λ memory within. absurd (omega (arith, within));
+        found = λ v q p less. absurd (omega (arith, less));
+      }))
+
+  all_less : (kept : List ℕ) (n : ℕ) → All (λ v. v < n) kept → All (λ v. v < n + 1) kept
+  all_less kept n below i d within = less (get_or kept i d) (below i d within)
+    where
+      less : (v : ℕ) → v < n → v < n + 1
+      less v h = omega (arith, h)
+
+  -- a vertex without a memory: it is not used, or the first player does not move there
+  pub below_skip : (kept marks : List ℕ) (n : ℕ) → ((q p : ℕ) → Contains used n → StandsAt keys n (First q p) → ⊥) →
+      AreMemoriesBelow kept marks n → AreMemoriesBelow kept marks (n + 1)
+  below_skip kept marks n none m = record {
+    many = m.many;
+    rising = m.rising;
+    different = m.different;
+    below = all_less kept n m.below;
+    each = m.each;
+    found = λ v q p less is_used stands. elim (less_or_last v n less) [
+      | inl before ↦ m.found v q p before is_used stands
+      | inr now ↦ absurd (none q p (subst (λ w. Contains used w) now is_used)
+          (subst (λ w. StandsAt keys w (First q p)) now stands))
+    ];
+  }
+
+  -- where the mark has come, there is a memory
+  came_has : (kept marks : List ℕ) (n mark : ℕ) → AreMemoriesBelow kept marks n → Contains marks mark →
+      HasMemory kept marks n mark
+  came_has kept marks n mark m came =
+      let within : came.0 < length kept = omega (arith, came.1, m.many) in
+      let before = m.below came.0 0 within in
+      record {
+        memory = came.0;
+        is_marked = slice_get-get_or marks came.0 mark came.1 ∙ ap (λ x. Some x) came.2;
+        behind = omega (arith, before);
+      }
+
+  module _ (kept marks : List ℕ) (n q p : ℕ) (m : AreMemoriesBelow kept marks n) (stands : StandsAt keys n (First q p))
+      (is_used : Contains used n) where
+    kept_left : (memory : ℕ) → memory < length kept → get_or (kept ++ n ∷ []) memory 0 ≡ get_or kept memory 0
+    kept_left memory within = get_or_append_left kept (n ∷ []) 0 memory within
+
+    kept_last : get_or (kept ++ n ∷ []) (length kept) 0 ≡ n
+    kept_last = get_or_push kept n 0 (length kept) refl
+
+    -- what is found at each vertex, where it was found before and is there now
+    found_more : (kept' marks' : List ℕ) → ((v x : ℕ) → HasMemory kept marks v x → HasMemory kept' marks' v x) →
+        HasMemory kept' marks' n (mark_of is_first n q) →
+        (v r l : ℕ) → v < n + 1 → Contains used v → StandsAt keys v (First r l) →
+        HasMemory kept' marks' v (mark_of is_first v r)
+    found_more kept' marks' still here v r l less used_v at = elim (less_or_last v n less) [
+      | inl before ↦ still v (mark_of is_first v r) (m.found v r l before used_v at)
+      | inr now ↦
+          let same : q ≡ r = one_state keys n q p r l stands (subst (λ w. StandsAt keys w (First r l)) now at) in
+          subst (λ w. HasMemory kept' marks' w (mark_of is_first w r)) (sym now)
+          (subst (λ s. HasMemory kept' marks' n (mark_of is_first n s)) same here)
+    ]
+
+    has_left : (v x : ℕ) → HasMemory kept marks v x → HasMemory (kept ++ n ∷ [])
+        (marks ++ mark_of is_first n q ∷ []) v x
+    has_left v x h =
+        let within : h.memory < length kept = omega (arith, slice_get_within marks h.memory x h.is_marked, m.many) in
+        record {
+          memory = h.memory;
+          is_marked = marked_left marks (mark_of is_first n q) h.memory x h.is_marked;
+          behind = subst (λ w. w ≤ v) (sym (kept_left h.memory within)) h.behind;
+        }
+
+    has_last : HasMemory (kept ++ n ∷ []) (marks ++ mark_of is_first n q ∷ []) n (mark_of is_first n q)
+    has_last = record {
+      memory = length kept;
+      is_marked =
+          subst (λ i. slice_get (marks ++ mark_of is_first n q ∷ []) i ≡ Some (mark_of is_first n q)) m.many
+          (marked_last marks (mark_of is_first n q));
+      behind = omega (arith, kept_last);
+    }
+
+    memory_left : (memory : ℕ) → memory < length kept → IsMemory is_first keys used (kept ++ n ∷ [])
+        (marks ++ mark_of is_first n q ∷ []) memory
+    memory_left memory within =
+        let old = m.each memory within in
+        let same = sym (kept_left memory within) in
+        record {
+          state = old.state;
+          priority = old.priority;
+          stands = subst (λ w. StandsAt keys w (First old.state old.priority)) same old.stands;
+          is_used = subst (λ w. Contains used w) same old.is_used;
+          mark =
+              subst (λ w. slice_get (marks ++ mark_of is_first n q ∷ []) memory ≡ Some (mark_of is_first w old.state))
+              same (marked_left marks (mark_of is_first n q) memory
+              (mark_of is_first (get_or kept memory 0) old.state) old.mark);
+        }
+
+    memory_last : IsMemory is_first keys used (kept ++ n ∷ []) (marks ++ mark_of is_first n q ∷ []) (length kept)
+    memory_last = record {
+      state = q;
+      priority = p;
+      stands = subst (λ w. StandsAt keys w (First q p)) (sym kept_last) stands;
+      is_used = subst (λ w. Contains used w) (sym kept_last) is_used;
+      mark =
+          subst (λ w. slice_get (marks ++ mark_of is_first n q ∷ []) (length kept) ≡ Some (mark_of is_first w q))
+          (sym kept_last)
+          (subst (λ i. slice_get (marks ++ mark_of is_first n q ∷ []) i ≡ Some (mark_of is_first n q)) m.many
+          (marked_last marks (mark_of is_first n q)));
+    }
+
+    below_stays : Contains marks (mark_of is_first n q) → AreMemoriesBelow kept marks (n + 1)
+    below_stays came = record {
+      many = m.many;
+      rising = m.rising;
+      different = m.different;
+      below = all_less kept n m.below;
+      each = m.each;
+      found = found_more kept marks (λ v x h. h) (came_has kept marks n (mark_of is_first n q) m came);
+    }
+
+    below_grows : (Contains marks (mark_of is_first n q) → ⊥) →
+        AreMemoriesBelow (kept ++ n ∷ []) (marks ++ mark_of is_first n q ∷ []) (n + 1)
+    below_grows comes = record {
+      many = omega (arith, length_push marks (mark_of is_first n q), length_push kept n, m.many);
+      rising = all_pairs_push (λ v w. v < w) kept n m.rising m.below;
+      different = different_push marks (mark_of is_first n q) comes m.different;
+      below = All-push (λ v. v < n + 1) kept n (all_less kept n m.below) (omega arith);
+      each = λ memory within. elim (less_or_last memory (length kept) (omega (arith, within, length_push kept n))) [
+        | inl before ↦ memory_left memory before
+        | inr last ↦ subst (λ i. IsMemory is_first keys used (kept ++ n ∷ []) (marks ++ mark_of is_first n q ∷ []) i)
+            (sym last) memory_last
+      ];
+      found = found_more (kept ++ n ∷ []) (marks ++ mark_of is_first n q ∷ []) has_left has_last;
+    }
+
+    pub below_more : (kept' marks' : List ℕ) → KeepsAt kept marks n (mark_of is_first n q) kept' marks' →
+        AreMemoriesBelow kept' marks' (n + 1)
+    below_more kept' marks' (Stays came k l) =
+        subst (λ x. AreMemoriesBelow x marks' (n + 1)) (sym k) (subst (λ x. AreMemoriesBelow kept x (n + 1)) (sym l)
+        (below_stays came))
+    below_more kept' marks' (Grows comes k l) =
+        subst (λ x. AreMemoriesBelow x marks' (n + 1)) (sym k) (subst (λ x. AreMemoriesBelow (kept ++ n ∷ []) x (n + 1))
+        (sym l) (below_grows comes))
+
+  pub all_below : (kept marks : List ℕ) (n : ℕ) → length keys ≤ n → AreMemoriesBelow kept marks n →
+      AreMemories is_first keys used kept marks
+  all_below kept marks n all m = record {
+    many = m.many;
+    rising = m.rising;
+    different = m.different;
+    each = m.each;
+    found =
+        λ v q p is_used stands. m.found v q p (omega (arith, all, slice_get_within keys v (First q p) stands))
+        is_used stands;
+  }

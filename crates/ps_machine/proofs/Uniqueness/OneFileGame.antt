@@ -1,0 +1,275 @@
+-- There is one game of a file: its automata step alike wherever a game comes.
+--     alike      so they do at each state, the sink too, and each letter
+--     listed_fine      each key that comes in a game has such a state, and a letter of the player who moves first
+--     leads_too      such a key leads to the same keys by either automaton
+--     game_too      so the game of one automaton is that of the other
+use Rattle.std.proofs.Common.{◌≡◌, ℕ, zero, suc, ◌+◌, ◌^◌, ◌<◌, ◌≤◌, List, [], ◌∷◌, ◌++◌, length, get_or, slice_get}
+use Rattle.std.proofs.Common.{codes, Option, Some, refl, ap, ap₂, sym, subst, ◌∙◌, arith, inl, inr}
+use Rattle.std.specs.List.{All, Contains, range_with_len}
+use Rattle.std.proofs.lemmas.Bool.{cases_lt}
+use Rattle.std.proofs.lemmas.List.Elements.{All-contains, All-map, Contains-append_cases}
+use Rattle.std.proofs.lemmas.Option.{slice_get_within}
+use Rattle.ps_text.proofs.Simple.{same_some as same_value}
+use Rattle.ps_hoa.specs.Files.{FileData}
+use Rattle.ps_automaton.specs.Autos.{Auto, IsAutoOf}
+use Rattle.ps_automaton.specs.Chains.{Chain}
+use Rattle.ps_game.specs.Games.{ParityGame, NamedGameData, vertex_count, successors_of}
+use Rattle.ps_machine.specs.Boards.{Board, IsFirstLetter, IsSecondLetter, SameStep, SameSteps, IsClass, IsMove}
+use Rattle.ps_machine.specs.Boards.{AreListed, LeadsTo, IsGameOf}
+use Rattle.ps_machine.specs.FileGames.{IsGameOfFile, board_of_file}
+use Rattle.ps_machine.specs.KeyNames.{digit_of, first_digits, key_name, key_names, state_name}
+use Rattle.ps_machine.specs.Keys.{mover_of}
+use Rattle.ps_machine.specs.Numbering.{listed, StandsAt, IsVertexOf}
+use Rattle.ps_machine.specs.declared.key.Key.{Key}
+use Rattle.ps_machine.specs.declared.key.Key.TheVariants.{First, Second}
+use Rattle.ps_machine.specs.declared.key.Order.{Order}
+use Rattle.ps_machine.proofs.BoardLetters.{sum_within}
+use Rattle.ps_machine.proofs.BoardSteps.{map_same}
+use Rattle.ps_machine.proofs.Uniqueness.OneGame.{ahead, count_at, has_it, one_game_of, zipped}
+use Rattle.ps_machine.proofs.Uniqueness.Rising.{in_cons, none_in}
+use Rattle.ps_machine.proofs.GameKeys.Standing.{came, same_some}
+
+-- ## Steps
+
+pub record StepAlike (a b : Auto) (q letter : ℕ) : Type 0 where
+  pub next : a.next q letter ≡ b.next q letter
+  pub priority : a.priority q letter ≡ b.priority q letter
+
+relisted : (P Q : ℕ → Type 0) (letters : List ℕ) → ((x : ℕ) → P x → Q x) → ((x : ℕ) → Q x → P x) → AreListed P letters →
+    AreListed Q letters
+relisted P Q letters there back are = record {
+  each = λ k d within. there (get_or letters k d) (are.each k d within);
+  complete = λ x q. are.complete x (back x q);
+  rising = are.rising;
+}
+
+module _ (order : Order) (file : FileData) (chain : Chain) where
+  abbrev pub on : Auto → Board
+  on auto = board_of_file order file auto
+
+  module _ (a b : Auto) (is : IsAutoOf file chain a) (too : IsAutoOf file chain b) where
+    at_state : (q letter : ℕ) → q < file.states → letter < 2 ^ length file.names → StepAlike a b q letter
+    at_state q letter low lt = elim (is.steps q letter low lt) [
+      | inl takes ↦ (let edge = too.by_edge q letter takes.sets (a.next q letter) takes.goes in
+          record { next = sym edge.0; priority = takes.priority ∙ sym edge.1 })
+      | inr none ↦ elim (too.steps q letter low lt) [
+        | inl takes ↦ absurd (none.none takes.sets (b.next q letter) takes.goes)
+        | inr other ↦ record { next = none.to_sink ∙ sym other.to_sink; priority = none.priority ∙ sym other.priority }
+      ]
+    ]
+
+    at_sink : (letter : ℕ) → letter < 2 ^ length file.names → StepAlike a b file.states letter
+    at_sink letter lt =
+        (let stays = is.sink_stays letter lt in let also = too.sink_stays letter lt in
+        record { next = stays.0 ∙ sym also.0; priority = stays.1 ∙ sym also.1 })
+
+    pub alike : (q letter : ℕ) → q ≤ file.states → letter < 2 ^ length file.names → StepAlike a b q letter
+    alike q letter le lt = elim (cases_lt q file.states) [
+      | inl low ↦ at_state q letter low lt
+      | inr ge ↦ (let sink : file.states ≡ q = omega (arith, le, ge) in
+          subst (λ p. StepAlike a b p letter) sink (at_sink letter lt))
+    ]
+
+  -- ## Letters, classes and moves
+
+  pub first_too : (a b : Auto) (x : ℕ) → IsFirstLetter (on a) x → IsFirstLetter (on b) x
+  first_too a b x letter = record { within = letter.within; own = letter.own }
+
+  pub second_too : (a b : Auto) (y : ℕ) → IsSecondLetter (on a) y → IsSecondLetter (on b) y
+  second_too a b y letter = record { within = letter.within; own = letter.own }
+
+  module _ (a b : Auto) (is : IsAutoOf file chain a) (too : IsAutoOf file chain b) where
+    step_too : (q l m : ℕ) → q ≤ file.states → l < 2 ^ length file.names → m < 2 ^ length file.names →
+        SameStep (on a) q l m → SameStep (on b) q l m
+    step_too q l m le ll lm s =
+        let at_l = alike a b is too q l le ll in
+        let at_m = alike a b is too q m le lm in
+        record {
+          state = sym at_l.next ∙ s.state ∙ at_m.next;
+          priority = sym at_l.priority ∙ s.priority
+              ∙ at_m.priority;
+        }
+
+    pub steps_too : (q x z : ℕ) → q ≤ file.states → IsFirstLetter (on a) x → IsFirstLetter (on a) z →
+        SameSteps (on a) q x z → SameSteps (on b) q x z
+    steps_too q x z le hx hz s y hy =
+        let back = second_too b a y hy in
+        step_too q (x + y) (z + y) le (sum_within (on a) x y hx back) (sum_within (on a) z y hz back) (s y back)
+
+    move_step_too : (q x y z : ℕ) → q ≤ file.states → IsFirstLetter (on a) x → IsSecondLetter (on a) y →
+        IsSecondLetter (on a) z → SameStep (on a) q (x + y) (x + z) → SameStep (on b) q (x + y) (x + z)
+    move_step_too q x y z le hx hy hz =
+        step_too q (x + y) (x + z) le (sum_within (on a) x y hx hy) (sum_within (on a) x z hx hz)
+
+  module _ (a b : Auto) (is : IsAutoOf file chain a) (too : IsAutoOf file chain b) where
+    pub class_too : (q x : ℕ) → q ≤ file.states → IsClass (on a) q x → IsClass (on b) q x
+    class_too q x le c = record {
+      here = (first_too a b x c.here.0, steps_too a b is too q x x le c.here.0 c.here.0 c.here.1);
+      none_before = λ z p before.
+          (let hz = first_too b a z p.0 in
+          c.none_before z (hz, steps_too b a too is q z x le p.0 (first_too a b x c.here.0) p.1) before);
+    }
+
+    move_too : (q x y : ℕ) → q ≤ file.states → IsFirstLetter (on a) x → IsMove (on a) q x y → IsMove (on b) q x y
+    move_too q x y le hx m = record {
+      here = (second_too a b y m.here.0, move_step_too a b is too q x y y le hx m.here.0 m.here.0 m.here.1);
+      none_before = λ z p before.
+          (let hz = second_too b a z p.0 in
+          m.none_before z (
+            hz,
+            move_step_too b a too is q x z y le (first_too a b x hx) p.0
+                (second_too a b y m.here.0) p.1,
+          ) before);
+    }
+
+  -- ## Keys
+
+  module _ (a b : Auto) (is : IsAutoOf file chain a) (too : IsAutoOf file chain b) where
+    -- a state up to the sink, and a letter of the player who moves first
+    abbrev pub IsFine : Key → Type 0
+    IsFine (First q p) = q ≤ file.states
+    IsFine (Second q x) = (q ≤ file.states) × IsFirstLetter (on a) x
+
+    next_fine : (key : Key) (next : List Key) → IsFine key → LeadsTo (on a) key next → All IsFine next
+    next_fine (First q p) next le leads =
+        subst (All IsFine) (sym leads.2) (All-map IsFine (λ x. Second q x) leads.0
+        (λ k d within. (le, (leads.1.each k d within).here.0)))
+    next_fine (Second q x) next fine leads =
+        subst (All IsFine) (sym leads.2) (All-map IsFine (λ y. First (a.next q (x + y)) (a.priority q (x + y))) leads.0
+        (λ k d within. (let y = get_or leads.0 k d in is.within q (x + y) fine.0
+        (sum_within (on a) x y fine.1 (leads.1.each k d within).here.0))))
+
+    leads_too : (key : Key) (next : List Key) → IsFine key → LeadsTo (on a) key next → LeadsTo (on b) key next
+    leads_too (First q p) next le leads = (
+      leads.0,
+      relisted (IsClass (on a) q) (IsClass (on b) q) leads.0 (λ x. class_too a b is too q x le)
+          (λ x. class_too b a too is q x le) leads.1,
+      leads.2,
+    )
+    leads_too (Second q x) next fine leads = (
+      leads.0,
+      relisted (IsMove (on a) q x) (IsMove (on b) q x) leads.0 (λ y. move_too a b is too q x y fine.0 fine.1)
+          (λ y. move_too b a too is q x y fine.0 (first_too a b x fine.1)) leads.1,
+      leads.2 ∙ map_same (λ y. First (a.next q (x + y)) (a.priority q (x + y)))
+          (λ y. First (b.next q (x + y)) (b.priority q (x + y))) leads.0 0 same_key,
+    )
+      where
+        same_key : (k : ℕ) → k < length leads.0 →
+            First (a.next q (x + get_or leads.0 k 0)) (a.priority q (x + get_or leads.0 k 0)) ≡ First
+            (b.next q (x + get_or leads.0 k 0)) (b.priority q (x + get_or leads.0 k 0))
+        same_key k within =
+            let y = get_or leads.0 k 0 in
+            let steps =
+            alike a b is too q (x + y) fine.0 (sum_within (on a) x y fine.1 (leads.1.each k 0 within).here.0) in
+            ap₂ (λ (s p : ℕ). First s p) steps.next steps.priority
+
+    -- ## Games
+
+    module _ (mover : ℕ) (keys : List Key) (game : ParityGame) (g : IsGameOf (on a) mover keys game) where
+      has_come : (v : ℕ) → v < vertex_count game → Contains (listed game v) v
+      has_come v lt =
+          let c = count_at (on a) mover keys game v g (omega (arith, lt)) in
+          has_it (listed game v) v (came (listed game v) c.0 v c.1 (ahead (on a) mover keys game v c.0 g lt c.1))
+
+      first_fine : (w : ℕ) (key : Key) → Contains (0 ∷ []) w → StandsAt keys w key → IsFine key
+      first_fine w key c at = elim (in_cons 0 w [] c) [
+        | inl zero_is ↦ subst IsFine (same_some (First a.start 0) key
+            (sym g.by_keys.begins ∙ ap (λ n. slice_get keys n) zero_is ∙ at)) is.start_within
+        | inr later ↦ absurd (none_in w later)
+      ]
+
+      listed_fine : (v : ℕ) → v ≤ vertex_count game → (w : ℕ) (key : Key) → Contains (listed game v) w →
+          StandsAt keys w key → IsFine key
+      listed_fine zero le w key c at = first_fine w key c at
+      listed_fine (suc v) le w key c at = elim (Contains-append_cases (listed game v) (successors_of game v) w c) [
+        | inl before ↦ listed_fine v (omega (arith, le)) w key before at
+        | inr new ↦
+            (let lt : v < vertex_count game = omega (arith, le) in
+            let vertex = g.by_keys.vertices v lt in
+            let fine = listed_fine v (omega (arith, le)) v vertex.key (has_come v lt) vertex.stands in
+            All-contains IsFine vertex.next key (next_fine vertex.key vertex.next fine vertex.leads_to)
+            (zipped keys (successors_of game v) vertex.next w key vertex.successors at new))
+      ]
+
+      pub key_fine : (v : ℕ) (key : Key) → StandsAt keys v key → IsFine key
+      key_fine v key stands =
+          let within : v < vertex_count game = omega (arith, slice_get_within keys v key stands, g.by_keys.count) in
+          listed_fine v (omega (arith, within)) v key (has_come v within) stands
+
+      vertex_too : (v : ℕ) → v < vertex_count game → IsVertexOf (LeadsTo (on b)) mover keys game v
+      vertex_too v lt =
+          let vertex = g.by_keys.vertices v lt in
+          record {
+            key = vertex.key;
+            next = vertex.next;
+            stands = vertex.stands;
+            owner = vertex.owner;
+            priority = vertex.priority;
+            leads_to =
+                leads_too vertex.key vertex.next (listed_fine v (omega (arith, lt)) v vertex.key (has_come v lt)
+                vertex.stands) vertex.leads_to;
+            successors = vertex.successors;
+          }
+
+      -- the game of one of the automata is that of the other
+      pub game_too : IsGameOf (on b) mover keys game
+      game_too = record {
+        by_keys = record {
+          count = g.by_keys.count;
+          begins = subst (λ q. StandsAt keys 0 (First q 0)) (is.start ∙ sym too.start) g.by_keys.begins;
+          different = g.by_keys.different;
+          vertices = vertex_too;
+        };
+        numbered = g.numbered;
+      }
+
+-- ## Names
+
+digits_too : (order : Order) (file : FileData) (a b : Auto) (x n : ℕ) →
+    first_digits (board_of_file order file a) x n ≡ first_digits (board_of_file order file b) x n
+digits_too order file a b x zero = refl
+digits_too order file a b x (suc n) =
+    ap (λ l. l ++ digit_of (board_of_file order file b) x n) (digits_too order file a b x n)
+
+name_too : (order : Order) (file : FileData) (a b : Auto) (key : Key) →
+    key_name (board_of_file order file a) key ≡ key_name (board_of_file order file b) key
+name_too order file a b (First q p) = refl
+name_too order file a b (Second q x) =
+    ap (λ l. state_name file.states q ++ codes ":" ++ l) (digits_too order file a b x (length file.names))
+
+names_too : (order : Order) (file : FileData) (a b : Auto) (keys : List Key) →
+    key_names (board_of_file order file a) keys ≡ key_names (board_of_file order file b) keys
+names_too order file a b keys =
+    map_same (λ key. Some (key_name (board_of_file order file a) key))
+    (λ key. Some (key_name (board_of_file order file b) key)) keys (First 0 0)
+    (λ k within. ap Some (name_too order file a b (get_or keys k (First 0 0))))
+
+-- ## One game of a file
+
+named_same : (x y : NamedGameData) → x.game ≡ y.game → x.ids ≡ y.ids → x.names ≡ y.names → x ≡ y
+named_same x y games ids names =
+    ap₂ (λ (g : ParityGame) (l : List ℕ). let n : NamedGameData = record { game = g; ids = l; names = x.names } in n)
+    games ids
+    ∙ ap (λ (l : List (Option (List ℕ))). let n : NamedGameData = record { game = y.game; ids = y.ids; names = l } in n)
+    names
+
+pub one_chain : (order : Order) (file : FileData) (game other : NamedGameData) (a : IsGameOfFile order file game)
+    (b : IsGameOfFile order file other) → IsAutoOf file b.chain a.auto
+one_chain order file game other a b =
+    (let chains = same_value a.chain b.chain (sym a.is_chain ∙ b.is_chain) in
+    subst (λ chain. IsAutoOf file chain a.auto) chains a.is_auto)
+
+pub one_game_of_file : (order : Order) (file : FileData) (game other : NamedGameData) → IsGameOfFile order file game →
+    IsGameOfFile order file other → game ≡ other
+one_game_of_file order file game other a b =
+    named_same game other same.1
+    (a.are_named.ids ∙ ap (λ (keys : List Key). range_with_len 0 (length keys)) same.0 ∙ sym b.are_named.ids)
+    (a.are_named.names ∙ names_too order file a.auto b.auto a.keys
+    ∙ ap (key_names (board_of_file order file b.auto)) same.0 ∙ sym b.are_named.names)
+  where
+    is : IsAutoOf file b.chain a.auto
+    is = one_chain order file game other a b
+
+    same : (a.keys ≡ b.keys) × (game.game ≡ other.game)
+    same = one_game_of (board_of_file order file b.auto) (mover_of order) a.keys b.keys game.game other.game
+        (game_too order file b.chain a.auto b.auto is b.is_auto (mover_of order) a.keys game.game a.is_game) b.is_game

@@ -1,0 +1,100 @@
+-- The text of a stimulus has one answer.
+use Rattle.std.proofs.Common.{◌≡◌, ℕ, ◌<◌, ◌≤◌, ◌⊎◌, inl, inr, Bool, true, false, List, [], ◌∷◌, ◌++◌, map, length}
+use Rattle.std.proofs.Common.{refl, sym, ap, ap₂, ◌∙◌, arith, Ok, Err}
+use Rattle.std.proofs.lemmas.List.{append-nil}
+use Rattle.std.proofs.lemmas.Option.{slice_get_within}
+use Rattle.ps_text.specs.Answers.{Found}
+use Rattle.ps_simulate.specs.declared.fault.StimulusCause.{StimulusCause}
+use Rattle.ps_simulate.specs.declared.fault.StimulusCause.TheVariants.{Width, Stimulus}
+use Rattle.ps_simulate.specs.Faults.{rank}
+use Rattle.ps_simulate.specs.Stimuli.{StimulusData}
+use Rattle.ps_simulate.specs.StimulusTexts.{lines_of, digit_of, digits_of, divider, spelled, Stands, IsFirst}
+use Rattle.ps_simulate.specs.StimulusTexts.{IsStimulus, HasOneAnswer}
+use Rattle.ps_simulate.proofs.Stimuli.LineLemmas.{digits_of-divider}
+use Rattle.ps_simulate.proofs.Stimuli.StimulusLemmas.{divides_at, no_cause}
+
+digit_of-injective : (x y : Bool) → digit_of x ≡ digit_of y → x ≡ y
+digit_of-injective true true e = refl
+digit_of-injective false false e = refl
+digit_of-injective true false e = absurd (omega arith)
+digit_of-injective false true e = absurd (omega arith)
+
+digits_of-injective : (xs ys : List Bool) → digits_of xs ≡ digits_of ys → xs ≡ ys
+digits_of-injective [] [] e = refl
+digits_of-injective [] (y ∷ ys) e = cc
+digits_of-injective (x ∷ xs) [] e = cc
+digits_of-injective (x ∷ xs) (y ∷ ys) e =
+    let head : digit_of x ≡ digit_of y = cc in
+    let tail : digits_of xs ≡ digits_of ys = cc in
+    ap₂ ◌∷◌ (digit_of-injective x y head) (digits_of-injective xs ys tail)
+
+letters_same : (xs ys : List (List Bool)) → map digits_of xs ≡ map digits_of ys → xs ≡ ys
+letters_same [] [] e = refl
+letters_same [] (y ∷ ys) e = cc
+letters_same (x ∷ xs) [] e = cc
+letters_same (x ∷ xs) (y ∷ ys) e =
+    let head : digits_of x ≡ digits_of y = cc in
+    let tail : map digits_of xs ≡ map digits_of ys = cc in
+    ap₂ ◌∷◌ (digits_of-injective x y head) (letters_same xs ys tail)
+
+parts_same : (xs ys as' bs : List (List Bool)) → map digits_of xs ++ divider ∷ map digits_of as' ≡ map digits_of ys ++
+    divider ∷ map digits_of bs → (xs ≡ ys) × (as' ≡ bs)
+parts_same [] [] as' bs e = (refl, (let tail : map digits_of as' ≡ map digits_of bs = cc in letters_same as' bs tail))
+parts_same [] (y ∷ ys) as' bs e = absurd (let head : digits_of y ≡ divider = cc in digits_of-divider y head)
+parts_same (x ∷ xs) [] as' bs e = absurd (let head : digits_of x ≡ divider = cc in digits_of-divider x head)
+parts_same (x ∷ xs) (y ∷ ys) as' bs e =
+    let head : digits_of x ≡ digits_of y = cc in
+    let tail : map digits_of xs ++ divider ∷ map digits_of as' ≡ map digits_of ys ++ divider ∷ map digits_of bs = cc in
+    let rest = parts_same xs ys as' bs tail in
+    (ap₂ ◌∷◌ (digits_of-injective x y head) rest.0, rest.1)
+
+stimulus_same : (s t : StimulusData) → s.stem ≡ t.stem → s.lap ≡ t.lap → s ≡ t
+stimulus_same s t stem lap =
+    let made : List (List Bool) → List (List Bool) → StimulusData = λ a b. record { stem = a; lap = b } in
+    ap₂ made stem lap
+
+one_stimulus : (text : List ℕ) (width : ℕ) (split : Bool) (s t : StimulusData) → IsStimulus text width split s →
+    IsStimulus text width split t → s ≡ t
+one_stimulus text width false s t a b =
+    stimulus_same s t (letters_same s.stem t.stem (sym a.lines ∙ b.lines)) (a.no_lap refl ∙ sym (b.no_lap refl))
+one_stimulus text width true s t a b =
+    let parts = parts_same s.stem t.stem s.lap t.lap (sym a.lines ∙ b.lines) in stimulus_same s t parts.0 parts.1
+
+rank-injective : (c d : StimulusCause) → rank c ≡ rank d → c ≡ d
+rank-injective Width Width e = refl
+rank-injective Stimulus Stimulus e = refl
+rank-injective Width Stimulus e = absurd (omega arith)
+rank-injective Stimulus Width e = absurd (omega arith)
+
+one_first : (S : StimulusCause → ℕ → Type 0) (a b : Found StimulusCause) → IsFirst S a.cause a.offset →
+    IsFirst S b.cause b.offset → a ≡ b
+one_first S a b first other =
+    which (first.least b.cause b.offset other.stands) (other.least a.cause a.offset first.stands)
+  where
+    made : StimulusCause → ℕ → Found StimulusCause
+    made cause offset = record { cause = cause; offset = offset }
+
+    which : (a.offset < b.offset) ⊎ ((a.offset ≡ b.offset) × (rank a.cause ≤ rank b.cause)) →
+        (b.offset < a.offset) ⊎ ((b.offset ≡ a.offset) × (rank b.cause ≤ rank a.cause)) → a ≡ b
+    which (inl less) (inl more) = absurd (omega arith)
+    which (inl less) (inr (e, le)) = absurd (omega arith)
+    which (inr (e, le)) (inl more) = absurd (omega arith)
+    which (inr (e, le)) (inr (e', ge)) = ap₂ made (rank-injective a.cause b.cause (omega arith)) e
+
+none_stands : (text : List ℕ) (width : ℕ) (split : Bool) (s : StimulusData) → IsStimulus text width split s →
+    (cause : StimulusCause) (offset : ℕ) → Stands text width split cause offset → ⊥
+none_stands text width split s is cause offset (inl l) =
+    no_cause split split s [] (lines_of text) width (is.lines ∙ sym (append-nil (spelled split s))) is.stem_widths
+    is.lap_widths (λ e. e) l.k l.line _ cause offset
+    (omega (arith, slice_get_within (lines_of text) l.k l.line l.is_letter.there, ap length is.lines))
+    l.is_letter l.in_line
+none_stands text width false s is cause offset (inr m) = (let e = m.wanted in cc)
+none_stands text width true s is cause offset (inr m) =
+    m.none (length s.stem) (divides_at true s [] (lines_of text)
+    (is.lines ∙ sym (append-nil (spelled true s))) refl).there
+
+pub one_answer : (text : List ℕ) (width : ℕ) (split : Bool) → HasOneAnswer text width split
+one_answer text width split (Ok s) (Ok t) a b = ap Ok (one_stimulus text width split s t a b)
+one_answer text width split (Ok s) (Err f) a b = absurd (none_stands text width split s a f.cause f.offset b.stands)
+one_answer text width split (Err f) (Ok s) a b = absurd (none_stands text width split s b f.cause f.offset a.stands)
+one_answer text width split (Err f) (Err g) a b = ap Err (one_first (Stands text width split) f g a b)

@@ -1,0 +1,203 @@
+-- Each text of a stimulus has an answer: its letters, or the first cause, line by line.
+use Rattle.std.proofs.Common.{◌≡◌, ℕ, zero, suc, ◌+◌, ◌<◌, ◌≤◌, ◌≢◌, ◌==◌, ◌⊎◌, inl, inr, Bool, true, false, cond, List}
+use Rattle.std.proofs.Common.{[], ◌∷◌, length, take, drop, refl, sym, ap, ap₂, subst, ◌∙◌, arith, Some, Ok, Err}
+use Rattle.std.proofs.Common.{slice_get, length-drop}
+use Rattle.std.proofs.lemmas.Bool.{cases_eq, cases_lt, eq-eqb, ne_eqb}
+use Rattle.std.proofs.lemmas.List.{drop-drop, length-take-le}
+use Rattle.ps_text.proofs.Decisions.{Decided, decide_one}
+use Rattle.ps_simulate.specs.declared.fault.StimulusCause.{StimulusCause}
+use Rattle.ps_simulate.specs.declared.fault.StimulusCause.TheVariants.{Width, Stimulus}
+use Rattle.ps_simulate.specs.Faults.{rank}
+use Rattle.ps_simulate.specs.Stimuli.{StimulusData}
+use Rattle.ps_simulate.specs.StimulusTexts.{put_byte, lines_of, digits_of, divider, spelled, IsDigit, StandsInLine}
+use Rattle.ps_simulate.specs.StimulusTexts.{IsFirst, HasSomeAnswer}
+use Rattle.ps_simulate.specs.StimulusReading.{HasRead}
+use Rattle.ps_simulate.proofs.Stimuli.LineLemmas.{digit_of-is, letter_none}
+use Rattle.ps_simulate.proofs.Stimuli.StimulusSteps.{HasRead-start, HasRead-letter, HasRead-divider, at_line}
+use Rattle.ps_simulate.proofs.Stimuli.StimulusSteps.{IsFirst-in_line}
+use Rattle.ps_simulate.proofs.Stimuli.StimulusSteps.{not_divides, with_letter, IsStimulus-end, IsFirst-end}
+
+-- ## One line
+
+-- the first byte that is no digit
+record FirstWrong (line : List ℕ) : Type 0 where
+  place : ℕ
+  byte : ℕ
+  there : slice_get line place ≡ Some byte
+  wrong : ¬ IsDigit byte
+  least : (i b : ℕ) → slice_get line i ≡ Some b → ¬ IsDigit b → place ≤ i
+
+abbrev IsLetter : List ℕ → Type 0
+IsLetter line = (letter : List Bool) × (line ≡ digits_of letter)
+
+letter_or_wrong : (line : List ℕ) → IsLetter line ⊎ FirstWrong line
+letter_or_wrong [] = inl ([], refl)
+letter_or_wrong (byte ∷ line) = go (decide_one (cases_eq byte 48) (cases_eq byte 49)) (letter_or_wrong line)
+  where
+    behind : IsDigit byte → (w : FirstWrong line) → (i b : ℕ) → slice_get (byte ∷ line) i ≡ Some b → ¬ IsDigit b →
+        suc w.place ≤ i
+    behind d w zero b there wrong = absurd (wrong (subst IsDigit (let same : byte ≡ b = cc in same) d))
+    behind d w (suc i) b there wrong = omega (arith, w.least i b there wrong)
+
+    go : Decided (IsDigit byte) → IsLetter line ⊎ FirstWrong line → IsLetter (byte ∷ line) ⊎ FirstWrong (byte ∷ line)
+    go (inr n) rest = inr (record
+        { place = 0; byte = byte; there = refl; wrong = n; least = λ i b there wrong. omega arith })
+    go (inl d) (inl (letter, e)) = inl ((byte == 49) ∷ letter, ap₂ ◌∷◌ (sym (digit_of-is byte d)) e)
+    go (inl d) (inr w) = inr (record
+        { place = suc w.place; byte = w.byte; there = w.there; wrong = w.wrong; least = behind d w })
+
+module _ (line : List ℕ) (start width : ℕ) where
+  abbrev LineFault : Type 0
+  LineFault = (cause : StimulusCause) × (offset : ℕ) × IsFirst (StandsInLine line start width) cause offset
+
+  abbrev LineAnswer : Type 0
+  LineAnswer = ((letter : List Bool) × (line ≡ digits_of letter) × (length line ≡ width)) ⊎ LineFault
+
+  wrong_width : length line ≢ width →
+      ((there : ℕ) → StandsInLine line start width Stimulus there → start < there) → LineFault
+  wrong_width other later = (Width, start, record { stands = (other, refl); least = least })
+    where
+      least : (cause : StimulusCause) (there : ℕ) → StandsInLine line start width cause there →
+          (start < there) ⊎ ((start ≡ there) × (rank Width ≤ rank cause))
+      least Width there h = inr (sym h.1, omega arith)
+      least Stimulus there h = inl (later there h)
+
+  wrong_byte : (w : FirstWrong line) → (length line ≡ width) ⊎ (w.place ≡ 0) → LineFault
+  wrong_byte w fits = (
+    Stimulus,
+    start + w.place,
+    record {
+      stands = (w.place, w.byte, w.there, w.wrong, refl);
+      least = least fits;
+    },
+  )
+    where
+      least : (length line ≡ width) ⊎ (w.place ≡ 0) → (cause : StimulusCause) (there : ℕ) →
+          StandsInLine line start width cause there →
+          (start + w.place < there) ⊎ ((start + w.place ≡ there) × (rank Stimulus ≤ rank cause))
+      least (inl e) Width there h = absurd (h.0 e)
+      least (inr e) Width there h = inr (omega (arith, e, h.1), omega arith)
+      least f Stimulus there h = by (cases_lt w.place h.0)
+        where
+          by : (suc w.place ≤ h.0) ⊎ (h.0 ≤ w.place) →
+              (start + w.place < there) ⊎ ((start + w.place ≡ there) × (rank Stimulus ≤ rank Stimulus))
+          by (inl less) = inl (omega (arith, less, h.4))
+          by (inr le) = inr (omega (arith, le, h.4, w.least h.0 h.1 h.2 h.3), omega arith)
+
+  line_answer : LineAnswer
+  line_answer = go (cases_eq (length line) width) (letter_or_wrong line)
+    where
+      by_place : length line ≢ width → (w : FirstWrong line) → Decided (w.place ≡ 0) → LineFault
+      by_place other w (inl e) = wrong_byte w (inr e)
+      by_place other w (inr n) = wrong_width other (λ there h.
+          let far : w.place ≤ h.0 = w.least h.0 h.1 h.2 h.3 in omega (arith, far, h.4, n))
+
+      go : Decided (length line ≡ width) → IsLetter line ⊎ FirstWrong line → LineAnswer
+      go (inl e) (inl (letter, is)) = inl (letter, is, e)
+      go (inl e) (inr w) = inr (wrong_byte w (inl e))
+      go (inr other) (inl (letter, is)) = inr (wrong_width other (λ there h.
+          absurd (letter_none letter line start (length letter) Stimulus there is refl h)))
+      go (inr other) (inr w) = inr (by_place other w (cases_eq w.place 0))
+
+is_divider : (line : List ℕ) → Decided (line ≡ divider)
+is_divider [] = inr (λ e. cc)
+is_divider (b ∷ []) = go (cases_eq b 45)
+  where
+    go : Decided (b ≡ 45) → Decided (b ∷ [] ≡ divider)
+    go (inl e) = inl (ap (λ z. z ∷ []) e)
+    go (inr n) = inr (λ e. n (let same : b ≡ 45 = cc in same))
+is_divider (b ∷ c ∷ line) = inr (λ e. cc)
+
+-- ## The text
+
+-- the first line has that many bytes
+abbrev FirstLine : List ℕ → ℕ → Type 0
+FirstLine bytes size = (size ≤ length bytes) × (lines_of bytes ≡ take size bytes ∷ lines_of (drop (suc size) bytes))
+
+first_line : (bytes : List ℕ) → 0 < length bytes → (size : ℕ) × FirstLine bytes size
+first_line [] some = absurd (omega (arith, some))
+first_line (b ∷ bytes) some = go (cases_eq b 10) bytes (first_line bytes)
+  where
+    go : Decided (b ≡ 10) → (rest : List ℕ) → (0 < length rest → (size : ℕ) × FirstLine rest size) →
+        (size : ℕ) × FirstLine (b ∷ rest) size
+    go (inl e) rest next =
+        (0, (omega arith, ap (λ t. cond t ([] ∷ lines_of rest) (put_byte b (lines_of rest))) (eq-eqb b 10 e)))
+    go (inr n) [] next = (1, (omega arith, ap (λ t. cond t ([] ∷ []) (put_byte b [])) (ne_eqb b 10 n)))
+    go (inr n) (c ∷ rest) next = let l = next (omega arith) in (
+      suc l.0,
+      (
+        omega (arith, l.1.0),
+        ap (λ t. cond t ([] ∷ lines_of (c ∷ rest)) (put_byte b (lines_of (c ∷ rest)))) (ne_eqb b 10 n)
+            ∙ ap (put_byte b) l.1.1,
+      ),
+    )
+
+module _ (text : List ℕ) (width : ℕ) (split : Bool) where
+  abbrev Answer : Type 0
+  Answer = HasSomeAnswer text width split
+
+  -- no line is left
+  at_end : (in_lap wanted : Bool) (start : ℕ) (s : StimulusData) → HasRead text width split in_lap start s →
+      length text ≤ start → split ≡ wanted → Answer
+  at_end false true start s h past e = (
+    Err (record { cause = Stimulus; offset = length text }),
+    IsFirst-end text width split start s h past e,
+  )
+  at_end false false start s h past e = (Ok s, IsStimulus-end text width split false start s h past (sym e))
+  at_end true wanted start s h past e =
+      (Ok s, IsStimulus-end text width split true start s h past (sym (h.wanted refl)))
+
+  -- a line, where there is an answer from what is behind it
+  module _ (in_lap : Bool) (start size : ℕ) (s : StimulusData) (h : HasRead text width split in_lap start s)
+      (some : start < length text) (first : FirstLine (drop start text) size)
+      (later : (b : Bool) (t : StimulusData) → HasRead text width split b (start + size + 1) t → Answer) where
+    abbrev line : List ℕ
+    line = take size (drop start text)
+
+    next : lines_of (drop start text) ≡ line ∷ lines_of (drop (start + size + 1) text)
+    next = first.1 ∙ ap (λ rest. line ∷ lines_of rest) (drop-drop (suc size) start text
+        ∙ ap (λ n. drop n text) (let e : start + suc size ≡ start + size + 1 = omega arith in e))
+
+    ends : start + length line ≡ start + size
+    ends = omega (arith, length-take-le size (drop start text) first.0)
+
+    within : start + size ≤ length text
+    within = omega (arith, first.0, some, length-drop start text)
+
+    as_letter : (in_lap ≡ true) ⊎ (¬ (slice_get (lines_of text) (length (spelled in_lap s)) ≡ Some divider) ⊎
+        (split ≡ false)) → LineAnswer line start width → Answer
+    as_letter plain (inl (letter, is, fits)) = later in_lap (with_letter in_lap s letter)
+        (HasRead-letter text width split in_lap start (start + size) s h line next ends letter is fits)
+    as_letter plain (inr (cause, offset, least)) = (
+      Err (record { cause = cause; offset = offset }),
+      IsFirst-in_line text width split in_lap start (start + size) s h line next ends some within
+          (not_divides text width split in_lap start s h plain) cause offset least,
+    )
+
+    by_line : (b wanted : Bool) → in_lap ≡ b → split ≡ wanted → Decided (line ≡ divider) → Answer
+    by_line true wanted e x d = as_letter (inl e) (line_answer line start width)
+    by_line false false e x d = as_letter (inr (inr x)) (line_answer line start width)
+    by_line false true e x (inr other) = as_letter (inr (inl (λ there.
+        let here = at_line text width split in_lap start (start + size) s h line next ends in
+        other (let same : line ≡ divider = cc in same)))) (line_answer line start width)
+    by_line false true e x (inl is) = later true s (HasRead-divider text width split start (start + size) s
+        (subst (λ b. HasRead text width split b start s) e h) line next ends is x)
+
+  -- by recursion over how many bytes are left
+  from_line : (n : ℕ) (in_lap : Bool) (start : ℕ) (s : StimulusData) → HasRead text width split in_lap start s →
+      length text ≤ start + n → Answer
+  from_line zero in_lap start s h left = at_end in_lap split start s h (omega (arith, left)) refl
+  from_line (suc n) in_lap start s h left =
+      go (λ b size t k. from_line n b (start + size + 1) t k (omega (arith, left))) (cases_lt start (length text))
+    where
+      go : ((b : Bool) (size : ℕ) (t : StimulusData) → HasRead text width split b (start + size + 1) t → Answer) →
+          (suc start ≤ length text) ⊎ (length text ≤ start) → Answer
+      go later (inr past) = at_end in_lap split start s h past refl
+      go later (inl some) =
+          let l = first_line (drop start text) (omega (arith, some, length-drop start text)) in
+          by_line in_lap start l.0 s h some l.1 (λ b t k. later b l.0 t k) in_lap split refl refl
+          (is_divider (take l.0 (drop start text)))
+
+pub some_stimulus : (text : List ℕ) (width : ℕ) (split : Bool) → HasSomeAnswer text width split
+some_stimulus text width split = from_line text width split (length text) false 0 (record { stem = []; lap = [] })
+    (HasRead-start text width split) (omega arith)

@@ -1,0 +1,258 @@
+-- The reader of stimuli, line by line.
+use Rattle.std.proofs.Common.{◌≡◌, ℕ, ◌+◌, ◌<◌, ◌≤◌, ◌⊎◌, inl, inr, Bool, true, false, List, [], ◌∷◌, ◌++◌, map, length}
+use Rattle.std.proofs.Common.{drop, refl, sym, ap, subst, ◌∙◌, arith, Some, Err, slice_get, All, length-append}
+use Rattle.std.specs.Prelude.{Vec}
+use Rattle.std.specs.Global.{Global}
+use Rattle.std.proofs.lemmas.List.{length-map, map_push, append_assoc, append-nil, drop_all, take_at}
+use Rattle.std.proofs.lemmas.List.Elements.{All-push, All-nil}
+use Rattle.std.proofs.lemmas.List.Sums.{sum_by_push}
+use Rattle.std.proofs.lemmas.Option.{slice_get_within}
+use Rattle.std.proofs.lemmas.Bool.{cases_order}
+use Rattle.ps_simulate.specs.declared.fault.StimulusCause.{StimulusCause}
+use Rattle.ps_simulate.specs.declared.fault.StimulusCause.TheVariants.{Stimulus}
+use Rattle.ps_simulate.specs.Faults.{rank}
+use Rattle.ps_simulate.specs.Faults.{StimulusFault}
+use Rattle.ps_text.specs.declared.faults.Fault.TheVariants.{Text, OutOfMemory}
+use Rattle.ps_simulate.specs.Stimuli.{StimulusData, letters_of}
+use Rattle.ps_simulate.specs.StimulusTexts.{lines_of, extent, start_of, digits_of, divider, spelled, Divides}
+use Rattle.ps_simulate.specs.StimulusTexts.{StandsInLine, StandsInLetter, MissesDivider, Stands, IsFirst, IsStimulus}
+use Rattle.ps_simulate.specs.StimulusTexts.{IsStimulusAnswer}
+use Rattle.ps_simulate.specs.StimulusReading.{HasRead, ReadsLine}
+use Rattle.ps_simulate.proofs.Stimuli.LineLemmas.{start_of-later, in_line_from, in_line_within}
+use Rattle.ps_simulate.proofs.Stimuli.StimulusLemmas.{slice_get-right, no_divider, divides_at, no_cause}
+
+-- one more letter, of the stem or of the lap
+abbrev pub with_letter : Bool → StimulusData → List Bool → StimulusData
+with_letter false s letter = record { stem = s.stem ++ letter ∷ []; lap = s.lap }
+with_letter true s letter = record { stem = s.stem; lap = s.lap ++ letter ∷ [] }
+
+spelled-with_letter : (in_lap : Bool) (s : StimulusData) (letter : List Bool) →
+    spelled in_lap (with_letter in_lap s letter) ≡ spelled in_lap s ++ digits_of letter ∷ []
+spelled-with_letter false s letter = map_push digits_of s.stem letter
+spelled-with_letter true s letter =
+    ap (λ (lap : List (List ℕ)). map digits_of s.stem ++ divider ∷ lap) (map_push digits_of s.lap letter)
+    ∙ sym (append_assoc (map digits_of s.stem) (divider ∷ map digits_of s.lap) (digits_of letter ∷ []))
+
+widths_with : (in_lap : Bool) (s : StimulusData) (letter : List Bool) (width : ℕ) → All (λ l. length l ≡ width) s.stem →
+    All (λ l. length l ≡ width) s.lap → length letter ≡ width
+    → All (λ l. length l ≡ width) (with_letter in_lap s letter).stem ×
+    All (λ l. length l ≡ width) (with_letter in_lap s letter).lap
+widths_with false s letter width stem lap each = (All-push (λ l. length l ≡ width) s.stem letter stem each, lap)
+widths_with true s letter width stem lap each = (stem, All-push (λ l. length l ≡ width) s.lap letter lap each)
+
+no_lap_with : (in_lap : Bool) (s : StimulusData) (letter : List Bool) → (in_lap ≡ false → s.lap ≡ []) → in_lap ≡ false →
+    (with_letter in_lap s letter).lap ≡ []
+no_lap_with false s letter none e = none e
+no_lap_with true s letter none e = cc
+
+pub HasRead-start : (text : List ℕ) (width : ℕ) (split : Bool) →
+    HasRead text width split false 0 (record { stem = []; lap = [] })
+HasRead-start text width split = record {
+  lines = refl;
+  start_is = refl;
+  stem_widths = All-nil (λ l. length l ≡ width);
+  lap_widths = All-nil (λ l. length l ≡ width);
+  wanted = λ e. cc;
+  no_lap = λ e. refl;
+}
+
+module _ (text : List ℕ) (width : ℕ) (split in_lap : Bool) (start end : ℕ) (s : StimulusData)
+    (h : HasRead text width split in_lap start s)
+    (line : List ℕ) (next : lines_of (drop start text) ≡ line ∷ lines_of (drop (end + 1) text))
+    (length_is : start + length line ≡ end) where
+  behind : lines_of text ≡ spelled in_lap s ++ line ∷ lines_of (drop (end + 1) text)
+  behind = h.lines ∙ ap (λ (rest : List (List ℕ)). spelled in_lap s ++ rest) next
+
+  pushed : lines_of text ≡ (spelled in_lap s ++ line ∷ []) ++ lines_of (drop (end + 1) text)
+  pushed = behind ∙ sym (append_assoc (spelled in_lap s) (line ∷ []) (lines_of (drop (end + 1) text)))
+
+  end_is : end + 1 ≡ extent (spelled in_lap s ++ line ∷ [])
+  end_is =
+      omega (arith, h.start_is, length_is, sum_by_push (λ (bytes : List ℕ). length bytes + 1) (spelled in_lap s) line)
+
+  -- a letter's line
+  pub HasRead-letter : (letter : List Bool) → line ≡ digits_of letter → length line ≡ width →
+      HasRead text width split in_lap (end + 1) (with_letter in_lap s letter)
+  HasRead-letter letter is each =
+      let spells : spelled in_lap s ++ line ∷ [] ≡ spelled in_lap (with_letter in_lap s letter) =
+      ap (λ (l : List ℕ). spelled in_lap s ++ l ∷ []) is ∙ sym (spelled-with_letter in_lap s letter) in
+      let widths =
+      widths_with in_lap s letter width h.stem_widths h.lap_widths
+      (sym (length-map letter _) ∙ ap length (sym is) ∙ each) in
+      record {
+        lines = pushed ∙ ap (λ (front : List (List ℕ)). front ++ lines_of (drop (end + 1) text)) spells;
+        start_is = end_is ∙ ap extent spells;
+        stem_widths = widths.0;
+        lap_widths = widths.1;
+        wanted = h.wanted;
+        no_lap = no_lap_with in_lap s letter h.no_lap;
+      }
+
+  -- where line `length (spelled in_lap s)` begins
+  pub at_line : slice_get (lines_of text) (length (spelled in_lap s)) ≡ Some line
+  at_line = ap (λ (ls : List (List ℕ)). slice_get ls (length (spelled in_lap s))) behind
+      ∙ slice_get-right (spelled in_lap s) (line ∷ lines_of (drop (end + 1) text)) (length (spelled in_lap s))
+      0 (omega arith)
+
+  start_here : start_of (lines_of text) (length (spelled in_lap s)) ≡ start
+  start_here = ap (λ (ls : List (List ℕ)). start_of ls (length (spelled in_lap s))) behind
+      ∙ ap extent (take_at (spelled in_lap s) (line ∷ lines_of (drop (end + 1) text)) (length (spelled in_lap s)) refl)
+      ∙ sym h.start_is
+
+  -- the first cause in a line is the first in the text
+  pub IsFirst-in_line : start < length text → end ≤ length text →
+      ¬ Divides split (lines_of text) (length (spelled in_lap s))
+      → (cause : StimulusCause) (offset : ℕ) → IsFirst (StandsInLine line start width) cause offset →
+      IsFirst (Stands text width split) cause offset
+  IsFirst-in_line some within letter cause offset first = record {
+    stands = inl (record {
+      k = here;
+      line = line;
+      is_letter = record { there = at_line; letter = letter };
+      in_line = subst (λ (n : ℕ). StandsInLine line n width cause offset) (sym start_here) first.stands;
+    });
+    least = λ other there stands. elim stands [ inl l ↦ in_letter other there l | inr m ↦ inl (missing other there m) ];
+  }
+    where
+      here : ℕ
+      here = length (spelled in_lap s)
+
+      bound : (offset ≡ start) ⊎ (offset < start + length line)
+      bound = in_line_within line start width cause offset first.stands
+
+      missing : (other : StimulusCause) (there : ℕ) → MissesDivider text split other there → offset < there
+      missing other there m =
+          elim bound [
+            | inl e ↦ omega (arith, some, e, m.offset_is)
+            | inr less ↦ omega (arith, less, within, length_is, m.offset_is)
+          ]
+
+      in_letter : (other : StimulusCause) (there : ℕ) → StandsInLetter text width split other there →
+          (offset < there) ⊎ ((offset ≡ there) × (rank cause ≤ rank other))
+      in_letter other there l = which (cases_order l.k (length (spelled in_lap s)))
+        where
+          which : (l.k ≡ length (spelled in_lap s)) ⊎ ((l.k < length (spelled in_lap s)) ⊎
+              (length (spelled in_lap s) < l.k)) → (offset < there) ⊎ ((offset ≡ there) × (rank cause ≤ rank other))
+          which (inl e) =
+              (let same : l.line ≡ line = (let a = l.is_letter.there in let b = ap (slice_get (lines_of text)) e in
+              let c = at_line in cc) in
+              first.least other there (subst (λ (bytes : List ℕ). StandsInLine bytes start width other there) same
+              (subst (λ (n : ℕ). StandsInLine l.line n width other there)
+              (ap (start_of (lines_of text)) e ∙ start_here) l.in_line)))
+          which (inr (inl less)) =
+              absurd (no_cause split in_lap s (line ∷ lines_of (drop (end + 1) text)) (lines_of text) width behind
+              h.stem_widths h.lap_widths h.wanted l.k l.line _ other there less l.is_letter l.in_line)
+          which (inr (inr more)) =
+              (let later = start_of-later (lines_of text) (length (spelled in_lap s)) l.k line at_line more
+              (let w = slice_get_within (lines_of text) l.k l.line l.is_letter.there in omega arith) in
+              let from = in_line_from l.line _ width other there l.in_line in
+              inl (elim bound [
+                | inl e ↦ omega (arith, later, from, e, start_here)
+                | inr less ↦ omega (arith, later, from, less, start_here)
+              ]))
+
+-- the divider's line
+pub HasRead-divider : (text : List ℕ) (width : ℕ) (split : Bool) (start end : ℕ) (s : StimulusData) →
+    HasRead text width split false start s → (line : List ℕ)
+    → lines_of (drop start text) ≡ line ∷ lines_of (drop (end + 1) text) → start + length line ≡ end → line ≡ divider →
+    split ≡ true → HasRead text width split true (end + 1) s
+HasRead-divider text width split start end s h line next length_is is wanted =
+    let spells : spelled false s ++ line ∷ [] ≡ spelled true s =
+    ap (λ (l : List ℕ). map digits_of s.stem ++ l ∷ []) is ∙ ap
+    (λ (lap : List (List Bool)). map digits_of s.stem ++ divider ∷ map digits_of lap) (sym (h.no_lap refl)) in
+    record {
+      lines = pushed text width split false start end s h line next length_is
+          ∙ ap (λ (front : List (List ℕ)). front ++ lines_of (drop (end + 1) text)) spells;
+      start_is = end_is text width split false start end s h line next length_is ∙ ap extent spells;
+      stem_widths = h.stem_widths;
+      lap_widths = h.lap_widths;
+      wanted = λ e. wanted;
+      no_lap = λ e. cc;
+    }
+
+-- a letter's line is no divider that is wanted
+pub not_divides : (text : List ℕ) (width : ℕ) (split in_lap : Bool) (start : ℕ) (s : StimulusData) →
+    HasRead text width split in_lap start s
+    → (in_lap ≡ true) ⊎ (¬ (slice_get (lines_of text) (length (spelled in_lap s)) ≡ Some divider) ⊎ (split ≡ false)) →
+    ¬ Divides split (lines_of text) (length (spelled in_lap s))
+not_divides text width split true start s h (inl e) d =
+    let at = divides_at split s (lines_of (drop start text)) (lines_of text) h.lines (h.wanted refl) in
+    d.first (length s.stem) (omega (
+      arith,
+      length-map s.stem digits_of,
+      length-append (map digits_of s.stem) (divider ∷ map digits_of s.lap),
+    )) at.there
+not_divides text width split false start s h (inl e) d = cc
+not_divides text width split in_lap start s h (inr (inl other)) d = other d.there
+not_divides text width split in_lap start s h (inr (inr plain)) d = (let e = d.wanted in cc)
+
+-- ## The end
+
+module _ (text : List ℕ) (width : ℕ) (split in_lap : Bool) (start : ℕ) (s : StimulusData)
+    (h : HasRead text width split in_lap start s) (past : length text ≤ start) where
+  all_lines : lines_of text ≡ spelled in_lap s
+  all_lines = h.lines ∙ ap (λ (bytes : List ℕ). spelled in_lap s ++ lines_of bytes) (drop_all start text past)
+      ∙ append-nil (spelled in_lap s)
+
+  pub IsStimulus-end : in_lap ≡ split → IsStimulus text width split s
+  IsStimulus-end e = record {
+    lines = all_lines ∙ ap (λ (b : Bool). spelled b s) e;
+    stem_widths = h.stem_widths;
+    lap_widths = h.lap_widths;
+    no_lap = λ plain. h.no_lap (e ∙ plain);
+  }
+
+pub IsFirst-end : (text : List ℕ) (width : ℕ) (split : Bool) (start : ℕ) (s : StimulusData) →
+    HasRead text width split false start s → length text ≤ start → split ≡ true
+    → IsFirst (Stands text width split) Stimulus (length text)
+IsFirst-end text width split start s h past wanted = record {
+  stands = inr (record {
+    wanted = wanted;
+    none =
+        λ k there. no_divider s.stem k (ap (λ (ls : List (List ℕ)). slice_get ls k)
+        (sym (all_lines text width split false start s h past)) ∙ there);
+    cause_is = refl;
+    offset_is = refl;
+  });
+  least = λ other there stands. elim stands [
+    | inl l ↦ absurd (no_cause split false s [] (lines_of text) width
+        (all_lines text width split false start s h past ∙ sym (append-nil (map digits_of s.stem))) h.stem_widths
+        h.lap_widths h.wanted
+        l.k l.line _ other there (omega (
+          arith,
+          slice_get_within (lines_of text) l.k l.line l.is_letter.there,
+          ap length (all_lines text width split false start s h past),
+        )) l.is_letter l.in_line)
+    | inr m ↦ inr (sym m.offset_is, omega arith)
+  ];
+}
+
+-- ## What the code has
+
+-- the same letters
+pub HasRead-same : (text : List ℕ) (width : ℕ) (split in_lap in_lap' : Bool) (start : ℕ)
+    (stem stem' lap lap' : List (List Bool)) → in_lap ≡ in_lap' → stem ≡ stem' → lap ≡ lap'
+    → HasRead text width split in_lap start (record { stem = stem; lap = lap }) →
+    HasRead text width split in_lap' start (record { stem = stem'; lap = lap' })
+HasRead-same text width split in_lap in_lap' start stem stem' lap lap' same_side same_stem same_lap h =
+    let P : Bool → List (List Bool) → List (List Bool) → Type 0 =
+    λ b x y. HasRead text width split b start (record { stem = x; lap = y }) in
+    subst (λ (b : Bool). P b stem' lap') same_side (subst (λ (x : List (List Bool)). P in_lap x lap') same_stem
+    (subst (P in_lap stem) same_lap h))
+
+pub letters_of-push : (letters : List (Vec Bool Global)) (letter : Vec Bool Global) →
+    letters_of (letters ++ letter ∷ []) ≡ letters_of letters ++ letter.items ∷ []
+letters_of-push letters letter = map_push (λ (l : Vec Bool Global). l.items) letters letter
+
+-- the fault of a line is the answer to the text
+pub IsStimulusAnswer-line : (text : List ℕ) (width : ℕ) (split in_lap : Bool) (start end : ℕ) (s : StimulusData) →
+    HasRead text width split in_lap start s → (line : List ℕ)
+    → lines_of (drop start text) ≡ line ∷ lines_of (drop (end + 1) text) → start + length line ≡ end →
+    start < length text → end ≤ length text
+    → (in_lap ≡ true) ⊎ (¬ (slice_get (lines_of text) (length (spelled in_lap s)) ≡ Some divider) ⊎ (split ≡ false))
+    → (fault : StimulusFault) → ReadsLine line start width (Err fault) → IsStimulusAnswer text width split (Err fault)
+IsStimulusAnswer-line text width split in_lap start end s h line next length_is some within plain
+    (Text cause offset) first =
+    IsFirst-in_line text width split in_lap start end s h line next length_is some within
+    (not_divides text width split in_lap start s h plain) cause offset first
+IsStimulusAnswer-line text width split in_lap start end s h line next length_is some within plain OutOfMemory first = tt

@@ -1,0 +1,135 @@
+-- A circuit has one verdict at most.
+use Rattle.std.proofs.Common.{◌≡◌, ◌∙◌, ℕ, zero, suc, ◌+◌, ◌-◌, ◌*◌, ◌<◌, ◌≤◌, inl, inr, Bool, true, false, List, []}
+use Rattle.std.proofs.Common.{◌∷◌, ◌++◌, map, get_or, take, drop, length, refl, sym, ap, ap₂, subst, arith}
+use Rattle.std.proofs.Common.{append_assoc}
+use Rattle.std.specs.Prelude.{◌↔◌, IsTrue}
+use Rattle.std.proofs.lemmas.Bool.{cases_order, cases_eq}
+use Rattle.std.proofs.lemmas.List.{append-nil}
+use Rattle.std.proofs.Math.Nat.{mul-le-mul_right}
+use Rattle.ps_hoa.specs.Files.{FileData}
+use Rattle.ps_automaton.specs.Acceptance.{IsAccepted}
+use Rattle.ps_circuit.specs.Circuits.{CircuitData, IsCircuit}
+use Rattle.ps_circuit.specs.Values.{Moment, GoesOn, HasOneValues, resets}
+use Rattle.ps_simulate.specs.declared.role.Role.{Role}
+use Rattle.ps_simulate.specs.declared.lassos.Verdict.{Verdict}
+use Rattle.ps_simulate.specs.Symbols.{HasSymbols}
+use Rattle.ps_simulate.specs.Lassos.{AreLetters, laps_of, latches_along, latches_before, Repeats, IsVerdictOf}
+use Rattle.ps_simulate.proofs.Uniqueness.OneTrace.{heads_same, tails_same, firsts_agree}
+use Rattle.ps_simulate.proofs.Uniqueness.OneLetter.{one_letters}
+use Rattle.ps_simulate.proofs.LassoLemmas.{along_more, at_end, length_trace}
+
+-- fewer laps come first
+laps_front : (lap : List (List Bool)) (j n : ℕ) → j ≤ n → (more : List (List Bool)) ×
+    (laps_of lap n ≡ laps_of lap j ++ more)
+laps_front lap j zero le =
+    let none : 0 ≡ j = omega arith in ([], ap (laps_of lap) none ∙ sym (append-nil (laps_of lap j)))
+laps_front lap j (suc n) le = elim (cases_eq j (suc n)) [
+  | inl same ↦ ([], ap (laps_of lap) (sym same) ∙ sym (append-nil (laps_of lap j)))
+  | inr other ↦ let rest = laps_front lap j n (omega arith) in
+      (rest.0 ++ lap, ap (λ ls. ls ++ lap) rest.1 ∙ append_assoc (laps_of lap j) rest.0 lap)
+]
+
+module _ (c : CircuitData) (is_circuit : IsCircuit c) (one : HasOneValues c) where
+  abbrev Behind : List Moment → List Bool → List Moment → List Bool → List (List Bool) → Type 0
+  Behind ms last ns last' more =
+      (rest : List Moment) × (ns ≡ ms ++ rest) × GoesOn c last rest last' × (map (λ m. m.inputs) rest ≡ more)
+
+  -- a trace whose letters begin with those of another begins with it
+  goes_behind : (latches last last' : List Bool) (ms ns : List Moment) (more : List (List Bool)) →
+      GoesOn c latches ms last → GoesOn c latches ns last'
+      → map (λ m. m.inputs) ns ≡ map (λ m. m.inputs) ms ++ more → Behind ms last ns last' more
+  goes_behind latches last last' [] ns more a b same =
+      (ns, refl, subst (λ (from : List Bool). GoesOn c from ns last') a b, same)
+  goes_behind latches last last' (m ∷ ms) [] more a b same = absurd (cc)
+  goes_behind latches last last' (m ∷ ms) (n ∷ ns) more (next, at, steps, rest) (next', at', steps', rest') same =
+      let inputs_same : m.inputs ≡ n.inputs = sym (heads_same _ _ _ _ same) in
+      let first = firsts_agree c is_circuit one latches next next' m n at at' steps steps' inputs_same in
+      let there = subst (λ (from : List Bool). GoesOn c from ns last') (sym first.1) rest' in
+      let others : Behind ms last ns last' more =
+      goes_behind next last last' ms ns more rest there (tails_same _ _ _ _ same) in
+      (others.0, ap₂ (λ x xs. x ∷ xs) (sym first.0) others.1, others.2, others.3)
+
+  no_letters : (ms : List Moment) → map (λ m. m.inputs) ms ≡ [] → ms ≡ []
+  no_letters [] e = refl
+  no_letters (m ∷ ms) e = absurd (cc)
+
+  module _ (stem lap : List (List Bool)) where
+    -- the second repetition is none
+    not_earlier : (i j i' j' : ℕ) (ms ns : List Moment) → Repeats c stem lap i j ms →
+        Repeats c stem lap i' j' ns → j < j' → ⊥
+    not_earlier i j i' j' ms ns a b lt =
+        let more = laps_front lap j j' (omega arith) in
+        let reads : map (λ (m : Moment). m.inputs) ns ≡ map (λ (m : Moment). m.inputs) ms ++ more.0 =
+        b.reads ∙ ap (λ ls. stem ++ ls) more.1 ∙ sym (append_assoc stem (laps_of lap j) more.0)
+        ∙ ap (λ ls. ls ++ more.0) (sym a.reads) in
+        let behind : Behind ms a.last ns b.last more.0 =
+        goes_behind (resets c) a.last b.last ms ns more.0 a.goes_on b.goes_on reads in
+        let size = length_trace stem lap ms j a.reads in
+        let le = mul-le-mul_right {m = i} {n = j} (length lap) (omega (arith, a.earlier)) in
+        let at : (t : ℕ) → t ≤ length ms → get_or (latches_along ns b.last) t [] ≡ get_or
+        (latches_along ms a.last) t [] =
+        λ t within. ap (λ (ls : List Moment). get_or (latches_along ls b.last) t []) behind.1
+        ∙ along_more c ms behind.0 a.last b.last t behind.2 within in
+        b.first i j a.earlier lt
+        (at (length stem + i * length lap) (omega (arith, size, le)) ∙ a.returns ∙ sym (at_end ms a.last)
+        ∙ sym (at (length ms) (omega arith))
+        ∙ ap (λ t. get_or (latches_along ns b.last) t []) size)
+
+    one_first : (i i' j : ℕ) (ms : List Moment) → (a : Repeats c stem lap i j ms) (b : Repeats c stem lap i' j ms) →
+        a.last ≡ b.last → i < i' → ⊥
+    one_first i i' j ms a b same lt =
+        a.first i i' lt b.earlier (a.returns ∙ same ∙ sym b.returns
+        ∙ ap (λ (ls : List Bool). latches_before stem lap ms ls i') (sym same))
+
+    one_repetition : (i j i' j' : ℕ) (ms ns : List Moment) → Repeats c stem lap i j ms → Repeats c stem lap i' j' ns →
+        (i ≡ i') × (j ≡ j') × (ms ≡ ns)
+    one_repetition i j i' j' ms ns a b =
+        let laps : j ≡ j' = elim (cases_order j j') [
+          | inl same ↦ same
+          | inr (inl less) ↦ absurd (not_earlier i j i' j' ms ns a b less)
+          | inr (inr more) ↦ absurd (not_earlier i' j' i j ns ms b a more)
+        ] in
+        let reads : map (λ (m : Moment). m.inputs) ns ≡ map (λ (m : Moment). m.inputs) ms ++ [] =
+        b.reads ∙ ap (λ n. stem ++ laps_of lap n) (sym laps) ∙ sym a.reads
+        ∙ sym (append-nil (map (λ (m : Moment). m.inputs) ms)) in
+        let behind : Behind ms a.last ns b.last [] =
+        goes_behind (resets c) a.last b.last ms ns [] a.goes_on b.goes_on reads in
+        let none : behind.0 ≡ [] = no_letters behind.0 behind.3 in
+        let traces : ns ≡ ms = behind.1 ∙ ap (λ (ls : List Moment). ms ++ ls) none ∙ append-nil ms in
+        let lasts : a.last ≡ b.last = subst (λ (ls : List Moment). GoesOn c a.last ls b.last) none behind.2 in
+        let there : (last : List Bool) × (latches_before stem lap ms last i' ≡ last) × (last ≡ b.last) =
+        (b.last, ap (λ (ls : List Moment). latches_before stem lap ls b.last i') (sym traces) ∙ b.returns, refl) in
+        let back : latches_before stem lap ms a.last i' ≡ a.last =
+        ap (λ (ls : List Bool). latches_before stem lap ms ls i') lasts ∙ there.1 ∙ sym lasts in
+        let firsts : i ≡ i' = elim (cases_order i i') [
+          | inl same ↦ same
+          | inr (inl less) ↦ absurd (a.first i i' less (omega (arith, b.earlier, laps)) (a.returns ∙ sym back))
+          | inr (inr more) ↦ absurd (a.first i' i more a.earlier (back ∙ sym a.returns))
+        ] in
+        (firsts, laps, sym traces)
+
+-- ---- the verdict
+
+one_truth : (a b : Bool) (P : Type 0) → (IsTrue a ↔ P) → (IsTrue b ↔ P) → a ≡ b
+one_truth true b P h k = sym (k.1 (h.0 refl))
+one_truth false true P h k = h.1 (k.0 refl)
+one_truth false false P h k = refl
+
+pub one_verdict : (role : Role) (file : FileData) (c : CircuitData) (stem lap : List (List Bool)) (v w : Verdict) →
+    IsCircuit c → HasOneValues c
+    → HasSymbols role file.names file.controllable c → IsVerdictOf file c stem lap v →
+    IsVerdictOf file c stem lap w → v ≡ w
+one_verdict role file c stem lap v w is one has a b =
+    let same = one_repetition c is one stem lap a.i a.j b.i b.j a.trace b.trace a.repeats b.repeats in
+    let letters : a.letters ≡ b.letters =
+    one_letters role file.names file.controllable c has b.trace a.letters b.letters
+    (subst (λ (ms : List Moment). AreLetters file.names c ms a.letters) same.2 a.are_letters) b.are_letters in
+    let stems : v.stem ≡ w.stem = a.stem_is ∙ ap (λ i. length stem + i * length lap) same.0 ∙ sym b.stem_is in
+    let laps : v.lap ≡ w.lap = a.lap_is ∙ ap₂ (λ i j. (j - i) * length lap) same.0 same.1 ∙ sym b.lap_is in
+    let asked : IsTrue v.accepted ↔ IsAccepted file (take w.stem b.letters) (drop w.stem b.letters) =
+    subst (λ (ls : List ℕ). IsTrue v.accepted ↔ IsAccepted file (take w.stem ls) (drop w.stem ls)) letters
+    (subst (λ n. IsTrue v.accepted ↔ IsAccepted file (take n a.letters) (drop n a.letters)) stems a.accepted) in
+    let truth : v.accepted ≡ w.accepted =
+    one_truth v.accepted w.accepted (IsAccepted file (take w.stem b.letters) (drop w.stem b.letters))
+    asked b.accepted in
+    λ k. record { accepted = truth k; stem = stems k; lap = laps k }
