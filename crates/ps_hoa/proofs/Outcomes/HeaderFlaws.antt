@@ -5,7 +5,7 @@ use Rattle.std.proofs.Common.{◌≡◌, ℕ, true, List, [], ◌∷◌, length,
 use Rattle.ps_label.specs.Expression.{Expression, constant, proposition, alias, not_of, all_of, any_of, Operands, last}
 use Rattle.ps_label.specs.Expression.{more}
 use Rattle.ps_text.proofs.Outcomes.{Judged, bad, good}
-use Rattle.ps_text.proofs.Decisions.{Decided, decide_one, decide_below}
+use Rattle.ps_text.proofs.Decisions.{Decided, decide_none, decide_one, decide_below, judge_also}
 use Rattle.ps_hoa.specs.Causes.{cause_number}
 use Rattle.ps_hoa.specs.Conditions as conditions
 use Rattle.ps_hoa.specs.Conditions.{Condition, Conditions}
