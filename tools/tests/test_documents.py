@@ -64,6 +64,22 @@ class Names(unittest.TestCase):
                 wrong.append(f"docs/definitions.md:{line}: {code}")
         self.assertFalse(wrong, "\n".join(["", *wrong]))
 
+    def test_proof_modules_that_crates_above_cite_are_listed(self):
+        cited = {}
+        for path in glob.glob(os.path.join(TOP, "crates", "*", "*", "**", "*.*t"), recursive=True):
+            crate = os.path.relpath(path, TOP).split(os.sep)[1]
+            if f"{os.sep}out{os.sep}" in path or not path.endswith((".rt", ".antt")):
+                continue
+            with open(path, encoding="utf-8") as file:
+                for below, module in re.findall(r"Rattle\.(ps_\w+)\.proofs\.((?:[A-Z]\w*\.)*[A-Z]\w*)", file.read()):
+                    if below != crate:
+                        cited.setdefault(below, set()).add(module.split(".")[-1])
+        rows = [line.split("|")[1:3] for line in documents.read("docs/architecture.md") if re.match(r"\| `ps_\w+` \| (`[A-Z]|all of)", line)]
+        listed = {crate.strip(" `"): set(re.findall(r"`(\w+)`", modules)) for crate, modules in rows}
+        self.assertEqual(listed.pop("ps_text"), set())
+        cited.pop("ps_text")
+        self.assertEqual(listed, cited)
+
 
 class Commands(unittest.TestCase):
     def test_each_prints_what_is_shown(self):
