@@ -1,9 +1,9 @@
--- A turn begins: the vertices of the greatest priority are placed, and what is attracted to them; the last call then
--- waits for the next one, which looks for its own turn.
+-- A turn begins: the tops are placed, and what is attracted to them; the last call then waits for the next one, which
+-- looks for its own turn.
 use Rattle.std.proofs.Common.{◌≡◌, ◌≢◌, ℕ, ◌+◌, ◌*◌, ◌%◌, ◌<◌, ◌≤◌, ◌⊎◌, inl, inr, List, [], ◌∷◌, ◌++◌, length, get_or}
-use Rattle.std.proofs.Common.{Bool, false, not, ◌&&◌, ◌==◌, refl, subst, sym, ap, ◌∙◌, arith}
+use Rattle.std.proofs.Common.{Bool, true, false, not, ◌&&◌, ◌==◌, refl, subst, sym, ap, ◌∙◌, arith}
 use Rattle.std.specs.Prelude.{IsTrue}
-use Rattle.std.proofs.lemmas.Bool.{cases_lt, cases_eq, false≢true, eqb-true, eq-eqb, ne_eqb, and_parts, and_from}
+use Rattle.std.proofs.lemmas.Bool.{cases_lt, cases_eq, false≢true, eq-eqb, ne_eqb, and_parts, and_from}
 use Rattle.std.proofs.lemmas.Bool.{not-true, not_from_false}
 use Rattle.std.proofs.lemmas.List.{get_or_append_left, get_or_push, length_push}
 use Rattle.ps_game.specs.Games.{ParityGame, vertex_count, priority_of}
@@ -112,7 +112,9 @@ pub record Begun : Type 0 where
   pub within : cursor < length order
   pub unplaced : level_of old (get_or order cursor 0) ≡ UNPLACED
   pub first : (j : ℕ) → j < cursor → level_of old (get_or order j 0) ≢ UNPLACED
-  pub placed : ArePlaced game aim old mid order cursor behind
+  pub just_greatest : Bool
+  pub just : depth ≡ 0 → just_greatest ≡ true
+  pub placed : ArePlaced game aim old mid order cursor behind just_greatest
   pub ends : behind < length order → priority_of game (get_or order behind 0) ≢ priority_of game (get_or order cursor 0)
   pub fits : FitsGame game new
   pub winners : length winner_now ≡ vertex_count game
@@ -128,7 +130,7 @@ abbrev greatest : Begun → ℕ
 greatest b = priority_of b.game (get_or b.order b.cursor 0)
 
 abbrev tops : Begun → ℕ → Bool
-tops b v = undecided b v && (priority_of b.game v == greatest b)
+tops b v = undecided b v && not (level_of b.mid v == UNPLACED)
 
 abbrev pulled : Begun → ℕ → Bool
 pulled b v = undecided b v && not (level_of b.new v == UNPLACED)
@@ -204,15 +206,39 @@ still_or_placed b v inside =
       | inr placed ↦ inr placed
     ]
 
--- ## The vertices of the greatest priority
+-- ## The tops
 
-tops_from : (b : Begun) (v : ℕ) → IsTrue (tops b v) → IsTrue (undecided b v) × (priority_of b.game v ≡ greatest b)
-tops_from b v top = let parts = and_parts (undecided b v) (priority_of b.game v == greatest b) top in
-    (parts.0, eqb-true (priority_of b.game v) (greatest b) parts.1)
+-- what is undecided and has a level but the greatest
+placed_from : (b : Begun) (tables : TablesData) (v : ℕ) →
+    IsTrue (undecided b v && not (level_of tables v == UNPLACED)) →
+    IsTrue (undecided b v) × (level_of tables v ≢ UNPLACED)
+placed_from b tables v there =
+    let parts = and_parts (undecided b v) (not (level_of tables v == UNPLACED)) there in (
+      parts.0,
+      λ same. false≢true (sym (not-true (level_of tables v == UNPLACED) parts.1)
+          ∙ eq-eqb (level_of tables v) UNPLACED same),
+    )
 
-to_tops : (b : Begun) (v : ℕ) → IsTrue (undecided b v) → priority_of b.game v ≡ greatest b → IsTrue (tops b v)
-to_tops b v inside is =
-    and_from (undecided b v) (priority_of b.game v == greatest b) inside (eq-eqb (priority_of b.game v) (greatest b) is)
+to_placed : (b : Begun) (tables : TablesData) (v : ℕ) → IsTrue (undecided b v) → level_of tables v ≢ UNPLACED →
+    IsTrue (undecided b v && not (level_of tables v == UNPLACED))
+to_placed b tables v inside placed =
+    and_from (undecided b v) (not (level_of tables v == UNPLACED)) inside
+    (not_from_false (level_of tables v == UNPLACED) (ne_eqb (level_of tables v) UNPLACED placed))
+
+tops_placed : (b : Begun) (v : ℕ) → IsTrue (tops b v) → IsPlaced b.aim b.old b.mid v
+tops_placed b v top =
+    let (inside, taken) = placed_from b b.mid v top in
+    elim (b.placed.grown.each v) [
+      | inl still ↦ absurd (taken (still.level ∙ was_open b v inside))
+      | inr placed ↦ placed
+    ]
+
+placed_tops : (b : Begun) (v : ℕ) → IsPlaced b.aim b.old b.mid v → IsTrue (tops b v)
+placed_tops b v placed =
+    let far : 2 * b.depth + 4 ≤ UNPLACED = low b in
+    let mark : b.aim.mark ≡ 2 * b.depth + 2 = b.mark in
+    let level : level_of b.mid v ≡ b.aim.mark = placed.level in
+    to_placed b b.mid v (is_open b v (placed.was_free ∙ b.free)) (λ same. omega arith)
 
 -- an undecided vertex stands in the order behind the cursor
 pub record InOrder (b : Begun) (v : ℕ) : Type 0 where
@@ -242,13 +268,23 @@ most b v inside =
     ap (priority_of b.game) there.is in
     omega arith
 
-tops_placed : (b : Begun) (v : ℕ) → IsTrue (tops b v) → IsPlaced b.aim b.old b.mid v
-tops_placed b v top =
-    let (inside, is) = tops_from b v top in
+-- a free vertex that stands in the order before the place where the tops end was placed
+placed_before : (b : Begun) (v : ℕ) (inside : IsTrue (undecided b v)) (there : InOrder b v) → there.place < b.behind →
+    IsPlaced b.aim b.old b.mid v
+placed_before b v inside there before =
+    let taken : level_of b.mid (get_or b.order there.place 0) ≢ UNPLACED =
+    λ is. b.placed.all there.place there.after before (is ∙ sym b.free) in
+    elim (b.placed.grown.each v) [
+      | inl still ↦ absurd (taken (ap (λ x. level_of b.mid x) there.is ∙ still.level ∙ was_open b v inside))
+      | inr placed ↦ placed
+    ]
+
+greatest_top : (b : Begun) (v : ℕ) → IsTrue (undecided b v) → priority_of b.game v ≡ greatest b → IsTrue (tops b v)
+greatest_top b v inside is =
     let there = in_order b v inside in
     let same : priority_of b.game (get_or b.order there.place 0) ≡ priority_of b.game v =
     ap (priority_of b.game) there.is in
-    let before : there.place < b.behind = elim (cases_lt there.place b.behind) [
+    placed_tops b v (placed_before b v inside there (elim (cases_lt there.place b.behind) [
       | inl less ↦ less
       | inr more ↦ (
           let room : there.place < length b.order = there.before in
@@ -257,19 +293,36 @@ tops_placed b v top =
           let first : priority_of b.game (get_or b.order b.behind 0) ≤ greatest b =
           b.sound.is_order.falls b.cursor b.behind b.placed.after (omega arith) in
           absurd (b.ends (omega arith) (omega arith)))
-    ] in
-    let taken : level_of b.mid (get_or b.order there.place 0) ≢ UNPLACED =
-    λ is. b.placed.all there.place there.after before (is ∙ sym b.free) in
-    elim (b.placed.grown.each v) [
-      | inl still ↦ absurd (taken (ap (λ x. level_of b.mid x) there.is ∙ still.level ∙ was_open b v inside))
-      | inr placed ↦ placed
-    ]
-
-placed_tops : (b : Begun) (v : ℕ) → IsPlaced b.aim b.old b.mid v → IsTrue (tops b v)
-placed_tops b v placed = to_tops b v (is_open b v (placed.was_free ∙ b.free)) (b.placed.tops v placed)
+    ]))
 
 first_top : (b : Begun) → IsTrue (tops b (get_or b.order b.cursor 0))
-first_top b = to_tops b (get_or b.order b.cursor 0) (is_open b (get_or b.order b.cursor 0) b.unplaced) refl
+first_top b = greatest_top b (get_or b.order b.cursor 0) (is_open b (get_or b.order b.cursor 0) b.unplaced) refl
+
+tops_parity : (b : Begun) (v : ℕ) → IsPlaced b.aim b.old b.mid v → priority_of b.game v % 2 ≡ b.aim.player
+tops_parity b v placed = let top = b.placed.tops v placed in top.parity ∙ sym b.player
+
+-- a top has a greater priority than an undecided vertex of the other parity, which stands behind it in the order
+tops_above : (b : Begun) (v w : ℕ) → IsTrue (tops b v) → IsTrue (undecided b w) →
+    priority_of b.game w % 2 ≢ b.aim.player → priority_of b.game w < priority_of b.game v
+tops_above b v w top inside other =
+    let placed = tops_placed b v top in
+    let is_top = b.placed.tops v placed in
+    let there = in_order b w inside in
+    let first : priority_of b.game (get_or b.order is_top.stands.place 0) ≡ priority_of b.game v =
+    ap (priority_of b.game) is_top.stands.is in
+    let second : priority_of b.game (get_or b.order there.place 0) ≡ priority_of b.game w =
+    ap (priority_of b.game) there.is in
+    elim (cases_lt there.place b.behind) [
+      | inl less ↦ absurd (other (tops_parity b w (placed_before b w inside there less)))
+      | inr more ↦ (
+          let before : is_top.stands.place < b.behind = is_top.stands.before in
+          let falls : priority_of b.game (get_or b.order there.place 0) ≤ priority_of b.game
+          (get_or b.order is_top.stands.place 0) =
+          b.sound.is_order.falls is_top.stands.place there.place (omega arith) there.before in
+          let differ : priority_of b.game w ≢ priority_of b.game v =
+          λ same. other (ap (λ n. n % 2) same ∙ tops_parity b v placed) in
+          omega arith)
+    ]
 
 -- ## The attractor
 
@@ -288,7 +341,7 @@ posed b =
         | inl same ↦ is_open b v (sym same.level ∙ is_free ∙ b.free)
         | inr placed ↦ absurd (differ b (sym placed.level ∙ is_free))
       ];
-      target_within = λ v top. (tops_from b v top).0;
+      target_within = λ v top. (placed_from b b.mid v top).0;
       target_placed = λ v top is_free. (let placed = tops_placed b v top in differ b (sym placed.level ∙ is_free));
       target_stands = λ v top. (
           let placed = tops_placed b v top in
@@ -303,24 +356,11 @@ posed b =
           λ j after within. placed_tops b (get_or b.mid.trail j 0) (b.placed.grown.behind j (omega arith) within);
     }
 
-pulled_from : (b : Begun) (v : ℕ) → IsTrue (pulled b v) → IsTrue (undecided b v) × (level_of b.new v ≢ UNPLACED)
-pulled_from b v there =
-    let parts = and_parts (undecided b v) (not (level_of b.new v == UNPLACED)) there in (
-      parts.0,
-      λ same. false≢true (sym (not-true (level_of b.new v == UNPLACED) parts.1)
-          ∙ eq-eqb (level_of b.new v) UNPLACED same),
-    )
-
-to_pulled : (b : Begun) (v : ℕ) → IsTrue (undecided b v) → level_of b.new v ≢ UNPLACED → IsTrue (pulled b v)
-to_pulled b v inside placed =
-    and_from (undecided b v) (not (level_of b.new v == UNPLACED)) inside
-    (not_from_false (level_of b.new v == UNPLACED) (ne_eqb (level_of b.new v) UNPLACED placed))
-
 taken : (b : Begun) → IsTaken b.aim b.new (undecided b) (pulled b)
 taken b = record {
-  within = λ v there. (pulled_from b v there).0;
-  placed = λ v there is_free. (pulled_from b v there).1 (is_free ∙ b.free);
-  all = λ v inside not_free. to_pulled b v inside (λ same. not_free (same ∙ sym b.free));
+  within = λ v there. (placed_from b b.new v there).0;
+  placed = λ v there is_free. (placed_from b b.new v there).1 (is_free ∙ b.free);
+  all = λ v inside not_free. to_placed b b.new v inside (λ same. not_free (same ∙ sym b.free));
 }
 
 turn : (b : Begun) → IsAttracted b.game (undecided b) b.aim.player (tops b) (pulled b) (moves_of b.new)
@@ -330,7 +370,7 @@ turn b = b.attracted (undecided b) (tops b) (pulled b) (posed b) (taken b)
 -- what is attracted was placed
 pulled_placed : (b : Begun) (v : ℕ) → IsTrue (pulled b v) → IsPlaced b.aim b.old b.new v
 pulled_placed b v there =
-    let (inside, not_still) = pulled_from b v there in
+    let (inside, not_still) = placed_from b b.new v there in
     elim (still_or_placed b v inside) [ inl still ↦ absurd (not_still still) | inr placed ↦ placed ]
 
 -- the rest: what is not placed, of any level above that of the attractor
@@ -350,7 +390,7 @@ rest_of_turn b c above within =
           let h : ⊥ = omega arith in h);
       all = λ v inside outside. elim (cases_eq (level_of b.new v) UNPLACED) [
         | inl still ↦ to_from b.new.level c v (omega arith)
-        | inr placed ↦ absurd (outside (to_pulled b v inside placed))
+        | inr placed ↦ absurd (outside (to_placed b b.new v inside placed))
       ];
     }
 
@@ -382,10 +422,11 @@ waits_here b =
       rank = rank_of b.aim b.new;
       parity = sym b.player;
       most = most b;
-      top = λ v top. (tops_from b v top).1;
-      all_top = to_tops b;
-      some_top = (get_or b.order b.cursor 0, first_top b);
-      within = λ v there. (pulled_from b v there).0;
+      top = λ v top. tops_parity b v (tops_placed b v top);
+      above = tops_above b;
+      all_top = greatest_top b;
+      some_top = (get_or b.order b.cursor 0, first_top b, refl);
+      within = λ v there. (placed_from b b.new v there).0;
       left = rest_of_turn b (2 * b.depth + 3) (omega arith) (omega arith);
       closed = attracted.closed;
       falls = attracted.falls;
@@ -650,13 +691,23 @@ begun_falls b frames more is_depth size =
     (fewer b (2 * length frames + 2) (2 * length more + 2) (omega arith) (omega arith))
 
 -- what a set that is closed to the greatest priority leaves out, the first turn leaves to the next call
-pub begun_left : (b : Begun) (set : ℕ → Bool) (v : ℕ) → ((u : ℕ) → u < vertex_count b.game →
+pub begun_left : (b : Begun) (set : ℕ → Bool) (v : ℕ) → b.depth ≡ 0 → ((u : ℕ) → u < vertex_count b.game →
     level_of b.old u ≡ UNPLACED) → IsClosedToTops b.game set → v < vertex_count b.game → ¬ IsTrue (set v) →
     level_of b.new v ≡ UNPLACED
-begun_left b set v unplaced closed is_vertex outside =
+begun_left b set v first unplaced closed is_vertex outside =
     let waits = waits_here b in
     let is_subgame = posed b in
+    let is_greatest =
+    λ (u : ℕ) (top : IsTrue (waits.prepared.tops u)).
+    (let stands = waits.tops u top in
+    let placed = b.placed.grown.behind stands.place stands.after stands.before in
+    let there = b.placed.tops (get_or b.mid.trail stands.place 0) placed in
+    let same : get_or b.mid.trail stands.place 0 ≡ u =
+    sym (b.grown.front stands.place stands.before) ∙ stands.is in
+    let is : priority_of b.game u ≡ greatest b =
+    sym (ap (priority_of b.game) same) ∙ there.just (b.just first) in is) in
+    let (some, is_top, is) = waits.prepared.some_top in
     still_high b v (from_at b.new.level (2 * b.depth + 3) v (left_out b.game (undecided b)
     (from b.new.level (2 * b.depth + 3)) set b.aim.player (winner_of b.winner_now) (moves_of b.new) v
     (λ u below. is_open b u (unplaced u below)) (λ u inside. is_subgame.is_subgame.vertices u inside) waits.prepared
-    closed is_vertex outside))
+    (λ u top. is_greatest u top ∙ sym (is_greatest some is_top) ∙ is) closed is_vertex outside))

@@ -112,6 +112,7 @@ IsTurned-on game open_part rest open_now rest_now player win win_now table table
       parity = turned.parity;
       most = λ v inside. turned.most v (was_open v inside);
       top = turned.top;
+      above = λ v w top inside. turned.above v w top (was_open w inside);
       all_top = λ v inside is. turned.all_top v (was_open v inside) is;
       some_top = turned.some_top;
       within = λ v inside. is_open v (turned.within v inside);

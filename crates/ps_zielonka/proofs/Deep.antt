@@ -40,7 +40,7 @@ nest_priorities : (game : ParityGame) (tables : TablesData) (winner order : List
     HasPriorities game (is_vertex game) (k + 1)
 nest_priorities game tables winner order frames cursor solved k calls nest =
     let wait = nest.waits k (omega arith) in
-    let (top, is_top) = wait.prepared.some_top in
+    let (top, is_top, greatest) = wait.prepared.some_top in
     let one =
     one_priority game (from tables.level (2 * k + 1)) top (wait.progress.within top
     (wait.prepared.within top (wait.prepared.closed.holds top is_top))) in
@@ -160,7 +160,7 @@ depth_begun b frames cursor solved depth deeper calls unsolved greater nest so_f
             | inl fresh ↦ inr (inr (record {
               one = omega arith;
               unsolved = unsolved;
-              unplaced = begun_left b set v fresh.unplaced closed is_vertex outside;
+              unplaced = begun_left b set v fresh.none fresh.unplaced closed is_vertex outside;
             }))
             | inr second ↦ (let again : b.depth ≡ 1 = second.one in absurd (omega arith))
           ]

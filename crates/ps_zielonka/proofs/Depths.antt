@@ -72,20 +72,20 @@ pub HasPriorities-turned : (game : ParityGame) (open_part rest : ℕ → Bool) (
     (table : ℕ → Option ℕ) (n : ℕ) → IsTurned game open_part rest player win table → HasPriorities game rest n →
     HasPriorities game open_part (n + 1)
 HasPriorities-turned game open_part rest player win table n turned has_n =
-    let (top, is_top) = turned.some_top in
+    let (top, is_top, greatest) = turned.some_top in
     HasPriorities-more game rest open_part n top turned.left.within (turned.within top (turned.closed.holds top is_top))
     (λ v inside same. turned.left.outside v inside (turned.closed.holds v
-    (turned.all_top v (turned.left.within v inside) (same ∙ turned.top top is_top)))) has_n
+    (turned.all_top v (turned.left.within v inside) (same ∙ greatest)))) has_n
 
--- what such a set leaves out, the first turn leaves to be solved
+-- what such a set leaves out, a turn leaves to be solved whose tops are just the vertices of the greatest priority
 pub left_out : (game : ParityGame) (whole rest set : ℕ → Bool) (player : ℕ) (win : ℕ → ℕ) (table : ℕ → Option ℕ) (v : ℕ)
     → ((u : ℕ) → u < vertex_count game → IsTrue (whole u)) → ((u : ℕ) → IsTrue (whole u) → u < vertex_count game)
-    → IsTurned game whole rest player win table → IsClosedToTops game set → v < vertex_count game → ¬ IsTrue (set v) →
-    IsTrue (rest v)
-left_out game whole rest set player win table v all only turned tops below outside =
-    let (top, is_top) = turned.some_top in
+    → (turned : IsTurned game whole rest player win table) →
+    ((u : ℕ) → IsTrue (turned.tops u) → priority_of game u ≡ turned.greatest) → IsClosedToTops game set →
+    v < vertex_count game → ¬ IsTrue (set v) → IsTrue (rest v)
+left_out game whole rest set player win table v all only turned just tops below outside =
+    let (top, is_top, top_is) = turned.some_top in
     let top_inside : IsTrue (whole top) = turned.within top (turned.closed.holds top is_top) in
-    let top_is : priority_of game top ≡ turned.greatest = turned.top top is_top in
     let top_below : priority_of game top ≤ tops.greatest = tops.is_greatest.bounds top (only top top_inside) in
     let (great, great_vertex, great_is) = tops.is_greatest.stands in
     let great_below : priority_of game great ≤ turned.greatest = turned.most great (all great great_vertex) in
@@ -100,7 +100,7 @@ left_out game whole rest set player win table v all only turned tops below outsi
     let closed : IsClosed game whole player turned.tops set = record {
       holds = λ u is_top. (
           let is_vertex : u < vertex_count game = only u (turned.within u (turned.closed.holds u is_top)) in
-          tops.closed.holds u ((tops.is_target u is_vertex).1 (turned.top u is_top ∙ same)));
+          tops.closed.holds u ((tops.is_target u is_vertex).1 (just u is_top ∙ same)));
       own =
           λ u w inside owns leads in_set. tops.closed.own u w (lt-ltb u (vertex_count game) (only u inside))
           (owns ∙ parity) (to_vertex u w leads) in_set;

@@ -203,18 +203,18 @@ HoldsWithin-attracted game subgame player target set table rank has_target withi
   ];
 }
 
--- a subgame whose greatest priority has the player's parity, where what is not in the attractor to that priority is
--- held
-pub HoldsWithin-all : (game : ParityGame) (subgame : ℕ → Bool) (player greatest : ℕ) (tops set rest nested : ℕ → Bool)
-    (table : ℕ → Option ℕ) (rank : ℕ → ℕ) → greatest % 2 ≡ player
-    → ((v : ℕ) → IsTrue (subgame v) → priority_of game v ≤ greatest) →
-    ((v : ℕ) → IsTrue (tops v) → priority_of game v ≡ greatest)
+-- a subgame where what is not in the attractor to some tops is held; these have priorities of the player's parity, each
+-- greater than those of the other parity
+pub HoldsWithin-all : (game : ParityGame) (subgame : ℕ → Bool) (player : ℕ) (tops set rest nested : ℕ → Bool)
+    (table : ℕ → Option ℕ) (rank : ℕ → ℕ)
+    → ((v w : ℕ) → IsTrue (tops v) → IsTrue (subgame w) → priority_of game w % 2 ≢ player →
+    priority_of game w < priority_of game v)
     → ((v : ℕ) → IsTrue (tops v) → owner_of game v ≡ player → IsSomeAnd (table v) (LeadsInto game subgame v))
     → IsWithin set subgame → Falls game subgame player tops set table rank
     → ((v : ℕ) → IsTrue (subgame v) → IsTrue (set v) ⊎ IsTrue (rest v)) → IsWithin rest subgame →
     HoldsWithin game nested player rest table → HoldsWithin game subgame player subgame table
-HoldsWithin-all game subgame player greatest tops set rest nested table rank parity most top top_moves within falls
-    split rest_within holds = record {
+HoldsWithin-all game subgame player tops set rest nested table rank above top_moves within falls split rest_within
+    holds = record {
       within = λ v inside. inside;
       moves = λ v inside owns. elim (split v inside) [
         | inl in_set ↦ elim (cases_Bool (tops v)) [
@@ -227,12 +227,16 @@ HoldsWithin-all game subgame player greatest tops set rest nested table rank par
       stays = λ v w inside others leads. leads.inside;
       wins = λ walk k found round is_top. elim (some_or_none tops walk k) [
         | inl met ↦ (
-            let reached : priority_of game (walk met.0) ≡ greatest = top (walk met.0) met.2 in
             let bounds : priority_of game (walk met.0) ≤ found = is_top.bounds met.0 met.1 in
             let (place, before, stands) = is_top.stands in
-            let bounded : priority_of game (walk place) ≤ greatest = most (walk place) (round.inside place before) in
-            let same : found ≡ greatest = omega arith in
-            ap (λ n. n % 2) same ∙ parity)
+            elim (cases_eq (found % 2) player) [
+              | inl same ↦ same
+              | inr other ↦ (
+                  let below : priority_of game (walk place) < priority_of game (walk met.0) =
+                  above (walk met.0) (walk place) met.2 (round.inside place before)
+                  (λ same. other (ap (λ n. n % 2) (sym stands) ∙ same)) in
+                  absurd (omega arith))
+            ])
         | inr none ↦ elim (all_or_none set walk k round.closes (λ t less from.
             let step : IsTrue (subgame (walk (t + 1))) =
             round_inside game player subgame table walk k round (t + 1) (omega arith) in

@@ -106,9 +106,8 @@ Solved-kept game subgame open_part rest lost left win table player other is_game
           record { leads = leads; inside = down.inside; falls = down.falls });
     } in
     let all : HoldsWithin game left player left table =
-    HoldsWithin-all game left player turned.greatest turned.tops turned.attracted (without rest lost) rest table
-    turned.rank turned.parity
-    (λ v still. turned.most v (parted.within v still)) turned.top top_moves pulled_left falls split
+    HoldsWithin-all game left player turned.tops turned.attracted (without rest lost) rest table turned.rank
+    (λ v w top still. turned.above v w top (parted.within w still)) top_moves pulled_left falls split
     (λ v kept. let from = kept_of rest lost v kept in parted.all v (turned.left.within v from.0) from.1)
     (solved.held player (without rest lost) is_player kept_won) in
     Progress-taken game subgame left left nothing win table player is_game is_player

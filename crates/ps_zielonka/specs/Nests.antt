@@ -2,7 +2,8 @@
 -- depth k, counted from 0, is about the vertices of mark 2k + 1 or more. Those of mark 2k + 1 are decided in it; those
 -- of mark 2k + 2 were attracted in its present turn; the others are left to the next call. Vertices that are not placed
 -- have the greatest mark of all.
-use Rattle.std.specs.Prelude.{◌≡◌, ◌≢◌, ℕ, zero, suc, ◌+◌, ◌*◌, ◌^◌, ◌<◌, ◌≤◌, ◌⊎◌, Bool, true, false, IsTrue, cond}
+use Rattle.std.specs.Prelude.{◌≡◌, ◌≢◌, ℕ, zero, suc, ◌+◌, ◌*◌, ◌%◌, ◌^◌, ◌<◌, ◌≤◌, ◌⊎◌, Bool, true, false, IsTrue}
+use Rattle.std.specs.Prelude.{cond}
 use Rattle.std.specs.Prelude.{List, [], ◌∷◌, length, slice_index, slice_index_or, nat_le}
 use Rattle.std.specs.List.{All, Contains}
 use Rattle.ps_game.specs.Games.{ParityGame, IsGame, vertex_count, owner_of, priority_of, HasEdge}
@@ -125,13 +126,26 @@ steps_left levels k solved = waiting_steps levels k + cond solved 0 (steps (size
 
 -- ## The parts of a step
 
--- the vertices of the greatest priority that are free are placed; they stand in the order from a place up to another
-pub record ArePlaced (game : ParityGame) (aim : Aim) (old new : TablesData) (order : List ℕ)
-    (cursor behind : ℕ) : Type 0 where
+-- the vertex stands in the list before a place
+pub record StandsBefore (list : List ℕ) (end v : ℕ) : Type 0 where
+  pub place : ℕ
+  pub before : place < end
+  pub is : slice_index list place ≡ v
+
+-- a vertex that stands in the order before a place, of a priority with the parity of the greatest one, or just that one
+pub record IsTop (game : ParityGame) (order : List ℕ) (cursor behind : ℕ) (just_greatest : Bool) (v : ℕ) : Type 0 where
+  pub stands : StandsBefore order behind v
+  pub parity : priority_of game v % 2 ≡ priority_of game (slice_index order cursor) % 2
+  pub just : just_greatest ≡ true → priority_of game v ≡ priority_of game (slice_index order cursor)
+
+-- the free vertices that stand in the order from a place up to another are placed: those of the greatest priority, and
+-- of lower ones down to the first of the other parity, unless just the greatest is asked for
+pub record ArePlaced (game : ParityGame) (aim : Aim) (old new : TablesData) (order : List ℕ) (cursor behind : ℕ)
+    (just_greatest : Bool) : Type 0 where
   pub grown : IsGrown aim old new
   pub after : cursor ≤ behind
   pub within : behind ≤ length order
-  pub tops : (v : ℕ) → IsPlaced aim old new v → priority_of game v ≡ priority_of game (slice_index order cursor)
+  pub tops : (v : ℕ) → IsPlaced aim old new v → IsTop game order cursor behind just_greatest v
   pub all : (j : ℕ) → cursor ≤ j → j < behind → level_of new (slice_index order j) ≢ aim.free
 
 -- the player wins all that stand in the trail from a place on, and each other vertex is as it was
@@ -166,12 +180,6 @@ pub record IsMoved (old new : TablesData) (Some : ℕ → Type 0) : Type 0 where
   pub trail : new.trail ≡ old.trail
   pub choices : length new.moves ≡ length old.moves
   pub moves : (v : ℕ) → (slice_index new.moves v ≡ slice_index old.moves v) ⊎ Some v
-
--- the vertex stands in the list before a place
-pub record StandsBefore (list : List ℕ) (end v : ℕ) : Type 0 where
-  pub place : ℕ
-  pub before : place < end
-  pub is : slice_index list place ≡ v
 
 -- the spare vertices are those that stood in the trail from a place on
 pub record IsTakenOff (turn : ℕ) (trail spare : List ℕ) : Type 0 where

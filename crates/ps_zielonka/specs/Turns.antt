@@ -37,8 +37,8 @@ pub record Progress (game : ParityGame) (subgame open_part : ℕ → Bool) (win 
 abbrev pub Solved : ParityGame → (ℕ → Bool) → (ℕ → ℕ) → (ℕ → Option ℕ) → Type 0
 Solved game subgame win table = Progress game subgame nothing win table
 
--- a turn is prepared: the player of the greatest priority attracts to all vertices of that priority, and the rest is to
--- be solved
+-- a turn is prepared: the player of the greatest priority attracts to the tops, all vertices of that priority among
+-- them, each of a priority of its parity that is greater than those of the other parity; and the rest is to be solved
 pub record IsTurned (game : ParityGame) (open_part rest : ℕ → Bool) (player : ℕ) (win : ℕ → ℕ)
     (table : ℕ → Option ℕ) : Type 0 where
   pub greatest : ℕ
@@ -47,9 +47,11 @@ pub record IsTurned (game : ParityGame) (open_part rest : ℕ → Bool) (player 
   pub rank : ℕ → ℕ
   pub parity : greatest % 2 ≡ player
   pub most : (v : ℕ) → IsTrue (open_part v) → priority_of game v ≤ greatest
-  pub top : (v : ℕ) → IsTrue (tops v) → priority_of game v ≡ greatest
+  pub top : (v : ℕ) → IsTrue (tops v) → priority_of game v % 2 ≡ player
+  pub above : (v w : ℕ) → IsTrue (tops v) → IsTrue (open_part w) → priority_of game w % 2 ≢ player →
+      priority_of game w < priority_of game v
   pub all_top : (v : ℕ) → IsTrue (open_part v) → priority_of game v ≡ greatest → IsTrue (tops v)
-  pub some_top : (v : ℕ) × IsTrue (tops v)
+  pub some_top : (v : ℕ) × IsTrue (tops v) × (priority_of game v ≡ greatest)
   pub within : IsWithin attracted open_part
   pub left : IsWithout open_part attracted rest
   pub closed : IsClosed game open_part player tops attracted

@@ -9,8 +9,8 @@ pub struct Frame {
     pub cursor: usize,
     /// Who wins the greatest priority of the open part.
     pub player: Player,
-    /// Where the vertices of that priority begin in the trail, and behind them those that were attracted.
+    /// Where the tops begin in the trail, and behind them those that were attracted.
     pub turn: usize,
-    /// Where the vertices of that priority end.
+    /// Where the tops end.
     pub top: usize,
 }

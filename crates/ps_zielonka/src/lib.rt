@@ -1,10 +1,10 @@
 //! Which player wins from which vertices of a parity game, and by which moves.
 //!
 //! That is the recursive algorithm of McNaughton and Zielonka, with a list of frames in place of the recursion. A call
-//! takes the greatest priority of its subgame and attracts to all vertices of that priority, for the player who wins
-//! it; what is left is solved first. Where the player then keeps each vertex of that priority, the player wins all that
-//! the other one did not win in what was left. Else the other player attracts to what it won there, and the call goes
-//! on with the rest.
+//! takes the greatest priority of its subgame, and the player who wins it attracts to the tops: the vertices of that
+//! priority, and in all calls but the first those of lower ones too, down to the first of the other parity. What is
+//! left is solved first. Where the player then keeps each top, the player wins all that the other one did not win in
+//! what was left. Else the other player attracts to what it won there, and the call goes on with the rest.
 //!
 //! | Call | What it gives |
 //! |---|---|

@@ -109,8 +109,8 @@ impl<W: Width> Nest<W> {
         }
     }
 
-    /// The player of the greatest priority, which stands at a place of the order, attracts to all vertices of that
-    /// priority.
+    /// The player of the greatest priority, which stands at a place of the order, attracts to the vertices of that
+    /// priority, and of lower ones down to the first of the other parity, but in the first call.
     fn begin_turn<A: Arena>(
         &mut self,
         arena: &A,
@@ -144,6 +144,7 @@ impl<W: Width> Nest<W> {
             &self.order,
             &attraction,
             cursor,
+            self.frames.is_empty(),
         )?;
         let top = self.board.tables.placed();
         self.board.attract(arena, sources, &attraction)?;

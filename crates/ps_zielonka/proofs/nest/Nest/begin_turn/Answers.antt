@@ -1,5 +1,6 @@
 use Rattle.std.proofs.Common.{◌≡◌, ◌+◌, ◌%◌, ◌<◌, ℕ, List, [], ◌∷◌, ◌++◌, Bool, length, get_or, refl, subst, sym, ap}
 use Rattle.std.proofs.Common.{◌∙◌, arith}
+use Rattle.std.proofs.lemmas.Grind.{common_steps}
 use Rattle.std.proofs.lemmas.List.{length_push}
 use Rattle.ps_game.specs.Games.{priority_of}
 use Rattle.ps_attractor.specs.declared.aim.Aim.{Aim}
@@ -44,6 +45,8 @@ returns g c =
       within = c.requires.within;
       unplaced = c.requires.unplaced;
       first = c.requires.first;
+      just_greatest = c.is_empty.result;
+      just = λ first. grind (arith, common_steps, c.is_empty.ensures, first);
       placed = c.in_ok-behind.ensures.placed;
       ends = c.in_ok-behind.ensures.ends;
       fits = c.in_ok-attract.ensures.fits;
