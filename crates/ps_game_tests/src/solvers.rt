@@ -399,33 +399,53 @@ fn won_by_tables<W: Width>(alloc: Global, game: &Game) -> Result<Vec<Option<u64>
     Ok(found)
 }
 
+/// Whether tables of both widths have the same answers to the game of a text.
+fn are_same_by_tables(alloc: Global, text: &[u8]) -> Result<bool, Fail> {
+    let named = read(alloc, text)?;
+    let narrow = won_by_tables::<u32>(alloc, named.game())?;
+    let wide = won_by_tables::<usize>(alloc, named.game())?;
+    Ok(narrow.len() > named.game().count() && wide == narrow)
+}
+
 #[test]
 fn tables_of_each_width_have_the_same_answers(rt: HostRuntime) -> Result<(), Fail> {
-    let alloc = rt.alloc();
     let two_turns: &[u8] = b"0 4 0 1,2; 1 3 1 0,3; 2 2 1 2,0; 3 1 0 3,1;";
     for text in [FORK, LOOPS, two_turns] {
-        let named = read(alloc, text)?;
-        let narrow = won_by_tables::<u32>(alloc, named.game())?;
-        assert!(rt; narrow.len() > named.game().count());
-        assert!(rt; won_by_tables::<usize>(alloc, named.game())? == narrow);
+        assert!(rt; are_same_by_tables(rt.alloc(), text)?);
     }
     Ok(())
 }
 
+/// What is found of a game in arrays of 4 bytes, where it fits them.
+fn found_narrow(alloc: Global, game: &Game) -> Result<Vec<Option<u64>>, MeasureFault> {
+    if !fits_narrow(game) {
+        return Ok(Vec::new(alloc));
+    }
+    let narrow = FlatGame::<u32>::of(alloc, game)?;
+    found_in(alloc, &narrow)
+}
+
+/// What is found of a game in arrays of 8 bytes.
+fn found_wide(alloc: Global, game: &Game) -> Result<Vec<Option<u64>>, MeasureFault> {
+    let wide = FlatGame::<usize>::of(alloc, game)?;
+    found_in(alloc, &wide)
+}
+
+/// Whether arrays of both widths have the answers that the game of a text has.
+fn are_same_in_arrays(alloc: Global, text: &[u8]) -> Result<bool, Fail> {
+    let named = read(alloc, text)?;
+    let found = found_in(alloc, named.game())?;
+    let narrow = found_narrow(alloc, named.game())?;
+    let wide = found_wide(alloc, named.game())?;
+    Ok(found.len() > named.game().count() && narrow == found && wide == found)
+}
+
 #[test]
 fn arrays_of_each_width_have_the_same_answers(rt: HostRuntime) -> Result<(), Fail> {
-    let alloc = rt.alloc();
     let without_repeating: &[u8] = b"0 1 0 1,2; 1 1 0 0; 2 1 0 0;";
     let two_vertices: &[u8] = b"parity 1; 0 1 0 0,1; 1 2 0 0;";
     for text in [FORK, LOOPS, without_repeating, two_vertices] {
-        let named = read(alloc, text)?;
-        let game = named.game();
-        let found = found_in(alloc, game)?;
-        assert!(rt; fits_narrow(game) && found.len() > game.count());
-        let narrow = FlatGame::<u32>::of(alloc, game)?;
-        assert!(rt; found_in(alloc, &narrow)? == found);
-        let wide = FlatGame::<usize>::of(alloc, game)?;
-        assert!(rt; found_in(alloc, &wide)? == found);
+        assert!(rt; are_same_in_arrays(rt.alloc(), text)?);
     }
     Ok(())
 }
