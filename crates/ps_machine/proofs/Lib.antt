@@ -5,6 +5,7 @@ mod Certified
 mod Choosing
 mod FileBoards
 mod LeastLetters
+pub mod Movers
 pub mod GameKeys
 pub mod Diagrams
 pub mod Machines

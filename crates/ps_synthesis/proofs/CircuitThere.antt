@@ -1,5 +1,5 @@
 -- The winner's circuit by a certificate is there: its machine is, and so is that one's circuit.
-use Rattle.std.proofs.Common.{◌≡◌, ◌<◌, ◌≤◌, ◌⊎◌, ℕ, List, length, refl, arith, inl, inr}
+use Rattle.std.proofs.Common.{◌≡◌, ◌<◌, ◌≤◌, ◌⊎◌, ℕ, List, length, refl, inl, inr}
 use Rattle.ps_aiger.specs.Encoded.{Encodes, IsTidy}
 use Rattle.ps_aiger.specs.Wires.{IsOutOfLiterals, IsWired}
 use Rattle.ps_certificate.specs.Certificates.{CertificateData, Fits, IsValid}
@@ -15,7 +15,7 @@ use Rattle.ps_machine.specs.Keys.{mover_of}
 use Rattle.ps_machine.specs.Solving.{IsCertified}
 use Rattle.ps_machine.specs.declared.key.Key.{Key}
 use Rattle.ps_machine.specs.declared.key.Order.{Order}
-use Rattle.ps_machine.specs.declared.key.Order.TheVariants.{Mealy, Moore}
+use Rattle.ps_machine.proofs.Movers.{small_mover}
 use Rattle.ps_synthesis.specs.Reports.{IsWinners, IsWinnersCircuit}
 
 -- the laws that are taken
@@ -39,7 +39,7 @@ pub circuit_or_out : MachineThere → CircuitThere → (order : Order) (file : F
 circuit_or_out machines circuits order file game is_game certificate sound certified =
     let found =
     machines file.names (board_of_file order file is_game.auto) (mover_of order) is_game.keys game.game certificate
-    sound.few_names sound.names refl (small order) is_game.is_game certified.fits certified.valid in
+    sound.few_names sound.names refl (small_mover order) is_game.is_game certified.fits certified.valid in
     let winners : IsWinners order file game is_game certificate found.0 =
     record { is_machine = found.1; propositions = found.2; machine_of = found.3 } in
     elim (circuits found.0 found.1) [
@@ -55,7 +55,3 @@ circuit_or_out machines circuits order file game is_game certificate sound certi
         },
       )
     ]
-  where
-    small : (order : Order) → mover_of order < 2
-    small Mealy = omega arith
-    small Moore = omega arith

@@ -33,7 +33,7 @@ use Rattle.ps_machine.specs.Numbering.{StandsAt}
 use Rattle.ps_machine.specs.declared.key.Key.{Key}
 use Rattle.ps_machine.specs.declared.key.Key.TheVariants.{First, Second}
 use Rattle.ps_machine.specs.declared.key.Order.{Order}
-use Rattle.ps_machine.specs.declared.key.Order.TheVariants.{Mealy, Moore}
+use Rattle.ps_machine.proofs.Movers.{small_mover}
 use Rattle.ps_machine.specs.declared.machine.Row.{Row}
 use Rattle.ps_machine.specs.contracts.key.KeyPartialEq.TheImpl as key_eq
 use Rattle.ps_machine.proofs.GameKeys.KeyTests.{key_same}
@@ -112,10 +112,6 @@ used_won game certificate v closed u =
     subst (λ x. winner_of certificate x ≡ winner certificate) u.ends
     (path_stays game certificate (winner certificate) u.path closed u.is_path u.follows
     (ap (winner_of certificate) u.begins) (length u.path - 1) (omega (arith, some)))
-
-small_mover : (order : Order) → mover_of order < 2
-small_mover Mealy = omega arith
-small_mover Moore = omega arith
 
 pub setting : (order : Order) (a : AutomatonData) (keys : List Key) (certificate : CertificateData) (is_first : Bool)
     (kept marks : List ℕ) → (plan : IsPlan order a keys certificate is_first kept marks) →

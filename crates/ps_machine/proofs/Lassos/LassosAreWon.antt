@@ -21,15 +21,11 @@ use Rattle.ps_machine.specs.Keys.{mover_of}
 use Rattle.ps_machine.specs.Behaviours.{Behaviour, IsMachine, IsInput, IsLasso, LassosWon}
 use Rattle.ps_machine.specs.declared.key.Key.{Key}
 use Rattle.ps_machine.specs.declared.key.Order.{Order}
-use Rattle.ps_machine.specs.declared.key.Order.TheVariants.{Mealy, Moore}
+use Rattle.ps_machine.proofs.Movers.{small_mover}
 use Rattle.ps_machine.proofs.Lassos.Rounds.{Setting}
 use Rattle.ps_machine.proofs.Lassos.Walking.{state_returns, parity_of_part}
 use Rattle.ps_machine.proofs.Lassos.EndlessRuns.{memories_on, endless, memory_returns, letter_returns, letter_within}
 use Rattle.ps_machine.proofs.Lassos.EndlessRuns.{memories_of_lasso, reads_other}
-
-small_mover : (order : Order) → mover_of order < 2
-small_mover Mealy = omega arith
-small_mover Moore = omega arith
 
 module _ (file : FileData) (chain : Chain) (a : AutomatonData) (order : Order) (keys : List Key) (game : ParityGame)
     (certificate : CertificateData) (m : Behaviour)
