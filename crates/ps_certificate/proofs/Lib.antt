@@ -18,6 +18,8 @@ pub mod PairLoops
 pub mod PairSteps
 pub mod Steps
 pub mod TextLaws
+pub mod Rows
+pub mod Sparse
 pub mod Windows
 pub mod Writing
 pub mod ZeroRuns

@@ -6,6 +6,7 @@ pub mod Places
 pub mod Prefixes
 pub mod Reading
 pub mod Regions
+pub mod Sparse
 pub mod Texts
 pub mod Words
 pub mod Written

@@ -1,23 +1,31 @@
 -- How a certificate keeps its entries: winners, and moves with the parts of one list where the counts of each vertex
--- stand. (Of private fields.)
+-- stand that are not 0. (Of private fields.)
 use Rattle.std.specs.Prelude.{◌≡◌, ℕ, ◌≤◌, List, length, map}
 use Rattle.std.specs.List.{All, slice_range, zip}
 use Rattle.ps_certificate.specs.Certificates.{EntryData}
+use Rattle.ps_certificate.specs.Sparse.{row_of, IsRow}
 use Rattle.ps_certificate.specs.declared.entries.Line.{Line}
+use Rattle.ps_certificate.specs.declared.row.PlacedCount.{PlacedCount}
+
+-- what a line names in the list of all
+abbrev pub part_of : List PlacedCount → Line → List PlacedCount
+part_of placed line = slice_range placed line.start line.end
 
 -- the entry of a winner and a line
-abbrev pub entry_in : List ℕ → ℕ × Line → EntryData
-entry_in counts p = record { winner = p.0; choice = p.1.choice; counts = slice_range counts p.1.start p.1.end }
+abbrev pub entry_in : List PlacedCount → ℕ × Line → EntryData
+entry_in placed p =
+    record { winner = p.0; choice = p.1.choice; counts = row_of p.1.width (part_of placed p.1) }
 
-abbrev pub entries_in : List ℕ → List Line → List ℕ → List EntryData
-entries_in winners lines counts = map (entry_in counts) (zip winners lines)
+abbrev pub entries_in : List ℕ → List Line → List PlacedCount → List EntryData
+entries_in winners lines placed = map (entry_in placed) (zip winners lines)
 
--- the line names a part of a list that is so long
-pub record IsWithin (long : ℕ) (line : Line) : Type 0 where
+-- the line names a part of the list, which is a row
+pub record IsWithin (placed : List PlacedCount) (line : Line) : Type 0 where
   pub rises : line.start ≤ line.end
-  pub ends : line.end ≤ long
+  pub ends : line.end ≤ length placed
+  pub row : IsRow line.width (part_of placed line)
 
 -- a winner for each line, whose counts are there
-pub record AreLines (winners : List ℕ) (lines : List Line) (counts : List ℕ) : Type 0 where
+pub record AreLines (winners : List ℕ) (lines : List Line) (placed : List PlacedCount) : Type 0 where
   pub each : length winners ≡ length lines
-  pub within : All (IsWithin (length counts)) lines
+  pub within : All (IsWithin placed) lines

@@ -4,6 +4,7 @@ ghost use Rattle.std.specs.Prelude.{◌≡◌, ℕ, ◌<◌, length, Option, sli
 ghost use Rattle.ps_certificate.specs.Certificates.{CertificateData, winner_of, choice_of, counts_of, opposing};
 
 use crate::entries::Entries;
+use crate::row::Row;
 use std::marker::Model;
 
 /// Who wins each vertex of a game, by which moves, with the counts that show it.
@@ -46,9 +47,9 @@ impl Certificate {
     }
 
     /// The counts of a vertex.
-    pub fn counts(&self, vertex: usize) -> &[u64]
+    pub fn counts(&self, vertex: usize) -> Row<'_>
         requires { vertex < length self.now.entries }
-        ensures { result.now ≡ counts_of self.now vertex }
+        ensures { result ≡ counts_of self.now vertex }
     {
         self.entries.counts(vertex)
     }

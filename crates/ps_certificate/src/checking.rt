@@ -13,8 +13,8 @@ use crate::flaw::Flaw;
 use crate::rising::first_at_least;
 use ps_game::Arena;
 
-/// The first opposing priority for which an edge breaks the rule of counts. Priorities below those of
-/// the edge's ends are passed over by a search; behind them each takes one comparison.
+/// The first opposing priority for which an edge breaks the rule of counts. Priorities below those of the edge's ends
+/// are passed over by a search; behind them only counts that are not 0 are compared.
 fn broken_priority<A: Arena>(
     arena: &A,
     certificate: &Certificate,
@@ -33,15 +33,16 @@ fn broken_priority<A: Arena>(
     let after = certificate.counts(successor);
     let own = arena.priority(vertex);
     let start = first_at_least(priorities, own.max(arena.priority(successor)));
-    if start < priorities.len() && priorities[start] == own && after[start] >= before[start] {
+    if start == priorities.len() {
+        return None;
+    }
+    if priorities[start] == own && after.at(start) >= before.at(start) {
         return Some(own);
     }
-    for place in start..priorities.len() {
-        if after[place] > before[place] {
-            return Some(priorities[place]);
-        }
+    match after.first_above(&before, start) {
+        Some(place) => Some(priorities[place]),
+        None => None,
     }
-    None
 }
 
 /// The first flaw of a vertex in the counts of the edges that remain.

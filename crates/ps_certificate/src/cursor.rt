@@ -76,13 +76,6 @@ impl<'a> Cursor<'a> {
         self.rest.is_empty()
     }
 
-    /// How many bytes are left.
-    pub(crate) fn left(&self) -> usize
-        ensures { result ≡ length self.now.rest }
-    {
-        self.rest.len()
-    }
-
     /// Goes behind the next byte.
     fn step(&mut self)
         ensures { self.new ≡ step_of self.old }

@@ -38,6 +38,7 @@ mod flaw;
 mod laws;
 mod pairs;
 mod rising;
+mod row;
 mod text;
 mod writer;
 mod zeros;
@@ -53,5 +54,6 @@ pub use laws::{
     closed_regions_are_kept, first_flaw_is_one, no_strategy_wins_outside, valid_regions_are_held,
     winners_are_one,
 };
+pub use row::Row;
 pub use text::{certificate_text_has_one_answer, certificate_text_has_some_answer, read};
 pub use writer::{write, write_compact};

@@ -114,8 +114,7 @@ fn entries(
         game.now.ids) cursor.old result cursor.new }
 {
     let vertices = game.game().count();
-    // A count takes two bytes at least.
-    let mut entries = Entries::with_capacity(alloc, vertices, cursor.left() / 2)?;
+    let mut entries = Entries::with_capacity(alloc, vertices)?;
     let mut counts = Vec::new(alloc);
     for vertex in 0..vertices {
         let won = entry(cursor, known, compact, game.id(vertex), &mut counts)?;

@@ -72,7 +72,8 @@ fn write_text(
     let Certificate { odd, even, entries } = certificate;
     let mut out = Vec::with_capacity(alloc, room_for(entries, compact))?;
     write_head(&mut out, game.game().count(), certificate, compact)?;
-    write_entries(&mut out, game, entries, odd, even, compact)?;
+    let mut row = Vec::new(alloc);
+    write_entries(&mut out, &mut row, game, entries, odd, even, compact)?;
     Ok(out)
 }
 
@@ -122,9 +123,10 @@ fn version_digit(compact: bool) -> u8
     if compact { b'2' } else { b'1' }
 }
 
-/// Writes a line for each vertex.
+/// Writes a line for each vertex. What was in the row is overwritten.
 fn write_entries(
     out: &mut Vec<u8>,
+    row: &mut Vec<u64>,
     game: &NamedGame,
     entries: &Entries,
     odd: &[u64],
@@ -140,7 +142,12 @@ fn write_entries(
     ensures counts { OnOk result (All (λ entry. All IsWord entry.counts) entries.now) }
 {
     for vertex in 0..entries.len() {
-        let entry = entries.get(vertex);
+        entries.counts(vertex).copy_into(row)?;
+        let entry = Entry {
+            winner: entries.winner(vertex),
+            choice: entries.choice(vertex),
+            counts: row,
+        };
         let priorities = lost_by(odd, even, entry.winner);
         write_entry(out, game, vertex, &entry, priorities, compact)?;
     }

@@ -108,19 +108,13 @@ fn certificate_from<A: Arena>(
     lost.difference_with(won);
     let odd = counts_of(alloc, arena, 0, won, first)?;
     let even = counts_of(alloc, arena, 1, &lost, second)?;
-    let room = room_for(won, &odd).saturating_add(room_for(&lost, &even));
     let (odd_rows, even_rows) = (&odd.counts, &even.counts);
-    let entries = entries_of(alloc, arena, won, first, second, odd_rows, even_rows, room)?;
+    let entries = entries_of(alloc, arena, won, first, second, odd_rows, even_rows)?;
     Ok(Certificate {
         odd: odd.priorities,
         even: even.priorities,
         entries,
     })
-}
-
-/// How many counts the vertices of a region have together.
-fn room_for(region: &Region, ranks: &Ranks) -> usize {
-    region.count().saturating_mul(ranks.priorities.len())
 }
 
 /// The counts of a region that its player holds.
@@ -147,8 +141,7 @@ fn counts_of<A: Arena>(
     }
 }
 
-/// The entry of each vertex: its winner, the winner's move, and the winner's row of counts. There is room from the
-/// start for a stated number of counts.
+/// The entry of each vertex: its winner, the winner's move, and the winner's row of counts.
 fn entries_of<A: Arena>(
     alloc: Global,
     arena: &A,
@@ -157,7 +150,6 @@ fn entries_of<A: Arena>(
     second: &Strategy,
     first_rows: &CountTable,
     second_rows: &CountTable,
-    room: usize,
 ) -> Result<Entries, AllocError>
     requires region { length won.now ≡ vertex_count (A.game arena.now) }
     requires first { length first.now ≡ vertex_count (A.game arena.now) }
@@ -168,7 +160,7 @@ fn entries_of<A: Arena>(
         (λ entries. AreEntries (A.game arena.now) won.now (move_at first.now) (move_at second.now) first_rows.now
         second_rows.now (vertex_count (A.game arena.now)) entries) }
 {
-    let mut entries = Entries::with_capacity(alloc, arena.count(), room)?;
+    let mut entries = Entries::with_capacity(alloc, arena.count())?;
     let mut row = Vec::new(alloc);
     for vertex in 0..arena.count() {
         let first = (first, first_rows);

@@ -1,13 +1,12 @@
 use Rattle.std.proofs.Common.{◌≡◌, ◌∙◌, ℕ, ◌<◌, List, length, sym, ap, subst, arith, max}
 use Rattle.std.specs.List.Sorted.{IsStrictlyIncreasing}
 use Rattle.ps_game.specs.Games.{priority_of}
-use Rattle.ps_certificate.specs.Certificates.{opposing, winner_of}
+use Rattle.ps_certificate.specs.Certificates.{opposing}
 use Rattle.ps_certificate.proofs.Counts.{opposing_rises, Compared, FallsAtStart, KeepsCount-compared}
 use Rattle.ps_certificate.proofs.Counts.{IsFirstBroken-behind}
 use Rattle.ps_certificate.proofs.checking.broken_priority.Goals as goal
-use Rattle.ps_certificate.proofs.checking.broken_priority.Goals.{else-start-priorities-via-then-start-priorities+then-priorities-start+else-after-start}
-use Rattle.ps_certificate.proofs.checking.broken_priority.Goals.{else-start-priorities-via-then-start-priorities+else-priorities-start}
-use Rattle.ps_certificate.proofs.checking.broken_priority.Goals.{else-start-priorities-via-else-start-priorities}
+use Rattle.ps_certificate.proofs.checking.broken_priority.Goals.{else-priorities-start-via-then-priorities-start+else-at}
+use Rattle.ps_certificate.proofs.checking.broken_priority.Goals.{else-priorities-start-via-else-priorities-start}
 
 pub first_at_least-start-requires : goal.first_at_least-start-requires
 first_at_least-start-requires g c =
@@ -15,72 +14,77 @@ first_at_least-start-requires g c =
     subst P (sym c.opposing-priorities.ensures) (opposing_rises (g.A.Arena.game c.args.arena.now) c.args.certificate.now
     c.winner.result c.requires.fits)
 
-pub returns-then-after-place-clause-some : goal.returns-then-after-place-clause-some
-returns-then-after-place-clause-some g c =
+pub returns-in-None-clause-none : goal.returns-in-None-clause-none
+returns-in-None-clause-none g c k within_opposing =
     let P : List ℕ → Type 0 = IsStrictlyIncreasing in
-    let compared : Compared (g.A.Arena.game c.args.arena.now) c.args.certificate.now c.args.vertex c.args.successor
-    c.opposing-priorities.result.now c.counts-before.result.now c.counts-after.result.now c.max.result
-    c.first_at_least-start.result = record {
+    let game = g.A.Arena.game c.args.arena.now in
+    let priorities = c.opposing-priorities.result.now in
+    let before = c.counts-before.result in
+    let after = c.counts-after.result in
+    let start = c.first_at_least-start.result in
+    let compared : Compared game c.args.certificate.now c.args.vertex c.args.successor priorities before after
+    c.max.result start = record {
       priorities_are = c.opposing-priorities.ensures ∙ ap (λ p. opposing c.args.certificate.now p) c.winner.ensures;
       before_are = c.counts-before.ensures;
       after_are = c.counts-after.ensures;
       rising =
-          subst P (sym c.opposing-priorities.ensures) (opposing_rises (g.A.Arena.game c.args.arena.now)
-          c.args.certificate.now c.winner.result c.requires.fits);
+          subst P (sym c.opposing-priorities.ensures) (opposing_rises game c.args.certificate.now c.winner.result
+          c.requires.fits);
       top_is = c.max.ensures ∙ ap (λ n. max n c.priority.result) c.priority-own.ensures
-          ∙ ap (λ n. max (priority_of (g.A.Arena.game c.args.arena.now) c.args.vertex) n) c.priority.ensures;
+          ∙ ap (λ n. max (priority_of game c.args.vertex) n) c.priority.ensures;
       lower = c.first_at_least-start.ensures.before;
       higher = c.first_at_least-start.ensures.behind;
     } in
-    let strict : FallsAtStart (g.A.Arena.game c.args.arena.now) c.args.vertex c.opposing-priorities.result.now
-    c.counts-before.result.now c.counts-after.result.now c.first_at_least-start.result =
-    elim c.else-start-priorities.branch [
-      | else-start-priorities-via-then-start-priorities+then-priorities-start+else-after-start w ↦
-          (λ within is. w.if-after-start.false)
-      | else-start-priorities-via-then-start-priorities+else-priorities-start w ↦
+    let strict : FallsAtStart game c.args.vertex priorities before after start =
+    elim c.else-priorities-start.branch [
+      | else-priorities-start-via-then-priorities-start+else-at w ↦
+          (λ within is. omega (arith, w.if-at.false, w.at.ensures, w.at-then-priorities-start.ensures))
+      | else-priorities-start-via-else-priorities-start w ↦
           (λ within is. absurd (w.if-priorities-start.false (is ∙ sym c.priority-own.ensures)))
-      | else-start-priorities-via-else-start-priorities w ↦ (λ within is.
-          absurd (omega (arith, w.if-start-priorities.false)))
     ] in
-    IsFirstBroken-behind (g.A.Arena.game c.args.arena.now) c.args.certificate.now c.args.vertex c.args.successor
-    c.opposing-priorities.result.now c.counts-before.result.now c.counts-after.result.now c.max.result
-    c.first_at_least-start.result c.loop-place.place compared strict (omega arith) (omega arith)
-    c.loop-place.invariant c.if-after-place.true
+    let long : length after ≡ length priorities =
+    ap length c.counts-after.ensures
+    ∙ c.requires.fits.count_each c.args.successor c.requires.successor
+    ∙ ap (λ p. length (opposing c.args.certificate.now p)) c.requires.same_winner
+    ∙ sym (ap length compared.priorities_are) in
+    let within : k < length priorities = omega (arith, ap length compared.priorities_are, within_opposing) in
+    KeepsCount-compared game c.args.certificate.now c.args.vertex c.args.successor priorities before after c.max.result
+    start k compared strict within (λ late. c.in-None.ensures.none k late (omega (arith, long, within)))
 
-pub returns-clause-none : goal.returns-clause-none
-returns-clause-none g c k within_opposing =
+pub returns-in-Some-clause-some : goal.returns-in-Some-clause-some
+returns-in-Some-clause-some g c =
     let P : List ℕ → Type 0 = IsStrictlyIncreasing in
-    let priorities_are : c.opposing-priorities.result.now ≡ opposing c.args.certificate.now
-    (winner_of c.args.certificate.now c.args.vertex) =
-    c.opposing-priorities.ensures ∙ ap (λ p. opposing c.args.certificate.now p) c.winner.ensures in
-    let compared : Compared (g.A.Arena.game c.args.arena.now) c.args.certificate.now c.args.vertex c.args.successor
-    c.opposing-priorities.result.now c.counts-before.result.now c.counts-after.result.now c.max.result
-    c.first_at_least-start.result = record {
-      priorities_are = priorities_are;
+    let game = g.A.Arena.game c.args.arena.now in
+    let priorities = c.opposing-priorities.result.now in
+    let before = c.counts-before.result in
+    let after = c.counts-after.result in
+    let start = c.first_at_least-start.result in
+    let compared : Compared game c.args.certificate.now c.args.vertex c.args.successor priorities before after
+    c.max.result start = record {
+      priorities_are = c.opposing-priorities.ensures ∙ ap (λ p. opposing c.args.certificate.now p) c.winner.ensures;
       before_are = c.counts-before.ensures;
       after_are = c.counts-after.ensures;
       rising =
-          subst P (sym c.opposing-priorities.ensures) (opposing_rises (g.A.Arena.game c.args.arena.now)
-          c.args.certificate.now c.winner.result c.requires.fits);
+          subst P (sym c.opposing-priorities.ensures) (opposing_rises game c.args.certificate.now c.winner.result
+          c.requires.fits);
       top_is = c.max.ensures ∙ ap (λ n. max n c.priority.result) c.priority-own.ensures
-          ∙ ap (λ n. max (priority_of (g.A.Arena.game c.args.arena.now) c.args.vertex) n) c.priority.ensures;
+          ∙ ap (λ n. max (priority_of game c.args.vertex) n) c.priority.ensures;
       lower = c.first_at_least-start.ensures.before;
       higher = c.first_at_least-start.ensures.behind;
     } in
-    let strict : FallsAtStart (g.A.Arena.game c.args.arena.now) c.args.vertex c.opposing-priorities.result.now
-    c.counts-before.result.now c.counts-after.result.now c.first_at_least-start.result =
-    elim c.else-start-priorities.branch [
-      | else-start-priorities-via-then-start-priorities+then-priorities-start+else-after-start w ↦
-          (λ within is. w.if-after-start.false)
-      | else-start-priorities-via-then-start-priorities+else-priorities-start w ↦
+    let strict : FallsAtStart game c.args.vertex priorities before after start =
+    elim c.else-priorities-start.branch [
+      | else-priorities-start-via-then-priorities-start+else-at w ↦
+          (λ within is. omega (arith, w.if-at.false, w.at.ensures, w.at-then-priorities-start.ensures))
+      | else-priorities-start-via-else-priorities-start w ↦
           (λ within is. absurd (w.if-priorities-start.false (is ∙ sym c.priority-own.ensures)))
-      | else-start-priorities-via-else-start-priorities w ↦ (λ within is.
-          absurd (omega (arith, w.if-start-priorities.false)))
     ] in
-    let long : length c.opposing-priorities.result.now ≡ length
-    (opposing c.args.certificate.now (winner_of c.args.certificate.now c.args.vertex)) = ap length priorities_are in
-    let within : k < length c.opposing-priorities.result.now = omega (arith, long, within_opposing) in
-    KeepsCount-compared (g.A.Arena.game c.args.arena.now) c.args.certificate.now c.args.vertex c.args.successor
-    c.opposing-priorities.result.now c.counts-before.result.now c.counts-after.result.now c.max.result
-    c.first_at_least-start.result k compared strict within (λ late.
-    c.loop-place.invariant k late (omega (arith, within)))
+    let long : length after ≡ length priorities =
+    ap length c.counts-after.ensures
+    ∙ c.requires.fits.count_each c.args.successor c.requires.successor
+    ∙ ap (λ p. length (opposing c.args.certificate.now p)) c.requires.same_winner
+    ∙ sym (ap length compared.priorities_are) in
+    let above = c.in-Some.ensures.some in
+    IsFirstBroken-behind game c.args.certificate.now c.args.vertex c.args.successor priorities before after
+    c.max.result start c.in-Some.place compared strict above.from_there (omega (arith, above.within, long))
+    above.earlier above.above

@@ -2,53 +2,71 @@ use Rattle.std.proofs.Common.{◌≡◌, ◌<◌, length, ap, subst, sym, ◌∙
 use Rattle.std.specs.List.{slice_range}
 use Rattle.ps_certificate.specs.Certificates.{no_entry}
 use Rattle.ps_certificate.specs.Lines.{entries_in}
+use Rattle.ps_certificate.specs.Sparse.{row_of, IsRow}
 use Rattle.ps_certificate.proofs.Lines.{has_line, counts_at, line_within}
 use Rattle.ps_certificate.proofs.entries.Entries.counts.Goals as goal
 
 pub index-line-requires : goal.index-line-requires
 index-line-requires c =
-    let is : entries_in c.self.inside.winners.items c.self.inside.lines.items c.self.inside.counts.items ≡
+    let is : entries_in c.self.inside.winners.items c.self.inside.lines.items c.self.inside.placed.items ≡
     c.args.self.now = c.self.view_is in
     let within : c.args.vertex < length (entries_in c.self.inside.winners.items c.self.inside.lines.items
-    c.self.inside.counts.items) =
+    c.self.inside.placed.items) =
     subst (λ es. c.args.vertex < length es) (sym is) c.requires in
     omega (
       arith,
-      has_line c.self.inside.winners.items c.self.inside.lines.items c.self.inside.counts.items
+      has_line c.self.inside.winners.items c.self.inside.lines.items c.self.inside.placed.items
           c.args.vertex c.self.invariant within,
     )
 
 pub part-requires-clause-rises : goal.part-requires-clause-rises
 part-requires-clause-rises c =
-    let is : entries_in c.self.inside.winners.items c.self.inside.lines.items c.self.inside.counts.items ≡
+    let is : entries_in c.self.inside.winners.items c.self.inside.lines.items c.self.inside.placed.items ≡
     c.args.self.now = c.self.view_is in
     let within : c.args.vertex < length (entries_in c.self.inside.winners.items c.self.inside.lines.items
-    c.self.inside.counts.items) =
+    c.self.inside.placed.items) =
     subst (λ es. c.args.vertex < length es) (sym is) c.requires in
-    (line_within c.self.inside.winners.items c.self.inside.lines.items c.self.inside.counts.items c.args.vertex
+    (line_within c.self.inside.winners.items c.self.inside.lines.items c.self.inside.placed.items c.args.vertex
     c.self.invariant within c.index-line.result.now c.index-line.ensures).rises
 
 pub part-requires-clause-ends : goal.part-requires-clause-ends
 part-requires-clause-ends c =
-    let is : entries_in c.self.inside.winners.items c.self.inside.lines.items c.self.inside.counts.items ≡
+    let is : entries_in c.self.inside.winners.items c.self.inside.lines.items c.self.inside.placed.items ≡
     c.args.self.now = c.self.view_is in
     let within : c.args.vertex < length (entries_in c.self.inside.winners.items c.self.inside.lines.items
-    c.self.inside.counts.items) =
+    c.self.inside.placed.items) =
     subst (λ es. c.args.vertex < length es) (sym is) c.requires in
     let inside =
-    line_within c.self.inside.winners.items c.self.inside.lines.items c.self.inside.counts.items c.args.vertex
+    line_within c.self.inside.winners.items c.self.inside.lines.items c.self.inside.placed.items c.args.vertex
     c.self.invariant within c.index-line.result.now c.index-line.ensures in
     omega (arith, inside.ends, ap length c.deref.ensures.value)
 
-pub returns : goal.returns
-returns c =
-    let is : entries_in c.self.inside.winners.items c.self.inside.lines.items c.self.inside.counts.items ≡
+pub invariant_of-result : goal.invariant_of-result
+invariant_of-result c =
+    let is : entries_in c.self.inside.winners.items c.self.inside.lines.items c.self.inside.placed.items ≡
     c.args.self.now = c.self.view_is in
     let within : c.args.vertex < length (entries_in c.self.inside.winners.items c.self.inside.lines.items
-    c.self.inside.counts.items) =
+    c.self.inside.placed.items) =
     subst (λ es. c.args.vertex < length es) (sym is) c.requires in
+    let inside =
+    line_within c.self.inside.winners.items c.self.inside.lines.items c.self.inside.placed.items c.args.vertex
+    c.self.invariant within c.index-line.result.now c.index-line.ensures in
+    subst (IsRow c.index-line.result.now.width) (sym (c.part.ensures
+    ∙ ap (λ xs. slice_range xs c.index-line.result.now.start c.index-line.result.now.end) c.deref.ensures.value))
+    inside.row
+
+pub returns : goal.returns
+returns c =
+    let is : entries_in c.self.inside.winners.items c.self.inside.lines.items c.self.inside.placed.items ≡
+    c.args.self.now = c.self.view_is in
+    let within : c.args.vertex < length (entries_in c.self.inside.winners.items c.self.inside.lines.items
+    c.self.inside.placed.items) =
+    subst (λ es. c.args.vertex < length es) (sym is) c.requires in
+    let part : c.part.result.now ≡ slice_range c.self.inside.placed.items c.index-line.result.now.start
+    c.index-line.result.now.end =
     c.part.ensures ∙ ap (λ xs. slice_range xs c.index-line.result.now.start c.index-line.result.now.end)
-    c.deref.ensures.value
-    ∙ counts_at c.self.inside.winners.items c.self.inside.lines.items c.self.inside.counts.items c.args.vertex
+    c.deref.ensures.value in
+    ap (row_of c.index-line.result.now.width) part
+    ∙ counts_at c.self.inside.winners.items c.self.inside.lines.items c.self.inside.placed.items c.args.vertex
     c.self.invariant within c.index-line.result.now c.index-line.ensures
     ∙ ap (λ es. (get_or es c.args.vertex no_entry).counts) is

@@ -1,0 +1,5 @@
+use Rattle.ps_certificate.proofs.Rows.{IsFilled}
+use Rattle.ps_certificate.proofs.row.Row.copy_into.Given as goal
+
+abbrev pub invariant-loop-number : goal.invariant-loop-number
+invariant-loop-number l = IsFilled l.self-inside.width l.self-inside.placed.now l.list.items l.number

@@ -1,0 +1,9 @@
+use Rattle.std.proofs.Common.{◌-◌, length}
+use Rattle.ps_certificate.proofs.Rows.{AreNotAbove}
+use Rattle.ps_certificate.proofs.row.Row.first_above.Given as goal
+
+abbrev pub invariant-loop-number : goal.invariant-loop-number
+invariant-loop-number l = AreNotAbove l.self-inside.placed.now l.other-inside.placed.now l.from l.number
+
+abbrev pub decreases-loop-number : goal.decreases-loop-number
+decreases-loop-number l = length l.self-inside.placed.now - l.number

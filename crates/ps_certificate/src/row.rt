@@ -1,0 +1,133 @@
+//! The counts of an entry. Most are 0, and only the others are kept, each with its place.
+
+ghost use Rattle.std.specs.Bool.{OnTrue};
+ghost use Rattle.std.specs.Prelude.{◌≡◌, ◌==◌, ◌<◌, length, slice_index, IfNone, IfSome, OnOk};
+ghost use Rattle.ps_certificate.specs.Sparse.{IsFirstFrom, IsFirstAbove, AreAtMost, AreBefore, AreRising, count_at};
+
+use std::alloc::AllocError;
+use std::marker::Model;
+
+/// A count that is not 0, and its place among the counts of an entry.
+#[derive(Clone, Copy, Debug, PartialEq)]
+pub(crate) struct PlacedCount {
+    pub(crate) place: usize,
+    pub(crate) count: u64,
+}
+
+/// The counts of an entry, one for each priority by which its winner loses.
+#[derive(Debug, Drop)]
+pub struct Row<'a> {
+    pub(crate) width: usize,
+    pub(crate) placed: &'a [PlacedCount],
+}
+
+impl<'a> Model for Row<'a> {
+    ghost use Rattle.std.specs.Prelude.{ℕ, List};
+    ghost use Rattle.ps_certificate.specs.Sparse.{row_of, IsRow};
+
+    ghost Value = { List ℕ };
+
+    ghost view = { λ row. row_of row.width row.placed.now };
+
+    ghost invariant = { λ row. IsRow row.width row.placed.now };
+}
+
+impl<'a> Row<'a> {
+    /// How many counts there are.
+    pub fn len(&self) -> usize
+        ensures { result ≡ length self.now }
+    {
+        self.width
+    }
+
+    /// Whether there are none.
+    pub fn is_empty(&self) -> bool
+        ensures { result ≡ (length self.now == 0) }
+    {
+        self.width == 0
+    }
+
+    /// The count at a place.
+    pub fn at(&self, place: usize) -> u64
+        requires { place < length self.now }
+        ensures { result ≡ slice_index self.now place }
+    {
+        let number = first_from(self.placed, 0, place);
+        count_in(self.placed, place, number)
+    }
+
+    /// Has a list hold these counts and no others.
+    ///
+    /// # Errors
+    ///
+    /// Fails where a growth was refused.
+    pub fn copy_into(&self, list: &mut Vec<u64>) -> Result<(), AllocError>
+        ensures { OnOk result (list.new.items ≡ self.now) }
+    {
+        list.clear();
+        for number in 0..self.placed.len() {
+            let PlacedCount { place, count } = self.placed[number];
+            list.resize(place, 0)?;
+            list.push(count)?;
+        }
+        list.resize(self.width, 0)?;
+        Ok(())
+    }
+
+    /// The first place from one on where the count is above that of another row.
+    pub(crate) fn first_above(&self, other: &Row<'_>, from: usize) -> Option<usize>
+        requires { length other.now ≡ length self.now }
+        ensures none { IfNone result (AreAtMost self.now other.now from (length self.now)) }
+        ensures some { IfSome result (IsFirstAbove self.now other.now from) }
+    {
+        let mut number = first_from(self.placed, 0, from);
+        let mut others = 0;
+        while number < self.placed.len() {
+            let PlacedCount { place, count } = self.placed[number];
+            others = first_from(other.placed, others, place);
+            if count > count_in(other.placed, place, others) {
+                return Some(place);
+            }
+            number += 1;
+        }
+        None
+    }
+}
+
+/// The number of the first of some counts whose place is not below a given one. It is sought from a number on that is
+/// given as a hint, if it doesn't stand before that.
+fn first_from(placed: &[PlacedCount], hint: usize, place: usize) -> usize
+    requires { AreRising placed.now }
+    ensures { IsFirstFrom placed.now place result }
+{
+    let mut number = if is_before(placed, hint, place) {
+        hint
+    } else {
+        0
+    };
+    while number < placed.len() && placed[number].place < place {
+        number += 1;
+    }
+    number
+}
+
+/// Whether all counts before a number have places below a given one.
+fn is_before(placed: &[PlacedCount], number: usize, place: usize) -> bool
+    requires { AreRising placed.now }
+    ensures { OnTrue result (AreBefore placed.now place number) }
+{
+    number == 0 || number <= placed.len() && placed[number - 1].place < place
+}
+
+/// The count at a place, by the number of the first count from there on.
+fn count_in(placed: &[PlacedCount], place: usize, number: usize) -> u64
+    requires rising { AreRising placed.now }
+    requires number { IsFirstFrom placed.now place number }
+    ensures { result ≡ count_at placed.now place }
+{
+    if number < placed.len() && placed[number].place == place {
+        placed[number].count
+    } else {
+        0
+    }
+}
