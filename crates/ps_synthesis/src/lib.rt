@@ -17,6 +17,7 @@
 //! | `Problem::game` | its game, which a solver is to solve |
 //! | `Problem::report(certificate, compact)` | the report by a certificate, which is checked first |
 //! | `Problem::report_of_certified(certificate, compact)` | the same, where it was checked before |
+//! | `Problem::close` | lets it go |
 //! | `read_automaton(text)` | the automaton of a text |
 //! | `circuit_of_certificate` | the circuit of the player who wins the start, by a valid certificate |
 //! | `report_of`, `certificate_text` | the three texts of a report, and that of a certificate alone |

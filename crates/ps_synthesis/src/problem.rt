@@ -91,6 +91,9 @@ impl Problem {
         &self.game.game
     }
 
+    /// Lets the problem go. What becomes of its parts is proved here once, and not by each who had it.
+    pub fn close(self) {}
+
     /// The report by a certificate of the game, with all counts or as a compact text: who wins, and the winner's
     /// circuit.
     ///

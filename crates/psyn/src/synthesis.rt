@@ -46,7 +46,9 @@ pub fn synthesise(
         may_answer solver.new text game answer → may_answer solver.old text game answer }
 {
     let problem = Problem::read(alloc, text, order)?;
-    report_by(alloc, &problem, compact, solver)
+    let report = report_by(alloc, &problem, compact, solver);
+    problem.close();
+    report
 }
 
 /// The report of a problem by a solver that is handed in.
