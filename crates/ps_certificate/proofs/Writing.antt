@@ -28,6 +28,7 @@ use Rattle.ps_text.proofs.Simple.{laws_mapped}
 use Rattle.ps_text.proofs.Exits.{reads_give, reads_mapped, reads_then}
 use Rattle.ps_text.proofs.Branches.{many_ends, many_reads}
 use Rattle.ps_text.proofs.Whole.{answers_ok}
+use Rattle.ps_text.proofs.Decimals.{number_text, plain}
 use Rattle.ps_game.specs.Games.{ParityGame, NamedGameData, IsNamedGame, vertex_count}
 use Rattle.ps_certificate.specs.declared.fault.CertCause.{CertCause}
 use Rattle.ps_certificate.specs.declared.fault.CertCause.TheVariants.{Syntax, OtherGame}
@@ -79,57 +80,6 @@ pub head_joined : (o w : List ℕ) (v : ℕ) (a b c d e f : List ℕ)
 head_joined o w v a b c d e f =
     ap (λ x. (((((x ++ b) ++ c) ++ d) ++ 10 ∷ e) ++ f) ++ 10 ∷ [])
     (append_assoc (o ++ w) (v ∷ []) a) ∙ eight_joined o w (v ∷ a) b c d (10 ∷ e) f (10 ∷ [])
-
--- ## Numbers
-
--- digits without a leading zero that write the number
-record IsNumberText (n : ℕ) (digits : List ℕ) : Type 0 where
-  some : 0 < length digits
-  all : All IsDigit digits
-  value : decimal_value digits ≡ n
-  lead : 0 < n → ¬ BeginsWithZero digits
-  short : n < 10 → length digits ≡ 1
-
-begins_more : (ds more : List ℕ) → 0 < length ds → BeginsWithZero (ds ++ more) → BeginsWithZero ds
-begins_more [] more l h = absurd (omega (arith, l))
-begins_more (d ∷ ds) more l h = h
-
-number_text : (n : ℕ) → n < 2 ^ 64 → IsNumberText n (decimal n)
-number_text n small = decimal_by_steps IsNumberText one further n small
-  where
-    one : (n : ℕ) → n < 10 → IsNumberText n ((48 + n) ∷ [])
-    one n l = record {
-      some = omega arith;
-      all = All-cons IsDigit (48 + n) [] (omega arith, omega arith) (All-nil IsDigit);
-      value = omega arith;
-      lead = λ some z. omega (arith, some, z);
-      short = λ _. refl;
-    }
-
-    further : (n : ℕ) (ds : List ℕ) → 10 ≤ n → IsNumberText (n / 10) ds → IsNumberText n (ds ++ ((48 + n % 10) ∷ []))
-    further n ds l h = record {
-      some = omega (arith, length-append ds ((48 + n % 10) ∷ []));
-      all = All-append IsDigit ds ((48 + n % 10) ∷ []) h.all
-          (All-cons IsDigit (48 + n % 10) [] (omega arith, omega arith) (All-nil IsDigit));
-      value =
-          let a = map-append (λ b. b - 48) ds ((48 + n % 10) ∷ []) in
-          let b = number_push 10 (map (λ b. b - 48) ds) (48 + n % 10 - 48) in
-          let c : decimal_value (ds ++ ((48 + n % 10) ∷ [])) ≡ decimal_value ds * 10 + (48 + n % 10 - 48) = ap
-          (λ xs. number_from_digits 10 xs) a ∙ b in
-          let d : decimal_value ds ≡ n / 10 = h.value in
-          omega (arith, c, d);
-      lead = λ some z. h.lead (omega (arith, l)) (begins_more ds ((48 + n % 10) ∷ []) h.some z);
-      short = λ s. absurd (omega (arith, s, l));
-    }
-
-plain : (n : ℕ) → n < 2 ^ 64 → IsPlainNumber (decimal n)
-plain n small =
-    let t = number_text n small in
-    ((t.some, t.all), λ long z. go n refl t long z)
-  where
-    go : (m : ℕ) → n ≡ m → IsNumberText n (decimal n) → 1 < length (decimal n) → BeginsWithZero (decimal n) → ⊥
-    go zero e t long z = omega (arith, t.short (omega (arith, e)), long)
-    go (suc m) e t long z = t.lead (omega (arith, e)) z
 
 -- ## Steps
 

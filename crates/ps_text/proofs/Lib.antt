@@ -16,3 +16,5 @@ pub mod ChoiceOutcomes
 pub mod Decisions
 pub mod OneTokenisation
 pub mod LeadingDigits
+pub mod ByteRuns
+pub mod Decimals
