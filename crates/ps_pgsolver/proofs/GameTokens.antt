@@ -14,7 +14,7 @@ use Rattle.ps_text.specs.Answers.{Stream}
 use Rattle.ps_text.specs.Digits.{decimal_value}
 use Rattle.ps_text.specs.Runs.{AllOf, StopsBefore}
 use Rattle.ps_text.specs.Tokens.{NextToken, TokensFrom, TokensDiffer}
-use Rattle.ps_text.proofs.ByteRuns.{run_len, run_all, run_stops}
+use Rattle.ps_text.proofs.ByteRuns.{run_len, run_all, run_ends}
 use Rattle.ps_text.proofs.OneTokenisation.{has_one_tokenisation}
 use Rattle.ps_pgsolver.specs.Bytes.{is_blank, is_digit, is_letter, is_inner, ends_in}
 use Rattle.ps_pgsolver.specs.Signs.{Sign, Number, Word, Name, Comma, Semicolon, OpenName, Wrong}
@@ -33,7 +33,7 @@ first_run p b bs h = record {
   some = let size : prefix_len p (b ∷ bs) ≡ suc (prefix_len p bs) = rw h (omega arith) in
       omega (arith, size, length-prefix_len p (b ∷ bs));
   all = run_all p (b ∷ bs);
-  longest = run_stops p (b ∷ bs);
+  longest = run_ends p (b ∷ bs);
 }
 
 -- ## Classes of bytes
@@ -354,7 +354,7 @@ step before w ih = go (drop n w) refl
           rest = drop s (b ∷ bs);
           split = sym (take-append-drop n w) ∙ ap (λ z. take n w ++ z) (e ∙ sym (take-append-drop s (b ∷ bs)));
           are_blanks = run_all is_blank w;
-          is_token = found front b bs (subst (StopsBefore is_blank) e (run_stops is_blank w));
+          is_token = found front b bs (subst (StopsBefore is_blank) e (run_ends is_blank w));
           start = refl;
         }
 

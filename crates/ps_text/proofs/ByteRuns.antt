@@ -1,6 +1,6 @@
 -- Runs of bytes that pass a test.
 --     all_joined, all_left, all_right      two runs, one behind the other
---     run_len, run_all, run_stops      the longest run that a text begins with
+--     run_len, run_all, run_ends      the longest run that a text begins with
 --     run_whole      a text that is one run
 --     same_run      there is only one longest run
 use Rattle.std.proofs.Common.{◌≡◌, ℕ, suc, Bool, true, false, List, [], ◌∷◌, ◌++◌, length, take}
@@ -39,11 +39,11 @@ module _ (p : ℕ → Bool) where
       (λ no. let size : prefix_len p (b ∷ bs) ≡ 0 = rw no refl in rw size tt)
       (cases_Bool (p b))
 
-  pub run_stops : (text : List ℕ) → StopsBefore p (drop (prefix_len p text) text)
-  run_stops [] = tt
-  run_stops (b ∷ bs) = ⊎_elim
+  pub run_ends : (text : List ℕ) → StopsBefore p (drop (prefix_len p text) text)
+  run_ends [] = tt
+  run_ends (b ∷ bs) = ⊎_elim
       (λ yes. let size : prefix_len p (b ∷ bs) ≡ suc (prefix_len p bs) = rw yes (omega arith) in
-      rw size (run_stops bs))
+      rw size (run_ends bs))
       (λ no. let size : prefix_len p (b ∷ bs) ≡ 0 = rw no refl in rw size no)
       (cases_Bool (p b))
 
