@@ -113,7 +113,8 @@ pub is_empty_false : (r : List ℕ) (b : Bool) → b ≡ eqb (length r) 0 → b 
 is_empty_false [] b e f = let x : true ≡ false = sym e ∙ f in cc
 is_empty_false (x ∷ r) b e f = omega arith
 
-stops_ended : (p : ℕ → Bool) (u : Bool) (rest : List ℕ) → p 10 ≡ false → StopsBefore p rest → StopsBefore p (ended u rest)
+stops_ended : (p : ℕ → Bool) (u : Bool) (rest : List ℕ) → p 10 ≡ false → StopsBefore p rest →
+    StopsBefore p (ended u rest)
 stops_ended p true [] line s = line
 stops_ended p false [] line s = tt
 stops_ended p true (x ∷ rest) line s = s
