@@ -42,7 +42,7 @@ use Rattle.ps_circuit.proofs.TextLaws.{laws_latch_line, laws_output_line, laws_g
 use Rattle.ps_circuit.proofs.TextLaws.{laws_symbol_name, laws_symbol_space, joint_letter, laws_symbol_line, any_sign}
 use Rattle.ps_circuit.proofs.TextLaws.{laws_any_sign, laws_anything, laws_c_line, first_names, joint_symbols}
 use Rattle.ps_circuit.proofs.TextLaws.{joint_text}
-use Rattle.ps_circuit.proofs.DraftLemmas.{joint_inputs, joint_latches, joint_outputs, joint_gates}
+use Rattle.ps_circuit.proofs.DraftReading.{joint_inputs, joint_latches, joint_outputs, joint_gates}
 
 -- ## What a number is judged by
 
