@@ -51,118 +51,48 @@ kinds_apart i j d t h k = d (sym h ∙ k)
 same : (A : Sign → Type 0) → Within A A
 same A t h = h
 
-first_number : Within (Or (Taken number_in) (BadSign {F = PgCause} (BadNumber))) (IsKind 0)
+first_number : Within (Or (Taken number_in) (BadSign {F = PgCause} BadNumber)) (IsKind 0)
 unfolding kind_of
 first_number (Number x) h = refl
-first_number (Word x) (inl h) = absurd (none_is_some h.0 h.1)
-first_number (Word x) (inr h) = absurd h.1
-first_number (Name x) (inl h) = absurd (none_is_some h.0 h.1)
-first_number (Name x) (inr h) = absurd h.1
-first_number Comma (inl h) = absurd (none_is_some h.0 h.1)
-first_number Comma (inr h) = absurd h.1
-first_number Semicolon (inl h) = absurd (none_is_some h.0 h.1)
-first_number Semicolon (inr h) = absurd h.1
-first_number OpenName (inl h) = absurd (none_is_some h.0 h.1)
-first_number OpenName (inr h) = absurd h.1
-first_number Wrong (inl h) = absurd (none_is_some h.0 h.1)
-first_number Wrong (inr h) = absurd h.1
+first_number _ (inl h) = absurd (none_is_some h.0 h.1)
+first_number _ (inr h) = absurd h.1
 
 first_id : (ids : List ℕ) → Within (Or (Taken number_in) (BadSign {F = PgCause} (BadId ids))) (IsKind 0)
 unfolding kind_of
-first_id z (Number x) h = refl
-first_id z (Word x) (inl h) = absurd (none_is_some h.0 h.1)
-first_id z (Word x) (inr h) = absurd h.1
-first_id z (Name x) (inl h) = absurd (none_is_some h.0 h.1)
-first_id z (Name x) (inr h) = absurd h.1
-first_id z Comma (inl h) = absurd (none_is_some h.0 h.1)
-first_id z Comma (inr h) = absurd h.1
-first_id z Semicolon (inl h) = absurd (none_is_some h.0 h.1)
-first_id z Semicolon (inr h) = absurd h.1
-first_id z OpenName (inl h) = absurd (none_is_some h.0 h.1)
-first_id z OpenName (inr h) = absurd h.1
-first_id z Wrong (inl h) = absurd (none_is_some h.0 h.1)
-first_id z Wrong (inr h) = absurd h.1
+first_id ids (Number x) h = refl
+first_id ids _ (inl h) = absurd (none_is_some h.0 h.1)
+first_id ids _ (inr h) = absurd h.1
 
-first_owner : Within (Or (Taken number_in) (BadSign {F = PgCause} (BadOwner))) (IsKind 0)
+first_owner : Within (Or (Taken number_in) (BadSign {F = PgCause} BadOwner)) (IsKind 0)
 unfolding kind_of
 first_owner (Number x) h = refl
-first_owner (Word x) (inl h) = absurd (none_is_some h.0 h.1)
-first_owner (Word x) (inr h) = absurd h.1
-first_owner (Name x) (inl h) = absurd (none_is_some h.0 h.1)
-first_owner (Name x) (inr h) = absurd h.1
-first_owner Comma (inl h) = absurd (none_is_some h.0 h.1)
-first_owner Comma (inr h) = absurd h.1
-first_owner Semicolon (inl h) = absurd (none_is_some h.0 h.1)
-first_owner Semicolon (inr h) = absurd h.1
-first_owner OpenName (inl h) = absurd (none_is_some h.0 h.1)
-first_owner OpenName (inr h) = absurd h.1
-first_owner Wrong (inl h) = absurd (none_is_some h.0 h.1)
-first_owner Wrong (inr h) = absurd h.1
+first_owner _ (inl h) = absurd (none_is_some h.0 h.1)
+first_owner _ (inr h) = absurd h.1
 
 first_more : (known : Option (List ℕ)) → Within (Or (Taken number_in) (BadSign {F = PgCause} (BadSuccessor known)))
     (IsKind 0)
 unfolding kind_of
-first_more z (Number x) h = refl
-first_more z (Word x) (inl h) = absurd (none_is_some h.0 h.1)
-first_more z (Word x) (inr h) = absurd h.1
-first_more z (Name x) (inl h) = absurd (none_is_some h.0 h.1)
-first_more z (Name x) (inr h) = absurd h.1
-first_more z Comma (inl h) = absurd (none_is_some h.0 h.1)
-first_more z Comma (inr h) = absurd h.1
-first_more z Semicolon (inl h) = absurd (none_is_some h.0 h.1)
-first_more z Semicolon (inr h) = absurd h.1
-first_more z OpenName (inl h) = absurd (none_is_some h.0 h.1)
-first_more z OpenName (inr h) = absurd h.1
-first_more z Wrong (inl h) = absurd (none_is_some h.0 h.1)
-first_more z Wrong (inr h) = absurd h.1
+first_more known (Number x) h = refl
+first_more known _ (inl h) = absurd (none_is_some h.0 h.1)
+first_more known _ (inr h) = absurd h.1
 
-first_comma : Within (Or (Taken comma_in) (BadSign {F = PgCause} (NoBad))) (IsKind 3)
+first_comma : Within (Or (Taken comma_in) (BadSign {F = PgCause} NoBad)) (IsKind 3)
 unfolding kind_of
-first_comma (Number x) (inl h) = absurd (none_is_some h.0 h.1)
-first_comma (Number x) (inr h) = absurd h.1
-first_comma (Word x) (inl h) = absurd (none_is_some h.0 h.1)
-first_comma (Word x) (inr h) = absurd h.1
-first_comma (Name x) (inl h) = absurd (none_is_some h.0 h.1)
-first_comma (Name x) (inr h) = absurd h.1
 first_comma Comma h = refl
-first_comma Semicolon (inl h) = absurd (none_is_some h.0 h.1)
-first_comma Semicolon (inr h) = absurd h.1
-first_comma OpenName (inl h) = absurd (none_is_some h.0 h.1)
-first_comma OpenName (inr h) = absurd h.1
-first_comma Wrong (inl h) = absurd (none_is_some h.0 h.1)
-first_comma Wrong (inr h) = absurd h.1
+first_comma _ (inl h) = absurd (none_is_some h.0 h.1)
+first_comma _ (inr h) = absurd h.1
 
-first_semicolon : Within (Or (Taken semicolon_in) (BadSign {F = PgCause} (NoBad))) (IsKind 4)
+first_semicolon : Within (Or (Taken semicolon_in) (BadSign {F = PgCause} NoBad)) (IsKind 4)
 unfolding kind_of
-first_semicolon (Number x) (inl h) = absurd (none_is_some h.0 h.1)
-first_semicolon (Number x) (inr h) = absurd h.1
-first_semicolon (Word x) (inl h) = absurd (none_is_some h.0 h.1)
-first_semicolon (Word x) (inr h) = absurd h.1
-first_semicolon (Name x) (inl h) = absurd (none_is_some h.0 h.1)
-first_semicolon (Name x) (inr h) = absurd h.1
-first_semicolon Comma (inl h) = absurd (none_is_some h.0 h.1)
-first_semicolon Comma (inr h) = absurd h.1
 first_semicolon Semicolon h = refl
-first_semicolon OpenName (inl h) = absurd (none_is_some h.0 h.1)
-first_semicolon OpenName (inr h) = absurd h.1
-first_semicolon Wrong (inl h) = absurd (none_is_some h.0 h.1)
-first_semicolon Wrong (inr h) = absurd h.1
+first_semicolon _ (inl h) = absurd (none_is_some h.0 h.1)
+first_semicolon _ (inr h) = absurd h.1
 
-first_name : Within (Or (Taken name_in) (BadSign {F = PgCause} (NoBad))) (IsKind 2)
+first_name : Within (Or (Taken name_in) (BadSign {F = PgCause} NoBad)) (IsKind 2)
 unfolding kind_of
-first_name (Number x) (inl h) = absurd (none_is_some h.0 h.1)
-first_name (Number x) (inr h) = absurd h.1
-first_name (Word x) (inl h) = absurd (none_is_some h.0 h.1)
-first_name (Word x) (inr h) = absurd h.1
 first_name (Name x) h = refl
-first_name Comma (inl h) = absurd (none_is_some h.0 h.1)
-first_name Comma (inr h) = absurd h.1
-first_name Semicolon (inl h) = absurd (none_is_some h.0 h.1)
-first_name Semicolon (inr h) = absurd h.1
-first_name OpenName (inl h) = absurd (none_is_some h.0 h.1)
-first_name OpenName (inr h) = absurd h.1
-first_name Wrong (inl h) = absurd (none_is_some h.0 h.1)
-first_name Wrong (inr h) = absurd h.1
+first_name _ (inl h) = absurd (none_is_some h.0 h.1)
+first_name _ (inr h) = absurd h.1
 
 pub laws_number : Laws Odd number (IsKind 0) Nothing ⊥
 unfolding number
