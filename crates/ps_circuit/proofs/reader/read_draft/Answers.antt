@@ -9,9 +9,9 @@ use Rattle.ps_circuit.proofs.TextLaws.{laws_input_line, laws_latch_line, laws_ou
 use Rattle.ps_circuit.proofs.TextLaws.{body_outputs, body_gates, first_names}
 use Rattle.ps_circuit.proofs.LineLemmas.{is_row}
 use Rattle.ps_circuit.proofs.DraftReading.{Reached, numbers, past_header, past_lines, joint_inputs, joint_latches}
-use Rattle.ps_circuit.proofs.DraftReading.{joint_outputs, joint_gates, header_fails, lines_exit, symbols_fail, all_reads}
-use Rattle.ps_circuit.proofs.DraftReading.{draft_fails, draft_memory, draft_trails, draft_reads, none_named}
-use Rattle.ps_circuit.proofs.DraftReading.{body_inputs}
+use Rattle.ps_circuit.proofs.DraftReading.{joint_outputs, joint_gates, header_fails, lines_exit, symbols_fail}
+use Rattle.ps_circuit.proofs.DraftReading.{all_reads, draft_fails, draft_memory, draft_trails, draft_reads}
+use Rattle.ps_circuit.proofs.DraftReading.{none_named, body_inputs}
 use Rattle.ps_circuit.proofs.DraftLemmas.{each_named, sound_draft}
 use Rattle.ps_circuit.proofs.reader.read_draft.Goals as goal
 use Rattle.ps_circuit.proofs.reader.read_draft.Goals.{After-lines, After-lines-2, After-lines-3, After-lines-4}
