@@ -9,6 +9,7 @@ use Rattle.ps_text.specs.Parts.{Part, one, give, then_by, many, mapped, NoBad}
 use Rattle.ps_text.proofs.Laws.{Laws, Joint, Nothing, Or, When, Within, Apart, weaker}
 use Rattle.ps_text.proofs.Joined.{joint}
 use Rattle.ps_text.proofs.Simple.{Taken, BadSign, none_is_some, laws_one, laws_give, laws_mapped, laws_then}
+use Rattle.ps_text.proofs.Following.{laws_next}
 use Rattle.ps_text.proofs.Covered.{laws_either}
 use Rattle.ps_text.proofs.Repeated.{laws_many}
 use Rattle.ps_text.proofs.Whole.{Own}
@@ -143,10 +144,6 @@ first_of_two : (A B : Sign → Type 0) (t : Sign) → Or A (When ⊥ B) t → A 
 first_of_two A B t (inl h) = h
 first_of_two A B t (inr h) = absurd h.0
 
-more_of_two : (A B : Sign → Type 0) (t : Sign) → Or A (When ⊥ B) t → A t
-more_of_two A B t (inl h) = h
-more_of_two A B t (inr h) = absurd h.0
-
 module _ (known : Option (List ℕ)) where
   abbrev pub another : List ℕ → Part Sign (List ℕ) PgCause
   another list = mapped (λ n. list ++ n ∷ []) (successor known)
@@ -159,9 +156,7 @@ module _ (known : Option (List ℕ)) where
 
   pub laws_more : (list : List ℕ) → Laws Odd (more_successor known list) (IsKind 3) Nothing ⊥
   unfolding more_successor
-  laws_more list =
-      weaker (laws_then laws_comma (λ _. laws_another list) (nothing_apart _)) (first_of_two _ _)
-      (more_of_two _ _) (λ h. h.0)
+  laws_more list = laws_next laws_comma (λ _. laws_another list) (nothing_apart _)
 
   abbrev pub all_more : ℕ → Part Sign (List ℕ) PgCause
   all_more n = many (more_successor known) (n ∷ [])
@@ -243,7 +238,7 @@ module _ (known : Option (List ℕ)) (ids : List ℕ) where
       Laws Odd (from_name id priority owner' list) NodeEnd Nothing ⊥
   laws_from_name id priority owner' list =
       weaker (laws_then laws_name (laws_node_end id priority owner' list) name_ends) first_from_name
-      (more_of_two _ _) (λ h. h.1)
+      (first_of_two _ _) (λ h. h.1)
 
   comma_ends : Apart (IsKind 3) NodeEnd
   comma_ends t h (inl k) = kinds_apart 3 2 (λ e. omega (arith, e)) t h k
@@ -255,32 +250,26 @@ module _ (known : Option (List ℕ)) (ids : List ℕ) where
   laws_from_successors : (id priority owner' : ℕ) → Laws Odd (from_successors id priority owner') Anything Nothing ⊥
   laws_from_successors id priority owner' =
       weaker (laws_then (laws_successors known) (laws_from_name id priority owner') comma_ends) (λ t h. tt)
-      (more_of_two _ _) (λ h. h.0)
+      (first_of_two _ _) (λ h. h.0)
 
   pub joint_owner : (id priority : ℕ) → Joint owner (from_successors id priority)
   joint_owner id priority = joint laws_owner (laws_from_successors id priority) (nothing_apart _)
 
   laws_from_owner : (id priority : ℕ) → Laws Odd (from_owner id priority) (IsKind 0) Nothing ⊥
-  laws_from_owner id priority =
-      weaker (laws_then laws_owner (laws_from_successors id priority) (nothing_apart _)) (first_of_two _ _)
-      (more_of_two _ _) (λ h. h.0)
+  laws_from_owner id priority = laws_next laws_owner (laws_from_successors id priority) (nothing_apart _)
 
   pub joint_priority : (id : ℕ) → Joint number (from_owner id)
   joint_priority id = joint laws_number (laws_from_owner id) (nothing_apart _)
 
   laws_from_priority : (id : ℕ) → Laws Odd (from_priority id) (IsKind 0) Nothing ⊥
-  laws_from_priority id =
-      weaker (laws_then laws_number (laws_from_owner id) (nothing_apart _)) (first_of_two _ _)
-      (more_of_two _ _) (λ h. h.0)
+  laws_from_priority id = laws_next laws_number (laws_from_owner id) (nothing_apart _)
 
   pub joint_id : Joint (new_id ids) from_priority
   joint_id = joint (laws_id ids) laws_from_priority (nothing_apart _)
 
   pub laws_node : Laws Odd (node known ids) (IsKind 0) Nothing ⊥
   unfolding node
-  laws_node =
-      weaker (laws_then (laws_id ids) laws_from_priority (nothing_apart _)) (first_of_two _ _)
-      (more_of_two _ _) (λ h. h.0)
+  laws_node = laws_next (laws_id ids) laws_from_priority (nothing_apart _)
 
 -- ## The whole text
 
@@ -318,9 +307,7 @@ joint_value = joint laws_number (λ _. laws_semicolon) (nothing_apart _)
 
 pub laws_value : Laws Odd value_line (IsKind 0) Nothing ⊥
 unfolding value_line
-laws_value =
-    weaker (laws_then laws_number (λ _. laws_semicolon) (nothing_apart _)) (first_of_two _ _)
-    (more_of_two _ _) (λ h. h.0)
+laws_value = laws_next laws_number (λ _. laws_semicolon) (nothing_apart _)
 
 abbrev pub IsWord : List ℕ → Sign → Type 0
 IsWord word t = t ≡ Word word
@@ -364,9 +351,7 @@ module _ (word : List ℕ) where
   line = then_by (keyword word) (λ _. value_line)
 
   pub laws_line : Laws Odd line (IsWord word) Nothing ⊥
-  laws_line =
-      weaker (laws_then (laws_keyword word) (λ _. laws_value) (nothing_apart _)) (first_of_two _ _)
-      (more_of_two _ _) (λ h. h.0)
+  laws_line = laws_next (laws_keyword word) (λ _. laws_value) (nothing_apart _)
 
   pub laws_no_line : Laws Odd (give {T = Sign} {V = Unit {0}} {F = PgCause} tt) Nothing Nothing (Unit {0})
   laws_no_line = laws_give Odd tt

@@ -11,7 +11,8 @@ use Rattle.ps_pgsolver.proofs.reader.first_successor.Goals as goal
 use Rattle.ps_pgsolver.proofs.reader.first_successor.Goals.{After-if_known}
 
 -- the answer where a number was taken
-taken : (c : After-if_known) → let old = c.args.tokens.now in c.if_known.result ≡ first_answer (option_copied c.args.known)
+taken : (c : After-if_known) → let old = c.args.tokens.now in
+    c.if_known.result ≡ first_answer (option_copied c.args.known)
     (next_of old) (offset_of old.pieces old.end)
 taken c =
     let old = c.args.tokens.now in

@@ -8,7 +8,8 @@ use Rattle.ps_pgsolver.proofs.Exits.{continues_then}
 use Rattle.ps_pgsolver.proofs.PartLaws.{joint_id, joint_priority, joint_owner, joint_list, joint_name, from_priority}
 use Rattle.ps_pgsolver.proofs.PartLaws.{from_owner, from_successors, from_name, node_end}
 use Rattle.ps_pgsolver.proofs.reader.node.Goals as goal
-use Rattle.ps_pgsolver.proofs.reader.node.Goals.{After-number, After-owner, After-successors, After-name, After-semicolon}
+use Rattle.ps_pgsolver.proofs.reader.node.Goals.{After-number, After-owner, After-successors, After-name}
+use Rattle.ps_pgsolver.proofs.reader.node.Goals.{After-semicolon}
 
 -- ## What is left behind each part, whatever ids are known
 
