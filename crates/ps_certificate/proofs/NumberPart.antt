@@ -22,7 +22,8 @@ use Rattle.ps_certificate.specs.Places.{Place}
 use Rattle.ps_certificate.specs.Reading.{at_place, numeral, HasNoNumber, IsNumberRead, TellsNumber}
 use Rattle.ps_certificate.specs.Texts.{Seen, pieces_at, stream_at, bytes_of, causes, EndsField, Verdict, IsBadNumber}
 use Rattle.ps_certificate.specs.Texts.{judged, OfOtherGame, number}
-use Rattle.ps_certificate.proofs.Numerals.{value_grows, numeral_split, numeral_plain, numeral_longest, plain_front}
+use Rattle.ps_text.proofs.Decimals.{value_grows}
+use Rattle.ps_certificate.proofs.Numerals.{numeral_split, numeral_plain, numeral_longest, plain_front}
 use Rattle.ps_certificate.proofs.Numerals.{numeral_ended, numeral_zero}
 
 -- ## Places and streams

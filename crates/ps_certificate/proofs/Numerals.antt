@@ -1,41 +1,25 @@
 -- The digits that a text begins with: the longest run without a leading zero, and the number that it writes.
-use Rattle.std.proofs.Common.{◌≡◌, ℕ, suc, ◌+◌, ◌-◌, ◌<◌, ◌≤◌, Bool, true, false, cond, eqb, List, [], ◌∷◌, ◌++◌}
+use Rattle.std.proofs.Common.{◌≡◌, ℕ, suc, ◌+◌, ◌<◌, Bool, true, false, cond, eqb, List, [], ◌∷◌, ◌++◌}
 use Rattle.std.proofs.Common.{length, drop, refl, sym, ap, ap₂, subst, inl, inr, ◌∙◌, append_assoc, append-nil, arith}
 use Rattle.std.proofs.Common.{length-append}
-use Rattle.std.specs.Prelude.{map, take_while}
+use Rattle.std.specs.Prelude.{take_while}
 use Rattle.std.specs.Char.{is_ascii_digit}
-use Rattle.std.specs.List.{All}
-use Rattle.std.specs.Int.Digits.{number_from_digits, number_from_digits_after}
-use Rattle.std.proofs.lemmas.Int.Digits.{number_after_append, number_after_ge}
-use Rattle.std.proofs.lemmas.Bool.{cases_Bool, cases_eq, eq-eqb, ne_eqb, eqb-true, eqb-false, le-leb}
+use Rattle.std.specs.List.{All, prefix_len}
+use Rattle.std.proofs.lemmas.List.Folds.{length-prefix_len}
+use Rattle.std.proofs.lemmas.Bool.{cases_Bool, cases_eq, eq-eqb, ne_eqb, eqb-true, eqb-false}
 use Rattle.std.proofs.lemmas.List.Elements.{All-nil, All-cons, All-head, All-tail, All-take, All-drop}
-use Rattle.std.proofs.lemmas.List.{append_cancel_left, map-append}
+use Rattle.std.proofs.lemmas.List.{append_cancel_left, take-append-drop}
 use Rattle.std.proofs.Math.Seq.{take-append_seam, drop-append_seam}
 use Rattle.std.proofs.lemmas.List.Sums.{take_while-cons}
 use Rattle.ps_text.specs.Digits.{IsDigit, BeginsWithZero, IsPlainNumber, decimal_value}
+use Rattle.ps_text.proofs.Decimals.{digit_is, digit_passes, value_grows}
 use Rattle.ps_certificate.specs.Reading.{comes, numeral}
 use Rattle.ps_certificate.specs.Texts.{EndsField}
 
--- ## Values
-
--- more digits write no smaller number
-pub value_grows : (a b : List ℕ) → decimal_value a ≤ decimal_value (a ++ b)
-value_grows a b =
-    let e : decimal_value (a ++ b) ≡ number_from_digits_after 10 (decimal_value a) (map (λ b. b - 48) b) =
-    ap (number_from_digits 10) (map-append (λ b. b - 48) a b) ∙ number_after_append 10 0 (map (λ b. b - 48) a)
-    (map (λ b. b - 48) b) in
-    subst (λ n. decimal_value a ≤ n) (sym e) (number_after_ge 10 (decimal_value a) (map (λ b. b - 48) b) (omega arith))
-
 -- ## The longest run
 
-digit_is : (b : ℕ) → is_ascii_digit b ≡ true → IsDigit b
-digit_is b e = (grind arith, grind arith)
-
-digit_test : (b : ℕ) → IsDigit b → is_ascii_digit b ≡ true
-digit_test b h = rw (le-leb 48 b h.0, le-leb b 57 h.1) refl
-
 not_digit : (b : ℕ) → is_ascii_digit b ≡ false → IsDigit b → ⊥
-not_digit b e h = let t = digit_test b h in cc
+not_digit b e h = let t = digit_passes b h in cc
 
 taken_digits : (bytes : List ℕ) → All IsDigit (take_while is_ascii_digit bytes)
 taken_digits [] = All-nil IsDigit
@@ -47,17 +31,14 @@ taken_digits (b ∷ bytes) = rw take_while-cons
 
 taken_split : (bytes : List ℕ) → bytes ≡ take_while is_ascii_digit bytes ++ drop
     (length (take_while is_ascii_digit bytes)) bytes
-taken_split [] = refl
-taken_split (b ∷ bytes) = rw take_while-cons
-    (elim (cases_Bool (is_ascii_digit b)) [
-      | inl so ↦ rw so (ap (λ xs. b ∷ xs) (taken_split bytes))
-      | inr other ↦ rw other refl
-    ])
+taken_split bytes =
+    sym (ap (λ n. take_while is_ascii_digit bytes ++ drop n bytes) (length-prefix_len is_ascii_digit bytes)
+    ∙ take-append-drop (prefix_len is_ascii_digit bytes) bytes)
 
 taken_over : (digits more : List ℕ) → All IsDigit digits
     → take_while is_ascii_digit (digits ++ more) ≡ digits ++ take_while is_ascii_digit more
 taken_over [] more h = refl
-taken_over (d ∷ digits) more h = rw (take_while-cons, digit_test d (All-head IsDigit d digits h))
+taken_over (d ∷ digits) more h = rw (take_while-cons, digit_passes d (All-head IsDigit d digits h))
     (ap (λ xs. d ∷ xs) (taken_over digits more (All-tail IsDigit d digits h)))
 
 -- what begins with a zero: the run is that zero

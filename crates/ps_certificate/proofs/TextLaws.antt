@@ -10,6 +10,7 @@ use Rattle.ps_text.specs.Parts.{NoBad, one, then_by, many, mapped}
 use Rattle.ps_text.proofs.Laws.{Laws, Joint, Nothing, Or, When, Apart, weaker}
 use Rattle.ps_text.proofs.Joined.{joint}
 use Rattle.ps_text.proofs.Simple.{none_is_some, Taken, BadSign, laws_give, laws_one, laws_mapped, laws_then}
+use Rattle.ps_text.proofs.Following.{laws_next, laws_tight}
 use Rattle.ps_text.proofs.Covered.{laws_either}
 use Rattle.ps_text.proofs.Repeated.{laws_many}
 use Rattle.ps_certificate.specs.declared.fault.CertCause.{CertCause}
@@ -50,15 +51,7 @@ module _ {A B : Type 0} {P : Field A} {Q : A → Field B} {First First' More' : 
 
   pub tight_then : Laws Odd P First Nothing ⊥ → ((a : A) → Laws Odd (Q a) First' More' Null') →
       Laws Odd (then_by P Q) First More' ⊥
-  tight_then l r = weaker (laws_then l r (λ t x y. x)) first more (λ n. n.0)
-    where
-      first : (t : Seen) → Or First (When ⊥ First') t → First t
-      first t (inl x) = x
-      first t (inr x) = absurd x.0
-
-      more : (t : Seen) → Or More' (When Null' Nothing) t → More' t
-      more t (inl x) = x
-      more t (inr x) = absurd x.1
+  tight_then l r = laws_tight l r
 
 module _ {A B : Type 0} {P : Field A} {Q : A → Field B} {First : Seen → Type 0} where
   pub loose_joint : Laws Odd P First AtDigit ⊥ → ((a : A) → Laws Odd (Q a) Separates Nothing ⊥) → Joint P Q
@@ -66,15 +59,7 @@ module _ {A B : Type 0} {P : Field A} {Q : A → Field B} {First : Seen → Type
 
   pub loose_then : Laws Odd P First AtDigit ⊥ → ((a : A) → Laws Odd (Q a) Separates Nothing ⊥) →
       Laws Odd (then_by P Q) First Nothing ⊥
-  loose_then l r = weaker (laws_then l r no_digit_separates) first more (λ n. n.0)
-    where
-      first : (t : Seen) → Or First (When ⊥ Separates) t → First t
-      first t (inl x) = x
-      first t (inr x) = absurd x.0
-
-      more : (t : Seen) → Or Nothing (When ⊥ AtDigit) t → Nothing t
-      more t (inl x) = x
-      more t (inr x) = x.0
+  loose_then l r = laws_next l r no_digit_separates
 
 -- ## Bytes
 

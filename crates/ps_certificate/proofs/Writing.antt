@@ -5,29 +5,26 @@
 --     went_byte, went_word, went_number, went_fields, went_version, went_winner, went_choice, went_counts, went_pairs,
 --     went_entry, went_entries, went_text      each part of the text
 --     reads_again      the whole text
-use Rattle.std.proofs.Common.{◌≡◌, ◌≢◌, ℕ, zero, suc, ◌+◌, ◌-◌, ◌*◌, ◌/◌, ◌%◌, ◌^◌, ◌<◌, ◌≤◌, ◌⊎◌, Bool, true, false}
+use Rattle.std.proofs.Common.{◌≡◌, ◌≢◌, ℕ, zero, suc, ◌+◌, ◌^◌, ◌<◌, ◌≤◌, ◌⊎◌, Bool, true, false}
 use Rattle.std.proofs.Common.{cond, eqb, ltb, List, [], ◌∷◌, ◌++◌, length, get_or, map, drop, take, Option, Some, None}
 use Rattle.std.proofs.Common.{Ok, refl, sym, ap, ap₂, subst, inl, inr, ◌∙◌, append_assoc, add-zero, arith}
-use Rattle.std.proofs.Common.{length-append}
 use Rattle.std.specs.Prelude.{decimal, IfSome}
 use Rattle.std.specs.List.{All, AllPairs, Contains}
-use Rattle.std.specs.Int.Digits.{number_from_digits}
 use Rattle.std.proofs.Math.Seq.{drop-append_seam, take-suc}
-use Rattle.std.proofs.lemmas.Fmt.{decimal_by_steps}
-use Rattle.std.proofs.lemmas.Int.Digits.{number_push}
 use Rattle.std.proofs.lemmas.Bool.{eq-eqb, ne_eqb, eqb-true, eqb-false, lt-ltb}
-use Rattle.std.proofs.lemmas.List.{map-append, get_or_default, take_all, drop_more}
+use Rattle.std.proofs.lemmas.List.{get_or_default, take_all, drop_more}
 use Rattle.std.proofs.lemmas.List.Sums.{position_or_len_is}
 use Rattle.std.proofs.lemmas.List.Elements.{All-nil, All-cons, All-append, All-head, All-tail, Contains-get_or}
 use Rattle.std.proofs.lemmas.List.Kept.{AllPairs-from_increasing}
 use Rattle.ps_text.specs.Parts.{then_by, many, mapped}
 use Rattle.ps_text.specs.Readers.{Reads}
-use Rattle.ps_text.specs.Digits.{IsDigit, BeginsWithZero, IsPlainNumber, decimal_value}
+use Rattle.ps_text.specs.Digits.{IsDigit, BeginsWithZero, decimal_value}
 use Rattle.ps_text.proofs.Laws.{Joint}
 use Rattle.ps_text.proofs.Simple.{laws_mapped}
 use Rattle.ps_text.proofs.Exits.{reads_give, reads_mapped, reads_then}
 use Rattle.ps_text.proofs.Branches.{many_ends, many_reads}
 use Rattle.ps_text.proofs.Whole.{answers_ok}
+use Rattle.ps_text.proofs.Decimals.{number_text, plain}
 use Rattle.ps_game.specs.Games.{ParityGame, NamedGameData, IsNamedGame, vertex_count}
 use Rattle.ps_certificate.specs.declared.fault.CertCause.{CertCause}
 use Rattle.ps_certificate.specs.declared.fault.CertCause.TheVariants.{Syntax, OtherGame}
@@ -79,57 +76,6 @@ pub head_joined : (o w : List ℕ) (v : ℕ) (a b c d e f : List ℕ)
 head_joined o w v a b c d e f =
     ap (λ x. (((((x ++ b) ++ c) ++ d) ++ 10 ∷ e) ++ f) ++ 10 ∷ [])
     (append_assoc (o ++ w) (v ∷ []) a) ∙ eight_joined o w (v ∷ a) b c d (10 ∷ e) f (10 ∷ [])
-
--- ## Numbers
-
--- digits without a leading zero that write the number
-record IsNumberText (n : ℕ) (digits : List ℕ) : Type 0 where
-  some : 0 < length digits
-  all : All IsDigit digits
-  value : decimal_value digits ≡ n
-  lead : 0 < n → ¬ BeginsWithZero digits
-  short : n < 10 → length digits ≡ 1
-
-begins_more : (ds more : List ℕ) → 0 < length ds → BeginsWithZero (ds ++ more) → BeginsWithZero ds
-begins_more [] more l h = absurd (omega (arith, l))
-begins_more (d ∷ ds) more l h = h
-
-number_text : (n : ℕ) → n < 2 ^ 64 → IsNumberText n (decimal n)
-number_text n small = decimal_by_steps IsNumberText one further n small
-  where
-    one : (n : ℕ) → n < 10 → IsNumberText n ((48 + n) ∷ [])
-    one n l = record {
-      some = omega arith;
-      all = All-cons IsDigit (48 + n) [] (omega arith, omega arith) (All-nil IsDigit);
-      value = omega arith;
-      lead = λ some z. omega (arith, some, z);
-      short = λ _. refl;
-    }
-
-    further : (n : ℕ) (ds : List ℕ) → 10 ≤ n → IsNumberText (n / 10) ds → IsNumberText n (ds ++ ((48 + n % 10) ∷ []))
-    further n ds l h = record {
-      some = omega (arith, length-append ds ((48 + n % 10) ∷ []));
-      all = All-append IsDigit ds ((48 + n % 10) ∷ []) h.all
-          (All-cons IsDigit (48 + n % 10) [] (omega arith, omega arith) (All-nil IsDigit));
-      value =
-          let a = map-append (λ b. b - 48) ds ((48 + n % 10) ∷ []) in
-          let b = number_push 10 (map (λ b. b - 48) ds) (48 + n % 10 - 48) in
-          let c : decimal_value (ds ++ ((48 + n % 10) ∷ [])) ≡ decimal_value ds * 10 + (48 + n % 10 - 48) = ap
-          (λ xs. number_from_digits 10 xs) a ∙ b in
-          let d : decimal_value ds ≡ n / 10 = h.value in
-          omega (arith, c, d);
-      lead = λ some z. h.lead (omega (arith, l)) (begins_more ds ((48 + n % 10) ∷ []) h.some z);
-      short = λ s. absurd (omega (arith, s, l));
-    }
-
-plain : (n : ℕ) → n < 2 ^ 64 → IsPlainNumber (decimal n)
-plain n small =
-    let t = number_text n small in
-    ((t.some, t.all), λ long z. go n refl t long z)
-  where
-    go : (m : ℕ) → n ≡ m → IsNumberText n (decimal n) → 1 < length (decimal n) → BeginsWithZero (decimal n) → ⊥
-    go zero e t long z = omega (arith, t.short (omega (arith, e)), long)
-    go (suc m) e t long z = t.lead (omega (arith, e)) z
 
 -- ## Steps
 

@@ -1,20 +1,19 @@
 -- What the moves of a cursor read of a text, and how they fail.
-use Rattle.std.proofs.Common.{◌≡◌, ℕ, zero, suc, ◌+◌, ◌-◌, ◌*◌, ◌^◌, ◌<◌, ◌≤◌, Bool, true, false, not, cond, eqb, List}
-use Rattle.std.proofs.Common.{[], ◌∷◌, ◌++◌, length, take, drop, get_or, map, Option, None, Some, Result, Ok, Err}
-use Rattle.std.proofs.Common.{IsErrAnd, refl, sym, ap, ap₂, subst, inl, ◌∙◌, ⊎_elim, append_assoc, arith, length-append}
-use Rattle.std.specs.Prelude.{min}
+use Rattle.std.proofs.Common.{◌≡◌, ℕ, suc, ◌+◌, ◌-◌, ◌^◌, ◌<◌, ◌≤◌, Bool, true, false, not, cond, eqb, List}
+use Rattle.std.proofs.Common.{[], ◌∷◌, ◌++◌, length, take, drop, get_or, Option, None, Some, Result, Ok, Err}
+use Rattle.std.proofs.Common.{IsErrAnd, refl, sym, ap, ap₂, subst, inl, ◌∙◌, append_assoc, arith, length-append}
 use Rattle.std.specs.Option.{option_map}
-use Rattle.std.specs.List.{prefix_len}
-use Rattle.std.proofs.lemmas.Bool.{cases_Bool, eqb-true}
-use Rattle.std.proofs.lemmas.List.{take_more, map-append, take-append-drop}
-use Rattle.std.proofs.Math.Seq.{take-length}
-use Rattle.std.proofs.lemmas.Int.Digits.{number_push}
-use Rattle.std.specs.Int.Digits.{number_from_digits}
+use Rattle.std.specs.List.{prefix_len, take_while}
+use Rattle.std.specs.Char.{is_ascii_digit}
+use Rattle.std.proofs.lemmas.Bool.{eqb-true}
+use Rattle.std.proofs.lemmas.List.{take-append-drop}
 use Rattle.ps_text.specs.Answers.{Piece, Stream, Found, signs, first_of, next_of}
 use Rattle.ps_text.specs.Parts.{NoBad, give, either}
 use Rattle.ps_text.specs.Readers.{tail, Reads, Stops}
 use Rattle.ps_text.specs.Digits.{decimal_value}
 use Rattle.ps_text.proofs.Laws.{Joint}
+use Rattle.ps_text.specs.Runs.{AllOf, StopsBefore}
+use Rattle.ps_text.proofs.ByteRuns.{run_all, run_ends, run_whole}
 use Rattle.ps_text.proofs.Joined.{joint}
 use Rattle.ps_text.proofs.Simple.{same_some, none_is_some, laws_give}
 use Rattle.ps_text.proofs.Covered.{Avoids, Enters, enters_read, enters_one, enters_mapped}
@@ -26,7 +25,7 @@ use Rattle.ps_circuit.specs.declared.fault.AigCause.TheVariants.{Syntax}
 use Rattle.ps_circuit.specs.Causes.{AigFault}
 use Rattle.ps_text.specs.declared.faults.Fault.TheVariants.{Text, OutOfMemory}
 use Rattle.ps_circuit.specs.Signs.{Seen, pieces_at, ends_line, stream_of, aig_causes, Field, take_byte, byte, word}
-use Rattle.ps_circuit.specs.Signs.{AllOf, StopsBefore, is_blank, is_inner, gap, rest_of_line, newline, line_end, more}
+use Rattle.ps_circuit.specs.Signs.{is_digit, is_blank, is_inner, gap, rest_of_line, newline, line_end, more}
 use Rattle.ps_circuit.specs.Signs.{NoBadRun}
 use Rattle.ps_circuit.specs.declared.cursor.Class.{Class}
 use Rattle.ps_circuit.specs.declared.cursor.Class.TheVariants.{Digit, Blank, Inner}
@@ -114,31 +113,12 @@ pub is_empty_false : (r : List ℕ) (b : Bool) → b ≡ eqb (length r) 0 → b 
 is_empty_false [] b e f = let x : true ≡ false = sym e ∙ f in cc
 is_empty_false (x ∷ r) b e f = omega arith
 
-all_taken : (p : ℕ → Bool) (xs : List ℕ) → AllOf p (take (prefix_len p xs) xs)
-all_taken p [] = tt
-all_taken p (x ∷ xs) = ⊎_elim
-    (λ yes. let size : prefix_len p (x ∷ xs) ≡ suc (prefix_len p xs) = rw yes (omega arith) in
-    subst (λ n. AllOf p (take n (x ∷ xs))) (sym size) (yes, all_taken p xs))
-    (λ no. let size : prefix_len p (x ∷ xs) ≡ 0 = rw no refl in subst (λ n. AllOf p (take n (x ∷ xs))) (sym size) tt)
-    (cases_Bool (p x))
-
-stops_here_ended : (p : ℕ → Bool) (u : Bool) (x : ℕ) (xs : List ℕ) → p x ≡ false → StopsBefore p (ended u (x ∷ xs))
-stops_here_ended p true x xs n = n
-stops_here_ended p false x xs n = n
-
-stops_end : (p : ℕ → Bool) (u : Bool) → p 10 ≡ false → StopsBefore p (ended u [])
-stops_end p true line = line
-stops_end p false line = tt
-
-stops_ended : (p : ℕ → Bool) (u : Bool) (xs : List ℕ) → p 10 ≡ false →
-    StopsBefore p (ended u (drop (prefix_len p xs) xs))
-stops_ended p u [] line = stops_end p u line
-stops_ended p u (x ∷ xs) line = ⊎_elim
-    (λ yes. let size : prefix_len p (x ∷ xs) ≡ suc (prefix_len p xs) = rw yes (omega arith) in
-    subst (λ n. StopsBefore p (ended u (drop n (x ∷ xs)))) (sym size) (stops_ended p u xs line))
-    (λ no. let size : prefix_len p (x ∷ xs) ≡ 0 = rw no refl in
-    subst (λ n. StopsBefore p (ended u (drop n (x ∷ xs)))) (sym size) (stops_here_ended p u x xs no))
-    (cases_Bool (p x))
+stops_ended : (p : ℕ → Bool) (u : Bool) (rest : List ℕ) → p 10 ≡ false → StopsBefore p rest →
+    StopsBefore p (ended u rest)
+stops_ended p true [] line s = line
+stops_ended p false [] line s = tt
+stops_ended p true (x ∷ rest) line s = s
+stops_ended p false (x ∷ rest) line s = s
 
 ended_append : (u : Bool) (a b : List ℕ) → ended u (a ++ b) ≡ a ++ ended u b
 ended_append true a b = append_assoc a b (10 ∷ [])
@@ -156,8 +136,9 @@ passes_run p line at n rest run behind u size taken left each = record {
   end = let l : length rest ≡ length run + length behind = ap length whole ∙ length-append run behind in
       omega (arith, l, each);
   place = place_is at rest u;
-  all = subst (AllOf p) (sym (taken ∙ ap (λ k. take k rest) size)) (all_taken p rest);
-  longest = subst (λ r. StopsBefore p (ended u r)) (sym (behind_is)) (stops_ended p u rest line);
+  all = subst (AllOf p) (sym (taken ∙ ap (λ k. take k rest) size)) (run_all p rest);
+  longest = subst (λ r. StopsBefore p (ended u r)) (sym behind_is)
+      (stops_ended p u (drop (prefix_len p rest) rest) line (run_ends p rest));
 }
   where
     behind_is : behind ≡ drop (prefix_len p rest) rest
@@ -306,23 +287,16 @@ module _ (old : Stream Seen) where
 
 -- ## Values
 
-pub value_more : (ds : List ℕ) (i : ℕ) → i < length ds → decimal_value (take (i + 1) ds) ≡ decimal_value (take i ds) *
-    10 + (get_or ds i 0 - 48)
-value_more ds i l =
-    ap decimal_value (take_more ds i 0 l) ∙ ap (number_from_digits 10)
-    (map-append (λ b. b - 48) (take i ds) (get_or ds i 0 ∷ []))
-    ∙ number_push 10 (map (λ b. b - 48) (take i ds)) (get_or ds i 0 - 48)
+pub value_held : (digits : List ℕ) (v : ℕ) → AllOf is_digit digits → v < 2 ^ 64 →
+    v ≡ decimal_value (take_while is_ascii_digit digits) → v ≡ saturated (decimal_value digits)
+value_held digits v all small e =
+    let whole : v ≡ decimal_value digits = e ∙ ap decimal_value (run_whole is_ascii_digit digits all) in
+    omega (arith, whole, small)
 
-pub value_whole : (ds : List ℕ) (i v : ℕ) → length ds ≤ i → i ≤ length ds → v ≡ saturated (decimal_value (take i ds)) →
-    v ≡ saturated (decimal_value ds)
-value_whole ds i v l m e =
-    let all : i ≡ length ds = omega arith in
-    e ∙ ap (λ j. saturated (decimal_value (take j ds))) all ∙ ap (λ xs. saturated (decimal_value xs)) (take-length ds)
-
-pub all_at : (p : ℕ → Bool) (xs : List ℕ) (i : ℕ) → i < length xs → AllOf p xs → p (get_or xs i 0) ≡ true
-all_at p [] i l h = absurd (omega arith)
-all_at p (x ∷ xs) zero l h = h.0
-all_at p (x ∷ xs) (suc i) l h = all_at p xs i (omega arith) h.1
+pub value_large : (digits : List ℕ) → AllOf is_digit digits →
+    2 ^ 64 ≤ decimal_value (take_while is_ascii_digit digits) → 18446744073709551615 ≡ saturated (decimal_value digits)
+value_large digits all large =
+    omega (arith, large, ap decimal_value (run_whole is_ascii_digit digits all))
 
 pub joint_word : (b : ℕ) (bytes : List ℕ) → Joint (byte b) (λ _. word bytes)
 joint_word b bytes = joint (laws_byte b) (λ _. laws_word bytes) (λ t x y. x)
@@ -331,8 +305,3 @@ pub class_line : (k : Class) → in_class k 10 ≡ false
 class_line Digit = refl
 class_line Blank = refl
 class_line Inner = refl
-
-pub value_step : (ds : List ℕ) (i v m f r : ℕ) → i < length ds → v ≡ saturated (decimal_value (take i ds)) →
-    m ≡ min (v * 10) 18446744073709551615 → f ≡ get_or ds i 0 - 48 → r ≡ min (m + f) 18446744073709551615
-    → r ≡ saturated (decimal_value (take (i + 1) ds))
-value_step ds i v m f r l e e' e'' e''' = omega (arith, value_more ds i l)

@@ -5,6 +5,7 @@ pub mod NumberLemmas
 pub mod LineLemmas
 pub mod SymbolLemmas
 pub mod DraftLemmas
+pub mod DraftReading
 pub mod LinksLemmas
 pub mod ReadingLemmas
 pub mod WentFields

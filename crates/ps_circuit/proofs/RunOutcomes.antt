@@ -7,13 +7,15 @@ use Rattle.std.specs.List.{AllByRecursion}
 use Rattle.ps_text.specs.Answers.{first_of}
 use Rattle.ps_text.specs.Parts.{IsRead, is_cause, CleanUpTo, StopsAt}
 use Rattle.ps_text.specs.Outcomes.{Outcome, was_read, has_fault, HasOutcomes}
+use Rattle.ps_text.specs.Runs.{AllOf, StopsBefore}
+use Rattle.ps_text.proofs.ByteRuns.{all_left, all_right, same_run}
 use Rattle.ps_text.proofs.Outcomes.{Judged, bad, good, has_refusal}
 use Rattle.ps_text.proofs.Simple.{none_is_some, same_some}
 use Rattle.ps_text.proofs.Splits.{same_head}
 use Rattle.ps_circuit.specs.declared.fault.AigCause.{AigCause}
 use Rattle.ps_circuit.specs.Causes.{cause_number}
-use Rattle.ps_circuit.specs.Signs.{Seen, bytes_of, aig_causes, Field, AllOf, StopsBefore, BeginsRun, IsBadRun, run}
-use Rattle.ps_circuit.proofs.Runs.{bytes_append, all_left, all_right, same_run, laws_run}
+use Rattle.ps_circuit.specs.Signs.{Seen, bytes_of, aig_causes, Field, BeginsRun, IsBadRun, run}
+use Rattle.ps_circuit.proofs.Runs.{bytes_append, laws_run}
 
 abbrev pub Has : {V : Type 0} → Field V → Type 0
 Has part = HasOutcomes aig_causes part

@@ -7,7 +7,9 @@ use Rattle.std.proofs.Common.{Some, refl, sym, ap, ap₂, subst, ◌∙◌, arit
 use Rattle.ps_text.specs.Answers.{Begins, Piece, Stream, signs, first_of, next_of, offset_of}
 use Rattle.ps_text.specs.Parts.{is_cause, is_refusal, StopsAt, CleanUpTo}
 use Rattle.ps_text.specs.Readers.{StopsWith, Reads}
-use Rattle.ps_text.proofs.Splits.{same_head, same_tail}
+use Rattle.ps_text.proofs.Splits.{same_head}
+use Rattle.ps_text.specs.Runs.{AllOf, StopsBefore}
+use Rattle.ps_text.proofs.ByteRuns.{all_left, all_right, same_run}
 use Rattle.ps_text.proofs.Laws.{Laws}
 use Rattle.ps_text.proofs.Simple.{none_is_some, nil_is_cons}
 use Rattle.ps_text.proofs.Whole.{Own}
@@ -16,7 +18,7 @@ use Rattle.ps_circuit.specs.declared.fault.AigCause.{AigCause}
 use Rattle.ps_circuit.specs.declared.fault.AigCause.TheVariants.{Syntax, Literal, DefinedTwice, Undefined, Cyclic}
 use Rattle.ps_circuit.specs.declared.fault.AigCause.TheVariants.{UnsetLatch, Sections}
 use Rattle.ps_circuit.specs.Causes.{cause_number}
-use Rattle.ps_circuit.specs.Signs.{Seen, pieces_at, bytes_of, first_at, aig_causes, Field, AllOf, StopsBefore, IsBadRun}
+use Rattle.ps_circuit.specs.Signs.{Seen, pieces_at, bytes_of, first_at, aig_causes, Field, IsBadRun}
 use Rattle.ps_circuit.specs.Signs.{run}
 use Rattle.ps_circuit.specs.Cursors.{Passes, place_of}
 
@@ -26,26 +28,6 @@ Odd = Own aig_causes
 pub bytes_append : (a b : List Seen) → bytes_of (a ++ b) ≡ bytes_of a ++ bytes_of b
 bytes_append [] b = refl
 bytes_append (s ∷ a) b = ap (λ xs. s.byte ∷ xs) (bytes_append a b)
-
-pub all_left : (p : ℕ → Bool) (a b : List ℕ) → AllOf p (a ++ b) → AllOf p a
-all_left p [] b h = tt
-all_left p (x ∷ a) b h = (h.0, all_left p a b h.1)
-
-pub all_right : (p : ℕ → Bool) (a b : List ℕ) → AllOf p (a ++ b) → AllOf p b
-all_right p [] b h = h
-all_right p (x ∷ a) b h = all_right p a b h.1
-
--- the longest run at a place is one
-pub same_run : (p : ℕ → Bool) (a b x y : List ℕ) → a ++ x ≡ b ++ y → AllOf p a → AllOf p b → StopsBefore p x →
-    StopsBefore p y → a ≡ b
-same_run p [] [] x y e h k s t = refl
-same_run p [] (c ∷ b) x y e h k s t =
-    absurd (let f : p c ≡ false = subst (StopsBefore p) e s in let g : p c ≡ true = k.0 in cc)
-same_run p (c ∷ a) [] x y e h k s t =
-    absurd (let f : p c ≡ false = subst (StopsBefore p) (sym e) t in let g : p c ≡ true = h.0 in cc)
-same_run p (c ∷ a) (d ∷ b) x y e h k s t =
-    let head : c ≡ d = same_head c d (a ++ x) (b ++ y) e in
-    ap₂ (λ z zs. z ∷ zs) head (same_run p a b x y (same_tail c d (a ++ x) (b ++ y) e) h.1 k.1 s t)
 
 -- ## The pieces of a run
 

@@ -12,6 +12,8 @@ use Rattle.ps_text.specs.Answers.{Piece, Stream, Found, signs, first_of, next_of
 use Rattle.ps_text.specs.Parts.{NoBad, StopsAt, give, times, many}
 use Rattle.ps_text.specs.Readers.{tail, tail_of, Reads, Stops, Carries}
 use Rattle.ps_text.specs.Digits.{decimal_value}
+use Rattle.ps_text.specs.Runs.{AllOf, StopsBefore}
+use Rattle.ps_text.proofs.ByteRuns.{same_run}
 use Rattle.ps_text.proofs.Joined.{joint}
 use Rattle.ps_text.proofs.Splits.{same_head}
 use Rattle.ps_text.proofs.Simple.{same_some, none_is_some, nil_is_cons, laws_give}
@@ -26,13 +28,13 @@ use Rattle.ps_circuit.specs.declared.fault.AigCause.TheVariants.{Syntax}
 use Rattle.ps_circuit.specs.Causes.{AigFault}
 use Rattle.ps_text.specs.declared.faults.Fault.TheVariants.{Text}
 use Rattle.ps_circuit.specs.Drafts.{name_bytes}
-use Rattle.ps_circuit.specs.Signs.{Seen, pieces_at, bytes_of, aig_causes, AllOf, StopsBefore, is_digit, is_inner}
+use Rattle.ps_circuit.specs.Signs.{Seen, pieces_at, bytes_of, aig_causes, is_digit, is_inner}
 use Rattle.ps_circuit.specs.Signs.{take_byte, byte, number, rest_of_line, newline}
 use Rattle.ps_circuit.specs.Cursors.{next_byte, place_of, found_of, Passes, IsAhead, NumberIs, TellsNumber}
 use Rattle.ps_circuit.specs.Texts.{AnyNumber, Kind, OfInput, OfLatch, OfOutput, NamesData, names_of, put_names}
 use Rattle.ps_circuit.specs.Texts.{add_name, take_kind, IsBadSymbol, symbol_line, anything, comment}
 use Rattle.ps_circuit.specs.Names.{is_kind}
-use Rattle.ps_circuit.proofs.Runs.{Odd, same_run, syntax_least, stops_here}
+use Rattle.ps_circuit.proofs.Runs.{Odd, syntax_least, stops_here}
 use Rattle.ps_circuit.proofs.TextLaws.{At, byte_taken, AtKind, letter, joint_letter, symbol_number, symbol_space}
 use Rattle.ps_circuit.proofs.TextLaws.{laws_number, laws_byte, laws_rest, laws_symbol_space, laws_symbol_name}
 use Rattle.ps_circuit.proofs.TextLaws.{laws_symbol_end, laws_symbol_line, digit_space, inner_newline, laws_c_line}

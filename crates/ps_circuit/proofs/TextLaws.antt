@@ -10,6 +10,7 @@ use Rattle.ps_text.specs.Digits.{decimal_value}
 use Rattle.ps_text.proofs.Laws.{Laws, Joint, Nothing, Or, When, Apart, weaker}
 use Rattle.ps_text.proofs.Joined.{joint}
 use Rattle.ps_text.proofs.Simple.{none_is_some, Taken, BadSign, laws_give, laws_one, laws_mapped, laws_then}
+use Rattle.ps_text.proofs.Following.{laws_next, laws_tight}
 use Rattle.ps_text.proofs.Covered.{laws_either}
 use Rattle.ps_text.proofs.Repeated.{laws_many}
 use Rattle.ps_circuit.specs.declared.cursor.Number.{Number}
@@ -115,35 +116,6 @@ kind_comment t (inr (inr e)) c = omega (arith, e, c)
 
 not_odd : (A : Seen → Type 0) → Apart A Odd
 not_odd A t a o = none_is_some o.0 o.1
-
--- ## Two parts, the first of which is not empty
-
-module _ {A B : Type 0} {P : Field A} {Q : A → Field B} {First More First' More' : Seen → Type 0} where
-  -- and neither is the second
-  pub laws_next : Laws Odd P First More ⊥ → ((a : A) → Laws Odd (Q a) First' More' ⊥) → Apart More First' →
-      Laws Odd (then_by P Q) First More' ⊥
-  laws_next l r apart = weaker (laws_then l r apart) first next (λ n. n.0)
-    where
-      first : (t : Seen) → Or First (When ⊥ First') t → First t
-      first t (inl x) = x
-      first t (inr x) = absurd x.0
-
-      next : (t : Seen) → Or More' (When ⊥ More) t → More' t
-      next t (inl x) = x
-      next t (inr x) = absurd x.0
-
-module _ {A B : Type 0} {P : Field A} {Q : A → Field B} {First First' More' : Seen → Type 0} where
-  pub laws_tight : {Null : Type 0} → Laws Odd P First Nothing ⊥ → ((a : A) → Laws Odd (Q a) First' More' Null) →
-      Laws Odd (then_by P Q) First More' ⊥
-  laws_tight {Null} l r = weaker (laws_then l r (λ t x y. x)) first next (λ n. n.0)
-    where
-      first : (t : Seen) → Or First (When ⊥ First') t → First t
-      first t (inl x) = x
-      first t (inr x) = absurd x.0
-
-      next : (t : Seen) → Or More' (When Null Nothing) t → More' t
-      next t (inl x) = x
-      next t (inr x) = absurd x.1
 
 -- ## Bytes
 

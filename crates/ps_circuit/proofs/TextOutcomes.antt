@@ -9,6 +9,7 @@ use Rattle.ps_text.proofs.Outcomes.{Judged, good, bad_only, has_give, has_one, h
 use Rattle.ps_text.proofs.Outcomes.{has_times, has_many}
 use Rattle.ps_text.proofs.Decisions.{Decided, decide_as, decide_not, decide_both, decide_below, decide_in, judge_none}
 use Rattle.ps_text.proofs.Decisions.{judge_cause, judge_one, judge_as}
+use Rattle.ps_text.proofs.ByteRuns.{same_run}
 use Rattle.ps_text.proofs.Laws.{Laws}
 use Rattle.ps_text.proofs.Joined.{joint}
 use Rattle.ps_text.proofs.Simple.{none_is_some, same_some, laws_give, laws_mapped}
@@ -27,7 +28,7 @@ use Rattle.ps_circuit.specs.Texts.{WrongReset, sections, field, header, Lines, n
 use Rattle.ps_circuit.specs.Texts.{add_latch, add_output, add_gate, input_line, reset, latch_line, output_line}
 use Rattle.ps_circuit.specs.Texts.{gate_line, Kind, NamesData, names_of, take_kind, IsBadSymbol, OfInput, add_name}
 use Rattle.ps_circuit.specs.Texts.{symbol_line, anything, comment, draft_of, symbols, body, circuit_text}
-use Rattle.ps_circuit.proofs.Runs.{Odd, same_run}
+use Rattle.ps_circuit.proofs.Runs.{Odd}
 use Rattle.ps_circuit.proofs.RunOutcomes.{Has, Spanned, run_of, stops_bytes, has_run}
 use Rattle.ps_circuit.proofs.TextLaws.{AtDigit, Separates, seen, byte_taken, blank_newline, inner_newline}
 use Rattle.ps_circuit.proofs.TextLaws.{digit_separates, separates_digit, digit_space, newline_blank, laws_byte}
@@ -41,7 +42,7 @@ use Rattle.ps_circuit.proofs.TextLaws.{laws_latch_line, laws_output_line, laws_g
 use Rattle.ps_circuit.proofs.TextLaws.{laws_symbol_name, laws_symbol_space, joint_letter, laws_symbol_line, any_sign}
 use Rattle.ps_circuit.proofs.TextLaws.{laws_any_sign, laws_anything, laws_c_line, first_names, joint_symbols}
 use Rattle.ps_circuit.proofs.TextLaws.{joint_text}
-use Rattle.ps_circuit.proofs.DraftLemmas.{joint_inputs, joint_latches, joint_outputs, joint_gates}
+use Rattle.ps_circuit.proofs.DraftReading.{joint_inputs, joint_latches, joint_outputs, joint_gates}
 
 -- ## What a number is judged by
 

@@ -5,18 +5,16 @@
 --     went_number, went_field      a number, and a number behind a space
 --     went_end      the end of a line
 --     went_more, went_no_more      a further field, and none
-use Rattle.std.proofs.Common.{◌≡◌, ℕ, ◌+◌, ◌-◌, ◌*◌, ◌/◌, ◌%◌, ◌^◌, ◌<◌, ◌≤◌, Bool, true, false, ◌||◌, eqb, List, []}
-use Rattle.std.proofs.Common.{◌∷◌, ◌++◌, length, map, refl, sym, ap, subst, ◌∙◌, arith, length-append}
+use Rattle.std.proofs.Common.{◌≡◌, ℕ, ◌+◌, ◌^◌, ◌<◌, Bool, true, false, ◌||◌, eqb, List, []}
+use Rattle.std.proofs.Common.{◌∷◌, ◌++◌, length, refl, sym, ap, subst, ◌∙◌, arith}
 use Rattle.std.specs.Prelude.{decimal}
-use Rattle.std.specs.Int.Digits.{number_from_digits}
-use Rattle.std.proofs.lemmas.Fmt.{decimal_by_steps}
-use Rattle.std.proofs.lemmas.Int.Digits.{number_push}
-use Rattle.std.proofs.lemmas.List.{map-append}
-use Rattle.std.proofs.lemmas.Bool.{and_from, le-leb, eqb-true}
+use Rattle.std.proofs.lemmas.Bool.{eqb-true}
 use Rattle.ps_text.specs.Answers.{Stream, next_of}
 use Rattle.ps_text.specs.Parts.{NoBad, give, then_by, either, mapped}
 use Rattle.ps_text.specs.Readers.{Reads}
 use Rattle.ps_text.specs.Digits.{decimal_value}
+use Rattle.ps_text.specs.Runs.{AllOf, StopsBefore}
+use Rattle.ps_text.proofs.Decimals.{IsNumberText, number_text}
 use Rattle.ps_text.proofs.Laws.{Joint}
 use Rattle.ps_text.proofs.Joined.{joint}
 use Rattle.ps_text.proofs.Simple.{same_some, laws_give}
@@ -25,7 +23,7 @@ use Rattle.ps_text.proofs.Exits.{reads_give, reads_mapped, reads_then, reads_nex
 use Rattle.ps_text.proofs.Branches.{reads_as, right_otherwise, left_otherwise}
 use Rattle.ps_circuit.specs.declared.cursor.Number.{Number}
 use Rattle.ps_circuit.specs.declared.fault.AigCause.{AigCause}
-use Rattle.ps_circuit.specs.Signs.{Seen, Field, pieces_at, AllOf, StopsBefore, take_byte, byte, word, is_digit}
+use Rattle.ps_circuit.specs.Signs.{Seen, Field, pieces_at, take_byte, byte, word, is_digit}
 use Rattle.ps_circuit.specs.Signs.{is_blank, number_at, number, gap, newline, line_end, more, NoBadRun}
 use Rattle.ps_circuit.specs.Texts.{field}
 use Rattle.ps_circuit.specs.Cursors.{Passes, place_of}
@@ -89,38 +87,6 @@ place_is : (e at : ℕ) (run rest : List ℕ) → 0 < length run → at ≡ plac
 place_is e at [] rest some = absurd (omega arith)
 place_is e at (b ∷ run) rest some = refl
 
--- the digits of a number
-pub record IsNumberText (n : ℕ) (digits : List ℕ) : Type 0 where
-  pub some : 0 < length digits
-  pub all : AllOf is_digit digits
-  pub value : decimal_value digits ≡ n
-
-digit_at : (n : ℕ) → n < 10 → is_digit (48 + n) ≡ true
-digit_at n l = and_from _ _ (le-leb 48 (48 + n) (omega arith)) (le-leb (48 + n) 57 (omega arith))
-
-all_more : (p : ℕ → Bool) (a b : List ℕ) → AllOf p a → AllOf p b → AllOf p (a ++ b)
-all_more p [] b h k = k
-all_more p (x ∷ a) b h k = (h.0, all_more p a b h.1 k)
-
-pub number_text : (n : ℕ) → n < 2 ^ 64 → IsNumberText n (decimal n)
-number_text n small = decimal_by_steps IsNumberText one further n small
-  where
-    one : (n : ℕ) → n < 10 → IsNumberText n ((48 + n) ∷ [])
-    one n l = record { some = omega arith; all = (digit_at n l, tt); value = omega arith }
-
-    further : (n : ℕ) (ds : List ℕ) → 10 ≤ n → IsNumberText (n / 10) ds → IsNumberText n (ds ++ ((48 + n % 10) ∷ []))
-    further n ds l h = record {
-      some = omega (arith, length-append ds ((48 + n % 10) ∷ []));
-      all = all_more is_digit ds ((48 + n % 10) ∷ []) h.all (digit_at (n % 10) (omega arith), tt);
-      value =
-          let a = map-append (λ b. b - 48) ds ((48 + n % 10) ∷ []) in
-          let b = number_push 10 (map (λ b. b - 48) ds) (48 + n % 10 - 48) in
-          let c : decimal_value (ds ++ ((48 + n % 10) ∷ [])) ≡ decimal_value ds * 10 + (48 + n % 10 - 48) =
-          ap (λ xs. number_from_digits 10 xs) a ∙ b in
-          let d : decimal_value ds ≡ n / 10 = h.value in
-          omega (arith, c, d);
-    }
-
 -- digits are no blanks
 digit_no_blank : (b : ℕ) → is_digit b ≡ true → is_blank b ≡ false
 digit_no_blank b h = go (eqb b 32) (eqb b 9) refl refl
@@ -151,7 +117,7 @@ went_number Wrong e at n rest small good longest =
       reads =
           run_reads is_digit number_at (λ digits f. Wrong (decimal_value digits) f) (from e at (decimal n ++ rest))
           (from e (at + length (decimal n)) rest) (decimal n) (number_at at (decimal n))
-          (passes is_digit e at (decimal n) rest t.some t.all longest) t.some
+          (passes is_digit e at (decimal n) rest t.some t.pass longest) t.some
           (λ f w. good f (subst (λ z. Wrong z f) t.value w))
           (ap (λ z. number_at z (decimal n)) (place_is e at (decimal n) rest t.some));
     }
@@ -207,7 +173,7 @@ pub went_field : (Wrong : ℕ → AigCause → Type 0) (e at n : ℕ) (rest : Li
 unfolding field
 went_field Wrong e at n rest small good longest =
     let t = number_text n small in
-    went_then (joint_field Wrong) (went_space e at (decimal n ++ rest) (digits_no_blank (decimal n) rest t.some t.all))
+    went_then (joint_field Wrong) (went_space e at (decimal n ++ rest) (digits_no_blank (decimal n) rest t.some t.pass))
     (λ _ _ to. went_number Wrong e to n rest small good longest)
 
 no_blank_newline : (e at : ℕ) (rest : List ℕ) → Avoids AtBlank (next_of (from e at (10 ∷ rest)))
@@ -256,7 +222,7 @@ went_behind_gap e at n rest t = record {
   to = at;
   reads =
       reads_as (right_otherwise laws_ends_here (laws_give Odd true) (next_of (from e at (decimal n ++ rest)))
-      (avoids_digits (At 10) e at (decimal n) rest t.some t.all digit_newline) (λ n. n))
+      (avoids_digits (At 10) e at (decimal n) rest t.some t.pass digit_newline) (λ n. n))
       (reads_give (from e at (decimal n ++ rest)) true);
 }
 
@@ -267,7 +233,7 @@ unfolding more
 went_more e at n rest small =
     let t = number_text n small in
     let w =
-    went_then joint_gap_more (went_space e at (decimal n ++ rest) (digits_no_blank (decimal n) rest t.some t.all))
+    went_then joint_gap_more (went_space e at (decimal n ++ rest) (digits_no_blank (decimal n) rest t.some t.pass))
     (λ _ _ to. went_behind_gap e to n rest t) in
     record {
       value = w.value;

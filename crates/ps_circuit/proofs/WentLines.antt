@@ -7,6 +7,7 @@ use Rattle.std.proofs.Common.{refl, sym, ap, subst, inl, inr, ◌∙◌, arith, 
 use Rattle.std.specs.Prelude.{codes, decimal}
 use Rattle.std.proofs.lemmas.Bool.{eq-eqb}
 use Rattle.ps_text.specs.Parts.{give, then_by, times, mapped}
+use Rattle.ps_text.specs.Runs.{StopsBefore}
 use Rattle.ps_text.proofs.Laws.{Laws, Nothing}
 use Rattle.ps_text.proofs.Joined.{joint}
 use Rattle.ps_text.proofs.Simple.{laws_mapped}
@@ -17,7 +18,7 @@ use Rattle.ps_circuit.specs.declared.fault.AigCause.{AigCause}
 use Rattle.ps_circuit.specs.declared.parts.Latch.{Latch}
 use Rattle.ps_circuit.specs.declared.parts.Gate.{Gate}
 use Rattle.ps_circuit.specs.Circuits.{CircuitData, IsDraft}
-use Rattle.ps_circuit.specs.Signs.{Field, is_digit, StopsBefore, number, line_end, by_more}
+use Rattle.ps_circuit.specs.Signs.{Field, is_digit, number, line_end, by_more}
 use Rattle.ps_circuit.specs.Texts.{HeaderData, AnyNumber, WrongMost, WrongCount, WrongLiteral, WrongDefinition}
 use Rattle.ps_circuit.specs.Texts.{WrongReset, sections, header, Lines, add_input, add_latch, add_output, add_gate}
 use Rattle.ps_circuit.specs.Texts.{input_line, reset, latch_line, output_line, gate_line}

@@ -12,22 +12,25 @@ use Rattle.std.proofs.lemmas.List.Elements.{All-head, All-tail}
 use Rattle.ps_text.specs.Answers.{next_of}
 use Rattle.ps_text.specs.Parts.{one, many}
 use Rattle.ps_text.specs.Digits.{decimal_value}
+use Rattle.ps_text.specs.Runs.{AllOf}
+use Rattle.ps_text.proofs.ByteRuns.{same_run}
+use Rattle.ps_text.proofs.Decimals.{number_text}
 use Rattle.ps_text.proofs.Joined.{joint}
 use Rattle.ps_text.proofs.Simple.{same_some, none_is_some, laws_give}
 use Rattle.ps_text.proofs.Exits.{reads_give, reads_next}
 use Rattle.ps_text.proofs.Branches.{reads_as, right_otherwise, many_reads, many_ends}
 use Rattle.ps_circuit.specs.declared.fault.AigCause.{AigCause}
 use Rattle.ps_circuit.specs.Circuits.{IsName}
-use Rattle.ps_circuit.specs.Signs.{Seen, AllOf, is_digit, is_inner, NoBadRun, rest_of_line}
+use Rattle.ps_circuit.specs.Signs.{Seen, is_digit, is_inner, NoBadRun, rest_of_line}
 use Rattle.ps_circuit.specs.Texts.{AnyNumber, Kind, OfInput, OfLatch, OfOutput, NamesData, no_names, names_of}
 use Rattle.ps_circuit.specs.Texts.{put_names, add_name, take_kind, IsBadSymbol, symbol_line, comment}
 use Rattle.ps_circuit.specs.Written as written
 use Rattle.ps_circuit.specs.Written.{symbol_lines}
-use Rattle.ps_circuit.proofs.Runs.{Odd, same_run, run_reads}
+use Rattle.ps_circuit.proofs.Runs.{Odd, run_reads}
 use Rattle.ps_circuit.proofs.TextLaws.{letter, laws_byte, laws_number, laws_rest, laws_symbol_space, laws_symbol_name}
 use Rattle.ps_circuit.proofs.TextLaws.{laws_symbol_end, laws_symbol_line, symbol_number, joint_letter, digit_space}
 use Rattle.ps_circuit.proofs.TextLaws.{inner_newline, laws_c_line}
-use Rattle.ps_circuit.proofs.WentFields.{from, Went, went_then, went_mapped, went_as, Some_value, passes, number_text}
+use Rattle.ps_circuit.proofs.WentFields.{from, Went, went_then, went_mapped, went_as, Some_value, passes}
 use Rattle.ps_circuit.proofs.WentFields.{went_number, went_byte, went_newline}
 
 abbrev pub letter_of : Kind → ℕ
@@ -73,7 +76,7 @@ module _ (names : NamesData) (kind : Kind) (k : ℕ) (small : k < 2 ^ 64)
       { byte = letter_of kind; at = at; behind = behind_letter }) refl) in
       let digits : b.digits ≡ decimal k =
       same_run is_digit b.digits (decimal k) b.number.rest (32 ∷ (name ++ 10 ∷ rest)) (sym b.number.split)
-      b.number.all t.all b.number.longest refl in
+      b.number.all t.pass b.number.longest refl in
       b.not_free (ap (λ z. slice_get (names_of names z) (decimal_value b.digits)) same
       ∙ ap (λ z. slice_get (names_of names kind) (decimal_value z)) digits
       ∙ ap (slice_get (names_of names kind)) t.value ∙ free)

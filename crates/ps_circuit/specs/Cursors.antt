@@ -7,8 +7,9 @@ use Rattle.std.specs.Option.{option_map}
 use Rattle.ps_text.specs.Answers.{Stream, offset_of, next_of}
 use Rattle.ps_text.specs.Readers.{Meets}
 pub use Rattle.ps_text.specs.Faults.{found_of}
+use Rattle.ps_text.specs.Runs.{AllOf, StopsBefore}
 use Rattle.ps_text.specs.Digits.{decimal_value}
-use Rattle.ps_circuit.specs.Signs.{Seen, Field, pieces_at, aig_causes, AllOf, StopsBefore, is_digit, is_blank, is_inner}
+use Rattle.ps_circuit.specs.Signs.{Seen, Field, pieces_at, aig_causes, is_digit, is_blank, is_inner}
 use Rattle.ps_circuit.specs.declared.cursor.Class.{Class}
 use Rattle.ps_circuit.specs.declared.cursor.Class.TheVariants.{Digit, Blank, Inner}
 use Rattle.ps_circuit.specs.declared.cursor.Number.{Number}

@@ -7,9 +7,9 @@
 --     gap, newline, line_end, more      what stands between the fields of a line and at its end
 use Rattle.std.specs.Prelude.{◌≡◌, ℕ, ◌+◌, ◌<◌, Bool, true, false, List, [], ◌∷◌, ◌++◌, length, map, Option, None, Some}
 use Rattle.std.specs.Prelude.{◌==◌, ◌&&◌, ◌||◌, nat_le, not, if◌then◌else◌}
-use Rattle.std.specs.List.{AllByRecursion}
 use Rattle.ps_text.specs.Answers.{Piece, Stream}
 use Rattle.ps_text.specs.Parts.{Part, Causes, NoBad, give, one, then_by, either, mapped}
+use Rattle.ps_text.specs.Runs.{AllOf, StopsBefore}
 use Rattle.ps_text.specs.Digits.{decimal_value}
 use Rattle.ps_circuit.specs.Causes.{cause_number}
 use Rattle.ps_circuit.specs.declared.cursor.Number.{Number}
@@ -66,13 +66,6 @@ word [] = give tt
 word (b ∷ bytes) = then_by (byte b) (λ _. word bytes)
 
 -- ## Runs
-
-abbrev pub AllOf : (ℕ → Bool) → List ℕ → Type 0
-AllOf p bytes = AllByRecursion (λ b. p b ≡ true) bytes
-
-abbrev pub StopsBefore : (ℕ → Bool) → List ℕ → Type 0
-StopsBefore p [] = Unit {0}
-StopsBefore p (b ∷ bytes) = p b ≡ false
 
 -- the bytes begin with this run, and it goes no further
 pub record BeginsRun (p : ℕ → Bool) (run bytes : List ℕ) : Type 0 where

@@ -5,16 +5,18 @@ ghost use Rattle.std.specs.Prelude.{◌≢◌};
 ghost use Rattle.ps_text.specs.declared.faults.Fault.TheVariants as faults;
 ghost use Rattle.std.specs.List.{prefix_len};
 ghost use Rattle.ps_text.specs.Readers.{tail};
+ghost use Rattle.ps_text.specs.Runs.{AllOf};
 ghost use Rattle.ps_text.specs.Digits.{decimal_value};
 ghost use Rattle.ps_circuit.specs.Literals.{variable};
 ghost use Rattle.ps_circuit.specs.Signs as parts;
-ghost use Rattle.ps_circuit.specs.Signs.{stream_of, ends_line, is_digit, word, AllOf};
+ghost use Rattle.ps_circuit.specs.Signs.{stream_of, ends_line, is_digit, word};
 ghost use Rattle.ps_circuit.specs.Cursors.{next_byte, place_of, in_class, IsAhead, Passes, Tells, TellsNumber};
 ghost use Rattle.ps_circuit.specs.Cursors.{saturated};
 ghost use Rattle.ps_circuit.specs.declared.fault.AigCause.TheVariants.{Syntax};
 
 use crate::fault::{AigCause, AigFault};
 use crate::literal::Literal;
+use ps_text::numbers::leading_number;
 use std::marker::Model;
 
 /// A number of the text, and the offset of its first digit. A number beyond 64 bits counts as the greatest of 64 bits.
@@ -89,13 +91,10 @@ fn value_of(digits: &[u8]) -> u64
     requires { AllOf is_digit digits.now }
     ensures { result ≡ saturated (decimal_value digits.now) }
 {
-    let mut value = 0u64;
-    for digit in digits {
-        value = value
-            .saturating_mul(10)
-            .saturating_add(u64::from(*digit - b'0'));
+    match leading_number(digits) {
+        Some(number) => number.value,
+        None => u64::MAX,
     }
-    value
 }
 
 /// Whether the last byte is a newline.

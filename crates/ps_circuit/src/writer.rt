@@ -1,6 +1,6 @@
 //! Circuits written as AIGER texts.
 
-ghost use Rattle.std.specs.Prelude.{◌≡◌, ◌++◌, ◌∷◌, [], length, map, codes, decimal, OnOk, IfOk, Ok};
+ghost use Rattle.std.specs.Prelude.{◌≡◌, ◌++◌, ◌∷◌, [], length, map, codes, OnOk, IfOk, Ok};
 ghost use Rattle.ps_circuit.specs.Texts.{ReadsCircuit};
 ghost use Rattle.ps_circuit.specs.Drafts.{name_bytes};
 ghost use Rattle.ps_circuit.specs.Written.{fields, line, latch_line, literal_lines, latch_lines, gate_lines};
@@ -9,7 +9,7 @@ ghost use Rattle.ps_circuit.specs.Written.{symbol_line, symbol_lines, header_lin
 use crate::circuit::Circuit;
 use crate::literal::Literal;
 use crate::parts::{Gate, Latch};
-use itoa::Buffer;
+use ps_text::numbers::write_number;
 use std::alloc::{AllocError, Global};
 
 /// Writes a circuit as an AIGER text (AIGER 1.9, ASCII format): the header, the lines of its inputs, latches, outputs
@@ -141,11 +141,4 @@ fn write_fields(out: &mut Vec<u8>, numbers: &[u64]) -> Result<(), AllocError>
         write_number(out, number)?;
     }
     Ok(())
-}
-
-fn write_number(out: &mut Vec<u8>, number: u64) -> Result<(), AllocError>
-    ensures { OnOk result (out.new.items ≡ out.old.items ++ decimal number) }
-{
-    let mut buffer = Buffer::new();
-    out.extend_from_slice(buffer.format(number).as_bytes())
 }

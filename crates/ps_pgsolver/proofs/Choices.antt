@@ -13,7 +13,7 @@ use Rattle.ps_pgsolver.specs.GameTexts.{pg_causes, setting, keyword, keyword_in,
 use Rattle.ps_pgsolver.specs.GameTexts.{comma, comma_in, BadId, more_successor, new_id, node, entry}
 use Rattle.ps_pgsolver.specs.Heads.{is_number, is_comma, name_of}
 use Rattle.ps_pgsolver.specs.Nodes.{NodeData, ids_of}
-use Rattle.ps_pgsolver.specs.Signs.{Sign, Number, Word, Name, Comma, Semicolon, OpenName, Wrong}
+use Rattle.ps_pgsolver.specs.Signs.{Sign, Number, Word, Name, Comma}
 use Rattle.ps_pgsolver.specs.declared.fault.PgCause.{PgCause}
 use Rattle.ps_pgsolver.specs.Causes.{PgFault}
 use Rattle.ps_pgsolver.proofs.Exits.{Done, Halts, stops_right, done_then}
@@ -63,22 +63,11 @@ some_none t e = none_is_some t (sym e)
 no_name : (t : Sign) → name_of (Some t) ≡ None → IsKind 2 t → ⊥
 unfolding kind_of
 no_name (Name x) e h = some_none x e
-no_name (Number x) e h = absurd (omega (arith, h))
-no_name (Word x) e h = absurd (omega (arith, h))
-no_name Comma e h = absurd (omega (arith, h))
-no_name Semicolon e h = absurd (omega (arith, h))
-no_name OpenName e h = absurd (omega (arith, h))
-no_name Wrong e h = absurd (omega (arith, h))
+no_name _ e h = absurd (omega (arith, h))
 
 named : (o : Option Sign) (inner : List ℕ) → name_of o ≡ Some inner → o ≡ Some (Name inner)
-named None inner e = absurd (none_is_some inner e)
 named (Some (Name x)) inner e = ap (λ z. Some (Name z)) (same_some x inner e)
-named (Some (Number x)) inner e = absurd (none_is_some inner e)
-named (Some (Word x)) inner e = absurd (none_is_some inner e)
-named (Some Comma) inner e = absurd (none_is_some inner e)
-named (Some Semicolon) inner e = absurd (none_is_some inner e)
-named (Some OpenName) inner e = absurd (none_is_some inner e)
-named (Some Wrong) inner e = absurd (none_is_some inner e)
+named _ inner e = absurd (none_is_some inner e)
 
 pub name_none : (old : Stream Sign) → name_of (next_of old) ≡ None → Done name old None old
 unfolding name
@@ -99,23 +88,12 @@ name_done old new inner e n =
 
 comma_is : (o : Option Sign) → is_comma o ≡ true → o ≡ Some Comma
 comma_is (Some Comma) e = refl
-comma_is None e = let x : false ≡ true = e in cc
-comma_is (Some (Number x)) e = let y : false ≡ true = e in cc
-comma_is (Some (Word x)) e = let y : false ≡ true = e in cc
-comma_is (Some (Name x)) e = let y : false ≡ true = e in cc
-comma_is (Some Semicolon) e = let y : false ≡ true = e in cc
-comma_is (Some OpenName) e = let y : false ≡ true = e in cc
-comma_is (Some Wrong) e = let y : false ≡ true = e in cc
+comma_is _ e = let y : false ≡ true = e in cc
 
 no_comma : (t : Sign) → is_comma (Some t) ≡ false → IsKind 3 t → ⊥
 unfolding kind_of
 no_comma Comma e h = let y : true ≡ false = e in cc
-no_comma (Number x) e h = absurd (omega (arith, h))
-no_comma (Word x) e h = absurd (omega (arith, h))
-no_comma (Name x) e h = absurd (omega (arith, h))
-no_comma Semicolon e h = absurd (omega (arith, h))
-no_comma OpenName e h = absurd (omega (arith, h))
-no_comma Wrong e h = absurd (omega (arith, h))
+no_comma _ e h = absurd (omega (arith, h))
 
 pub comma_avoided : (old : Stream Sign) → is_comma (next_of old) ≡ false → Avoids (IsKind 3) (next_of old)
 comma_avoided old e t h k = no_comma t (sym (ap is_comma h) ∙ e) k
@@ -130,23 +108,12 @@ comma_entered known list old e =
 
 number_is : (o : Option Sign) → is_number o ≡ true → (n : ℕ) × (o ≡ Some (Number n))
 number_is (Some (Number x)) e = (x, refl)
-number_is None e = let x : false ≡ true = e in cc
-number_is (Some (Word x)) e = let y : false ≡ true = e in cc
-number_is (Some (Name x)) e = let y : false ≡ true = e in cc
-number_is (Some Comma) e = let y : false ≡ true = e in cc
-number_is (Some Semicolon) e = let y : false ≡ true = e in cc
-number_is (Some OpenName) e = let y : false ≡ true = e in cc
-number_is (Some Wrong) e = let y : false ≡ true = e in cc
+number_is _ e = let y : false ≡ true = e in cc
 
 no_number : (t : Sign) → is_number (Some t) ≡ false → IsKind 0 t → ⊥
 unfolding kind_of
 no_number (Number x) e h = let y : true ≡ false = e in cc
-no_number (Word x) e h = absurd (omega (arith, h))
-no_number (Name x) e h = absurd (omega (arith, h))
-no_number Comma e h = absurd (omega (arith, h))
-no_number Semicolon e h = absurd (omega (arith, h))
-no_number OpenName e h = absurd (omega (arith, h))
-no_number Wrong e h = absurd (omega (arith, h))
+no_number _ e h = absurd (omega (arith, h))
 
 pub number_avoided : (old : Stream Sign) → is_number (next_of old) ≡ false → Avoids (IsKind 0) (next_of old)
 number_avoided old e t h k = no_number t (sym (ap is_number h) ∙ e) k

@@ -1,17 +1,12 @@
 -- Numbers of so few digits that a word holds each.
-use Rattle.std.proofs.Common.{◌≡◌, ℕ, ◌+◌, ◌-◌, ◌*◌, ◌^◌, ◌<◌, ◌≤◌, true, false, leb, ap, ◌∙◌, add-one, arith, lit<}
+use Rattle.std.proofs.Common.{◌≡◌, ℕ, ◌+◌, ◌-◌, ◌*◌, ◌^◌, ◌<◌, ◌≤◌, true, ap, ◌∙◌, add-one, arith, lit<}
 use Rattle.std.proofs.Math.Nat.{pow-suc, pow-le-pow_right}
-use Rattle.std.proofs.lemmas.Bool.{leb-true}
-use Rattle.std.specs.Prelude.{◌&&◌, Bool}
 use Rattle.std.specs.Char.{is_ascii_digit}
-
-both : (a b : Bool) → (a && b) ≡ true → b ≡ true
-both true b e = e
-both false b e = absurd (let x : false ≡ true = e in cc)
+use Rattle.ps_text.proofs.Decimals.{digit_is}
 
 -- a digit writes at most 9
 pub digit_small : (b : ℕ) → is_ascii_digit b ≡ true → b - 48 ≤ 9
-digit_small b e = omega (arith, leb-true b 57 (both (leb 48 b) (leb b 57) e))
+digit_small b e = let d = digit_is b e in omega (arith, d.1)
 
 pub few_small : (value digits : ℕ) → value < 10 ^ digits → digits < 18 → value < 100000000000000000
 few_small value digits l d =

@@ -1,6 +1,6 @@
 -- The tokens of a game text are those that the lexer finds, and no others.
 use Rattle.std.proofs.Common.{◌≡◌, ℕ, zero, suc, ◌+◌, ◌-◌, ◌<◌, ◌≤◌, Bool, true, false, cond, eqb, List, [], ◌∷◌, ◌++◌}
-use Rattle.std.proofs.Common.{length, get_or, take, drop, refl, sym, ap, subst, ◌∙◌, ⊎_elim, arith, append_assoc}
+use Rattle.std.proofs.Common.{length, get_or, take, drop, refl, sym, ap, subst, ◌∙◌, arith, append_assoc}
 use Rattle.std.proofs.Common.{append-nil, length-append}
 use Rattle.std.specs.List.{prefix_len, take_while}
 use Rattle.std.proofs.lemmas.List.{take_more, drop_all, length-drop}
@@ -8,45 +8,24 @@ use Rattle.std.proofs.Math.Seq.{take-append_seam}
 use Rattle.std.proofs.lemmas.List.Folds.{length-prefix_len}
 use Rattle.std.proofs.lemmas.List.Sums.{prefix_len_stops}
 use Rattle.std.proofs.Common.{ne_eqb, lt-ltb, le-ltb, take-append-drop}
-use Rattle.std.proofs.lemmas.Bool.{cases_Bool, ltb-true, ltb-false, eqb-true, eqb-false}
+use Rattle.std.proofs.lemmas.Bool.{ltb-true, ltb-false, eqb-true, eqb-false}
 use Rattle.ps_text.proofs.Splits.{same_split}
 use Rattle.ps_text.specs.Answers.{Stream}
 use Rattle.ps_text.specs.Digits.{decimal_value}
+use Rattle.ps_text.specs.Runs.{AllOf, StopsBefore}
 use Rattle.ps_text.specs.Tokens.{NextToken, TokensFrom, TokensDiffer}
+use Rattle.ps_text.proofs.ByteRuns.{run_len, run_all, run_ends}
 use Rattle.ps_text.proofs.OneTokenisation.{has_one_tokenisation}
 use Rattle.ps_pgsolver.specs.Bytes.{is_blank, is_digit, is_letter, is_inner, ends_in}
 use Rattle.ps_pgsolver.specs.Signs.{Sign, Number, Word, Name, Comma, Semicolon, OpenName, Wrong}
 use Rattle.ps_pgsolver.specs.Lexer.{lex, first_sign, first_size, number_sign, word_sign, name_sign, name_size}
 use Rattle.ps_pgsolver.specs.Lexer.{mark_sign, is_closed, stream_of}
-use Rattle.ps_pgsolver.specs.GameTokens.{AllOf, StopsBefore, IsRun, number_behind_word, word_behind_number, stray}
+use Rattle.ps_pgsolver.specs.GameTokens.{IsRun, number_behind_word, word_behind_number, stray}
 use Rattle.ps_pgsolver.specs.GameTokens.{IsToken, AreGameTokens}
 use Rattle.ps_pgsolver.proofs.TokenLemmas.{at_digit, at_letter, at_quote, at_mark, lex-blanks, lex-first, lex-end}
 use Rattle.ps_pgsolver.proofs.TokenLemmas.{prefix_len-behind, first_size-positive}
 
 -- ## Runs
-
-run_len : (p : ℕ → Bool) (text rest : List ℕ) → AllOf p text → StopsBefore p rest →
-    prefix_len p (text ++ rest) ≡ length text
-run_len p [] [] a s = refl
-run_len p [] (b ∷ bs) a s = rw s refl
-run_len p (b ∷ text) rest a s =
-    let ih : prefix_len p (text ++ rest) ≡ length text = run_len p text rest a.1 s in rw a.0 (omega (arith, ih))
-
-run_all : (p : ℕ → Bool) (w : List ℕ) → AllOf p (take (prefix_len p w) w)
-run_all p [] = tt
-run_all p (b ∷ bs) = ⊎_elim
-    (λ yes. let size : prefix_len p (b ∷ bs) ≡ suc (prefix_len p bs) = rw yes (omega arith) in
-    rw size (yes, run_all p bs))
-    (λ no. let size : prefix_len p (b ∷ bs) ≡ 0 = rw no refl in rw size tt)
-    (cases_Bool (p b))
-
-stops_at_zero : (p : ℕ → Bool) (w : List ℕ) → prefix_len p w ≡ 0 → StopsBefore p w
-stops_at_zero p [] e = tt
-stops_at_zero p (b ∷ bs) e = ⊎_elim
-    (λ yes. absurd (let size : prefix_len p (b ∷ bs) ≡ suc (prefix_len p bs) = rw yes (omega arith) in
-    omega (arith, size, e)))
-    (λ no. no)
-    (cases_Bool (p b))
 
 first_run : (p : ℕ → Bool) (b : ℕ) (bs : List ℕ) → p b ≡ true →
     IsRun p (take (prefix_len p (b ∷ bs)) (b ∷ bs)) (drop (prefix_len p (b ∷ bs)) (b ∷ bs))
@@ -54,7 +33,7 @@ first_run p b bs h = record {
   some = let size : prefix_len p (b ∷ bs) ≡ suc (prefix_len p bs) = rw h (omega arith) in
       omega (arith, size, length-prefix_len p (b ∷ bs));
   all = run_all p (b ∷ bs);
-  longest = stops_at_zero p (drop (prefix_len p (b ∷ bs)) (b ∷ bs)) (prefix_len-behind p (b ∷ bs));
+  longest = run_ends p (b ∷ bs);
 }
 
 -- ## Classes of bytes
@@ -375,7 +354,7 @@ step before w ih = go (drop n w) refl
           rest = drop s (b ∷ bs);
           split = sym (take-append-drop n w) ∙ ap (λ z. take n w ++ z) (e ∙ sym (take-append-drop s (b ∷ bs)));
           are_blanks = run_all is_blank w;
-          is_token = found front b bs (stops_at_zero is_blank (b ∷ bs) zero_blanks);
+          is_token = found front b bs (subst (StopsBefore is_blank) e (run_ends is_blank w));
           start = refl;
         }
 

@@ -1,6 +1,6 @@
 -- The sign that comes next, by the first byte that is no blank.
 use Rattle.std.proofs.Common.{◌≡◌, ℕ, ◌+◌, Bool, true, false, eqb, List, [], ◌∷◌, take, drop, Option, Some, None, refl}
-use Rattle.std.proofs.Common.{sym, ap, ◌∙◌, ⊎_elim, arith}
+use Rattle.std.proofs.Common.{cond, sym, ap, ◌∙◌, ⊎_elim, arith}
 use Rattle.std.proofs.lemmas.List.{drop-drop}
 use Rattle.std.proofs.lemmas.Bool.{cases_Bool, eqb-true}
 use Rattle.std.specs.Prelude.{not, ◌&&◌}
@@ -10,7 +10,7 @@ use Rattle.ps_pgsolver.specs.Bytes.{is_blank, is_digit, is_letter, begins_in, en
 use Rattle.ps_pgsolver.specs.Heads.{is_number, is_comma, name_of}
 use Rattle.ps_pgsolver.specs.Lexer.{lex, first_sign, number_sign, word_sign, name_sign, mark_sign, is_closed}
 use Rattle.ps_pgsolver.specs.Lexer.{stream_from}
-use Rattle.ps_pgsolver.specs.Signs.{Sign}
+use Rattle.ps_pgsolver.specs.Signs.{Sign, Number, Comma, Semicolon, Wrong}
 use Rattle.ps_pgsolver.proofs.TokenLemmas.{stream_from-blanks, prefix_len-behind, lex-first, lex-end}
 
 -- the sign that begins a text, if there is one
@@ -71,23 +71,22 @@ by_class P before b bs number word name mark = ⊎_elim
     (cases_Bool (is_letter b)))
     (cases_Bool (is_digit b))
 
-number_number : (before text : List ℕ) → is_number (Some (number_sign before text)) ≡ not (ends_in is_letter before)
-number_number before text = ⊎_elim (λ (e : ends_in is_letter before ≡ true). rw e refl)
-    (λ (e : ends_in is_letter before ≡ false). rw e refl) (cases_Bool (ends_in is_letter before))
+-- what holds of both signs holds of the one that a test chooses
+of_both : {X : Type 0} {x : X} {a b : Sign} (f : Sign → X) (t : Bool) → f a ≡ x → f b ≡ x → f (cond t a b) ≡ x
+of_both f true p q = p
+of_both f false p q = q
 
-word_number : (before text : List ℕ) → is_number (Some (word_sign before text)) ≡ false
-word_number before text = ⊎_elim (λ (e : ends_in is_digit before ≡ true). rw e refl)
-    (λ (e : ends_in is_digit before ≡ false). rw e refl) (cases_Bool (ends_in is_digit before))
+of_marks : {X : Type 0} {x : X} (f : Sign → X) (b : ℕ) → f Comma ≡ x → f Semicolon ≡ x → f Wrong ≡ x →
+    f (mark_sign b) ≡ x
+of_marks f b p q r = of_both f (eqb b 44) p (of_both f (eqb b 59) q r)
 
-name_number : (bs : List ℕ) → is_number (Some (name_sign bs)) ≡ false
-name_number bs = ⊎_elim (λ (e : is_closed bs ≡ true). rw e refl) (λ (e : is_closed bs ≡ false). rw e refl)
-    (cases_Bool (is_closed bs))
+number_number : (t : Bool) (n : ℕ) → is_number (Some (cond t Wrong (Number n))) ≡ not t
+number_number true n = refl
+number_number false n = refl
 
-mark_number : (b : ℕ) → is_number (Some (mark_sign b)) ≡ false
-mark_number b = ⊎_elim (λ (e : eqb b 44 ≡ true). rw e refl)
-    (λ (e : eqb b 44 ≡ false). ⊎_elim (λ (f : eqb b 59 ≡ true). rw (e, f) refl)
-    (λ (f : eqb b 59 ≡ false). rw (e, f) refl) (cases_Bool (eqb b 59)))
-    (cases_Bool (eqb b 44))
+mark_comma : (s t : Bool) → is_comma (Some (cond s Comma (cond t Semicolon Wrong))) ≡ s
+mark_comma true t = refl
+mark_comma false t = of_both (λ sign. is_comma (Some sign)) t refl refl
 
 -- a number comes next where a digit does, and no letter stands directly before it
 pub at_number : (before rest : List ℕ) →
@@ -95,28 +94,17 @@ pub at_number : (before rest : List ℕ) →
 at_number before [] = refl
 at_number before (b ∷ bs) = by_class (λ sign. is_number (Some sign) ≡ is_digit b && not (ends_in is_letter before))
     before b bs
-    (λ d. number_number before (b ∷ bs) ∙ sym (ap (λ t. t && not (ends_in is_letter before)) d))
-    (λ d l. word_number before (b ∷ bs) ∙ sym (ap (λ t. t && not (ends_in is_letter before)) d))
-    (λ d q. name_number bs ∙ sym (ap (λ t. t && not (ends_in is_letter before)) d))
-    (λ d q. mark_number b ∙ sym (ap (λ t. t && not (ends_in is_letter before)) d))
+    (λ d. number_number (ends_in is_letter before) _ ∙ other d)
+    (λ d l. of_both is (ends_in is_digit before) refl refl ∙ other d)
+    (λ d q. of_both is (is_closed bs) refl refl ∙ other d)
+    (λ d q. of_marks is b refl refl refl ∙ other d)
+  where
+    is : Sign → Bool
+    is sign = is_number (Some sign)
 
-number_comma : (before text : List ℕ) → is_comma (Some (number_sign before text)) ≡ false
-number_comma before text = ⊎_elim (λ (e : ends_in is_letter before ≡ true). rw e refl)
-    (λ (e : ends_in is_letter before ≡ false). rw e refl) (cases_Bool (ends_in is_letter before))
-
-word_comma : (before text : List ℕ) → is_comma (Some (word_sign before text)) ≡ false
-word_comma before text = ⊎_elim (λ (e : ends_in is_digit before ≡ true). rw e refl)
-    (λ (e : ends_in is_digit before ≡ false). rw e refl) (cases_Bool (ends_in is_digit before))
-
-name_comma : (bs : List ℕ) → is_comma (Some (name_sign bs)) ≡ false
-name_comma bs = ⊎_elim (λ (e : is_closed bs ≡ true). rw e refl) (λ (e : is_closed bs ≡ false). rw e refl)
-    (cases_Bool (is_closed bs))
-
-mark_comma : (b : ℕ) → is_comma (Some (mark_sign b)) ≡ eqb b 44
-mark_comma b = ⊎_elim (λ (e : eqb b 44 ≡ true). rw e refl)
-    (λ (e : eqb b 44 ≡ false). ⊎_elim (λ (f : eqb b 59 ≡ true). rw (e, f) refl)
-    (λ (f : eqb b 59 ≡ false). rw (e, f) refl) (cases_Bool (eqb b 59)))
-    (cases_Bool (eqb b 44))
+    other : {t : Bool} → is_digit b ≡ t → (t && not (ends_in is_letter before)) ≡ (is_digit b && not
+        (ends_in is_letter before))
+    other d = sym (ap (λ t. t && not (ends_in is_letter before)) d)
 
 no_comma_where : (b : ℕ) (p : ℕ → Bool) → p 44 ≡ false → p b ≡ true → eqb b 44 ≡ false
 no_comma_where b p fails passes = ⊎_elim
@@ -128,31 +116,20 @@ no_comma_where b p fails passes = ⊎_elim
 pub at_comma : (before rest : List ℕ) → is_comma (head_sign before rest) ≡ begins_in (λ b. eqb b 44) rest
 at_comma before [] = refl
 at_comma before (b ∷ bs) = by_class (λ sign. is_comma (Some sign) ≡ eqb b 44) before b bs
-    (λ d. number_comma before (b ∷ bs) ∙ sym (no_comma_where b is_digit refl d))
-    (λ d l. word_comma before (b ∷ bs) ∙ sym (no_comma_where b is_letter refl l))
-    (λ d q. name_comma bs ∙ sym (no_comma_where b (λ x. eqb x 34) refl q))
-    (λ d q. mark_comma b)
-
-number_name : (before text : List ℕ) → name_of (Some (number_sign before text)) ≡ None
-number_name before text = ⊎_elim (λ (e : ends_in is_letter before ≡ true). rw e refl)
-    (λ (e : ends_in is_letter before ≡ false). rw e refl) (cases_Bool (ends_in is_letter before))
-
-word_name : (before text : List ℕ) → name_of (Some (word_sign before text)) ≡ None
-word_name before text = ⊎_elim (λ (e : ends_in is_digit before ≡ true). rw e refl)
-    (λ (e : ends_in is_digit before ≡ false). rw e refl) (cases_Bool (ends_in is_digit before))
-
-mark_name : (b : ℕ) → name_of (Some (mark_sign b)) ≡ None
-mark_name b = ⊎_elim (λ (e : eqb b 44 ≡ true). rw e refl)
-    (λ (e : eqb b 44 ≡ false). ⊎_elim (λ (f : eqb b 59 ≡ true). rw (e, f) refl)
-    (λ (f : eqb b 59 ≡ false). rw (e, f) refl) (cases_Bool (eqb b 59)))
-    (cases_Bool (eqb b 44))
+    (λ d. of_both is (ends_in is_letter before) refl refl ∙ sym (no_comma_where b is_digit refl d))
+    (λ d l. of_both is (ends_in is_digit before) refl refl ∙ sym (no_comma_where b is_letter refl l))
+    (λ d q. of_both is (is_closed bs) refl refl ∙ sym (no_comma_where b (λ x. eqb x 34) refl q))
+    (λ d q. mark_comma (eqb b 44) (eqb b 59))
+  where
+    is : Sign → Bool
+    is sign = is_comma (Some sign)
 
 -- no name comes next where no quote does
 pub at_no_name : (before rest : List ℕ) → begins_in (λ b. eqb b 34) rest ≡ false →
     name_of (head_sign before rest) ≡ None
 at_no_name before [] none = refl
 at_no_name before (b ∷ bs) none = by_class (λ sign. name_of (Some sign) ≡ None) before b bs
-    (λ d. number_name before (b ∷ bs))
-    (λ d l. word_name before (b ∷ bs))
+    (λ d. of_both (λ sign. name_of (Some sign)) (ends_in is_letter before) refl refl)
+    (λ d l. of_both (λ sign. name_of (Some sign)) (ends_in is_digit before) refl refl)
     (λ d q. let x : true ≡ false = sym q ∙ none in cc)
-    (λ d q. mark_name b)
+    (λ d q. of_marks (λ sign. name_of (Some sign)) b refl refl refl)

@@ -9,6 +9,7 @@ use Rattle.ps_text.specs.Parts.{Part, one, give, then_by, many, mapped, NoBad}
 use Rattle.ps_text.proofs.Laws.{Laws, Joint, Nothing, Or, When, Within, Apart, weaker}
 use Rattle.ps_text.proofs.Joined.{joint}
 use Rattle.ps_text.proofs.Simple.{Taken, BadSign, none_is_some, laws_one, laws_give, laws_mapped, laws_then}
+use Rattle.ps_text.proofs.Following.{laws_next}
 use Rattle.ps_text.proofs.Covered.{laws_either}
 use Rattle.ps_text.proofs.Repeated.{laws_many}
 use Rattle.ps_text.proofs.Whole.{Own}
@@ -51,118 +52,48 @@ kinds_apart i j d t h k = d (sym h ∙ k)
 same : (A : Sign → Type 0) → Within A A
 same A t h = h
 
-first_number : Within (Or (Taken number_in) (BadSign {F = PgCause} (BadNumber))) (IsKind 0)
+first_number : Within (Or (Taken number_in) (BadSign {F = PgCause} BadNumber)) (IsKind 0)
 unfolding kind_of
 first_number (Number x) h = refl
-first_number (Word x) (inl h) = absurd (none_is_some h.0 h.1)
-first_number (Word x) (inr h) = absurd h.1
-first_number (Name x) (inl h) = absurd (none_is_some h.0 h.1)
-first_number (Name x) (inr h) = absurd h.1
-first_number Comma (inl h) = absurd (none_is_some h.0 h.1)
-first_number Comma (inr h) = absurd h.1
-first_number Semicolon (inl h) = absurd (none_is_some h.0 h.1)
-first_number Semicolon (inr h) = absurd h.1
-first_number OpenName (inl h) = absurd (none_is_some h.0 h.1)
-first_number OpenName (inr h) = absurd h.1
-first_number Wrong (inl h) = absurd (none_is_some h.0 h.1)
-first_number Wrong (inr h) = absurd h.1
+first_number _ (inl h) = absurd (none_is_some h.0 h.1)
+first_number _ (inr h) = absurd h.1
 
 first_id : (ids : List ℕ) → Within (Or (Taken number_in) (BadSign {F = PgCause} (BadId ids))) (IsKind 0)
 unfolding kind_of
-first_id z (Number x) h = refl
-first_id z (Word x) (inl h) = absurd (none_is_some h.0 h.1)
-first_id z (Word x) (inr h) = absurd h.1
-first_id z (Name x) (inl h) = absurd (none_is_some h.0 h.1)
-first_id z (Name x) (inr h) = absurd h.1
-first_id z Comma (inl h) = absurd (none_is_some h.0 h.1)
-first_id z Comma (inr h) = absurd h.1
-first_id z Semicolon (inl h) = absurd (none_is_some h.0 h.1)
-first_id z Semicolon (inr h) = absurd h.1
-first_id z OpenName (inl h) = absurd (none_is_some h.0 h.1)
-first_id z OpenName (inr h) = absurd h.1
-first_id z Wrong (inl h) = absurd (none_is_some h.0 h.1)
-first_id z Wrong (inr h) = absurd h.1
+first_id ids (Number x) h = refl
+first_id ids _ (inl h) = absurd (none_is_some h.0 h.1)
+first_id ids _ (inr h) = absurd h.1
 
-first_owner : Within (Or (Taken number_in) (BadSign {F = PgCause} (BadOwner))) (IsKind 0)
+first_owner : Within (Or (Taken number_in) (BadSign {F = PgCause} BadOwner)) (IsKind 0)
 unfolding kind_of
 first_owner (Number x) h = refl
-first_owner (Word x) (inl h) = absurd (none_is_some h.0 h.1)
-first_owner (Word x) (inr h) = absurd h.1
-first_owner (Name x) (inl h) = absurd (none_is_some h.0 h.1)
-first_owner (Name x) (inr h) = absurd h.1
-first_owner Comma (inl h) = absurd (none_is_some h.0 h.1)
-first_owner Comma (inr h) = absurd h.1
-first_owner Semicolon (inl h) = absurd (none_is_some h.0 h.1)
-first_owner Semicolon (inr h) = absurd h.1
-first_owner OpenName (inl h) = absurd (none_is_some h.0 h.1)
-first_owner OpenName (inr h) = absurd h.1
-first_owner Wrong (inl h) = absurd (none_is_some h.0 h.1)
-first_owner Wrong (inr h) = absurd h.1
+first_owner _ (inl h) = absurd (none_is_some h.0 h.1)
+first_owner _ (inr h) = absurd h.1
 
 first_more : (known : Option (List ℕ)) → Within (Or (Taken number_in) (BadSign {F = PgCause} (BadSuccessor known)))
     (IsKind 0)
 unfolding kind_of
-first_more z (Number x) h = refl
-first_more z (Word x) (inl h) = absurd (none_is_some h.0 h.1)
-first_more z (Word x) (inr h) = absurd h.1
-first_more z (Name x) (inl h) = absurd (none_is_some h.0 h.1)
-first_more z (Name x) (inr h) = absurd h.1
-first_more z Comma (inl h) = absurd (none_is_some h.0 h.1)
-first_more z Comma (inr h) = absurd h.1
-first_more z Semicolon (inl h) = absurd (none_is_some h.0 h.1)
-first_more z Semicolon (inr h) = absurd h.1
-first_more z OpenName (inl h) = absurd (none_is_some h.0 h.1)
-first_more z OpenName (inr h) = absurd h.1
-first_more z Wrong (inl h) = absurd (none_is_some h.0 h.1)
-first_more z Wrong (inr h) = absurd h.1
+first_more known (Number x) h = refl
+first_more known _ (inl h) = absurd (none_is_some h.0 h.1)
+first_more known _ (inr h) = absurd h.1
 
-first_comma : Within (Or (Taken comma_in) (BadSign {F = PgCause} (NoBad))) (IsKind 3)
+first_comma : Within (Or (Taken comma_in) (BadSign {F = PgCause} NoBad)) (IsKind 3)
 unfolding kind_of
-first_comma (Number x) (inl h) = absurd (none_is_some h.0 h.1)
-first_comma (Number x) (inr h) = absurd h.1
-first_comma (Word x) (inl h) = absurd (none_is_some h.0 h.1)
-first_comma (Word x) (inr h) = absurd h.1
-first_comma (Name x) (inl h) = absurd (none_is_some h.0 h.1)
-first_comma (Name x) (inr h) = absurd h.1
 first_comma Comma h = refl
-first_comma Semicolon (inl h) = absurd (none_is_some h.0 h.1)
-first_comma Semicolon (inr h) = absurd h.1
-first_comma OpenName (inl h) = absurd (none_is_some h.0 h.1)
-first_comma OpenName (inr h) = absurd h.1
-first_comma Wrong (inl h) = absurd (none_is_some h.0 h.1)
-first_comma Wrong (inr h) = absurd h.1
+first_comma _ (inl h) = absurd (none_is_some h.0 h.1)
+first_comma _ (inr h) = absurd h.1
 
-first_semicolon : Within (Or (Taken semicolon_in) (BadSign {F = PgCause} (NoBad))) (IsKind 4)
+first_semicolon : Within (Or (Taken semicolon_in) (BadSign {F = PgCause} NoBad)) (IsKind 4)
 unfolding kind_of
-first_semicolon (Number x) (inl h) = absurd (none_is_some h.0 h.1)
-first_semicolon (Number x) (inr h) = absurd h.1
-first_semicolon (Word x) (inl h) = absurd (none_is_some h.0 h.1)
-first_semicolon (Word x) (inr h) = absurd h.1
-first_semicolon (Name x) (inl h) = absurd (none_is_some h.0 h.1)
-first_semicolon (Name x) (inr h) = absurd h.1
-first_semicolon Comma (inl h) = absurd (none_is_some h.0 h.1)
-first_semicolon Comma (inr h) = absurd h.1
 first_semicolon Semicolon h = refl
-first_semicolon OpenName (inl h) = absurd (none_is_some h.0 h.1)
-first_semicolon OpenName (inr h) = absurd h.1
-first_semicolon Wrong (inl h) = absurd (none_is_some h.0 h.1)
-first_semicolon Wrong (inr h) = absurd h.1
+first_semicolon _ (inl h) = absurd (none_is_some h.0 h.1)
+first_semicolon _ (inr h) = absurd h.1
 
-first_name : Within (Or (Taken name_in) (BadSign {F = PgCause} (NoBad))) (IsKind 2)
+first_name : Within (Or (Taken name_in) (BadSign {F = PgCause} NoBad)) (IsKind 2)
 unfolding kind_of
-first_name (Number x) (inl h) = absurd (none_is_some h.0 h.1)
-first_name (Number x) (inr h) = absurd h.1
-first_name (Word x) (inl h) = absurd (none_is_some h.0 h.1)
-first_name (Word x) (inr h) = absurd h.1
 first_name (Name x) h = refl
-first_name Comma (inl h) = absurd (none_is_some h.0 h.1)
-first_name Comma (inr h) = absurd h.1
-first_name Semicolon (inl h) = absurd (none_is_some h.0 h.1)
-first_name Semicolon (inr h) = absurd h.1
-first_name OpenName (inl h) = absurd (none_is_some h.0 h.1)
-first_name OpenName (inr h) = absurd h.1
-first_name Wrong (inl h) = absurd (none_is_some h.0 h.1)
-first_name Wrong (inr h) = absurd h.1
+first_name _ (inl h) = absurd (none_is_some h.0 h.1)
+first_name _ (inr h) = absurd h.1
 
 pub laws_number : Laws Odd number (IsKind 0) Nothing ⊥
 unfolding number
@@ -213,10 +144,6 @@ first_of_two : (A B : Sign → Type 0) (t : Sign) → Or A (When ⊥ B) t → A 
 first_of_two A B t (inl h) = h
 first_of_two A B t (inr h) = absurd h.0
 
-more_of_two : (A B : Sign → Type 0) (t : Sign) → Or A (When ⊥ B) t → A t
-more_of_two A B t (inl h) = h
-more_of_two A B t (inr h) = absurd h.0
-
 module _ (known : Option (List ℕ)) where
   abbrev pub another : List ℕ → Part Sign (List ℕ) PgCause
   another list = mapped (λ n. list ++ n ∷ []) (successor known)
@@ -229,9 +156,7 @@ module _ (known : Option (List ℕ)) where
 
   pub laws_more : (list : List ℕ) → Laws Odd (more_successor known list) (IsKind 3) Nothing ⊥
   unfolding more_successor
-  laws_more list =
-      weaker (laws_then laws_comma (λ _. laws_another list) (nothing_apart _)) (first_of_two _ _)
-      (more_of_two _ _) (λ h. h.0)
+  laws_more list = laws_next laws_comma (λ _. laws_another list) (nothing_apart _)
 
   abbrev pub all_more : ℕ → Part Sign (List ℕ) PgCause
   all_more n = many (more_successor known) (n ∷ [])
@@ -313,7 +238,7 @@ module _ (known : Option (List ℕ)) (ids : List ℕ) where
       Laws Odd (from_name id priority owner' list) NodeEnd Nothing ⊥
   laws_from_name id priority owner' list =
       weaker (laws_then laws_name (laws_node_end id priority owner' list) name_ends) first_from_name
-      (more_of_two _ _) (λ h. h.1)
+      (first_of_two _ _) (λ h. h.1)
 
   comma_ends : Apart (IsKind 3) NodeEnd
   comma_ends t h (inl k) = kinds_apart 3 2 (λ e. omega (arith, e)) t h k
@@ -325,32 +250,26 @@ module _ (known : Option (List ℕ)) (ids : List ℕ) where
   laws_from_successors : (id priority owner' : ℕ) → Laws Odd (from_successors id priority owner') Anything Nothing ⊥
   laws_from_successors id priority owner' =
       weaker (laws_then (laws_successors known) (laws_from_name id priority owner') comma_ends) (λ t h. tt)
-      (more_of_two _ _) (λ h. h.0)
+      (first_of_two _ _) (λ h. h.0)
 
   pub joint_owner : (id priority : ℕ) → Joint owner (from_successors id priority)
   joint_owner id priority = joint laws_owner (laws_from_successors id priority) (nothing_apart _)
 
   laws_from_owner : (id priority : ℕ) → Laws Odd (from_owner id priority) (IsKind 0) Nothing ⊥
-  laws_from_owner id priority =
-      weaker (laws_then laws_owner (laws_from_successors id priority) (nothing_apart _)) (first_of_two _ _)
-      (more_of_two _ _) (λ h. h.0)
+  laws_from_owner id priority = laws_next laws_owner (laws_from_successors id priority) (nothing_apart _)
 
   pub joint_priority : (id : ℕ) → Joint number (from_owner id)
   joint_priority id = joint laws_number (laws_from_owner id) (nothing_apart _)
 
   laws_from_priority : (id : ℕ) → Laws Odd (from_priority id) (IsKind 0) Nothing ⊥
-  laws_from_priority id =
-      weaker (laws_then laws_number (laws_from_owner id) (nothing_apart _)) (first_of_two _ _)
-      (more_of_two _ _) (λ h. h.0)
+  laws_from_priority id = laws_next laws_number (laws_from_owner id) (nothing_apart _)
 
   pub joint_id : Joint (new_id ids) from_priority
   joint_id = joint (laws_id ids) laws_from_priority (nothing_apart _)
 
   pub laws_node : Laws Odd (node known ids) (IsKind 0) Nothing ⊥
   unfolding node
-  laws_node =
-      weaker (laws_then (laws_id ids) laws_from_priority (nothing_apart _)) (first_of_two _ _)
-      (more_of_two _ _) (λ h. h.0)
+  laws_node = laws_next (laws_id ids) laws_from_priority (nothing_apart _)
 
 -- ## The whole text
 
@@ -388,9 +307,7 @@ joint_value = joint laws_number (λ _. laws_semicolon) (nothing_apart _)
 
 pub laws_value : Laws Odd value_line (IsKind 0) Nothing ⊥
 unfolding value_line
-laws_value =
-    weaker (laws_then laws_number (λ _. laws_semicolon) (nothing_apart _)) (first_of_two _ _)
-    (more_of_two _ _) (λ h. h.0)
+laws_value = laws_next laws_number (λ _. laws_semicolon) (nothing_apart _)
 
 abbrev pub IsWord : List ℕ → Sign → Type 0
 IsWord word t = t ≡ Word word
@@ -434,9 +351,7 @@ module _ (word : List ℕ) where
   line = then_by (keyword word) (λ _. value_line)
 
   pub laws_line : Laws Odd line (IsWord word) Nothing ⊥
-  laws_line =
-      weaker (laws_then (laws_keyword word) (λ _. laws_value) (nothing_apart _)) (first_of_two _ _)
-      (more_of_two _ _) (λ h. h.0)
+  laws_line = laws_next (laws_keyword word) (λ _. laws_value) (nothing_apart _)
 
   pub laws_no_line : Laws Odd (give {T = Sign} {V = Unit {0}} {F = PgCause} tt) Nothing Nothing (Unit {0})
   laws_no_line = laws_give Odd tt

@@ -16,7 +16,7 @@ use Rattle.ps_pgsolver.specs.GameTexts.{pg_causes, too_large, number_in, comma_i
 use Rattle.ps_pgsolver.specs.GameTexts.{BadOwner, BadSuccessor, BadFirst, IsUnknown, number, new_id, owner, successor}
 use Rattle.ps_pgsolver.specs.GameTexts.{first_successor, comma, semicolon}
 use Rattle.ps_pgsolver.specs.Nodes.{is_member}
-use Rattle.ps_pgsolver.specs.Signs.{Sign, Number, Word, Name, Comma, Semicolon, OpenName, Wrong}
+use Rattle.ps_pgsolver.specs.Signs.{Sign, Number, Name, Comma, Semicolon, OpenName}
 use Rattle.ps_pgsolver.specs.declared.fault.PgCause.{PgCause}
 use Rattle.ps_pgsolver.specs.declared.fault.PgCause.TheVariants as causes
 use Rattle.ps_pgsolver.specs.Causes.{PgFault}
@@ -79,12 +79,7 @@ number_fits (Number n) at = ⊎_elim
     (λ (no : ltb n too_large ≡ false). bad causes.Number (ltb-false n too_large no, refl)
     (λ g b. least_here causes.Number g b.1) (rw no refl))
     (cases_Bool (ltb n too_large))
-number_fits (Word x) at = refused refl (λ f b. b) refl
-number_fits (Name x) at = refused refl (λ f b. b) refl
-number_fits Comma at = refused refl (λ f b. b) refl
-number_fits Semicolon at = refused refl (λ f b. b) refl
-number_fits OpenName at = refused refl (λ f b. b) refl
-number_fits Wrong at = refused refl (λ f b. b) refl
+number_fits _ at = refused refl (λ f b. b) refl
 
 id_fits : (ids : List ℕ) (t : Sign) (at : ℕ) → Fits number_in (BadId ids) t at (id_answer ids (Some t) at)
 id_fits ids (Number n) at = ⊎_elim
@@ -101,12 +96,7 @@ id_fits ids (Number n) at = ⊎_elim
     (λ g b. ⊎_elim (λ h. least_here causes.Number g h.1) (λ h. absurd (omega (arith, ltb-false n too_large no, h.0))) b)
     (rw no refl))
     (cases_Bool (ltb n too_large))
-id_fits ids (Word x) at = refused refl (λ f b. b) refl
-id_fits ids (Name x) at = refused refl (λ f b. b) refl
-id_fits ids Comma at = refused refl (λ f b. b) refl
-id_fits ids Semicolon at = refused refl (λ f b. b) refl
-id_fits ids OpenName at = refused refl (λ f b. b) refl
-id_fits ids Wrong at = refused refl (λ f b. b) refl
+id_fits ids _ at = refused refl (λ f b. b) refl
 
 owner_fits : (t : Sign) (at : ℕ) → Fits number_in BadOwner t at (owner_answer (Some t) at)
 owner_fits (Number n) at = ⊎_elim
@@ -117,12 +107,7 @@ owner_fits (Number n) at = ⊎_elim
     (⊎_elim (λ (small : ltb n too_large ≡ true). rw (small, no) refl)
     (λ (large : ltb n too_large ≡ false). rw large refl) (cases_Bool (ltb n too_large))))
     (cases_Bool (ltb n 2))
-owner_fits (Word x) at = refused refl (λ f b. b) refl
-owner_fits (Name x) at = refused refl (λ f b. b) refl
-owner_fits Comma at = refused refl (λ f b. b) refl
-owner_fits Semicolon at = refused refl (λ f b. b) refl
-owner_fits OpenName at = refused refl (λ f b. b) refl
-owner_fits Wrong at = refused refl (λ f b. b) refl
+owner_fits _ at = refused refl (λ f b. b) refl
 
 known_yes : (known : Option (List ℕ)) (n : ℕ) → is_known known n ≡ true → IsUnknown known n → ⊥
 known_yes None n e h = h
@@ -148,12 +133,7 @@ successor_fits known (Number n) at = ⊎_elim
     (λ g b. ⊎_elim (λ h. least_here causes.Number g h.1) (λ h. absurd (omega (arith, ltb-false n too_large no, h.0))) b)
     (rw no refl))
     (cases_Bool (ltb n too_large))
-successor_fits known (Word x) at = refused refl (λ f b. b) refl
-successor_fits known (Name x) at = refused refl (λ f b. b) refl
-successor_fits known Comma at = refused refl (λ f b. b) refl
-successor_fits known Semicolon at = refused refl (λ f b. b) refl
-successor_fits known OpenName at = refused refl (λ f b. b) refl
-successor_fits known Wrong at = refused refl (λ f b. b) refl
+successor_fits known _ at = refused refl (λ f b. b) refl
 
 same_fits : {V : Type 0} (take : Sign → Option V) (Bad Bad' : Sign → PgCause → Type 0) (t : Sign) (at : ℕ)
     (r : Result V PgFault) →
@@ -171,27 +151,15 @@ first_fits known (Number n) at =
 first_fits known Semicolon at = bad causes.NoSuccessor refl (λ g b. least_here causes.NoSuccessor g b) refl
 first_fits known (Name x) at = bad causes.NoSuccessor refl (λ g b. least_here causes.NoSuccessor g b) refl
 first_fits known OpenName at = bad causes.NoSuccessor refl (λ g b. least_here causes.NoSuccessor g b) refl
-first_fits known (Word x) at = refused refl (λ f b. b) refl
-first_fits known Comma at = refused refl (λ f b. b) refl
-first_fits known Wrong at = refused refl (λ f b. b) refl
+first_fits known _ at = refused refl (λ f b. b) refl
 
 semicolon_fits : (t : Sign) (at : ℕ) → Fits semicolon_in NoBad t at (semicolon_answer (Some t) at)
 semicolon_fits Semicolon at = taken tt refl (λ f b. b) refl
-semicolon_fits (Number x) at = refused refl (λ f b. b) refl
-semicolon_fits (Word x) at = refused refl (λ f b. b) refl
-semicolon_fits (Name x) at = refused refl (λ f b. b) refl
-semicolon_fits Comma at = refused refl (λ f b. b) refl
-semicolon_fits OpenName at = refused refl (λ f b. b) refl
-semicolon_fits Wrong at = refused refl (λ f b. b) refl
+semicolon_fits _ at = refused refl (λ f b. b) refl
 
 comma_fits : (t : Sign) (at : ℕ) → Fits comma_in NoBad t at (comma_answer (Some t) at)
 comma_fits Comma at = taken tt refl (λ f b. b) refl
-comma_fits (Number x) at = refused refl (λ f b. b) refl
-comma_fits (Word x) at = refused refl (λ f b. b) refl
-comma_fits (Name x) at = refused refl (λ f b. b) refl
-comma_fits Semicolon at = refused refl (λ f b. b) refl
-comma_fits OpenName at = refused refl (λ f b. b) refl
-comma_fits Wrong at = refused refl (λ f b. b) refl
+comma_fits _ at = refused refl (λ f b. b) refl
 
 -- ## What each reading function of a single sign says
 
@@ -265,13 +233,7 @@ successor_known known ids (Some (Number m)) at n h e = ⊎_elim
     (cases_Bool (is_known known m)))
     (λ (large : ltb m too_large ≡ false). absurd (no_fault n (faults.Text causes.Number at) (e ∙ rw large refl)))
     (cases_Bool (ltb m too_large))
-successor_known known ids None at n h e = absurd (no_fault n (faults.Text causes.Syntax at) e)
-successor_known known ids (Some (Word x)) at n h e = absurd (no_fault n (faults.Text causes.Syntax at) e)
-successor_known known ids (Some (Name x)) at n h e = absurd (no_fault n (faults.Text causes.Syntax at) e)
-successor_known known ids (Some Comma) at n h e = absurd (no_fault n (faults.Text causes.Syntax at) e)
-successor_known known ids (Some Semicolon) at n h e = absurd (no_fault n (faults.Text causes.Syntax at) e)
-successor_known known ids (Some OpenName) at n h e = absurd (no_fault n (faults.Text causes.Syntax at) e)
-successor_known known ids (Some Wrong) at n h e = absurd (no_fault n (faults.Text causes.Syntax at) e)
+successor_known known ids _ at n h e = absurd (no_fault n (faults.Text causes.Syntax at) e)
 
 first_known : (known : Option (List ℕ)) (ids : List ℕ) (o : Option Sign) (at n : ℕ) → Contains ids n →
     found_number n ≡ first_answer known o at → found_number n ≡ first_answer (Some ids) o at
@@ -279,10 +241,7 @@ first_known known ids (Some (Number m)) at n h e = successor_known known ids (So
 first_known known ids (Some Semicolon) at n h e = absurd (no_fault n (faults.Text causes.NoSuccessor at) e)
 first_known known ids (Some (Name x)) at n h e = absurd (no_fault n (faults.Text causes.NoSuccessor at) e)
 first_known known ids (Some OpenName) at n h e = absurd (no_fault n (faults.Text causes.NoSuccessor at) e)
-first_known known ids None at n h e = absurd (no_fault n (faults.Text causes.Syntax at) e)
-first_known known ids (Some (Word x)) at n h e = absurd (no_fault n (faults.Text causes.Syntax at) e)
-first_known known ids (Some Comma) at n h e = absurd (no_fault n (faults.Text causes.Syntax at) e)
-first_known known ids (Some Wrong) at n h e = absurd (no_fault n (faults.Text causes.Syntax at) e)
+first_known known ids _ at n h e = absurd (no_fault n (faults.Text causes.Syntax at) e)
 
 pub later_successor : (known : Option (List ℕ)) (old new : Stream Sign) (r : Result ℕ PgFault) → new ≡ tail old →
     r ≡ successor_answer known (next_of old) (offset_of old.pieces old.end) →

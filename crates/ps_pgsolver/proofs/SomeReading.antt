@@ -54,12 +54,7 @@ judge_number (Number n) = go (cases_lt n too_large)
     go : (n < too_large) ⊎ (too_large ≤ n) → Judged cause_number (BadNumber (Number n))
     go (inl small) = good (λ f b. omega (arith, small, b.0))
     go (inr large) = bad_only cause_number _ causes.Number (large, refl) (λ g b. sym b.1)
-judge_number (Word x) = good (λ f b. b)
-judge_number (Name x) = good (λ f b. b)
-judge_number Comma = good (λ f b. b)
-judge_number Semicolon = good (λ f b. b)
-judge_number OpenName = good (λ f b. b)
-judge_number Wrong = good (λ f b. b)
+judge_number _ = good (λ f b. b)
 
 judge_owner : Judges BadOwner
 judge_owner (Number n) = go (cases_lt n 2)
@@ -67,12 +62,7 @@ judge_owner (Number n) = go (cases_lt n 2)
     go : (n < 2) ⊎ (2 ≤ n) → Judged cause_number (BadOwner (Number n))
     go (inl small) = good (λ f b. omega (arith, small, b.0))
     go (inr large) = bad_only cause_number _ causes.Number (large, refl) (λ g b. sym b.1)
-judge_owner (Word x) = good (λ f b. b)
-judge_owner (Name x) = good (λ f b. b)
-judge_owner Comma = good (λ f b. b)
-judge_owner Semicolon = good (λ f b. b)
-judge_owner OpenName = good (λ f b. b)
-judge_owner Wrong = good (λ f b. b)
+judge_owner _ = good (λ f b. b)
 
 -- a number that is too large, or of which A tells the cause
 module _ (A : Type 0) (cause : PgCause) (n : ℕ) where
@@ -101,12 +91,7 @@ module _ (A : Type 0) (cause : PgCause) (n : ℕ) where
 
 judge_id : (ids : List ℕ) → Judges (BadId ids)
 judge_id ids (Number n) = judge_two (Contains ids n) causes.NodeTwice n (member ids n)
-judge_id ids (Word x) = good (λ f b. b)
-judge_id ids (Name x) = good (λ f b. b)
-judge_id ids Comma = good (λ f b. b)
-judge_id ids Semicolon = good (λ f b. b)
-judge_id ids OpenName = good (λ f b. b)
-judge_id ids Wrong = good (λ f b. b)
+judge_id ids _ = good (λ f b. b)
 
 unknown_or_not : (known : Option (List ℕ)) (n : ℕ) → IsUnknown known n ⊎ ¬ IsUnknown known n
 unknown_or_not None n = inr (λ h. h)
@@ -118,12 +103,7 @@ unknown_or_not (Some ids) n = go (member ids n)
 
 judge_successor : (known : Option (List ℕ)) → Judges (BadSuccessor known)
 judge_successor known (Number n) = judge_two (IsUnknown known n) causes.UnknownSuccessor n (unknown_or_not known n)
-judge_successor known (Word x) = good (λ f b. b)
-judge_successor known (Name x) = good (λ f b. b)
-judge_successor known Comma = good (λ f b. b)
-judge_successor known Semicolon = good (λ f b. b)
-judge_successor known OpenName = good (λ f b. b)
-judge_successor known Wrong = good (λ f b. b)
+judge_successor known _ = good (λ f b. b)
 
 judge_first : (known : Option (List ℕ)) → Judges (BadFirst known)
 judge_first known (Number n) = judge_successor known (Number n)

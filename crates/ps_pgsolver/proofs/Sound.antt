@@ -12,7 +12,7 @@ use Rattle.ps_pgsolver.specs.GameTexts.{pg_causes, too_large, number_in, BadFirs
 use Rattle.ps_pgsolver.specs.GameTexts.{successor, first_successor, more_successor, successors, name, node, entry}
 use Rattle.ps_pgsolver.specs.GameTexts.{entries, setting, game, semicolon, comma}
 use Rattle.ps_pgsolver.specs.Nodes.{NodeData, ids_of, is_member, KnowsAll}
-use Rattle.ps_pgsolver.specs.Signs.{Sign, Number, Word, Name, Comma, Semicolon, OpenName, Wrong}
+use Rattle.ps_pgsolver.specs.Signs.{Sign, Number}
 use Rattle.ps_pgsolver.specs.declared.fault.PgCause.{PgCause}
 use Rattle.ps_pgsolver.specs.declared.fault.PgCause.TheVariants as causes
 use Rattle.ps_ids.proofs.Members.{Contains-any, any-from_Contains}
@@ -88,22 +88,12 @@ module _ (ids : List ℕ) where
   good_successor : (t : Sign) (v : ℕ) → number_in t ≡ Some v →
       ((f : PgCause) → BadSuccessor (Some ids) t f → ⊥) → Contains ids v
   good_successor (Number n) v e q = subst (λ x. Contains ids x) (same_some n v e) (good_number n q)
-  good_successor (Word x) v e q = absurd (none_is_some v e)
-  good_successor (Name x) v e q = absurd (none_is_some v e)
-  good_successor Comma v e q = absurd (none_is_some v e)
-  good_successor Semicolon v e q = absurd (none_is_some v e)
-  good_successor OpenName v e q = absurd (none_is_some v e)
-  good_successor Wrong v e q = absurd (none_is_some v e)
+  good_successor _ v e q = absurd (none_is_some v e)
 
   good_first : (t : Sign) (v : ℕ) → number_in t ≡ Some v → ((f : PgCause) → BadFirst (Some ids) t f → ⊥) →
       Contains ids v
   good_first (Number n) v e q = subst (λ x. Contains ids x) (same_some n v e) (good_number n q)
-  good_first (Word x) v e q = absurd (none_is_some v e)
-  good_first (Name x) v e q = absurd (none_is_some v e)
-  good_first Comma v e q = absurd (none_is_some v e)
-  good_first Semicolon v e q = absurd (none_is_some v e)
-  good_first OpenName v e q = absurd (none_is_some v e)
-  good_first Wrong v e q = absurd (none_is_some v e)
+  good_first _ v e q = absurd (none_is_some v e)
 
   sound_successor : Sound (successor (Some ids)) (λ n. Contains ids n)
   unfolding successor

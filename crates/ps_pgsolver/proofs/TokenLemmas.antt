@@ -6,6 +6,7 @@ use Rattle.std.proofs.lemmas.List.{append-nil, drop-drop, length-take-le, length
 use Rattle.std.proofs.lemmas.Bool.{cases_Bool, cases_lt}
 use Rattle.std.proofs.Math.Seq.{take-add}
 use Rattle.std.specs.List.{prefix_len}
+use Rattle.ps_text.proofs.ByteRuns.{run_len, run_ends}
 use Rattle.ps_pgsolver.specs.Bytes.{is_blank, is_digit, is_letter, ends_in}
 use Rattle.ps_text.specs.Answers.{Stream, offset_of}
 use Rattle.ps_pgsolver.specs.Signs.{Sign}
@@ -86,12 +87,7 @@ lex-blanks before (b ∷ bs) = ⊎_elim
 
 -- behind the longest front that passes, none passes
 pub prefix_len-behind : (p : ℕ → Bool) (xs : List ℕ) → prefix_len p (drop (prefix_len p xs) xs) ≡ 0
-prefix_len-behind p [] = refl
-prefix_len-behind p (x ∷ xs) = ⊎_elim
-    (λ yes. let size : prefix_len p (x ∷ xs) ≡ suc (prefix_len p xs) = rw yes (omega arith) in
-    rw size (prefix_len-behind p xs))
-    (λ no. let size : prefix_len p (x ∷ xs) ≡ 0 = rw no refl in rw size size)
-    (cases_Bool (p x))
+prefix_len-behind p xs = run_len p [] (drop (prefix_len p xs) xs) tt (run_ends p xs)
 
 pub stream_from-blanks : (text : List ℕ) (at : ℕ) → stream_from text at ≡ stream_from text
     (at + prefix_len is_blank (drop at text))

@@ -4,60 +4,23 @@
 --               behind it
 --     node_made, nodes_made      the nodes that the lines write
 --     written_tokens      the tokens of the whole text
-use Rattle.std.proofs.Common.{◌≡◌, ℕ, suc, ◌+◌, ◌-◌, ◌*◌, ◌/◌, ◌%◌, ◌^◌, ◌<◌, ◌≤◌, Bool, true, false, List, [], ◌∷◌}
+use Rattle.std.proofs.Common.{◌≡◌, ℕ, suc, ◌+◌, ◌^◌, ◌<◌, Bool, true, false, List, [], ◌∷◌}
 use Rattle.std.proofs.Common.{◌++◌, length, get_or, map, Option, Some, None, refl, sym, ap, subst, ◌∙◌, arith}
-use Rattle.std.proofs.Common.{append_assoc, append-nil, length-append}
+use Rattle.std.proofs.Common.{append_assoc, append-nil}
 use Rattle.std.specs.Prelude.{decimal, codes}
 use Rattle.std.specs.List.{All, AllByRecursion, Contains}
-use Rattle.std.specs.Int.Digits.{number_from_digits}
-use Rattle.std.proofs.lemmas.Bool.{le-leb, ne_eqb}
-use Rattle.std.proofs.lemmas.Fmt.{decimal_by_steps}
-use Rattle.std.proofs.lemmas.Int.Digits.{number_push}
-use Rattle.std.proofs.lemmas.List.{map-append}
+use Rattle.std.proofs.lemmas.Bool.{ne_eqb}
 use Rattle.std.proofs.lemmas.List.Elements.{All-head, All-tail}
 use Rattle.ps_game.specs.Games.{VertexData, ParityGame, HasNoQuote}
 use Rattle.ps_text.specs.Answers.{Piece, Stream, signs}
-use Rattle.ps_text.specs.Digits.{decimal_value}
+use Rattle.ps_text.specs.Runs.{AllOf, StopsBefore}
 use Rattle.ps_text.specs.Tokens.{TokensFrom}
+use Rattle.ps_text.proofs.Decimals.{number_text}
 use Rattle.ps_pgsolver.specs.Bytes.{is_blank, is_digit, is_letter, is_inner, ends_in}
-use Rattle.ps_pgsolver.specs.GameTokens.{AllOf, StopsBefore, IsToken, AreGameTokens}
+use Rattle.ps_pgsolver.specs.GameTokens.{IsToken, AreGameTokens}
 use Rattle.ps_pgsolver.specs.Nodes.{NodeData}
 use Rattle.ps_pgsolver.specs.Signs.{Sign, Number, Word, Name, Comma, Semicolon}
 use Rattle.ps_pgsolver.specs.Written.{IsWord, commas, list_text, name_text, vertex_line, vertex_lines, head_text}
-
--- ## Numbers
-
-all_joined : (p : ℕ → Bool) (xs ys : List ℕ) → AllOf p xs → AllOf p ys → AllOf p (xs ++ ys)
-all_joined p [] ys h k = k
-all_joined p (x ∷ xs) ys h k = (h.0, all_joined p xs ys h.1 k)
-
-digit : (d : ℕ) → d < 10 → is_digit (48 + d) ≡ true
-digit d l = rw (le-leb 48 (48 + d) (omega arith), le-leb (48 + d) 57 (omega (arith, l))) refl
-
--- digits that write the number
-record IsNumberText (n : ℕ) (digits : List ℕ) : Type 0 where
-  some : 0 < length digits
-  all : AllOf is_digit digits
-  value : decimal_value digits ≡ n
-
-number_text : (n : ℕ) → n < 2 ^ 64 → IsNumberText n (decimal n)
-number_text n small = decimal_by_steps IsNumberText one further n small
-  where
-    one : (n : ℕ) → n < 10 → IsNumberText n ((48 + n) ∷ [])
-    one n l = record { some = omega arith; all = (digit n l, tt); value = omega arith }
-
-    further : (n : ℕ) (ds : List ℕ) → 10 ≤ n → IsNumberText (n / 10) ds → IsNumberText n (ds ++ ((48 + n % 10) ∷ []))
-    further n ds l h = record {
-      some = omega (arith, length-append ds ((48 + n % 10) ∷ []));
-      all = all_joined is_digit ds ((48 + n % 10) ∷ []) h.all (digit (n % 10) (omega arith), tt);
-      value =
-          let a = map-append (λ b. b - 48) ds ((48 + n % 10) ∷ []) in
-          let b = number_push 10 (map (λ b. b - 48) ds) (48 + n % 10 - 48) in
-          let c : decimal_value (ds ++ ((48 + n % 10) ∷ [])) ≡ decimal_value ds * 10 + (48 + n % 10 - 48) =
-          ap (λ xs. number_from_digits 10 xs) a ∙ b in
-          let d : decimal_value ds ≡ n / 10 = h.value in
-          omega (arith, c, d);
-    }
 
 -- ## Tokens
 
@@ -93,7 +56,7 @@ ends_after p (x ∷ y ∷ ys) b = ends_after p (y ∷ ys) b
 number_token : (before : List ℕ) (n : ℕ) (rest : List ℕ) → n < 2 ^ 64 → ends_in is_letter before ≡ false →
     StopsBefore is_digit rest → IsToken before (Number n) (decimal n) rest
 number_token before n rest small e stops =
-    let t = number_text n small in (record { some = t.some; all = t.all; longest = stops }, sym t.value, e)
+    let t = number_text n small in (record { some = t.some; all = t.pass; longest = stops }, sym t.value, e)
 
 blank_number : (b n : ℕ) (rest : List ℕ) (ss : List Sign) → is_blank b ≡ true → is_letter b ≡ false → n < 2 ^ 64 →
     StopsBefore is_digit rest → Lexes rest ss →

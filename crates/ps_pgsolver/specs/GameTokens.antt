@@ -5,19 +5,12 @@
 -- A number is a longest run of digits, a word a longest run of letters, a name stands between quotes. What can't stand
 -- is a word directly behind a number, a number directly behind a word, a name that is not closed, and any other byte.
 use Rattle.std.specs.Prelude.{◌≡◌, ◌≢◌, ℕ, ◌<◌, Bool, true, false, List, [], ◌∷◌, ◌++◌, length}
-use Rattle.std.specs.List.{AllByRecursion}
 use Rattle.ps_text.specs.Answers.{Stream}
 use Rattle.ps_text.specs.Digits.{decimal_value}
+use Rattle.ps_text.specs.Runs.{AllOf, StopsBefore}
 use Rattle.ps_text.specs.Tokens.{AreTokens}
 use Rattle.ps_pgsolver.specs.Bytes.{is_blank, is_digit, is_letter, is_inner, ends_in}
 use Rattle.ps_pgsolver.specs.Signs.{Sign, Number, Word, Name, Comma, Semicolon, OpenName, Wrong}
-
-abbrev pub AllOf : (ℕ → Bool) → List ℕ → Type 0
-AllOf p text = AllByRecursion (λ b. p b ≡ true) text
-
-abbrev pub StopsBefore : (ℕ → Bool) → List ℕ → Type 0
-StopsBefore p [] = Unit {0}
-StopsBefore p (b ∷ bs) = p b ≡ false
 
 pub record IsRun (p : ℕ → Bool) (text rest : List ℕ) : Type 0 where
   pub some : 0 < length text

@@ -4,6 +4,7 @@ pub mod Laws
 pub mod Joined
 pub mod Simple
 pub mod Exits
+pub mod Following
 pub mod Meeting
 pub mod Covered
 pub mod Repeated
@@ -16,3 +17,5 @@ pub mod ChoiceOutcomes
 pub mod Decisions
 pub mod OneTokenisation
 pub mod LeadingDigits
+pub mod ByteRuns
+pub mod Decimals

@@ -6,3 +6,4 @@ pub mod Readers
 pub mod Digits
 pub mod Tokens
 pub mod Outcomes
+pub mod Runs

@@ -9,6 +9,7 @@
 use Rattle.std.proofs.Common.{◌≡◌, ℕ, ◌⊎◌, Bool, true, false, List, [], Option, None, Some, refl, ap, inl, inr}
 use Rattle.ps_label.specs.Expression.{Expression}
 use Rattle.ps_text.specs.Parts.{Part, NoBad, give, one, then_by, many, mapped, barred}
+use Rattle.ps_text.proofs.Following.{laws_next}
 use Rattle.ps_text.proofs.Laws.{Laws, Joint, Nothing, Or, When, Within, Apart, weaker}
 use Rattle.ps_text.proofs.Joined.{joint}
 use Rattle.ps_text.proofs.Simple.{Taken, BadSign, none_is_some, laws_one, laws_give, laws_mapped, laws_then}
@@ -211,8 +212,7 @@ pub joint_label : (h : HeaderData) → Joint (label (body_scope h) nesting_limit
 joint_label h = joint (laws_label (body_scope h) nesting_limit) laws_after_label label_closes
 
 pub laws_label_in_brackets : (h : HeaderData) → Laws Odd (label_in_brackets h) (Of is_start) Nothing ⊥
-laws_label_in_brackets h = weaker (laws_then (laws_label (body_scope h) nesting_limit) laws_after_label label_closes)
-    (only_first (Of is_start) (Of is_right_bracket)) (only_first Nothing AndOrMore) (λ k. k.0)
+laws_label_in_brackets h = laws_next (laws_label (body_scope h) nesting_limit) laws_after_label label_closes
 
 pub joint_bracket : (h : HeaderData) → Joint (mark is_left_bracket) (λ _. label_in_brackets h)
 joint_bracket h = joint laws_left_bracket (λ _. laws_label_in_brackets h) (nothing_apart _)
@@ -300,9 +300,8 @@ module _ (h : HeaderData) (before : ℕ) (row : RowData) where
 
   laws_from_edge_label : Laws Odd from_edge_label (Of is_start) (Of lengthens_edge) ⊥
   laws_from_edge_label =
-      weaker (laws_then (laws_label_in_brackets h) (λ label. laws_from_target h row label (IsBadState h.states))
-      (nothing_apart _))
-      (only_first _ _) (only_first _ Nothing) (λ k. k.0)
+      laws_next (laws_label_in_brackets h) (λ label. laws_from_target h row label (IsBadState h.states))
+      (nothing_apart _)
 
   laws_edge_bracket : Laws Odd (one is_bracket (IsBadBracket before row)) (Of is_left_bracket) Nothing ⊥
   laws_edge_bracket = weaker
@@ -319,9 +318,7 @@ module _ (h : HeaderData) (before : ℕ) (row : RowData) where
   joint_edge_label = joint laws_edge_bracket (λ _. laws_from_edge_label) (nothing_apart _)
 
   pub laws_labelled_edge : Laws Odd (labelled_edge h before row) (Of is_left_bracket) (Of lengthens_edge) ⊥
-  laws_labelled_edge =
-      weaker (laws_then laws_edge_bracket (λ _. laws_from_edge_label) (nothing_apart _)) (only_first _ _)
-      (only_first _ Nothing) (λ k. k.0)
+  laws_labelled_edge = laws_next laws_edge_bracket (λ _. laws_from_edge_label) (nothing_apart _)
 
   pub joint_plain_marks : Joint (plain_target h before row) (λ n. mapped (with_edge row None n) (marks h))
   joint_plain_marks = joint_target_marks h row None (IsBadPlainTarget h.states before row)

@@ -4,9 +4,10 @@ use Rattle.std.proofs.Common.{inr, arith}
 use Rattle.std.specs.Str.{bytes_eq}
 use Rattle.std.proofs.lemmas.Slice.Eq.{bytes_eq-Decides}
 use Rattle.ps_text.specs.Parts.{Part, NoBad, one, then_by}
+use Rattle.ps_text.proofs.Following.{laws_next}
 use Rattle.ps_text.proofs.Laws.{Laws, Joint, Nothing, Or, Within, Apart, weaker}
 use Rattle.ps_text.proofs.Joined.{joint}
-use Rattle.ps_text.proofs.Simple.{Taken, BadSign, none_is_some, laws_one, laws_then}
+use Rattle.ps_text.proofs.Simple.{Taken, BadSign, none_is_some, laws_one}
 use Rattle.ps_text.proofs.Covered.{laws_either}
 use Rattle.ps_hoa.specs.Tokens.{Sign}
 use Rattle.ps_hoa.specs.Operands.{is_not, is_left, is_right, mark}
@@ -16,7 +17,7 @@ use Rattle.ps_hoa.specs.Conditions.{visit, IsBadStart, BadStart, atom, together,
 use Rattle.ps_hoa.specs.declared.fault.HoaCause.{HoaCause}
 use Rattle.ps_hoa.specs.declared.tokens.Kind.{Kind}
 use Rattle.ps_hoa.specs.declared.tokens.Kind.TheVariants.{Word, Int, Not, LeftParen}
-use Rattle.ps_hoa.proofs.Grammar.OperandLaws.{Odd, Of, false_true, nothing_apart, plain_odd, only_first, laws_behind}
+use Rattle.ps_hoa.proofs.Grammar.OperandLaws.{Odd, Of, false_true, nothing_apart, plain_odd, laws_behind}
 use Rattle.ps_hoa.proofs.Grammar.OperandLaws.{laws_closed}
 use Rattle.ps_hoa.proofs.Grammar.LabelLaws.{is_start, plain_start, laws_not, laws_left, laws_right, AndOrMore}
 use Rattle.ps_hoa.proofs.Grammar.LabelLaws.{laws_rows}
@@ -108,8 +109,7 @@ laws_often = weaker (laws_one often_in NoBad Odd (record { kind = Word; text = c
 pub laws_closed_set : (often : Bool) → Laws Odd (then_by any_set (closed_set often))
     (Or (Of is_not) (Of is_int)) Nothing ⊥
 laws_closed_set often =
-    weaker (laws_then laws_any_set (λ s. laws_closed laws_right (visits often s)) (nothing_apart (Of is_right)))
-    (only_first (Or (Of is_not) (Of is_int)) (Of is_right)) (only_first Nothing Nothing) (λ h. h.0)
+    laws_next laws_any_set (λ s. laws_closed laws_right (visits often s)) (nothing_apart (Of is_right))
 
 pub joint_closed_set : (often : Bool) → Joint any_set (closed_set often)
 joint_closed_set often = joint laws_any_set (λ s. laws_closed laws_right (visits often s)) (nothing_apart (Of is_right))
@@ -124,9 +124,7 @@ pub joint_visit : Joint often_or_not behind_often
 joint_visit = joint laws_often laws_behind_often (nothing_apart (Of is_left))
 
 pub laws_visit : Laws Odd visit (Taken often_in) Nothing ⊥
-laws_visit =
-    weaker (laws_then laws_often laws_behind_often (nothing_apart (Of is_left)))
-    (only_first (Taken often_in) (Of is_left)) (only_first Nothing Nothing) (λ h. h.0)
+laws_visit = laws_next laws_often laws_behind_often (nothing_apart (Of is_left))
 
 -- ## Operands
 

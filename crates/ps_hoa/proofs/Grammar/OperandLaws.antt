@@ -10,6 +10,7 @@ use Rattle.std.proofs.Common.{◌∙◌}
 use Rattle.ps_text.specs.Answers.{Stream, Found, next_of, signs}
 use Rattle.ps_text.specs.Parts.{Part, NoBad, then_by, many, mapped}
 use Rattle.ps_text.specs.Readers.{Stops, Reads, Carries}
+use Rattle.ps_text.proofs.Following.{laws_next}
 use Rattle.ps_text.proofs.Laws.{Laws, Joint, Nothing, Or, When, Within, Apart, weaker}
 use Rattle.ps_text.proofs.Joined.{joint}
 use Rattle.ps_text.proofs.Simple.{Taken, BadSign, none_is_some, laws_one, laws_mapped, laws_then}
@@ -77,8 +78,7 @@ joint_mark test {First = First} m l = joint m (λ _. l) (nothing_apart First)
 pub laws_behind : {V : Type 0} (test : Kind → Bool) {P : Part Sign V HoaCause} {First More : Sign → Type 0} →
     Laws Odd (mark test) (Of test) Nothing ⊥ → Laws Odd P First More ⊥ →
     Laws Odd (then_by (mark test) (λ _. P)) (Of test) More ⊥
-laws_behind test {First = First} {More = More} m l = weaker (laws_then m (λ _. l) (nothing_apart First))
-    (only_first (Of test) First) (only_first More Nothing) (λ h. h.0)
+laws_behind test {First = First} m l = laws_next m (λ _. l) (nothing_apart First)
 
 pub laws_closed : {V : Type 0} → Laws Odd (mark is_right) (Of is_right) Nothing ⊥ → (v : V) →
     Laws Odd (closed v) (Of is_right) Nothing ⊥
@@ -92,8 +92,7 @@ joint_closed r l a = joint l (λ v. laws_closed r v) a
 pub laws_held : {V : Type 0} {P : Part Sign V HoaCause} {First More : Sign → Type 0} →
     Laws Odd (mark is_right) (Of is_right) Nothing ⊥ →
     Laws Odd P First More ⊥ → Apart More (Of is_right) → Laws Odd (then_by P (λ v. closed v)) First Nothing ⊥
-laws_held {First = First} {More = More} r l a =
-    weaker (laws_then l (λ v. laws_closed r v) a) (only_first First (Of is_right)) (only_first Nothing More) (λ h. h.0)
+laws_held r l a = laws_next l (λ v. laws_closed r v) a
 
 module _ {V : Type 0} (sign : Kind → Bool) (operand : Part Sign V HoaCause) {First More : Sign → Type 0}
     (m : Laws Odd (mark sign) (Of sign) Nothing ⊥) (l : Laws Odd operand First More ⊥) (apart : Apart More (Of sign))

@@ -9,6 +9,7 @@ use Rattle.std.specs.Str.{bytes_eq}
 use Rattle.std.proofs.lemmas.Slice.Eq.{bytes_eq-Decides}
 use Rattle.ps_label.specs.Expression.{Expression}
 use Rattle.ps_text.specs.Parts.{Part, give, one, then_by, many, mapped}
+use Rattle.ps_text.proofs.Following.{laws_next}
 use Rattle.ps_text.proofs.Laws.{Laws, Joint, Nothing, Or, When, Within, Apart, weaker}
 use Rattle.ps_text.proofs.Joined.{joint}
 use Rattle.ps_text.proofs.Simple.{Taken, BadSign, none_is_some, laws_one, laws_give, laws_mapped, laws_then}
@@ -266,9 +267,7 @@ module _ (h : HeaderData) (b : BodyData) where
   joint_state = joint (laws_state_begins h b) (λ _. laws_from_label) (nothing_apart _)
 
   pub laws_state : Laws Odd (state h b) IsState (Of lengthens_state) ⊥
-  laws_state =
-      weaker (laws_then (laws_state_begins h b) (λ _. laws_from_label) (nothing_apart _)) (only_first _ _)
-      (only_first _ Nothing) (λ k. k.0)
+  laws_state = laws_next (laws_state_begins h b) (λ _. laws_from_label) (nothing_apart _)
 
 -- ## All states
 

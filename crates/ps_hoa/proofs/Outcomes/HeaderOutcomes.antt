@@ -1,17 +1,12 @@
 -- The header has an outcome from each list of signs: it is read, or has a first fault.
 --     has_string      a string between quotes
 --     has_header      the outcome
-use Rattle.std.proofs.Common.{◌≡◌, ℕ, List, [], ◌∷◌, Option, None, Some, refl, sym, ◌∙◌}
+use Rattle.std.proofs.Common.{ℕ, List, [], refl}
 use Rattle.std.specs.Prelude.{codes}
-use Rattle.ps_text.specs.Parts.{Part, Causes, NoBad, one, times, many, mapped, barred}
-use Rattle.ps_text.specs.Choices.{choice}
-use Rattle.ps_text.specs.Outcomes.{Outcome, was_read, has_fault, HasOutcomes}
-use Rattle.ps_text.proofs.Laws.{Laws}
+use Rattle.ps_text.specs.Parts.{NoBad, one, times, many, mapped, barred}
 use Rattle.ps_text.proofs.Outcomes.{has_give, has_one, has_mapped, has_then, has_either, has_times, has_many}
-use Rattle.ps_text.proofs.Outcomes.{has_barred, has_refusal}
-use Rattle.ps_text.proofs.Covered.{read_as, fault_as}
+use Rattle.ps_text.proofs.Outcomes.{has_barred}
 use Rattle.ps_text.proofs.ChoiceOutcomes.{has_choice}
-use Rattle.ps_text.proofs.Simple.{none_is_some, same_some}
 use Rattle.ps_hoa.specs.Causes.{hoa_causes}
 use Rattle.ps_hoa.specs.Operands.{number_limit, nesting_limit}
 use Rattle.ps_hoa.specs.Labels.{label}

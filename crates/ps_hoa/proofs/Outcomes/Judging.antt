@@ -1,13 +1,13 @@
 -- What may be wrong with a sign of labels, conditions, the header and the body: the least cause, or that there is none.
 --     decide_kind      a sign's kind, where a test tells it
 --     judge_above, .., judge_close      the least cause of each
-use Rattle.std.proofs.Common.{◌≡◌, ℕ, suc, ◌+◌, ◌<◌, ◌≤◌, ◌^◌, Bool, true, false, List, length, Option, None, Some}
+use Rattle.std.proofs.Common.{◌≡◌, ℕ, suc, ◌+◌, ◌<◌, ◌≤◌, ◌^◌, Bool, true, List, length, Option, None, Some}
 use Rattle.std.proofs.Common.{refl, sym, inl, inr, ◌∙◌, subst}
-use Rattle.std.specs.Prelude.{IfSome, codes}
+use Rattle.std.specs.Prelude.{codes}
 use Rattle.std.proofs.lemmas.Bool.{cases_eq}
 use Rattle.ps_text.specs.Digits.{decimal_value}
 use Rattle.ps_text.specs.Parts.{NoBad}
-use Rattle.ps_text.proofs.Outcomes.{Judged, bad, good}
+use Rattle.ps_text.proofs.Outcomes.{Judged}
 use Rattle.ps_text.proofs.Decisions.{Decided, decide_true, decide_none, decide_not, decide_as, decide_both}
 use Rattle.ps_text.proofs.Decisions.{decide_below}
 use Rattle.ps_text.proofs.Decisions.{judge_none, judge_cause, judge_one, judge_as, judge_if, judge_also}

@@ -1,8 +1,8 @@
 -- Names of keys, as they are written.
-use Rattle.std.proofs.Common.{◌≡◌, ◌≢◌, ℕ, zero, suc, ◌+◌, ◌%◌, ◌^◌, ◌<◌, Bool, true, false, List, [], ◌∷◌, ◌++◌, Some}
+use Rattle.std.proofs.Common.{◌≡◌, ◌≢◌, ℕ, zero, suc, ◌+◌, ◌^◌, ◌<◌, Bool, true, false, List, [], ◌∷◌, ◌++◌, Some}
 use Rattle.std.proofs.Common.{decimal, refl, ap, ap₂, sym, subst, ◌∙◌, arith, append_assoc}
 use Rattle.std.specs.List.{AllPairs, range_with_len}
-use Rattle.std.proofs.lemmas.Fmt.{decimal_by_steps}
+use Rattle.ps_text.proofs.Decimals.{number_text}
 use Rattle.std.proofs.lemmas.List.Elements.{All-nil, All-cons, All-append, All-contains, All-same}
 use Rattle.std.proofs.lemmas.List.FromFn.{length-range_with_len, get_or-range_with_len}
 use Rattle.ps_game.specs.Games.{quote, HasNoQuote}
@@ -15,10 +15,7 @@ plain_one : (b : ℕ) → b ≢ 34 → IsPlain (b ∷ [])
 plain_one b h = All-cons (λ x. x ≢ quote) b [] h (All-nil (λ x. x ≢ quote))
 
 pub plain_decimal : (n : ℕ) → n < 2 ^ 64 → IsPlain (decimal n)
-plain_decimal n small =
-    decimal_by_steps (λ _ digits. IsPlain digits) (λ k lt. plain_one (48 + k) (λ e. omega (arith, e)))
-    (λ k digits le h. All-append (λ x. x ≢ quote) digits ((48 + k % 10) ∷ []) h
-    (plain_one (48 + k % 10) (λ e. omega (arith, e)))) n small
+plain_decimal n small k d lt e = let digit = (number_text n small).all k d lt in omega (arith, digit.0, e)
 
 pub plain_sink : IsPlain (115 ∷ 105 ∷ 110 ∷ 107 ∷ [])
 plain_sink =

@@ -1,13 +1,10 @@
-use Rattle.ps_circuit.proofs.CursorLemmas.{value_step, value_whole}
+use Rattle.std.proofs.Common.{arith}
+use Rattle.ps_circuit.proofs.CursorLemmas.{value_held, value_large}
 use Rattle.ps_circuit.proofs.cursor.value_of.Goals as goal
 
-pub loop-digit-preserved : goal.loop-digit-preserved
-loop-digit-preserved c =
-    value_step c.args.digits.now c.loop-digit.digit-index c.loop-digit.value c.saturating_mul.result c.from.result
-    c.saturating_add-value.result c.loop-digit-test.true c.loop-digit.invariant c.saturating_mul.ensures c.from.ensures
-    c.saturating_add-value.ensures
+pub returns-in-Some : goal.returns-in-Some
+returns-in-Some c =
+    value_held c.args.digits.now c.in-Some.number.value c.requires (omega arith) c.in-Some.ensures.value
 
-pub returns : goal.returns
-returns c =
-    value_whole c.args.digits.now c.loop-digit.digit-index c.loop-digit.value c.loop-digit-test.false
-    c.loop-digit.auto.digit-index-end c.loop-digit.invariant
+pub returns-in-None : goal.returns-in-None
+returns-in-None c = value_large c.args.digits.now c.requires c.in-None.ensures.none

@@ -1,7 +1,7 @@
 use Rattle.std.proofs.Common.{◌∙◌, List, ℕ, length, ap, subst}
 use Rattle.ps_circuit.specs.Cursors.{found_of}
 use Rattle.ps_circuit.specs.Reading.{draft_data, TellsCyclic}
-use Rattle.ps_circuit.proofs.DraftLemmas.{answer_fails, answer_undefined, answered}
+use Rattle.ps_circuit.proofs.DraftReading.{answer_fails, answer_undefined, answered}
 use Rattle.ps_circuit.proofs.reader.read.Goals as goal
 
 pub returns-in_err-parts-clause-exact : goal.returns-in_err-parts-clause-exact

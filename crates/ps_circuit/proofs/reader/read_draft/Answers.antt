@@ -1,16 +1,96 @@
-use Rattle.std.proofs.Common.{ℕ, refl, subst, arith}
-use Rattle.std.proofs.lemmas.List.{length-map}
-use Rattle.ps_circuit.specs.Drafts.{name_bytes}
+use Rattle.std.proofs.Common.{◌≡◌, ℕ, refl, subst, arith}
+use Rattle.ps_circuit.specs.declared.parts.Gate.{Gate}
+use Rattle.ps_circuit.specs.declared.parts.Latch.{Latch}
 use Rattle.ps_circuit.specs.Names.{names_data}
 use Rattle.ps_circuit.specs.Reading.{lines_of, AddsInput, Grown}
-use Rattle.ps_circuit.specs.Texts.{Lines, no_lines, next_lines, input_line, latch_line, output_line, gate_line}
-use Rattle.ps_circuit.specs.Texts.{draft_of}
-use Rattle.ps_circuit.proofs.TextLaws.{laws_input_line, laws_latch_line, laws_output_line, laws_gate_line}
+use Rattle.ps_circuit.specs.Texts.{Lines, input_line, latch_line, output_line, gate_line}
+use Rattle.ps_circuit.specs.Texts.{symbols, HeaderData}
+use Rattle.ps_circuit.proofs.TextLaws.{laws_input_line, laws_latch_line, laws_output_line, laws_gate_line, body_latches}
+use Rattle.ps_circuit.proofs.TextLaws.{body_outputs, body_gates, first_names}
 use Rattle.ps_circuit.proofs.LineLemmas.{is_row}
-use Rattle.ps_circuit.proofs.DraftLemmas.{numbers, past_header, past_lines, joint_inputs, joint_latches, joint_outputs}
-use Rattle.ps_circuit.proofs.DraftLemmas.{joint_gates, header_fails, lines_fail, symbols_fail, all_reads, draft_fails}
-use Rattle.ps_circuit.proofs.DraftLemmas.{draft_memory, draft_trails, draft_reads, none_named, sound_draft}
+use Rattle.ps_circuit.proofs.DraftReading.{Reached, numbers, past_header, past_lines, joint_inputs, joint_latches}
+use Rattle.ps_circuit.proofs.DraftReading.{joint_outputs, joint_gates, header_fails, lines_exit, symbols_fail}
+use Rattle.ps_circuit.proofs.DraftReading.{all_reads, draft_fails, draft_memory, draft_trails, draft_reads}
+use Rattle.ps_circuit.proofs.DraftReading.{none_named, body_inputs}
+use Rattle.ps_circuit.proofs.DraftLemmas.{each_named, sound_draft}
 use Rattle.ps_circuit.proofs.reader.read_draft.Goals as goal
+use Rattle.ps_circuit.proofs.reader.read_draft.Goals.{After-lines, After-lines-2, After-lines-3, After-lines-4}
+use Rattle.ps_circuit.proofs.reader.read_draft.Goals.{After-symbols}
+
+-- ## What is left behind each section
+
+abbrev one : After-lines-2 → After-lines
+one c = (goal.at.After-lines-2 c).After-lines
+
+abbrev two : After-lines-3 → After-lines-2
+two c = (goal.at.After-lines-3 c).After-lines-2
+
+abbrev three : After-lines-4 → After-lines-3
+three c = (goal.at.After-lines-4 c).After-lines-3
+
+abbrev four : After-symbols → After-lines-4
+four c = (goal.at.After-symbols c).After-lines-4
+
+abbrev header_of : After-lines → HeaderData
+header_of c = numbers c.in_ok-header.header.most c.in_ok-header.ensures.exact.0
+
+abbrev inputs_of : After-lines-2 → Lines ℕ
+inputs_of c = lines_of c.in_ok-inputs.inputs.items c.lines.new.noted
+
+abbrev latches_of : After-lines-3 → Lines Latch
+latches_of c = lines_of c.in_ok-latches.latches.items c.lines-2.new.noted
+
+abbrev outputs_of : After-lines-4 → Lines ℕ
+outputs_of c = lines_of c.in_ok-outputs.outputs.items c.lines-3.new.noted
+
+abbrev gates_of : After-symbols → Lines Gate
+gates_of c = lines_of c.in_ok-gates.gates.items c.lines-4.new.noted
+
+behind_header : (c : After-lines) → Reached c.new-cursor.result c.read_header.new.cursor (body_inputs (header_of c))
+behind_header c =
+    past_header c.in_ok-header.ensures.exact.1.most c.new-cursor.ensures.small c.in_ok-header.ensures.exact.2
+
+behind_inputs : (c : After-lines-2) →
+    Reached c.new-cursor.result c.lines.new.cursor (body_latches (header_of (one c)) (inputs_of c))
+behind_inputs c =
+    let h = header_of (one c) in
+    past_lines (input_line h.most) h.inputs (joint_inputs h) c.in_ok-header.ensures.exact.1.inputs
+    c.nothing-noted.ensures (behind_header (one c)) (inputs_of c) _ c.in_ok-inputs.ensures.exact
+
+behind_latches : (c : After-lines-3) → Reached c.new-cursor.result c.lines-2.new.cursor
+    (body_outputs (header_of (one (two c))) (inputs_of (two c)) (latches_of c))
+behind_latches c =
+    let h = header_of (one (two c)) in
+    past_lines (latch_line h.most) h.latches (joint_latches h (inputs_of (two c)))
+    c.in_ok-header.ensures.exact.1.latches refl (behind_inputs (two c)) (latches_of c) _ c.in_ok-latches.ensures.exact
+
+behind_outputs : (c : After-lines-4) → let b = two (three c) in Reached c.new-cursor.result c.lines-3.new.cursor
+    (body_gates (header_of (one b)) (inputs_of b) (latches_of (three c)) (outputs_of c))
+behind_outputs c =
+    let b = two (three c) in let h = header_of (one b) in
+    past_lines (output_line h.most) h.outputs (joint_outputs h (inputs_of b) (latches_of (three c)))
+    c.in_ok-header.ensures.exact.1.outputs refl (behind_latches (three c)) (outputs_of c) _
+    c.in_ok-outputs.ensures.exact
+
+behind_gates : (c : After-symbols) → let b = two (three (four c)) in Reached c.new-cursor.result c.lines-4.new.cursor
+    (symbols (header_of (one b)).most (inputs_of b) (latches_of (three (four c))) (outputs_of (four c)) (gates_of c))
+behind_gates c =
+    let b = two (three (four c)) in let h = header_of (one b) in
+    past_lines (gate_line h.most) h.gates (joint_gates h (inputs_of b) (latches_of (three (four c))) (outputs_of
+    (four c))) c.in_ok-header.ensures.exact.1.gates refl (behind_outputs (four c)) (gates_of c) _
+    c.in_ok-gates.ensures.exact
+
+none_yet : (c : After-symbols) → let b = two (three (four c)) in names_data c.in_ok-names.names ≡ first_names
+    c.in_ok-header.header.most (inputs_of b) (latches_of (three (four c))) (outputs_of (four c)) (gates_of c)
+none_yet c =
+    let b = two (three (four c)) in
+    none_named c.in_ok-header.header.most (inputs_of b) (latches_of (three (four c))) (outputs_of (four c)) (gates_of c)
+    (names_data c.in_ok-names.names) c.len.result c.len-2.result c.len-3.result c.in_ok-names.ensures.none
+    (omega (arith, c.len.ensures, c.in_ok-inputs.inputs.ok.0))
+    (omega (arith, c.len-2.ensures, c.in_ok-latches.latches.ok.0))
+    (omega (arith, c.len-3.ensures, c.in_ok-outputs.outputs.ok.0))
+
+-- ## The exits
 
 pub returns-in_err-header-clause-exact : goal.returns-in_err-header-clause-exact
 returns-in_err-header-clause-exact c =
@@ -19,71 +99,33 @@ returns-in_err-header-clause-exact c =
 
 pub returns-in_err-inputs-clause-exact : goal.returns-in_err-inputs-clause-exact
 returns-in_err-inputs-clause-exact c =
-    let H = c.in_ok-header.ensures.exact in
-    let h = numbers c.in_ok-header.header.most H.0 in
-    let r1 =
-    past_header c.new-cursor.result c.read_header.new.cursor c.in_ok-header.header.most H.0 H.1.most
-    c.new-cursor.ensures.small H.2 in
-    draft_fails c.args.text.now c.new-cursor.result _ _ c.new-cursor.ensures.stream
-    (lines_fail (input_line h.most) h.inputs _ H.1.inputs no_lines _ c.nothing-noted.ensures (joint_inputs h) r1 _
-    c.in_err-inputs.ensures.exact) c.from_residual-in_err-inputs.ensures.1
+    let b = (goal.at.returns-in_err-inputs-clause-exact c).After-lines in let h = header_of b in
+    lines_exit (input_line h.most) h.inputs (joint_inputs h) c.in_ok-header.ensures.exact.1.inputs
+    c.nothing-noted.ensures (behind_header b) c.args.text.now _ _ c.new-cursor.ensures.stream
+    c.in_err-inputs.ensures.exact c.from_residual-in_err-inputs.ensures.1
 
 pub returns-in_err-latches-clause-exact : goal.returns-in_err-latches-clause-exact
 returns-in_err-latches-clause-exact c =
-    let H = c.in_ok-header.ensures.exact in
-    let h = numbers c.in_ok-header.header.most H.0 in
-    let r1 =
-    past_header c.new-cursor.result c.read_header.new.cursor c.in_ok-header.header.most H.0 H.1.most
-    c.new-cursor.ensures.small H.2 in
-    let i = lines_of c.in_ok-inputs.inputs.items c.lines.new.noted in
-    let r2 =
-    past_lines (input_line h.most) h.inputs _ H.1.inputs no_lines _ c.nothing-noted.ensures (joint_inputs h) r1 i _
-    c.in_ok-inputs.ensures.exact in
-    draft_fails c.args.text.now c.new-cursor.result _ _ c.new-cursor.ensures.stream
-    (lines_fail (latch_line h.most) h.latches _ H.1.latches (next_lines i) _ refl (joint_latches h i) r2 _
-    c.in_err-latches.ensures.exact) c.from_residual-in_err-latches.ensures.1
+    let b = (goal.at.returns-in_err-latches-clause-exact c).After-lines-2 in let h = header_of (one b) in
+    lines_exit (latch_line h.most) h.latches (joint_latches h (inputs_of b)) c.in_ok-header.ensures.exact.1.latches
+    refl (behind_inputs b) c.args.text.now _ _ c.new-cursor.ensures.stream
+    c.in_err-latches.ensures.exact c.from_residual-in_err-latches.ensures.1
 
 pub returns-in_err-outputs-clause-exact : goal.returns-in_err-outputs-clause-exact
 returns-in_err-outputs-clause-exact c =
-    let H = c.in_ok-header.ensures.exact in
-    let h = numbers c.in_ok-header.header.most H.0 in
-    let r1 =
-    past_header c.new-cursor.result c.read_header.new.cursor c.in_ok-header.header.most H.0 H.1.most
-    c.new-cursor.ensures.small H.2 in
-    let i = lines_of c.in_ok-inputs.inputs.items c.lines.new.noted in
-    let r2 =
-    past_lines (input_line h.most) h.inputs _ H.1.inputs no_lines _ c.nothing-noted.ensures (joint_inputs h) r1 i _
-    c.in_ok-inputs.ensures.exact in
-    let l = lines_of c.in_ok-latches.latches.items c.lines-2.new.noted in
-    let r3 =
-    past_lines (latch_line h.most) h.latches _ H.1.latches (next_lines i) _ refl (joint_latches h i) r2 l _
-    c.in_ok-latches.ensures.exact in
-    draft_fails c.args.text.now c.new-cursor.result _ _ c.new-cursor.ensures.stream
-    (lines_fail (output_line h.most) h.outputs _ H.1.outputs (next_lines l) _ refl (joint_outputs h i l) r3 _
-    c.in_err-outputs.ensures.exact) c.from_residual-in_err-outputs.ensures.1
+    let b = (goal.at.returns-in_err-outputs-clause-exact c).After-lines-3 in let h = header_of (one (two b)) in
+    lines_exit (output_line h.most) h.outputs (joint_outputs h (inputs_of (two b)) (latches_of b))
+    c.in_ok-header.ensures.exact.1.outputs
+    refl (behind_latches b) c.args.text.now _ _ c.new-cursor.ensures.stream
+    c.in_err-outputs.ensures.exact c.from_residual-in_err-outputs.ensures.1
 
 pub returns-in_err-gates-clause-exact : goal.returns-in_err-gates-clause-exact
 returns-in_err-gates-clause-exact c =
-    let H = c.in_ok-header.ensures.exact in
-    let h = numbers c.in_ok-header.header.most H.0 in
-    let r1 =
-    past_header c.new-cursor.result c.read_header.new.cursor c.in_ok-header.header.most H.0 H.1.most
-    c.new-cursor.ensures.small H.2 in
-    let i = lines_of c.in_ok-inputs.inputs.items c.lines.new.noted in
-    let r2 =
-    past_lines (input_line h.most) h.inputs _ H.1.inputs no_lines _ c.nothing-noted.ensures (joint_inputs h) r1 i _
-    c.in_ok-inputs.ensures.exact in
-    let l = lines_of c.in_ok-latches.latches.items c.lines-2.new.noted in
-    let r3 =
-    past_lines (latch_line h.most) h.latches _ H.1.latches (next_lines i) _ refl (joint_latches h i) r2 l _
-    c.in_ok-latches.ensures.exact in
-    let u = lines_of c.in_ok-outputs.outputs.items c.lines-3.new.noted in
-    let r4 =
-    past_lines (output_line h.most) h.outputs _ H.1.outputs (next_lines l) _ refl (joint_outputs h i l) r3 u _
-    c.in_ok-outputs.ensures.exact in
-    draft_fails c.args.text.now c.new-cursor.result _ _ c.new-cursor.ensures.stream
-    (lines_fail (gate_line h.most) h.gates _ H.1.gates (next_lines u) _ refl (joint_gates h i l u) r4 _
-    c.in_err-gates.ensures.exact) c.from_residual-in_err-gates.ensures.1
+    let b = (goal.at.returns-in_err-gates-clause-exact c).After-lines-4 in let h = header_of (one (two (three b))) in
+    lines_exit (gate_line h.most) h.gates (joint_gates h (inputs_of (two (three b))) (latches_of (three b))
+    (outputs_of b)) c.in_ok-header.ensures.exact.1.gates
+    refl (behind_outputs b) c.args.text.now _ _ c.new-cursor.ensures.stream
+    c.in_err-gates.ensures.exact c.from_residual-in_err-gates.ensures.1
 
 pub returns-in_err-names-clause-exact : goal.returns-in_err-names-clause-exact
 returns-in_err-names-clause-exact c =
@@ -91,158 +133,48 @@ returns-in_err-names-clause-exact c =
 
 pub returns-in_err-symbols-clause-exact : goal.returns-in_err-symbols-clause-exact
 returns-in_err-symbols-clause-exact c =
-    let H = c.in_ok-header.ensures.exact in
-    let h = numbers c.in_ok-header.header.most H.0 in
-    let r1 =
-    past_header c.new-cursor.result c.read_header.new.cursor c.in_ok-header.header.most H.0 H.1.most
-    c.new-cursor.ensures.small H.2 in
-    let i = lines_of c.in_ok-inputs.inputs.items c.lines.new.noted in
-    let r2 =
-    past_lines (input_line h.most) h.inputs _ H.1.inputs no_lines _ c.nothing-noted.ensures (joint_inputs h) r1 i _
-    c.in_ok-inputs.ensures.exact in
-    let l = lines_of c.in_ok-latches.latches.items c.lines-2.new.noted in
-    let r3 =
-    past_lines (latch_line h.most) h.latches _ H.1.latches (next_lines i) _ refl (joint_latches h i) r2 l _
-    c.in_ok-latches.ensures.exact in
-    let u = lines_of c.in_ok-outputs.outputs.items c.lines-3.new.noted in
-    let r4 =
-    past_lines (output_line h.most) h.outputs _ H.1.outputs (next_lines l) _ refl (joint_outputs h i l) r3 u _
-    c.in_ok-outputs.ensures.exact in
-    let a = lines_of c.in_ok-gates.gates.items c.lines-4.new.noted in
-    let r5 =
-    past_lines (gate_line h.most) h.gates _ H.1.gates (next_lines u) _ refl (joint_gates h i l u) r4 a _
-    c.in_ok-gates.ensures.exact in
-    let n0 = names_data c.in_ok-names.names in
-    let en = none_named h.most i l u a n0 c.len.result c.len-2.result c.len-3.result c.in_ok-names.ensures.none
-    (omega (arith, c.len.ensures, c.in_ok-inputs.inputs.ok.0))
-    (omega (arith, c.len-2.ensures, c.in_ok-latches.latches.ok.0))
-    (omega (arith, c.len-3.ensures, c.in_ok-outputs.outputs.ok.0)) in
+    let b = (goal.at.returns-in_err-symbols-clause-exact c).After-symbols in
     draft_fails c.args.text.now c.new-cursor.result _ _ c.new-cursor.ensures.stream
-    (symbols_fail h.most i l u a r5 n0 en _ c.in_err-symbols.ensures.exact) c.from_residual-in_err-symbols.ensures.1
+    (symbols_fail _ _ _ _ _ (behind_gates b) (none_yet b) _ c.in_err-symbols.ensures.exact)
+    c.from_residual-in_err-symbols.ensures.1
 
 pub returns-in_err-comment-clause-exact : goal.returns-in_err-comment-clause-exact
 returns-in_err-comment-clause-exact c =
-    let H = c.in_ok-header.ensures.exact in
-    let h = numbers c.in_ok-header.header.most H.0 in
-    let r1 =
-    past_header c.new-cursor.result c.read_header.new.cursor c.in_ok-header.header.most H.0 H.1.most
-    c.new-cursor.ensures.small H.2 in
-    let i = lines_of c.in_ok-inputs.inputs.items c.lines.new.noted in
-    let r2 =
-    past_lines (input_line h.most) h.inputs _ H.1.inputs no_lines _ c.nothing-noted.ensures (joint_inputs h) r1 i _
-    c.in_ok-inputs.ensures.exact in
-    let l = lines_of c.in_ok-latches.latches.items c.lines-2.new.noted in
-    let r3 =
-    past_lines (latch_line h.most) h.latches _ H.1.latches (next_lines i) _ refl (joint_latches h i) r2 l _
-    c.in_ok-latches.ensures.exact in
-    let u = lines_of c.in_ok-outputs.outputs.items c.lines-3.new.noted in
-    let r4 =
-    past_lines (output_line h.most) h.outputs _ H.1.outputs (next_lines l) _ refl (joint_outputs h i l) r3 u _
-    c.in_ok-outputs.ensures.exact in
-    let a = lines_of c.in_ok-gates.gates.items c.lines-4.new.noted in
-    let r5 =
-    past_lines (gate_line h.most) h.gates _ H.1.gates (next_lines u) _ refl (joint_gates h i l u) r4 a _
-    c.in_ok-gates.ensures.exact in
-    let n0 = names_data c.in_ok-names.names in
-    let en = none_named h.most i l u a n0 c.len.result c.len-2.result c.len-3.result c.in_ok-names.ensures.none
-    (omega (arith, c.len.ensures, c.in_ok-inputs.inputs.ok.0))
-    (omega (arith, c.len-2.ensures, c.in_ok-latches.latches.ok.0))
-    (omega (arith, c.len-3.ensures, c.in_ok-outputs.outputs.ok.0)) in
-    let names = names_data c.symbols.new.names in
-    draft_trails c.args.text.now c.new-cursor.result c.symbols.new.cursor c.comment.new.cursor
-    (draft_of h.most i l u a names) _ _ c.new-cursor.ensures.stream c.in_err-comment.ensures
-    (λ m. all_reads h.most i l u a r5 n0 en names c.symbols.new.cursor c.symbols.new.cursor
-    c.in_ok-symbols.ensures.exact m) c.from_residual-in_err-comment.ensures.1
+    let b = (goal.at.returns-in_err-comment-clause-exact c).After-symbols in
+    draft_trails c.args.text.now c.comment.new.cursor _ c.new-cursor.ensures.stream c.in_err-comment.ensures
+    (λ m. all_reads _ _ _ _ _ (behind_gates b) (none_yet b) c.in_ok-symbols.ensures.exact m)
+    c.from_residual-in_err-comment.ensures.1
 
 pub returns-clause-exact : goal.returns-clause-exact
 returns-clause-exact c =
-    let H = c.in_ok-header.ensures.exact in
-    let h = numbers c.in_ok-header.header.most H.0 in
-    let r1 =
-    past_header c.new-cursor.result c.read_header.new.cursor c.in_ok-header.header.most H.0 H.1.most
-    c.new-cursor.ensures.small H.2 in
-    let i = lines_of c.in_ok-inputs.inputs.items c.lines.new.noted in
-    let r2 =
-    past_lines (input_line h.most) h.inputs _ H.1.inputs no_lines _ c.nothing-noted.ensures (joint_inputs h) r1 i _
-    c.in_ok-inputs.ensures.exact in
-    let l = lines_of c.in_ok-latches.latches.items c.lines-2.new.noted in
-    let r3 =
-    past_lines (latch_line h.most) h.latches _ H.1.latches (next_lines i) _ refl (joint_latches h i) r2 l _
-    c.in_ok-latches.ensures.exact in
-    let u = lines_of c.in_ok-outputs.outputs.items c.lines-3.new.noted in
-    let r4 =
-    past_lines (output_line h.most) h.outputs _ H.1.outputs (next_lines l) _ refl (joint_outputs h i l) r3 u _
-    c.in_ok-outputs.ensures.exact in
-    let a = lines_of c.in_ok-gates.gates.items c.lines-4.new.noted in
-    let r5 =
-    past_lines (gate_line h.most) h.gates _ H.1.gates (next_lines u) _ refl (joint_gates h i l u) r4 a _
-    c.in_ok-gates.ensures.exact in
-    let n0 = names_data c.in_ok-names.names in
-    let en = none_named h.most i l u a n0 c.len.result c.len-2.result c.len-3.result c.in_ok-names.ensures.none
-    (omega (arith, c.len.ensures, c.in_ok-inputs.inputs.ok.0))
-    (omega (arith, c.len-2.ensures, c.in_ok-latches.latches.ok.0))
-    (omega (arith, c.len-3.ensures, c.in_ok-outputs.outputs.ok.0)) in
-    let names = names_data c.symbols.new.names in
-    draft_reads c.args.text.now c.new-cursor.result c.comment.new.cursor (draft_of h.most i l u a names)
-    c.new-cursor.ensures.stream c.in_ok-comment.ensures.1
-    (all_reads h.most i l u a r5 n0 en names c.symbols.new.cursor c.comment.new.cursor c.in_ok-symbols.ensures.exact
-    c.in_ok-comment.ensures.0)
+    let b = (goal.at.returns-clause-exact c).After-symbols in
+    draft_reads c.args.text.now c.new-cursor.ensures.stream c.in_ok-comment.ensures.1
+    (all_reads _ _ _ _ _ (behind_gates b) (none_yet b) c.in_ok-symbols.ensures.exact c.in_ok-comment.ensures.0)
 
 pub returns-clause-sound : goal.returns-clause-sound
 returns-clause-sound c =
+    let b = (goal.at.returns-clause-sound c).After-symbols in let d = two (three (four b)) in
     let most = c.in_ok-header.header.most in
-    let i = lines_of c.in_ok-inputs.inputs.items c.lines.new.noted in
-    let l = lines_of c.in_ok-latches.latches.items c.lines-2.new.noted in
-    let u = lines_of c.in_ok-outputs.outputs.items c.lines-3.new.noted in
-    let a = lines_of c.in_ok-gates.gates.items c.lines-4.new.noted in
-    let names = names_data c.symbols.new.names in
     let n = c.in_ok-symbols.ensures.named in
     let k = c.in_ok-names.ensures.names in
-    sound_draft most i l u a names c.in_ok-header.ensures.small
-    (subst (λ (x : Lines ℕ). Grown (AddsInput most) x i) c.nothing-noted.ensures c.in_ok-inputs.ensures.grown)
-    c.in_ok-latches.ensures.grown
-    c.in_ok-outputs.ensures.grown c.in_ok-gates.ensures.grown
-    (omega (
-      arith,
-      length-map c.symbols.new.names.inputs.items name_bytes,
-      c.symbols.new.names.inputs.ok.0,
-      n.inputs_each,
-      k.inputs_each,
-      c.len.ensures,
-      c.in_ok-inputs.inputs.ok.0,
-    ))
-    (omega (
-      arith,
-      length-map c.symbols.new.names.latches.items name_bytes,
-      c.symbols.new.names.latches.ok.0,
-      n.latches_each,
-      k.latches_each,
-      c.len-2.ensures,
-      c.in_ok-latches.latches.ok.0,
-    ))
-    (omega (
-      arith,
-      length-map c.symbols.new.names.outputs.items name_bytes,
-      c.symbols.new.names.outputs.ok.0,
-      n.outputs_each,
-      k.outputs_each,
-      c.len-3.ensures,
-      c.in_ok-outputs.outputs.ok.0,
-    ))
+    sound_draft most (inputs_of d) (latches_of (three (four b))) (outputs_of (four b)) (gates_of b)
+    (names_data c.symbols.new.names) c.in_ok-header.ensures.small
+    (subst (λ (x : Lines ℕ). Grown (AddsInput most) x (inputs_of d)) c.nothing-noted.ensures
+    c.in_ok-inputs.ensures.grown)
+    c.in_ok-latches.ensures.grown c.in_ok-outputs.ensures.grown c.in_ok-gates.ensures.grown
+    (each_named c.symbols.new.names.inputs c.in_ok-inputs.inputs n.inputs_each k.inputs_each c.len.ensures)
+    (each_named c.symbols.new.names.latches c.in_ok-latches.latches n.latches_each k.latches_each c.len-2.ensures)
+    (each_named c.symbols.new.names.outputs c.in_ok-outputs.outputs n.outputs_each k.outputs_each c.len-3.ensures)
     n.inputs_named n.latches_named n.outputs_named
 
 pub lines-requires-clause-row : goal.lines-requires-clause-row
-lines-requires-clause-row c =
-    is_row (input_line c.in_ok-header.header.most) (laws_input_line c.in_ok-header.header.most)
+lines-requires-clause-row c = is_row _ (laws_input_line c.in_ok-header.header.most)
 
 pub lines-requires-2-clause-row : goal.lines-requires-2-clause-row
-lines-requires-2-clause-row c =
-    is_row (latch_line c.in_ok-header.header.most) (laws_latch_line c.in_ok-header.header.most)
+lines-requires-2-clause-row c = is_row _ (laws_latch_line c.in_ok-header.header.most)
 
 pub lines-requires-3-clause-row : goal.lines-requires-3-clause-row
-lines-requires-3-clause-row c =
-    is_row (output_line c.in_ok-header.header.most) (laws_output_line c.in_ok-header.header.most)
+lines-requires-3-clause-row c = is_row _ (laws_output_line c.in_ok-header.header.most)
 
 pub lines-requires-4-clause-row : goal.lines-requires-4-clause-row
-lines-requires-4-clause-row c =
-    is_row (gate_line c.in_ok-header.header.most) (laws_gate_line c.in_ok-header.header.most)
+lines-requires-4-clause-row c = is_row _ (laws_gate_line c.in_ok-header.header.most)

@@ -1,5 +1,6 @@
 use Rattle.std.proofs.Common.{arith, ◌∙◌}
-use Rattle.ps_hoa.proofs.NumberLemmas.{checked-front, checked-whole, decimal_value-more}
+use Rattle.ps_text.proofs.Decimals.{value_more}
+use Rattle.ps_hoa.proofs.NumberLemmas.{checked-front, checked-whole}
 use Rattle.ps_hoa.proofs.signs.int_of.Goals as goal
 
 pub returns-in_err-checked_mul : goal.returns-in_err-checked_mul
@@ -24,7 +25,7 @@ loop-digit-preserved c = let s = c.saturating_sub.ensures in (
     c.in_ok-checked_mul.ensures.1,
     c.from.ensures,
     c.loop-digit.invariant.0,
-    decimal_value-more c.args.digits.now c.loop-digit.digit-index c.loop-digit-test.true,
+    value_more c.args.digits.now c.loop-digit.digit-index c.loop-digit-test.true,
   ),
   omega (arith, c.in_ok-value.ensures.0, c.in_ok-value.ensures.1),
 )

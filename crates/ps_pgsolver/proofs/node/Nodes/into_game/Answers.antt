@@ -9,54 +9,49 @@ use Rattle.ps_pgsolver.proofs.GameLemmas.{draft_bare, draft_known, named_count, 
 use Rattle.ps_pgsolver.proofs.KeptLemmas.{ids_are, names_are, each_is_id, draft_is, few_names, plain_kept}
 use Rattle.ps_pgsolver.proofs.NodeLemmas.{names_plain}
 use Rattle.ps_pgsolver.proofs.node.Nodes.into_game.Goals as goal
+use Rattle.ps_pgsolver.proofs.node.Nodes.into_game.Goals.{After-resolve, In_ok-game}
 
 pub resolve-requires : goal.resolve-requires
 resolve-requires c = each_is_id _ _ _ c.self.invariant c.args.self c.self.view_is c.requires
 
+draft : (c : After-resolve) → c.resolve.new.self ≡ draft_of (ids_of c.args.self) c.args.self
+draft c = c.resolve.ensures ∙ draft_is _ _ _ c.self.invariant c.args.self c.self.view_is
+
 pub into_game-requires-clause-bare : goal.into_game-requires-clause-bare
 into_game-requires-clause-bare c =
-    let nodes = c.args.self in
-    let draft : c.resolve.new.self ≡ draft_of (ids_of nodes) nodes = c.resolve.ensures
-    ∙ draft_is _ _ _ c.self.invariant nodes c.self.view_is in
     let are = subst AreNodes c.self.view_is c.self.invariant.well_formed in
-    subst (λ (g : ParityGame). NoneBare g) (sym draft) (draft_bare (ids_of nodes) nodes are.each)
+    subst (λ (g : ParityGame). NoneBare g) (sym (draft (goal.at.into_game-requires-clause-bare c).After-resolve))
+    (draft_bare (ids_of c.args.self) c.args.self are.each)
 
 pub into_game-requires-clause-known : goal.into_game-requires-clause-known
 into_game-requires-clause-known c =
-    let nodes = c.args.self in
-    let draft : c.resolve.new.self ≡ draft_of (ids_of nodes) nodes = c.resolve.ensures
-    ∙ draft_is _ _ _ c.self.invariant nodes c.self.view_is in
-    subst (λ (g : ParityGame). NoneUnknown g) (sym draft) (draft_known (ids_of nodes) nodes refl c.requires)
+    subst (λ (g : ParityGame). NoneUnknown g) (sym (draft (goal.at.into_game-requires-clause-known c).After-resolve))
+    (draft_known (ids_of c.args.self) c.args.self refl c.requires)
+
+ids : (c : In_ok-game) → c.self.inside.ids ≡ ids_of c.args.self
+ids c = ids_are _ _ _ c.self.invariant c.args.self c.self.view_is
+
+game : (c : In_ok-game) → c.in_ok-game.game ≡ game_of c.args.self
+game c = c.in_ok-game.ensures ∙ ap (λ (g : ParityGame). without_repeats g) (draft (goal.at.In_ok-game c).After-resolve)
+
+count : (c : In_ok-game) → vertex_count c.in_ok-game.game ≡ length c.self.inside.ids
+count c = named_count c.in_ok-game.game c.args.self (game c)
+    ∙ sym (length-map c.args.self (λ (n : NodeData). n.id)) ∙ sym (ap length (ids c))
 
 pub with_first_names-requires-clause-id_each : goal.with_first_names-requires-clause-id_each
 with_first_names-requires-clause-id_each c =
-    let nodes = c.args.self in
-    let draft : c.resolve.new.self ≡ draft_of (ids_of nodes) nodes = c.resolve.ensures
-    ∙ draft_is _ _ _ c.self.invariant nodes c.self.view_is in
-    let ids : c.self.inside.ids ≡ ids_of nodes = ids_are _ _ _ c.self.invariant nodes c.self.view_is in
-    let game : c.in_ok-game.game ≡ game_of nodes = c.in_ok-game.ensures
-    ∙ ap (λ (g : ParityGame). without_repeats g) draft in
-    let count : vertex_count c.in_ok-game.game ≡ length c.self.inside.ids =
-    named_count c.in_ok-game.game nodes game ∙ sym (length-map nodes (λ (n : NodeData). n.id)) ∙ sym (ap length ids) in
-    omega (arith, c.into_list.result.ok.0, ap length c.into_list.ensures.list, count)
+    let a = (goal.at.with_first_names-requires-clause-id_each c).In_ok-game in
+    omega (arith, c.into_list.result.ok.0, ap length c.into_list.ensures.list, count a)
 
 pub with_first_names-requires-clause-names_of_vertices : goal.with_first_names-requires-clause-names_of_vertices
 with_first_names-requires-clause-names_of_vertices c =
-    let nodes = c.args.self in
-    let draft : c.resolve.new.self ≡ draft_of (ids_of nodes) nodes = c.resolve.ensures
-    ∙ draft_is _ _ _ c.self.invariant nodes c.self.view_is in
-    let ids : c.self.inside.ids ≡ ids_of nodes = ids_are _ _ _ c.self.invariant nodes c.self.view_is in
-    let game : c.in_ok-game.game ≡ game_of nodes = c.in_ok-game.ensures
-    ∙ ap (λ (g : ParityGame). without_repeats g) draft in
-    let count : vertex_count c.in_ok-game.game ≡ length c.self.inside.ids =
-    named_count c.in_ok-game.game nodes game ∙ sym (length-map nodes (λ (n : NodeData). n.id)) ∙ sym (ap length ids) in
     let names = c.self.inside.names.items in
     omega (
       arith,
       c.self.inside.names.ok.0,
       length-map names name_bytes,
       few_names (length c.self.inside.ids) (map name_bytes names) c.self.invariant.name_each,
-      count,
+      count (goal.at.with_first_names-requires-clause-names_of_vertices c).In_ok-game,
     )
 
 pub with_first_names-requires-clause-names_plain : goal.with_first_names-requires-clause-names_plain
@@ -67,15 +62,8 @@ with_first_names-requires-clause-names_plain c =
 
 pub returns : goal.returns
 returns c =
-    let nodes = c.args.self in
-    let draft : c.resolve.new.self ≡ draft_of (ids_of nodes) nodes = c.resolve.ensures
-    ∙ draft_is _ _ _ c.self.invariant nodes c.self.view_is in
-    let ids : c.self.inside.ids ≡ ids_of nodes = ids_are _ _ _ c.self.invariant nodes c.self.view_is in
-    let game : c.in_ok-game.game ≡ game_of nodes = c.in_ok-game.ensures
-    ∙ ap (λ (g : ParityGame). without_repeats g) draft in
-    let count : vertex_count c.in_ok-game.game ≡ length c.self.inside.ids =
-    named_count c.in_ok-game.game nodes game ∙ sym (length-map nodes (λ (n : NodeData). n.id)) ∙ sym (ap length ids) in
-    same_named c.with_first_names.result nodes (c.with_first_names.ensures.game ∙ game)
-    (c.with_first_names.ensures.ids ∙ c.into_list.ensures.list ∙ ids)
-    (c.with_first_names.ensures.names ∙ ap (λ k. with_none k (map name_bytes c.self.inside.names.items)) count
-    ∙ names_are _ _ _ c.self.invariant nodes c.self.view_is)
+    let a = (goal.at.returns c).In_ok-game in
+    same_named c.with_first_names.result c.args.self (c.with_first_names.ensures.game ∙ game a)
+    (c.with_first_names.ensures.ids ∙ c.into_list.ensures.list ∙ ids a)
+    (c.with_first_names.ensures.names ∙ ap (λ k. with_none k (map name_bytes c.self.inside.names.items)) (count a)
+    ∙ names_are _ _ _ c.self.invariant c.args.self c.self.view_is)
