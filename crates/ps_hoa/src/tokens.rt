@@ -7,8 +7,9 @@ ghost use Rattle.std.specs.Str.{bytes_eq};
 ghost use Rattle.ps_text.specs.Answers.{Piece};
 ghost use Rattle.ps_hoa.specs.Bytes.{class_of as class, is_digit, is_name_byte as names};
 ghost use Rattle.ps_hoa.specs.Scan.{alias_step, begins_with, behind_next, comment_len, comment_step, fresh, is_finish};
-ghost use Rattle.ps_hoa.specs.Scan.{IsNoBlank, IsTokenClass, IsTokenStep, lex, mark_step, name_step, next_of};
-ghost use Rattle.ps_hoa.specs.Scan.{number_step, quoted_len, SkipsSome, step_len, step_of, stream_of, text_step};
+ghost use Rattle.ps_hoa.specs.Scan.{IsLexeme, IsNoBlank, IsTokenClass, IsTokenStep, lex, mark_step, name_step, next_of};
+ghost use Rattle.ps_hoa.specs.Scan.{number_step, quoted_len, reading, SkipsSome, step_len, step_of, stream_of};
+ghost use Rattle.ps_hoa.specs.Scan.{text_step};
 ghost use Rattle.ps_hoa.specs.Tokens.{AreTokens, is_known, kind_here, marked, marks_after, Sign, with_name};
 ghost use Rattle.ps_hoa.specs.Spans.{AreBlanks, IsSpan, piece_of};
 
@@ -332,6 +333,37 @@ fn step_at(bytes: &[u8]) -> Step
     }
 }
 
+/// A token by itself, whatever stood before it: what it is, and where.
+#[derive(Clone, Copy)]
+struct Lexeme {
+    kind: Kind,
+    start: usize,
+    stop: usize,
+}
+
+/// The first token from a place on, behind blanks and comments.
+fn first_lexeme(source: &[u8], from: usize) -> Lexeme
+    requires { from ≤ length source.now }
+    ensures blanks { AreBlanks source.now from result.start }
+    ensures from { from ≤ result.start }
+    ensures here { IsLexeme source.now result }
+    ensures same { lex result.start (drop result.start source.now) ≡ lex from (drop from source.now) }
+{
+    let mut at = from;
+    'blanks: loop {
+        match step_at(&source[at..]) {
+            Step::Skip(count) => at += count,
+            Step::Found(kind, count) => {
+                return Lexeme {
+                    kind,
+                    start: at,
+                    stop: at + count,
+                };
+            }
+        }
+    }
+}
+
 /// Where the blanks and comments that begin at a place end.
 pub(crate) fn behind_blanks(source: &[u8], from: usize) -> usize
     requires { from ≤ length source.now }
@@ -341,11 +373,7 @@ pub(crate) fn behind_blanks(source: &[u8], from: usize) -> usize
     ensures token { IsNoBlank (step_of (drop result source.now)) }
     ensures same { lex result (drop result source.now) ≡ lex from (drop from source.now) }
 {
-    let mut at = from;
-    while let Step::Skip(count) = step_at(&source[at..]) {
-        at += count;
-    }
-    at
+    first_lexeme(source, from).start
 }
 
 /// Whether two texts are the same.
@@ -444,19 +472,18 @@ pub struct Token<'a> {
 #[derive(Drop)]
 pub struct Tokens<'a> {
     source: &'a [u8],
-    at: usize,
+    next: Lexeme,
     marks: Marks,
 }
 
 impl<'a> Model for Tokens<'a> {
-    ghost use Rattle.std.specs.Prelude.{◌≤◌, length, drop};
-    ghost use Rattle.ps_hoa.specs.Scan.{Reading, step_of, IsNoBlank};
+    ghost use Rattle.ps_hoa.specs.Scan.{Reading, IsLexeme};
 
     ghost Value = { Reading };
 
-    ghost view = { λ t. record { source = t.source.now; at = t.at; marks = t.marks } };
+    ghost view = { λ t. record { source = t.source.now; at = t.next.start; marks = t.marks } };
 
-    ghost invariant = { λ t. (t.at ≤ length t.source.now) × IsNoBlank (step_of (drop t.at t.source.now)) };
+    ghost invariant = { λ t. IsLexeme t.source.now t.next };
 }
 
 impl<'a> Tokens<'a> {
@@ -471,7 +498,7 @@ impl<'a> Tokens<'a> {
     {
         Tokens {
             source,
-            at: behind_blanks(source, from),
+            next: first_lexeme(source, from),
             marks: Marks::new(),
         }
     }
@@ -483,8 +510,7 @@ impl<'a> Tokens<'a> {
         ensures text { IsSpan self.now.source result }
         ensures start { result.start ≡ self.now.at }
     {
-        let (kind, stop) = self.found();
-        self.token(kind, stop)
+        token_of(self.source, self.next, self.marks)
     }
 
     /// Goes on behind the next token, which it returns.
@@ -497,10 +523,9 @@ impl<'a> Tokens<'a> {
         ensures start { result.start ≡ self.old.at }
         ensures rises { result.stop ≤ self.new.at }
     {
-        let (kind, stop) = self.found();
-        let token = self.token(kind, stop);
-        self.marks.pass(kind, token.text);
-        self.at = behind_blanks(self.source, stop);
+        let token = token_of(self.source, self.next, self.marks);
+        self.marks.pass(self.next.kind, token.text);
+        self.next = first_lexeme(self.source, self.next.stop);
         token
     }
 
@@ -510,37 +535,23 @@ impl<'a> Tokens<'a> {
     {
         self.peek().kind == kind
     }
+}
 
-    /// What the next token is by itself, and where it ends.
-    fn found(&self) -> (Kind, usize)
-        ensures token { step_of (drop self.now.at self.now.source) ≡ Step.Found result.0 (result.1 - self.now.at) }
-        ensures rises { self.now.at ≤ result.1 }
-        ensures within { result.1 ≤ length self.now.source }
-        ensures some { self.now.at < length self.now.source → self.now.at < result.1 }
-        ensures proper { self.now.at < length self.now.source → is_finish result.0 ≡ false }
-    {
-        match step_at(&self.source[self.at..]) {
-            Step::Found(kind, count) => (kind, self.at + count),
-            Step::Skip(_) => unreachable!(),
-        }
-    }
-
-    /// The token of that kind from here to there.
-    fn token(&self, kind: Kind, stop: usize) -> Token<'a>
-        requires rises { self.now.at ≤ stop }
-        requires within { stop ≤ length self.now.source }
-        ensures kind { result.kind ≡ kind_here self.now.marks kind (slice_range self.now.source self.now.at stop) }
-        ensures text { result.text.now ≡ slice_range self.now.source self.now.at stop }
-        ensures start { result.start ≡ self.now.at }
-        ensures stop { result.stop ≡ stop }
-    {
-        let text = &self.source[self.at..stop];
-        Token {
-            kind: self.marks.kind_of(kind, text),
-            text,
-            start: self.at,
-            stop,
-        }
+/// The token that stands there, behind these marks.
+fn token_of<'a>(source: &'a [u8], lexeme: Lexeme, marks: Marks) -> Token<'a>
+    requires { IsLexeme source.now lexeme }
+    ensures next { piece_of result ≡ next_of (stream_of (reading source.now lexeme marks)) }
+    ensures finish { (result.kind ≡ Kind.Finish) ↔ ((stream_of (reading source.now lexeme marks)).pieces ≡ []) }
+    ensures text { result.text.now ≡ slice_range source.now lexeme.start lexeme.stop }
+    ensures start { result.start ≡ lexeme.start }
+    ensures stop { result.stop ≡ lexeme.stop }
+{
+    let text = &source[lexeme.start..lexeme.stop];
+    Token {
+        kind: marks.kind_of(lexeme.kind, text),
+        text,
+        start: lexeme.start,
+        stop: lexeme.stop,
     }
 }
 
