@@ -1,17 +1,12 @@
 -- The header has an outcome from each list of signs: it is read, or has a first fault.
 --     has_string      a string between quotes
 --     has_header      the outcome
-use Rattle.std.proofs.Common.{◌≡◌, ℕ, List, [], ◌∷◌, Option, None, Some, refl, sym, ◌∙◌}
+use Rattle.std.proofs.Common.{ℕ, List, [], refl}
 use Rattle.std.specs.Prelude.{codes}
-use Rattle.ps_text.specs.Parts.{Part, Causes, NoBad, one, times, many, mapped, barred}
-use Rattle.ps_text.specs.Choices.{choice}
-use Rattle.ps_text.specs.Outcomes.{Outcome, was_read, has_fault, HasOutcomes}
-use Rattle.ps_text.proofs.Laws.{Laws}
+use Rattle.ps_text.specs.Parts.{NoBad, one, times, many, mapped, barred}
 use Rattle.ps_text.proofs.Outcomes.{has_give, has_one, has_mapped, has_then, has_either, has_times, has_many}
-use Rattle.ps_text.proofs.Outcomes.{has_barred, has_refusal}
-use Rattle.ps_text.proofs.Covered.{read_as, fault_as}
+use Rattle.ps_text.proofs.Outcomes.{has_barred}
 use Rattle.ps_text.proofs.ChoiceOutcomes.{has_choice}
-use Rattle.ps_text.proofs.Simple.{none_is_some, same_some}
 use Rattle.ps_hoa.specs.Causes.{hoa_causes}
 use Rattle.ps_hoa.specs.Operands.{number_limit, nesting_limit}
 use Rattle.ps_hoa.specs.Labels.{label}
@@ -30,7 +25,8 @@ use Rattle.ps_hoa.specs.declared.tokens.Kind.TheVariants.{Header, Word, Int, Tex
 use Rattle.ps_hoa.proofs.Grammar.OperandLaws.{nothing_apart, Of}
 use Rattle.ps_hoa.proofs.Grammar.BodyLaws.{number_barred}
 use Rattle.ps_hoa.proofs.Grammar.ConditionLaws.{is_int}
-use Rattle.ps_hoa.proofs.Grammar.SignLaws.{is_string, is_value, same_name, laws_int, laws_proposition_name}
+use Rattle.ps_hoa.proofs.Grammar.SignLaws.{is_string, same_name, laws_int, laws_proposition_name}
+use Rattle.ps_hoa.specs.Inner.Items.{is_value}
 use Rattle.ps_hoa.proofs.Grammar.HeaderLaws.{joint_states, joint_start, joint_names, joint_counted_names, joint_alias}
 use Rattle.ps_hoa.proofs.Grammar.HeaderLaws.{joint_named_label, joint_acceptance, joint_counted_condition}
 use Rattle.ps_hoa.proofs.Grammar.HeaderLaws.{joint_controllable}

@@ -1,13 +1,13 @@
 -- What may be wrong with a sign of labels, conditions, the header and the body: the least cause, or that there is none.
 --     decide_kind      a sign's kind, where a test tells it
 --     judge_above, .., judge_close      the least cause of each
-use Rattle.std.proofs.Common.{◌≡◌, ℕ, suc, ◌+◌, ◌<◌, ◌≤◌, ◌^◌, Bool, true, false, List, length, Option, None, Some}
+use Rattle.std.proofs.Common.{◌≡◌, ℕ, suc, ◌+◌, ◌<◌, ◌≤◌, ◌^◌, Bool, true, List, length, Option, None, Some}
 use Rattle.std.proofs.Common.{refl, sym, inl, inr, ◌∙◌, subst}
-use Rattle.std.specs.Prelude.{IfSome, codes}
+use Rattle.std.specs.Prelude.{codes}
 use Rattle.std.proofs.lemmas.Bool.{cases_eq}
 use Rattle.ps_text.specs.Digits.{decimal_value}
 use Rattle.ps_text.specs.Parts.{NoBad}
-use Rattle.ps_text.proofs.Outcomes.{Judged, bad, good}
+use Rattle.ps_text.proofs.Outcomes.{Judged}
 use Rattle.ps_text.proofs.Decisions.{Decided, decide_true, decide_none, decide_not, decide_as, decide_both}
 use Rattle.ps_text.proofs.Decisions.{decide_below}
 use Rattle.ps_text.proofs.Decisions.{judge_none, judge_cause, judge_one, judge_as, judge_if, judge_also}
@@ -30,7 +30,7 @@ use Rattle.ps_hoa.specs.declared.fault.HoaCause.TheVariants as causes
 use Rattle.ps_hoa.specs.declared.tokens.Kind.{Kind}
 use Rattle.ps_hoa.specs.declared.tokens.Kind.TheVariants.{And, AliasName, Int, LeftBracket, LeftParen, Not}
 use Rattle.ps_hoa.specs.Inner.Signs.{IsTestOf}
-use Rattle.ps_hoa.proofs.Grammar.OperandLaws.{false_true}
+use Rattle.ps_hoa.proofs.Grammar.KindSets.{test_of}
 use Rattle.ps_hoa.proofs.Reading.BodyReading.{test_left_bracket}
 
 abbrev pub JudgesAll : {A : Type 0} → (A → HoaCause → Type 0) → Type 0
@@ -40,13 +40,6 @@ JudgesAll {A} Bad = (a : A) → Judged cause_number (Bad a)
 
 pub decide_kind : (test : Kind → Bool) (kind : Kind) → IsTestOf test kind → (k : Kind) → Decided (k ≡ kind)
 decide_kind test kind i k = decide_as (i.1 k) (λ e. subst (λ x. test x ≡ true) (sym e) i.0) (decide_true (test k))
-
-test_and : IsTestOf is_and And
-test_and = (refl, only)
-  where
-    only : (k : Kind) → is_and k ≡ true → k ≡ And
-    only And e = refl
-    only k e = absurd (false_true e)
 
 -- ## Causes
 
@@ -104,7 +97,8 @@ judge_second h t = judge_as cause_number (λ f b. (b.0.0, b.0.1, b.1)) (λ f b. 
     (decide_not (decide_none h.start))))
 
 pub judge_alternating : (state : ℕ) → JudgesAll (IsAlternating state)
-judge_alternating state t = judge_cause cause_number causes.Alternating (decide_kind is_and And test_and t.kind)
+judge_alternating state t = judge_cause cause_number causes.Alternating
+    (decide_kind is_and And (test_of is_and And refl refl) t.kind)
 
 pub judge_name : (names : List (List ℕ)) → JudgesAll (IsBadName names)
 judge_name names t =

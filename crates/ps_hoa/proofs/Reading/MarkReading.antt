@@ -18,6 +18,8 @@ use Rattle.ps_hoa.specs.Tokens.{Sign}
 use Rattle.ps_hoa.specs.declared.fault.HoaCause.{HoaCause}
 use Rattle.ps_hoa.specs.declared.tokens.Kind.{Kind}
 use Rattle.ps_hoa.specs.declared.tokens.Kind.TheVariants.{Finish, Not, And, Or, LeftParen, RightParen}
+use Rattle.ps_hoa.specs.Inner.Signs.{IsTestOf}
+use Rattle.ps_hoa.proofs.Grammar.KindSets.{test_of}
 use Rattle.ps_hoa.proofs.Grammar.OperandLaws.{Odd, Of, false_true, joint_mark, joint_closed, laws_held}
 use Rattle.ps_hoa.proofs.Grammar.LabelLaws.{laws_left, laws_right}
 use Rattle.ps_hoa.proofs.Reading.SingleSigns.{IsOfSigns, reads_one}
@@ -67,40 +69,24 @@ behind_shrinks s new e = subst (λ (x : Stream Sign). length x.pieces ≤ length
     go [] end = omega arith
     go (p ∷ ps) end = omega arith
 
+-- a test that one kind passes, which is not the end
+tests_of : {test : Kind → Bool} {kind : Kind} → IsTestOf test kind → test Finish ≡ false → Tests test kind
+tests_of is proper = record { passes = is.0; only = is.1; proper = proper }
+
 pub tests_not : Tests is_not Not
-tests_not = record { passes = refl; only = only; proper = refl }
-  where
-    only : (k : Kind) → is_not k ≡ true → k ≡ Not
-    only Not e = refl
-    only k e = absurd (false_true e)
+tests_not = tests_of (test_of is_not Not refl refl) refl
 
 pub tests_and : Tests is_and And
-tests_and = record { passes = refl; only = only; proper = refl }
-  where
-    only : (k : Kind) → is_and k ≡ true → k ≡ And
-    only And e = refl
-    only k e = absurd (false_true e)
+tests_and = tests_of (test_of is_and And refl refl) refl
 
 pub tests_or : Tests is_or Or
-tests_or = record { passes = refl; only = only; proper = refl }
-  where
-    only : (k : Kind) → is_or k ≡ true → k ≡ Or
-    only Or e = refl
-    only k e = absurd (false_true e)
+tests_or = tests_of (test_of is_or Or refl refl) refl
 
 pub tests_left : Tests is_left LeftParen
-tests_left = record { passes = refl; only = only; proper = refl }
-  where
-    only : (k : Kind) → is_left k ≡ true → k ≡ LeftParen
-    only LeftParen e = refl
-    only k e = absurd (false_true e)
+tests_left = tests_of (test_of is_left LeftParen refl refl) refl
 
 pub tests_right : Tests is_right RightParen
-tests_right = record { passes = refl; only = only; proper = refl }
-  where
-    only : (k : Kind) → is_right k ≡ true → k ≡ RightParen
-    only RightParen e = refl
-    only k e = absurd (false_true e)
+tests_right = tests_of (test_of is_right RightParen refl refl) refl
 
 -- the sign begins what was read from it on
 pub mark_enters : (test : Kind → Bool) → Laws Odd (mark test) (Of test) Nothing ⊥ → {old mid : Stream Sign} →

@@ -10,7 +10,6 @@ use Rattle.ps_hoa.proofs.Reading.HeaderExits.{exit, first_fails}
 use Rattle.ps_hoa.proofs.Grammar.HeaderLaws.{joint_other, laws_read_over}
 use Rattle.ps_hoa.proofs.Reading.HeaderLoops.{enters_read_over, avoids_read_over}
 use Rattle.ps_hoa.proofs.Grammar.OperandLaws.{Of, nothing_apart}
-use Rattle.ps_hoa.proofs.Grammar.SignLaws.{is_value as is_value_sign}
 use Rattle.ps_hoa.proofs.skipped.other.Goals as goal
 
 pub returns-in_err-other_name : goal.returns-in_err-other_name
@@ -26,14 +25,14 @@ values-smaller c = reads_shrinks (λ w k. (laws_read_over no_items).null w k) (c
 
 pub values-preserved : goal.values-preserved
 values-preserved c =
-    λ h. carries_many read_over laws_read_over (nothing_apart (Of is_value_sign)) hoa_causes (c.values.invariant h)
+    λ h. carries_many read_over laws_read_over (nothing_apart (Of is_value)) hoa_causes (c.values.invariant h)
     (c.in_ok-read_over.ensures h)
 
 pub returns-in_err-read_over : goal.returns-in_err-read_over
 returns-in_err-read_over c = λ h.
     let s = stream_of c.values.tokens in
     exit _ _ _ _ _ _ (carries_stops hoa_causes (other_item h) (many read_over h) _ _ _ (c.values.invariant h)
-    (many_fails read_over laws_read_over (nothing_apart (Of is_value_sign)) hoa_causes h _ _
+    (many_fails read_over laws_read_over (nothing_apart (Of is_value)) hoa_causes h _ _
     (enters_read_over h s (sym (ap (λ p. is_value p.sign.kind) c.peek.ensures.next) ∙ sym c.is_value.ensures
     ∙ c.values-test.true)) (c.in_err-read_over.ensures h))) c.from_residual-in_err-read_over.ensures.1
 
@@ -41,6 +40,6 @@ pub returns : goal.returns
 returns c = λ h.
     let s = stream_of c.values.tokens in
     carries_reads hoa_causes (c.values.invariant h) (many_ends read_over laws_read_over
-    (nothing_apart (Of is_value_sign)) h s
+    (nothing_apart (Of is_value)) h s
     (avoids_read_over s (sym (ap (λ p. is_value p.sign.kind) c.peek.ensures.next) ∙ sym c.is_value.ensures
     ∙ c.values-test.false)))
