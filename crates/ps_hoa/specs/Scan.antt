@@ -159,10 +159,6 @@ pub record IsLexeme (source : List ℕ) (found : Lexeme) : Type 0 where
   pub some : found.start < length source → found.start < found.stop
   pub proper : found.start < length source → is_finish found.kind ≡ false
 
--- where a reader is that comes to a token next
-abbrev pub reading : List ℕ → Lexeme → Marks → Reading
-reading source next marks = record { source = source; at = next.start; marks = marks }
-
 unfoldable pub stream_of : Reading → Stream Sign
 stream_of r = record { pieces = marked r.marks (lex r.at (drop r.at r.source)); end = length r.source }
 

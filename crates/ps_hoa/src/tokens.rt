@@ -8,10 +8,10 @@ ghost use Rattle.ps_text.specs.Answers.{Piece};
 ghost use Rattle.ps_hoa.specs.Bytes.{class_of as class, is_digit, is_name_byte as names};
 ghost use Rattle.ps_hoa.specs.Scan.{alias_step, begins_with, behind_next, comment_len, comment_step, fresh, is_finish};
 ghost use Rattle.ps_hoa.specs.Scan.{IsLexeme, IsNoBlank, IsTokenClass, IsTokenStep, lex, mark_step, name_step, next_of};
-ghost use Rattle.ps_hoa.specs.Scan.{number_step, quoted_len, reading, SkipsSome, step_len, step_of, stream_of};
+ghost use Rattle.ps_hoa.specs.Scan.{number_step, quoted_len, SkipsSome, step_len, step_of, stream_of};
 ghost use Rattle.ps_hoa.specs.Scan.{text_step};
 ghost use Rattle.ps_hoa.specs.Tokens.{AreTokens, is_known, kind_here, marked, marks_after, Sign, with_name};
-ghost use Rattle.ps_hoa.specs.Spans.{AreBlanks, IsSpan, piece_of};
+ghost use Rattle.ps_hoa.specs.Spans.{AreBlanks, IsKept, IsSpan, piece_of};
 
 use std::marker::Model;
 
@@ -472,18 +472,22 @@ pub struct Token<'a> {
 #[derive(Drop)]
 pub struct Tokens<'a> {
     source: &'a [u8],
-    next: Lexeme,
+    /// The token that comes next,
+    next: Token<'a>,
+    /// and what it is by itself.
+    kind: Kind,
     marks: Marks,
 }
 
 impl<'a> Model for Tokens<'a> {
-    ghost use Rattle.ps_hoa.specs.Scan.{Reading, IsLexeme};
+    ghost use Rattle.ps_hoa.specs.Scan.{Reading};
+    ghost use Rattle.ps_hoa.specs.Spans.{IsKept};
 
     ghost Value = { Reading };
 
     ghost view = { λ t. record { source = t.source.now; at = t.next.start; marks = t.marks } };
 
-    ghost invariant = { λ t. IsLexeme t.source.now t.next };
+    ghost invariant = { λ t. IsKept t.source.now t.marks t.kind t.next };
 }
 
 impl<'a> Tokens<'a> {
@@ -496,10 +500,13 @@ impl<'a> Tokens<'a> {
         ensures end { (stream_of result).end ≡ length source.now }
         ensures source { result.source ≡ source.now }
     {
+        let marks = Marks::new();
+        let lexeme = first_lexeme(source, from);
         Tokens {
             source,
-            next: first_lexeme(source, from),
-            marks: Marks::new(),
+            next: token_of(source, lexeme, marks),
+            kind: lexeme.kind,
+            marks,
         }
     }
 
@@ -510,7 +517,7 @@ impl<'a> Tokens<'a> {
         ensures text { IsSpan self.now.source result }
         ensures start { result.start ≡ self.now.at }
     {
-        token_of(self.source, self.next, self.marks)
+        self.next
     }
 
     /// Goes on behind the next token, which it returns.
@@ -523,9 +530,11 @@ impl<'a> Tokens<'a> {
         ensures start { result.start ≡ self.old.at }
         ensures rises { result.stop ≤ self.new.at }
     {
-        let token = token_of(self.source, self.next, self.marks);
-        self.marks.pass(self.next.kind, token.text);
-        self.next = first_lexeme(self.source, self.next.stop);
+        let token = self.next;
+        self.marks.pass(self.kind, token.text);
+        let lexeme = first_lexeme(self.source, token.stop);
+        self.next = token_of(self.source, lexeme, self.marks);
+        self.kind = lexeme.kind;
         token
     }
 
@@ -540,11 +549,8 @@ impl<'a> Tokens<'a> {
 /// The token that stands there, behind these marks.
 fn token_of<'a>(source: &'a [u8], lexeme: Lexeme, marks: Marks) -> Token<'a>
     requires { IsLexeme source.now lexeme }
-    ensures next { piece_of result ≡ next_of (stream_of (reading source.now lexeme marks)) }
-    ensures finish { (result.kind ≡ Kind.Finish) ↔ ((stream_of (reading source.now lexeme marks)).pieces ≡ []) }
-    ensures text { result.text.now ≡ slice_range source.now lexeme.start lexeme.stop }
+    ensures kept { IsKept source.now marks lexeme.kind result }
     ensures start { result.start ≡ lexeme.start }
-    ensures stop { result.stop ≡ lexeme.stop }
 {
     let text = &source[lexeme.start..lexeme.stop];
     Token {

@@ -1,6 +1,6 @@
 -- The pieces still to come, and one token further.
 use Rattle.std.proofs.Common.{◌≡◌, ℕ, suc, zero, ◌+◌, ◌-◌, ◌<◌, ◌≤◌, ◌↔◌, Bool, true, false, cond, List, [], ◌∷◌}
-use Rattle.std.proofs.Common.{length, take, drop, refl, ap, sym, ◌∙◌, arith, length-drop}
+use Rattle.std.proofs.Common.{length, take, drop, refl, ap, sym, subst, ◌∙◌, arith, length-drop}
 use Rattle.std.specs.List.{slice_range}
 use Rattle.std.proofs.lemmas.List.{drop_all, drop-drop}
 use Rattle.std.proofs.Math.Decide.{dec_lt}
@@ -8,12 +8,17 @@ use Rattle.ps_text.specs.Answers.{Piece, Stream}
 use Rattle.ps_hoa.specs.Tokens.{Sign, marked, marks_after, kind_here, is_known}
 use Rattle.ps_hoa.specs.declared.tokens.Kind.{Kind}
 use Rattle.ps_hoa.specs.declared.tokens.Kind.TheVariants.{Header, HeaderAgain, OpenComment, Behind, Finish}
+use Rattle.ps_hoa.specs.Spans.{IsKept, IsSpan, piece_of}
 use Rattle.ps_hoa.specs.declared.tokens.Lexeme.{Lexeme}
+use Rattle.ps_hoa.specs.declared.tokens.Token.{Token}
 use Rattle.ps_hoa.specs.declared.tokens.Marks.{Marks}
 use Rattle.ps_hoa.specs.declared.tokens.Step.TheVariants.{Found}
-use Rattle.ps_hoa.specs.Scan.{lex, lex_behind, step_of, IsLexeme, Reading, reading, stream_of, next_of, behind_next}
+use Rattle.ps_hoa.specs.Scan.{lex, lex_behind, step_of, IsLexeme, Reading, stream_of, next_of, behind_next}
 use Rattle.ps_hoa.specs.Scan.{is_finish, fresh}
 use Rattle.ps_hoa.proofs.Lexing.Scanning.{lex_token}
+
+abbrev before : List ℕ → Lexeme → Marks → Reading
+before source l marks = record { source = source; at = l.start; marks = marks }
 
 abbrev pub token_piece : List ℕ → Lexeme → Marks → Piece Sign
 token_piece source l marks =
@@ -103,7 +108,7 @@ never m kind text h e = other m.ended kind h e
 module _ (source : List ℕ) (l : Lexeme) (marks : Marks) (h : IsLexeme source l) where
   -- a token stands here
   found : l.start < length source →
-      (stream_of (reading source l marks)).pieces ≡ token_piece source l marks ∷ marked (marks_behind source l marks)
+      (stream_of (before source l marks)).pieces ≡ token_piece source l marks ∷ marked (marks_behind source l marks)
       (lex l.stop (drop l.stop source))
   unfolding stream_of
   found some =
@@ -119,9 +124,9 @@ module _ (source : List ℕ) (l : Lexeme) (marks : Marks) (h : IsLexeme source l
       (ap (λ (k : ℕ). lex k (drop (l.stop - l.start) (drop l.start source))) there
       ∙ ap (λ (bytes : List ℕ). lex l.stop bytes) rest)
 
-  pub next_is : next_of (stream_of (reading source l marks)) ≡ token_piece source l marks
+  pub next_is : next_of (stream_of (before source l marks)) ≡ token_piece source l marks
   next_is =
-      let r = reading source l marks in
+      let r = before source l marks in
       (elim (dec_lt l.start (length source)) as (λ _. next_of (stream_of r) ≡ token_piece source l marks) [
         | yes some ↦ next_at (stream_of r) _ _ (found some)
         | no none ↦
@@ -135,9 +140,9 @@ module _ (source : List ℕ) (l : Lexeme) (marks : Marks) (h : IsLexeme source l
 
   pub rest_is : (at : ℕ) → l.stop ≤ at → lex at (drop at source) ≡ lex l.stop (drop l.stop source) →
       stream_of (record { source = source; at = at; marks = marks_behind source l marks }) ≡ behind_next (stream_of
-      (reading source l marks))
+      (before source l marks))
   rest_is at on same =
-      let r = reading source l marks in
+      let r = before source l marks in
       let new : Reading = record { source = source; at = at; marks = marks_behind source l marks } in
       (elim (dec_lt l.start (length source)) as (λ _. stream_of new ≡ behind_next (stream_of r)) [
         | yes some ↦ shown new _ _ (ap (λ (ps : List (Piece Sign)). marked new.marks ps) same) refl
@@ -152,10 +157,10 @@ module _ (source : List ℕ) (l : Lexeme) (marks : Marks) (h : IsLexeme source l
       ])
 
   -- the end of the text is at no token, and nothing else is
-  pub finish_iff : ((token_piece source l marks).sign.kind ≡ Finish) ↔ ((stream_of (reading source l marks)).pieces ≡
+  pub finish_iff : ((token_piece source l marks).sign.kind ≡ Finish) ↔ ((stream_of (before source l marks)).pieces ≡
       [])
   finish_iff =
-      let r = reading source l marks in
+      let r = before source l marks in
       (elim (dec_lt l.start (length source)) as (λ _. ((token_piece source l marks).sign.kind ≡ Finish) ↔
       ((stream_of r).pieces ≡ [])) [
         | yes some ↦ (
@@ -170,15 +175,38 @@ module _ (source : List ℕ) (l : Lexeme) (marks : Marks) (h : IsLexeme source l
             )
       ])
 
-pub piece_same : {k k' : Kind} {t t' : List ℕ} {s s' : ℕ} → k ≡ k' → t ≡ t' → s ≡ s' →
-    ◌≡◌ {A = Piece Sign} (record { sign = record { kind = k; text = t }; start = s })
-    (record { sign = record { kind = k'; text = t' }; start = s' })
-piece_same e f g = λ i. record { sign = record { kind = e i; text = f i }; start = g i }
+-- what the kept token says of a reader
+module _ {source : List ℕ} {marks : Marks} {kind : Kind} {token : Token} (k : IsKept source marks kind token)
+    {r : Reading} (at : (let now : Reading = record { source = source; at = token.start; marks = marks } in now) ≡ r)
+  where
+    here : token.kind ≡ kind_here marks kind (slice_range source token.start token.stop)
+    here = k.here ∙ ap (kind_here marks kind) k.text
+
+    pub kept_next : piece_of token ≡ next_of (stream_of r)
+    kept_next = (λ i. record { sign = record { kind = here i; text = k.text i }; start = token.start })
+        ∙ sym (next_is source _ marks k.lexeme) ∙ ap (λ (s : Reading). next_of (stream_of s)) at
+
+    pub kept_finish : (token.kind ≡ Finish) ↔ ((stream_of r).pieces ≡ [])
+    kept_finish = let w = finish_iff source _ marks k.lexeme in
+        let same = ap (λ (s : Reading). (stream_of s).pieces) at in
+        (λ e. sym same ∙ w.0 (sym here ∙ e), λ e. here ∙ w.1 (same ∙ e))
+
+    pub kept_span : IsSpan r.source token
+    kept_span = subst (λ (s : Reading). IsSpan s.source token) at
+        (record { rises = k.lexeme.rises; within = k.lexeme.within; text = k.text })
+
+    pub kept_rest : {start next : ℕ} {behind : Marks} → start ≡ next → behind ≡ marks_after marks kind token.text.now →
+        token.stop ≤ next → lex next (drop next source) ≡ lex token.stop (drop token.stop source) →
+        stream_of (record { source = source; at = start; marks = behind }) ≡ behind_next (stream_of r)
+    kept_rest {next = next} e f on same =
+        (λ i. stream_of (record { source = source; at = e i; marks = (f ∙ ap (marks_after marks kind) k.text) i }))
+        ∙ rest_is source _ marks k.lexeme next on same ∙ ap (λ (s : Reading). behind_next (stream_of s)) at
 
 -- the pieces from a place on, by their relation to the bytes
-pub pieces_new : (source : List ℕ) (from at : ℕ) (marks : Marks) (pieces : List (Piece Sign)) → marks ≡ fresh →
-    lex at (drop at source) ≡ lex from (drop from source) →
-    lex from (drop from source) ≡ pieces → (stream_of (record { source = source; at = at; marks = marks })).pieces ≡
-    marked fresh pieces
+pub pieces_new : (source : List ℕ) (from at start : ℕ) (marks : Marks) (pieces : List (Piece Sign)) →
+    marks ≡ fresh → start ≡ at → lex at (drop at source) ≡ lex from (drop from source) →
+    lex from (drop from source) ≡ pieces →
+    (stream_of (record { source = source; at = start; marks = marks })).pieces ≡ marked fresh pieces
 unfolding stream_of
-pieces_new source from at marks pieces e same is = λ i. marked (e i) ((same ∙ is) i)
+pieces_new source from at start marks pieces e f same is =
+    λ i. marked (e i) ((ap (λ (k : ℕ). lex k (drop k source)) f ∙ same ∙ is) i)
