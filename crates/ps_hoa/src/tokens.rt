@@ -5,7 +5,7 @@ ghost use Rattle.std.specs.Prelude.{slice_range, IfSome, IsTrue, ◌==◌, ◌&&
 ghost use Rattle.std.specs.List.{prefix_len};
 ghost use Rattle.std.specs.Str.{bytes_eq};
 ghost use Rattle.ps_text.specs.Answers.{Piece};
-ghost use Rattle.ps_hoa.specs.Bytes.{class_of as class, is_digit, is_name_byte as names};
+ghost use Rattle.ps_hoa.specs.Bytes.{class_of as class, is_digit as digit, is_name_byte as names};
 ghost use Rattle.ps_hoa.specs.Scan.{alias_step, begins_with, behind_next, comment_len, comment_step, fresh, is_finish};
 ghost use Rattle.ps_hoa.specs.Scan.{IsLexeme, IsNoBlank, IsTokenClass, IsTokenStep, lex, mark_step, name_step, next_of};
 ghost use Rattle.ps_hoa.specs.Scan.{number_step, quoted_len, SkipsSome, step_len, step_of, stream_of};
@@ -126,23 +126,32 @@ enum Step {
     Found(Kind, usize),
 }
 
+/// Whether a byte is a digit.
+#[tactic(auto, unfolding(crate::specs::Bytes::class_of))]
+fn is_digit(byte: u8) -> bool
+    ensures { result ≡ digit byte }
+{
+    matches!(byte, b'0'..=b'9')
+}
+
 /// How many digits stand at the front.
 fn digits_at(bytes: &[u8]) -> usize
-    ensures value { result ≡ prefix_len is_digit bytes.now }
+    ensures value { result ≡ prefix_len digit bytes.now }
     ensures within { result ≤ length bytes.now }
 {
     let mut count = 0;
-    while count < bytes.len() && matches!(class_of(bytes[count]), Class::Digit) {
+    while count < bytes.len() && is_digit(bytes[count]) {
         count += 1;
     }
     count
 }
 
 /// Whether a byte can stand behind the first one of a name.
+#[tactic(auto, unfolding(crate::specs::Bytes::class_of))]
 pub(crate) fn is_name_byte(byte: u8) -> bool
     ensures { result ≡ names byte }
 {
-    matches!(class_of(byte), Class::Digit | Class::Letter | Class::Dash)
+    matches!(byte, b'0'..=b'9' | b'a'..=b'z' | b'A'..=b'Z' | b'_' | b'-')
 }
 
 /// How many bytes of a name stand at the front.
