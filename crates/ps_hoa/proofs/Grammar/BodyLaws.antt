@@ -27,13 +27,11 @@ use Rattle.ps_hoa.specs.Body.{with_edge, labelled_edge, plain_edge, edge, edges}
 use Rattle.ps_hoa.specs.Inner.Ahead.{begins_edge}
 use Rattle.ps_hoa.specs.declared.fault.HoaCause.{HoaCause}
 use Rattle.ps_hoa.specs.declared.tokens.Kind.{Kind}
-use Rattle.ps_hoa.specs.declared.tokens.Kind.TheVariants.{Int, And, LeftBracket, RightBracket}
-use Rattle.ps_hoa.specs.declared.tokens.Kind.TheVariants.{LeftBrace, RightBrace}
+use Rattle.ps_hoa.specs.declared.tokens.Kind.TheVariants.{Int, And, LeftBracket, RightBracket, LeftBrace, RightBrace}
 use Rattle.ps_hoa.proofs.Grammar.ConditionLaws.{is_int}
 use Rattle.ps_hoa.proofs.Grammar.KindSets.{within, apart, plain}
-use Rattle.ps_hoa.proofs.Grammar.OperandLaws.{Odd, Of, taken_mark, plain_odd, nothing_apart}
-use Rattle.ps_hoa.proofs.Grammar.OperandLaws.{laws_mark}
-use Rattle.ps_hoa.proofs.Grammar.OperandLaws.{only_first, laws_behind}
+use Rattle.ps_hoa.proofs.Grammar.OperandLaws.{Odd, Of, taken_mark, plain_odd, nothing_apart, laws_mark, only_first}
+use Rattle.ps_hoa.proofs.Grammar.OperandLaws.{laws_behind}
 use Rattle.ps_hoa.proofs.Grammar.LabelLaws.{is_start, AndOrMore, laws_label}
 use Rattle.ps_hoa.proofs.Grammar.SignLaws.{laws_sign, int_taken, int_there}
 

@@ -3,7 +3,7 @@
 --     joint_states, .., joint_other      the parts of an item, from the front
 -- proofs/Grammar/WholeHeader goes on with any item and the header.
 use Rattle.std.proofs.Common.{◌≡◌, ℕ, true, List, [], codes, Some, refl, ap, inl, inr}
-use Rattle.ps_text.specs.Parts.{Part, NoBad, give, one, then_by, either, times, many, mapped, barred}
+use Rattle.ps_text.specs.Parts.{Part, NoBad, give, one, then_by, times, many, mapped, barred}
 use Rattle.ps_text.proofs.Laws.{Laws, Joint, Nothing, Or, When, Within, weaker}
 use Rattle.ps_text.proofs.Simple.{Taken, BadSign, none_is_some, laws_give, laws_one, laws_mapped}
 use Rattle.ps_text.proofs.Covered.{laws_either}
@@ -18,7 +18,8 @@ use Rattle.ps_hoa.specs.Header.{int, string, with_states, states_item, IsSecondS
 use Rattle.ps_hoa.specs.Header.{start_item, proposition_name, with_names, names_item, header_scope, with_alias}
 use Rattle.ps_hoa.specs.Header.{alias_item, with_acceptance, acceptance_item, index, with_controllable}
 use Rattle.ps_hoa.specs.Header.{controllable_item, unchanged, tool_item, name_item, other_value, read_over_value}
-use Rattle.ps_hoa.specs.Header.{read_over, other_item}
+use Rattle.ps_hoa.specs.Header.{read_over, other_item, counted_names, named_label, counted_condition, second_string}
+use Rattle.ps_hoa.specs.Header.{strings}
 use Rattle.ps_hoa.specs.Inner.Items.{is_value}
 use Rattle.ps_hoa.specs.declared.fault.HoaCause.{HoaCause}
 use Rattle.ps_hoa.specs.declared.tokens.Kind.{Kind}
@@ -27,11 +28,9 @@ use Rattle.ps_hoa.proofs.Grammar.KindSets.{within, plain}
 use Rattle.ps_hoa.proofs.Grammar.OperandLaws.{Odd, Of, plain_odd, nothing_apart, only_first}
 use Rattle.ps_hoa.proofs.Grammar.LabelLaws.{is_start, AndOrMore, laws_label}
 use Rattle.ps_hoa.proofs.Grammar.ConditionLaws.{is_int, laws_condition}
-use Rattle.ps_hoa.proofs.Grammar.SignLaws.{is_string, is_alias, is_argument}
-use Rattle.ps_hoa.proofs.Grammar.SignLaws.{laws_sign}
-use Rattle.ps_hoa.proofs.Grammar.SignLaws.{laws_behind_sign, joint_behind_sign, Named, Other, named_there, plain_named}
-use Rattle.ps_hoa.proofs.Grammar.SignLaws.{plain_other, laws_name, above_int, laws_int, laws_string}
-use Rattle.ps_hoa.proofs.Grammar.SignLaws.{laws_proposition_name}
+use Rattle.ps_hoa.proofs.Grammar.SignLaws.{is_string, is_alias, is_argument, laws_sign, laws_behind_sign}
+use Rattle.ps_hoa.proofs.Grammar.SignLaws.{joint_behind_sign, Named, Other, named_there, plain_named, plain_other}
+use Rattle.ps_hoa.proofs.Grammar.SignLaws.{laws_name, above_int, laws_int, laws_string, laws_proposition_name}
 use Rattle.ps_hoa.proofs.Grammar.SignLaws.{new_alias, laws_new_alias}
 
 -- ## Items
@@ -112,9 +111,6 @@ pub laws_propositions : (n : ℕ) → Laws Odd (times n proposition_name []) (Of
     (Or Nothing (Of is_string)) (Unit {0})
 laws_propositions n = laws_times proposition_name laws_proposition_name (nothing_apart (Of is_string)) n []
 
-abbrev pub counted_names : HeaderData → Part Sign HeaderData HoaCause
-counted_names h = then_by (int proposition_limit) (λ n. mapped (with_names h) (times n proposition_name []))
-
 laws_counted_names : (h : HeaderData) → Laws Odd (counted_names h) (Of is_int) (Or Nothing (Of is_string)) ⊥
 laws_counted_names h =
     laws_behind_sign (laws_int proposition_limit) (λ n. laws_mapped (with_names h) (times n proposition_name [])
@@ -135,9 +131,6 @@ pub joint_names : (h : HeaderData) → Joint (item_name (codes "AP:")) (λ _. co
 joint_names h = joint_behind_sign (laws_name (codes "AP:") refl) (λ _. laws_counted_names h)
 
 -- `Alias:`
-abbrev pub named_label : HeaderData → Part Sign HeaderData HoaCause
-named_label h = then_by (new_alias h) (λ name. mapped (with_alias h name) (label (header_scope h) nesting_limit))
-
 laws_alias_label : (h : HeaderData) (name : List ℕ) → Laws Odd
     (mapped (with_alias h name) (label (header_scope h) nesting_limit)) (Of is_start) AndOrMore ⊥
 laws_alias_label h name =
@@ -157,9 +150,6 @@ pub joint_alias : (h : HeaderData) → Joint (item_name (codes "Alias:")) (λ _.
 joint_alias h = joint_behind_sign (laws_name (codes "Alias:") refl) (λ _. laws_named_label h)
 
 -- `Acceptance:`
-abbrev pub counted_condition : HeaderData → Part Sign HeaderData HoaCause
-counted_condition h = then_by (int set_limit) (λ n. mapped (with_acceptance h n) (condition nesting_limit))
-
 laws_acceptance_condition : (h : HeaderData) (n : ℕ) → Laws Odd (mapped (with_acceptance h n) (condition nesting_limit))
     (Of is_start) AndOrMore ⊥
 laws_acceptance_condition h n =
@@ -200,9 +190,6 @@ joint_controllable h =
     (λ _. laws_mapped (with_controllable h) (many index []) (laws_indices []))
 
 -- `tool:`
-abbrev pub second_string : HeaderData → Part Sign HeaderData HoaCause
-second_string h = either (mapped (unchanged h) string) (give h)
-
 pub laws_read_string : (h : HeaderData) → Laws Odd (mapped (unchanged h) string) (Of is_string) Nothing ⊥
 laws_read_string h = laws_mapped (unchanged h) string laws_string
 
@@ -223,9 +210,6 @@ laws_second_string h =
     more t (inl (inr k)) = absurd k
     more t (inr (inl k)) = absurd k.0
     more t (inr (inr k)) = k.1
-
-abbrev pub strings : HeaderData → Part Sign HeaderData HoaCause
-strings h = then_by string (λ _. second_string h)
 
 laws_strings : (h : HeaderData) → Laws Odd (strings h) (Of is_string) (Of is_string) ⊥
 laws_strings h = laws_behind_sign laws_string (λ _. laws_second_string h)

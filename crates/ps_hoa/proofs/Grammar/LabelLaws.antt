@@ -16,9 +16,8 @@ use Rattle.ps_hoa.specs.declared.tokens.Kind.{Kind}
 use Rattle.ps_hoa.specs.declared.tokens.Kind.TheVariants.{Word, Int, AliasName, Not, And, Or as OrSign, LeftParen}
 use Rattle.ps_hoa.specs.declared.tokens.Kind.TheVariants.{RightParen}
 use Rattle.ps_hoa.proofs.Grammar.KindSets.{within, apart, plain}
-use Rattle.ps_hoa.proofs.Grammar.OperandLaws.{Odd, Of, nothing_apart, plain_odd, laws_mark}
-use Rattle.ps_hoa.proofs.Grammar.OperandLaws.{laws_behind}
-use Rattle.ps_hoa.proofs.Grammar.OperandLaws.{laws_held, laws_row}
+use Rattle.ps_hoa.proofs.Grammar.OperandLaws.{Odd, Of, nothing_apart, plain_odd, laws_mark, laws_behind, laws_held}
+use Rattle.ps_hoa.proofs.Grammar.OperandLaws.{laws_row}
 
 -- the signs with which an operand begins, and those that are one by themselves
 abbrev pub is_start : Kind → Bool

@@ -5,8 +5,7 @@
 --     laws_name, laws_int, laws_string, laws_proposition_name, laws_new_alias      the laws
 --     other_apart      a name that has a meaning is not read over
 use Rattle.std.proofs.Common.{◌≡◌, ℕ, ◌||◌, Bool, true, false, not, cond, List, [], Option, None, Some, refl, sym, ap}
-use Rattle.std.proofs.Common.{inl}
-use Rattle.std.proofs.Common.{inr, ◌∙◌}
+use Rattle.std.proofs.Common.{inl, inr, ◌∙◌}
 use Rattle.std.specs.Str.{bytes_eq}
 use Rattle.std.proofs.lemmas.Slice.Eq.{bytes_eq-Decides}
 use Rattle.ps_text.specs.Parts.{Part, NoBad, one, then_by}
