@@ -2,6 +2,7 @@
 
 pub mod SignLaws
 pub mod OperandLaws
+pub mod KindSets
 pub mod LabelLaws
 pub mod ConditionLaws
 pub mod HeaderSigns

@@ -126,8 +126,12 @@ string = one string_in NoBad
 abbrev pub with_states : HeaderData → ℕ → HeaderData
 with_states h n = record h { states = Some n }
 
+-- what stands behind the name of an item has a name of its own
+abbrev pub state_count : HeaderData → Part Sign HeaderData HoaCause
+state_count h = mapped (with_states h) (int state_limit)
+
 abbrev pub states_item : HeaderData → Part Sign HeaderData HoaCause
-states_item h = then_by (item_name (codes "States:")) (λ _. mapped (with_states h) (int state_limit))
+states_item h = then_by (item_name (codes "States:")) (λ _. state_count h)
 
 -- a second `Start:`
 abbrev pub IsSecondStart : HeaderData → Sign → HoaCause → Type 0
@@ -176,10 +180,11 @@ proposition_name names = mapped (with_name names) (one string_in (IsBadName name
 abbrev pub with_names : HeaderData → List (List ℕ) → HeaderData
 with_names h names = record h { names = Some names }
 
+abbrev pub counted_names : HeaderData → Part Sign HeaderData HoaCause
+counted_names h = then_by (int proposition_limit) (λ n. mapped (with_names h) (times n proposition_name []))
+
 abbrev pub names_item : HeaderData → Part Sign HeaderData HoaCause
-names_item h =
-    then_by (item_name (codes "AP:")) (λ _. then_by (int proposition_limit)
-    (λ n. mapped (with_names h) (times n proposition_name [])))
+names_item h = then_by (item_name (codes "AP:")) (λ _. counted_names h)
 
 abbrev pub alias_value : Kind → List ℕ → Option (List ℕ)
 alias_value kinds.AliasName text = Some text
@@ -197,18 +202,23 @@ header_scope h = record { names = h.alias_names; propositions = None }
 abbrev pub with_alias : HeaderData → List ℕ → Expression → HeaderData
 with_alias h name e = record h { alias_names = h.alias_names ++ name ∷ []; aliases = h.aliases ++ e ∷ [] }
 
-abbrev pub alias_item : HeaderData → Part Sign HeaderData HoaCause
-alias_item h = then_by (item_name (codes "Alias:")) (λ _.
+abbrev pub named_label : HeaderData → Part Sign HeaderData HoaCause
+named_label h =
     then_by (one (λ s. alias_value s.kind s.text) (IsBadAlias h.alias_names)) (λ name.
-    mapped (with_alias h name) (labels.label (header_scope h) nesting_limit)))
+    mapped (with_alias h name) (labels.label (header_scope h) nesting_limit))
+
+abbrev pub alias_item : HeaderData → Part Sign HeaderData HoaCause
+alias_item h = then_by (item_name (codes "Alias:")) (λ _. named_label h)
 
 abbrev pub with_acceptance : HeaderData → ℕ → Condition → HeaderData
 with_acceptance h n c = record h { acceptance = Some (record { sets = n; condition = c }) }
 
+abbrev pub counted_condition : HeaderData → Part Sign HeaderData HoaCause
+counted_condition h =
+    then_by (int set_limit) (λ n. mapped (with_acceptance h n) (conditions.condition nesting_limit))
+
 abbrev pub acceptance_item : HeaderData → Part Sign HeaderData HoaCause
-acceptance_item h =
-    then_by (item_name (codes "Acceptance:")) (λ _. then_by (int set_limit)
-    (λ n. mapped (with_acceptance h n) (conditions.condition nesting_limit)))
+acceptance_item h = then_by (item_name (codes "Acceptance:")) (λ _. counted_condition h)
 
 -- Each proposition has a place, and all numbers that are no proposition's have one together: of them it matters only
 -- that there is one.
@@ -229,19 +239,30 @@ index ns = mapped (kept ns) (int number_limit)
 abbrev pub with_controllable : HeaderData → List ℕ → HeaderData
 with_controllable h ns = record h { controllable = Some ns }
 
+abbrev pub controlled : HeaderData → Part Sign HeaderData HoaCause
+controlled h = mapped (with_controllable h) (many index [])
+
 abbrev pub controllable_item : HeaderData → Part Sign HeaderData HoaCause
-controllable_item h = then_by (item_name (codes "controllable-AP:")) (λ _. mapped (with_controllable h) (many index []))
+controllable_item h = then_by (item_name (codes "controllable-AP:")) (λ _. controlled h)
 
 -- what is read over changes nothing
 abbrev pub unchanged : HeaderData → List ℕ → HeaderData
 unchanged h _ = h
 
+abbrev pub one_string : HeaderData → Part Sign HeaderData HoaCause
+one_string h = mapped (unchanged h) string
+
+abbrev pub second_string : HeaderData → Part Sign HeaderData HoaCause
+second_string h = either (one_string h) (give h)
+
+abbrev pub strings : HeaderData → Part Sign HeaderData HoaCause
+strings h = then_by string (λ _. second_string h)
+
 abbrev pub tool_item : HeaderData → Part Sign HeaderData HoaCause
-tool_item h =
-    then_by (item_name (codes "tool:")) (λ _. then_by string (λ _. either (mapped (unchanged h) string) (give h)))
+tool_item h = then_by (item_name (codes "tool:")) (λ _. strings h)
 
 abbrev pub name_item : HeaderData → Part Sign HeaderData HoaCause
-name_item h = then_by (item_name (codes "name:")) (λ _. mapped (unchanged h) string)
+name_item h = then_by (item_name (codes "name:")) (λ _. one_string h)
 
 -- any other name that does not begin with a capital
 abbrev pub other_value : Kind → List ℕ → Option (Unit {0})

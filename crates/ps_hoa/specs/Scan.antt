@@ -1,5 +1,6 @@
 -- The tokens found by going over the bytes once: where the reader is, and what is still to come.
-use Rattle.std.specs.Prelude.{◌≡◌, ℕ, zero, suc, ◌+◌, ◌-◌, ◌<◌, ◌&&◌, Bool, true, false, List, [], ◌∷◌, length, take}
+use Rattle.std.specs.Prelude.{◌≡◌, ℕ, zero, suc, ◌+◌, ◌-◌, ◌<◌, ◌≤◌, ◌&&◌, Bool, true, false, List, [], ◌∷◌, length}
+use Rattle.std.specs.Prelude.{take}
 use Rattle.std.specs.Prelude.{drop, codes, if◌then◌else◌, nat_eq, nat_lt, Option, None, Some}
 use Rattle.std.specs.List.{prefix_len}
 use Rattle.std.specs.Str.{bytes_eq}
@@ -14,6 +15,7 @@ use Rattle.ps_hoa.specs.declared.tokens.Kind.TheVariants.{Header, Word, AliasNam
 use Rattle.ps_hoa.specs.declared.tokens.Kind.TheVariants.{OpenComment, Odd, Finish}
 use Rattle.ps_hoa.specs.declared.tokens.Step.{Step}
 use Rattle.ps_hoa.specs.declared.tokens.Step.TheVariants.{Skip, Found}
+use Rattle.ps_hoa.specs.declared.tokens.Lexeme.{Lexeme}
 use Rattle.ps_hoa.specs.declared.tokens.Marks.{Marks}
 
 abbrev pub head_or_zero : List ℕ → ℕ
@@ -148,6 +150,14 @@ pub record Reading : Type 0 where
   pub source : List ℕ
   pub at : ℕ
   pub marks : Marks
+
+-- a token by itself stands there
+pub record IsLexeme (source : List ℕ) (found : Lexeme) : Type 0 where
+  pub rises : found.start ≤ found.stop
+  pub within : found.stop ≤ length source
+  pub token : step_of (drop found.start source) ≡ Found found.kind (found.stop - found.start)
+  pub some : found.start < length source → found.start < found.stop
+  pub proper : found.start < length source → is_finish found.kind ≡ false
 
 unfoldable pub stream_of : Reading → Stream Sign
 stream_of r = record { pieces = marked r.marks (lex r.at (drop r.at r.source)); end = length r.source }

@@ -1,7 +1,10 @@
 -- A token of the code, and where it stands.
 use Rattle.std.specs.Prelude.{◌≡◌, ℕ, ◌+◌, ◌≤◌, List, ◌++◌, length, drop, slice_range}
 use Rattle.ps_text.specs.Answers.{Piece}
-use Rattle.ps_hoa.specs.Tokens.{Sign, IsBlankRun}
+use Rattle.ps_hoa.specs.Scan.{IsLexeme}
+use Rattle.ps_hoa.specs.Tokens.{Sign, IsBlankRun, kind_here}
+use Rattle.ps_hoa.specs.declared.tokens.Kind.{Kind}
+use Rattle.ps_hoa.specs.declared.tokens.Marks.{Marks}
 use Rattle.ps_hoa.specs.declared.tokens.Token.{Token}
 
 -- what the grammar sees of a token
@@ -12,6 +15,12 @@ piece_of token = record { sign = record { kind = token.kind; text = token.text.n
 pub record IsSpan (source : List ℕ) (token : Token) : Type 0 where
   pub rises : token.start ≤ token.stop
   pub within : token.stop ≤ length source
+  pub text : token.text.now ≡ slice_range source token.start token.stop
+
+-- a token that stands there by itself as that kind, and what it is behind these marks
+pub record IsKept (source : List ℕ) (marks : Marks) (kind : Kind) (token : Token) : Type 0 where
+  pub lexeme : IsLexeme source (record { kind = kind; start = token.start; stop = token.stop })
+  pub here : token.kind ≡ kind_here marks kind token.text.now
   pub text : token.text.now ≡ slice_range source token.start token.stop
 
 -- the blanks from one place of a text to another

@@ -1,8 +1,8 @@
 //! The items of a header.
 
-ghost use Rattle.std.specs.Prelude.{◌≡◌, [], None, is_some, option_map, true};
+ghost use Rattle.std.specs.Prelude.{◌≡◌, [], None, Some, is_some, option_map, true};
 ghost use Rattle.ps_label.specs.Expression.{expression};
-ghost use Rattle.ps_text.specs.Parts.{one, many};
+ghost use Rattle.ps_text.specs.Parts.{many};
 ghost use Rattle.ps_hoa.specs.Inner.Flaws.{body_in};
 ghost use Rattle.ps_hoa.specs.Header as parts;
 ghost use Rattle.ps_hoa.specs.Header.{header as header_part, no_items};
@@ -10,6 +10,7 @@ ghost use Rattle.ps_hoa.specs.Inner.Items.{item_at as item_at_sign, item_name_of
 ghost use Rattle.ps_hoa.specs.Labels as labels;
 ghost use Rattle.ps_hoa.specs.Operands.{nesting_limit};
 ghost use Rattle.ps_hoa.specs.Inner.Reads.{ReadsAs, Takes};
+ghost use Rattle.ps_hoa.specs.Scan.{Reading, behind_next, next_of, stream_of};
 ghost use Rattle.ps_hoa.specs.Spans.{piece_of};
 ghost use Rattle.ps_hoa.specs.Views.{header_data};
 
@@ -22,7 +23,7 @@ use crate::label::label;
 use crate::names::{Names, Scope};
 use crate::new_names::{new_alias, propositions};
 use crate::refusal::{fault_at, refused};
-use crate::signs::{int, is_item_name, is_kind, item_name, start_state};
+use crate::signs::{int, is_item_name, is_kind, start_state};
 use crate::skipped::{is_other, name, other, tool};
 use crate::tokens::{Kind, Token, Tokens};
 use ps_label::Label;
@@ -121,19 +122,21 @@ fn item_at(token: Token) -> Option<Item>
     }
 }
 
-/// Reads one more item, of those that begin with its name.
+/// Reads one more item, whose name comes next.
 fn read_item<'a>(
     alloc: Global,
     tokens: &mut Tokens<'a>,
     item: Item,
     header: &mut Header<'a>,
 ) -> Result<(), HoaFault>
+    requires { item_at_sign (next_of (stream_of tokens.old)).sign ≡ Some (item_name_of item) }
     ensures { ReadsAs (λ _. header_data header.new) (parts.form_of (header_data header.old) (item_name_of item))
         tokens.old result tokens.new }
 {
+    let token = tokens.advance();
     match item {
         Item::States => states(tokens, header),
-        Item::Start => start(tokens, header),
+        Item::Start => start(tokens, token, header),
         Item::Propositions => names(alloc, tokens, header),
         Item::Alias => alias(alloc, tokens, header),
         Item::Acceptance => acceptance(alloc, tokens, header),
@@ -146,35 +149,26 @@ fn read_item<'a>(
 
 /// Reads the number of states.
 fn states(tokens: &mut Tokens, header: &mut Header) -> Result<(), HoaFault>
-    ensures { ReadsAs (λ _. header_data header.new) (parts.states_item (header_data header.old)) tokens.old
+    ensures { ReadsAs (λ _. header_data header.new) (parts.state_count (header_data header.old)) tokens.old
         result tokens.new }
 {
-    item_name(tokens, b"States:")?;
     header.states = Some(int(tokens, STATE_LIMIT)?);
     Ok(())
 }
 
-/// Reads the start state.
-fn start(tokens: &mut Tokens, header: &mut Header) -> Result<(), HoaFault>
-    ensures { ReadsAs (λ _. header_data header.new) (parts.start_item (header_data header.old)) tokens.old
-        result tokens.new }
+/// Reads the start state behind a token, which is `Start:`.
+fn start(tokens: &mut Tokens, token: Token, header: &mut Header) -> Result<(), HoaFault>
+    ensures { (before : Reading) → piece_of token.entry ≡ next_of (stream_of before) →
+        stream_of tokens.old ≡ behind_next (stream_of before) →
+        ReadsAs (λ _. header_data header.new) (parts.start_item (header_data header.old)) before result tokens.new }
 {
-    start_name(tokens, header)?;
+    start_name(token, header)?;
     header.start = Some(start_state(tokens)?);
     Ok(())
 }
 
-/// Reads `Start:`, which may stand once.
-fn start_name(tokens: &mut Tokens, header: &Header) -> Result<(), HoaFault>
-    ensures { ReadsAs (λ u. u) (one start_name_in (parts.IsSecondStart (header_data header.now))) tokens.old
-        result tokens.new }
-{
-    let token = tokens.advance();
-    start_name_of(token, header)
-}
-
 /// The token is the first `Start:`.
-fn start_name_of(token: Token, header: &Header) -> Result<(), HoaFault>
+fn start_name(token: Token, header: &Header) -> Result<(), HoaFault>
     ensures { Takes (λ u. u) start_name_in (parts.IsSecondStart (header_data header.now))
         (piece_of token.entry) result }
 {
@@ -189,25 +183,23 @@ fn start_name_of(token: Token, header: &Header) -> Result<(), HoaFault>
 
 /// Reads the names of the propositions.
 fn names(alloc: Global, tokens: &mut Tokens, header: &mut Header) -> Result<(), HoaFault>
-    ensures { ReadsAs (λ _. header_data header.new) (parts.names_item (header_data header.old)) tokens.old
+    ensures { ReadsAs (λ _. header_data header.new) (parts.counted_names (header_data header.old)) tokens.old
         result tokens.new }
 {
-    item_name(tokens, b"AP:")?;
     let count = int(tokens, PROPOSITION_LIMIT)?;
     header.names = Some(propositions(alloc, tokens, count)?);
     Ok(())
 }
 
-/// Reads an alias.
+/// Reads an alias, behind `Alias:`.
 fn alias<'a>(
     alloc: Global,
     tokens: &mut Tokens<'a>,
     header: &mut Header<'a>,
 ) -> Result<(), HoaFault>
-    ensures { ReadsAs (λ _. header_data header.new) (parts.alias_item (header_data header.old)) tokens.old
+    ensures { ReadsAs (λ _. header_data header.new) (parts.named_label (header_data header.old)) tokens.old
         result tokens.new }
 {
-    item_name(tokens, b"Alias:")?;
     let name = new_alias(tokens, &header.alias_names)?;
     let label = header_label(alloc, tokens, &header.alias_names)?;
     header.alias_names.push(name)?;
@@ -229,10 +221,9 @@ fn header_label(alloc: Global, tokens: &mut Tokens, names: &Names) -> Result<Lab
 
 /// Reads the acceptance condition.
 fn acceptance(alloc: Global, tokens: &mut Tokens, header: &mut Header) -> Result<(), HoaFault>
-    ensures { ReadsAs (λ _. header_data header.new) (parts.acceptance_item (header_data header.old)) tokens.old
+    ensures { ReadsAs (λ _. header_data header.new) (parts.counted_condition (header_data header.old)) tokens.old
         result tokens.new }
 {
-    item_name(tokens, b"Acceptance:")?;
     let sets = int(tokens, SET_LIMIT)?;
     let condition = condition(alloc, tokens)?;
     header.acceptance = Some(Acceptance { sets, condition });
@@ -241,10 +232,9 @@ fn acceptance(alloc: Global, tokens: &mut Tokens, header: &mut Header) -> Result
 
 /// Reads which propositions are controllable.
 fn controllable(alloc: Global, tokens: &mut Tokens, header: &mut Header) -> Result<(), HoaFault>
-    ensures { ReadsAs (λ _. header_data header.new) (parts.controllable_item (header_data header.old)) tokens.old
+    ensures { ReadsAs (λ _. header_data header.new) (parts.controlled (header_data header.old)) tokens.old
         result tokens.new }
 {
-    item_name(tokens, b"controllable-AP:")?;
     header.controllable = Some(indices(alloc, tokens)?);
     Ok(())
 }

@@ -4,11 +4,11 @@ ghost use Rattle.std.specs.Prelude.{◌≡◌, ◌≢◌, ◌≤◌, ◌↔◌, 
 ghost use Rattle.std.specs.Prelude.{if◌then◌else◌};
 ghost use Rattle.ps_text.specs.Digits.{decimal_value};
 ghost use Rattle.ps_text.specs.Parts.{NoBad, barred as barred_by};
-ghost use Rattle.ps_hoa.specs.Header.{int as int_part, int_in, IsAbove, IsAlternating, item_name as item_name_part};
+ghost use Rattle.ps_hoa.specs.Header.{int as int_part, int_in, IsAbove, IsAlternating};
 ghost use Rattle.ps_hoa.specs.Header.{name_value, string as string_part, string_in, unescaped as meaning};
 ghost use Rattle.ps_hoa.specs.Operands.{mark as mark_part, mark_in, number_limit};
 ghost use Rattle.ps_hoa.specs.Inner.Reads.{ReadsAs, Takes};
-ghost use Rattle.ps_hoa.specs.Inner.Signs.{inside, IsTestOf, name_in};
+ghost use Rattle.ps_hoa.specs.Inner.Signs.{inside, IsTestOf};
 ghost use Rattle.ps_hoa.specs.Spans.{piece_of};
 ghost use Rattle.ps_hoa.specs.declared.tokens.Kind.{Kind};
 
@@ -44,25 +44,6 @@ pub(crate) fn is_kind(token: Token, kind: Kind) -> bool
     ensures { (result ≡ true) ↔ (token.entry.kind ≡ kind) }
 {
     token.kind == kind
-}
-
-/// Reads the name of an item.
-pub(crate) fn item_name(tokens: &mut Tokens, name: &[u8]) -> Result<(), HoaFault>
-    ensures { ReadsAs (λ u. u) (item_name_part name.now) tokens.old result tokens.new }
-{
-    let token = tokens.advance();
-    item_name_of(token, name)
-}
-
-/// The token is the name of an item.
-fn item_name_of(token: Token, name: &[u8]) -> Result<(), HoaFault>
-    ensures { Takes (λ u. u) (name_in name.now) NoBad (piece_of token.entry) result }
-{
-    if is_item_name(token, name) {
-        Ok(())
-    } else {
-        Err(refused(token))
-    }
 }
 
 /// Whether a token is the name of an item.

@@ -1,24 +1,23 @@
 //! Items that are read over.
 
 ghost use Rattle.std.specs.Prelude.{◌≡◌, is_some};
-ghost use Rattle.ps_text.specs.Parts.{NoBad, one};
+ghost use Rattle.ps_text.specs.Parts.{many};
 ghost use Rattle.ps_hoa.specs.Header as parts;
 ghost use Rattle.ps_hoa.specs.Header.{HeaderData};
-ghost use Rattle.ps_hoa.specs.Inner.Items.{is_value as is_value_kind, other_in, read_over_in};
+ghost use Rattle.ps_hoa.specs.Inner.Items.{is_value as is_value_kind, read_over_in};
 ghost use Rattle.ps_hoa.specs.Operands.{number_limit};
 ghost use Rattle.ps_hoa.specs.Inner.Reads.{ReadsAs, Takes};
 ghost use Rattle.ps_hoa.specs.Spans.{piece_of};
 
 use crate::fault::{HoaCause, HoaFault};
 use crate::refusal::{begins_capital, fault_at, is_spelled, refused};
-use crate::signs::{int_of, is_item_name, item_name, quoted};
+use crate::signs::{int_of, is_item_name, quoted};
 use crate::tokens::{Kind, Token, Tokens};
 
 /// Reads over the name of a tool, and its version if it stands there.
 pub(crate) fn tool(tokens: &mut Tokens) -> Result<(), HoaFault>
-    ensures { (h : HeaderData) → ReadsAs (λ _. h) (parts.tool_item h) tokens.old result tokens.new }
+    ensures { (h : HeaderData) → ReadsAs (λ _. h) (parts.strings h) tokens.old result tokens.new }
 {
-    item_name(tokens, b"tool:")?;
     quoted(tokens)?;
     if tokens.is_at(Kind::Text) {
         quoted(tokens)?;
@@ -28,41 +27,20 @@ pub(crate) fn tool(tokens: &mut Tokens) -> Result<(), HoaFault>
 
 /// Reads over the name of the automaton.
 pub(crate) fn name(tokens: &mut Tokens) -> Result<(), HoaFault>
-    ensures { (h : HeaderData) → ReadsAs (λ _. h) (parts.name_item h) tokens.old result tokens.new }
+    ensures { (h : HeaderData) → ReadsAs (λ _. h) (parts.one_string h) tokens.old result tokens.new }
 {
-    item_name(tokens, b"name:")?;
     quoted(tokens)?;
     Ok(())
 }
 
-/// Reads over an item whose name has no meaning here.
+/// Reads over what stands behind a name that has no meaning here.
 pub(crate) fn other(tokens: &mut Tokens) -> Result<(), HoaFault>
-    ensures { (h : HeaderData) → ReadsAs (λ _. h) (parts.other_item h) tokens.old result tokens.new }
+    ensures { (h : HeaderData) → ReadsAs (λ _. h) (many parts.read_over h) tokens.old result tokens.new }
 {
-    other_name(tokens)?;
     'values: while is_value(tokens.peek()) {
         read_over(tokens)?;
     }
     Ok(())
-}
-
-/// Reads a name that has no meaning here.
-fn other_name(tokens: &mut Tokens) -> Result<(), HoaFault>
-    ensures { ReadsAs (λ u. u) (one other_in NoBad) tokens.old result tokens.new }
-{
-    let token = tokens.advance();
-    other_name_of(token)
-}
-
-/// The token is a name that has no meaning here.
-fn other_name_of(token: Token) -> Result<(), HoaFault>
-    ensures { Takes (λ u. u) other_in NoBad (piece_of token.entry) result }
-{
-    if is_other(token) {
-        Ok(())
-    } else {
-        Err(refused(token))
-    }
 }
 
 /// Whether a token is a name that has no meaning here.

@@ -1,16 +1,16 @@
 //! Tokens of an HOA text.
 
 ghost use Rattle.std.specs.Prelude.{◌≡◌, ℕ, ◌+◌, ◌-◌, ◌<◌, ◌≤◌, ◌↔◌, false, true, List, [], length, drop, slice_index};
-ghost use Rattle.std.specs.Prelude.{slice_range, IfSome, IsTrue, ◌==◌, ◌&&◌};
+ghost use Rattle.std.specs.Prelude.{IfSome, IsTrue, ◌==◌, ◌&&◌};
 ghost use Rattle.std.specs.List.{prefix_len};
 ghost use Rattle.std.specs.Str.{bytes_eq};
 ghost use Rattle.ps_text.specs.Answers.{Piece};
-ghost use Rattle.ps_hoa.specs.Bytes.{class_of as class, is_digit, is_name_byte as names};
-ghost use Rattle.ps_hoa.specs.Scan.{alias_step, begins_with, behind_next, comment_len, comment_step, fresh, is_finish};
-ghost use Rattle.ps_hoa.specs.Scan.{IsNoBlank, IsTokenClass, IsTokenStep, lex, mark_step, name_step, next_of};
+ghost use Rattle.ps_hoa.specs.Bytes.{class_of as class, is_digit as digit, is_name_byte as names};
+ghost use Rattle.ps_hoa.specs.Scan.{alias_step, begins_with, behind_next, comment_len, comment_step, fresh};
+ghost use Rattle.ps_hoa.specs.Scan.{IsLexeme, IsNoBlank, IsTokenClass, IsTokenStep, lex, mark_step, name_step, next_of};
 ghost use Rattle.ps_hoa.specs.Scan.{number_step, quoted_len, SkipsSome, step_len, step_of, stream_of, text_step};
 ghost use Rattle.ps_hoa.specs.Tokens.{AreTokens, is_known, kind_here, marked, marks_after, Sign, with_name};
-ghost use Rattle.ps_hoa.specs.Spans.{AreBlanks, IsSpan, piece_of};
+ghost use Rattle.ps_hoa.specs.Spans.{AreBlanks, IsKept, IsSpan, piece_of};
 
 use std::marker::Model;
 
@@ -125,23 +125,32 @@ enum Step {
     Found(Kind, usize),
 }
 
+/// Whether a byte is a digit.
+#[tactic(auto, unfolding(crate::specs::Bytes::class_of))]
+fn is_digit(byte: u8) -> bool
+    ensures { result ≡ digit byte }
+{
+    matches!(byte, b'0'..=b'9')
+}
+
 /// How many digits stand at the front.
 fn digits_at(bytes: &[u8]) -> usize
-    ensures value { result ≡ prefix_len is_digit bytes.now }
+    ensures value { result ≡ prefix_len digit bytes.now }
     ensures within { result ≤ length bytes.now }
 {
     let mut count = 0;
-    while count < bytes.len() && matches!(class_of(bytes[count]), Class::Digit) {
+    while count < bytes.len() && is_digit(bytes[count]) {
         count += 1;
     }
     count
 }
 
 /// Whether a byte can stand behind the first one of a name.
+#[tactic(auto, unfolding(crate::specs::Bytes::class_of))]
 pub(crate) fn is_name_byte(byte: u8) -> bool
     ensures { result ≡ names byte }
 {
-    matches!(class_of(byte), Class::Digit | Class::Letter | Class::Dash)
+    matches!(byte, b'0'..=b'9' | b'a'..=b'z' | b'A'..=b'Z' | b'_' | b'-')
 }
 
 /// How many bytes of a name stand at the front.
@@ -332,6 +341,37 @@ fn step_at(bytes: &[u8]) -> Step
     }
 }
 
+/// A token by itself, whatever stood before it: what it is, and where.
+#[derive(Clone, Copy)]
+struct Lexeme {
+    kind: Kind,
+    start: usize,
+    stop: usize,
+}
+
+/// The first token from a place on, behind blanks and comments.
+fn first_lexeme(source: &[u8], from: usize) -> Lexeme
+    requires { from ≤ length source.now }
+    ensures blanks { AreBlanks source.now from result.start }
+    ensures from { from ≤ result.start }
+    ensures here { IsLexeme source.now result }
+    ensures same { lex result.start (drop result.start source.now) ≡ lex from (drop from source.now) }
+{
+    let mut at = from;
+    'blanks: loop {
+        match step_at(&source[at..]) {
+            Step::Skip(count) => at += count,
+            Step::Found(kind, count) => {
+                return Lexeme {
+                    kind,
+                    start: at,
+                    stop: at + count,
+                };
+            }
+        }
+    }
+}
+
 /// Where the blanks and comments that begin at a place end.
 pub(crate) fn behind_blanks(source: &[u8], from: usize) -> usize
     requires { from ≤ length source.now }
@@ -341,11 +381,7 @@ pub(crate) fn behind_blanks(source: &[u8], from: usize) -> usize
     ensures token { IsNoBlank (step_of (drop result source.now)) }
     ensures same { lex result (drop result source.now) ≡ lex from (drop from source.now) }
 {
-    let mut at = from;
-    while let Step::Skip(count) = step_at(&source[at..]) {
-        at += count;
-    }
-    at
+    first_lexeme(source, from).start
 }
 
 /// Whether two texts are the same.
@@ -444,19 +480,22 @@ pub struct Token<'a> {
 #[derive(Drop)]
 pub struct Tokens<'a> {
     source: &'a [u8],
-    at: usize,
+    /// The token that comes next,
+    next: Token<'a>,
+    /// and what it is by itself.
+    kind: Kind,
     marks: Marks,
 }
 
 impl<'a> Model for Tokens<'a> {
-    ghost use Rattle.std.specs.Prelude.{◌≤◌, length, drop};
-    ghost use Rattle.ps_hoa.specs.Scan.{Reading, step_of, IsNoBlank};
+    ghost use Rattle.ps_hoa.specs.Scan.{Reading};
+    ghost use Rattle.ps_hoa.specs.Spans.{IsKept};
 
     ghost Value = { Reading };
 
-    ghost view = { λ t. record { source = t.source.now; at = t.at; marks = t.marks } };
+    ghost view = { λ t. record { source = t.source.now; at = t.next.start; marks = t.marks } };
 
-    ghost invariant = { λ t. (t.at ≤ length t.source.now) × IsNoBlank (step_of (drop t.at t.source.now)) };
+    ghost invariant = { λ t. IsKept t.source.now t.marks t.kind t.next };
 }
 
 impl<'a> Tokens<'a> {
@@ -469,10 +508,13 @@ impl<'a> Tokens<'a> {
         ensures end { (stream_of result).end ≡ length source.now }
         ensures source { result.source ≡ source.now }
     {
+        let marks = Marks::new();
+        let lexeme = first_lexeme(source, from);
         Tokens {
             source,
-            at: behind_blanks(source, from),
-            marks: Marks::new(),
+            next: token_of(source, lexeme, marks),
+            kind: lexeme.kind,
+            marks,
         }
     }
 
@@ -483,8 +525,7 @@ impl<'a> Tokens<'a> {
         ensures text { IsSpan self.now.source result }
         ensures start { result.start ≡ self.now.at }
     {
-        let (kind, stop) = self.found();
-        self.token(kind, stop)
+        self.next
     }
 
     /// Goes on behind the next token, which it returns.
@@ -497,10 +538,11 @@ impl<'a> Tokens<'a> {
         ensures start { result.start ≡ self.old.at }
         ensures rises { result.stop ≤ self.new.at }
     {
-        let (kind, stop) = self.found();
-        let token = self.token(kind, stop);
-        self.marks.pass(kind, token.text);
-        self.at = behind_blanks(self.source, stop);
+        let token = self.next;
+        self.marks.pass(self.kind, token.text);
+        let lexeme = first_lexeme(self.source, token.stop);
+        self.next = token_of(self.source, lexeme, self.marks);
+        self.kind = lexeme.kind;
         token
     }
 
@@ -510,37 +552,20 @@ impl<'a> Tokens<'a> {
     {
         self.peek().kind == kind
     }
+}
 
-    /// What the next token is by itself, and where it ends.
-    fn found(&self) -> (Kind, usize)
-        ensures token { step_of (drop self.now.at self.now.source) ≡ Step.Found result.0 (result.1 - self.now.at) }
-        ensures rises { self.now.at ≤ result.1 }
-        ensures within { result.1 ≤ length self.now.source }
-        ensures some { self.now.at < length self.now.source → self.now.at < result.1 }
-        ensures proper { self.now.at < length self.now.source → is_finish result.0 ≡ false }
-    {
-        match step_at(&self.source[self.at..]) {
-            Step::Found(kind, count) => (kind, self.at + count),
-            Step::Skip(_) => unreachable!(),
-        }
-    }
-
-    /// The token of that kind from here to there.
-    fn token(&self, kind: Kind, stop: usize) -> Token<'a>
-        requires rises { self.now.at ≤ stop }
-        requires within { stop ≤ length self.now.source }
-        ensures kind { result.kind ≡ kind_here self.now.marks kind (slice_range self.now.source self.now.at stop) }
-        ensures text { result.text.now ≡ slice_range self.now.source self.now.at stop }
-        ensures start { result.start ≡ self.now.at }
-        ensures stop { result.stop ≡ stop }
-    {
-        let text = &self.source[self.at..stop];
-        Token {
-            kind: self.marks.kind_of(kind, text),
-            text,
-            start: self.at,
-            stop,
-        }
+/// The token that stands there, behind these marks.
+fn token_of<'a>(source: &'a [u8], lexeme: Lexeme, marks: Marks) -> Token<'a>
+    requires { IsLexeme source.now lexeme }
+    ensures kept { IsKept source.now marks lexeme.kind result }
+    ensures start { result.start ≡ lexeme.start }
+{
+    let text = &source[lexeme.start..lexeme.stop];
+    Token {
+        kind: marks.kind_of(lexeme.kind, text),
+        text,
+        start: lexeme.start,
+        stop: lexeme.stop,
     }
 }
 

@@ -6,13 +6,13 @@
 --     joint_bracket, joint_label      `[`, a label and `]`
 --     joint_edge_label, joint_edge_target, joint_edge_marks, joint_plain_marks      the parts of an edge, from the
 --               front
-use Rattle.std.proofs.Common.{◌≡◌, ℕ, ◌⊎◌, Bool, true, false, List, [], Option, None, Some, refl, ap, inl, inr}
+use Rattle.std.proofs.Common.{ℕ, ◌⊎◌, Bool, true, false, List, [], Option, None, refl, ap, inl, inr}
 use Rattle.ps_label.specs.Expression.{Expression}
-use Rattle.ps_text.specs.Parts.{Part, NoBad, give, one, then_by, many, mapped, barred}
+use Rattle.ps_text.specs.Parts.{Part, give, one, then_by, many, mapped, barred}
 use Rattle.ps_text.proofs.Following.{laws_next}
 use Rattle.ps_text.proofs.Laws.{Laws, Joint, Nothing, Or, When, Within, Apart, weaker}
 use Rattle.ps_text.proofs.Joined.{joint}
-use Rattle.ps_text.proofs.Simple.{Taken, BadSign, none_is_some, laws_one, laws_give, laws_mapped, laws_then}
+use Rattle.ps_text.proofs.Simple.{laws_give, laws_mapped, laws_then}
 use Rattle.ps_text.proofs.Covered.{laws_either}
 use Rattle.ps_text.proofs.Repeated.{laws_many}
 use Rattle.ps_text.proofs.Barred.{Bar, laws_barred}
@@ -20,30 +20,23 @@ use Rattle.ps_hoa.specs.Tokens.{Sign}
 use Rattle.ps_hoa.specs.Operands.{nesting_limit, is_and, is_or, mark}
 use Rattle.ps_hoa.specs.Labels.{label}
 use Rattle.ps_hoa.specs.Files.{RowData}
-use Rattle.ps_hoa.specs.Header.{HeaderData, int_value, int_in, string_value, string_in, string, IsAlternating}
+use Rattle.ps_hoa.specs.Header.{HeaderData, int_in, IsAlternating}
 use Rattle.ps_hoa.specs.Body.{IsBadState, IsBadSet, BadIn, sets_of, is_left_brace, is_right_brace, set_number, closing}
 use Rattle.ps_hoa.specs.Body.{sets, marks, is_left_bracket, is_right_bracket, body_scope, some_label, label_in_brackets}
 use Rattle.ps_hoa.specs.Body.{state_label, is_bracket, IsBadBracket, labelled_target, IsBadPlainTarget, plain_target}
-use Rattle.ps_hoa.specs.Body.{with_edge, labelled_edge, plain_edge, edge, edges, is_end}
+use Rattle.ps_hoa.specs.Body.{with_edge, labelled_edge, plain_edge, edge, edges}
 use Rattle.ps_hoa.specs.Inner.Ahead.{begins_edge}
 use Rattle.ps_hoa.specs.declared.fault.HoaCause.{HoaCause}
 use Rattle.ps_hoa.specs.declared.tokens.Kind.{Kind}
-use Rattle.ps_hoa.specs.declared.tokens.Kind.TheVariants.{Int, Text, And, Or as OrSign, LeftBracket, RightBracket}
-use Rattle.ps_hoa.specs.declared.tokens.Kind.TheVariants.{LeftBrace, RightBrace, End}
-use Rattle.ps_hoa.proofs.Grammar.OperandLaws.{Odd, Of, IsPlain, false_true, taken_mark, plain_odd, nothing_apart}
-use Rattle.ps_hoa.proofs.Grammar.OperandLaws.{laws_mark}
-use Rattle.ps_hoa.proofs.Grammar.OperandLaws.{only_first, laws_behind}
+use Rattle.ps_hoa.specs.declared.tokens.Kind.TheVariants.{Int, And, LeftBracket, RightBracket, LeftBrace, RightBrace}
+use Rattle.ps_hoa.proofs.Grammar.ConditionLaws.{is_int}
+use Rattle.ps_hoa.proofs.Grammar.KindSets.{within, apart, plain}
+use Rattle.ps_hoa.proofs.Grammar.OperandLaws.{Odd, Of, taken_mark, plain_odd, nothing_apart, laws_mark, only_first}
+use Rattle.ps_hoa.proofs.Grammar.OperandLaws.{laws_behind}
 use Rattle.ps_hoa.proofs.Grammar.LabelLaws.{is_start, AndOrMore, laws_label}
+use Rattle.ps_hoa.proofs.Grammar.SignLaws.{laws_sign, int_taken, int_there}
 
 -- ## Kinds of signs
-
-abbrev pub is_int : Kind → Bool
-is_int Int = true
-is_int kind = false
-
-abbrev pub is_text : Kind → Bool
-is_text Text = true
-is_text kind = false
 
 -- the signs with which an edge goes on
 abbrev pub lengthens_edge : Kind → Bool
@@ -51,89 +44,22 @@ lengthens_edge And = true
 lengthens_edge LeftBrace = true
 lengthens_edge kind = false
 
-abbrev pub AreApart : (Kind → Bool) → (Kind → Bool) → Type 0
-AreApart p q = (kind : Kind) → p kind ≡ true → q kind ≡ true → ⊥
-
-apart_kinds : (p q : Kind → Bool) → AreApart p q → Apart (Of p) (Of q)
-apart_kinds p q a t h k = a t.kind h k
-
-plain_int : IsPlain is_int
-plain_int Int text e = refl
-plain_int kind text e = absurd (false_true e)
-
-plain_text : IsPlain is_text
-plain_text Text text e = refl
-plain_text kind text e = absurd (false_true e)
-
-plain_left_brace : IsPlain is_left_brace
-plain_left_brace LeftBrace text e = refl
-plain_left_brace kind text e = absurd (false_true e)
-
-plain_right_brace : IsPlain is_right_brace
-plain_right_brace RightBrace text e = refl
-plain_right_brace kind text e = absurd (false_true e)
-
-plain_left_bracket : IsPlain is_left_bracket
-plain_left_bracket LeftBracket text e = refl
-plain_left_bracket kind text e = absurd (false_true e)
-
-plain_right_bracket : IsPlain is_right_bracket
-plain_right_bracket RightBracket text e = refl
-plain_right_bracket kind text e = absurd (false_true e)
-
-plain_and : IsPlain is_and
-plain_and And text e = refl
-plain_and kind text e = absurd (false_true e)
-
-pub plain_end : IsPlain is_end
-plain_end End text e = refl
-plain_end kind text e = absurd (false_true e)
-
 pub laws_left_brace : Laws Odd (mark is_left_brace) (Of is_left_brace) Nothing ⊥
-laws_left_brace = laws_mark is_left_brace LeftBrace refl plain_left_brace
+laws_left_brace = laws_mark is_left_brace LeftBrace refl (plain is_left_brace refl)
 
 pub laws_right_brace : Laws Odd (mark is_right_brace) (Of is_right_brace) Nothing ⊥
-laws_right_brace = laws_mark is_right_brace RightBrace refl plain_right_brace
+laws_right_brace = laws_mark is_right_brace RightBrace refl (plain is_right_brace refl)
 
 pub laws_left_bracket : Laws Odd (mark is_left_bracket) (Of is_left_bracket) Nothing ⊥
-laws_left_bracket = laws_mark is_left_bracket LeftBracket refl plain_left_bracket
+laws_left_bracket = laws_mark is_left_bracket LeftBracket refl (plain is_left_bracket refl)
 
 pub laws_right_bracket : Laws Odd (mark is_right_bracket) (Of is_right_bracket) Nothing ⊥
-laws_right_bracket = laws_mark is_right_bracket RightBracket refl plain_right_bracket
-
-int_taken : (kind : Kind) (text : List ℕ) (n : ℕ) → int_value kind text ≡ Some n → is_int kind ≡ true
-int_taken Int text n e = refl
-int_taken kind text n e = absurd (none_is_some n e)
-
-int_there : (kind : Kind) (text : List ℕ) → (int_value kind text ≡ None → ⊥) → is_int kind ≡ true
-int_there Int text h = refl
-int_there kind text h = absurd (h refl)
+laws_right_bracket = laws_mark is_right_bracket RightBracket refl (plain is_right_bracket refl)
 
 -- an INT at which only an INT may be bad
 pub laws_number : (Bad : ℕ → HoaCause → Type 0) → Laws Odd (one int_in (BadIn Bad)) (Of is_int) Nothing ⊥
-laws_number Bad = weaker
-    (laws_one int_in (BadIn Bad) Odd (record { kind = Int; text = [] }) _ refl
-    (λ t h o. plain_odd is_int plain_int t (first t (inl h)) o)
-    (λ t h o. plain_odd is_int plain_int t (first t (inr h)) o))
-    first (λ t h. h) (λ h. h)
-  where
-    first : Within (Or (Taken int_in) (BadSign (BadIn Bad))) (Of is_int)
-    first t (inl h) = int_taken t.kind t.text h.0 h.1
-    first t (inr h) = int_there t.kind t.text h.1.1
-
-text_taken : (kind : Kind) (text : List ℕ) (s : List ℕ) → string_value kind text ≡ Some s → is_text kind ≡ true
-text_taken Text text s e = refl
-text_taken kind text s e = absurd (none_is_some s e)
-
-pub laws_text : Laws Odd string (Of is_text) Nothing ⊥
-laws_text = weaker
-    (laws_one string_in NoBad Odd (record { kind = Text; text = [] }) _ refl
-    (λ t h o. plain_odd is_text plain_text t (first t (inl h)) o) (λ t h o. h.1))
-    first (λ t h. h) (λ h. h)
-  where
-    first : Within (Or (Taken string_in) (BadSign (NoBad {T = Sign} {F = HoaCause}))) (Of is_text)
-    first t (inl h) = text_taken t.kind t.text h.0 h.1
-    first t (inr h) = absurd h.1
+laws_number Bad = laws_sign is_int int_in (BadIn Bad) (record { kind = Int; text = [] }) _ refl (plain is_int refl)
+    (λ t h. int_taken t.kind t.text h.0 h.1) (λ t h. int_there t.kind t.text h.1.1)
 
 -- ## Sets
 
@@ -149,11 +75,7 @@ laws_set_numbers count ns = laws_many (set_number count) (laws_set_number count)
 
 int_closes : Apart (Or Nothing (Of is_int)) (Of is_right_brace)
 int_closes t (inl h) k = h
-int_closes t (inr h) k = go t.kind h k
-  where
-    go : AreApart is_int is_right_brace
-    go Int h k = false_true k
-    go kind h k = false_true h
+int_closes t (inr h) k = apart is_int is_right_brace refl t h k
 
 pub joint_sets : (count : ℕ) → Joint (many (set_number count) []) closing
 joint_sets count = joint (laws_set_numbers count []) laws_closing int_closes
@@ -192,16 +114,8 @@ laws_marks h =
 
 label_closes : Apart AndOrMore (Of is_right_bracket)
 label_closes t (inl (inl h)) k = h
-label_closes t (inl (inr h)) k = go t.kind h k
-  where
-    go : (kind : Kind) → is_and kind ≡ true → is_right_bracket kind ≡ true → ⊥
-    go And h k = false_true k
-    go kind h k = false_true h
-label_closes t (inr h) k = go t.kind h k
-  where
-    go : (kind : Kind) → is_or kind ≡ true → is_right_bracket kind ≡ true → ⊥
-    go OrSign h k = false_true k
-    go kind h k = false_true h
+label_closes t (inl (inr h)) k = apart is_and is_right_bracket refl t h k
+label_closes t (inr h) k = apart is_or is_right_bracket refl t h k
 
 laws_after_label : (e : Expression) → Laws Odd (mapped (some_label e) (mark is_right_bracket))
     (Of is_right_bracket) Nothing ⊥
@@ -242,7 +156,8 @@ target_more t (inr h) = after_target t h
 laws_target : (Bad : ℕ → HoaCause → Type 0) → Laws Odd (barred (one int_in (BadIn Bad)) IsAlternating)
     (Of is_int) (Of is_and) ⊥
 laws_target Bad =
-    weaker (laws_barred IsAlternating (laws_number Bad) (λ t b o. plain_odd is_and plain_and t (after_target t b) o))
+    weaker (laws_barred IsAlternating (laws_number Bad) (λ t b o.
+    plain_odd is_and (plain is_and refl) t (after_target t b) o))
     (only_first (Of is_int) (Bar IsAlternating)) target_more (λ k. k)
 
 pub number_barred : Apart Nothing (Bar IsAlternating)
@@ -252,24 +167,15 @@ pub laws_target_number : (Bad : ℕ → HoaCause → Type 0) → Laws Odd (one i
 laws_target_number Bad = laws_number Bad
 
 target_marked : Apart (Of is_and) (Of is_left_brace)
-target_marked t h k = go t.kind h k
-  where
-    go : AreApart is_and is_left_brace
-    go And h k = false_true k
-    go kind h k = false_true h
+target_marked = apart is_and is_left_brace refl
 
 laws_marked : (h : HeaderData) (row : RowData) (label : Option Expression) (target : ℕ) →
     Laws Odd (mapped (with_edge row label target) (marks h)) (Of is_left_brace) (Of is_left_brace) (Unit {0})
 laws_marked h row label target = laws_mapped (with_edge row label target) (marks h) (laws_marks h)
 
 brace_lengthens : Within (Or (Of is_left_brace) (When (Unit {0}) (Of is_and))) (Of lengthens_edge)
-brace_lengthens t h = go t.kind h
-  where
-    go : (kind : Kind) → (is_left_brace kind ≡ true) ⊎ (Unit {0} × (is_and kind ≡ true)) → lengthens_edge kind ≡ true
-    go And h = refl
-    go LeftBrace h = refl
-    go kind (inl h) = absurd (false_true h)
-    go kind (inr h) = absurd (false_true h.1)
+brace_lengthens t (inl h) = within is_left_brace lengthens_edge refl t h
+brace_lengthens t (inr h) = within is_and lengthens_edge refl t h.1
 
 -- a target and marks
 module _ (h : HeaderData) (row : RowData) (label : Option Expression) where
@@ -304,15 +210,9 @@ module _ (h : HeaderData) (before : ℕ) (row : RowData) where
       (nothing_apart _)
 
   laws_edge_bracket : Laws Odd (one is_bracket (IsBadBracket before row)) (Of is_left_bracket) Nothing ⊥
-  laws_edge_bracket = weaker
-      (laws_one is_bracket (IsBadBracket before row) Odd (record { kind = LeftBracket; text = [] }) tt refl
-      (λ t k o. plain_odd is_left_bracket plain_left_bracket t (first t (inl k)) o)
-      (λ t k o. plain_odd is_left_bracket plain_left_bracket t (first t (inr k)) o))
-      first (λ t k. k) (λ k. k)
-    where
-      first : Within (Or (Taken is_bracket) (BadSign (IsBadBracket before row))) (Of is_left_bracket)
-      first t (inl k) = taken_mark is_left_bracket t k.0 k.1
-      first t (inr k) = ap is_left_bracket k.1.0
+  laws_edge_bracket = laws_sign is_left_bracket is_bracket (IsBadBracket before row)
+      (record { kind = LeftBracket; text = [] }) tt refl (plain is_left_bracket refl)
+      (λ t k. taken_mark is_left_bracket t k.0 k.1) (λ t k. ap is_left_bracket k.1.0)
 
   pub joint_edge_label : Joint (one is_bracket (IsBadBracket before row)) (λ _. from_edge_label)
   joint_edge_label = joint laws_edge_bracket (λ _. laws_from_edge_label) (nothing_apart _)
@@ -327,20 +227,11 @@ module _ (h : HeaderData) (before : ℕ) (row : RowData) where
   laws_plain_edge = laws_from_target h row None (IsBadPlainTarget h.states before row)
 
   pub bracket_int : Apart (Of is_left_bracket) (Of is_int)
-  bracket_int t k m = go t.kind k m
-    where
-      go : AreApart is_left_bracket is_int
-      go LeftBracket k m = false_true m
-      go kind k m = false_true k
+  bracket_int = apart is_left_bracket is_int refl
 
   edge_first : Within (Or (Of is_left_bracket) (Of is_int)) (Of begins_edge)
-  edge_first t k = go t.kind k
-    where
-      go : (kind : Kind) → (is_left_bracket kind ≡ true) ⊎ (is_int kind ≡ true) → begins_edge kind ≡ true
-      go LeftBracket k = refl
-      go Int k = refl
-      go kind (inl k) = absurd (false_true k)
-      go kind (inr k) = absurd (false_true k)
+  edge_first t (inl k) = within is_left_bracket begins_edge refl t k
+  edge_first t (inr k) = within is_int begins_edge refl t k
 
   edge_more : (A B C : Sign → Type 0) → Within (Or (Or A A) (Or (When ⊥ B) (When ⊥ C))) A
   edge_more A B C t (inl (inl k)) = k
@@ -357,12 +248,7 @@ module _ (h : HeaderData) (before : ℕ) (row : RowData) where
       none (inr k) = k
 
 pub edge_apart : Apart (Of lengthens_edge) (Of begins_edge)
-edge_apart t h k = go t.kind h k
-  where
-    go : AreApart lengthens_edge begins_edge
-    go And h k = false_true k
-    go LeftBrace h k = false_true k
-    go kind h k = false_true h
+edge_apart = apart lengthens_edge begins_edge refl
 
 pub laws_edges : (h : HeaderData) (before : ℕ) (row : RowData) →
     Laws Odd (edges h before row) (Of begins_edge) (Or (Of lengthens_edge) (Of begins_edge)) (Unit {0})

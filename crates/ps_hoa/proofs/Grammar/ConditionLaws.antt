@@ -16,11 +16,10 @@ use Rattle.ps_hoa.specs.Conditions.{visits, set_value, set_in, IsBadSet, BadSet,
 use Rattle.ps_hoa.specs.Conditions.{visit, IsBadStart, BadStart, atom, together, operand, condition}
 use Rattle.ps_hoa.specs.declared.fault.HoaCause.{HoaCause}
 use Rattle.ps_hoa.specs.declared.tokens.Kind.{Kind}
-use Rattle.ps_hoa.specs.declared.tokens.Kind.TheVariants.{Word, Int, Not, LeftParen}
-use Rattle.ps_hoa.proofs.Grammar.OperandLaws.{Odd, Of, false_true, nothing_apart, plain_odd, laws_behind}
-use Rattle.ps_hoa.proofs.Grammar.OperandLaws.{laws_closed}
-use Rattle.ps_hoa.proofs.Grammar.LabelLaws.{is_start, plain_start, laws_not, laws_left, laws_right, AndOrMore}
-use Rattle.ps_hoa.proofs.Grammar.LabelLaws.{laws_rows}
+use Rattle.ps_hoa.specs.declared.tokens.Kind.TheVariants.{Word, Int, LeftParen}
+use Rattle.ps_hoa.proofs.Grammar.KindSets.{within, apart, plain}
+use Rattle.ps_hoa.proofs.Grammar.OperandLaws.{Odd, Of, nothing_apart, plain_odd, only_first, laws_behind, laws_closed}
+use Rattle.ps_hoa.proofs.Grammar.LabelLaws.{is_start, laws_not, laws_left, laws_right, AndOrMore, laws_rows}
 use Rattle.ps_hoa.proofs.Grammar.LabelLaws.{laws_nested, no_more, no_null}
 
 abbrev pub is_word : Kind → Bool
@@ -56,24 +55,12 @@ none_bad : (room : ℕ) (kind : Kind) (f : HoaCause) → IsBadStart (suc room) k
 none_bad room LeftParen f h = omega (arith, h.0)
 none_bad room kind f h = h
 
-word_start : (kind : Kind) → is_word kind ≡ true → is_start kind ≡ true
-word_start Word e = refl
-word_start kind e = absurd (false_true e)
-
-int_start : (kind : Kind) → is_int kind ≡ true → is_start kind ≡ true
-int_start Int e = refl
-int_start kind e = absurd (false_true e)
-
-left_start : (kind : Kind) → is_left kind ≡ true → is_start kind ≡ true
-left_start LeftParen e = refl
-left_start kind e = absurd (false_true e)
-
 -- ## Sets
 
 pub laws_set : (complemented : Bool) → Laws Odd (set complemented) (Of is_int) Nothing ⊥
 laws_set complemented = weaker (laws_one (set_in complemented) BadSet Odd (record { kind = Int; text = [] }) _ refl
-    (λ t h o. plain_odd is_start plain_start t (int_start t.kind (first t (inl h))) o)
-    (λ t h o. plain_odd is_start plain_start t (int_start t.kind (first t (inr h))) o))
+    (λ t h o. plain_odd is_start (plain is_start refl) t (within is_int is_start refl t (first t (inl h))) o)
+    (λ t h o. plain_odd is_start (plain is_start refl) t (within is_int is_start refl t (first t (inr h))) o))
     first (λ t h. h) (λ h. h)
   where
     first : Within (Or (Taken (set_in complemented)) (BadSign BadSet)) (Of is_int)
@@ -81,11 +68,7 @@ laws_set complemented = weaker (laws_one (set_in complemented) BadSet Odd (recor
     first t (inr h) = int_bad t.kind t.text h.0 h.1
 
 pub not_int : Apart (Of is_not) (Of is_int)
-not_int t h k = go t.kind h k
-  where
-    go : (kind : Kind) → is_not kind ≡ true → is_int kind ≡ true → ⊥
-    go Not h k = false_true k
-    go kind h k = false_true h
+not_int = apart is_not is_int refl
 
 pub laws_complement : Laws Odd (then_by (mark is_not) (λ _. set true)) (Of is_not) Nothing ⊥
 laws_complement = laws_behind is_not laws_not (laws_set true)
@@ -99,7 +82,8 @@ laws_any_set =
 
 pub laws_often : Laws Odd often_or_not (Taken often_in) Nothing ⊥
 laws_often = weaker (laws_one often_in NoBad Odd (record { kind = Word; text = codes "Inf" }) true refl
-    (λ t h o. plain_odd is_start plain_start t (word_start t.kind (word_often t.kind t.text h.0 h.1)) o) (λ t h o. h.1))
+    (λ t h o. plain_odd is_start (plain is_start refl) t (within is_word is_start refl t
+    (word_often t.kind t.text h.0 h.1)) o) (λ t h o. h.1))
     first (λ t h. h) (λ h. h)
   where
     first : Within (Or (Taken often_in) (BadSign (NoBad {T = Sign} {F = HoaCause}))) (Taken often_in)
@@ -160,16 +144,15 @@ FirstAtom room = Or (Taken constant_in) (BadSign (BadStart room))
 
 pub laws_constant : (room : ℕ) → Laws Odd (one constant_in (BadStart room)) (FirstAtom room) Nothing ⊥
 laws_constant room = laws_one constant_in (BadStart room) Odd (record { kind = Word; text = codes "t" }) _ refl
-    (λ t h o. plain_odd is_start plain_start t (word_start t.kind (word_constant t.kind t.text h.0 h.1)) o)
-    (λ t h o. plain_odd is_start plain_start t (left_start t.kind (left_bad room t.kind h.0 h.1)) o)
+    (λ t h o. plain_odd is_start (plain is_start refl) t (within is_word is_start refl t
+    (word_constant t.kind t.text h.0 h.1)) o)
+    (λ t h o. plain_odd is_start (plain is_start refl) t (within is_left is_start refl t (left_bad room t.kind h.0 h.1))
+    o)
 
 pub atom_often : (room : ℕ) → Apart (FirstAtom room) (Taken often_in)
 atom_often room t (inl h) k = constant_often t h k
-atom_often room t (inr h) k = apart t.kind (left_bad room t.kind h.0 h.1) (word_often t.kind t.text k.0 k.1)
-  where
-    apart : (kind : Kind) → is_left kind ≡ true → is_word kind ≡ true → ⊥
-    apart LeftParen h k = false_true k
-    apart kind h k = false_true h
+atom_often room t (inr h) k =
+    apart is_left is_word refl t (left_bad room t.kind h.0 h.1) (word_often t.kind t.text k.0 k.1)
 
 pub laws_atom : (room : ℕ) → Laws Odd (atom room) (Or (FirstAtom room) (Taken often_in)) Nothing ⊥
 laws_atom room =
@@ -177,9 +160,9 @@ laws_atom room =
     (no_more (Taken often_in) (FirstAtom room)) no_null
 
 first_atom : (room : ℕ) → Within (Or (FirstAtom room) (Taken often_in)) (Of is_start)
-first_atom room t (inl (inl h)) = word_start t.kind (word_constant t.kind t.text h.0 h.1)
-first_atom room t (inl (inr h)) = left_start t.kind (left_bad room t.kind h.0 h.1)
-first_atom room t (inr h) = word_start t.kind (word_often t.kind t.text h.0 h.1)
+first_atom room t (inl (inl h)) = within is_word is_start refl t (word_constant t.kind t.text h.0 h.1)
+first_atom room t (inl (inr h)) = within is_left is_start refl t (left_bad room t.kind h.0 h.1)
+first_atom room t (inr h) = within is_word is_start refl t (word_often t.kind t.text h.0 h.1)
 
 first_word : (room : ℕ) → Within (Or (FirstAtom (suc room)) (Taken often_in)) (Of is_word)
 first_word room t (inl (inl h)) = word_constant t.kind t.text h.0 h.1
@@ -190,15 +173,11 @@ pub laws_word : (room : ℕ) → Laws Odd (atom (suc room)) (Of is_word) Nothing
 laws_word room = weaker (laws_atom (suc room)) (first_word room) (λ t h. h) (λ h. h)
 
 pub word_left : Apart (Of is_word) (Of is_left)
-word_left t h k = go t.kind h k
-  where
-    go : (kind : Kind) → is_word kind ≡ true → is_left kind ≡ true → ⊥
-    go Word h k = false_true k
-    go kind h k = false_true h
+word_left = apart is_word is_left refl
 
 first_operand : Within (Or (Of is_word) (Of is_left)) (Of is_start)
-first_operand t (inl h) = word_start t.kind h
-first_operand t (inr h) = left_start t.kind h
+first_operand t (inl h) = within is_word is_start refl t h
+first_operand t (inr h) = within is_left is_start refl t h
 
 pub laws_operand : (room : ℕ) → Laws Odd (operand room) (Of is_start) Nothing ⊥
 unfolding operand

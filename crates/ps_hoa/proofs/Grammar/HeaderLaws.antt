@@ -2,15 +2,14 @@
 --     laws_states, .., laws_other      the laws
 --     joint_states, .., joint_other      the parts of an item, from the front
 -- proofs/Grammar/WholeHeader goes on with any item and the header.
-use Rattle.std.proofs.Common.{◌≡◌, ℕ, true, false, List, [], codes, Some, refl, ap, inl, inr}
-use Rattle.ps_text.specs.Parts.{Part, NoBad, give, one, then_by, either, times, many, mapped, barred}
+use Rattle.std.proofs.Common.{◌≡◌, ℕ, true, List, [], codes, Some, refl, ap, inl, inr}
+use Rattle.ps_text.specs.Parts.{Part, NoBad, give, one, then_by, times, many, mapped, barred}
 use Rattle.ps_text.proofs.Laws.{Laws, Joint, Nothing, Or, When, Within, weaker}
 use Rattle.ps_text.proofs.Simple.{Taken, BadSign, none_is_some, laws_give, laws_one, laws_mapped}
 use Rattle.ps_text.proofs.Covered.{laws_either}
 use Rattle.ps_text.proofs.Repeated.{laws_times, laws_many}
 use Rattle.ps_text.proofs.Barred.{Bar, laws_barred}
 use Rattle.ps_hoa.specs.Tokens.{Sign}
-use Rattle.ps_hoa.specs.Causes.{is_unknown_capital}
 use Rattle.ps_hoa.specs.Operands.{number_limit, nesting_limit, is_and, is_or}
 use Rattle.ps_hoa.specs.Labels.{label}
 use Rattle.ps_hoa.specs.Conditions.{condition}
@@ -19,53 +18,22 @@ use Rattle.ps_hoa.specs.Header.{int, string, with_states, states_item, IsSecondS
 use Rattle.ps_hoa.specs.Header.{start_item, proposition_name, with_names, names_item, header_scope, with_alias}
 use Rattle.ps_hoa.specs.Header.{alias_item, with_acceptance, acceptance_item, index, with_controllable}
 use Rattle.ps_hoa.specs.Header.{controllable_item, unchanged, tool_item, name_item, other_value, read_over_value}
-use Rattle.ps_hoa.specs.Header.{read_over, other_item}
+use Rattle.ps_hoa.specs.Header.{read_over, other_item, counted_names, named_label, counted_condition, second_string}
+use Rattle.ps_hoa.specs.Header.{strings}
+use Rattle.ps_hoa.specs.Inner.Items.{is_value}
 use Rattle.ps_hoa.specs.declared.fault.HoaCause.{HoaCause}
 use Rattle.ps_hoa.specs.declared.tokens.Kind.{Kind}
-use Rattle.ps_hoa.specs.declared.tokens.Kind.TheVariants.{Header, Word, Int, Text, And, Or as OrSign}
-use Rattle.ps_hoa.proofs.Grammar.OperandLaws.{Odd, Of, false_true, plain_odd, nothing_apart, only_first}
+use Rattle.ps_hoa.specs.declared.tokens.Kind.TheVariants.{Header, Word, Int, Text}
+use Rattle.ps_hoa.proofs.Grammar.KindSets.{within, plain}
+use Rattle.ps_hoa.proofs.Grammar.OperandLaws.{Odd, Of, plain_odd, nothing_apart, only_first}
 use Rattle.ps_hoa.proofs.Grammar.LabelLaws.{is_start, AndOrMore, laws_label}
 use Rattle.ps_hoa.proofs.Grammar.ConditionLaws.{is_int, laws_condition}
-use Rattle.ps_hoa.proofs.Grammar.SignLaws.{is_string, is_alias, is_value, is_argument, plain_value, plain_and}
-use Rattle.ps_hoa.proofs.Grammar.SignLaws.{laws_sign}
-use Rattle.ps_hoa.proofs.Grammar.SignLaws.{laws_behind_sign, joint_behind_sign, Named, Other, named_there, plain_named}
-use Rattle.ps_hoa.proofs.Grammar.SignLaws.{plain_other, laws_name, above_int, laws_int, laws_string}
-use Rattle.ps_hoa.proofs.Grammar.SignLaws.{laws_proposition_name}
+use Rattle.ps_hoa.proofs.Grammar.SignLaws.{is_string, is_alias, is_argument, laws_sign, laws_behind_sign}
+use Rattle.ps_hoa.proofs.Grammar.SignLaws.{joint_behind_sign, Named, Other, named_there, plain_named, plain_other}
+use Rattle.ps_hoa.proofs.Grammar.SignLaws.{laws_name, above_int, laws_int, laws_string, laws_proposition_name}
 use Rattle.ps_hoa.proofs.Grammar.SignLaws.{new_alias, laws_new_alias}
 
 -- ## Items
-
-known_states : is_unknown_capital (codes "States:") ≡ false
-unfolding is_unknown_capital
-known_states = refl
-
-known_start : is_unknown_capital (codes "Start:") ≡ false
-unfolding is_unknown_capital
-known_start = refl
-
-known_names : is_unknown_capital (codes "AP:") ≡ false
-unfolding is_unknown_capital
-known_names = refl
-
-known_alias : is_unknown_capital (codes "Alias:") ≡ false
-unfolding is_unknown_capital
-known_alias = refl
-
-known_acceptance : is_unknown_capital (codes "Acceptance:") ≡ false
-unfolding is_unknown_capital
-known_acceptance = refl
-
-known_controllable : is_unknown_capital (codes "controllable-AP:") ≡ false
-unfolding is_unknown_capital
-known_controllable = refl
-
-known_tool : is_unknown_capital (codes "tool:") ≡ false
-unfolding is_unknown_capital
-known_tool = refl
-
-known_name : is_unknown_capital (codes "name:") ≡ false
-unfolding is_unknown_capital
-known_name = refl
 
 -- the signs with which an item goes on
 abbrev pub ItemMore : Sign → Type 0
@@ -77,47 +45,10 @@ behind_name : {V : Type 0} {P : Part Sign (Unit {0}) HoaCause} {Q : Part Sign V 
     Laws Odd P F1 Nothing ⊥ → Laws Odd Q F2 M2 N2 → Within M2 ItemMore → Laws Odd (then_by P (λ _. Q)) F1 ItemMore ⊥
 behind_name l r w = weaker (laws_behind_sign l (λ _. r)) (λ t h. h) w (λ h. h)
 
-int_argument : Within (Of is_int) ItemMore
-int_argument t h = go t.kind h
-  where
-    go : (kind : Kind) → is_int kind ≡ true → is_argument kind ≡ true
-    go Int h = refl
-    go kind h = absurd (false_true h)
-
-string_argument : Within (Of is_string) ItemMore
-string_argument t h = go t.kind h
-  where
-    go : (kind : Kind) → is_string kind ≡ true → is_argument kind ≡ true
-    go Text h = refl
-    go kind h = absurd (false_true h)
-
-value_argument : Within (Of is_value) ItemMore
-value_argument t h = go t.kind h
-  where
-    go : (kind : Kind) → is_value kind ≡ true → is_argument kind ≡ true
-    go Int h = refl
-    go Text h = refl
-    go Word h = refl
-    go kind h = absurd (false_true h)
-
-and_argument : Within (Of is_and) ItemMore
-and_argument t h = go t.kind h
-  where
-    go : (kind : Kind) → is_and kind ≡ true → is_argument kind ≡ true
-    go And h = refl
-    go kind h = absurd (false_true h)
-
-or_argument : Within (Of is_or) ItemMore
-or_argument t h = go t.kind h
-  where
-    go : (kind : Kind) → is_or kind ≡ true → is_argument kind ≡ true
-    go OrSign h = refl
-    go kind h = absurd (false_true h)
-
 row_argument : Within AndOrMore ItemMore
 row_argument t (inl (inl h)) = absurd h
-row_argument t (inl (inr h)) = and_argument t h
-row_argument t (inr h) = or_argument t h
+row_argument t (inl (inr h)) = within is_and is_argument refl t h
+row_argument t (inr h) = within is_or is_argument refl t h
 
 only_later : (A : Sign → Type 0) → Within (Or Nothing A) A
 only_later A t (inl h) = absurd h
@@ -126,13 +57,13 @@ only_later A t (inr h) = h
 -- `States:`
 pub laws_states : (h : HeaderData) → Laws Odd (states_item h) (Named (codes "States:")) ItemMore ⊥
 laws_states h =
-    behind_name (laws_name (codes "States:") known_states) (laws_mapped (with_states h) (int state_limit)
+    behind_name (laws_name (codes "States:") refl) (laws_mapped (with_states h) (int state_limit)
     (laws_int state_limit)) (λ t k. absurd k)
 
 pub joint_states : (h : HeaderData) → Joint (item_name (codes "States:"))
     (λ _. mapped (with_states h) (int state_limit))
 joint_states h =
-    joint_behind_sign (laws_name (codes "States:") known_states)
+    joint_behind_sign (laws_name (codes "States:") refl)
     (λ _. laws_mapped (with_states h) (int state_limit) (laws_int state_limit))
 
 -- `Start:`
@@ -143,7 +74,7 @@ after_start t (inr h) = ap is_and h.2.0
 pub laws_start_state : Laws Odd (barred (int number_limit) IsAlternating) (Of is_int) (Of is_and) ⊥
 laws_start_state =
     weaker (laws_barred IsAlternating (laws_int number_limit) (λ t b o.
-    plain_odd is_and plain_and t (ap is_and b.2.0) o))
+    plain_odd is_and (plain is_and refl) t (ap is_and b.2.0) o))
     (only_first (Of is_int) (Bar IsAlternating)) after_start (λ h. h)
 
 abbrev pub start_name : HeaderData → Part Sign (Unit {0}) HoaCause
@@ -153,8 +84,8 @@ pub laws_start_name : (h : HeaderData) → Laws Odd (start_name h) (Named (codes
 laws_start_name h =
     weaker (laws_one (λ s. name_value (codes "Start:") s.kind s.text) (IsSecondStart h) Odd
     (record { kind = Header; text = codes "Start:" }) tt refl
-    (λ t k o. plain_named (codes "Start:") known_start t k.1 o)
-    (λ t k o. plain_named (codes "Start:") known_start t (bad t k) o)) first (λ t k. k) (λ k. k)
+    (λ t k o. plain_named (codes "Start:") refl t k.1 o)
+    (λ t k o. plain_named (codes "Start:") refl t (bad t k) o)) first (λ t k. k) (λ k. k)
   where
     bad : Within (BadSign (IsSecondStart h)) (Named (codes "Start:"))
     bad t k = named_there (codes "Start:") t.kind t.text k.1.0
@@ -167,7 +98,7 @@ laws_start_name h =
 pub laws_start : (h : HeaderData) → Laws Odd (start_item h) (Named (codes "Start:")) ItemMore ⊥
 laws_start h =
     behind_name (laws_start_name h) (laws_mapped (with_start h) (barred (int number_limit) IsAlternating)
-    laws_start_state) and_argument
+    laws_start_state) (within is_and is_argument refl)
 
 pub joint_start : (h : HeaderData) → Joint (start_name h) (λ _.
     mapped (with_start h) (barred (int number_limit) IsAlternating))
@@ -179,9 +110,6 @@ joint_start h =
 pub laws_propositions : (n : ℕ) → Laws Odd (times n proposition_name []) (Of is_string)
     (Or Nothing (Of is_string)) (Unit {0})
 laws_propositions n = laws_times proposition_name laws_proposition_name (nothing_apart (Of is_string)) n []
-
-abbrev pub counted_names : HeaderData → Part Sign HeaderData HoaCause
-counted_names h = then_by (int proposition_limit) (λ n. mapped (with_names h) (times n proposition_name []))
 
 laws_counted_names : (h : HeaderData) → Laws Odd (counted_names h) (Of is_int) (Or Nothing (Of is_string)) ⊥
 laws_counted_names h =
@@ -196,16 +124,13 @@ joint_counted_names h =
 
 pub laws_names : (h : HeaderData) → Laws Odd (names_item h) (Named (codes "AP:")) ItemMore ⊥
 laws_names h =
-    behind_name (laws_name (codes "AP:") known_names) (laws_counted_names h)
-    (λ t k. string_argument t (only_later (Of is_string) t k))
+    behind_name (laws_name (codes "AP:") refl) (laws_counted_names h)
+    (λ t k. within is_string is_argument refl t (only_later (Of is_string) t k))
 
 pub joint_names : (h : HeaderData) → Joint (item_name (codes "AP:")) (λ _. counted_names h)
-joint_names h = joint_behind_sign (laws_name (codes "AP:") known_names) (λ _. laws_counted_names h)
+joint_names h = joint_behind_sign (laws_name (codes "AP:") refl) (λ _. laws_counted_names h)
 
 -- `Alias:`
-abbrev pub named_label : HeaderData → Part Sign HeaderData HoaCause
-named_label h = then_by (new_alias h) (λ name. mapped (with_alias h name) (label (header_scope h) nesting_limit))
-
 laws_alias_label : (h : HeaderData) (name : List ℕ) → Laws Odd
     (mapped (with_alias h name) (label (header_scope h) nesting_limit)) (Of is_start) AndOrMore ⊥
 laws_alias_label h name =
@@ -219,15 +144,12 @@ pub joint_named_label : (h : HeaderData) → Joint (new_alias h)
 joint_named_label h = joint_behind_sign (laws_new_alias h) (laws_alias_label h)
 
 pub laws_alias : (h : HeaderData) → Laws Odd (alias_item h) (Named (codes "Alias:")) ItemMore ⊥
-laws_alias h = behind_name (laws_name (codes "Alias:") known_alias) (laws_named_label h) row_argument
+laws_alias h = behind_name (laws_name (codes "Alias:") refl) (laws_named_label h) row_argument
 
 pub joint_alias : (h : HeaderData) → Joint (item_name (codes "Alias:")) (λ _. named_label h)
-joint_alias h = joint_behind_sign (laws_name (codes "Alias:") known_alias) (λ _. laws_named_label h)
+joint_alias h = joint_behind_sign (laws_name (codes "Alias:") refl) (λ _. laws_named_label h)
 
 -- `Acceptance:`
-abbrev pub counted_condition : HeaderData → Part Sign HeaderData HoaCause
-counted_condition h = then_by (int set_limit) (λ n. mapped (with_acceptance h n) (condition nesting_limit))
-
 laws_acceptance_condition : (h : HeaderData) (n : ℕ) → Laws Odd (mapped (with_acceptance h n) (condition nesting_limit))
     (Of is_start) AndOrMore ⊥
 laws_acceptance_condition h n =
@@ -242,11 +164,11 @@ joint_counted_condition h = joint_behind_sign (laws_int set_limit) (laws_accepta
 
 pub laws_acceptance : (h : HeaderData) → Laws Odd (acceptance_item h) (Named (codes "Acceptance:")) ItemMore ⊥
 laws_acceptance h =
-    behind_name (laws_name (codes "Acceptance:") known_acceptance) (laws_counted_condition h) row_argument
+    behind_name (laws_name (codes "Acceptance:") refl) (laws_counted_condition h) row_argument
 
 pub joint_acceptance : (h : HeaderData) → Joint (item_name (codes "Acceptance:")) (λ _. counted_condition h)
 joint_acceptance h =
-    joint_behind_sign (laws_name (codes "Acceptance:") known_acceptance) (λ _. laws_counted_condition h)
+    joint_behind_sign (laws_name (codes "Acceptance:") refl) (λ _. laws_counted_condition h)
 
 -- `controllable-AP:`
 pub laws_index : (ns : List ℕ) → Laws Odd (index ns) (Of is_int) Nothing ⊥
@@ -257,20 +179,17 @@ laws_indices ns = laws_many index laws_index (nothing_apart (Of is_int)) ns
 
 pub laws_controllable : (h : HeaderData) → Laws Odd (controllable_item h) (Named (codes "controllable-AP:")) ItemMore ⊥
 laws_controllable h =
-    behind_name (laws_name (codes "controllable-AP:") known_controllable)
+    behind_name (laws_name (codes "controllable-AP:") refl)
     (laws_mapped (with_controllable h) (many index []) (laws_indices []))
-    (λ t k. int_argument t (only_later (Of is_int) t k))
+    (λ t k. within is_int is_argument refl t (only_later (Of is_int) t k))
 
 pub joint_controllable : (h : HeaderData) → Joint (item_name (codes "controllable-AP:"))
     (λ _. mapped (with_controllable h) (many index []))
 joint_controllable h =
-    joint_behind_sign (laws_name (codes "controllable-AP:") known_controllable)
+    joint_behind_sign (laws_name (codes "controllable-AP:") refl)
     (λ _. laws_mapped (with_controllable h) (many index []) (laws_indices []))
 
 -- `tool:`
-abbrev pub second_string : HeaderData → Part Sign HeaderData HoaCause
-second_string h = either (mapped (unchanged h) string) (give h)
-
 pub laws_read_string : (h : HeaderData) → Laws Odd (mapped (unchanged h) string) (Of is_string) Nothing ⊥
 laws_read_string h = laws_mapped (unchanged h) string laws_string
 
@@ -292,9 +211,6 @@ laws_second_string h =
     more t (inr (inl k)) = absurd k.0
     more t (inr (inr k)) = k.1
 
-abbrev pub strings : HeaderData → Part Sign HeaderData HoaCause
-strings h = then_by string (λ _. second_string h)
-
 laws_strings : (h : HeaderData) → Laws Odd (strings h) (Of is_string) (Of is_string) ⊥
 laws_strings h = laws_behind_sign laws_string (λ _. laws_second_string h)
 
@@ -302,17 +218,18 @@ pub joint_strings : (h : HeaderData) → Joint string (λ _. second_string h)
 joint_strings h = joint_behind_sign laws_string (λ _. laws_second_string h)
 
 pub laws_tool : (h : HeaderData) → Laws Odd (tool_item h) (Named (codes "tool:")) ItemMore ⊥
-laws_tool h = behind_name (laws_name (codes "tool:") known_tool) (laws_strings h) string_argument
+laws_tool h = behind_name (laws_name (codes "tool:") refl) (laws_strings h)
+    (within is_string is_argument refl)
 
 pub joint_tool : (h : HeaderData) → Joint (item_name (codes "tool:")) (λ _. strings h)
-joint_tool h = joint_behind_sign (laws_name (codes "tool:") known_tool) (λ _. laws_strings h)
+joint_tool h = joint_behind_sign (laws_name (codes "tool:") refl) (λ _. laws_strings h)
 
 -- `name:`
 pub laws_name_item : (h : HeaderData) → Laws Odd (name_item h) (Named (codes "name:")) ItemMore ⊥
-laws_name_item h = behind_name (laws_name (codes "name:") known_name) (laws_read_string h) (λ t k. absurd k)
+laws_name_item h = behind_name (laws_name (codes "name:") refl) (laws_read_string h) (λ t k. absurd k)
 
 pub joint_name_item : (h : HeaderData) → Joint (item_name (codes "name:")) (λ _. mapped (unchanged h) string)
-joint_name_item h = joint_behind_sign (laws_name (codes "name:") known_name) (λ _. laws_read_string h)
+joint_name_item h = joint_behind_sign (laws_name (codes "name:") refl) (λ _. laws_read_string h)
 
 -- other names
 abbrev pub other_name : Part Sign (Unit {0}) HoaCause
@@ -334,21 +251,18 @@ value_taken h g Text e = refl
 value_taken h g Word e = refl
 value_taken h g kind e = absurd (none_is_some g e)
 
-int_is_value : (kind : Kind) → is_int kind ≡ true → is_value kind ≡ true
-int_is_value Int e = refl
-int_is_value kind e = absurd (false_true e)
-
 pub laws_read_over : (h : HeaderData) → Laws Odd (read_over h) (Of is_value) Nothing ⊥
 laws_read_over h =
     laws_sign is_value (λ s. read_over_value h s.kind) (IsAbove number_limit) (record { kind = Word; text = [] }) h
-    refl plain_value
-    (λ t k. value_taken h k.0 t.kind k.1) (λ t k. int_is_value t.kind (above_int number_limit t k))
+    refl (plain is_value refl)
+    (λ t k. value_taken h k.0 t.kind k.1) (λ t k. within is_int is_value refl t (above_int number_limit t k))
 
 pub laws_values : (h : HeaderData) → Laws Odd (many read_over h) (Of is_value) (Or Nothing (Of is_value)) (Unit {0})
 laws_values h = laws_many read_over laws_read_over (nothing_apart (Of is_value)) h
 
 pub laws_other : (h : HeaderData) → Laws Odd (other_item h) Other ItemMore ⊥
-laws_other h = behind_name laws_other_name (laws_values h) (λ t k. value_argument t (only_later (Of is_value) t k))
+laws_other h = behind_name laws_other_name (laws_values h)
+    (λ t k. within is_value is_argument refl t (only_later (Of is_value) t k))
 
 pub joint_other : (h : HeaderData) → Joint other_name (λ _. many read_over h)
 joint_other h = joint_behind_sign laws_other_name (λ _. laws_values h)

@@ -1,7 +1,7 @@
 -- Which item stands at the next sign.
 --     stands_next      that item is read in place of any item
 --     enters_next, avoids_next      an item is entered, or none begins
-use Rattle.std.proofs.Common.{◌≡◌, ℕ, List, codes, None, Some, sym, ap, subst, inl, ◌∙◌}
+use Rattle.std.proofs.Common.{◌≡◌, ℕ, List, codes, None, Some, Result, Ok, sym, ap, subst, inl, ◌∙◌}
 use Rattle.ps_text.specs.Answers.{Stream, next_of as next_sign}
 use Rattle.ps_text.specs.Parts.{Part, NoBad, then_by}
 use Rattle.ps_text.proofs.Laws.{Joint}
@@ -13,7 +13,7 @@ use Rattle.ps_hoa.specs.Header.{HeaderData, name_value, item_name, IsSecondStart
 use Rattle.ps_hoa.specs.ItemNames as items
 use Rattle.ps_hoa.specs.ItemNames.{ItemName}
 use Rattle.ps_hoa.specs.Inner.Items.{item_at}
-use Rattle.ps_hoa.specs.Scan.{next_of}
+use Rattle.ps_hoa.specs.Scan.{next_of, behind_next}
 use Rattle.ps_hoa.specs.Tokens.{Sign}
 use Rattle.ps_hoa.specs.declared.fault.HoaCause.{HoaCause}
 use Rattle.ps_hoa.specs.declared.tokens.Kind.TheVariants.{Header, Finish}
@@ -23,7 +23,12 @@ use Rattle.ps_hoa.proofs.Grammar.HeaderLaws.{joint_controllable, joint_tool, joi
 use Rattle.ps_hoa.proofs.Grammar.WholeHeader.{laws_form, ItemFirst, first_header}
 use Rattle.ps_hoa.proofs.Grammar.ItemNames.{StartsWith, begun}
 use Rattle.ps_hoa.proofs.Reading.NextSign.{next_there, next_same}
-use Rattle.ps_hoa.proofs.Grammar.SignLaws.{Named}
+use Rattle.ps_hoa.proofs.Grammar.SignLaws.{Named, Other}
+use Rattle.ps_hoa.proofs.Grammar.HeaderSigns.{signs_name, signs_other}
+use Rattle.ps_hoa.proofs.Reading.SingleSigns.{reads_one}
+use Rattle.ps_text.specs.Readers.{Reads, Meets}
+use Rattle.ps_hoa.specs.Causes.{HoaFault, found_of, hoa_causes}
+use Rattle.ps_hoa.proofs.Reading.HeaderExits.{behind_first}
 
 enters_named : {V : Type 0} (name : List ℕ) (t : Sign) (Q : Part Sign V HoaCause) →
     Joint (item_name name) (λ _. Q) → Named name t →
@@ -58,6 +63,21 @@ module _ (s : Stream Sign) where
       Stands (next_sign s) (form_of h name) (item h)
   stands_next h name e = subst (λ there. Stands there (form_of h name) (item h)) (sym (item_there name e))
       (stands_form (form_of h) item_at (laws_form h) name (next_of s).sign e)
+
+  -- what is answered to an item, by what is answered behind its name, and the names that there are
+  pub item_read : {A V X : Type 0} (view : X → V) {P : Part Sign A HoaCause} {Q : A → Part Sign V HoaCause}
+      {mid : Stream Sign} {a : A} → mid ≡ behind_next s → (name : ItemName) → item_at (next_of s).sign ≡ Some name →
+      (StartsWith name (next_of s).sign → mid ≡ behind_next s → Reads P s a mid) → Joint P Q → (new : Stream Sign)
+      (r : Result X HoaFault) → Meets found_of hoa_causes view (Q a) mid r new →
+      Meets found_of hoa_causes view (then_by P Q) s r new
+  item_read view n name e reads j new r m = behind_first view new r j (reads (begun name (next_of s).sign e) n) m
+
+  pub named : (name : List ℕ) {mid : Stream Sign} → Named name (next_of s).sign → mid ≡ behind_next s →
+      Reads (item_name name) s tt mid
+  named name {mid} e n = reads_one (λ u. u) (signs_name name) s mid (Ok tt) (record { some = e; good = λ f b. b }) n
+
+  pub other : {mid : Stream Sign} → Other (next_of s).sign → mid ≡ behind_next s → Reads other_name s tt mid
+  other {mid} e n = reads_one (λ u. u) signs_other s mid (Ok tt) (record { some = e; good = λ f b. b }) n
 
   pub enters_next : (h : HeaderData) (name : ItemName) → item_at (next_of s).sign ≡ Some name →
       Enters (item h) (next_sign s)

@@ -15,9 +15,9 @@ use Rattle.ps_hoa.specs.declared.fault.HoaCause.{HoaCause}
 use Rattle.ps_hoa.specs.declared.tokens.Kind.{Kind}
 use Rattle.ps_hoa.specs.declared.tokens.Kind.TheVariants.{Word, Int, AliasName, Not, And, Or as OrSign, LeftParen}
 use Rattle.ps_hoa.specs.declared.tokens.Kind.TheVariants.{RightParen}
-use Rattle.ps_hoa.proofs.Grammar.OperandLaws.{Odd, Of, IsPlain, false_true, nothing_apart, plain_odd, laws_mark}
-use Rattle.ps_hoa.proofs.Grammar.OperandLaws.{laws_behind}
-use Rattle.ps_hoa.proofs.Grammar.OperandLaws.{laws_held, laws_row}
+use Rattle.ps_hoa.proofs.Grammar.KindSets.{within, apart, plain}
+use Rattle.ps_hoa.proofs.Grammar.OperandLaws.{Odd, Of, nothing_apart, plain_odd, laws_mark, laws_behind, laws_held}
+use Rattle.ps_hoa.proofs.Grammar.OperandLaws.{laws_row}
 
 -- the signs with which an operand begins, and those that are one by themselves
 abbrev pub is_start : Kind → Bool
@@ -34,48 +34,20 @@ is_single Int = true
 is_single AliasName = true
 is_single kind = false
 
-plain_not : IsPlain is_not
-plain_not Not text e = refl
-plain_not kind text e = absurd (false_true e)
-
-plain_and : IsPlain is_and
-plain_and And text e = refl
-plain_and kind text e = absurd (false_true e)
-
-plain_or : IsPlain is_or
-plain_or OrSign text e = refl
-plain_or kind text e = absurd (false_true e)
-
-plain_left : IsPlain is_left
-plain_left LeftParen text e = refl
-plain_left kind text e = absurd (false_true e)
-
-plain_right : IsPlain is_right
-plain_right RightParen text e = refl
-plain_right kind text e = absurd (false_true e)
-
-pub plain_start : IsPlain is_start
-plain_start Word text e = refl
-plain_start Int text e = refl
-plain_start AliasName text e = refl
-plain_start Not text e = refl
-plain_start LeftParen text e = refl
-plain_start kind text e = absurd (false_true e)
-
 pub laws_not : Laws Odd (mark is_not) (Of is_not) Nothing ⊥
-laws_not = laws_mark is_not Not refl plain_not
+laws_not = laws_mark is_not Not refl (plain is_not refl)
 
 pub laws_and : Laws Odd (mark is_and) (Of is_and) Nothing ⊥
-laws_and = laws_mark is_and And refl plain_and
+laws_and = laws_mark is_and And refl (plain is_and refl)
 
 pub laws_or : Laws Odd (mark is_or) (Of is_or) Nothing ⊥
-laws_or = laws_mark is_or OrSign refl plain_or
+laws_or = laws_mark is_or OrSign refl (plain is_or refl)
 
 pub laws_left : Laws Odd (mark is_left) (Of is_left) Nothing ⊥
-laws_left = laws_mark is_left LeftParen refl plain_left
+laws_left = laws_mark is_left LeftParen refl (plain is_left refl)
 
 pub laws_right : Laws Odd (mark is_right) (Of is_right) Nothing ⊥
-laws_right = laws_mark is_right RightParen refl plain_right
+laws_right = laws_mark is_right RightParen refl (plain is_right refl)
 
 start_value : (names : List (List ℕ)) (kind : Kind) (text : List ℕ) (v : Expression) →
     leaf_value names kind text ≡ Some v → is_single kind ≡ true
@@ -83,12 +55,6 @@ start_value names Word text v e = refl
 start_value names Int text v e = refl
 start_value names AliasName text v e = refl
 start_value names kind text v e = absurd (none_is_some v e)
-
-single_start : (kind : Kind) → is_single kind ≡ true → is_start kind ≡ true
-single_start Word e = refl
-single_start Int e = refl
-single_start AliasName e = refl
-single_start kind e = absurd (false_true e)
 
 start_bad : (scope : ScopeData) (room : ℕ) (kind : Kind) (text : List ℕ) (f : HoaCause) →
     IsBadLeaf scope room kind text f → is_start kind ≡ true
@@ -108,14 +74,14 @@ single_bad scope room kind text f h = absurd h
 
 first_leaf : (scope : ScopeData) (room : ℕ) → Within (Or (Taken (leaf_in scope.names)) (BadSign (BadLeaf scope room)))
     (Of is_start)
-first_leaf scope room t (inl h) = single_start t.kind (start_value scope.names t.kind t.text h.0 h.1)
+first_leaf scope room t (inl h) = within is_single is_start refl t (start_value scope.names t.kind t.text h.0 h.1)
 first_leaf scope room t (inr h) = start_bad scope room t.kind t.text h.0 h.1
 
 pub laws_leaf : (scope : ScopeData) (room : ℕ) → Laws Odd (leaf scope room)
     (Or (Taken (leaf_in scope.names)) (BadSign (BadLeaf scope room))) Nothing ⊥
 laws_leaf scope room = laws_one (leaf_in scope.names) (BadLeaf scope room) Odd (record { kind = Int; text = [] }) _ refl
-    (λ t h o. plain_odd is_start plain_start t (first_leaf scope room t (inl h)) o)
-    (λ t h o. plain_odd is_start plain_start t (first_leaf scope room t (inr h)) o)
+    (λ t h o. plain_odd is_start (plain is_start refl) t (first_leaf scope room t (inl h)) o)
+    (λ t h o. plain_odd is_start (plain is_start refl) t (first_leaf scope room t (inr h)) o)
 
 first_single : (scope : ScopeData) (room : ℕ) → Within (Or (Taken (leaf_in scope.names))
     (BadSign (BadLeaf scope (suc room)))) (Of is_single)
@@ -126,44 +92,14 @@ pub laws_single : (scope : ScopeData) (room : ℕ) → Laws Odd (leaf scope (suc
 laws_single scope room = weaker (laws_leaf scope (suc room)) (first_single scope room) (λ t h. h) (λ h. h)
 
 pub not_left : Apart (Of is_not) (Of is_left)
-not_left t h k = go t.kind h k
-  where
-    go : (kind : Kind) → is_not kind ≡ true → is_left kind ≡ true → ⊥
-    go Not h k = false_true k
-    go kind h k = false_true h
+not_left = apart is_not is_left refl
 
 pub and_or : Apart (Of is_and) (Of is_or)
-and_or t h k = go t.kind h k
-  where
-    go : (kind : Kind) → is_and kind ≡ true → is_or kind ≡ true → ⊥
-    go And h k = false_true k
-    go kind h k = false_true h
-
-and_right : Apart (Of is_and) (Of is_right)
-and_right t h k = go t.kind h k
-  where
-    go : (kind : Kind) → is_and kind ≡ true → is_right kind ≡ true → ⊥
-    go And h k = false_true k
-    go kind h k = false_true h
-
-or_right : Apart (Of is_or) (Of is_right)
-or_right t h k = go t.kind h k
-  where
-    go : (kind : Kind) → is_or kind ≡ true → is_right kind ≡ true → ⊥
-    go OrSign h k = false_true k
-    go kind h k = false_true h
+and_or = apart is_and is_or refl
 
 pub single_nested : Apart (Of is_single) (Or (Of is_not) (Of is_left))
-single_nested t h k = go t.kind h k
-  where
-    go : (kind : Kind) → is_single kind ≡ true → (is_not kind ≡ true) ⊎ (is_left kind ≡ true) → ⊥
-    go Word h (inl k) = false_true k
-    go Word h (inr k) = false_true k
-    go Int h (inl k) = false_true k
-    go Int h (inr k) = false_true k
-    go AliasName h (inl k) = false_true k
-    go AliasName h (inr k) = false_true k
-    go kind h k = false_true h
+single_nested t h (inl k) = apart is_single is_not refl t h k
+single_nested t h (inr k) = apart is_single is_left refl t h k
 
 -- what may stand behind the operands of a row, and of rows of rows
 abbrev pub AndMore : Sign → Type 0
@@ -178,8 +114,8 @@ apart_or t (inr h) k = and_or t h k
 
 pub apart_right : Apart AndOrMore (Of is_right)
 apart_right t (inl (inl h)) k = h
-apart_right t (inl (inr h)) k = and_right t h k
-apart_right t (inr h) k = or_right t h k
+apart_right t (inl (inr h)) k = apart is_and is_right refl t h k
+apart_right t (inr h) k = apart is_or is_right refl t h k
 
 module _ {V : Type 0} {F : Sign → Type 0} (P : Part Sign V HoaCause) (together : Connective → List V → V)
     (l : Laws Odd P F Nothing ⊥) where
@@ -197,17 +133,9 @@ pub laws_negation : {F : Sign → Type 0} (P : Part Sign Expression HoaCause) �
 laws_negation P l = laws_behind is_not laws_not (laws_mapped not_of P l)
 
 first_operand : Within (Or (Of is_single) (Or (Of is_not) (Of is_left))) (Of is_start)
-first_operand t h = go t.kind h
-  where
-    go : (kind : Kind) → (is_single kind ≡ true) ⊎ ((is_not kind ≡ true) ⊎ (is_left kind ≡ true)) → is_start kind ≡ true
-    go Word h = refl
-    go Int h = refl
-    go AliasName h = refl
-    go Not h = refl
-    go LeftParen h = refl
-    go kind (inl h) = absurd (false_true h)
-    go kind (inr (inl h)) = absurd (false_true h)
-    go kind (inr (inr h)) = absurd (false_true h)
+first_operand t (inl h) = within is_single is_start refl t h
+first_operand t (inr (inl h)) = within is_not is_start refl t h
+first_operand t (inr (inr h)) = within is_left is_start refl t h
 
 pub no_more : (A B : Sign → Type 0) → Within (Or (Or Nothing Nothing) (Or (When ⊥ A) (When ⊥ B))) Nothing
 no_more A B t (inl (inl h)) = h

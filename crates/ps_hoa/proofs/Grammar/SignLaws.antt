@@ -4,8 +4,8 @@
 --     laws_behind_sign, joint_behind_sign      a sign and then a part
 --     laws_name, laws_int, laws_string, laws_proposition_name, laws_new_alias      the laws
 --     other_apart      a name that has a meaning is not read over
-use Rattle.std.proofs.Common.{◌≡◌, ℕ, ◌||◌, Bool, true, false, cond, List, [], Option, None, Some, refl, sym, ap, inl}
-use Rattle.std.proofs.Common.{inr, ◌∙◌}
+use Rattle.std.proofs.Common.{◌≡◌, ℕ, ◌||◌, Bool, true, false, not, cond, List, [], Option, None, Some, refl, sym, ap}
+use Rattle.std.proofs.Common.{inl, inr, ◌∙◌}
 use Rattle.std.specs.Str.{bytes_eq}
 use Rattle.std.proofs.lemmas.Slice.Eq.{bytes_eq-Decides}
 use Rattle.ps_text.specs.Parts.{Part, NoBad, one, then_by}
@@ -14,7 +14,6 @@ use Rattle.ps_text.proofs.Joined.{joint}
 use Rattle.ps_text.proofs.Simple.{Taken, BadSign, none_is_some, laws_one, laws_mapped, laws_then}
 use Rattle.ps_hoa.specs.Tokens.{Sign}
 use Rattle.ps_hoa.specs.Causes.{begins_capital, is_spelled, is_unknown_capital, own_cause}
-use Rattle.ps_hoa.specs.Operands.{is_and}
 use Rattle.ps_hoa.specs.Header.{HeaderData, name_value, item_name, int_value, int_in, IsAbove, int, string_value}
 use Rattle.ps_hoa.specs.Header.{string_in, string, IsBadName, with_name, proposition_name, alias_value, IsBadAlias}
 use Rattle.ps_hoa.specs.Header.{other_value}
@@ -23,6 +22,7 @@ use Rattle.ps_hoa.specs.declared.fault.HoaCause.TheVariants.{UnknownHeader}
 use Rattle.ps_hoa.specs.declared.tokens.Kind.{Kind}
 use Rattle.ps_hoa.specs.declared.tokens.Kind.TheVariants.{Header, Word, Int, Text, AliasName, And, Or as OrSign, Body}
 use Rattle.ps_hoa.proofs.Grammar.OperandLaws.{Odd, Of, IsPlain, false_true, plain_odd, nothing_apart, only_first}
+use Rattle.ps_hoa.proofs.Grammar.KindSets.{plain}
 use Rattle.ps_hoa.proofs.Grammar.ConditionLaws.{is_int}
 
 -- ## Kinds of signs
@@ -39,13 +39,6 @@ abbrev pub is_body : Kind → Bool
 is_body Body = true
 is_body kind = false
 
--- what is read over behind a name that is not known
-abbrev pub is_value : Kind → Bool
-is_value Int = true
-is_value Text = true
-is_value Word = true
-is_value kind = false
-
 -- the signs with which an item goes on
 abbrev pub is_argument : Kind → Bool
 is_argument Int = true
@@ -54,32 +47,6 @@ is_argument Word = true
 is_argument And = true
 is_argument OrSign = true
 is_argument kind = false
-
-plain_int : IsPlain is_int
-plain_int Int text e = refl
-plain_int kind text e = absurd (false_true e)
-
-plain_string : IsPlain is_string
-plain_string Text text e = refl
-plain_string kind text e = absurd (false_true e)
-
-plain_alias : IsPlain is_alias
-plain_alias AliasName text e = refl
-plain_alias kind text e = absurd (false_true e)
-
-pub plain_body : IsPlain is_body
-plain_body Body text e = refl
-plain_body kind text e = absurd (false_true e)
-
-pub plain_value : IsPlain is_value
-plain_value Int text e = refl
-plain_value Text text e = refl
-plain_value Word text e = refl
-plain_value kind text e = absurd (false_true e)
-
-pub plain_and : IsPlain is_and
-plain_and And text e = refl
-plain_and kind text e = absurd (false_true e)
 
 -- a sign that is taken, or may be bad, only where its kind passes a test
 pub laws_sign : {V : Type 0} (test : Kind → Bool) (take : Sign → Option V) (Bad : Sign → HoaCause → Type 0) (t : Sign)
@@ -137,13 +104,26 @@ named_there name kind text h = go (name_value name kind text) h
     go None h = absurd (h refl)
     go (Some v) h = refl
 
-own_named : (name : List ℕ) (kind : Kind) (text : List ℕ) → is_unknown_capital name ≡ false →
+-- a name that is spelled, or does not begin with a capital
+abbrev pub is_known : List ℕ → Bool
+is_known name = is_spelled name || not (begins_capital name)
+
+known_right : (name : List ℕ) → is_known name ≡ true → is_unknown_capital name ≡ false
+unfolding is_unknown_capital
+known_right name e = go (is_spelled name) (begins_capital name) e
+  where
+    go : (spelled capital : Bool) → (spelled || not capital) ≡ true → cond spelled false capital ≡ false
+    go true capital e = refl
+    go false true e = absurd (false_true e)
+    go false false e = refl
+
+own_named : (name : List ℕ) (kind : Kind) (text : List ℕ) → is_known name ≡ true →
     name_value name kind text ≡ Some tt → own_cause kind text ≡ None
 own_named name Header text e h = ap (λ z. own_cause Header z) ((named_text name Header text h).1)
-    ∙ ap (λ (b : Bool). cond b (Some UnknownHeader) None) e
+    ∙ ap (λ (b : Bool). cond b (Some UnknownHeader) None) (known_right name e)
 own_named name kind text e h = absurd (none_is_some tt h)
 
-pub plain_named : (name : List ℕ) → is_unknown_capital name ≡ false → Apart (Named name) Odd
+pub plain_named : (name : List ℕ) → is_known name ≡ true → Apart (Named name) Odd
 plain_named name e t h o = none_is_some o.0 (sym (own_named name t.kind t.text e h) ∙ o.1)
 
 own_other : (kind : Kind) (text : List ℕ) → other_value kind text ≡ Some tt → own_cause kind text ≡ None
@@ -163,7 +143,7 @@ plain_other t h o = none_is_some o.0 (sym (own_other t.kind t.text h) ∙ o.1)
 pub same_name : (name : List ℕ) → name_value name Header name ≡ Some tt
 same_name name = ap (λ (b : Bool). cond b (Some tt) None) ((bytes_eq-Decides name name).1 refl)
 
-pub laws_name : (name : List ℕ) → is_unknown_capital name ≡ false → Laws Odd (item_name name) (Named name) Nothing ⊥
+pub laws_name : (name : List ℕ) → is_known name ≡ true → Laws Odd (item_name name) (Named name) Nothing ⊥
 laws_name name e =
     weaker (laws_one (λ s. name_value name s.kind s.text) NoBad Odd (record { kind = Header; text = name }) tt
     (same_name name)
@@ -181,11 +161,11 @@ other_apart name e t h k = let p = named_text name t.kind t.text h in
 
 -- ## Numbers, strings and aliases
 
-int_taken : (kind : Kind) (text : List ℕ) (n : ℕ) → int_value kind text ≡ Some n → is_int kind ≡ true
+pub int_taken : (kind : Kind) (text : List ℕ) (n : ℕ) → int_value kind text ≡ Some n → is_int kind ≡ true
 int_taken Int text n e = refl
 int_taken kind text n e = absurd (none_is_some n e)
 
-int_there : (kind : Kind) (text : List ℕ) → (int_value kind text ≡ None → ⊥) → is_int kind ≡ true
+pub int_there : (kind : Kind) (text : List ℕ) → (int_value kind text ≡ None → ⊥) → is_int kind ≡ true
 int_there Int text h = refl
 int_there kind text h = absurd (h refl)
 
@@ -194,7 +174,7 @@ above_int limit t h = int_there t.kind t.text h.1.1
 
 pub laws_int : (limit : ℕ) → Laws Odd (int limit) (Of is_int) Nothing ⊥
 laws_int limit =
-    laws_sign is_int int_in (IsAbove limit) (record { kind = Int; text = [] }) _ refl plain_int
+    laws_sign is_int int_in (IsAbove limit) (record { kind = Int; text = [] }) _ refl (plain is_int refl)
     (λ t h. int_taken t.kind t.text h.0 h.1) (above_int limit)
 
 string_taken : (kind : Kind) (text name : List ℕ) → string_value kind text ≡ Some name → is_string kind ≡ true
@@ -207,12 +187,12 @@ string_there kind text h = absurd (h refl)
 
 pub laws_string : Laws Odd string (Of is_string) Nothing ⊥
 laws_string =
-    laws_sign is_string string_in NoBad (record { kind = Text; text = [] }) _ refl plain_string
+    laws_sign is_string string_in NoBad (record { kind = Text; text = [] }) _ refl (plain is_string refl)
     (λ t h. string_taken t.kind t.text h.0 h.1) (λ t h. absurd h.1)
 
 pub laws_proposition_name : (names : List (List ℕ)) → Laws Odd (proposition_name names) (Of is_string) Nothing ⊥
 laws_proposition_name names = laws_mapped (with_name names) (one string_in (IsBadName names))
-    (laws_sign is_string string_in (IsBadName names) (record { kind = Text; text = [] }) _ refl plain_string
+    (laws_sign is_string string_in (IsBadName names) (record { kind = Text; text = [] }) _ refl (plain is_string refl)
     (λ t h. string_taken t.kind t.text h.0 h.1) (λ t h. string_there t.kind t.text h.1.1))
 
 alias_taken : (kind : Kind) (text name : List ℕ) → alias_value kind text ≡ Some name → is_alias kind ≡ true
@@ -229,5 +209,5 @@ new_alias h = one (λ s. alias_value s.kind s.text) (IsBadAlias h.alias_names)
 pub laws_new_alias : (h : HeaderData) → Laws Odd (new_alias h) (Of is_alias) Nothing ⊥
 laws_new_alias h =
     laws_sign is_alias (λ s. alias_value s.kind s.text) (IsBadAlias h.alias_names)
-    (record { kind = AliasName; text = [] }) _ refl plain_alias
+    (record { kind = AliasName; text = [] }) _ refl (plain is_alias refl)
     (λ t k. alias_taken t.kind t.text k.0 k.1) (λ t k. alias_there t.kind t.text k.1.1)

@@ -2,7 +2,7 @@
 --     laws_state, laws_states, laws_ended, laws_body      the laws
 --     joint_state, joint_state_label, joint_number, joint_name, joint_marks      the parts of a state, from the front
 --     joint_body      the states and `--END--`
-use Rattle.std.proofs.Common.{◌≡◌, ℕ, ◌⊎◌, Bool, true, false, cond, List, [], Option, None, Some, refl, sym, ap, inl}
+use Rattle.std.proofs.Common.{◌≡◌, ℕ, Bool, true, false, cond, List, [], Option, None, Some, refl, sym, ap, inl}
 use Rattle.std.proofs.Common.{inr, ◌∙◌}
 use Rattle.std.specs.Prelude.{codes}
 use Rattle.std.specs.Str.{bytes_eq}
@@ -27,8 +27,11 @@ use Rattle.ps_hoa.specs.Inner.Ahead.{begins_edge}
 use Rattle.ps_hoa.specs.declared.fault.HoaCause.{HoaCause}
 use Rattle.ps_hoa.specs.declared.tokens.Kind.{Kind}
 use Rattle.ps_hoa.specs.declared.tokens.Kind.TheVariants.{Int, Text, Header, And, LeftBracket, LeftBrace, End}
-use Rattle.ps_hoa.proofs.Grammar.OperandLaws.{Odd, Of, false_true, taken_mark, plain_odd, nothing_apart, only_first}
-use Rattle.ps_hoa.proofs.Grammar.BodyLaws.{is_int, is_text, lengthens_edge, AreApart, plain_end, laws_number, laws_text}
+use Rattle.ps_hoa.proofs.Grammar.ConditionLaws.{is_int}
+use Rattle.ps_hoa.proofs.Grammar.KindSets.{within, apart, plain}
+use Rattle.ps_hoa.proofs.Grammar.OperandLaws.{Odd, Of, false_true, taken_mark, nothing_apart, only_first}
+use Rattle.ps_hoa.proofs.Grammar.SignLaws.{is_string, laws_sign, laws_string}
+use Rattle.ps_hoa.proofs.Grammar.BodyLaws.{lengthens_edge, laws_number}
 use Rattle.ps_hoa.proofs.Grammar.BodyLaws.{either_first, either_more, laws_marks, laws_state_label, laws_edges}
 
 -- the signs that may stand in a state behind its first one
@@ -76,39 +79,25 @@ laws_state_begins h b = weaker
     first t (inr k) = some_there (state_value t) k.1.0
 
 laws_end : (h : HeaderData) (b : BodyData) → Laws Odd (one (mark_in is_end) (IsBadClose h b)) (Of is_end) Nothing ⊥
-laws_end h b = weaker
-    (laws_one (mark_in is_end) (IsBadClose h b) Odd (record { kind = End; text = [] }) tt refl
-    (λ t k o. plain_odd is_end plain_end t (first t (inl k)) o)
-    (λ t k o. plain_odd is_end plain_end t (first t (inr k)) o))
-    first (λ t k. k) (λ k. k)
-  where
-    first : Within (Or (Taken (mark_in is_end)) (BadSign (IsBadClose h b))) (Of is_end)
-    first t (inl k) = taken_mark is_end t k.0 k.1
-    first t (inr k) = k.1.0
+laws_end h b = laws_sign is_end (mark_in is_end) (IsBadClose h b) (record { kind = End; text = [] }) tt refl
+    (plain is_end refl) (λ t k. taken_mark is_end t k.0 k.1) (λ t k. k.1.0)
 
 pub laws_ended : (h : HeaderData) (b : BodyData) → Laws Odd (ended h b) (Of is_end) Nothing ⊥
 laws_ended h b = laws_mapped _ (one (mark_in is_end) (IsBadClose h b)) (laws_end h b)
 
-pub laws_named : Laws Odd (mapped nothing_of string) (Of is_text) Nothing ⊥
-laws_named = laws_mapped nothing_of string laws_text
+pub laws_named : Laws Odd (mapped nothing_of string) (Of is_string) Nothing ⊥
+laws_named = laws_mapped nothing_of string laws_string
 
 pub laws_no_name : Laws Odd (give {T = Sign} {V = Unit {0}} {F = HoaCause} tt) Nothing Nothing (Unit {0})
 laws_no_name = laws_give Odd tt
 
-pub laws_state_name : Laws Odd state_name (Of is_text) (Of is_text) (Unit {0})
+pub laws_state_name : Laws Odd state_name (Of is_string) (Of is_string) (Unit {0})
 laws_state_name =
     weaker (laws_either laws_named laws_no_name (λ t a b. b) (λ a b. a)) (either_first _) (either_more _) (λ k. tt)
 
 -- the signs of a state behind its label, by what may stand behind each of its parts
 abbrev pub MoreEdges : Sign → Type 0
 MoreEdges = Or (Of lengthens_edge) (Of begins_edge)
-
-marks_apart : Apart (Of is_left_brace) (Of begins_edge)
-marks_apart t h k = go t.kind h k
-  where
-    go : AreApart is_left_brace begins_edge
-    go LeftBrace h k = false_true k
-    go kind h k = false_true h
 
 abbrev pub begins_marks : Kind → Bool
 begins_marks LeftBrace = true
@@ -127,84 +116,22 @@ both : {A B C : Sign → Type 0} {N : Type 0} → Within A C → Within B C → 
 both f g t (inl h) = f t h
 both f g t (inr h) = g t h.1
 
-named_apart : Apart (Of is_text) (Of begins_marks)
-named_apart t h k = go t.kind h k
-  where
-    go : AreApart is_text begins_marks
-    go Text h k = false_true k
-    go kind h k = false_true h
-
-brace_marks : Within (Of is_left_brace) (Of begins_marks)
-brace_marks t h = go t.kind h
-  where
-    go : (kind : Kind) → is_left_brace kind ≡ true → begins_marks kind ≡ true
-    go LeftBrace h = refl
-    go kind h = absurd (false_true h)
-
-edge_marks : Within (Of begins_edge) (Of begins_marks)
-edge_marks t h = go t.kind h
-  where
-    go : (kind : Kind) → begins_edge kind ≡ true → begins_marks kind ≡ true
-    go LeftBracket h = refl
-    go Int h = refl
-    go kind h = absurd (false_true h)
-
-text_name : Within (Of is_text) (Of begins_name)
-text_name t h = go t.kind h
-  where
-    go : (kind : Kind) → is_text kind ≡ true → begins_name kind ≡ true
-    go Text h = refl
-    go kind h = absurd (false_true h)
-
-marks_name : Within (Of begins_marks) (Of begins_name)
-marks_name t h = go t.kind h
-  where
-    go : (kind : Kind) → begins_marks kind ≡ true → begins_name kind ≡ true
-    go LeftBrace h = refl
-    go LeftBracket h = refl
-    go Int h = refl
-    go kind h = absurd (false_true h)
-
-brace_state : Within (Of is_left_brace) (Of lengthens_state)
-brace_state t h = go t.kind h
-  where
-    go : (kind : Kind) → is_left_brace kind ≡ true → lengthens_state kind ≡ true
-    go LeftBrace h = refl
-    go kind h = absurd (false_true h)
-
-text_state : Within (Of is_text) (Of lengthens_state)
-text_state t h = go t.kind h
-  where
-    go : (kind : Kind) → is_text kind ≡ true → lengthens_state kind ≡ true
-    go Text h = refl
-    go kind h = absurd (false_true h)
-
 edges_state : Within MoreEdges (Of lengthens_state)
-edges_state t h = go t.kind h
-  where
-    go : (kind : Kind) → (lengthens_edge kind ≡ true) ⊎ (begins_edge kind ≡ true) → lengthens_state kind ≡ true
-    go And h = refl
-    go LeftBrace h = refl
-    go LeftBracket h = refl
-    go Int h = refl
-    go kind (inl h) = absurd (false_true h)
-    go kind (inr h) = absurd (false_true h)
+edges_state t (inl h) = within lengthens_edge lengthens_state refl t h
+edges_state t (inr h) = within begins_edge lengthens_state refl t h
 
 label_edge : Within (Or (Of is_left_bracket) (When (Unit {0}) (Of is_int))) (Of begins_edge)
-label_edge t h = go t.kind h
-  where
-    go : (kind : Kind) → (is_left_bracket kind ≡ true) ⊎ (Unit {0} × (is_int kind ≡ true)) → begins_edge kind ≡ true
-    go LeftBracket h = refl
-    go Int h = refl
-    go kind (inl h) = absurd (false_true h)
-    go kind (inr h) = absurd (false_true h.1)
+label_edge t (inl h) = within is_left_bracket begins_edge refl t h
+label_edge t (inr h) = within is_int begins_edge refl t h.1
 
 label_int : Apart (Of is_left_bracket) (Of is_int)
-label_int t h k = go t.kind h k
-  where
-    go : AreApart is_left_bracket is_int
-    go LeftBracket h k = false_true k
-    go kind h k = false_true h
+label_int = apart is_left_bracket is_int refl
+
+marks_apart : Apart (Of is_left_brace) (Of begins_edge)
+marks_apart = apart is_left_brace begins_edge refl
+
+named_apart : Apart (Of is_string) (Of begins_marks)
+named_apart = apart is_string begins_marks refl
 
 module _ (h : HeaderData) (b : BodyData) where
   abbrev pub from_edges : Option Expression → ℕ → List ℕ → Part Sign BodyData HoaCause
@@ -233,8 +160,9 @@ module _ (h : HeaderData) (b : BodyData) where
   laws_from_marks : (label : Option Expression) (n : ℕ) → Laws Odd (from_marks label n) (Of begins_marks)
       (Of lengthens_state) (Unit {0})
   laws_from_marks label n =
-      weaker (laws_then (laws_marks h) (laws_from_edges label n) marks_apart) (both brace_marks edge_marks)
-      (both edges_state brace_state) (λ k. tt)
+      weaker (laws_then (laws_marks h) (laws_from_edges label n) marks_apart)
+      (both (within is_left_brace begins_marks refl) (within begins_edge begins_marks refl))
+      (both edges_state (within is_left_brace lengthens_state refl)) (λ k. tt)
 
   pub joint_name : (label : Option Expression) (n : ℕ) → Joint state_name (λ _. from_marks label n)
   joint_name label n = joint laws_state_name (λ _. laws_from_marks label n) named_apart
@@ -242,8 +170,9 @@ module _ (h : HeaderData) (b : BodyData) where
   laws_from_name : (label : Option Expression) (n : ℕ) → Laws Odd (from_name label n) (Of begins_name)
       (Of lengthens_state) (Unit {0})
   laws_from_name label n =
-      weaker (laws_then laws_state_name (λ _. laws_from_marks label n) named_apart) (both text_name marks_name)
-      (both (λ t k. k) text_state) (λ k. tt)
+      weaker (laws_then laws_state_name (λ _. laws_from_marks label n) named_apart)
+      (both (within is_string begins_name refl) (within begins_marks begins_name refl))
+      (both (λ t k. k) (within is_string lengthens_state refl)) (λ k. tt)
 
   laws_state_number : Laws Odd (state_number h b) (Of is_int) Nothing ⊥
   laws_state_number = laws_number (IsBadRow h b)
@@ -282,15 +211,7 @@ pub laws_states : (h : HeaderData) (b : BodyData) → Laws Odd (many (state h) b
 laws_states h b = laws_many (state h) (laws_state h) state_apart b
 
 end_apart : Apart (Or (Of lengthens_state) IsState) (Of is_end)
-end_apart t (inl k) m = go t.kind k m
-  where
-    go : AreApart lengthens_state is_end
-    go And h k = false_true k
-    go LeftBrace h k = false_true k
-    go LeftBracket h k = false_true k
-    go Int h k = false_true k
-    go Text h k = false_true k
-    go kind h k = false_true h
+end_apart t (inl k) m = apart lengthens_state is_end refl t k m
 end_apart t (inr k) m = false_true (sym (ap is_end (text_of_state t.kind t.text k.0 k.1).0) ∙ m)
 
 pub joint_body : (h : HeaderData) → Joint (many (state h) no_rows) (ended h)

@@ -16,9 +16,10 @@ use Rattle.ps_hoa.specs.ItemNames.{ItemName}
 use Rattle.ps_hoa.specs.Inner.Items.{item_names, item_among, item_at}
 use Rattle.ps_hoa.specs.declared.tokens.Kind.{Kind}
 use Rattle.ps_hoa.specs.declared.tokens.Kind.TheVariants.{Header, Body}
+use Rattle.ps_hoa.proofs.Grammar.KindSets.{apart, plain}
 use Rattle.ps_hoa.proofs.Grammar.OperandLaws.{Odd, Of, false_true, only_first}
 use Rattle.ps_hoa.proofs.Grammar.ItemNames.{StartsWith, begins}
-use Rattle.ps_hoa.proofs.Grammar.SignLaws.{is_body, is_argument, plain_body, laws_sign}
+use Rattle.ps_hoa.proofs.Grammar.SignLaws.{is_body, is_argument, laws_sign}
 use Rattle.ps_hoa.proofs.Grammar.HeaderLaws.{laws_states, laws_start, laws_names, laws_alias, laws_acceptance}
 use Rattle.ps_hoa.proofs.Grammar.HeaderLaws.{laws_controllable, laws_tool, laws_name_item, laws_other, ItemMore}
 
@@ -67,15 +68,12 @@ body_taken h g kind e = absurd (none_is_some g e)
 
 pub laws_body_mark : (h : HeaderData) → Laws Odd (body_mark h) (Of is_body) Nothing ⊥
 laws_body_mark h =
-    laws_sign is_body (λ s. body_value h s.kind) (IsBadBody h) (record { kind = Body; text = [] }) h refl plain_body
+    laws_sign is_body (λ s. body_value h s.kind) (IsBadBody h) (record { kind = Body; text = [] }) h refl
+    (plain is_body refl)
     (λ t k. body_taken h k.0 t.kind k.1) (λ t k. ap is_body k.1.0)
 
 item_body : Apart (Or ItemMore ItemFirst) (Of is_body)
-item_body t (inl h) k = go t.kind h k
-  where
-    go : (kind : Kind) → is_argument kind ≡ true → is_body kind ≡ true → ⊥
-    go Body h k = false_true h
-    go kind h k = false_true k
+item_body t (inl h) k = apart is_argument is_body refl t h k
 item_body t (inr h) k = false_true (ap is_body (sym (first_header t h)) ∙ k)
 
 abbrev pub HeaderFirst : Sign → Type 0

@@ -1,6 +1,6 @@
 -- The pieces still to come, and one token further.
 use Rattle.std.proofs.Common.{◌≡◌, ℕ, suc, zero, ◌+◌, ◌-◌, ◌<◌, ◌≤◌, ◌↔◌, Bool, true, false, cond, List, [], ◌∷◌}
-use Rattle.std.proofs.Common.{length, take, drop, refl, ap, sym, ◌∙◌, arith, length-drop}
+use Rattle.std.proofs.Common.{length, take, drop, refl, ap, sym, subst, ◌∙◌, arith, length-drop}
 use Rattle.std.specs.List.{slice_range}
 use Rattle.std.proofs.lemmas.List.{drop_all, drop-drop}
 use Rattle.std.proofs.Math.Decide.{dec_lt}
@@ -8,42 +8,30 @@ use Rattle.ps_text.specs.Answers.{Piece, Stream}
 use Rattle.ps_hoa.specs.Tokens.{Sign, marked, marks_after, kind_here, is_known}
 use Rattle.ps_hoa.specs.declared.tokens.Kind.{Kind}
 use Rattle.ps_hoa.specs.declared.tokens.Kind.TheVariants.{Header, HeaderAgain, OpenComment, Behind, Finish}
+use Rattle.ps_hoa.specs.Spans.{IsKept, IsSpan, piece_of}
+use Rattle.ps_hoa.specs.declared.tokens.Lexeme.{Lexeme}
+use Rattle.ps_hoa.specs.declared.tokens.Token.{Token}
 use Rattle.ps_hoa.specs.declared.tokens.Marks.{Marks}
 use Rattle.ps_hoa.specs.declared.tokens.Step.TheVariants.{Found}
-use Rattle.ps_hoa.specs.Scan.{lex, lex_behind, step_of, Reading, stream_of, next_of, behind_next, is_finish, fresh}
+use Rattle.ps_hoa.specs.Scan.{lex, lex_behind, step_of, IsLexeme, Reading, stream_of, next_of, behind_next}
+use Rattle.ps_hoa.specs.Scan.{is_finish, fresh}
 use Rattle.ps_hoa.proofs.Lexing.Scanning.{lex_token}
 
--- a token stands here
-pub pieces_found : (r : Reading) (kind : Kind) (stop : ℕ) → r.at < stop → stop ≤ length r.source →
-    step_of (drop r.at r.source) ≡ Found kind (stop - r.at) →
-    (stream_of r).pieces ≡ record {
+abbrev before : List ℕ → Lexeme → Marks → Reading
+before source l marks = record { source = source; at = l.start; marks = marks }
+
+abbrev pub token_piece : List ℕ → Lexeme → Marks → Piece Sign
+token_piece source l marks =
+    record {
       sign = record {
-        kind = kind_here r.marks kind (slice_range r.source r.at stop);
-        text = slice_range r.source r.at stop;
+        kind = kind_here marks l.kind (slice_range source l.start l.stop);
+        text = slice_range source l.start l.stop;
       };
-      start = r.at;
+      start = l.start;
     }
-    ∷ marked (marks_after r.marks kind (slice_range r.source r.at stop)) (lex stop (drop stop r.source))
-unfolding stream_of
-pieces_found r kind stop some within is =
-    let long : 0 < length (drop r.at r.source) = rw length-drop (omega arith) in
-    let more : 0 < stop - r.at = omega arith in
-    let there : r.at + (stop - r.at) ≡ stop = omega arith in
-    let rest : drop (stop - r.at) (drop r.at r.source) ≡ drop stop r.source = drop-drop (stop - r.at) r.at r.source
-    ∙ ap (λ (k : ℕ). drop k r.source) there in
-    let found = lex_token (drop r.at r.source) kind (stop - r.at) r.at long is more in
-    ap (λ (ps : List (Piece Sign)). marked r.marks ps) found
-    ∙ ap (λ (ps : List (Piece Sign)). record {
-      sign = record {
-        kind = kind_here r.marks kind
-            (slice_range r.source r.at stop);
-        text = slice_range r.source r.at stop;
-      };
-      start = r.at;
-    }
-    ∷ marked (marks_after r.marks kind (slice_range r.source r.at stop)) ps)
-    (ap (λ (k : ℕ). lex k (drop (stop - r.at) (drop r.at r.source))) there
-    ∙ ap (λ (bytes : List ℕ). lex stop bytes) rest)
+
+abbrev pub marks_behind : List ℕ → Lexeme → Marks → Marks
+marks_behind source l marks = marks_after marks l.kind (slice_range source l.start l.stop)
 
 lex_nothing : (at : ℕ) → lex at [] ≡ []
 unfolding lex_behind
@@ -87,31 +75,6 @@ take_nothing : (n : ℕ) → take n (let none : List ℕ = [] in none) ≡ []
 take_nothing zero = refl
 take_nothing (suc n) = refl
 
-abbrev pub token_piece : Reading → Kind → ℕ → Piece Sign
-token_piece r kind stop =
-    record {
-      sign = record {
-        kind = kind_here r.marks kind (slice_range r.source r.at stop);
-        text = slice_range r.source r.at stop;
-      };
-      start = r.at;
-    }
-
-pub next_is : (r : Reading) (kind : Kind) (stop : ℕ) → r.at ≤ stop → stop ≤ length r.source →
-    step_of (drop r.at r.source) ≡ Found kind (stop - r.at) →
-    (r.at < length r.source → r.at < stop) → next_of (stream_of r) ≡ token_piece r kind stop
-next_is r kind stop rises within is some =
-    (elim (dec_lt r.at (length r.source)) as (λ _. next_of (stream_of r) ≡ token_piece r kind stop) [
-      | yes h ↦ next_at (stream_of r) _ _ (pieces_found r kind stop (some h) within is)
-      | no h ↦
-          let done : length r.source ≤ r.at = omega arith in
-          let f = finish_here r kind (stop - r.at) done is in
-          let e : (stream_of r).end ≡ r.at = end_is r ∙ (let g : length r.source ≡ r.at = omega arith in g) in
-          let text : slice_range r.source r.at stop ≡ [] =
-          rw (drop_all r.at r.source done) (take_nothing (stop - r.at)) in
-          next_at_end (stream_of r) (pieces_none r done) ∙ rw (e, text, f.0) refl
-    ])
-
 -- the stream by its two parts
 shown : (r : Reading) (ps : List (Piece Sign)) (end : ℕ) → marked r.marks (lex r.at (drop r.at r.source)) ≡ ps →
     length r.source ≡ end → stream_of r ≡ record { pieces = ps; end = end }
@@ -142,64 +105,108 @@ never m Header text h e = go m.ended (is_known m text) e
     go false false e = cc
 never m kind text h e = other m.ended kind h e
 
-pub rest_is : (r : Reading) (kind : Kind) (stop at : ℕ) → r.at ≤ stop → stop ≤ length r.source → stop ≤ at →
-    at ≤ length r.source → step_of (drop r.at r.source) ≡ Found kind (stop - r.at) →
-    (r.at < length r.source → r.at < stop) → lex at (drop at r.source) ≡ lex stop (drop stop r.source) →
-    stream_of (record { source = r.source; at = at; marks = marks_after r.marks kind (slice_range r.source r.at stop) })
-    ≡ behind_next (stream_of r)
-rest_is r kind stop at rises within on last is some same =
-    let new : Reading =
-    record { source = r.source; at = at; marks = marks_after r.marks kind (slice_range r.source r.at stop) } in
-    (elim (dec_lt r.at (length r.source)) as (λ _. stream_of new ≡ behind_next (stream_of r)) [
-      | yes h ↦ shown new _ _ (ap (λ (ps : List (Piece Sign)). marked new.marks ps) same) refl
-          ∙ sym (behind_at (stream_of r) _ _ (pieces_found r kind stop (some h) within is)
-          ∙ ap (λ (e : ℕ). record {
-            pieces = marked (marks_after r.marks kind (slice_range r.source r.at stop))
-                (lex stop (drop stop r.source));
-            end = e;
-          }) (end_is r))
-      | no h ↦
-          let done : length r.source ≤ r.at = omega arith in
-          let past : length r.source ≤ at = omega arith in
-          shown new [] (length r.source) (ap (λ (bytes : List ℕ). marked new.marks (lex at bytes))
-          (drop_all at r.source past) ∙ ap (λ (ps : List (Piece Sign)). marked new.marks ps) (lex_nothing at)) refl
-          ∙ sym (behind_at_end (stream_of r) (pieces_none r done) ∙ stream_none r done)
-    ])
+module _ (source : List ℕ) (l : Lexeme) (marks : Marks) (h : IsLexeme source l) where
+  -- a token stands here
+  found : l.start < length source →
+      (stream_of (before source l marks)).pieces ≡ token_piece source l marks ∷ marked (marks_behind source l marks)
+      (lex l.stop (drop l.stop source))
+  unfolding stream_of
+  found some =
+      let stop = h.some some in
+      let long : 0 < length (drop l.start source) = rw length-drop (omega arith) in
+      let more : 0 < l.stop - l.start = omega arith in
+      let there : l.start + (l.stop - l.start) ≡ l.stop = omega arith in
+      let rest : drop (l.stop - l.start) (drop l.start source) ≡ drop l.stop source =
+      drop-drop (l.stop - l.start) l.start source ∙ ap (λ (k : ℕ). drop k source) there in
+      ap (λ (ps : List (Piece Sign)). marked marks ps)
+      (lex_token (drop l.start source) l.kind (l.stop - l.start) l.start long h.token more)
+      ∙ ap (λ (ps : List (Piece Sign)). token_piece source l marks ∷ marked (marks_behind source l marks) ps)
+      (ap (λ (k : ℕ). lex k (drop (l.stop - l.start) (drop l.start source))) there
+      ∙ ap (λ (bytes : List ℕ). lex l.stop bytes) rest)
 
--- the end of the text is at no token, and nothing else is
-pub finish_iff : (r : Reading) (kind : Kind) (stop : ℕ) → stop ≤ length r.source →
-    step_of (drop r.at r.source) ≡ Found kind (stop - r.at) →
-    (r.at < length r.source → r.at < stop) → (r.at < length r.source → is_finish kind ≡ false) →
-    (kind_here r.marks kind (slice_range r.source r.at stop) ≡ Finish) ↔ ((stream_of r).pieces ≡ [])
-finish_iff r kind stop within is some proper =
-    (elim (dec_lt r.at (length r.source)) as (λ _. (kind_here r.marks kind (slice_range r.source r.at stop) ≡ Finish) ↔
-    ((stream_of r).pieces ≡ [])) [
-      | yes h ↦ (
-        λ e. absurd (never r.marks kind _ (proper h) e),
-        λ e. absurd (no_piece _ _ (sym (pieces_found r kind stop (some h) within is) ∙ e)),
-      )
-      | no h ↦
-          let done : length r.source ≤ r.at = omega arith in (
-            λ _. pieces_none r done,
-            λ _. ap (λ (k : Kind). kind_here r.marks k (slice_range r.source r.at stop))
-                (finish_here r kind (stop - r.at) done is).0,
-          )
-    ])
+  pub next_is : next_of (stream_of (before source l marks)) ≡ token_piece source l marks
+  next_is =
+      let r = before source l marks in
+      (elim (dec_lt l.start (length source)) as (λ _. next_of (stream_of r) ≡ token_piece source l marks) [
+        | yes some ↦ next_at (stream_of r) _ _ (found some)
+        | no none ↦
+            let done : length source ≤ l.start = omega arith in
+            let f = finish_here r l.kind (l.stop - l.start) done h.token in
+            let e : length source ≡ l.start = omega (arith, h.rises, h.within) in
+            let text : slice_range source l.start l.stop ≡ [] =
+            rw (drop_all l.start source done) (take_nothing (l.stop - l.start)) in
+            next_at_end (stream_of r) (pieces_none r done) ∙ rw (end_is r, e, text, f.0) refl
+      ])
 
-pub piece_same : {k k' : Kind} {t t' : List ℕ} {s s' : ℕ} → k ≡ k' → t ≡ t' → s ≡ s' →
-    ◌≡◌ {A = Piece Sign} (record { sign = record { kind = k; text = t }; start = s })
-    (record { sign = record { kind = k'; text = t' }; start = s' })
-piece_same e f g = λ i. record { sign = record { kind = e i; text = f i }; start = g i }
+  pub rest_is : (at : ℕ) → l.stop ≤ at → lex at (drop at source) ≡ lex l.stop (drop l.stop source) →
+      stream_of (record { source = source; at = at; marks = marks_behind source l marks }) ≡ behind_next (stream_of
+      (before source l marks))
+  rest_is at on same =
+      let r = before source l marks in
+      let new : Reading = record { source = source; at = at; marks = marks_behind source l marks } in
+      (elim (dec_lt l.start (length source)) as (λ _. stream_of new ≡ behind_next (stream_of r)) [
+        | yes some ↦ shown new _ _ (ap (λ (ps : List (Piece Sign)). marked new.marks ps) same) refl
+            ∙ sym (behind_at (stream_of r) _ _ (found some) ∙ ap (λ (e : ℕ). record {
+              pieces = marked new.marks (lex l.stop (drop l.stop source));
+              end = e;
+            }) (end_is r))
+        | no none ↦
+            let done : length source ≤ l.start = omega arith in
+            let past : length source ≤ at = omega (arith, h.rises) in
+            stream_none new past ∙ sym (behind_at_end (stream_of r) (pieces_none r done) ∙ stream_none r done)
+      ])
 
-pub stream_same : {source source' : List ℕ} {marks marks' : Marks} (at : ℕ) → source ≡ source' → marks ≡ marks' →
-    stream_of (record { source = source; at = at; marks = marks }) ≡ stream_of
-    (record { source = source'; at = at; marks = marks' })
-stream_same at e f = λ i. stream_of (record { source = e i; at = at; marks = f i })
+  -- the end of the text is at no token, and nothing else is
+  pub finish_iff : ((token_piece source l marks).sign.kind ≡ Finish) ↔ ((stream_of (before source l marks)).pieces ≡
+      [])
+  finish_iff =
+      let r = before source l marks in
+      (elim (dec_lt l.start (length source)) as (λ _. ((token_piece source l marks).sign.kind ≡ Finish) ↔
+      ((stream_of r).pieces ≡ [])) [
+        | yes some ↦ (
+          λ e. absurd (never marks l.kind _ (h.proper some) e),
+          λ e. absurd (no_piece _ _ (sym (found some) ∙ e)),
+        )
+        | no none ↦
+            let done : length source ≤ l.start = omega arith in (
+              λ _. pieces_none r done,
+              λ _. ap (λ (k : Kind). kind_here marks k (slice_range source l.start l.stop))
+                  (finish_here r l.kind (l.stop - l.start) done h.token).0,
+            )
+      ])
+
+-- what the kept token says of a reader
+module _ {source : List ℕ} {marks : Marks} {kind : Kind} {token : Token} (k : IsKept source marks kind token)
+    {r : Reading} (at : (let now : Reading = record { source = source; at = token.start; marks = marks } in now) ≡ r)
+  where
+    here : token.kind ≡ kind_here marks kind (slice_range source token.start token.stop)
+    here = k.here ∙ ap (kind_here marks kind) k.text
+
+    pub kept_next : piece_of token ≡ next_of (stream_of r)
+    kept_next = (λ i. record { sign = record { kind = here i; text = k.text i }; start = token.start })
+        ∙ sym (next_is source _ marks k.lexeme) ∙ ap (λ (s : Reading). next_of (stream_of s)) at
+
+    pub kept_finish : (token.kind ≡ Finish) ↔ ((stream_of r).pieces ≡ [])
+    kept_finish = let w = finish_iff source _ marks k.lexeme in
+        let same = ap (λ (s : Reading). (stream_of s).pieces) at in
+        (λ e. sym same ∙ w.0 (sym here ∙ e), λ e. here ∙ w.1 (same ∙ e))
+
+    pub kept_span : IsSpan r.source token
+    kept_span = subst (λ (s : Reading). IsSpan s.source token) at
+        (record { rises = k.lexeme.rises; within = k.lexeme.within; text = k.text })
+
+    pub kept_rest : {start next : ℕ} {behind : Marks} → start ≡ next → behind ≡ marks_after marks kind token.text.now →
+        token.stop ≤ next → lex next (drop next source) ≡ lex token.stop (drop token.stop source) →
+        stream_of (record { source = source; at = start; marks = behind }) ≡ behind_next (stream_of r)
+    kept_rest {next = next} e f on same =
+        (λ i. stream_of (record { source = source; at = e i; marks = (f ∙ ap (marks_after marks kind) k.text) i }))
+        ∙ rest_is source _ marks k.lexeme next on same ∙ ap (λ (s : Reading). behind_next (stream_of s)) at
 
 -- the pieces from a place on, by their relation to the bytes
-pub pieces_new : (source : List ℕ) (from at : ℕ) (marks : Marks) (pieces : List (Piece Sign)) → marks ≡ fresh →
-    lex at (drop at source) ≡ lex from (drop from source) →
-    lex from (drop from source) ≡ pieces → (stream_of (record { source = source; at = at; marks = marks })).pieces ≡
-    marked fresh pieces
+pub pieces_new : (source : List ℕ) (from at start : ℕ) (marks : Marks) (pieces : List (Piece Sign)) →
+    marks ≡ fresh → start ≡ at → lex at (drop at source) ≡ lex from (drop from source) →
+    lex from (drop from source) ≡ pieces →
+    (stream_of (record { source = source; at = start; marks = marks })).pieces ≡ marked fresh pieces
 unfolding stream_of
-pieces_new source from at marks pieces e same is = λ i. marked (e i) ((same ∙ is) i)
+pieces_new source from at start marks pieces e f same is =
+    λ i. marked (e i) ((ap (λ (k : ℕ). lex k (drop k source)) f ∙ same ∙ is) i)

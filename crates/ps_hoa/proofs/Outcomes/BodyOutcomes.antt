@@ -21,7 +21,8 @@ use Rattle.ps_hoa.specs.declared.fault.HoaCause.{HoaCause}
 use Rattle.ps_hoa.specs.declared.tokens.Kind.TheVariants.{Header, Int, LeftBrace, RightBrace, LeftBracket, RightBracket}
 use Rattle.ps_hoa.specs.declared.tokens.Kind.TheVariants.{End}
 use Rattle.ps_hoa.proofs.Grammar.OperandLaws.{Of, nothing_apart}
-use Rattle.ps_hoa.proofs.Grammar.BodyLaws.{is_int, laws_set_number, joint_sets, joint_braces, laws_sets, laws_no_sets}
+use Rattle.ps_hoa.proofs.Grammar.ConditionLaws.{is_int}
+use Rattle.ps_hoa.proofs.Grammar.BodyLaws.{laws_set_number, joint_sets, joint_braces, laws_sets, laws_no_sets}
 use Rattle.ps_hoa.proofs.Grammar.BodyLaws.{joint_label, joint_bracket, laws_bracketed, laws_no_label}
 use Rattle.ps_hoa.proofs.Grammar.BodyLaws.{laws_target_number}
 use Rattle.ps_hoa.proofs.Grammar.BodyLaws.{number_barred, joint_edge_marks, joint_edge_target, joint_edge_label}

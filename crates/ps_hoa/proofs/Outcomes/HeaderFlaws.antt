@@ -1,7 +1,7 @@
 -- What is wrong with a header where `--BODY--` stands: the flaw of the least number, or none.
 --     judge_header      of a header
 --     judge_body_mark      of the sign
-use Rattle.std.proofs.Common.{◌≡◌, ℕ, true, List, [], ◌∷◌, length, Option, None, Some, refl, inl, inr}
+use Rattle.std.proofs.Common.{◌≡◌, ℕ, List, [], ◌∷◌, length, Option, None, Some, refl, inl, inr}
 use Rattle.ps_label.specs.Expression.{Expression, constant, proposition, alias, not_of, all_of, any_of, Operands, last}
 use Rattle.ps_label.specs.Expression.{more}
 use Rattle.ps_text.proofs.Outcomes.{Judged, bad, good}
@@ -14,11 +14,9 @@ use Rattle.ps_hoa.specs.Header.{AcceptanceData, HeaderData, state_limit, names_o
 use Rattle.ps_hoa.specs.Header.{AnAliasBeyond, NamesSetBeyond, SomeNamesSetBeyond, AnIndexBeyond, IsStartBeyond}
 use Rattle.ps_hoa.specs.Header.{IsStartTooLarge, IsConditionBeyond, IsControlBeyond, IsRangeBroken, IsBadHeader}
 use Rattle.ps_hoa.specs.Header.{IsBadBody}
-use Rattle.ps_hoa.specs.Inner.Signs.{IsTestOf}
 use Rattle.ps_hoa.specs.declared.fault.HoaCause.{HoaCause}
-use Rattle.ps_hoa.specs.declared.tokens.Kind.{Kind}
 use Rattle.ps_hoa.specs.declared.tokens.Kind.TheVariants.{Body}
-use Rattle.ps_hoa.proofs.Grammar.OperandLaws.{false_true}
+use Rattle.ps_hoa.proofs.Grammar.KindSets.{test_of}
 use Rattle.ps_hoa.proofs.Grammar.SignLaws.{is_body}
 use Rattle.ps_hoa.proofs.Outcomes.Judging.{JudgesAll, decide_kind}
 use Rattle.ps_hoa.proofs.Outcomes.LeastFlaws.{no_acceptance_least, too_large_least, no_start_least, range_least}
@@ -102,12 +100,6 @@ module _ (h : HeaderData) where
   judge_header = by_flaw (decide_none h.acceptance) (start_large h.states h.start) (decide_none h.start)
       (range_broken h) (decide_none h.controllable)
 
-test_body : IsTestOf is_body Body
-test_body = (refl, only)
-  where
-    only : (k : Kind) → is_body k ≡ true → k ≡ Body
-    only Body e = refl
-    only k e = absurd (false_true e)
-
 pub judge_body_mark : (h : HeaderData) → JudgesAll (IsBadBody h)
-judge_body_mark h t = judge_also cause_number (decide_kind is_body Body test_body t.kind) (judge_header h)
+judge_body_mark h t = judge_also cause_number (decide_kind is_body Body (test_of is_body Body refl refl)
+    t.kind) (judge_header h)

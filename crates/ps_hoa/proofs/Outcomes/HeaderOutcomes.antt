@@ -25,7 +25,8 @@ use Rattle.ps_hoa.specs.declared.tokens.Kind.TheVariants.{Header, Word, Int, Tex
 use Rattle.ps_hoa.proofs.Grammar.OperandLaws.{nothing_apart, Of}
 use Rattle.ps_hoa.proofs.Grammar.BodyLaws.{number_barred}
 use Rattle.ps_hoa.proofs.Grammar.ConditionLaws.{is_int}
-use Rattle.ps_hoa.proofs.Grammar.SignLaws.{is_string, is_value, same_name, laws_int, laws_proposition_name}
+use Rattle.ps_hoa.proofs.Grammar.SignLaws.{is_string, same_name, laws_int, laws_proposition_name}
+use Rattle.ps_hoa.specs.Inner.Items.{is_value}
 use Rattle.ps_hoa.proofs.Grammar.HeaderLaws.{joint_states, joint_start, joint_names, joint_counted_names, joint_alias}
 use Rattle.ps_hoa.proofs.Grammar.HeaderLaws.{joint_named_label, joint_acceptance, joint_counted_condition}
 use Rattle.ps_hoa.proofs.Grammar.HeaderLaws.{joint_controllable}

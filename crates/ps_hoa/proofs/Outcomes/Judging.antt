@@ -30,7 +30,7 @@ use Rattle.ps_hoa.specs.declared.fault.HoaCause.TheVariants as causes
 use Rattle.ps_hoa.specs.declared.tokens.Kind.{Kind}
 use Rattle.ps_hoa.specs.declared.tokens.Kind.TheVariants.{And, AliasName, Int, LeftBracket, LeftParen, Not}
 use Rattle.ps_hoa.specs.Inner.Signs.{IsTestOf}
-use Rattle.ps_hoa.proofs.Grammar.OperandLaws.{false_true}
+use Rattle.ps_hoa.proofs.Grammar.KindSets.{test_of}
 use Rattle.ps_hoa.proofs.Reading.BodyReading.{test_left_bracket}
 
 abbrev pub JudgesAll : {A : Type 0} → (A → HoaCause → Type 0) → Type 0
@@ -40,13 +40,6 @@ JudgesAll {A} Bad = (a : A) → Judged cause_number (Bad a)
 
 pub decide_kind : (test : Kind → Bool) (kind : Kind) → IsTestOf test kind → (k : Kind) → Decided (k ≡ kind)
 decide_kind test kind i k = decide_as (i.1 k) (λ e. subst (λ x. test x ≡ true) (sym e) i.0) (decide_true (test k))
-
-test_and : IsTestOf is_and And
-test_and = (refl, only)
-  where
-    only : (k : Kind) → is_and k ≡ true → k ≡ And
-    only And e = refl
-    only k e = absurd (false_true e)
 
 -- ## Causes
 
@@ -104,7 +97,8 @@ judge_second h t = judge_as cause_number (λ f b. (b.0.0, b.0.1, b.1)) (λ f b. 
     (decide_not (decide_none h.start))))
 
 pub judge_alternating : (state : ℕ) → JudgesAll (IsAlternating state)
-judge_alternating state t = judge_cause cause_number causes.Alternating (decide_kind is_and And test_and t.kind)
+judge_alternating state t = judge_cause cause_number causes.Alternating
+    (decide_kind is_and And (test_of is_and And refl refl) t.kind)
 
 pub judge_name : (names : List (List ℕ)) → JudgesAll (IsBadName names)
 judge_name names t =

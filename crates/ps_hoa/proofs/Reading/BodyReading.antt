@@ -8,7 +8,7 @@ use Rattle.std.proofs.Common.{Option, None, Some, Ok, Err, refl, sym, ap, subst,
 use Rattle.std.proofs.lemmas.List.{map-append}
 use Rattle.ps_text.specs.Answers.{Piece, Stream, offset_of}
 use Rattle.ps_text.specs.Answers as texts
-use Rattle.ps_text.specs.Parts.{Part, IsRead, NoBad, give, one, then_by, either, many, mapped, barred}
+use Rattle.ps_text.specs.Parts.{Part, IsRead, NoBad, give, one, then_by, many, mapped, barred}
 use Rattle.ps_text.specs.Readers.{Reads, Stops}
 use Rattle.ps_text.proofs.Covered.{Avoids, Enters, enters_one, enters_then}
 use Rattle.ps_text.proofs.Branches.{Stands, left_entered, left_otherwise, right_otherwise}
@@ -32,10 +32,13 @@ use Rattle.ps_hoa.specs.declared.fault.HoaCause.{HoaCause}
 use Rattle.ps_hoa.specs.declared.fault.HoaCause.TheVariants.{Alternating}
 use Rattle.ps_hoa.specs.Causes.{HoaFault}
 use Rattle.ps_hoa.specs.declared.tokens.Kind.{Kind}
-use Rattle.ps_hoa.specs.declared.tokens.Kind.TheVariants.{Int, Text, And, LeftBracket, RightBracket, LeftBrace}
+use Rattle.ps_hoa.specs.declared.tokens.Kind.TheVariants.{Int, And, LeftBracket, RightBracket, LeftBrace}
 use Rattle.ps_hoa.specs.declared.tokens.Kind.TheVariants.{RightBrace, Finish}
 use Rattle.ps_hoa.proofs.Grammar.OperandLaws.{Of, false_true}
-use Rattle.ps_hoa.proofs.Grammar.BodyLaws.{is_int, is_text, laws_target_number, number_barred, laws_sets, laws_no_sets}
+use Rattle.ps_hoa.proofs.Grammar.ConditionLaws.{is_int}
+use Rattle.ps_hoa.proofs.Grammar.KindSets.{test_of}
+use Rattle.ps_hoa.proofs.Reading.MarkReading.{enters_left, enters_right}
+use Rattle.ps_hoa.proofs.Grammar.BodyLaws.{laws_target_number, number_barred, laws_sets, laws_no_sets}
 use Rattle.ps_hoa.proofs.Grammar.BodyLaws.{joint_braces, from_edge_label, joint_edge_label, joint_plain_marks}
 use Rattle.ps_hoa.proofs.Grammar.BodyLaws.{laws_labelled_edge, laws_plain_edge}
 use Rattle.ps_hoa.proofs.Reading.NextSign.{next_there, next_same, start_there}
@@ -72,46 +75,16 @@ bracket_signs before row =
     no e = let x : Finish ≡ LeftBracket = e in cc
 
 pub test_left_brace : IsTestOf is_left_brace LeftBrace
-test_left_brace = (refl, go)
-  where
-    go : (k : Kind) → is_left_brace k ≡ true → k ≡ LeftBrace
-    go LeftBrace e = refl
-    go k e = absurd (false_true e)
+test_left_brace = test_of is_left_brace LeftBrace refl refl
 
 pub test_right_brace : IsTestOf is_right_brace RightBrace
-test_right_brace = (refl, go)
-  where
-    go : (k : Kind) → is_right_brace k ≡ true → k ≡ RightBrace
-    go RightBrace e = refl
-    go k e = absurd (false_true e)
+test_right_brace = test_of is_right_brace RightBrace refl refl
 
 pub test_left_bracket : IsTestOf is_left_bracket LeftBracket
-test_left_bracket = (refl, go)
-  where
-    go : (k : Kind) → is_left_bracket k ≡ true → k ≡ LeftBracket
-    go LeftBracket e = refl
-    go k e = absurd (false_true e)
+test_left_bracket = test_of is_left_bracket LeftBracket refl refl
 
 pub test_right_bracket : IsTestOf is_right_bracket RightBracket
-test_right_bracket = (refl, go)
-  where
-    go : (k : Kind) → is_right_bracket k ≡ true → k ≡ RightBracket
-    go RightBracket e = refl
-    go k e = absurd (false_true e)
-
-pub test_text : IsTestOf is_text Text
-test_text = (refl, go)
-  where
-    go : (k : Kind) → is_text k ≡ true → k ≡ Text
-    go Text e = refl
-    go k e = absurd (false_true e)
-
-pub test_int : IsTestOf is_int Int
-test_int = (refl, go)
-  where
-    go : (k : Kind) → is_int k ≡ true → k ≡ Int
-    go Int e = refl
-    go k e = absurd (false_true e)
+test_right_bracket = test_of is_right_bracket RightBracket refl refl
 
 -- a test of a kind that the next token is not
 pub avoids_test : (test : Kind → Bool) (kind : Kind) → IsTestOf test kind → (s : Stream Sign) (b : Bool) →
@@ -176,18 +149,6 @@ module _ (Bad : ℕ → HoaCause → Type 0) where
       (ap found_of a.1 ∙ ap (λ z. Some (record { cause = Alternating; offset = z })) (start_there mid))
 
 -- ## Edges
-
-enters_left : {V : Type 0} (P Q : Part Sign V HoaCause) (there : Option Sign) → Enters P there →
-    Enters (either P Q) there
-enters_left P Q None e = e
-enters_left P Q (Some t) (inl b) = inl (record { more = b.more; value = b.value; is_text = inl b.is_text })
-enters_left P Q (Some t) (inr c) = inr (c.0, inl c.1)
-
-enters_right : {V : Type 0} (P Q : Part Sign V HoaCause) (there : Option Sign) → Enters Q there →
-    Enters (either P Q) there
-enters_right P Q None e = e
-enters_right P Q (Some t) (inl b) = inl (record { more = b.more; value = b.value; is_text = inr b.is_text })
-enters_right P Q (Some t) (inr c) = inr (c.0, inr c.1)
 
 enters_target : (Bad : ℕ → HoaCause → Type 0) (there : Option Sign) → Enters (one int_in (BadIn Bad)) there →
     Enters (Target Bad) there

@@ -2,13 +2,14 @@
 --     exit      at a `?`: the error that was met is what the function answers
 --     first_fails, rest_fails, value_fails      the first call failed, or the rest behind it, or the part whose value
 --               is seen otherwise
+--     behind_first      the answer to the rest, where the first was read
 --     value_is      what was read has that value
-use Rattle.std.proofs.Common.{◌≡◌, Option, Result, IsErrAnd, subst}
+use Rattle.std.proofs.Common.{◌≡◌, Option, Result, Ok, Err, IsErrAnd, subst}
 use Rattle.ps_text.specs.Answers.{Stream, Found, signs}
 use Rattle.ps_text.specs.Parts.{Part, IsRead, then_by, mapped}
 use Rattle.ps_text.specs.Readers.{Meets, Reads, Stops}
 use Rattle.ps_text.proofs.Laws.{Joint}
-use Rattle.ps_text.proofs.Exits.{exits, stops_first, stops_behind, stops_mapped}
+use Rattle.ps_text.proofs.Exits.{exits, reads_then, stops_first, stops_behind, stops_mapped}
 use Rattle.ps_hoa.specs.Causes.{found_of, hoa_causes}
 use Rattle.ps_hoa.specs.Tokens.{Sign}
 use Rattle.ps_hoa.specs.declared.fault.HoaCause.{HoaCause}
@@ -28,6 +29,13 @@ pub rest_fails : {A B : Type 0} {P : Part Sign A HoaCause} {Q : A → Part Sign 
     {a : A} → Joint P Q → Reads P old a mid → (o : Option (Found HoaCause)) →
     Stops hoa_causes (Q a) mid o → Stops hoa_causes (then_by P Q) old o
 rest_fails j m o s = stops_behind hoa_causes j m o s
+
+-- the first was read, and what is answered to the rest is the answer to the whole
+pub behind_first : {A V X : Type 0} (view : X → V) {P : Part Sign A HoaCause} {Q : A → Part Sign V HoaCause}
+    {old mid : Stream Sign} (new : Stream Sign) {a : A} (r : Result X HoaFault) → Joint P Q → Reads P old a mid →
+    Meets found_of hoa_causes view (Q a) mid r new → Meets found_of hoa_causes view (then_by P Q) old r new
+behind_first view new (Ok x) j m q = reads_then j m q
+behind_first view new (Err e) j m q = stops_behind hoa_causes j m (found_of e) q
 
 pub value_fails : {A B : Type 0} (h : A → B) (part : Part Sign A HoaCause) (old : Stream Sign)
     (o : Option (Found HoaCause)) →

@@ -16,9 +16,10 @@ use Rattle.ps_hoa.specs.declared.fault.HoaCause.{HoaCause}
 use Rattle.ps_hoa.specs.declared.tokens.Kind.{Kind}
 use Rattle.ps_hoa.specs.declared.tokens.Kind.TheVariants.{Int, Text, Word, Finish}
 use Rattle.ps_hoa.proofs.Grammar.ConditionLaws.{is_int}
+use Rattle.ps_hoa.proofs.Grammar.KindSets.{test_of}
 use Rattle.ps_hoa.proofs.Reading.NextSign.{next_there, next_same}
 use Rattle.ps_hoa.proofs.Grammar.OperandLaws.{Of, false_true}
-use Rattle.ps_hoa.proofs.Grammar.SignLaws.{is_string, is_value as is_value_sign}
+use Rattle.ps_hoa.proofs.Grammar.SignLaws.{is_string}
 
 enters_at : {V : Type 0} (part : Part Sign V HoaCause) (s : Stream Sign) (kind : Kind) → (next_of s).sign.kind ≡ kind →
     (kind ≡ Finish → ⊥) →
@@ -32,12 +33,10 @@ pub avoids_at : (test : Kind → Bool) (s : Stream Sign) (kind : Kind) → ((nex
 avoids_at test s kind differs only t e h = differs (ap (λ z. z.kind) (next_same s t e) ∙ only t.kind h)
 
 pub only_int : (k : Kind) → is_int k ≡ true → k ≡ Int
-only_int Int e = refl
-only_int k e = absurd (false_true e)
+only_int = (test_of is_int Int refl refl).1
 
 pub only_string : (k : Kind) → is_string k ≡ true → k ≡ Text
-only_string Text e = refl
-only_string k e = absurd (false_true e)
+only_string = (test_of is_string Text refl refl).1
 
 pub enters_index : (ns : List ℕ) (s : Stream Sign) → (next_of s).sign.kind ≡ Int → Enters (index ns) (next_sign s)
 enters_index ns s e = enters_at (index ns) s Int e (λ f. cc)
@@ -70,12 +69,6 @@ enters_read_over h s e =
     enters_at (read_over h) s (next_of s).sign.kind refl (λ f. false_true (sym (ap is_value f) ∙ e))
     (λ text. read_over_at h (next_of s).sign.kind text e)
 
-same_value : (k : Kind) → is_value_sign k ≡ true → is_value k ≡ true
-same_value Int e = refl
-same_value Text e = refl
-same_value Word e = refl
-same_value k e = absurd (false_true e)
-
 pub avoids_read_over : (s : Stream Sign) → is_value (next_of s).sign.kind ≡ false →
-    Avoids (Of is_value_sign) (next_sign s)
-avoids_read_over s e t x h = false_true (sym e ∙ ap (λ z. is_value z.kind) (next_same s t x) ∙ same_value t.kind h)
+    Avoids (Of is_value) (next_sign s)
+avoids_read_over s e t x h = false_true (sym e ∙ ap (λ z. is_value z.kind) (next_same s t x) ∙ h)

@@ -5,45 +5,39 @@
 use Rattle.std.proofs.Common.{◌≡◌, ℕ, ◌≤◌, ◌↔◌, Bool, true, false, cond, List, [], ◌∷◌, length, Option, None, Some, Ok}
 use Rattle.std.proofs.Common.{refl, sym, ap, subst, ◌∙◌, inl, inr, arith}
 use Rattle.ps_text.specs.Answers.{Piece, Stream, Found, first_of, signs, next_of as there_of}
-use Rattle.ps_text.specs.Parts.{Part, NoBad, then_by, either}
+use Rattle.ps_text.specs.Parts.{Part, then_by, either}
 use Rattle.ps_text.specs.Readers.{Stops, Reads}
 use Rattle.ps_text.proofs.Laws.{Laws, Joint, Nothing, Apart}
 use Rattle.ps_text.proofs.Simple.{none_is_some, same_some}
 use Rattle.ps_text.proofs.Covered.{Enters, Avoids, enters_read, enters_then}
 use Rattle.ps_text.proofs.Exits.{reads_then, reads_mapped, stops_first, stops_behind, stops_mapped}
 use Rattle.ps_hoa.specs.Causes.{hoa_causes}
-use Rattle.ps_hoa.specs.Operands.{is_not, is_and, is_or, is_left, is_right, mark_in, mark, inner, before, closed}
+use Rattle.ps_hoa.specs.Operands.{is_not, is_and, is_or, is_left, is_right, mark, inner, before, closed}
 use Rattle.ps_hoa.specs.Scan.{next_of, behind_next}
 use Rattle.ps_hoa.specs.Tokens.{Sign}
 use Rattle.ps_hoa.specs.declared.fault.HoaCause.{HoaCause}
 use Rattle.ps_hoa.specs.declared.tokens.Kind.{Kind}
 use Rattle.ps_hoa.specs.declared.tokens.Kind.TheVariants.{Finish, Not, And, Or, LeftParen, RightParen}
+use Rattle.ps_hoa.specs.Inner.Signs.{IsTestOf}
+use Rattle.ps_hoa.proofs.Grammar.HeaderSigns.{signs_mark}
+use Rattle.ps_hoa.proofs.Grammar.KindSets.{test_of}
 use Rattle.ps_hoa.proofs.Grammar.OperandLaws.{Odd, Of, false_true, joint_mark, joint_closed, laws_held}
 use Rattle.ps_hoa.proofs.Grammar.LabelLaws.{laws_left, laws_right}
-use Rattle.ps_hoa.proofs.Reading.SingleSigns.{IsOfSigns, reads_one}
+use Rattle.ps_hoa.proofs.Reading.SingleSigns.{reads_one}
 
 pub record Tests (test : Kind → Bool) (kind : Kind) : Type 0 where
-  pub passes : test kind ≡ true
-  pub only : (k : Kind) → test k ≡ true → k ≡ kind
-  pub proper : test Finish ≡ false
+  pub is : IsTestOf test kind
+  pub proper : kind ≡ Finish → ⊥
 
-module _ {test : Kind → Bool} {kind : Kind} (is : Tests test kind) where
-  pub one_mark : IsOfSigns (mark_in test) NoBad
-  one_mark = record {
-    sign = record { kind = kind; text = [] };
-    value = tt;
-    taken = ap (λ b. cond b (Some tt) None) is.passes;
-    end = ap (λ b. cond b (Some tt) None) is.proper;
-    good = λ f b. b;
-  }
-
+module _ {test : Kind → Bool} {kind : Kind} (tests : Tests test kind) where
   -- the sign stands there, and was taken
   pub mark_read : {old new : Stream Sign} → (next_of old).sign.kind ≡ kind → new ≡ behind_next old →
       Reads (mark test) old tt new
-  mark_read {old = old} {new = new} e n = reads_one (λ u. u) one_mark old new (Ok tt) (record {
-    some = ap (λ b. cond b (Some tt) None) (ap test e ∙ is.passes);
-    good = λ f b. b;
-  }) n
+  mark_read {old = old} {new = new} e n =
+      reads_one (λ u. u) (signs_mark test kind tests.is tests.proper) old new (Ok tt) (record {
+        some = ap (λ b. cond b (Some tt) None) (ap test e ∙ tests.is.0);
+        good = λ f b. b;
+      }) n
 
   -- it does not stand there
   pub mark_elsewhere : (s : Stream Sign) → ((next_of s).sign.kind ≡ kind → ⊥) → Avoids (Of test) (there_of s)
@@ -52,7 +46,7 @@ module _ {test : Kind → Bool} {kind : Kind} (is : Tests test kind) where
       go : (ps : List (Piece Sign)) (end : ℕ) → ((next_of (record { pieces = ps; end = end })).sign.kind ≡ kind → ⊥) →
           Avoids (Of test) (first_of (signs ps))
       go [] end differs t x h = none_is_some t x
-      go (p ∷ ps) end differs t x h = differs (is.only p.sign.kind (subst (Of test) (sym (same_some p.sign t x)) h))
+      go (p ∷ ps) end differs t x h = differs (tests.is.1 p.sign.kind (subst (Of test) (sym (same_some p.sign t x)) h))
 
   pub mark_avoided : (s : Stream Sign) (b : Bool) → (b ≡ true) ↔ ((next_of s).sign.kind ≡ kind) → b ≡ false →
       Avoids (Of test) (there_of s)
@@ -68,39 +62,19 @@ behind_shrinks s new e = subst (λ (x : Stream Sign). length x.pieces ≤ length
     go (p ∷ ps) end = omega arith
 
 pub tests_not : Tests is_not Not
-tests_not = record { passes = refl; only = only; proper = refl }
-  where
-    only : (k : Kind) → is_not k ≡ true → k ≡ Not
-    only Not e = refl
-    only k e = absurd (false_true e)
+tests_not = record { is = test_of is_not Not refl refl; proper = λ e. cc }
 
 pub tests_and : Tests is_and And
-tests_and = record { passes = refl; only = only; proper = refl }
-  where
-    only : (k : Kind) → is_and k ≡ true → k ≡ And
-    only And e = refl
-    only k e = absurd (false_true e)
+tests_and = record { is = test_of is_and And refl refl; proper = λ e. cc }
 
 pub tests_or : Tests is_or Or
-tests_or = record { passes = refl; only = only; proper = refl }
-  where
-    only : (k : Kind) → is_or k ≡ true → k ≡ Or
-    only Or e = refl
-    only k e = absurd (false_true e)
+tests_or = record { is = test_of is_or Or refl refl; proper = λ e. cc }
 
 pub tests_left : Tests is_left LeftParen
-tests_left = record { passes = refl; only = only; proper = refl }
-  where
-    only : (k : Kind) → is_left k ≡ true → k ≡ LeftParen
-    only LeftParen e = refl
-    only k e = absurd (false_true e)
+tests_left = record { is = test_of is_left LeftParen refl refl; proper = λ e. cc }
 
 pub tests_right : Tests is_right RightParen
-tests_right = record { passes = refl; only = only; proper = refl }
-  where
-    only : (k : Kind) → is_right k ≡ true → k ≡ RightParen
-    only RightParen e = refl
-    only k e = absurd (false_true e)
+tests_right = record { is = test_of is_right RightParen refl refl; proper = λ e. cc }
 
 -- the sign begins what was read from it on
 pub mark_enters : (test : Kind → Bool) → Laws Odd (mark test) (Of test) Nothing ⊥ → {old mid : Stream Sign} →

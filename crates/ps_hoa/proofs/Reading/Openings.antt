@@ -1,5 +1,6 @@
 -- How a text opens, and what its answer is by that.
-use Rattle.std.proofs.Common.{◌≡◌, ℕ, ◌+◌, ◌-◌, ◌≤◌, true, false, List, ◌++◌, length, take, drop, ap, sym, subst, ◌∙◌}
+use Rattle.std.proofs.Common.{Bool, ◌≡◌, ℕ, ◌+◌, ◌-◌, ◌≤◌, true, false, List, ◌++◌, length, take, drop, ap, sym, subst}
+use Rattle.std.proofs.Common.{◌∙◌}
 use Rattle.std.proofs.Common.{arith, length-drop}
 use Rattle.std.specs.Prelude.{codes, Result}
 use Rattle.std.specs.List.{prefix_len}
@@ -23,7 +24,10 @@ use Rattle.ps_hoa.proofs.Lexing.StepMeanings.{begins_is}
 use Rattle.ps_hoa.proofs.Lexing.TokenSteps.{run_sound}
 
 -- what a slice to the end is
-pub to_end : (text : List ℕ) (at : ℕ) → take (length text - at) (drop at text) ≡ drop at text
+abbrev to_its_end : List ℕ → ℕ → List ℕ
+to_its_end text at = take (length text - at) (drop at text)
+
+to_end : (text : List ℕ) (at : ℕ) → to_its_end text at ≡ drop at text
 to_end text at = take_all (length text - at) (drop at text) (rw length-drop (omega arith))
 
 word_stands : (rest word : List ℕ) → begins_with rest word ≡ true → rest ≡ word ++ drop (length word) rest
@@ -59,6 +63,24 @@ pub record Opens (text : List ℕ) (first second : ℕ) : Type 0 where
   pub word : begins_with (drop first text) (codes "HOA:") ≡ true
   pub further : AreBlanks text (first + 4) second
   pub second_end : IsNoBlank (step_of (drop second text))
+
+-- the same, as the code found it
+pub told_word : (text : List ℕ) (first : ℕ) {b : Bool} → begins_with (to_its_end text first) (codes "HOA:") ≡ b →
+    begins_with (drop first text) (codes "HOA:") ≡ b
+told_word text first e = ap (λ (xs : List ℕ). begins_with xs (codes "HOA:")) (sym (to_end text first)) ∙ e
+
+pub opens : {text : List ℕ} {first second : ℕ} → length text ≤ text_limit → AreBlanks text 0 first →
+    IsNoBlank (step_of (drop first text)) → begins_with (to_its_end text first) (codes "HOA:") ≡ true →
+    AreBlanks text (first + 4) second → IsNoBlank (step_of (drop second text)) → Opens text first second
+opens {text} {first} short before first_end word further second_end =
+    record {
+      short = short;
+      before = before;
+      first_end = first_end;
+      word = told_word text first word;
+      further = further;
+      second_end = second_end;
+    }
 
 module _ (text : List ℕ) (first second : ℕ) (o : Opens text first second) where
   abbrev more : List ℕ
@@ -119,12 +141,13 @@ module _ (text : List ℕ) (first second : ℕ) (o : Opens text first second) wh
       (subst (λ (s : Stream Sign). PartAnswers hoa_causes file s answer) whole_stream a)
 
 -- what the code took as the version
-pub run_taken : (text : List ℕ) (second count : ℕ) → count ≡ prefix_len is_version_byte
-    (take (length text - second) (drop second text)) →
-    (count ≡ prefix_len is_version_byte (drop second text)) × (take ((second + count) - second) (drop second text) ≡
-    take (prefix_len is_version_byte (drop second text)) (drop second text))
-run_taken text second count is =
-    let e : count ≡ prefix_len is_version_byte (drop second text) = is
-    ∙ ap (λ (xs : List ℕ). prefix_len is_version_byte xs) (to_end text second) in
-    let same : (second + count) - second ≡ prefix_len is_version_byte (drop second text) = omega arith in
-    (e, ap (λ (k : ℕ). take k (drop second text)) same)
+module _ (text : List ℕ) (second count : ℕ) (is : count ≡ prefix_len is_version_byte (to_its_end text second)) where
+  pub told_count : count ≡ prefix_len is_version_byte (drop second text)
+  told_count = is ∙ ap (λ (xs : List ℕ). prefix_len is_version_byte xs) (to_end text second)
+
+  pub told_version : {b : Bool} → bytes_eq (take ((second + count) - second) (drop second text)) (codes "v1") ≡ b →
+      bytes_eq (take (prefix_len is_version_byte (drop second text)) (drop second text)) (codes "v1") ≡ b
+  told_version told =
+      let e = told_count in
+      let same : prefix_len is_version_byte (drop second text) ≡ (second + count) - second = omega arith in
+      ap (λ (k : ℕ). bytes_eq (take k (drop second text)) (codes "v1")) same ∙ told

@@ -68,7 +68,7 @@ module _ {V : Type 0} {sign : Kind → Bool} {kind : Kind} {operand : Part Sign 
   row_starts {old} {now} {v} b r t e is = subst (λ us. IsRow sign operand old us now) (sym is) (record {
     carries = row_begins sign operand w.mark_laws w.laws w.apart r;
     some = omega arith;
-    several = λ _. ap sign (t.0 e) ∙ w.tests.passes;
+    several = λ _. ap sign (t.0 e) ∙ w.tests.is.0;
   })
 
   pub row_more : {old now mid new : Stream Sign} {vs ws : List V} {v : V} (b : Bool) → IsRow sign operand old vs now →
@@ -94,7 +94,7 @@ module _ {V : Type 0} {sign : Kind → Bool} {kind : Kind} {operand : Part Sign 
       Reads (row sign join operand) old (join vs) now
   row_done join {old} {now} {vs} b i t e =
       subst (λ v. Reads (row sign join operand) old v now) (all vs
-      (λ one. false_true (sym e ∙ t.1 (w.tests.only _ (i.several one)))))
+      (λ one. false_true (sym e ∙ t.1 (w.tests.is.1 _ (i.several one)))))
       (row_ends sign operand w.mark_laws w.laws w.apart join i.carries (mark_avoided w.tests now b t e))
     where
       all : (us : List V) → (length us ≡ 1 → ⊥) → joined join us ≡ join us

@@ -25,7 +25,8 @@ use Rattle.ps_hoa.specs.declared.fault.HoaCause.{HoaCause}
 use Rattle.ps_hoa.specs.declared.tokens.Kind.{Kind}
 use Rattle.ps_hoa.specs.declared.tokens.Kind.TheVariants.{Text, Header, LeftBracket, End, Finish}
 use Rattle.ps_hoa.proofs.Grammar.OperandLaws.{Of, false_true}
-use Rattle.ps_hoa.proofs.Grammar.BodyLaws.{is_text, laws_bracketed, laws_no_label, joint_bracket}
+use Rattle.ps_hoa.proofs.Grammar.SignLaws.{is_string}
+use Rattle.ps_hoa.proofs.Grammar.BodyLaws.{laws_bracketed, laws_no_label, joint_bracket}
 use Rattle.ps_hoa.proofs.Grammar.StateLaws.{IsState, text_of_state, laws_named, laws_no_name, from_label, joint_state}
 use Rattle.ps_hoa.proofs.Reading.BodyReading.{next_of_kind, test_left_bracket, enters_mark}
 use Rattle.ps_hoa.proofs.Reading.NextSign.{next_there, next_same}
@@ -103,7 +104,7 @@ at_name s e = left_entered laws_named laws_no_name (texts.next_of s) (λ t a b. 
     (enters_mapped nothing_of string (texts.next_of s) (subst (Enters string) (sym (next_of_kind s Text refl e))
     (enters_one string_in NoBad (next_of s).sign (inl (string_next s e)))))
 
-pub at_no_name : (s : Stream Sign) → Avoids (Of is_text) (texts.next_of s) →
+pub at_no_name : (s : Stream Sign) → Avoids (Of is_string) (texts.next_of s) →
     Stands (texts.next_of s) (give tt) state_name
 at_no_name s a = right_otherwise laws_named laws_no_name (texts.next_of s) a (λ k. k)
 

@@ -1,11 +1,12 @@
-use Rattle.std.proofs.Common.{List, ℕ, Ok}
+use Rattle.std.proofs.Common.{List, ℕ, Ok, refl}
 use Rattle.ps_text.proofs.Exits.{reads_give, reads_mapped}
 use Rattle.ps_text.proofs.Branches.{reads_as}
 use Rattle.ps_hoa.specs.Body.{nothing_of}
 use Rattle.ps_hoa.specs.Scan.{stream_of}
 use Rattle.ps_hoa.specs.declared.tokens.Kind.TheVariants.{Text}
-use Rattle.ps_hoa.proofs.Grammar.BodyLaws.{is_text}
-use Rattle.ps_hoa.proofs.Reading.BodyReading.{avoids_test, test_text}
+use Rattle.ps_hoa.proofs.Grammar.SignLaws.{is_string}
+use Rattle.ps_hoa.proofs.Reading.BodyReading.{avoids_test}
+use Rattle.ps_hoa.proofs.Grammar.KindSets.{test_of}
 use Rattle.ps_hoa.proofs.Grammar.HeaderSigns.{signs_string}
 use Rattle.ps_hoa.proofs.Reading.SingleSigns.{reads_one}
 use Rattle.ps_hoa.proofs.Reading.StateReading.{at_name, at_no_name, string_next}
@@ -23,5 +24,7 @@ returns-then-is_at c =
 pub returns-else-is_at : goal.returns-else-is_at
 returns-else-is_at c =
     let s = stream_of c.args.tokens.now in
-    reads_as (at_no_name s (avoids_test is_text Text test_text s c.is_at.result c.is_at.ensures c.if-is_at.false))
+    reads_as (at_no_name s (avoids_test is_string Text (test_of is_string Text refl refl) s c.is_at.result
+    c.is_at.ensures
+    c.if-is_at.false))
     (reads_give s tt)

@@ -74,14 +74,14 @@ operand-returns-in_err-mark t c =
     exits found_of hoa_causes condition_of _ _ _ _ _
     (paren_stays_open condition_operands c.args.room c.if-room-gt0.true _ _ (c.is_at.ensures.0 c.if-is_at.true)
     c.advance.ensures.rest c.in_ok-inner.ensures (c.in_err-mark.ensures is_right
-    (tests_right.passes, tests_right.only)))
+    tests_right.is))
     c.from_residual-in_err-mark.ensures.1
 
 pub operand-returns-then-is_at : goal.operand-returns-then-is_at
 operand-returns-then-is_at t c =
     paren_reads condition_operands c.args.room c.if-room-gt0.true (c.is_at.ensures.0 c.if-is_at.true)
     c.advance.ensures.rest c.in_ok-inner.ensures
-    (c.in_ok-mark.ensures is_right (tests_right.passes, tests_right.only))
+    (c.in_ok-mark.ensures is_right tests_right.is)
 
 pub operand-returns : goal.operand-returns
 operand-returns t c = atom_stands condition_of c.args.room _ _ c.atom.result

@@ -19,7 +19,7 @@ pub returns-in_err-mark : goal.returns-in_err-mark
 returns-in_err-mark c =
     exits found_of hoa_causes condition_of _ _ _ _ _
     (visit_unopened _ (ap (λ p. often_in p.sign) (sym c.peek.ensures.next) ∙ sym c.often_of.ensures ∙ c.in-Some.is)
-    c.advance.ensures.rest c.args.room _ (c.in_err-mark.ensures is_left (tests_left.passes, tests_left.only)))
+    c.advance.ensures.rest c.args.room _ (c.in_err-mark.ensures is_left tests_left.is))
     c.from_residual.ensures.1
 
 pub returns-in_err-set : goal.returns-in_err-set
@@ -27,7 +27,7 @@ returns-in_err-set c =
     exits found_of hoa_causes condition_of _ _ _ _ _
     (visit_fails _ (ap (λ p. often_in p.sign) (sym c.peek.ensures.next) ∙ sym c.often_of.ensures ∙ c.in-Some.is)
     c.advance.ensures.rest c.args.room _
-    (c.in_ok-mark.ensures is_left (tests_left.passes, tests_left.only)) c.in_err-set.ensures)
+    (c.in_ok-mark.ensures is_left tests_left.is) c.in_err-set.ensures)
     c.from_residual-in_err-set.ensures.1
 
 pub returns-in_err-mark-2 : goal.returns-in_err-mark-2
@@ -35,8 +35,8 @@ returns-in_err-mark-2 c =
     exits found_of hoa_causes condition_of _ _ _ _ _
     (visit_stays_open _ (ap (λ p. often_in p.sign) (sym c.peek.ensures.next) ∙ sym c.often_of.ensures ∙ c.in-Some.is)
     c.advance.ensures.rest c.args.room _
-    (c.in_ok-mark.ensures is_left (tests_left.passes, tests_left.only)) c.in_ok-set.ensures
-    (c.in_err-mark-2.ensures is_right (tests_right.passes, tests_right.only)))
+    (c.in_ok-mark.ensures is_left tests_left.is) c.in_ok-set.ensures
+    (c.in_err-mark-2.ensures is_right tests_right.is))
     c.from_residual-in_err-mark-2.ensures.1
 
 pub returns : goal.returns
@@ -45,5 +45,5 @@ returns c =
     (sym c.visits.ensures)
     (visit_reads _ (ap (λ p. often_in p.sign) (sym c.peek.ensures.next) ∙ sym c.often_of.ensures ∙ c.in-Some.is)
     c.advance.ensures.rest c.args.room
-    (c.in_ok-mark.ensures is_left (tests_left.passes, tests_left.only)) c.in_ok-set.ensures
-    (c.in_ok-mark-2.ensures is_right (tests_right.passes, tests_right.only)))
+    (c.in_ok-mark.ensures is_left tests_left.is) c.in_ok-set.ensures
+    (c.in_ok-mark-2.ensures is_right tests_right.is))

@@ -1,4 +1,4 @@
-use Rattle.std.proofs.Common.{ℕ, [], Ok, Err, subst, sym}
+use Rattle.std.proofs.Common.{ℕ, [], Ok, Err, refl, subst, sym}
 use Rattle.ps_text.specs.Parts.{one, many}
 use Rattle.ps_text.specs.Readers.{Carries}
 use Rattle.ps_text.proofs.Covered.{enters_mapped}
@@ -12,8 +12,10 @@ use Rattle.ps_hoa.specs.Inner.Reads.{Takes}
 use Rattle.ps_hoa.specs.Scan.{stream_of}
 use Rattle.ps_hoa.specs.declared.tokens.Kind.TheVariants.{Int}
 use Rattle.ps_hoa.proofs.Grammar.OperandLaws.{nothing_apart}
-use Rattle.ps_hoa.proofs.Grammar.BodyLaws.{is_int, laws_set_number}
-use Rattle.ps_hoa.proofs.Reading.BodyReading.{int_signs, test_int, avoids_test, enters_int}
+use Rattle.ps_hoa.proofs.Grammar.BodyLaws.{laws_set_number}
+use Rattle.ps_hoa.proofs.Grammar.ConditionLaws.{is_int}
+use Rattle.ps_hoa.proofs.Grammar.KindSets.{test_of}
+use Rattle.ps_hoa.proofs.Reading.BodyReading.{int_signs, avoids_test, enters_int}
 use Rattle.ps_hoa.proofs.Reading.SingleSigns.{reads_one}
 use Rattle.ps_hoa.proofs.edges.set_numbers.Goals as goal
 
@@ -50,4 +52,5 @@ returns c =
     let item = set_number c.args.count in
     carries_reads hoa_causes c.more.invariant (many_ends item (laws_set_number c.args.count) (nothing_apart _)
     c.more.marks.items (stream_of c.more.tokens)
-    (avoids_test is_int Int test_int (stream_of c.more.tokens) c.is_at.result c.is_at.ensures c.more-test.false))
+    (avoids_test is_int Int (test_of is_int Int refl refl) (stream_of c.more.tokens) c.is_at.result c.is_at.ensures
+    c.more-test.false))

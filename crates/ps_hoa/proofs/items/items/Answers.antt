@@ -62,3 +62,7 @@ returns c =
     let e = told (piece_of c.peek.result) s c.item_at.result c.peek.ensures.next c.item_at.ensures in
     carries_reads hoa_causes c.items.invariant (many_ends item laws_item item_apart (header_data c.items.header) s
     (avoids_next s (e ∙ ap (λ o. option_map item_name_of o) c.in_default.is)))
+
+pub read_item-requires : goal.read_item-requires
+read_item-requires c =
+    told (piece_of c.peek.result) (stream_of c.items.tokens) (Some c.in-Some.item) c.peek.ensures.next c.in-Some.ensures

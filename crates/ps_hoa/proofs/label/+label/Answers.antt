@@ -90,14 +90,14 @@ operand-returns-in_err-mark t c =
     exits found_of hoa_causes expression _ _ _ _ _
     (paren_stays_open (label_operands c.args.scope.now) c.args.room c.if-room-gt0-2.true _ _
     (c.is_at-then-room-gt0-2.ensures.0 c.if-is_at-2.true) c.advance-then-is_at-2.ensures.rest c.in_ok-inner.ensures
-    (c.in_err-mark.ensures is_right (tests_right.passes, tests_right.only)))
+    (c.in_err-mark.ensures is_right tests_right.is))
     c.from_residual-in_err-mark.ensures.1
 
 pub operand-returns-then-is_at-2 : goal.operand-returns-then-is_at-2
 operand-returns-then-is_at-2 t c =
     paren_reads (label_operands c.args.scope.now) c.args.room c.if-room-gt0-2.true
     (c.is_at-then-room-gt0-2.ensures.0 c.if-is_at-2.true) c.advance-then-is_at-2.ensures.rest c.in_ok-inner.ensures
-    (c.in_ok-mark.ensures is_right (tests_right.passes, tests_right.only))
+    (c.in_ok-mark.ensures is_right tests_right.is)
 
 pub operand-returns : goal.operand-returns
 operand-returns t c = leaf_stands expression c.args.scope.now c.args.room _ _ c.leaf.result

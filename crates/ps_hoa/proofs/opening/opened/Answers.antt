@@ -1,9 +1,8 @@
-use Rattle.std.proofs.Common.{◌+◌, ℕ, List, ap, sym, ◌∙◌}
-use Rattle.std.specs.Prelude.{codes}
-use Rattle.std.specs.Str.{bytes_eq}
-use Rattle.ps_hoa.specs.Scan.{begins_with, stream_of}
+use Rattle.std.proofs.Common.{◌+◌, ℕ, ap, sym, ◌∙◌}
+use Rattle.ps_hoa.specs.Scan.{stream_of}
 use Rattle.ps_hoa.specs.Texts.{too_long}
-use Rattle.ps_hoa.proofs.Reading.Openings.{to_end, without_hoa, Opens, with_other_version, with_version, run_taken}
+use Rattle.ps_hoa.proofs.Reading.Openings.{without_hoa, told_word, opens, with_other_version, with_version, told_count}
+use Rattle.ps_hoa.proofs.Reading.Openings.{told_version}
 use Rattle.ps_hoa.proofs.opening.opened.Goals as goal
 
 pub returns-then-text-gt-TEXT_LIMIT-clause-refused : goal.returns-then-text-gt-TEXT_LIMIT-clause-refused
@@ -11,55 +10,32 @@ returns-then-text-gt-TEXT_LIMIT-clause-refused c = too_long c.if-text-gt-TEXT_LI
 
 pub returns-then-not-begins_with-clause-refused : goal.returns-then-not-begins_with-clause-refused
 returns-then-not-begins_with-clause-refused c =
-    let b = c.behind_blanks-first.ensures in
-    let none =
-    ap (λ (xs : List ℕ). begins_with xs (codes "HOA:")) (sym (to_end c.args.text.now c.behind_blanks-first.result))
-    ∙ sym c.begins_with.ensures.value ∙ c.if-not-begins_with.true in
-    without_hoa c.args.text.now c.behind_blanks-first.result c.if-text-gt-TEXT_LIMIT.false b.blanks b.token none
+    let text = c.args.text.now in
+    let a = c.behind_blanks-first.ensures in
+    without_hoa text c.behind_blanks-first.result c.if-text-gt-TEXT_LIMIT.false a.blanks a.token
+    (told_word text c.behind_blanks-first.result (sym c.begins_with.ensures.value ∙ c.if-not-begins_with.true))
 
 pub returns-then-not-is_same-clause-refused : goal.returns-then-not-is_same-clause-refused
 returns-then-not-is_same-clause-refused c =
     let text = c.args.text.now in
-    let first = c.behind_blanks-first.result in
     let second = c.behind_blanks-second.result in
     let a = c.behind_blanks-first.ensures in
     let b = c.behind_blanks-second.ensures in
-    let word = ap (λ (xs : List ℕ). begins_with xs (codes "HOA:")) (sym (to_end text first))
-    ∙ sym c.begins_with.ensures.value ∙ c.if-not-begins_with.false in
-    let o : Opens text first second =
-    record {
-      short = c.if-text-gt-TEXT_LIMIT.false;
-      before = a.blanks;
-      first_end = a.token;
-      word = word;
-      further = b.blanks;
-      second_end = b.token;
-    } in
-    let run = run_taken text second c.version_at.result c.version_at.ensures.value in
-    let other = ap (λ (xs : List ℕ). bytes_eq xs (codes "v1")) (sym run.1) ∙ sym c.is_same.ensures
-    ∙ c.if-not-is_same.true in
-    with_other_version text first second o other
+    with_other_version text c.behind_blanks-first.result second
+    (opens c.if-text-gt-TEXT_LIMIT.false a.blanks a.token (sym c.begins_with.ensures.value ∙ c.if-not-begins_with.false)
+    b.blanks b.token) (told_version text second c.version_at.result c.version_at.ensures.value
+    (sym c.is_same.ensures ∙ c.if-not-is_same.true))
 
 pub returns-clause-tokens : goal.returns-clause-tokens
 returns-clause-tokens c =
     let text = c.args.text.now in
-    let first = c.behind_blanks-first.result in
     let second = c.behind_blanks-second.result in
     let a = c.behind_blanks-first.ensures in
     let b = c.behind_blanks-second.ensures in
-    let word = ap (λ (xs : List ℕ). begins_with xs (codes "HOA:")) (sym (to_end text first))
-    ∙ sym c.begins_with.ensures.value ∙ c.if-not-begins_with.false in
-    let o : Opens text first second =
-    record {
-      short = c.if-text-gt-TEXT_LIMIT.false;
-      before = a.blanks;
-      first_end = a.token;
-      word = word;
-      further = b.blanks;
-      second_end = b.token;
-    } in
-    let run = run_taken text second c.version_at.result c.version_at.ensures.value in
-    let same = ap (λ (xs : List ℕ). bytes_eq xs (codes "v1")) (sym run.1) ∙ sym c.is_same.ensures
-    ∙ c.if-not-is_same.false in
-    with_version text first second o (stream_of c.new.result) (second + c.version_at.result)
-    (ap (λ (k : ℕ). second + k) run.0) same c.new.ensures.pieces c.new.ensures.end
+    let count = c.version_at.ensures.value in
+    with_version text c.behind_blanks-first.result second
+    (opens c.if-text-gt-TEXT_LIMIT.false a.blanks a.token (sym c.begins_with.ensures.value ∙ c.if-not-begins_with.false)
+    b.blanks b.token) (stream_of c.new.result) (second + c.version_at.result)
+    (ap (λ (k : ℕ). second + k) (told_count text second c.version_at.result count))
+    (told_version text second c.version_at.result count (sym c.is_same.ensures ∙ c.if-not-is_same.false))
+    c.new.ensures.pieces c.new.ensures.end

@@ -5,8 +5,9 @@ use Rattle.ps_hoa.proofs.tokens.Tokens.new.Goals as goal
 
 pub returns-clause-pieces : goal.returns-clause-pieces
 returns-clause-pieces c = λ pieces are.
-    pieces_new c.args.source.now c.args.from c.behind_blanks.result c.new.result pieces c.new.ensures
-    c.behind_blanks.ensures.same (sym (only_lex c.args.from (drop c.args.from c.args.source.now) pieces are))
+    pieces_new c.args.source.now c.args.from c.first_lexeme-lexeme.result.start c.token_of.result.start
+    c.new-marks.result pieces c.new-marks.ensures c.token_of.ensures.start
+    c.first_lexeme-lexeme.ensures.same (sym (only_lex c.args.from (drop c.args.from c.args.source.now) pieces are))
 
 pub returns-clause-end : goal.returns-clause-end
 returns-clause-end c = end_is _
