@@ -1,5 +1,5 @@
 use Rattle.std.proofs.Common.{inl, refl, subst, ◌∷◌, ◌++◌, [], length}
-use Rattle.ps_components.specs.declared.search.Mark.TheVariants.{Active}
+use Rattle.ps_components.specs.declared.marks.Mark.TheVariants.{Active}
 use Rattle.ps_components.specs.Searching.{ChangesReached}
 use Rattle.ps_components.proofs.Reaching.{reached-begun}
 use Rattle.ps_components.proofs.search.Search.visit.Goals as goal
@@ -8,13 +8,13 @@ pub returns-in_ok-run-clause-reached : goal.returns-in_ok-run-clause-reached
 returns-in_ok-run-clause-reached g c =
     let gr = g.G.Graph.graph c.args.graph.now in
     let s = c.args.self.now in
-    let new = c.run.new.self.marks.items in
+    let new = c.run.new.self.marks in
     let path =
-    subst (λ a. ChangesReached gr a c.enter.new.self.marks.items new) c.in_ok-enter.ensures.path
+    subst (λ a. ChangesReached gr a c.enter.new.self.marks new) c.in_ok-enter.ensures.path
     c.in_ok-run.ensures.reached in
     let marks =
     subst (λ m. ChangesReached gr (s.active.items ++ c.args.item ∷ []) m new) c.in_ok-enter.ensures.entered path in
-    reached-begun gr s.marks.items _ _ _ _ c.requires.sound c.requires.ended c.args.item
+    reached-begun gr s.marks _ _ _ _ c.requires.sound c.requires.ended c.args.item
     (Active (length s.active.items)) new marks
 
 pub returns-in_default-clause-reached : goal.returns-in_default-clause-reached
