@@ -26,6 +26,7 @@ mod groups;
 mod laws;
 mod low;
 mod measuring;
+mod packed;
 mod remaining;
 mod table;
 

@@ -4,6 +4,7 @@ ghost use Rattle.std.specs.Prelude.{◌≡◌, ℕ, ◌<◌, ◌≤◌, Some, If
 ghost use Rattle.ps_measure.specs.Ranks.{width_of};
 ghost use Rattle.ps_measure.specs.Tables.{AreZero, AreChained, HasPut, count_from};
 
+use crate::packed::Packed;
 use std::alloc::{AllocError, Global};
 use std::marker::Model;
 
@@ -21,7 +22,7 @@ pub struct CountCell {
 #[derive(Debug, Drop)]
 pub struct CountTable {
     width: usize,
-    heads: Vec<usize>,
+    heads: Packed,
     cells: Vec<CountCell>,
 }
 
@@ -31,9 +32,9 @@ impl Model for CountTable {
 
     ghost Value = { List (List ℕ) };
 
-    ghost view = { λ t. rows_in t.width t.heads.items t.cells.items };
+    ghost view = { λ t. rows_in t.width t.heads t.cells.items };
 
-    ghost invariant = { λ t. AreHeaded t.width t.heads.items t.cells.items };
+    ghost invariant = { λ t. AreHeaded t.width t.heads t.cells.items };
 }
 
 impl CountTable {
@@ -43,7 +44,7 @@ impl CountTable {
     {
         Ok(CountTable {
             width,
-            heads: vec![in alloc; 0; count]?,
+            heads: Packed::zeros(alloc, count)?,
             cells: Vec::new(alloc),
         })
     }
@@ -61,9 +62,10 @@ impl CountTable {
         requires place { place < width_of self.old vertex }
         ensures { OnOk result (HasPut self.old self.new vertex place count) }
     {
-        let next = self.heads[vertex];
-        self.cells.push(CountCell { place, count, next })?;
-        self.heads[vertex] = self.cells.len();
+        let next = self.heads.at(vertex);
+        self.cells.reserve(1)?;
+        self.heads.set(vertex, self.cells.len() + 1)?;
+        self.cells.push_reserved(CountCell { place, count, next });
         Ok(())
     }
 
@@ -78,7 +80,7 @@ impl CountTable {
     {
         row.clear();
         row.resize(self.width, 0)?;
-        raise_by(&self.cells, self.heads[vertex], row);
+        raise_by(&self.cells, self.heads.at(vertex), row);
         Ok(())
     }
 }
