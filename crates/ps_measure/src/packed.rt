@@ -7,7 +7,7 @@ use std::alloc::{AllocError, Global};
 use std::marker::Model;
 
 /// The greatest number that 4 bytes hold.
-const NARROW: usize = 4_294_967_295;
+pub(crate) const NARROW: usize = 4_294_967_295;
 
 /// A list of numbers, kept at 4 bytes each as long as all of them fit, and at 8 from then on.
 #[derive(Debug, Drop)]

@@ -4,6 +4,7 @@ ghost use Rattle.std.specs.Prelude.{◌≡◌, ℕ, ◌<◌, ◌≤◌, Some, If
 ghost use Rattle.ps_measure.specs.Ranks.{width_of};
 ghost use Rattle.ps_measure.specs.Tables.{AreZero, AreChained, HasPut, count_from};
 
+use crate::count_cells::CountCells;
 use crate::packed::Packed;
 use std::alloc::{AllocError, Global};
 use std::marker::Model;
@@ -12,9 +13,9 @@ use std::marker::Model;
 /// numbered from 1, and 0 is none.
 #[derive(Clone, Copy, Debug)]
 pub struct CountCell {
-    place: usize,
-    count: u64,
-    next: usize,
+    pub(crate) place: usize,
+    pub(crate) count: u64,
+    pub(crate) next: usize,
 }
 
 /// A row of counts for each vertex. Only counts that are not 0 take memory: those of a vertex are a chain of cells, by
@@ -23,7 +24,7 @@ pub struct CountCell {
 pub struct CountTable {
     width: usize,
     heads: Packed,
-    cells: Vec<CountCell>,
+    cells: CountCells,
 }
 
 impl Model for CountTable {
@@ -32,9 +33,9 @@ impl Model for CountTable {
 
     ghost Value = { List (List ℕ) };
 
-    ghost view = { λ t. rows_in t.width t.heads t.cells.items };
+    ghost view = { λ t. rows_in t.width t.heads t.cells };
 
-    ghost invariant = { λ t. AreHeaded t.width t.heads t.cells.items };
+    ghost invariant = { λ t. AreHeaded t.width t.heads t.cells };
 }
 
 impl CountTable {
@@ -45,7 +46,7 @@ impl CountTable {
         Ok(CountTable {
             width,
             heads: Packed::zeros(alloc, count)?,
-            cells: Vec::new(alloc),
+            cells: CountCells::new(alloc),
         })
     }
 
@@ -63,10 +64,8 @@ impl CountTable {
         ensures { OnOk result (HasPut self.old self.new vertex place count) }
     {
         let next = self.heads.at(vertex);
-        self.cells.reserve(1)?;
-        self.heads.set(vertex, self.cells.len() + 1)?;
-        self.cells.push_reserved(CountCell { place, count, next });
-        Ok(())
+        self.cells.push(CountCell { place, count, next })?;
+        self.heads.set(vertex, self.cells.len())
     }
 
     /// Puts the counts of a vertex, one for each priority, into a list, in the place of what was in it.
@@ -86,7 +85,7 @@ impl CountTable {
 }
 
 /// Raises the counts of a row to those of a chain.
-fn raise_by(cells: &[CountCell], head: usize, row: &mut Vec<u64>)
+fn raise_by(cells: &CountCells, head: usize, row: &mut Vec<u64>)
     requires chained { AreChained (length row.old.items) cells.now }
     requires head { head ≤ length cells.now }
     ensures long { length row.new.items ≡ length row.old.items }
@@ -95,7 +94,7 @@ fn raise_by(cells: &[CountCell], head: usize, row: &mut Vec<u64>)
 {
     let mut next = head;
     while next > 0 {
-        let cell = cells[next - 1];
+        let cell = cells.at(next - 1);
         if row[cell.place] < cell.count {
             row[cell.place] = cell.count;
         }

@@ -1,5 +1,6 @@
-use Rattle.std.proofs.Common.{arith, ◌≡◌, ◌<◌, ◌+◌, ◌∙◌, ◌++◌, ◌∷◌, [], List, ℕ, length, ap, subst, sym}
+use Rattle.std.proofs.Common.{arith, ◌≡◌, ◌<◌, ◌+◌, ◌∙◌, ◌++◌, ◌∷◌, [], List, ℕ, length, ap, subst, sym, Result, Ok, Err, OnOk, OnErr}
 use Rattle.std.specs.Prelude.{slice_set, slice_index}
+use Rattle.std.proofs.lemmas.List.{length_push}
 use Rattle.ps_measure.specs.declared.table.CountCell.{CountCell}
 use Rattle.ps_measure.specs.Ranks.{width_of}
 use Rattle.ps_measure.specs.Tables.{AreHeaded, HasPut, rows_in}
@@ -10,13 +11,19 @@ pub at-next-requires : goal.at-next-requires
 at-next-requires c =
     let s = c.self.inside in
     let same = ap (λ (rows : List (List ℕ)). length rows) c.self.view_is in
-    omega (arith, rows_each s.width s.heads s.cells.items, same, c.requires.vertex)
+    omega (arith, rows_each s.width s.heads s.cells, same, c.requires.vertex)
 
 pub set-requires : goal.set-requires
 set-requires c =
     let s = c.self.inside in
     let same = ap (λ (rows : List (List ℕ)). length rows) c.self.view_is in
-    omega (arith, rows_each s.width s.heads s.cells.items, same, c.requires.vertex)
+    omega (arith, rows_each s.width s.heads s.cells, same, c.requires.vertex)
+
+-- the number of the cell of the call
+numbered : (cells new : List CountCell) (cell : CountCell) (number : ℕ) → new ≡ cells ++ cell ∷ [] →
+    number ≡ length new → number ≡ length cells + 1
+numbered cells new cell number are is =
+    is ∙ ap (λ (list : List CountCell). length list) are ∙ length_push cells cell
 
 -- the table with the cell of the call
 module _ (width : ℕ) (heads : List ℕ) (cells : List CountCell) (rows : List (List ℕ))
@@ -48,41 +55,37 @@ module _ (width : ℕ) (heads : List ℕ) (cells : List CountCell) (rows : List 
   was_put =
       rw (number_is, made, ← view_is) (put_done width heads cells headed vertex place count below within)
 
+  pub kept_headed : {A E : Type 0} (r : Result A E) (heads' : List ℕ) →
+      OnOk r (heads' ≡ slice_set heads vertex number) → OnErr r (heads' ≡ heads) → AreHeaded width heads' new_cells
+  kept_headed (Ok x) heads' ok err = subst (λ hs. AreHeaded width hs new_cells) (sym ok) still_headed
+  kept_headed (Err e) heads' ok err = record {
+    chained = still_headed.chained;
+    first = λ v. omega (
+      arith,
+      headed.first v,
+      ap (λ (hs : List ℕ). slice_index hs v) err,
+      ap (λ (list : List CountCell). length list) made,
+      length_push cells (record { place = place; count = count; next = slice_index heads vertex }),
+    );
+  }
+
+  pub put_kept : {A E : Type 0} (r : Result A E) (heads' : List ℕ) → OnOk r (heads' ≡ slice_set heads vertex number) →
+      OnOk r (HasPut rows (rows_in width heads' new_cells) vertex place count)
+  put_kept (Ok x) heads' ok = subst (λ hs. HasPut rows (rows_in width hs new_cells) vertex place count) (sym ok) was_put
+  put_kept (Err e) heads' ok = tt
+
 pub invariant_of-self-2 : goal.invariant_of-self-2
 invariant_of-self-2 c =
     let s = c.self.inside in
-    let cells = c.push_reserved.ensures.items
-    ∙ ap (λ xs. xs ++ record { place = c.args.place; count = c.args.count; next = c.at-next.result } ∷ [])
-    c.in_ok-reserve.ensures.items in
-    let number : c.len.result + 1 ≡ length s.cells.items + 1 =
-    omega (
-      arith,
-      c.len.ensures,
-      c.reserve.new.self.ok.0,
-      ap (λ (xs : List CountCell). length xs)
-          c.in_ok-reserve.ensures.items,
-    ) in
-    subst (λ heads. AreHeaded s.width heads c.push_reserved.new.self.items) (sym c.in_ok-set.ensures.ok)
-    (still_headed s.width s.heads s.cells.items c.args.self.now c.args.vertex c.args.place c.args.count
-    c.at-next.result (c.len.result + 1) c.push_reserved.new.self.items c.self.view_is c.self.invariant
-    c.requires.vertex c.requires.place c.at-next.ensures cells number)
+    kept_headed s.width s.heads s.cells c.args.self.now c.args.vertex c.args.place c.args.count c.at-next.result
+    c.len.result c.push.new.self c.self.view_is c.self.invariant c.requires.vertex c.requires.place c.at-next.ensures
+    c.in_ok-push.ensures.ok (numbered s.cells c.push.new.self _ c.len.result c.in_ok-push.ensures.ok c.len.ensures) c.set.result c.set.new.self
+    c.set.ensures.ok c.set.ensures.err
 
 pub returns : goal.returns
 returns c =
     let s = c.self.inside in
-    let cells = c.push_reserved.ensures.items
-    ∙ ap (λ xs. xs ++ record { place = c.args.place; count = c.args.count; next = c.at-next.result } ∷ [])
-    c.in_ok-reserve.ensures.items in
-    let number : c.len.result + 1 ≡ length s.cells.items + 1 =
-    omega (
-      arith,
-      c.len.ensures,
-      c.reserve.new.self.ok.0,
-      ap (λ (xs : List CountCell). length xs)
-          c.in_ok-reserve.ensures.items,
-    ) in
-    subst (λ heads. HasPut c.args.self.now (rows_in s.width heads c.push_reserved.new.self.items) c.args.vertex
-    c.args.place c.args.count) (sym c.in_ok-set.ensures.ok)
-    (was_put s.width s.heads s.cells.items c.args.self.now c.args.vertex c.args.place c.args.count
-    c.at-next.result (c.len.result + 1) c.push_reserved.new.self.items c.self.view_is c.self.invariant
-    c.requires.vertex c.requires.place c.at-next.ensures cells number)
+    put_kept s.width s.heads s.cells c.args.self.now c.args.vertex c.args.place c.args.count c.at-next.result
+    c.len.result c.push.new.self c.self.view_is c.self.invariant c.requires.vertex c.requires.place c.at-next.ensures
+    c.in_ok-push.ensures.ok (numbered s.cells c.push.new.self _ c.len.result c.in_ok-push.ensures.ok c.len.ensures) c.set.result c.set.new.self
+    c.set.ensures.ok
