@@ -55,6 +55,13 @@ pub record IsSoundSearch (g : Digraph) (marks : List Mark) (active bounds : List
       slice_get marks v ≡ Some (Closed k) → slice_get marks w ≡ Some (Closed m) → k ≤ m
   pub once : (i j v : ℕ) → slice_get order i ≡ Some v → slice_get order j ≡ Some v → i ≡ j
 
+-- the lists would be sound with links that waited behind the others, and all lead to the item
+pub record IsSoundBut (g : Digraph) (item : ℕ) (marks : List Mark) (active bounds : List ℕ) (pending : List Pending)
+    (order : List ℕ) : Type 0 where
+  pub skipped : List Pending
+  pub lead : (i : ℕ) (e : Pending) → slice_get skipped i ≡ Some e → e.to ≡ item
+  pub sound : IsSoundSearch g marks active bounds (pending ++ skipped) order
+
 -- what is marked stands in the order, of items that have marks
 pub record AreListed (marks : List Mark) (order : List ℕ) : Type 0 where
   pub within : (i v : ℕ) → slice_get order i ≡ Some v → v < length marks

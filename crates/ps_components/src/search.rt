@@ -5,7 +5,7 @@ ghost use Rattle.std.specs.Prelude.{◌≡◌, ℕ, ◌<◌, ◌≤◌, ◌++◌
 ghost use Rattle.std.specs.Prelude.{OnOk, IfOk, ◌^◌};
 ghost use Rattle.ps_components.specs.Graphs.{Way, Link};
 ghost use Rattle.ps_components.specs.Searching.{IsSoundSearch, IsSettled, KeepsMarks, ChangesReached, turns, waits};
-ghost use Rattle.ps_components.specs.Searching.{IsCut, AreListed, HasMet, close_all};
+ghost use Rattle.ps_components.specs.Searching.{IsSoundBut, IsCut, AreListed, HasMet, close_all};
 ghost use Rattle.ps_components.specs.declared.search.Pending.{Pending};
 
 use crate::graph::Graph;
@@ -190,7 +190,7 @@ impl Search {
             return self.close(graph, bound);
         }
         match self.marks.at(pending.to) {
-            Mark::Unseen => return self.enter(graph, pending.to),
+            Mark::Unseen => return self.follow(graph, pending),
             Mark::Active(place) => {
                 self.merge(graph, pending, place);
                 self.take(graph, pending);
@@ -200,13 +200,35 @@ impl Search {
         Ok(())
     }
 
+    /// Takes off the last link that waits, and puts the unseen item to which it leads at the end of the path.
+    fn follow<G: Graph>(&mut self, graph: &G, pending: Pending) -> Result<(), AllocError>
+        requires last { slice_get self.old.pending.items (length self.old.pending.items - 1) ≡ Some pending }
+        requires within { pending.to < (G.graph graph.now).count }
+        requires unseen { slice_get self.old.marks pending.to ≡ Some Mark.Unseen }
+        requires reached { (p v : ℕ) → slice_get self.old.active.items p ≡ Some v →
+            Way (Link (G.graph graph.now)) v pending.to }
+        requires sound { IsSoundSearch (G.graph graph.now) self.old.marks self.old.active.items
+            self.old.bounds.items self.old.pending.items self.old.order.items }
+        ensures sound { OnOk result (IsSoundSearch (G.graph graph.now) self.new.marks self.new.active.items
+            self.new.bounds.items self.new.pending.items self.new.order.items) }
+        ensures fewer { OnOk result (turns (G.graph graph.now) self.new.marks self.new.bounds.items
+            self.new.pending.items < turns (G.graph graph.now) self.old.marks self.old.bounds.items
+            self.old.pending.items) }
+        ensures kept { KeepsMarks self.old.marks self.new.marks }
+        ensures entered { OnOk result (self.new.marks ≡ slice_set self.old.marks pending.to
+            (Mark.Active (length self.old.active.items))) }
+    {
+        self.pending.pop();
+        self.enter(graph, pending.to)
+    }
+
     /// Puts an unseen item, to which all of the path leads, at the end of the path.
     fn enter<G: Graph>(&mut self, graph: &G, item: usize) -> Result<(), AllocError>
         requires within { item < (G.graph graph.now).count }
         requires unseen { slice_get self.old.marks item ≡ Some Mark.Unseen }
         requires reached { (p v : ℕ) → slice_get self.old.active.items p ≡ Some v →
             Way (Link (G.graph graph.now)) v item }
-        requires sound { IsSoundSearch (G.graph graph.now) self.old.marks self.old.active.items
+        requires sound { IsSoundBut (G.graph graph.now) item self.old.marks self.old.active.items
             self.old.bounds.items self.old.pending.items self.old.order.items }
         ensures sound { OnOk result (IsSoundSearch (G.graph graph.now) self.new.marks self.new.active.items
             self.new.bounds.items self.new.pending.items self.new.order.items) }

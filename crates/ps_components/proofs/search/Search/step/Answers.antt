@@ -15,8 +15,8 @@ at-requires g c =
           c.in-Some.field-0.now c.deref.ensures.value c.in-Some.ensures.value),
     )
 
-pub enter-requires-clause-within : goal.enter-requires-clause-within
-enter-requires-clause-within g c =
+pub follow-requires-clause-within : goal.follow-requires-clause-within
+follow-requires-clause-within g c =
     omega (
       arith,
       c.requires.sound.marked,
@@ -25,11 +25,11 @@ enter-requires-clause-within g c =
           c.deref.ensures.value c.in-Some.ensures.value),
     )
 
-pub enter-requires-clause-unseen : goal.enter-requires-clause-unseen
-enter-requires-clause-unseen g c = c.at.ensures ∙ ap Some c.in-Unseen.is
+pub follow-requires-clause-unseen : goal.follow-requires-clause-unseen
+follow-requires-clause-unseen g c = c.at.ensures ∙ ap Some c.in-Unseen.is
 
-pub enter-requires-clause-reached : goal.enter-requires-clause-reached
-enter-requires-clause-reached g c =
+pub follow-requires-clause-reached : goal.follow-requires-clause-reached
+follow-requires-clause-reached g c =
     all_lead (g.G.Graph.graph c.args.graph.now) _ _ _ _ _ c.requires.sound c.in-Some.field-0.now
     (last_pending c.args.self.now.pending.items c.deref.result.now c.in-Some.field-0.now c.deref.ensures.value
     c.in-Some.ensures.value) c.args.bound c.requires.last c.if-pending-bound.false
@@ -66,8 +66,8 @@ returns-in-Unseen-clause-reached g c =
     let led =
     reached-entered gr s.marks s.active.items c.in-Some.field-0.now.to (Active (length s.active.items))
     (c.in-Some.field-0.now.from, l.0, l.1, inr (last l.2)) in
-    on_ok c.enter.result (λ e. subst (λ m. ChangesReached gr s.active.items s.marks m) (sym e) led)
-    c.enter.ensures.entered
+    on_ok c.follow.result (λ e. subst (λ m. ChangesReached gr s.active.items s.marks m) (sym e) led)
+    c.follow.ensures.entered
   where
     on_ok : {T E A B : Type 0} (r : Result T E) → (A → B) → OnOk r A → OnOk r B
     on_ok (Ok x) f a = f a

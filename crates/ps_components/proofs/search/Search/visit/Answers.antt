@@ -1,6 +1,7 @@
-use Rattle.std.proofs.Common.{inl, refl, subst, ◌∷◌, ◌++◌, [], length}
+use Rattle.std.proofs.lemmas.List.{append-nil}
+use Rattle.std.proofs.Common.{inl, refl, sym, subst, ◌∷◌, ◌++◌, [], length}
 use Rattle.ps_components.specs.declared.marks.Mark.TheVariants.{Active}
-use Rattle.ps_components.specs.Searching.{ChangesReached}
+use Rattle.ps_components.specs.Searching.{ChangesReached, IsSoundSearch}
 use Rattle.ps_components.proofs.Reaching.{reached-begun}
 use Rattle.ps_components.proofs.search.Search.visit.Goals as goal
 
@@ -19,3 +20,13 @@ returns-in_ok-run-clause-reached g c =
 
 pub returns-in_default-clause-reached : goal.returns-in_default-clause-reached
 returns-in_default-clause-reached g c = λ v. inl refl
+
+pub enter-requires-clause-sound : goal.enter-requires-clause-sound
+enter-requires-clause-sound g c =
+    let s = c.args.self.now in
+    record {
+      skipped = [];
+      lead = λ i e h. cc;
+      sound = subst (λ es. IsSoundSearch (g.G.Graph.graph c.args.graph.now) s.marks s.active.items s.bounds.items es
+          s.order.items) (sym (append-nil s.pending.items)) c.requires.sound;
+    }
