@@ -244,7 +244,7 @@ impl Search {
         self.active.push(item)?;
         self.bounds.push(place)?;
         wait(&mut self.pending, graph, place, item)?;
-        self.marks.put(item, place);
+        self.marks.put(item, place)?;
         Ok(())
     }
 
@@ -300,7 +300,7 @@ impl Search {
         let number = self.order.len();
         let segment = &self.active[bound..];
         self.order.extend_from_slice(segment)?;
-        close_items(&mut self.marks, segment, number);
+        close_items(&mut self.marks, segment, number)?;
         self.active.truncate(bound);
         self.bounds.pop();
         Ok(())
@@ -351,12 +351,13 @@ fn unmark(marks: &mut Marks, items: &[usize])
 }
 
 /// Closes these items, in the component of this number.
-fn close_items(marks: &mut Marks, items: &[usize], number: usize)
+fn close_items(marks: &mut Marks, items: &[usize], number: usize) -> Result<(), AllocError>
     requires within { (k v : ℕ) → slice_get items.now k ≡ Some v → v < length marks.old }
     requires number { number < 2 ^ 63 }
-    ensures { marks.new ≡ close_all marks.old items.now number }
+    ensures { OnOk result (marks.new ≡ close_all marks.old items.now number) }
 {
     for &item in items {
-        marks.close(item, number);
+        marks.close(item, number)?;
     }
+    Ok(())
 }

@@ -1,13 +1,15 @@
-use Rattle.std.proofs.Common.{◌≡◌, ◌-◌, ◌++◌, OnOk, length, map, replicate, take, subst}
-use Rattle.ps_components.specs.declared.marks.Mark.TheVariants.{Unseen}
-use Rattle.ps_components.specs.Codes.{mark_of}
-use Rattle.ps_components.proofs.Codes.{resized}
+use Rattle.ps_components.proofs.Codes.{wide_resized, narrow_resized}
 use Rattle.ps_components.proofs.marks.Marks.resize.Goals as goal
 
-pub returns : goal.returns
-returns c =
-    let codes = c.self.inside.codes in
-    subst (λ old. OnOk c.resize.result (map mark_of c.resize.new.self.items ≡
-    take c.args.count old ++ replicate (c.args.count - length old) Unseen)) c.self.view_is
-    (resized c.resize.result codes.items c.resize.new.self.items c.args.count codes.len codes.ok.0
-    c.resize.ensures.items)
+pub returns-then-self : goal.returns-then-self
+returns-then-self c =
+    let s = c.self.inside in
+    wide_resized c.resize.result s.is_wide s.narrow.items s.wide.items c.resize.new.self.items c.args.self.now
+    c.args.count s.wide.len c.if-self.true s.wide.ok.0 c.resize.ensures.items c.self.view_is
+
+pub returns-else-self : goal.returns-else-self
+returns-else-self c =
+    let s = c.self.inside in
+    narrow_resized c.resize-else-self.result s.is_wide s.narrow.items s.wide.items c.resize-else-self.new.self.items
+    c.args.self.now c.args.count s.narrow.len c.if-self.false s.narrow.ok.0 c.resize-else-self.ensures.items
+    c.self.view_is

@@ -34,7 +34,7 @@ returns-clause-sound g c =
     subst (λ bs. IsSoundSearch gr s.marks s.active.items bs s.pending.items s.order.items) split
     c.requires.sound in
     let segment = take_rest c.deref.result.now c.args.bound ∙ ap (λ d. drop c.args.bound d) c.deref.ensures.value in
-    let marks = c.close_items.ensures ∙ ap (λ vs. close_all s.marks vs c.len-number.result) segment
+    let marks = c.in_ok-close_items.ensures ∙ ap (λ vs. close_all s.marks vs c.len-number.result) segment
     ∙ ap (λ n. close_all s.marks (drop c.args.bound s.active.items) n)
     (c.len-number.ensures ∙ s.order.ok.0) in
     let bounds = c.pop.ensures.rest ∙ ap (λ n. take (n - 1) s.bounds.items) s.bounds.ok.0 in
@@ -52,7 +52,7 @@ returns-clause-fewer g c =
     subst (λ bs. IsSoundSearch gr s.marks s.active.items bs s.pending.items s.order.items) split
     c.requires.sound in
     let segment = take_rest c.deref.result.now c.args.bound ∙ ap (λ d. drop c.args.bound d) c.deref.ensures.value in
-    let marks = c.close_items.ensures ∙ ap (λ vs. close_all s.marks vs c.len-number.result) segment
+    let marks = c.in_ok-close_items.ensures ∙ ap (λ vs. close_all s.marks vs c.len-number.result) segment
     ∙ ap (λ n. close_all s.marks (drop c.args.bound s.active.items) n)
     (c.len-number.ensures ∙ s.order.ok.0) in
     let bounds = c.pop.ensures.rest ∙ ap (λ n. take (n - 1) s.bounds.items) s.bounds.ok.0 in
@@ -71,7 +71,7 @@ returns-clause-kept g c =
     subst (λ bs. IsSoundSearch gr s.marks s.active.items bs s.pending.items s.order.items) split
     c.requires.sound in
     let segment = take_rest c.deref.result.now c.args.bound ∙ ap (λ d. drop c.args.bound d) c.deref.ensures.value in
-    let marks = c.close_items.ensures ∙ ap (λ vs. close_all s.marks vs c.len-number.result) segment
+    let marks = c.in_ok-close_items.ensures ∙ ap (λ vs. close_all s.marks vs c.len-number.result) segment
     ∙ ap (λ n. close_all s.marks (drop c.args.bound s.active.items) n)
     (c.len-number.ensures ∙ s.order.ok.0) in
     rw marks (kept-closed gr s.marks s.active.items front c.args.bound s.pending.items s.order.items sound
@@ -82,6 +82,6 @@ returns-clause-reached g c =
     let gr = g.G.Graph.graph c.args.graph.now in
     let s = c.args.self.now in
     let segment = take_rest c.deref.result.now c.args.bound ∙ ap (λ d. drop c.args.bound d) c.deref.ensures.value in
-    let marks = c.close_items.ensures ∙ ap (λ vs. close_all s.marks vs c.len-number.result) segment in
+    let marks = c.in_ok-close_items.ensures ∙ ap (λ vs. close_all s.marks vs c.len-number.result) segment in
     subst (λ m. ChangesReached gr s.active.items s.marks m) (sym marks)
     (reached-closed gr s.marks s.active.items c.args.bound c.len-number.result)
