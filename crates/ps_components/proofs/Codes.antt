@@ -1,6 +1,7 @@
 -- The codes of marks, one by one and in lists.
 use Rattle.std.proofs.Common.{◌≡◌, ℕ, ◌+◌, ◌-◌, ◌<◌, ◌^◌, List, ◌∷◌, ◌++◌, length, map, replicate, take, refl, ap, sym}
-use Rattle.std.proofs.Common.{◌∙◌, zero, suc, arith, Result, Ok, Err, OnOk, is_ok, if◌then◌else◌, Bool, true, false, set, subst}
+use Rattle.std.proofs.Common.{◌∙◌, zero, suc, arith, Result, Ok, Err, OnOk, is_ok, if◌then◌else◌, Bool, true, false}
+use Rattle.std.proofs.Common.{set, subst}
 use Rattle.std.proofs.lemmas.List.{length-map, map-append, map-set, take-map}
 use Rattle.std.proofs.lemmas.Bool.Decides.{nat_tests}
 use Rattle.ps_components.specs.declared.marks.Mark.{Mark}

@@ -215,7 +215,8 @@ module _ (g : Digraph) (marks : List Mark) (active bounds : List ℕ) (pending :
       elim (entry_cases i e hi) [
         | inl ki ↦ elim (entry_cases j f hj) [
           | inl kj ↦ s.pending_rise i j e f (there_too i e ki) (there_too j f kj) lt
-          | inr kj ↦ (let l = s.pending_links i e (there_too i e ki) in omega (arith, slice_get_within active _ _ l.1, kj.1))
+          | inr kj ↦ (let l = s.pending_links i e (there_too i e ki) in
+              omega (arith, slice_get_within active _ _ l.1, kj.1))
         ]
         | inr ki ↦ elim (entry_cases j f hj) [
           | inl kj ↦ absurd (omega (arith, slice_get_within pending j f kj, ki.0))
@@ -270,7 +271,8 @@ module _ (g : Digraph) (marks : List Mark) (active bounds : List ℕ) (pending :
       ]
     where
       entered : (p w : ℕ) → p < length active → w ≡ item → IsSettled marks' (bounds ++ length active ∷ []) p w
-      entered p w lt same = settled_active (length active) (subst (λ x. slice_get marks' x ≡ Some (Active (length active)))
+      entered p w lt same =
+          settled_active (length active) (subst (λ x. slice_get marks' x ≡ Some (Active (length active)))
           (sym same) mark_item) (λ k b h le. omega arith)
 
       still : (p w : ℕ) → p < length active → IsSettled marks bounds p w →

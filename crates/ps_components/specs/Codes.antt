@@ -5,7 +5,8 @@ use Rattle.ps_components.specs.declared.marks.Mark.TheVariants.{Unseen, Active, 
 
 -- 0 is unseen, the numbers up to 2 ^ 63 are components and one, and the places on the path stand behind them
 abbrev pub mark_of : ℕ → Mark
-mark_of code = if code == 0 then Unseen else if nat_le code (2 ^ 63) then Closed (code - 1) else Active (code - 2 ^ 63 - 1)
+mark_of code =
+    if code == 0 then Unseen else if nat_le code (2 ^ 63) then Closed (code - 1) else Active (code - 2 ^ 63 - 1)
 
 -- the same at 4 bytes
 abbrev pub narrow_mark_of : ℕ → Mark

@@ -26,7 +26,8 @@ const LAST_CLOSED: usize = 1 << 63;
 const LAST_NARROW: usize = 1 << 31;
 
 /// A mark for each item, as a code: 0 where it is unseen, then the numbers of components and one, and behind them the
-/// places on the path. The codes take 4 bytes each as long as numbers and places are below 2^31 - 1, and 8 from then on.
+/// places on the path. The codes take 4 bytes each as long as numbers and places are below 2^31 - 1, and 8 from then
+/// on.
 #[derive(Drop)]
 pub struct Marks {
     alloc: Global,

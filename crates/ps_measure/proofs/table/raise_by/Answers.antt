@@ -59,7 +59,8 @@ loop-next-preserved c =
       first = omega (arith, less, inv.first);
       raised = λ k within.
           row_stays width cells c.requires.chained n c.loop-next-test.true inv.first row
-          (subst (λ x. cell.count ≤ x) read (subst (λ (x : CountCell). x.count ≤ c.index.result.now) c.at-cell.ensures c.if-index-cell.false)) k
+          (subst (λ x. cell.count ≤ x) read (subst (λ (x : CountCell). x.count ≤ c.index.result.now) c.at-cell.ensures
+          c.if-index-cell.false)) k
           ∙ inv.raised k within;
     })
 

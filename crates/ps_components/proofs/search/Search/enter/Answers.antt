@@ -19,5 +19,6 @@ returns-clause-fewer g c =
 pub returns-clause-kept : goal.returns-clause-kept
 returns-clause-kept g c =
     let place = c.len-place.ensures ∙ c.args.self.now.active.ok.0 in
-    rw (c.in_ok-put.ensures.ok, place) (kept-entered (g.G.Graph.graph c.args.graph.now) _ _ _ _ _ c.args.item c.requires.sound c.requires.within
+    rw (c.in_ok-put.ensures.ok, place) (kept-entered (g.G.Graph.graph c.args.graph.now) _ _ _ _ _ c.args.item
+    c.requires.sound c.requires.within
     c.requires.unseen c.requires.reached)

@@ -1,4 +1,5 @@
-use Rattle.std.proofs.Common.{◌≡◌, ◌∙◌, ◌∷◌, ◌-◌, [], ℕ, length, take, ap, sym, subst, arith, slice_get, Some, zero, suc}
+use Rattle.std.proofs.Common.{◌≡◌, ◌∙◌, ◌∷◌, ◌-◌, [], ℕ, length, take, ap, sym, subst, arith, slice_get, Some, zero}
+use Rattle.std.proofs.Common.{suc}
 use Rattle.std.proofs.Common.{length-append, Result, Ok, Err, OnOk}
 use Rattle.ps_components.specs.declared.search.Pending.{Pending}
 use Rattle.ps_components.specs.Searching.{IsSoundSearch}

@@ -1,4 +1,5 @@
-use Rattle.std.proofs.Common.{arith, ◌≡◌, ◌<◌, ◌+◌, ◌∙◌, ◌++◌, ◌∷◌, [], List, ℕ, length, ap, subst, sym, Result, Ok, Err, OnOk, OnErr}
+use Rattle.std.proofs.Common.{arith, ◌≡◌, ◌<◌, ◌+◌, ◌∙◌, ◌++◌, ◌∷◌, [], List, ℕ, length, ap, subst, sym, Result, Ok}
+use Rattle.std.proofs.Common.{Err, OnOk, OnErr}
 use Rattle.std.specs.Prelude.{slice_set, slice_index}
 use Rattle.std.proofs.lemmas.List.{length_push}
 use Rattle.ps_measure.specs.declared.table.CountCell.{CountCell}
@@ -79,7 +80,8 @@ invariant_of-self-2 c =
     let s = c.self.inside in
     kept_headed s.width s.heads s.cells c.args.self.now c.args.vertex c.args.place c.args.count c.at-next.result
     c.len.result c.push.new.self c.self.view_is c.self.invariant c.requires.vertex c.requires.place c.at-next.ensures
-    c.in_ok-push.ensures.ok (numbered s.cells c.push.new.self _ c.len.result c.in_ok-push.ensures.ok c.len.ensures) c.set.result c.set.new.self
+    c.in_ok-push.ensures.ok (numbered s.cells c.push.new.self _ c.len.result c.in_ok-push.ensures.ok c.len.ensures)
+    c.set.result c.set.new.self
     c.set.ensures.ok c.set.ensures.err
 
 pub returns : goal.returns
@@ -87,5 +89,6 @@ returns c =
     let s = c.self.inside in
     put_kept s.width s.heads s.cells c.args.self.now c.args.vertex c.args.place c.args.count c.at-next.result
     c.len.result c.push.new.self c.self.view_is c.self.invariant c.requires.vertex c.requires.place c.at-next.ensures
-    c.in_ok-push.ensures.ok (numbered s.cells c.push.new.self _ c.len.result c.in_ok-push.ensures.ok c.len.ensures) c.set.result c.set.new.self
+    c.in_ok-push.ensures.ok (numbered s.cells c.push.new.self _ c.len.result c.in_ok-push.ensures.ok c.len.ensures)
+    c.set.result c.set.new.self
     c.set.ensures.ok
