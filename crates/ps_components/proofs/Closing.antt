@@ -5,8 +5,8 @@ use Rattle.std.proofs.Common.{length-set}
 use Rattle.std.proofs.lemmas.Option.{slice_get_within, slice_get-get_or}
 use Rattle.std.proofs.lemmas.Bool.{cases_lt, cases_eq}
 use Rattle.std.proofs.lemmas.List.{length-take-le}
-use Rattle.ps_components.specs.declared.search.Mark.{Mark}
-use Rattle.ps_components.specs.declared.search.Mark.TheVariants.{Unseen, Active, Closed}
+use Rattle.ps_components.specs.declared.marks.Mark.{Mark}
+use Rattle.ps_components.specs.declared.marks.Mark.TheVariants.{Unseen, Active, Closed}
 use Rattle.ps_components.specs.declared.search.Pending.{Pending}
 use Rattle.ps_components.specs.Graphs.{Digraph, Link, SameOrWay}
 use Rattle.ps_components.specs.Searching.{NoLater, IsSettled, closed, active as settled_active, IsSoundSearch}

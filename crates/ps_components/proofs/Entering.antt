@@ -4,12 +4,12 @@ use Rattle.std.proofs.Common.{◌∙◌, arith, Some, None, Option, slice_get, s
 use Rattle.std.proofs.Common.{length-set}
 use Rattle.std.proofs.lemmas.Option.{slice_get_within}
 use Rattle.std.proofs.lemmas.Bool.{cases_eq, cases_lt}
-use Rattle.ps_components.specs.declared.search.Mark.{Mark}
-use Rattle.ps_components.specs.declared.search.Mark.TheVariants.{Unseen, Active, Closed}
+use Rattle.ps_components.specs.declared.marks.Mark.{Mark}
+use Rattle.ps_components.specs.declared.marks.Mark.TheVariants.{Unseen, Active, Closed}
 use Rattle.ps_components.specs.declared.search.Pending.{Pending}
 use Rattle.ps_components.specs.Graphs.{Digraph, Link, SameOrWay, Way}
 use Rattle.ps_components.specs.Searching.{NoLater, IsSettled, closed, active as settled_active, IsPending}
-use Rattle.ps_components.specs.Searching.{IsSoundSearch, wait_of, waits, turns, turns_of, turns_from}
+use Rattle.ps_components.specs.Searching.{IsSoundSearch, IsSoundBut, wait_of, waits, turns, turns_of, turns_from}
 use Rattle.ps_components.proofs.Places.{slice_get-append_left, slice_get-append_cases, slice_get-append_right}
 use Rattle.ps_components.proofs.Places.{slice_get-push, slice_get-push_cases, slice_get-set_same, slice_get-set_other}
 
@@ -87,9 +87,15 @@ IsPending-append pending more p w h =
     }
 
 module _ (g : Digraph) (marks : List Mark) (active bounds : List ℕ) (pending : List Pending) (order : List ℕ)
-    (s : IsSoundSearch g marks active bounds pending order) (item : ℕ) (within : item < g.count)
+    (item : ℕ) (but : IsSoundBut g item marks active bounds pending order) (within : item < g.count)
     (unseen : slice_get marks item ≡ Some Unseen) (reached : (p v : ℕ) → slice_get active p ≡ Some v →
     Way (Link g) v item) where
+  abbrev s : IsSoundSearch g marks active bounds (pending ++ but.skipped) order
+  s = but.sound
+
+  there_too : (i : ℕ) (e : Pending) → slice_get pending i ≡ Some e → slice_get (pending ++ but.skipped) i ≡ Some e
+  there_too i e h = slice_get-append_left pending but.skipped i e h
+
   abbrev marks' : List Mark
   marks' = set marks item (Active (length active))
 
@@ -194,7 +200,7 @@ module _ (g : Digraph) (marks : List Mark) (active bounds : List ℕ) (pending :
       (v : ℕ) × (slice_get (active ++ item ∷ []) e.from ≡ Some v) × Link g v e.to
   entered-pending_links i e h =
       elim (entry_cases i e h) [
-        | inl k ↦ (let l = s.pending_links i e k in (l.0, slice_get-append_left active _ _ _ l.1, l.2))
+        | inl k ↦ (let l = s.pending_links i e (there_too i e k) in (l.0, slice_get-append_left active _ _ _ l.1, l.2))
         | inr k ↦ (
           item,
           subst (λ x. slice_get (active ++ item ∷ []) x ≡ Some item) (sym k.1)
@@ -208,8 +214,9 @@ module _ (g : Digraph) (marks : List Mark) (active bounds : List ℕ) (pending :
   entered-pending_rise i j e f hi hj lt =
       elim (entry_cases i e hi) [
         | inl ki ↦ elim (entry_cases j f hj) [
-          | inl kj ↦ s.pending_rise i j e f ki kj lt
-          | inr kj ↦ (let l = s.pending_links i e ki in omega (arith, slice_get_within active _ _ l.1, kj.1))
+          | inl kj ↦ s.pending_rise i j e f (there_too i e ki) (there_too j f kj) lt
+          | inr kj ↦ (let l = s.pending_links i e (there_too i e ki) in
+              omega (arith, slice_get_within active _ _ l.1, kj.1))
         ]
         | inr ki ↦ elim (entry_cases j f hj) [
           | inl kj ↦ absurd (omega (arith, slice_get_within pending j f kj, ki.0))
@@ -252,12 +259,22 @@ module _ (g : Digraph) (marks : List Mark) (active bounds : List ℕ) (pending :
   entered-looked_at p v w h l =
       elim (slice_get-push_cases active item p v h) [
         | inl k ↦ elim (s.looked_at p v w k l) [
-          | inl y ↦ inl (IsPending-append pending _ p w y)
+          | inl y ↦ elim (slice_get-append_cases pending but.skipped y.at y.step y.is) [
+            | inl old ↦ inl (IsPending-append pending _ p w
+                (record { at = y.at; step = y.step; is = old; from_is = y.from_is; to_is = y.to_is }))
+            | inr gone ↦ inr (entered p w (slice_get_within active p v k)
+                (sym y.to_is ∙ but.lead gone.0 y.step gone.2))
+          ]
           | inr y ↦ inr (still p w (slice_get_within active p v k) y)
         ]
         | inr k ↦ inl (subst (λ x. IsPending pending' x w) (sym k.0) (waiting w (subst (λ x. Link g x w) (sym k.1) l)))
       ]
     where
+      entered : (p w : ℕ) → p < length active → w ≡ item → IsSettled marks' (bounds ++ length active ∷ []) p w
+      entered p w lt same =
+          settled_active (length active) (subst (λ x. slice_get marks' x ≡ Some (Active (length active)))
+          (sym same) mark_item) (λ k b h le. omega arith)
+
       still : (p w : ℕ) → p < length active → IsSettled marks bounds p w →
           IsSettled marks' (bounds ++ length active ∷ []) p w
       still p w lt (closed k c) = closed k (closed_on w k c)

@@ -1,3 +1,4 @@
+pub mod Codes
 pub mod Places
 pub mod Ways
 pub mod Stepping

@@ -1,8 +1,8 @@
 -- Segments joined at the end of the path, and a link taken off, keep the lists sound.
 use Rattle.std.proofs.Common.{◌≡◌, ℕ, ◌≤◌, ◌⊎◌, inl, inr, List, [], ◌∷◌, ◌++◌, ap, subst, ◌∙◌, arith, Some, slice_get}
 use Rattle.std.proofs.lemmas.Bool.{cases_lt}
-use Rattle.ps_components.specs.declared.search.Mark.{Mark}
-use Rattle.ps_components.specs.declared.search.Mark.TheVariants.{Active}
+use Rattle.ps_components.specs.declared.marks.Mark.{Mark}
+use Rattle.ps_components.specs.declared.marks.Mark.TheVariants.{Active}
 use Rattle.ps_components.specs.declared.search.Pending.{Pending}
 use Rattle.ps_components.specs.Graphs.{Digraph, Link}
 use Rattle.ps_components.specs.Searching.{IsSettled, closed, active as settled_active, IsPending, IsSoundSearch, IsCut}

@@ -3,8 +3,8 @@ use Rattle.std.proofs.Common.{◌≡◌, ◌∙◌, ℕ, ◌+◌, ◌<◌, ◌�
 use Rattle.std.proofs.Common.{subst, arith, Some, slice_get, set, suc, zero}
 use Rattle.std.proofs.lemmas.Option.{slice_get_within}
 use Rattle.std.proofs.lemmas.Bool.{cases_eq}
-use Rattle.ps_components.specs.declared.search.Mark.{Mark}
-use Rattle.ps_components.specs.declared.search.Mark.TheVariants.{Closed}
+use Rattle.ps_components.specs.declared.marks.Mark.{Mark}
+use Rattle.ps_components.specs.declared.marks.Mark.TheVariants.{Closed}
 use Rattle.ps_components.specs.declared.search.Pending.{Pending}
 use Rattle.ps_components.specs.Graphs.{Digraph, SameOrWay, IsReached}
 use Rattle.ps_components.specs.ComponentLists.{ComponentsData, IsIn, AreComponents, AreMet}

@@ -4,8 +4,8 @@ use Rattle.std.proofs.Common.{arith, Some, slice_get, set, All}
 use Rattle.std.proofs.lemmas.Bool.{cases_eq}
 use Rattle.std.proofs.lemmas.List.{length-set}
 use Rattle.std.proofs.lemmas.Option.{slice_get_within, slice_get-get_or}
-use Rattle.ps_components.specs.declared.search.Mark.{Mark}
-use Rattle.ps_components.specs.declared.search.Mark.TheVariants.{Unseen}
+use Rattle.ps_components.specs.declared.marks.Mark.{Mark}
+use Rattle.ps_components.specs.declared.marks.Mark.TheVariants.{Unseen}
 use Rattle.ps_components.specs.Searching.{AreListed}
 use Rattle.ps_components.proofs.Places.{slice_get-set_same, slice_get-set_other}
 

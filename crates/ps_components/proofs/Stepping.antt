@@ -1,9 +1,9 @@
 -- What the last link that waits leads to.
-use Rattle.std.proofs.Common.{◌≡◌, ℕ, ◌-◌, ◌<◌, ◌≤◌, inl, inr, List, length, get_or, refl, sym, subst, arith, Some}
+use Rattle.std.proofs.Common.{◌≡◌, ℕ, ◌-◌, ◌<◌, ◌≤◌, inl, inr, List, length, refl, sym, subst, arith, Some}
 use Rattle.std.proofs.Common.{slice_get}
-use Rattle.std.proofs.lemmas.Option.{slice_get_within, slice_get_read}
+use Rattle.std.proofs.lemmas.Option.{slice_get_within}
 use Rattle.std.proofs.lemmas.Bool.{cases_lt}
-use Rattle.ps_components.specs.declared.search.Mark.{Mark}
+use Rattle.ps_components.specs.declared.marks.Mark.{Mark}
 use Rattle.ps_components.specs.declared.search.Pending.{Pending}
 use Rattle.ps_components.specs.Graphs.{Digraph, Link, Way}
 use Rattle.ps_components.specs.Searching.{IsSoundSearch}
@@ -18,10 +18,6 @@ module _ (g : Digraph) (marks : List Mark) (active bounds : List ℕ) (pending :
     (is_last : slice_get pending (length pending - 1) ≡ Some e) where
   pub pending_within : e.to < length marks
   pending_within = (let l = s.pending_links _ e is_last in omega (arith, s.within l.0 e.to l.2, s.marked))
-
-  pub read_mark : (read m : Mark) → read ≡ get_or marks e.to read → read ≡ m → slice_get marks e.to ≡ Some m
-  read_mark read m h is =
-      slice_get_read marks (length marks) e.to m refl pending_within (subst (λ x. x ≡ get_or marks e.to x) is h)
 
   pub at_most_last : (bound : ℕ) → slice_get bounds (length bounds - 1) ≡ Some bound → (k b : ℕ) →
       slice_get bounds k ≡ Some b → b ≤ bound

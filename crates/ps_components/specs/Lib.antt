@@ -1,4 +1,5 @@
 pub mod Graphs
+pub mod Codes
 pub mod ComponentLists
 pub mod Trails
 pub mod Orders

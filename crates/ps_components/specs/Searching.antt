@@ -2,8 +2,8 @@
 use Rattle.std.specs.Prelude.{◌≡◌, ℕ, ◌+◌, ◌<◌, ◌≤◌, ◌⊎◌, List, [], ◌∷◌, ◌++◌, length, slice_get, slice_set, Option}
 use Rattle.std.specs.Prelude.{Some, None, zero, suc}
 use Rattle.ps_components.specs.Graphs.{Digraph, Link, IsWithin, SameOrWay, IsReached}
-use Rattle.ps_components.specs.declared.search.Mark.{Mark}
-use Rattle.ps_components.specs.declared.search.Mark.TheVariants.{Unseen, Active, Closed}
+use Rattle.ps_components.specs.declared.marks.Mark.{Mark}
+use Rattle.ps_components.specs.declared.marks.Mark.TheVariants.{Unseen, Active, Closed}
 use Rattle.ps_components.specs.declared.search.Pending.{Pending}
 
 -- each bound up to p is a bound up to q
@@ -54,6 +54,13 @@ pub record IsSoundSearch (g : Digraph) (marks : List Mark) (active bounds : List
   pub rises : (i j v w k m : ℕ) → i < j → slice_get order i ≡ Some v → slice_get order j ≡ Some w →
       slice_get marks v ≡ Some (Closed k) → slice_get marks w ≡ Some (Closed m) → k ≤ m
   pub once : (i j v : ℕ) → slice_get order i ≡ Some v → slice_get order j ≡ Some v → i ≡ j
+
+-- the lists would be sound with links that waited behind the others, and all lead to the item
+pub record IsSoundBut (g : Digraph) (item : ℕ) (marks : List Mark) (active bounds : List ℕ) (pending : List Pending)
+    (order : List ℕ) : Type 0 where
+  pub skipped : List Pending
+  pub lead : (i : ℕ) (e : Pending) → slice_get skipped i ≡ Some e → e.to ≡ item
+  pub sound : IsSoundSearch g marks active bounds (pending ++ skipped) order
 
 -- what is marked stands in the order, of items that have marks
 pub record AreListed (marks : List Mark) (order : List ℕ) : Type 0 where

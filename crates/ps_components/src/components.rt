@@ -4,7 +4,8 @@ ghost use Rattle.std.specs.Prelude.{◌≡◌, ◌<◌, [], length, slice_get, S
 ghost use Rattle.ps_components.specs.ComponentLists.{AreComponents, AreMet, AreAllMet};
 
 use crate::graph::Graph;
-use crate::search::{Mark, Search};
+use crate::marks::Mark;
+use crate::search::Search;
 use std::alloc::{AllocError, Global};
 use std::marker::Model;
 
@@ -23,11 +24,11 @@ impl Model for Components {
     ghost Value = { ComponentsData };
 
     ghost view = { λ c. record {
-      numbers = map number_of c.search.marks.items;
+      numbers = map number_of c.search.marks;
       order = c.search.order.items;
     } };
 
-    ghost invariant = { λ c. AreListed c.search.marks.items c.search.order.items };
+    ghost invariant = { λ c. AreListed c.search.marks c.search.order.items };
 }
 
 impl Components {
@@ -67,7 +68,7 @@ impl Components {
         requires { item < length self.now.numbers }
         ensures { slice_get self.now.numbers item ≡ Some result }
     {
-        match self.search.marks[item] {
+        match self.search.marks.at(item) {
             Mark::Closed(number) => Some(number),
             _ => None,
         }

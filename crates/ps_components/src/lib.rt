@@ -18,6 +18,7 @@
 mod arranging;
 mod components;
 mod graph;
+mod marks;
 mod search;
 mod trail;
 

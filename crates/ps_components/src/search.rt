@@ -2,25 +2,15 @@
 //! leads back into the path, all components from there on become one.
 
 ghost use Rattle.std.specs.Prelude.{◌≡◌, ℕ, ◌<◌, ◌≤◌, ◌++◌, ◌∷◌, [], ◌-◌, All, length, slice_get, slice_set, Some};
-ghost use Rattle.std.specs.Prelude.{OnOk, IfOk};
+ghost use Rattle.std.specs.Prelude.{OnOk, IfOk, ◌^◌};
 ghost use Rattle.ps_components.specs.Graphs.{Way, Link};
 ghost use Rattle.ps_components.specs.Searching.{IsSoundSearch, IsSettled, KeepsMarks, ChangesReached, turns, waits};
-ghost use Rattle.ps_components.specs.Searching.{IsCut, AreListed, HasMet, close_all};
+ghost use Rattle.ps_components.specs.Searching.{IsSoundBut, IsCut, AreListed, HasMet, close_all};
 ghost use Rattle.ps_components.specs.declared.search.Pending.{Pending};
 
 use crate::graph::Graph;
+use crate::marks::{Mark, Marks};
 use std::alloc::{AllocError, Global};
-
-/// What the search knows of an item.
-#[derive(Clone, Copy)]
-pub enum Mark {
-    /// Not met yet.
-    Unseen,
-    /// On the path, at this place.
-    Active(usize),
-    /// Done, in the component of this number.
-    Closed(usize),
-}
 
 /// A link that is still to be looked at, from a place of the path.
 #[derive(Clone, Copy)]
@@ -33,7 +23,7 @@ pub struct Pending {
 #[derive(Drop)]
 pub struct Search {
     /// What is known of each item.
-    pub marks: Vec<Mark>,
+    pub marks: Marks,
     active: Vec<usize>,
     bounds: Vec<usize>,
     pending: Vec<Pending>,
@@ -48,13 +38,13 @@ impl Search {
     ///
     /// Fails where a growth was refused.
     pub fn new<G: Graph>(alloc: Global, graph: &G) -> Result<Self, AllocError>
-        ensures sound { IfOk result (λ s. IsSoundSearch (G.graph graph.now) s.marks.items s.active.items s.bounds.items
+        ensures sound { IfOk result (λ s. IsSoundSearch (G.graph graph.now) s.marks s.active.items s.bounds.items
             s.pending.items s.order.items) }
         ensures ended { IfOk result (λ s. length s.bounds.items ≡ 0) }
-        ensures unseen { IfOk result (λ s. All (λ m. m ≡ Mark.Unseen) s.marks.items) }
+        ensures unseen { IfOk result (λ s. All (λ m. m ≡ Mark.Unseen) s.marks) }
     {
         Ok(Search {
-            marks: vec![in alloc; Mark::Unseen; graph.count()]?,
+            marks: Marks::unseen(alloc, graph.count())?,
             active: Vec::new(alloc),
             bounds: Vec::new(alloc),
             pending: Vec::new(alloc),
@@ -64,11 +54,11 @@ impl Search {
 
     /// A search of no graph.
     pub fn empty(alloc: Global) -> Self
-        ensures marks { result.marks.items ≡ [] }
+        ensures marks { result.marks ≡ [] }
         ensures order { result.order.items ≡ [] }
     {
         Search {
-            marks: Vec::new(alloc),
+            marks: Marks::new(alloc),
             active: Vec::new(alloc),
             bounds: Vec::new(alloc),
             pending: Vec::new(alloc),
@@ -78,7 +68,7 @@ impl Search {
 
     /// Forgets the graph, and keeps the memory.
     pub fn forget(&mut self)
-        ensures marks { self.new.marks.items ≡ [] }
+        ensures marks { self.new.marks ≡ [] }
         ensures order { self.new.order.items ≡ [] }
     {
         self.marks.clear();
@@ -91,12 +81,12 @@ impl Search {
     ///
     /// Fails where a growth was refused.
     pub fn again<G: Graph>(&mut self, graph: &G, roots: &[usize]) -> Result<(), AllocError>
-        requires listed { AreListed self.old.marks.items self.old.order.items }
+        requires listed { AreListed self.old.marks self.old.order.items }
         requires within { All (λ v. v < (G.graph graph.now).count) roots.now }
-        ensures sound { OnOk result (IsSoundSearch (G.graph graph.now) self.new.marks.items self.new.active.items
+        ensures sound { OnOk result (IsSoundSearch (G.graph graph.now) self.new.marks self.new.active.items
             self.new.bounds.items self.new.pending.items self.new.order.items) }
         ensures ended { OnOk result (length self.new.bounds.items ≡ 0) }
-        ensures met { OnOk result (HasMet (G.graph graph.now) roots.now self.new.marks.items) }
+        ensures met { OnOk result (HasMet (G.graph graph.now) roots.now self.new.marks) }
     {
         self.renew(graph)?;
         self.visit_each(graph, roots)
@@ -104,14 +94,14 @@ impl Search {
 
     /// Forgets what was seen, of which all is listed, and has seen nothing of a graph.
     fn renew<G: Graph>(&mut self, graph: &G) -> Result<(), AllocError>
-        requires { AreListed self.old.marks.items self.old.order.items }
-        ensures sound { OnOk result (IsSoundSearch (G.graph graph.now) self.new.marks.items self.new.active.items
+        requires { AreListed self.old.marks self.old.order.items }
+        ensures sound { OnOk result (IsSoundSearch (G.graph graph.now) self.new.marks self.new.active.items
             self.new.bounds.items self.new.pending.items self.new.order.items) }
         ensures ended { OnOk result (length self.new.bounds.items ≡ 0) }
-        ensures unseen { OnOk result (All (λ m. m ≡ Mark.Unseen) self.new.marks.items) }
+        ensures unseen { OnOk result (All (λ m. m ≡ Mark.Unseen) self.new.marks) }
     {
         unmark(&mut self.marks, &self.order);
-        self.marks.resize(graph.count(), Mark::Unseen)?;
+        self.marks.resize(graph.count())?;
         self.active.clear();
         self.bounds.clear();
         self.pending.clear();
@@ -122,14 +112,14 @@ impl Search {
     /// Looks at all that the roots lead to.
     fn visit_each<G: Graph>(&mut self, graph: &G, roots: &[usize]) -> Result<(), AllocError>
         requires within { All (λ v. v < (G.graph graph.now).count) roots.now }
-        requires sound { IsSoundSearch (G.graph graph.now) self.old.marks.items self.old.active.items
+        requires sound { IsSoundSearch (G.graph graph.now) self.old.marks self.old.active.items
             self.old.bounds.items self.old.pending.items self.old.order.items }
         requires ended { length self.old.bounds.items ≡ 0 }
-        requires unseen { All (λ m. m ≡ Mark.Unseen) self.old.marks.items }
-        ensures sound { OnOk result (IsSoundSearch (G.graph graph.now) self.new.marks.items self.new.active.items
+        requires unseen { All (λ m. m ≡ Mark.Unseen) self.old.marks }
+        ensures sound { OnOk result (IsSoundSearch (G.graph graph.now) self.new.marks self.new.active.items
             self.new.bounds.items self.new.pending.items self.new.order.items) }
         ensures ended { OnOk result (length self.new.bounds.items ≡ 0) }
-        ensures met { OnOk result (HasMet (G.graph graph.now) roots.now self.new.marks.items) }
+        ensures met { OnOk result (HasMet (G.graph graph.now) roots.now self.new.marks) }
     {
         for &root in roots {
             self.visit(graph, root)?;
@@ -144,18 +134,18 @@ impl Search {
     /// Fails where a growth was refused.
     pub fn visit<G: Graph>(&mut self, graph: &G, item: usize) -> Result<(), AllocError>
         requires within { item < (G.graph graph.now).count }
-        requires sound { IsSoundSearch (G.graph graph.now) self.old.marks.items self.old.active.items
+        requires sound { IsSoundSearch (G.graph graph.now) self.old.marks self.old.active.items
             self.old.bounds.items self.old.pending.items self.old.order.items }
         requires ended { length self.old.bounds.items ≡ 0 }
-        ensures sound { OnOk result (IsSoundSearch (G.graph graph.now) self.new.marks.items self.new.active.items
+        ensures sound { OnOk result (IsSoundSearch (G.graph graph.now) self.new.marks self.new.active.items
             self.new.bounds.items self.new.pending.items self.new.order.items) }
         ensures ended { OnOk result (length self.new.bounds.items ≡ 0) }
-        ensures kept { OnOk result (KeepsMarks self.old.marks.items self.new.marks.items) }
-        ensures seen { OnOk result (¬ (slice_get self.new.marks.items item ≡ Some Mark.Unseen)) }
-        ensures reached { OnOk result (ChangesReached (G.graph graph.now) (item ∷ []) self.old.marks.items
-            self.new.marks.items) }
+        ensures kept { OnOk result (KeepsMarks self.old.marks self.new.marks) }
+        ensures seen { OnOk result (¬ (slice_get self.new.marks item ≡ Some Mark.Unseen)) }
+        ensures reached { OnOk result (ChangesReached (G.graph graph.now) (item ∷ []) self.old.marks
+            self.new.marks) }
     {
-        if let Mark::Unseen = self.marks[item] {
+        if let Mark::Unseen = self.marks.at(item) {
             self.enter(graph, item)?;
             self.run(graph)?;
         }
@@ -164,14 +154,14 @@ impl Search {
 
     /// Looks at all links that the path leads to.
     fn run<G: Graph>(&mut self, graph: &G) -> Result<(), AllocError>
-        requires { IsSoundSearch (G.graph graph.now) self.old.marks.items self.old.active.items self.old.bounds.items
+        requires { IsSoundSearch (G.graph graph.now) self.old.marks self.old.active.items self.old.bounds.items
             self.old.pending.items self.old.order.items }
-        ensures sound { OnOk result (IsSoundSearch (G.graph graph.now) self.new.marks.items self.new.active.items
+        ensures sound { OnOk result (IsSoundSearch (G.graph graph.now) self.new.marks self.new.active.items
             self.new.bounds.items self.new.pending.items self.new.order.items) }
         ensures ended { OnOk result (length self.new.bounds.items ≡ 0) }
-        ensures kept { OnOk result (KeepsMarks self.old.marks.items self.new.marks.items) }
-        ensures reached { OnOk result (ChangesReached (G.graph graph.now) self.old.active.items self.old.marks.items
-            self.new.marks.items) }
+        ensures kept { OnOk result (KeepsMarks self.old.marks self.new.marks) }
+        ensures reached { OnOk result (ChangesReached (G.graph graph.now) self.old.active.items self.old.marks
+            self.new.marks) }
     {
         while let Some(&bound) = self.bounds.last() {
             self.step(graph, bound)?;
@@ -182,16 +172,16 @@ impl Search {
     /// Looks at the last link that waits, if it is one of the last segment, and else closes that segment.
     fn step<G: Graph>(&mut self, graph: &G, bound: usize) -> Result<(), AllocError>
         requires last { slice_get self.old.bounds.items (length self.old.bounds.items - 1) ≡ Some bound }
-        requires sound { IsSoundSearch (G.graph graph.now) self.old.marks.items self.old.active.items
+        requires sound { IsSoundSearch (G.graph graph.now) self.old.marks self.old.active.items
             self.old.bounds.items self.old.pending.items self.old.order.items }
-        ensures sound { OnOk result (IsSoundSearch (G.graph graph.now) self.new.marks.items self.new.active.items
+        ensures sound { OnOk result (IsSoundSearch (G.graph graph.now) self.new.marks self.new.active.items
             self.new.bounds.items self.new.pending.items self.new.order.items) }
-        ensures fewer { OnOk result (turns (G.graph graph.now) self.new.marks.items self.new.bounds.items
-            self.new.pending.items < turns (G.graph graph.now) self.old.marks.items self.old.bounds.items
+        ensures fewer { OnOk result (turns (G.graph graph.now) self.new.marks self.new.bounds.items
+            self.new.pending.items < turns (G.graph graph.now) self.old.marks self.old.bounds.items
             self.old.pending.items) }
-        ensures kept { OnOk result (KeepsMarks self.old.marks.items self.new.marks.items) }
-        ensures reached { OnOk result (ChangesReached (G.graph graph.now) self.old.active.items self.old.marks.items
-            self.new.marks.items) }
+        ensures kept { OnOk result (KeepsMarks self.old.marks self.new.marks) }
+        ensures reached { OnOk result (ChangesReached (G.graph graph.now) self.old.active.items self.old.marks
+            self.new.marks) }
     {
         let Some(&pending) = self.pending.last() else {
             return self.close(graph, bound);
@@ -199,8 +189,8 @@ impl Search {
         if pending.from < bound {
             return self.close(graph, bound);
         }
-        match self.marks[pending.to] {
-            Mark::Unseen => return self.enter(graph, pending.to),
+        match self.marks.at(pending.to) {
+            Mark::Unseen => return self.follow(graph, pending),
             Mark::Active(place) => {
                 self.merge(graph, pending, place);
                 self.take(graph, pending);
@@ -210,21 +200,43 @@ impl Search {
         Ok(())
     }
 
+    /// Takes off the last link that waits, and puts the unseen item to which it leads at the end of the path.
+    fn follow<G: Graph>(&mut self, graph: &G, pending: Pending) -> Result<(), AllocError>
+        requires last { slice_get self.old.pending.items (length self.old.pending.items - 1) ≡ Some pending }
+        requires within { pending.to < (G.graph graph.now).count }
+        requires unseen { slice_get self.old.marks pending.to ≡ Some Mark.Unseen }
+        requires reached { (p v : ℕ) → slice_get self.old.active.items p ≡ Some v →
+            Way (Link (G.graph graph.now)) v pending.to }
+        requires sound { IsSoundSearch (G.graph graph.now) self.old.marks self.old.active.items
+            self.old.bounds.items self.old.pending.items self.old.order.items }
+        ensures sound { OnOk result (IsSoundSearch (G.graph graph.now) self.new.marks self.new.active.items
+            self.new.bounds.items self.new.pending.items self.new.order.items) }
+        ensures fewer { OnOk result (turns (G.graph graph.now) self.new.marks self.new.bounds.items
+            self.new.pending.items < turns (G.graph graph.now) self.old.marks self.old.bounds.items
+            self.old.pending.items) }
+        ensures kept { KeepsMarks self.old.marks self.new.marks }
+        ensures entered { OnOk result (self.new.marks ≡ slice_set self.old.marks pending.to
+            (Mark.Active (length self.old.active.items))) }
+    {
+        self.pending.pop();
+        self.enter(graph, pending.to)
+    }
+
     /// Puts an unseen item, to which all of the path leads, at the end of the path.
     fn enter<G: Graph>(&mut self, graph: &G, item: usize) -> Result<(), AllocError>
         requires within { item < (G.graph graph.now).count }
-        requires unseen { slice_get self.old.marks.items item ≡ Some Mark.Unseen }
+        requires unseen { slice_get self.old.marks item ≡ Some Mark.Unseen }
         requires reached { (p v : ℕ) → slice_get self.old.active.items p ≡ Some v →
             Way (Link (G.graph graph.now)) v item }
-        requires sound { IsSoundSearch (G.graph graph.now) self.old.marks.items self.old.active.items
+        requires sound { IsSoundBut (G.graph graph.now) item self.old.marks self.old.active.items
             self.old.bounds.items self.old.pending.items self.old.order.items }
-        ensures sound { OnOk result (IsSoundSearch (G.graph graph.now) self.new.marks.items self.new.active.items
+        ensures sound { OnOk result (IsSoundSearch (G.graph graph.now) self.new.marks self.new.active.items
             self.new.bounds.items self.new.pending.items self.new.order.items) }
-        ensures fewer { OnOk result (turns (G.graph graph.now) self.new.marks.items self.new.bounds.items
-            self.new.pending.items < turns (G.graph graph.now) self.old.marks.items self.old.bounds.items
+        ensures fewer { OnOk result (turns (G.graph graph.now) self.new.marks self.new.bounds.items
+            self.new.pending.items < turns (G.graph graph.now) self.old.marks self.old.bounds.items
             self.old.pending.items) }
-        ensures kept { KeepsMarks self.old.marks.items self.new.marks.items }
-        ensures entered { OnOk result (self.new.marks.items ≡ slice_set self.old.marks.items item
+        ensures kept { KeepsMarks self.old.marks self.new.marks }
+        ensures entered { OnOk result (self.new.marks ≡ slice_set self.old.marks item
             (Mark.Active (length self.old.active.items))) }
         ensures path { OnOk result (self.new.active.items ≡ self.old.active.items ++ item ∷ []) }
     {
@@ -232,23 +244,23 @@ impl Search {
         self.active.push(item)?;
         self.bounds.push(place)?;
         wait(&mut self.pending, graph, place, item)?;
-        self.marks[item] = Mark::Active(place);
+        self.marks.put(item, place)?;
         Ok(())
     }
 
     /// Joins the last segment with those behind the place of an item to which it has a link.
     fn merge<G: Graph>(&mut self, graph: &G, pending: Pending, place: usize)
-        requires within { pending.to < length self.old.marks.items }
+        requires within { pending.to < length self.old.marks }
         requires linked { (v : ℕ) × (slice_get self.old.active.items pending.from ≡ Some v) ×
             Link (G.graph graph.now) v pending.to }
         requires last { (k b : ℕ) → slice_get self.old.bounds.items k ≡ Some b → b ≤ pending.from }
-        requires marked { slice_get self.old.marks.items pending.to ≡ Some (Mark.Active place) }
-        requires sound { IsSoundSearch (G.graph graph.now) self.old.marks.items self.old.active.items
+        requires marked { slice_get self.old.marks pending.to ≡ Some (Mark.Active place) }
+        requires sound { IsSoundSearch (G.graph graph.now) self.old.marks self.old.active.items
             self.old.bounds.items self.old.pending.items self.old.order.items }
-        ensures sound { IsSoundSearch (G.graph graph.now) self.new.marks.items self.new.active.items
+        ensures sound { IsSoundSearch (G.graph graph.now) self.new.marks self.new.active.items
             self.new.bounds.items self.new.pending.items self.new.order.items }
-        ensures settled { IsSettled self.new.marks.items self.new.bounds.items pending.from pending.to }
-        ensures marks { self.new.marks.items ≡ self.old.marks.items }
+        ensures settled { IsSettled self.new.marks self.new.bounds.items pending.from pending.to }
+        ensures marks { self.new.marks ≡ self.old.marks }
         ensures shorter { length self.new.bounds.items ≤ length self.old.bounds.items }
         ensures pending { self.new.pending.items ≡ self.old.pending.items }
     {
@@ -258,14 +270,14 @@ impl Search {
     /// Takes off the last link that waits, which leads to what is settled.
     fn take<G: Graph>(&mut self, graph: &G, pending: Pending)
         requires last { slice_get self.old.pending.items (length self.old.pending.items - 1) ≡ Some pending }
-        requires settled { IsSettled self.old.marks.items self.old.bounds.items pending.from pending.to }
-        requires sound { IsSoundSearch (G.graph graph.now) self.old.marks.items self.old.active.items
+        requires settled { IsSettled self.old.marks self.old.bounds.items pending.from pending.to }
+        requires sound { IsSoundSearch (G.graph graph.now) self.old.marks self.old.active.items
             self.old.bounds.items self.old.pending.items self.old.order.items }
-        ensures sound { IsSoundSearch (G.graph graph.now) self.new.marks.items self.new.active.items
+        ensures sound { IsSoundSearch (G.graph graph.now) self.new.marks self.new.active.items
             self.new.bounds.items self.new.pending.items self.new.order.items }
-        ensures fewer { turns (G.graph graph.now) self.new.marks.items self.new.bounds.items self.new.pending.items <
-            turns (G.graph graph.now) self.old.marks.items self.old.bounds.items self.old.pending.items }
-        ensures marks { self.new.marks.items ≡ self.old.marks.items }
+        ensures fewer { turns (G.graph graph.now) self.new.marks self.new.bounds.items self.new.pending.items <
+            turns (G.graph graph.now) self.old.marks self.old.bounds.items self.old.pending.items }
+        ensures marks { self.new.marks ≡ self.old.marks }
     {
         self.pending.pop();
     }
@@ -274,21 +286,21 @@ impl Search {
     fn close<G: Graph>(&mut self, graph: &G, bound: usize) -> Result<(), AllocError>
         requires last { slice_get self.old.bounds.items (length self.old.bounds.items - 1) ≡ Some bound }
         requires done { (i : ℕ) (e : Pending) → slice_get self.old.pending.items i ≡ Some e → e.from < bound }
-        requires sound { IsSoundSearch (G.graph graph.now) self.old.marks.items self.old.active.items
+        requires sound { IsSoundSearch (G.graph graph.now) self.old.marks self.old.active.items
             self.old.bounds.items self.old.pending.items self.old.order.items }
-        ensures sound { OnOk result (IsSoundSearch (G.graph graph.now) self.new.marks.items self.new.active.items
+        ensures sound { OnOk result (IsSoundSearch (G.graph graph.now) self.new.marks self.new.active.items
             self.new.bounds.items self.new.pending.items self.new.order.items) }
-        ensures fewer { OnOk result (turns (G.graph graph.now) self.new.marks.items self.new.bounds.items
-            self.new.pending.items < turns (G.graph graph.now) self.old.marks.items self.old.bounds.items
+        ensures fewer { OnOk result (turns (G.graph graph.now) self.new.marks self.new.bounds.items
+            self.new.pending.items < turns (G.graph graph.now) self.old.marks self.old.bounds.items
             self.old.pending.items) }
-        ensures kept { OnOk result (KeepsMarks self.old.marks.items self.new.marks.items) }
-        ensures reached { OnOk result (ChangesReached (G.graph graph.now) self.old.active.items self.old.marks.items
-            self.new.marks.items) }
+        ensures kept { OnOk result (KeepsMarks self.old.marks self.new.marks) }
+        ensures reached { OnOk result (ChangesReached (G.graph graph.now) self.old.active.items self.old.marks
+            self.new.marks) }
     {
         let number = self.order.len();
         let segment = &self.active[bound..];
         self.order.extend_from_slice(segment)?;
-        close_items(&mut self.marks, segment, number);
+        close_items(&mut self.marks, segment, number)?;
         self.active.truncate(bound);
         self.bounds.pop();
         Ok(())
@@ -329,21 +341,23 @@ fn cut(bounds: &mut Vec<usize>, place: usize)
 }
 
 /// Has no item seen, of marks of which all are listed.
-fn unmark(marks: &mut Vec<Mark>, items: &[usize])
-    requires { AreListed marks.old.items items.now }
-    ensures { All (λ m. m ≡ Mark.Unseen) marks.new.items }
+fn unmark(marks: &mut Marks, items: &[usize])
+    requires { AreListed marks.old items.now }
+    ensures { All (λ m. m ≡ Mark.Unseen) marks.new }
 {
     for &item in items {
-        marks[item] = Mark::Unseen;
+        marks.clear_at(item);
     }
 }
 
 /// Closes these items, in the component of this number.
-fn close_items(marks: &mut Vec<Mark>, items: &[usize], number: usize)
-    requires { (k v : ℕ) → slice_get items.now k ≡ Some v → v < length marks.old.items }
-    ensures { marks.new.items ≡ close_all marks.old.items items.now number }
+fn close_items(marks: &mut Marks, items: &[usize], number: usize) -> Result<(), AllocError>
+    requires within { (k v : ℕ) → slice_get items.now k ≡ Some v → v < length marks.old }
+    requires number { number < 2 ^ 63 }
+    ensures { OnOk result (marks.new ≡ close_all marks.old items.now number) }
 {
     for &item in items {
-        marks[item] = Mark::Closed(number);
+        marks.close(item, number)?;
     }
+    Ok(())
 }

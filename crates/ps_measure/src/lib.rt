@@ -21,11 +21,14 @@
 
 mod back;
 mod column;
+mod count_cells;
 mod fault;
 mod groups;
 mod laws;
+mod link_cells;
 mod low;
 mod measuring;
+mod packed;
 mod remaining;
 mod table;
 

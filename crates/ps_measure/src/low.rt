@@ -4,6 +4,7 @@ ghost use Rattle.std.specs.Prelude.{◌≡◌, ◌<◌, nat_le, slice_index};
 ghost use Rattle.ps_measure.specs.Remaining.{low_graph, low_weight};
 
 use crate::back::Back;
+use crate::packed::Packed;
 use ps_components::Graph;
 use ps_game::Region;
 use std::marker::Model;
@@ -14,7 +15,7 @@ pub(crate) struct Low<'a> {
     pub(crate) back: &'a Back,
     pub(crate) region: &'a Region,
     /// The priority of each vertex.
-    pub(crate) levels: &'a [u64],
+    pub(crate) levels: &'a Packed,
     pub(crate) priority: u64,
 }
 
@@ -45,7 +46,7 @@ impl<'a> Low<'a> {
         ensures { result ≡ nat_le (slice_index self.now.levels item) self.now.priority }
     {
         let levels = self.levels;
-        levels[item] <= self.priority
+        levels.at(item) as u64 <= self.priority
     }
 
     /// 1 at a vertex of the region with the priority, 0 else.
@@ -54,7 +55,7 @@ impl<'a> Low<'a> {
         ensures { result ≡ low_weight self.now item }
     {
         let levels = self.levels;
-        u64::from(levels[item] == self.priority && self.region.contains(item))
+        u64::from(levels.at(item) as u64 == self.priority && self.region.contains(item))
     }
 }
 
@@ -67,7 +68,7 @@ impl<'a> Graph for Low<'a> {
 
     fn degree(&self, item: usize) -> usize {
         let levels = self.levels;
-        if levels[item] <= self.priority {
+        if levels.at(item) as u64 <= self.priority {
             self.back.degree(item)
         } else {
             0
@@ -76,7 +77,7 @@ impl<'a> Graph for Low<'a> {
 
     fn target(&self, item: usize, place: usize) -> Option<usize> {
         let to = self.back.target(item, place);
-        if self.levels[to] <= self.priority {
+        if self.levels.at(to) as u64 <= self.priority {
             Some(to)
         } else {
             None

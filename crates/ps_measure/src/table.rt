@@ -4,6 +4,8 @@ ghost use Rattle.std.specs.Prelude.{◌≡◌, ℕ, ◌<◌, ◌≤◌, Some, If
 ghost use Rattle.ps_measure.specs.Ranks.{width_of};
 ghost use Rattle.ps_measure.specs.Tables.{AreZero, AreChained, HasPut, count_from};
 
+use crate::count_cells::CountCells;
+use crate::packed::Packed;
 use std::alloc::{AllocError, Global};
 use std::marker::Model;
 
@@ -11,9 +13,9 @@ use std::marker::Model;
 /// numbered from 1, and 0 is none.
 #[derive(Clone, Copy, Debug)]
 pub struct CountCell {
-    place: usize,
-    count: u64,
-    next: usize,
+    pub(crate) place: usize,
+    pub(crate) count: u64,
+    pub(crate) next: usize,
 }
 
 /// A row of counts for each vertex. Only counts that are not 0 take memory: those of a vertex are a chain of cells, by
@@ -21,8 +23,8 @@ pub struct CountCell {
 #[derive(Debug, Drop)]
 pub struct CountTable {
     width: usize,
-    heads: Vec<usize>,
-    cells: Vec<CountCell>,
+    heads: Packed,
+    cells: CountCells,
 }
 
 impl Model for CountTable {
@@ -31,9 +33,9 @@ impl Model for CountTable {
 
     ghost Value = { List (List ℕ) };
 
-    ghost view = { λ t. rows_in t.width t.heads.items t.cells.items };
+    ghost view = { λ t. rows_in t.width t.heads t.cells };
 
-    ghost invariant = { λ t. AreHeaded t.width t.heads.items t.cells.items };
+    ghost invariant = { λ t. AreHeaded t.width t.heads t.cells };
 }
 
 impl CountTable {
@@ -43,8 +45,8 @@ impl CountTable {
     {
         Ok(CountTable {
             width,
-            heads: vec![in alloc; 0; count]?,
-            cells: Vec::new(alloc),
+            heads: Packed::zeros(alloc, count)?,
+            cells: CountCells::new(alloc),
         })
     }
 
@@ -61,10 +63,9 @@ impl CountTable {
         requires place { place < width_of self.old vertex }
         ensures { OnOk result (HasPut self.old self.new vertex place count) }
     {
-        let next = self.heads[vertex];
+        let next = self.heads.at(vertex);
         self.cells.push(CountCell { place, count, next })?;
-        self.heads[vertex] = self.cells.len();
-        Ok(())
+        self.heads.set(vertex, self.cells.len())
     }
 
     /// Puts the counts of a vertex, one for each priority, into a list, in the place of what was in it.
@@ -78,13 +79,13 @@ impl CountTable {
     {
         row.clear();
         row.resize(self.width, 0)?;
-        raise_by(&self.cells, self.heads[vertex], row);
+        raise_by(&self.cells, self.heads.at(vertex), row);
         Ok(())
     }
 }
 
 /// Raises the counts of a row to those of a chain.
-fn raise_by(cells: &[CountCell], head: usize, row: &mut Vec<u64>)
+fn raise_by(cells: &CountCells, head: usize, row: &mut Vec<u64>)
     requires chained { AreChained (length row.old.items) cells.now }
     requires head { head ≤ length cells.now }
     ensures long { length row.new.items ≡ length row.old.items }
@@ -93,7 +94,7 @@ fn raise_by(cells: &[CountCell], head: usize, row: &mut Vec<u64>)
 {
     let mut next = head;
     while next > 0 {
-        let cell = cells[next - 1];
+        let cell = cells.at(next - 1);
         if row[cell.place] < cell.count {
             row[cell.place] = cell.count;
         }

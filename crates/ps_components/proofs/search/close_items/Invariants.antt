@@ -4,5 +4,5 @@ use Rattle.ps_components.proofs.search.close_items.Given as goal
 
 abbrev pub invariant-loop-item : goal.invariant-loop-item
 invariant-loop-item l =
-    (length l.marks.items ≡ length l.initial.marks.items) × (close_all l.marks.items (drop l.item-index l.items)
-    l.number ≡ close_all l.initial.marks.items l.items l.number)
+    (length l.marks ≡ length l.initial.marks) × (close_all l.marks (drop l.item-index l.items)
+    l.number ≡ close_all l.initial.marks l.items l.number)

@@ -1,8 +1,8 @@
-use Rattle.std.proofs.Common.{arith, refl, sym, subst, ◌≡◌, ◌<◌, get_or, length}
+use Rattle.std.proofs.Common.{arith, refl, subst, ◌≡◌, ◌<◌, get_or, length}
 use Rattle.std.proofs.lemmas.Result.{err_from_is_err_and}
 use Rattle.ps_game.specs.Regions.{has, move_at}
 use Rattle.ps_measure.specs.Remaining.{RemainingData, LowData}
-use Rattle.ps_measure.specs.Filling.{AreLevels, AreRanked}
+use Rattle.ps_measure.specs.Filling.{AreRanked}
 use Rattle.ps_measure.specs.Tables.{AreZero}
 use Rattle.ps_measure.proofs.Grouping.{group_at}
 use Rattle.ps_measure.proofs.Rows.{ranked_none, ranked_empty, ranked_fits, filled_bound}
@@ -22,14 +22,14 @@ loop-place-preserved g c =
     (record {
       star = c.in_ok-back.back;
       region = c.args.region.now;
-      levels = c.as_slice.result.now;
+      levels = c.in_ok-groups.groups.levels;
       priority =
           get_or c.args.priorities.now c.loop-place.place 0;
     }) in
     let within : c.loop-place.place < length c.args.priorities.now = omega (arith, c.loop-place-test.true) in
     let at : IsAtPlace r low c.args.priorities.now c.loop-place.place = record {
       is_game = c.count.ensures.well_formed;
-      levels = subst (AreLevels r.game) (sym c.as_slice.ensures.value) c.in_ok-groups.ensures.levels;
+      levels = c.in_ok-groups.ensures.levels;
       reverse = c.in_ok-back.ensures;
       regions = refl;
       within = within;
@@ -46,9 +46,8 @@ overflow_add-raises g c =
     c.loop-place.raises
     (omega (
       arith,
-      c.in_ok-groups.ensures.levels.each,
-      c.in_ok-groups.groups.levels.ok.0,
-      c.in_ok-groups.groups.levels.small,
+      c.count.ensures.vertices,
+      c.count.type_inv,
     )) c.loop-place.invariant in
     let few = filled_bound c.in_ok-raised.ensures.filled in
     let count_is = c.in_ok-back.ensures.count in
@@ -60,8 +59,8 @@ overflow_add-raises g c =
             few,
             count_is,
             c.in_ok-groups.ensures.levels.each,
-            c.in_ok-groups.groups.levels.ok.0,
-            c.in_ok-groups.groups.levels.small,
+            c.count.ensures.vertices,
+            c.count.type_inv,
             c.from-raises.ensures,
             c.loop-place-test.true,
             c.type_inv.priorities,
@@ -81,14 +80,14 @@ returns-in_err-raised-clause-cycle g c =
     (record {
       star = c.in_ok-back.back;
       region = c.args.region.now;
-      levels = c.as_slice.result.now;
+      levels = c.in_ok-groups.groups.levels;
       priority =
           get_or c.args.priorities.now c.loop-place.place 0;
     }) in
     let within : c.loop-place.place < length c.args.priorities.now = omega (arith, c.loop-place-test.true) in
     let at : IsAtPlace r low c.args.priorities.now c.loop-place.place = record {
       is_game = c.count.ensures.well_formed;
-      levels = subst (AreLevels r.game) (sym c.as_slice.ensures.value) c.in_ok-groups.ensures.levels;
+      levels = c.in_ok-groups.ensures.levels;
       reverse = c.in_ok-back.ensures;
       regions = refl;
       within = within;
@@ -129,10 +128,10 @@ fill-requires-clause-group g c =
     (record {
       star = c.in_ok-back.back;
       region = c.args.region.now;
-      levels = c.as_slice.result.now;
+      levels = c.in_ok-groups.groups.levels;
       priority =
           get_or c.args.priorities.now c.loop-place.place 0;
     }) in
-    group_at c.in_ok-groups.groups.levels.items c.args.priorities.now c.in_ok-groups.groups.members c.loop-place.place
+    group_at c.in_ok-groups.groups.levels c.args.priorities.now c.in_ok-groups.groups.members c.loop-place.place
     low c.in_ok-groups.ensures.groups (omega (arith, c.loop-place-test.true))
-    (omega (arith, c.in_ok-groups.ensures.levels.each, c.in_ok-back.ensures.count)) c.as_slice.ensures.value refl
+    (omega (arith, c.in_ok-groups.ensures.levels.each, c.in_ok-back.ensures.count)) refl refl

@@ -9,7 +9,7 @@ returns-clause-sound g c =
     let s = c.args.self.now in
     let split = last_split s.pending.items c.args.pending c.requires.last in
     let sound =
-    subst (λ es. IsSoundSearch (g.G.Graph.graph c.args.graph.now) s.marks.items s.active.items s.bounds.items es
+    subst (λ es. IsSoundSearch (g.G.Graph.graph c.args.graph.now) s.marks s.active.items s.bounds.items es
     s.order.items) split c.requires.sound in
     let fewer = c.pop.ensures.rest ∙ ap (λ n. take (n - 1) s.pending.items) s.pending.ok.0 in
     rw fewer (sound-taken (g.G.Graph.graph c.args.graph.now) _ _ _ _ _ c.args.pending sound c.requires.settled)

@@ -1,7 +1,7 @@
 use Rattle.std.proofs.Common.{◌≡◌, ◌∙◌, inl, inr, slice_get, Some, arith, subst, sym}
 use Rattle.std.proofs.lemmas.Option.{slice_get-get_or, get_or_from_slice_get}
 use Rattle.std.proofs.lemmas.Bool.{cases_lt}
-use Rattle.ps_components.specs.declared.search.Mark.TheVariants.{Unseen}
+use Rattle.ps_components.specs.declared.marks.Mark.TheVariants.{Unseen}
 use Rattle.ps_components.proofs.Reaching.{reached-root}
 use Rattle.ps_components.proofs.search.Search.visit_each.Goals as goal
 
@@ -15,7 +15,7 @@ loop-root-preserved g c = record {
         let here =
         get_or_from_slice_get c.args.roots.now c.loop-root.root-index v 0
         (subst (λ x. slice_get c.args.roots.now x ≡ Some v) e h) in
-        c.in_ok-visit.ensures.seen (subst (λ x. slice_get c.visit.new.self.marks.items x ≡ Some Unseen) (sym here) un))
+        c.in_ok-visit.ensures.seen (subst (λ x. slice_get c.visit.new.self.marks x ≡ Some Unseen) (sym here) un))
   ];
   reached = λ v k h. elim (c.in_ok-visit.ensures.reached v) [
     | inl e ↦ c.loop-root.invariant.reached v k (sym e ∙ h)

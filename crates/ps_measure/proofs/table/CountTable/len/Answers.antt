@@ -6,4 +6,4 @@ pub returns : goal.returns
 returns c =
     let s = c.self.inside in
     let same = ap (λ (rows : List (List ℕ)). length rows) c.self.view_is in
-    omega (arith, rows_each s.width s.heads.items s.cells.items, same)
+    omega (arith, rows_each s.width s.heads s.cells, same)

@@ -1,41 +1,34 @@
-use Rattle.std.proofs.Common.{arith, ◌≡◌, ◌<◌, ◌∙◌, List, ℕ, length, ap, sym, subst, max, replicate}
-use Rattle.std.specs.Prelude.{slice_get, slice_index}
-use Rattle.std.proofs.lemmas.List.{get_or_read}
+use Rattle.std.proofs.Common.{arith, ◌≡◌, ◌<◌, ◌∙◌, List, ℕ, length, ap, sym, replicate}
+use Rattle.std.specs.Prelude.{slice_get}
 use Rattle.std.proofs.lemmas.Grind.{common_steps}
-use Rattle.ps_measure.specs.declared.table.CountCell.{CountCell}
-use Rattle.ps_measure.specs.Tables.{count_from}
 use Rattle.ps_measure.proofs.Cells.{rows_each, row_done}
 use Rattle.ps_measure.proofs.table.CountTable.row_into.Goals as goal
 
-pub index-requires : goal.index-requires
-index-requires c =
+pub at-requires : goal.at-requires
+at-requires c =
     let s = c.self.inside in
     let same = ap (λ (rows : List (List ℕ)). length rows) c.self.view_is in
-    omega (arith, rows_each s.width s.heads.items s.cells.items, same, c.requires, s.heads.ok.0)
+    omega (arith, rows_each s.width s.heads s.cells, same, c.requires)
 
 pub raise_by-requires-clause-head : goal.raise_by-requires-clause-head
 raise_by-requires-clause-head c =
     let s = c.self.inside in
     let same = ap (λ (rows : List (List ℕ)). length rows) c.self.view_is in
-    let below : c.args.vertex < length s.heads.items =
-    omega (arith, rows_each s.width s.heads.items s.cells.items, same, c.requires) in
-    let head_is : c.index.result.now ≡ slice_index s.heads.items c.args.vertex = get_or_read s.heads.items
-    c.args.vertex c.index.result.now below c.index.ensures 0 in
-    omega (arith, head_is, c.self.invariant.first c.args.vertex, c.deref.ensures.len, s.cells.ok.0)
+    let below : c.args.vertex < length s.heads =
+    omega (arith, rows_each s.width s.heads s.cells, same, c.requires) in
+    let head_is = c.at.ensures in
+    omega (arith, head_is, c.self.invariant.first c.args.vertex)
 
 pub returns : goal.returns
 returns c =
     let s = c.self.inside in
     let same = ap (λ (rows : List (List ℕ)). length rows) c.self.view_is in
-    let below : c.args.vertex < length s.heads.items =
-    omega (arith, rows_each s.width s.heads.items s.cells.items, same, c.requires) in
-    let head_is : c.index.result.now ≡ slice_index s.heads.items c.args.vertex = get_or_read s.heads.items
-    c.args.vertex c.index.result.now below c.index.ensures 0 in
+    let below : c.args.vertex < length s.heads =
+    omega (arith, rows_each s.width s.heads s.cells, same, c.requires) in
+    let head_is = c.at.ensures in
     let zeros : c.resize.new.self.items ≡ replicate s.width 0 =
     grind (arith, common_steps, c.in_ok-resize.ensures.items, c.clear.ensures.len) in
     ap (λ (rows : List (List ℕ)). slice_get rows c.args.vertex) (sym c.self.view_is)
-    ∙ row_done s.width s.heads.items s.cells.items c.args.vertex c.index.result.now c.resize.new.self.items
+    ∙ row_done s.width s.heads s.cells c.args.vertex c.at.result c.resize.new.self.items
     c.raise_by.new.row.items below head_is zeros c.raise_by.ensures.long
-    (λ k within. subst (λ (cells : List CountCell). slice_index c.raise_by.new.row.items k ≡ max
-    (slice_index c.resize.new.self.items k) (count_from cells c.index.result.now c.index.result.now k))
-    c.deref.ensures.value (c.raise_by.ensures.raised k within))
+    c.raise_by.ensures.raised

@@ -1,0 +1,19 @@
+-- Cells of chains whose numbers are kept at fewer bytes.
+use Rattle.ps_measure.specs.declared.back.Cell.{Cell}
+use Rattle.ps_measure.specs.declared.table.CountCell.{CountCell}
+use Rattle.ps_measure.specs.declared.link_cells.NarrowLink.{NarrowLink}
+use Rattle.ps_measure.specs.declared.count_cells.NarrowCount.{NarrowCount}
+
+abbrev pub link_of : NarrowLink → Cell
+link_of cell = record { source = cell.source; next = cell.next }
+
+abbrev pub count_cell_of : NarrowCount → CountCell
+count_cell_of cell = record { place = cell.place; count = cell.count; next = cell.next }
+
+-- a cell of no link
+abbrev pub no_link : Cell
+no_link = record { source = 0; next = 0 }
+
+-- a cell that raises nothing, and is the last of its chain
+abbrev pub no_count : CountCell
+no_count = record { place = 0; count = 0; next = 0 }

@@ -1,0 +1,123 @@
+//! Cells of chains of counts, at 12 bytes each as long as their numbers are small.
+
+ghost use Rattle.std.specs.Prelude.{◌≡◌, ◌<◌, ◌∷◌, [], ◌++◌, IfOk, OnOk, OnErr, length, slice_index_or};
+ghost use Rattle.ps_measure.specs.Cells.{no_count};
+
+use crate::packed::NARROW;
+use crate::table::CountCell;
+use std::alloc::{AllocError, Global};
+use std::marker::Model;
+
+/// A cell of which each number fits into 4 bytes.
+#[derive(Clone, Copy, Debug)]
+pub struct NarrowCount {
+    place: u32,
+    count: u32,
+    next: u32,
+}
+
+/// A list of cells, kept at 12 bytes each as long as all numbers of each fit into 4, and at 24 from then on.
+#[derive(Debug, Drop)]
+pub struct CountCells {
+    alloc: Global,
+    narrow: Vec<NarrowCount>,
+    wide: Vec<CountCell>,
+    is_wide: bool,
+}
+
+impl Model for CountCells {
+    ghost use Rattle.std.specs.Prelude.{List, map, if◌then◌else◌};
+    ghost use Rattle.ps_measure.specs.declared.table.CountCell.{CountCell};
+    ghost use Rattle.ps_measure.specs.Cells.{count_cell_of};
+
+    ghost Value = { List CountCell };
+
+    ghost view = { λ c. if c.is_wide then c.wide.items else map count_cell_of c.narrow.items };
+}
+
+impl CountCells {
+    /// No cell.
+    pub fn new(alloc: Global) -> Self
+        ensures { result ≡ [] }
+    {
+        CountCells {
+            alloc,
+            narrow: Vec::new(alloc),
+            wide: Vec::new(alloc),
+            is_wide: false,
+        }
+    }
+
+    /// How many cells there are.
+    pub fn len(&self) -> usize
+        ensures { result ≡ length self.now }
+    {
+        if self.is_wide {
+            self.wide.len()
+        } else {
+            self.narrow.len()
+        }
+    }
+
+    /// The cell at a place.
+    #[inline(always)]
+    pub fn at(&self, place: usize) -> CountCell
+        requires { place < length self.now }
+        ensures { result ≡ slice_index_or self.now place no_count }
+    {
+        if self.is_wide {
+            return self.wide[place];
+        }
+        let cell = self.narrow[place];
+        CountCell {
+            place: cell.place as usize,
+            count: u64::from(cell.count),
+            next: cell.next as usize,
+        }
+    }
+
+    /// Puts a cell at the end. For want of memory nothing changes.
+    #[inline(always)]
+    pub fn push(&mut self, cell: CountCell) -> Result<(), AllocError>
+        ensures ok { OnOk result (self.new ≡ self.old ++ cell ∷ []) }
+        ensures err { OnErr result (self.new ≡ self.old) }
+    {
+        if self.is_wide {
+            self.wide.push(cell)?;
+            return Ok(());
+        }
+        if cell.place <= NARROW && cell.count <= NARROW as u64 && cell.next <= NARROW {
+            self.narrow.push(NarrowCount {
+                place: cell.place as u32,
+                count: cell.count as u32,
+                next: cell.next as u32,
+            })?;
+            return Ok(());
+        }
+        self.push_wide(cell)
+    }
+
+    /// The same, where the list is kept at 24 bytes each from now on.
+    #[inline(never)]
+    fn push_wide(&mut self, cell: CountCell) -> Result<(), AllocError>
+        ensures ok { OnOk result (self.new ≡ self.old ++ cell ∷ []) }
+        ensures err { OnErr result (self.new ≡ self.old) }
+    {
+        let mut wide = self.widened()?;
+        wide.push(cell)?;
+        self.wide = wide;
+        self.is_wide = true;
+        Ok(())
+    }
+
+    /// The same cells at 24 bytes each.
+    fn widened(&self) -> Result<Vec<CountCell>, AllocError>
+        ensures { IfOk result (λ wide. wide.items ≡ self.now) }
+    {
+        let mut wide = Vec::with_capacity(self.alloc, self.len())?;
+        for place in 0..self.len() {
+            wide.push(self.at(place))?;
+        }
+        Ok(wide)
+    }
+}

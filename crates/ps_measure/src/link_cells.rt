@@ -1,0 +1,118 @@
+//! Cells of chains of links, at 8 bytes each as long as their numbers are small.
+
+ghost use Rattle.std.specs.Prelude.{◌≡◌, ◌<◌, ◌∷◌, [], ◌++◌, IfOk, OnOk, length, slice_index_or};
+ghost use Rattle.ps_measure.specs.Cells.{no_link};
+
+use crate::back::Cell;
+use crate::packed::NARROW;
+use std::alloc::{AllocError, Global};
+use std::marker::Model;
+
+/// A cell of which both numbers fit into 4 bytes.
+#[derive(Clone, Copy)]
+pub struct NarrowLink {
+    source: u32,
+    next: u32,
+}
+
+/// A list of cells, kept at 8 bytes each as long as both numbers of each fit into 4, and at 16 from then on.
+#[derive(Drop)]
+pub(crate) struct LinkCells {
+    alloc: Global,
+    narrow: Vec<NarrowLink>,
+    wide: Vec<Cell>,
+    is_wide: bool,
+}
+
+impl Model for LinkCells {
+    ghost use Rattle.std.specs.Prelude.{List, map, if◌then◌else◌};
+    ghost use Rattle.ps_measure.specs.declared.back.Cell.{Cell};
+    ghost use Rattle.ps_measure.specs.Cells.{link_of};
+
+    ghost Value = { List Cell };
+
+    ghost view = { λ c. if c.is_wide then c.wide.items else map link_of c.narrow.items };
+}
+
+impl LinkCells {
+    /// No cell.
+    pub(crate) fn new(alloc: Global) -> Self
+        ensures { result ≡ [] }
+    {
+        LinkCells {
+            alloc,
+            narrow: Vec::new(alloc),
+            wide: Vec::new(alloc),
+            is_wide: false,
+        }
+    }
+
+    /// How many cells there are.
+    pub(crate) fn len(&self) -> usize
+        ensures { result ≡ length self.now }
+    {
+        if self.is_wide {
+            self.wide.len()
+        } else {
+            self.narrow.len()
+        }
+    }
+
+    /// The cell at a place.
+    #[inline(always)]
+    pub(crate) fn at(&self, place: usize) -> Cell
+        requires { place < length self.now }
+        ensures { result ≡ slice_index_or self.now place no_link }
+    {
+        if self.is_wide {
+            return self.wide[place];
+        }
+        let cell = self.narrow[place];
+        Cell {
+            source: cell.source as usize,
+            next: cell.next as usize,
+        }
+    }
+
+    /// Puts a cell at the end.
+    #[inline(always)]
+    pub(crate) fn push(&mut self, cell: Cell) -> Result<(), AllocError>
+        ensures { OnOk result (self.new ≡ self.old ++ cell ∷ []) }
+    {
+        if self.is_wide {
+            self.wide.push(cell)?;
+            return Ok(());
+        }
+        if cell.source <= NARROW && cell.next <= NARROW {
+            self.narrow.push(NarrowLink {
+                source: cell.source as u32,
+                next: cell.next as u32,
+            })?;
+            return Ok(());
+        }
+        self.push_wide(cell)
+    }
+
+    /// The same, where the list is kept at 16 bytes each from now on.
+    #[inline(never)]
+    fn push_wide(&mut self, cell: Cell) -> Result<(), AllocError>
+        ensures { OnOk result (self.new ≡ self.old ++ cell ∷ []) }
+    {
+        let mut wide = self.widened()?;
+        wide.push(cell)?;
+        self.wide = wide;
+        self.is_wide = true;
+        Ok(())
+    }
+
+    /// The same cells at 16 bytes each.
+    fn widened(&self) -> Result<Vec<Cell>, AllocError>
+        ensures { IfOk result (λ wide. wide.items ≡ self.now) }
+    {
+        let mut wide = Vec::with_capacity(self.alloc, self.len())?;
+        for place in 0..self.len() {
+            wide.push(self.at(place))?;
+        }
+        Ok(wide)
+    }
+}

@@ -1,0 +1,163 @@
+//! Lists of numbers that take 4 bytes each as long as all of them fit.
+
+ghost use Rattle.std.specs.Prelude.{◌≡◌, ◌<◌, ◌∷◌, [], ◌++◌, true, false, IfOk, OnOk, OnErr, length, replicate};
+ghost use Rattle.std.specs.Prelude.{slice_index};
+ghost use Rattle.std.specs.Prelude.{slice_set};
+
+use std::alloc::{AllocError, Global};
+use std::marker::Model;
+
+/// The greatest number that 4 bytes hold.
+pub(crate) const NARROW: usize = 4_294_967_295;
+
+/// A list of numbers, kept at 4 bytes each as long as all of them fit, and at 8 from then on.
+#[derive(Debug, Drop)]
+pub(crate) struct Packed {
+    alloc: Global,
+    narrow: Vec<u32>,
+    wide: Vec<usize>,
+    is_wide: bool,
+}
+
+impl Model for Packed {
+    ghost use Rattle.std.specs.Prelude.{List, ℕ, if◌then◌else◌};
+
+    ghost Value = { List ℕ };
+
+    ghost view = { λ p. if p.is_wide then p.wide.items else p.narrow.items };
+}
+
+impl Packed {
+    /// No number.
+    pub(crate) fn new(alloc: Global) -> Self
+        ensures { result ≡ [] }
+    {
+        Packed {
+            alloc,
+            narrow: Vec::new(alloc),
+            wide: Vec::new(alloc),
+            is_wide: false,
+        }
+    }
+
+    /// No number, with room for so many that fit into 4 bytes.
+    pub(crate) fn with_capacity(alloc: Global, count: usize) -> Result<Self, AllocError>
+        ensures { IfOk result (λ list. list ≡ []) }
+    {
+        let narrow = Vec::with_capacity(alloc, count)?;
+        Ok(Packed {
+            alloc,
+            narrow,
+            wide: Vec::new(alloc),
+            is_wide: false,
+        })
+    }
+
+    /// So many numbers, each of them 0.
+    pub(crate) fn zeros(alloc: Global, count: usize) -> Result<Self, AllocError>
+        ensures { IfOk result (λ list. list ≡ replicate count 0) }
+    {
+        let narrow = vec![in alloc; 0; count]?;
+        Ok(Packed {
+            alloc,
+            narrow,
+            wide: Vec::new(alloc),
+            is_wide: false,
+        })
+    }
+
+    /// How many numbers there are.
+    pub(crate) fn len(&self) -> usize
+        ensures { result ≡ length self.now }
+    {
+        if self.is_wide {
+            self.wide.len()
+        } else {
+            self.narrow.len()
+        }
+    }
+
+    /// The number at a place.
+    #[inline(always)]
+    pub(crate) fn at(&self, place: usize) -> usize
+        requires { place < length self.now }
+        ensures { result ≡ slice_index self.now place }
+    {
+        if self.is_wide {
+            self.wide[place]
+        } else {
+            self.narrow[place] as usize
+        }
+    }
+
+    /// Puts a number at the end.
+    #[inline(always)]
+    pub(crate) fn push(&mut self, number: usize) -> Result<(), AllocError>
+        ensures { OnOk result (self.new ≡ self.old ++ number ∷ []) }
+    {
+        if self.is_wide {
+            self.wide.push(number)?;
+            return Ok(());
+        }
+        if number <= NARROW {
+            self.narrow.push(number as u32)?;
+            return Ok(());
+        }
+        self.push_wide(number)
+    }
+
+    /// The same, where the list is kept at 8 bytes each from now on.
+    #[inline(never)]
+    fn push_wide(&mut self, number: usize) -> Result<(), AllocError>
+        ensures { OnOk result (self.new ≡ self.old ++ number ∷ []) }
+    {
+        let mut wide = self.widened()?;
+        wide.push(number)?;
+        self.wide = wide;
+        self.is_wide = true;
+        Ok(())
+    }
+
+    /// Writes a number at a place.
+    #[inline(always)]
+    pub(crate) fn set(&mut self, place: usize, number: usize) -> Result<(), AllocError>
+        requires { place < length self.old }
+        ensures ok { OnOk result (self.new ≡ slice_set self.old place number) }
+        ensures err { OnErr result (self.new ≡ self.old) }
+    {
+        if self.is_wide {
+            self.wide[place] = number;
+            return Ok(());
+        }
+        if number <= NARROW {
+            self.narrow[place] = number as u32;
+            return Ok(());
+        }
+        self.set_wide(place, number)
+    }
+
+    /// The same, where the list is kept at 8 bytes each from now on.
+    #[inline(never)]
+    fn set_wide(&mut self, place: usize, number: usize) -> Result<(), AllocError>
+        requires { place < length self.old }
+        ensures ok { OnOk result (self.new ≡ slice_set self.old place number) }
+        ensures err { OnErr result (self.new ≡ self.old) }
+    {
+        let mut wide = self.widened()?;
+        wide[place] = number;
+        self.wide = wide;
+        self.is_wide = true;
+        Ok(())
+    }
+
+    /// The same numbers at 8 bytes each.
+    fn widened(&self) -> Result<Vec<usize>, AllocError>
+        ensures { IfOk result (λ wide. wide.items ≡ self.now) }
+    {
+        let mut wide = Vec::with_capacity(self.alloc, self.len())?;
+        for place in 0..self.len() {
+            wide.push(self.at(place))?;
+        }
+        Ok(wide)
+    }
+}
