@@ -88,11 +88,10 @@ stands_for is_first keys used kept marks memory v q p differ m at is w there =
 -- ## Used vertices
 
 -- a path goes on by any edge, but by the winner's move where the winner moves
-pub used_more : (game : ParityGame) (certificate : CertificateData) (v w : ℕ) → IsUsed game certificate v →
+pub used_more : {game : ParityGame} {certificate : CertificateData} {v : ℕ} (w : ℕ) → IsUsed game certificate v →
     HasEdge game v w → w < vertex_count game → (owner_of game v ≡ winner certificate → choice_of certificate v ≡ Some w)
-    →
-    IsUsed game certificate w
-used_more game certificate v w u edge within chosen =
+    → IsUsed game certificate w
+used_more {game} {certificate} w u edge within chosen =
     let long = length_push u.path w in
     let Goes : ℕ → Type 0 = λ x. owner_of game x ≡ winner certificate → choice_of certificate x ≡ Some w in
     record {
@@ -105,18 +104,18 @@ used_more game certificate v w u edge within chosen =
       ends = get_or_push u.path w 0 (length (u.path ++ w ∷ []) - 1) (omega (arith, long));
     }
 
-pub used_won : (game : ParityGame) (certificate : CertificateData) (v : ℕ) → IsClosed game certificate →
+pub used_won : {game : ParityGame} {certificate : CertificateData} {v : ℕ} → IsClosed game certificate →
     IsUsed game certificate v → winner_of certificate v ≡ winner certificate
-used_won game certificate v closed u =
+used_won {game} {certificate} closed u =
     let some = u.is_path.begins in
     subst (λ x. winner_of certificate x ≡ winner certificate) u.ends
     (path_stays game certificate (winner certificate) u.path closed u.is_path u.follows
     (ap (winner_of certificate) u.begins) (length u.path - 1) (omega (arith, some)))
 
-pub setting : (order : Order) (a : AutomatonData) (keys : List Key) (certificate : CertificateData) (is_first : Bool)
-    (kept marks : List ℕ) → (plan : IsPlan order a keys certificate is_first kept marks) →
+pub setting : {order : Order} {a : AutomatonData} {keys : List Key} {certificate : CertificateData} {is_first : Bool}
+    {kept marks : List ℕ} → (plan : IsPlan order a keys certificate is_first kept marks) →
     Setting (board_of order a) (mover_of order) keys plan.game certificate
-setting order a keys certificate is_first kept marks plan =
+setting {order} plan =
     record { is_mover = small_mover order; by_keys = plan.is_game.by_keys; fits = plan.fits; valid = plan.valid }
 
 -- ## Where keys lead
@@ -156,13 +155,13 @@ pub record Chosen (game : ParityGame) (certificate : CertificateData) (v : ℕ) 
   pub edge : HasEdge game v chosen
   pub used : IsUsed game certificate chosen
 
-module _ (board : Board) (mover : ℕ) (keys : List Key) (game : ParityGame) (certificate : CertificateData)
+module _ {board : Board} {mover : ℕ} {keys : List Key} {game : ParityGame} {certificate : CertificateData}
     (s : Setting board mover keys game certificate) where
   pub move_at : (v : ℕ) (k : Key) → StandsAt keys v k → IsUsed game certificate v →
       owner_of game v ≡ winner certificate → Chosen game certificate v
   move_at v k at used own =
-      let within = within_game board mover keys game certificate s v k at in
-      let won = used_won game certificate v s.valid.closed used in
+      let within = within_game s v k at in
+      let won = used_won s.valid.closed used in
       let there =
       some_and (choice_of certificate v) (HasEdge game v) ((s.valid.closed.moves v within).own (own ∙ sym won)) in
       let next : there.0 < vertex_count game =
@@ -171,17 +170,16 @@ module _ (board : Board) (mover : ℕ) (keys : List Key) (game : ParityGame) (ce
         chosen = there.0;
         choice = there.1;
         edge = there.2;
-        used = used_more game certificate v there.0 used there.2 next (λ o. there.1);
+        used = used_more there.0 used there.2 next (λ o. there.1);
       }
 
   -- the keys to which a vertex's key leads
   next_keys : (v : ℕ) (k : Key) → StandsAt keys v k → (next : List Key) × LeadsTo board k next ×
       AllZip (StandsAt keys) (successors_of game v) next
   next_keys v k at =
-      let vertex = s.by_keys.vertices v (within_game board mover keys game certificate s v k at) in (
+      let vertex = s.by_keys.vertices v (within_game s v k at) in (
         vertex.next,
-        subst (λ l. LeadsTo board l vertex.next) (same_some vertex.key k (sym vertex.stands ∙ at))
-            vertex.leads_to,
+        subst (λ l. LeadsTo board l vertex.next) (same_some vertex.key k (sym vertex.stands ∙ at)) vertex.leads_to,
         vertex.successors,
       )
 
@@ -232,7 +230,7 @@ module _ (board : Board) (mover : ℕ) (keys : List Key) (game : ParityGame) (ce
       let there = zip_vertex keys (successors_of game v) n.0 (key x) n.2 m.0 m.1 m.2 in
       record {
         vertex = there.0;
-        edge = (within_game board mover keys game certificate s v (First q p) at, there.1);
+        edge = (within_game s v (First q p) at, there.1);
         stands = there.2;
       }
 
@@ -248,7 +246,7 @@ module _ (board : Board) (mover : ℕ) (keys : List Key) (game : ParityGame) (ce
       let there = zip_vertex keys (successors_of game v) n.0 (key y) n.2 m.0 m.1 m.2 in
       record {
         vertex = there.0;
-        edge = (within_game board mover keys game certificate s v (Second q x) at, there.1);
+        edge = (within_game s v (Second q x) at, there.1);
         stands = there.2;
       }
 
@@ -257,8 +255,8 @@ module _ (board : Board) (mover : ℕ) (keys : List Key) (game : ParityGame) (ce
 pub not_both : (r c q p : ℕ) → Second r c ≡ First q p → ⊥
 not_both r c q p e = search rules
 
-module _ (order : Order) (a : AutomatonData) (keys : List Key) (certificate : CertificateData) (is_first : Bool)
-    (kept marks : List ℕ) (plan : IsPlan order a keys certificate is_first kept marks) where
+module _ {order : Order} {a : AutomatonData} {keys : List Key} {certificate : CertificateData} {is_first : Bool}
+    {kept marks : List ℕ} (plan : IsPlan order a keys certificate is_first kept marks) where
   -- the vertex of a memory is used, and the first player moves there
   pub record KeptAt (v : ℕ) : Type 0 where
     pub state : ℕ
@@ -296,9 +294,7 @@ module _ (order : Order) (a : AutomatonData) (keys : List Key) (certificate : Ce
   pub kept_entry : (v : ℕ) → Contains kept v → v < length certificate.entries
   kept_entry v c =
       let k = kept_at v c in
-      let small =
-      within_game (board_of order a) (mover_of order) keys plan.game certificate
-      (setting order a keys certificate is_first kept marks plan) v (First k.state k.priority) k.stands in
+      let small = within_game (setting plan) v (First k.state k.priority) k.stands in
       omega (arith, small, plan.fits.entry_each)
 
   small_next : IsWhole a → (q letter : ℕ) → (step_of a q letter).state ≤ a.states
@@ -327,21 +323,20 @@ module _ (order : Order) (a : AutomatonData) (keys : List Key) (certificate : Ce
         let only : length u.path - 1 ≡ 0 = omega (arith, one, some) in
         let zero_is : 0 ≡ v = sym u.begins ∙ ap (slice_index u.path) (sym only) ∙ u.ends in
         let start : a.start ≡ q =
-        one_state keys v a.start 0 q p (subst (λ n. StandsAt keys n (First a.start 0)) zero_is s.by_keys.begins) at
-        in
+        one_state keys v a.start 0 q p (subst (λ n. StandsAt keys n (First a.start 0)) zero_is s.by_keys.begins) at in
         let below = w.start in
         omega (arith, start, below))
   ]
     where
       s : Setting (board_of order a) (mover_of order) keys plan.game certificate
-      s = setting order a keys certificate is_first kept marks plan
+      s = setting plan
 
       behind_key : (x : ℕ) (k : Key) → StandsAt keys x k → HasEdge plan.game x v → q ≤ a.states
       behind_key x (First r o) there edge =
-          let c = class_at (board_of order a) (mover_of order) keys plan.game certificate s x v r o there edge in
+          let c = class_at s x v r o there edge in
           absurd (not_both r c.letter q p (same_some (Second r c.letter) (First q p) (sym c.stands ∙ at)))
       behind_key x (Second r c) there edge =
-          let m = move_to (board_of order a) (mover_of order) keys plan.game certificate s x v r c there edge in
+          let m = move_to s x v r c there edge in
           let same = one_state keys v _ _ q p m.goes.stands at in
           let small = small_next w r (c + m.letter) in
           omega (arith, same, small)

@@ -179,8 +179,7 @@ module _ (a : AutomatonData) (keys : List Key) (is_first : Bool) (board : Board)
   -- the row of a leaf is added
   pub add_row : (eq : Row → Row → Bool) (rows : List Row) (places : List ℕ) (n : ℕ) (row : Row) (new : List Row) →
       AreNoted a keys is_first board kept letter found old rows places n → new ≡ insert_key eq rows row →
-      IsRow is_first board kept row →
-      AreNoted a keys is_first board kept letter found old new places n
+      IsRow is_first board kept row → AreNoted a keys is_first board kept letter found old new places n
   add_row eq rows places n row new h e is =
       let k = keeps_rows eq rows row new e in
       record {
@@ -244,8 +243,8 @@ same_letter : (q r x y : ℕ) → Second q x ≡ Second r y → x ≡ y
 unfolding letter_in
 same_letter q r x y e = ap letter_in e
 
-module _ (order : Order) (a : AutomatonData) (keys : List Key) (certificate : CertificateData) (is_first : Bool)
-    (kept marks : List ℕ) (plan : IsPlan order a keys certificate is_first kept marks) (first : is_first ≡ true) where
+module _ {order : Order} {a : AutomatonData} {keys : List Key} {certificate : CertificateData} {is_first : Bool}
+    {kept marks : List ℕ} (plan : IsPlan order a keys certificate is_first kept marks) (first : is_first ≡ true) where
   mover_wins : mover_of order ≡ winner certificate
   mover_wins = eqb-true (mover_of order) (winner certificate) (sym plan.turn ∙ first)
 
@@ -262,12 +261,9 @@ module _ (order : Order) (a : AutomatonData) (keys : List Key) (certificate : Ce
   to_class v q p is_kept at =
       let board = board_of order a in
       let mover = mover_of order in
-      let s = setting order a keys certificate is_first kept marks plan in
-      let m =
-      move_at board mover keys plan.game certificate s v (First q p) at
-      (kept_used order a keys certificate is_first kept marks plan v is_kept)
-      (first_owner board mover keys plan.game certificate s v q p at ∙ mover_wins) in
-      let c = class_at board mover keys plan.game certificate s v m.chosen q p at m.edge in
+      let s = setting plan in
+      let m = move_at s v (First q p) at (kept_used plan v is_kept) (first_owner s v q p at ∙ mover_wins) in
+      let c = class_at s v m.chosen q p at m.edge in
       record {
         chosen = m.chosen;
         choice = m.choice;
@@ -291,19 +287,19 @@ module _ (order : Order) (a : AutomatonData) (keys : List Key) (certificate : Ce
 
   pub has_choice : (v : ℕ) → Contains kept v → is_some (choice_of certificate v) ≡ true
   has_choice v is_kept =
-      let k = kept_at order a keys certificate is_first kept marks plan v is_kept in
+      let k = kept_at plan v is_kept in
       ap is_some (to_class v k.state k.priority is_kept k.stands).choice
 
   pub chosen_within : (v chosen : ℕ) → Contains kept v → choice_of certificate v ≡ Some chosen → chosen < length keys
   chosen_within v chosen is_kept choice =
-      let k = kept_at order a keys certificate is_first kept marks plan v is_kept in
+      let k = kept_at plan v is_kept in
       let to = class_chosen v chosen k.state k.priority is_kept k.stands choice in
       slice_get_within keys chosen (Second k.state to.0) to.2
 
   pub chosen_not_first : (v chosen r o : ℕ) → Contains kept v → choice_of certificate v ≡ Some chosen →
       get_or keys chosen (First 0 0) ≡ First r o → ⊥
   chosen_not_first v chosen r o is_kept choice is =
-      let k = kept_at order a keys certificate is_first kept marks plan v is_kept in
+      let k = kept_at plan v is_kept in
       let to = class_chosen v chosen k.state k.priority is_kept k.stands choice in
       not_both k.state to.0 r o (sym (get_or_from_slice_get keys chosen (Second k.state to.0) (First 0 0) to.2) ∙ is)
 
@@ -329,20 +325,19 @@ module _ (order : Order) (a : AutomatonData) (keys : List Key) (certificate : Ce
   entered mask t v q p letter rest found is_kept at plays l are k d within =
       let board = board_of order a in
       let mover = mover_of order in
-      let s = setting order a keys certificate is_first kept marks plan in
+      let s = setting plan in
       let to = to_class v q p is_kept at in
       let same : to.chosen ≡ plays.chosen = some_nat to.chosen plays.chosen (sym to.choice ∙ plays.choice) in
       let used : IsUsed plan.game certificate plays.chosen = subst (λ n. IsUsed plan.game certificate n) same to.used in
       let y = (get_or found k (0, 0)).1 in
       let leaf = (get_or found k (0, 0)).0 in
-      let on =
-      to_pair_of board mover keys plan.game certificate s plays.chosen q letter y plays.stands
+      let on = to_pair_of s plays.chosen q letter y plays.stands
       (move_is order a mask t q letter rest found l.fit l.is_rest are k within) in
       let there : step_of a q (letter + y) ≡ pair_of a leaf =
       ap (λ o. pair_of a (unwrap_or o (length a.steps))) (move_leaf order a mask t q letter rest found l.fit
       l.is_rest are k within) in
       let other : owner_of plan.game plays.chosen ≡ winner certificate → ⊥ =
-      λ own. (let o = second_owner board mover keys plan.game certificate s plays.chosen q letter plays.stands in
+      λ own. (let o = second_owner s plays.chosen q letter plays.stands in
       omega (arith, o, own, mover_wins, s.is_mover)) in
       let item : IsEntered order a keys certificate is_first kept marks leaf = record {
         within = leaf_within order a mask t q letter rest found l.fit l.is_rest are k within;
@@ -351,8 +346,7 @@ module _ (order : Order) (a : AutomatonData) (keys : List Key) (certificate : Ce
           vertex = on.vertex;
           stands = subst (λ (x : Step). StandsAt keys on.vertex (First x.state x.priority)) there on.stands;
           is_used =
-              used_more plan.game certificate plays.chosen on.vertex used on.edge
-              (within_game board mover keys plan.game certificate s on.vertex _ on.stands) (λ own. absurd (other own));
+              used_more on.vertex used on.edge (within_game s on.vertex _ on.stands) (λ own. absurd (other own));
         };
       } in
       subst (λ (x : ℕ × ℕ). IsEntered order a keys certificate is_first kept marks x.0)
@@ -386,8 +380,7 @@ module _ (order : Order) (a : AutomatonData) (keys : List Key) (certificate : Ce
 
     noted : (x : ℕ) → IsSecondLetter (board_of order a) x → Noted x
     noted x second =
-        let there =
-        some_of (leaf_of a.store (node_of a q) (letter + x)) (λ leaf. leaf < length a.steps)
+        let there = some_of (leaf_of a.store (node_of a q) (letter + x)) (λ leaf. leaf < length a.steps)
         (l.fit.whole.leaves q (letter + x) l.is_rest.state) in
         let is = l.is_rest.leaves x second ∙ there.1 in
         let any = are.each there.0 x (below_back order a mask t x l.fit second.within, is) in

@@ -87,20 +87,17 @@ module _ (order : Order) (a : AutomatonData) (keys : List Key) (certificate : Ce
       let game = plan.game in
       let board = board_of order a in
       let mover = mover_of order in
-      let s = setting order a keys certificate is_first kept marks plan in
+      let s = setting plan in
       let loses : mover ≢ winner certificate = not_same mover (winner certificate) (sym plan.turn ∙ turn) in
-      let small : winner certificate < 2 =
-      plan.fits.winners 0 (within_game board mover keys game certificate s 0 (First a.start 0) s.by_keys.begins) in
-      let to = to_class_of board mover keys game certificate s e.vertex q p x e.stands is in
-      let behind : to.vertex < vertex_count game =
-      within_game board mover keys game certificate s to.vertex (Second q x) to.stands in
-      let used : IsUsed game certificate to.vertex =
-      used_more game certificate e.vertex to.vertex e.is_used to.edge behind
-      (λ own. absurd (loses (sym (first_owner board mover keys game certificate s e.vertex q p e.stands) ∙ own))) in
-      let owner = second_owner board mover keys game certificate s to.vertex q x to.stands in
+      let small : winner certificate < 2 = plan.fits.winners 0 (within_game s 0 (First a.start 0) s.by_keys.begins) in
+      let to = to_class_of s e.vertex q p x e.stands is in
+      let behind : to.vertex < vertex_count game = within_game s to.vertex (Second q x) to.stands in
+      let used : IsUsed game certificate to.vertex = used_more to.vertex e.is_used to.edge behind
+      (λ own. absurd (loses (sym (first_owner s e.vertex q p e.stands) ∙ own))) in
+      let owner = second_owner s to.vertex q x to.stands in
       let own : owner_of game to.vertex ≡ winner certificate = omega (arith, owner, loses, small, s.is_mover) in
-      let m = move_at board mover keys game certificate s to.vertex (Second q x) to.stands used own in
-      let t = move_to board mover keys game certificate s to.vertex m.chosen q x to.stands m.edge in
+      let m = move_at s to.vertex (Second q x) to.stands used own in
+      let t = move_to s to.vertex m.chosen q x to.stands m.edge in
       record {
         at = to.vertex;
         stands = to.stands;
@@ -110,7 +107,7 @@ module _ (order : Order) (a : AutomatonData) (keys : List Key) (certificate : Ce
         second = t.is_move.here.0;
         goes = t.goes;
         enters = record { plan = plan; vertex = m.chosen; stands = t.goes.stands; is_used = m.used };
-        apart = λ v w k. same_place board mover keys game certificate s v w k;
+        apart = λ v w k. same_place s v w k;
       }
 
   module _ (q x : ℕ) (r : Replies q x) where
@@ -162,8 +159,7 @@ module _ (order : Order) (a : AutomatonData) (mask : ℕ) (t : Table) (keys : Li
           m.place,
           get_or found m.place (0, 0),
           m.within,
-          get_or_default found m.place (get_or found m.place (0, 0))
-              (0, 0) m.within,
+          get_or_default found m.place (get_or found m.place (0, 0)) (0, 0) m.within,
           is ∙ same_pair (step_of a q (x + reply.letter)) step reply.state reply.priority,
         )
 
@@ -175,8 +171,7 @@ module _ (order : Order) (a : AutomatonData) (mask : ℕ) (t : Table) (keys : Li
     answer_by letter memory class move is stands v =
         let goes : GoesTo keys (board_of order a) q (x + letter) reply.chosen =
         record {
-          stands = subst (λ (s : Step). StandsAt keys reply.chosen (First s.state s.priority)) (sym is)
-              reply.entered;
+          stands = subst (λ (s : Step). StandsAt keys reply.chosen (First s.state s.priority)) (sym is) reply.entered;
         } in
         record {
           played = record {
@@ -211,8 +206,7 @@ module _ (order : Order) (a : AutomatonData) (mask : ℕ) (t : Table) (keys : Li
     pub answered : (rest : ℕ) (found : List (ℕ × ℕ)) (letter memory : ℕ) → IsFit order a mask t →
         IsRest order a mask t q x rest → AreLeaves t rest found → IsClass (board_of order a) q x →
         Any (λ leaf. (pair_of a leaf.0 ≡ step) × (leaf.1 ≡ letter)) found →
-        ((v : ℕ) → StandsAt keys v (First step.state step.priority) → StandsFor false keys kept memory v step.state)
-        →
+        ((v : ℕ) → StandsAt keys v (First step.state step.priority) → StandsFor false keys kept memory v step.state) →
         IsReplyRow (board_of order a) keys kept certificate q x (record { memory = memory; letter = letter })
     answered rest found letter memory f r are class any stands =
         let k = any.0 in
@@ -222,8 +216,7 @@ module _ (order : Order) (a : AutomatonData) (mask : ℕ) (t : Table) (keys : Li
         let played : (get_or found k (0, 0)).1 ≡ letter = ap (λ (l : ℕ × ℕ). l.1) here ∙ any.4.1 in
         let named : pair_of a (get_or found k (0, 0)).0 ≡ step = ap (λ (l : ℕ × ℕ). pair_of a l.0) here ∙ any.4.0 in
         let move =
-        subst (λ y. IsMove (board_of order a) q x y) played (move_is order a mask t q x rest found f r are k within)
-        in
+        subst (λ y. IsMove (board_of order a) q x y) played (move_is order a mask t q x rest found f r are k within) in
         let leads = ap (λ y. leaf_of a.store (node_of a q) (x + y)) (sym played)
         ∙ move_leaf order a mask t q x rest found f r are k within in
         answer_by letter memory class move (ap (λ o. pair_of a (unwrap_or o (length a.steps))) leads ∙ named) stands
@@ -236,8 +229,7 @@ pub answer_row : (is_first : Bool) (board : Board) (keys : List Key) (kept : Lis
 answer_row is_first board keys kept certificate q x row turn answer =
     let at = answer 0 in
     subst (λ b. IsRow b board kept row) (sym turn) (record {
-      memory = slice_get_within kept row.memory at.next.vertex
-          at.next.is_kept;
+      memory = slice_get_within kept row.memory at.next.vertex at.next.is_kept;
       letter = at.played.least.here.0;
     })
 
@@ -330,13 +322,11 @@ module _ (order : Order) (a : AutomatonData) (mask : ℕ) (t : Table) (keys : Li
         let each = are.each m.place m.class m.at in
         let c = m.class.letter in
         let hc = class_first order a mask t q places list f h are m.place m.class m.at in
-        let alike =
-        (are.alike x c (below_back order a mask t x f hx.within) each.least.here.0).0
+        let alike = (are.alike x c (below_back order a mask t x f hx.within) each.least.here.0).0
         (m.is ∙ sym each.least.here.1) in
         let same = same_steps order a mask t q x c f h hx hc alike in
         let N = Names (board_of order a) keys kept certificate q rows in
-        let left =
-        subst (λ o. MatchOption o (Unit {0}) (λ class. IsSomeAnd (slice_get values m.place) (N class))) m.at
+        let left = subst (λ o. MatchOption o (Unit {0}) (λ class. IsSomeAnd (slice_get values m.place) (N class))) m.at
         (AllZip-left N list values named m.place) in
         let value = some_of (slice_get values m.place) (N m.class) left in
         record {
@@ -351,8 +341,7 @@ module _ (order : Order) (a : AutomatonData) (mask : ℕ) (t : Table) (keys : Li
     heeds_first : (x y : ℕ) → ((p : ℕ) → p < length a.names → (board_of order a).is_first p ≡ true →
         is_in p x ≡ is_in p y) → leaf_of u node x ≡ leaf_of u node y
     heeds_first x y alike =
-        let on : AgreeOn mask x y =
-        λ p is. (let within = mask_below (board_of order a) mask p f.is_mask is in
+        let on : AgreeOn mask x y = λ p is. (let within = mask_below (board_of order a) mask p f.is_mask is in
         alike p within (sym (f.is_mask.is p within) ∙ is)) in
         leaf x ∙ ap (λ o. option_map (λ k. slice_index values k) o) (are.read x y on) ∙ sym (leaf y)
 

@@ -42,8 +42,7 @@ module _ (file : FileData) (chain : Chain) (a : AutomatonData) (order : Order) (
   module _ (stem lap : List ℕ) (l : IsLasso m stem lap) where
     each_letter : (t : ℕ) → t < length (stem ++ lap) → slice_index (stem ++ lap) t < 2 ^ length file.names
     each_letter t within =
-        let less =
-        letter_within m is_machine (l.memories t) (slice_index (stem ++ lap) t) (l.memories (t + 1))
+        let less = letter_within m is_machine (l.memories t) (slice_index (stem ++ lap) t) (l.memories (t + 1))
         (memories_of_lasso m is_machine stem lap l t (omega (arith, within))) (l.makes t within) in
         subst (λ n. slice_index (stem ++ lap) t < 2 ^ n) names_are less
 
@@ -91,12 +90,12 @@ module _ (file : FileData) (chain : Chain) (a : AutomatonData) (order : Order) (
 
     parity : greatest_from (priority_at (auto_of a) (word stem lap)) from count % 2 ≡ winner certificate
     parity =
-        parity_of_part (board_of order a) (mover_of order) keys game certificate setting m made others (word stem lap)
+        parity_of_part setting m made others (word stem lap)
         (memories_on m stem lap l) (endless m stem lap l) from count some_count back again
 
     returns : state_at (auto_of a) (word stem lap) (from + count) ≡ state_at (auto_of a) (word stem lap) from
     returns =
-        state_returns (board_of order a) (mover_of order) keys game certificate setting m made others (word stem lap)
+        state_returns setting m made others (word stem lap)
         (memories_on m stem lap l) (endless m stem lap l) from count some_count back again
 
     returned : state_at (auto_of a) (word stem lap) (length stem + (0 + 1) * length lap) ≡ state_at (auto_of a)
@@ -110,15 +109,13 @@ module _ (file : FileData) (chain : Chain) (a : AutomatonData) (order : Order) (
     unfolding from count
     if_even is =
         even_is_accepted file chain (auto_of a) built.is_chain built.auto stem lap l.some in_stem in_lap 0 1
-        (omega arith) returned
-        (eq-eqb (greatest_from (priority_at (auto_of a) (word stem lap)) from count % 2) 0
+        (omega arith) returned (eq-eqb (greatest_from (priority_at (auto_of a) (word stem lap)) from count % 2) 0
         (parity ∙ sym made.player ∙ is))
 
     only_even : IsAccepted file stem lap → m.player ≡ 0
     unfolding from count
     only_even accepted =
-        let even =
-        accepted_is_even file chain (auto_of a) built.is_chain built.auto stem lap l.some in_stem in_lap 0 1
+        let even = accepted_is_even file chain (auto_of a) built.is_chain built.auto stem lap l.some in_stem in_lap 0 1
         (omega arith) returned accepted in
         made.player ∙ sym parity ∙ eqb-true (greatest_from (priority_at (auto_of a) (word stem lap)) from count % 2) 0
         even

@@ -71,7 +71,7 @@ pub record Round (game : ParityGame) (certificate : CertificateData) (v w : ℕ)
   pub first : owner_of game v ≡ winner certificate → choice_of certificate v ≡ Some between
   pub second : owner_of game between ≡ winner certificate → choice_of certificate between ≡ Some w
 
-module _ (board : Board) (mover : ℕ) (keys : List Key) (game : ParityGame) (certificate : CertificateData)
+module _ {board : Board} {mover : ℕ} {keys : List Key} {game : ParityGame} {certificate : CertificateData}
     (s : Setting board mover keys game certificate) where
   pub within_game : (v : ℕ) (k : Key) → StandsAt keys v k → v < vertex_count game
   within_game v k at = omega (arith, slice_get_within keys v k at, s.by_keys.count)
@@ -96,8 +96,7 @@ module _ (board : Board) (mover : ℕ) (keys : List Key) (game : ParityGame) (ce
       let within = within_game v k at in
       let vertex = s.by_keys.vertices v within in
       let from : LeadsTo board k vertex.next =
-      subst (λ key. LeadsTo board key vertex.next) (same_some vertex.key k (sym vertex.stands ∙ at))
-      vertex.leads_to in
+      subst (λ key. LeadsTo board key vertex.next) (same_some vertex.key k (sym vertex.stands ∙ at)) vertex.leads_to in
       let one : (u : ℕ) → StandsAt keys u l → u ≡ w = λ u is. same_place u w l is there in (
         within,
         decided (successors_of game v) (λ none. leads vertex.next from
@@ -146,8 +145,7 @@ module _ (board : Board) (mover : ℕ) (keys : List Key) (game : ParityGame) (ce
       let c = leads.1.complete z move in
       let same : pair z ≡ pair y = ap₂ (λ a b. First a b) least.here.1.state least.here.1.priority in
       none (subst (λ l. Contains l (pair y)) (sym leads.2) (subst (λ k. Contains (map pair leads.0) k) same
-      (map_contains pair leads.0 c.0 z c.1 c.2))))
-      y itself)
+      (map_contains pair leads.0 c.0 z c.1 c.2)))) y itself)
 
   pub first_owner : (v q p : ℕ) → StandsAt keys v (First q p) → owner_of game v ≡ mover
   first_owner v q p at = owner_at v (First q p) at
@@ -186,8 +184,7 @@ module _ (board : Board) (mover : ℕ) (keys : List Key) (game : ParityGame) (ce
       let pair : First (board.auto.next q (x + letter)) (board.auto.priority q (x + letter)) ≡ First
       (board.auto.next q (steps.class + letter)) (board.auto.priority q (steps.class + letter)) =
       ap₂ (λ a b. First a b) same.state same.priority in
-      let entered : steps.chosen ≡ w =
-      same_place steps.chosen w (First (board.auto.next q (steps.class + letter))
+      let entered : steps.chosen ≡ w = same_place steps.chosen w (First (board.auto.next q (steps.class + letter))
       (board.auto.priority q (steps.class + letter))) goes_there.stands
       (subst (λ k. StandsAt keys w k) pair goes.stands) in
       let choice : choice_of certificate steps.at ≡ Some w = steps.choice ∙ ap (λ n. Some n) entered in

@@ -89,8 +89,7 @@ module _ (game : ParityGame) (f : ℕ → ℕ) (edge : (k : ℕ) → HasEdge gam
         begins = omega (arith, long);
         vertices =
             λ k within. subst (λ v. v < vertex_count game) (sym (there k (omega (arith, long, within)))) (edge k).0;
-        edges = λ k within.
-            subst (λ v. HasEdge game v (slice_index (list_of f (suc n)) (k + 1)))
+        edges = λ k within. subst (λ v. HasEdge game v (slice_index (list_of f (suc n)) (k + 1)))
             (sym (there k (omega (arith, long, within))))
             (subst (λ w. HasEdge game (f k) w) (sym (next_there k (omega (arith, long, within)))) (edge k));
       }
@@ -131,10 +130,10 @@ pub record IsEndless (m : Behaviour) (w memories : ℕ → ℕ) : Type 0 where
   pub begins : memories 0 ≡ 0
   pub makes : (t : ℕ) → Makes m (memories t) (w t) (memories (suc t))
 
-module _ (board : Board) (mover : ℕ) (keys : List Key) (game : ParityGame) (certificate : CertificateData)
+module _ {board : Board} {mover : ℕ} {keys : List Key} {game : ParityGame} {certificate : CertificateData}
     (s : Setting board mover keys game certificate) (m : Behaviour)
-    (made : IsMachineOf board mover keys game certificate m)
-    (others : (x : ℕ) → IsInput m x → IsOther m.is_first board x) where
+    (made : IsMachineOf board mover keys game certificate m) (others : (x : ℕ) → IsInput m x →
+    IsOther m.is_first board x) where
   won_along : (v w : ℕ) → winner_of certificate v ≡ winner certificate → HasEdge game v w →
       (owner_of game v ≡ winner certificate → choice_of certificate v ≡ Some w) →
       winner_of certificate w ≡ winner certificate
@@ -142,24 +141,20 @@ module _ (board : Board) (mover : ℕ) (keys : List Key) (game : ParityGame) (ce
       s.valid.closed.stays v w (record { edge = edge; chosen = λ o. chosen (o ∙ here) }) ∙ here
 
   small_winner : winner certificate < 2
-  small_winner =
-      s.fits.winners 0 (within_game board mover keys game certificate s 0 (First board.auto.start 0) s.by_keys.begins)
+  small_winner = s.fits.winners 0 (within_game s 0 (First board.auto.start 0) s.by_keys.begins)
 
   round_by : (first : Bool) → first ≡ (mover == winner certificate) → (v u q p x letter w : ℕ) →
       (first ≡ true → u ≡ v) → winner_of certificate v ≡ winner certificate → StandsAt keys v (First q p) →
       IsPlayed first board keys certificate u q x letter → IsOther first board x → GoesTo keys board q (x + letter) w →
       Round game certificate v w
   round_by true is v u q p x letter w same here at played other goes =
-      round_first board mover keys game certificate s v q p x letter w (eqb-true mover (winner certificate) (sym is))
+      round_first s v q p x letter w (eqb-true mover (winner certificate) (sym is))
       here at (subst (λ n. IsPlayed true board keys certificate n q x letter) (same refl) played) other goes
   round_by false is v u q p x letter w same here at played other goes =
       let loses = eqb-false mover (winner certificate) (sym is) in
-      let edge =
-      to_class board mover keys game certificate s v played.at q p played.class at played.stands played.is_class in
-      let won =
-      won_along v played.at here edge (λ o. absurd (loses (sym
-      (first_owner board mover keys game certificate s v q p at) ∙ o))) in
-      round_second board mover keys game certificate s v u q p x letter w loses small_winner at played won goes
+      let edge = to_class s v played.at q p played.class at played.stands played.is_class in
+      let won = won_along v played.at here edge (λ o. absurd (loses (sym (first_owner s v q p at) ∙ o))) in
+      round_second s v u q p x letter w loses small_winner at played won goes
 
   record Next (memory v q x : ℕ) : Type 0 where
     pub vertex : ℕ
@@ -184,8 +179,7 @@ module _ (board : Board) (mover : ℕ) (keys : List Key) (game : ParityGame) (ce
       subst (λ n. IsPlayed m.is_first board keys certificate step.vertex n x letter) state step.played in
       let goes : GoesTo keys board q (x + letter) step.entered =
       subst (λ n. GoesTo keys board n (x + letter) step.entered) state step.goes in
-      let round =
-      round_by m.is_first made.is_first v step.vertex q p x letter step.entered
+      let round = round_by m.is_first made.is_first v step.vertex q p x letter step.entered
       (same_vertex m.is_first keys made.kept memory v q step.vertex f step.is_kept) here at played
       (others x input) goes in
       record {
@@ -208,8 +202,7 @@ module _ (board : Board) (mover : ℕ) (keys : List Key) (game : ParityGame) (ce
     priority = 0;
     here =
         record {
-          used = used_first game certificate (within_game board mover keys game certificate s 0
-              (First board.auto.start 0) s.by_keys.begins);
+          used = used_first game certificate (within_game s 0 (First board.auto.start 0) s.by_keys.begins);
           stands = s.by_keys.begins;
         };
     least = λ w r p less. absurd (omega (arith, less));
@@ -245,8 +238,7 @@ module _ (board : Board) (mover : ℕ) (keys : List Key) (game : ParityGame) (ce
         let a = board.auto in
         let makes = e.makes t in
         let q = state_at a w t in
-        let n =
-        next_vertex (memories t) now.vertex q (entering a w t) makes.input now.stands now.at_memory now.won
+        let n = next_vertex (memories t) now.vertex q (entering a w t) makes.input now.stands now.at_memory now.won
         makes.is_input in
         let letter : makes.input + m.plays (memories t) makes.input ≡ w t = sym makes.joined in
         record {
@@ -266,15 +258,14 @@ module _ (board : Board) (mover : ℕ) (keys : List Key) (game : ParityGame) (ce
     walk zero = record {
       vertex = 0;
       stands = s.by_keys.begins;
-      at_memory = subst (λ k. StandsFor m.is_first keys made.kept k 0 board.auto.start) (sym e.begins)
-          (record {
-            vertex = 0;
-            state = board.auto.start;
-            priority = 0;
-            is_kept = memory_of_start;
-            stands = s.by_keys.begins;
-            shares = start_shares m.is_first;
-          });
+      at_memory = subst (λ k. StandsFor m.is_first keys made.kept k 0 board.auto.start) (sym e.begins) (record {
+        vertex = 0;
+        state = board.auto.start;
+        priority = 0;
+        is_kept = memory_of_start;
+        stands = s.by_keys.begins;
+        shares = start_shares m.is_first;
+      });
       won = refl;
     }
     walk (suc t) = (advance t (walk t)).next
@@ -330,7 +321,7 @@ module _ (board : Board) (mover : ℕ) (keys : List Key) (game : ParityGame) (ce
     entered_priority : (t : ℕ) → priority_of_vertex (suc t) ≡ priority_at board.auto w t
     unfolding priority_of_vertex vertex_at entering
     entered_priority t =
-        priority_here board mover keys game certificate s (vertex_at (suc t))
+        priority_here s (vertex_at (suc t))
         (First (state_at board.auto w (suc t)) (entering board.auto w (suc t))) (walk (suc t)).stands
 
     -- ## Parts that return
@@ -342,8 +333,7 @@ module _ (board : Board) (mover : ℕ) (keys : List Key) (game : ParityGame) (ce
           let a = board.auto in
           let here = walk from in
           let there = walk (from + count) in
-          let f =
-          subst (λ k. StandsFor m.is_first keys made.kept k there.vertex (state_at a w (from + count))) back
+          let f = subst (λ k. StandsFor m.is_first keys made.kept k there.vertex (state_at a w (from + count))) back
           there.at_memory in
           let h = here.at_memory in
           let kept_state : h.state ≡ state_at a w from =
@@ -365,7 +355,7 @@ module _ (board : Board) (mover : ℕ) (keys : List Key) (game : ParityGame) (ce
           = ap₂ first_key state_returns again in
           let there : StandsAt keys (vertex_at (suc (from + count))) (first_key (state_at a w from) (w from)) =
           subst (λ k. StandsAt keys (vertex_at (suc (from + count))) k) same (walk (suc (from + count))).stands in
-          ap vertex_at (sym place_is) ∙ same_place board mover keys game certificate s (vertex_at (suc (from + count)))
+          ap vertex_at (sym place_is) ∙ same_place s (vertex_at (suc (from + count)))
           (vertex_at (suc from)) (first_key (state_at a w from) (w from)) there (walk (suc from)).stands
 
       path : List ℕ

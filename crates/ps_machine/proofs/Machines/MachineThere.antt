@@ -71,8 +71,7 @@ module _ (game : ParityGame) (certificate : CertificateData) (valid : IsValid ga
       by own None e = (old, adds_no_move game certificate v old own e)
       by own (Some chosen) e = (
         insert_key nat_eq old chosen,
-        adds_move game certificate v chosen old (insert_key nat_eq old chosen) valid
-            used own e refl,
+        adds_move game certificate v chosen old (insert_key nat_eq old chosen) valid used own e refl,
       )
 
   search_on : (fuel turn : ℕ) (found : List ℕ) → IsSearched game certificate found turn →
@@ -151,19 +150,17 @@ module _ (is_first : Bool) (keys : List Key) (used : List ℕ) where
 
 -- ## Rows
 
-module _ (board : Board) (mover : ℕ) (keys : List Key) (game : ParityGame) (certificate : CertificateData)
+module _ {board : Board} {mover : ℕ} {keys : List Key} {game : ParityGame} {certificate : CertificateData}
     (s : Setting board mover keys game certificate) where
   edge_within : (v w : ℕ) → HasEdge game v w → w < vertex_count game
   edge_within v w edge =
       let at = s.by_keys.vertices v edge.0 in
-      let below =
-      All-contains (λ u. u < length keys) (successors_of game v) w
+      let below = All-contains (λ u. u < length keys) (successors_of game v) w
       (stand-within keys (successors_of game v) at.next at.successors) edge.1 in
       omega (arith, below, s.by_keys.count)
 
   small_winner : winner certificate < 2
-  small_winner =
-      s.fits.winners 0 (within_game board mover keys game certificate s 0 (First board.auto.start 0) s.by_keys.begins)
+  small_winner = s.fits.winners 0 (within_game s 0 (First board.auto.start 0) s.by_keys.begins)
 
   module _ (used : List ℕ) (are_used : AreUsed game certificate used) (kept marks : List ℕ) where
     record HasRow (is_first : Bool) (v q x : ℕ) : Type 0 where
@@ -176,12 +173,10 @@ module _ (board : Board) (mover : ℕ) (keys : List Key) (game : ParityGame) (ce
         StandsAt keys v (First q p) → IsUsed game certificate v → IsSecondLetter board x → HasRow true v q x
     row_first turn m v q p x stands is_used second =
         let wins : mover ≡ winner certificate = eqb-true mover (winner certificate) (sym turn) in
-        let chosen =
-        move_at board mover keys game certificate s v (First q p) stands is_used
-        (first_owner board mover keys game certificate s v q p stands ∙ wins) in
-        let c = class_at board mover keys game certificate s v chosen.chosen q p stands chosen.edge in
+        let chosen = move_at s v (First q p) stands is_used (first_owner s v q p stands ∙ wins) in
+        let c = class_at s v chosen.chosen q p stands chosen.edge in
         let move = move_there board q c.letter x second in
-        let to = to_pair_of board mover keys game certificate s chosen.chosen q c.letter move.0 c.stands move.1 in
+        let to = to_pair_of s chosen.chosen q c.letter move.0 c.stands move.1 in
         let sum : c.letter + x ≡ x + c.letter = omega arith in
         let state : board.auto.next q (c.letter + move.0) ≡ board.auto.next q (x + c.letter) = move.2.state
         ∙ ap (board.auto.next q) sum in
@@ -190,15 +185,12 @@ module _ (board : Board) (mover : ℕ) (keys : List Key) (game : ParityGame) (ce
         let there : StandsAt keys to.vertex (First (board.auto.next q (x + c.letter))
         (board.auto.priority q (x + c.letter))) = subst (StandsAt keys to.vertex)
         (ap₂ (λ a b. First a b) state priority) to.stands in
-        let other : owner_of game chosen.chosen ≡ 1 - mover =
-        second_owner board mover keys game certificate s chosen.chosen q c.letter c.stands in
-        let next_used : IsUsed game certificate to.vertex =
-        used_more game certificate chosen.chosen to.vertex chosen.used to.edge
+        let other : owner_of game chosen.chosen ≡ 1 - mover = second_owner s chosen.chosen q c.letter c.stands in
+        let next_used : IsUsed game certificate to.vertex = used_more to.vertex chosen.used to.edge
         (edge_within chosen.chosen to.vertex to.edge)
         (λ own. absurd (let mine : 1 - mover ≡ mover = sym other ∙ own ∙ sym wins in omega (arith, mine, s.is_mover)))
         in
-        let next =
-        memory_of true keys used kept marks m to.vertex (board.auto.next q (x + c.letter))
+        let next = memory_of true keys used kept marks m to.vertex (board.auto.next q (x + c.letter))
         (board.auto.priority q (x + c.letter)) s.by_keys.different ((are_used to.vertex).1 next_used) there in
         record {
           row = record { memory = next.0; letter = c.letter };
@@ -217,16 +209,14 @@ module _ (board : Board) (mover : ℕ) (keys : List Key) (game : ParityGame) (ce
     row_second turn m v q p x stands is_used first =
         let loses : mover ≢ winner certificate = eqb-false mover (winner certificate) (sym turn) in
         let class = class_there board q x first in
-        let to = to_class_of board mover keys game certificate s v q p class.0 stands class.1 in
+        let to = to_class_of s v q p class.0 stands class.1 in
         let to_used : IsUsed game certificate to.vertex =
-        used_more game certificate v to.vertex is_used to.edge (edge_within v to.vertex to.edge)
-        (λ own. absurd (loses (sym (first_owner board mover keys game certificate s v q p stands) ∙ own))) in
-        let owner = second_owner board mover keys game certificate s to.vertex q class.0 to.stands in
-        let chosen =
-        move_at board mover keys game certificate s to.vertex (Second q class.0) to.stands to_used
+        used_more to.vertex is_used to.edge (edge_within v to.vertex to.edge)
+        (λ own. absurd (loses (sym (first_owner s v q p stands) ∙ own))) in
+        let owner = second_owner s to.vertex q class.0 to.stands in
+        let chosen = move_at s to.vertex (Second q class.0) to.stands to_used
         (omega (arith, owner, loses, small_winner, s.is_mover)) in
-        let move =
-        move_to board mover keys game certificate s to.vertex chosen.chosen q class.0 to.stands chosen.edge in
+        let move = move_to s to.vertex chosen.chosen q class.0 to.stands chosen.edge in
         let letter = move.letter in
         let own : IsSecondLetter board letter = move.is_move.here.0 in
         let same : SameStep board q (x + letter) (class.0 + letter) = class.2 letter own in
@@ -234,8 +224,7 @@ module _ (board : Board) (mover : ℕ) (keys : List Key) (game : ParityGame) (ce
         (board.auto.priority q (x + letter))) =
         subst (StandsAt keys chosen.chosen) (ap₂ (λ a b. First a b) (sym same.state) (sym same.priority))
         move.goes.stands in
-        let next =
-        memory_of false keys used kept marks m chosen.chosen (board.auto.next q (x + letter))
+        let next = memory_of false keys used kept marks m chosen.chosen (board.auto.next q (x + letter))
         (board.auto.priority q (x + letter)) s.by_keys.different ((are_used chosen.chosen).1 chosen.used) there in
         record {
           row = record { memory = next.0; letter = letter };
@@ -282,8 +271,7 @@ listed_there is zero = ([], listed_none is)
 listed_there is (suc n) = (let l = listed_there is n in elim (cases_Bool (is n)) [
   | inl here ↦ (
     l.0 ++ n ∷ [],
-    subst (λ k. AreListedBelow k is (l.0 ++ n ∷ [])) (add-one n)
-        (listed_with n is l.0 (l.0 ++ n ∷ []) here refl l.1),
+    subst (λ k. AreListedBelow k is (l.0 ++ n ∷ [])) (add-one n) (listed_with n is l.0 (l.0 ++ n ∷ []) here refl l.1),
   )
   | inr isnt ↦ (l.0, subst (λ k. AreListedBelow k is l.0) (add-one n) (listed_without n is l.0 l.0 isnt refl l.1))
 ])
@@ -330,8 +318,7 @@ module _ (names : List (List ℕ)) (board : Board) (mover : ℕ) (keys : List Ke
     row_at : (memory z : ℕ) → memory < length kept → (row : Row) × IsRowOf memory (read z) row
     row_at memory z within =
         let here = m.each memory within in
-        let r =
-        row_there board mover keys game certificate setting used are_used kept marks first turn m
+        let r = row_there setting used are_used kept marks first turn m
         (get_or kept memory 0) here.state here.priority (read z) here.stands
         ((are_used (get_or kept memory 0)).0 here.is_used) (read_other z) in (
           r.row,
@@ -428,10 +415,10 @@ module _ (names : List (List ℕ)) (board : Board) (mover : ℕ) (keys : List Ke
       apart =
           λ p among. (let less = inputs.1.within p among in outputs.1.are p less
           ∙ ap not (sym (inputs.1.are p less) ∙ among));
-      player = small_winner board mover keys game certificate setting;
+      player = small_winner setting;
       some =
           some_kept first keys used kept marks m 0 board.auto.start setting.by_keys.begins
-          ((are_used 0).1 (used_first game certificate (within_game board mover keys game certificate setting 0
+          ((are_used 0).1 (used_first game certificate (within_game setting 0
           (First board.auto.start 0) setting.by_keys.begins)));
       next_within = λ memory x within. (row_right memory x within).within;
       plays_own = λ memory x within. outputs_only (row memory x).letter (row_right memory x within).own;
@@ -489,8 +476,8 @@ pub machine_there : (names : List (List ℕ)) (board : Board) (mover : ℕ) (key
 machine_there names board mover keys game certificate few are_names as_many small is fits valid =
     let s : Setting board mover keys game certificate =
     record { is_mover = small; by_keys = is.by_keys; fits = fits; valid = valid } in
-    let some = within_game board mover keys game certificate s 0 (First board.auto.start 0) s.by_keys.begins in
-    let used = used_there game certificate valid (edge_within board mover keys game certificate s) some in
+    let some = within_game s 0 (First board.auto.start 0) s.by_keys.begins in
+    let used = used_there game certificate valid (edge_within s) some in
     let first = mover == winner certificate in
     let memories = memories_there first keys used.0 in
     machine names board mover keys game certificate few are_names as_many s first refl used.0 used.1 memories.0

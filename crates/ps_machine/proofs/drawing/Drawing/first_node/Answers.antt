@@ -27,8 +27,7 @@ rest_of-rest-requires c =
     let plays = c.letter_at-letter.ensures q c.requires.stands.0 at in
     let of = classes_at (get nat_eq p.divided.now.classes q) (AreClassesOf a mask t q) c.of.result.now
     (c.requires.divided.each c.args.vertex q c.requires.stands.0 at) c.of.ensures in
-    class_listed p.order a p.keys.now.keys p.certificate.now p.moves_first p.memories.now.kept.items
-    p.memories.now.marks.keys c.requires.plan c.requires.turn mask t c.args.vertex q c.of.result.now
+    class_listed c.requires.plan c.requires.turn mask t c.args.vertex q c.of.result.now
     c.deref.result.now letter plays c.requires.divided.fit of c.deref.ensures.value
 
 pub leaves-requires : goal.leaves-requires
@@ -44,10 +43,8 @@ leaves-requires c =
     let of = classes_at (get nat_eq p.divided.now.classes q) (AreClassesOf a mask t q) c.of.result.now
     (c.requires.divided.each c.args.vertex q c.requires.stands.0 at) c.of.ensures in
     let rest = c.rest_of-rest.result in
-    let l = left_behind p.order a p.keys.now.keys p.certificate.now p.moves_first p.memories.now.kept.items
-    p.memories.now.marks.keys c.requires.plan c.requires.turn mask t c.args.vertex q c.of.result.now
-    c.deref.result.now letter plays c.requires.divided.fit of c.deref.ensures.value rest
-    c.rest_of-rest.ensures in
+    let l = left_behind c.requires.plan c.requires.turn mask t c.args.vertex q c.of.result.now
+    c.deref.result.now letter plays c.requires.divided.fit of c.deref.ensures.value rest c.rest_of-rest.ensures in
     record { held = l.is_rest.held }
 
 pub place_rows-requires-clause-entered : goal.place_rows-requires-clause-entered
@@ -63,14 +60,11 @@ place_rows-requires-clause-entered c =
     let of = classes_at (get nat_eq p.divided.now.classes q) (AreClassesOf a mask t q) c.of.result.now
     (c.requires.divided.each c.args.vertex q c.requires.stands.0 at) c.of.ensures in
     let rest = c.rest_of-rest.result in
-    let l = left_behind p.order a p.keys.now.keys p.certificate.now p.moves_first p.memories.now.kept.items
-    p.memories.now.marks.keys c.requires.plan c.requires.turn mask t c.args.vertex q c.of.result.now
-    c.deref.result.now letter plays c.requires.divided.fit of c.deref.ensures.value rest
-    c.rest_of-rest.ensures in
+    let l = left_behind c.requires.plan c.requires.turn mask t c.args.vertex q c.of.result.now
+    c.deref.result.now letter plays c.requires.divided.fit of c.deref.ensures.value rest c.rest_of-rest.ensures in
     let found = c.deref-2.result.now in
     let are = subst (λ (f : List (ℕ × ℕ)). AreLeaves t rest f) (sym c.deref-2.ensures.value) c.in_ok-leaves.ensures in
-    entered p.order a p.keys.now.keys p.certificate.now p.moves_first p.memories.now.kept.items
-    p.memories.now.marks.keys c.requires.plan c.requires.turn mask t c.args.vertex q c.requires.stands.0 letter
+    entered c.requires.plan c.requires.turn mask t c.args.vertex q c.requires.stands.0 letter
     rest found c.requires.kept at plays l are
 
 pub place_rows-requires-clause-own : goal.place_rows-requires-clause-own
@@ -93,10 +87,8 @@ relabel_from-requires-clause-held c =
     let of = classes_at (get nat_eq p.divided.now.classes q) (AreClassesOf a mask t q) c.of.result.now
     (c.requires.divided.each c.args.vertex q c.requires.stands.0 at) c.of.ensures in
     let rest = c.rest_of-rest.result in
-    let l = left_behind p.order a p.keys.now.keys p.certificate.now p.moves_first p.memories.now.kept.items
-    p.memories.now.marks.keys c.requires.plan c.requires.turn mask t c.args.vertex q c.of.result.now
-    c.deref.result.now letter plays c.requires.divided.fit of c.deref.ensures.value rest
-    c.rest_of-rest.ensures in
+    let l = left_behind c.requires.plan c.requires.turn mask t c.args.vertex q c.of.result.now
+    c.deref.result.now letter plays c.requires.divided.fit of c.deref.ensures.value rest c.rest_of-rest.ensures in
     l.is_rest.held
 
 pub relabel_from-requires-clause-within : goal.relabel_from-requires-clause-within
@@ -112,16 +104,13 @@ relabel_from-requires-clause-within c =
     let of = classes_at (get nat_eq p.divided.now.classes q) (AreClassesOf a mask t q) c.of.result.now
     (c.requires.divided.each c.args.vertex q c.requires.stands.0 at) c.of.ensures in
     let rest = c.rest_of-rest.result in
-    let l = left_behind p.order a p.keys.now.keys p.certificate.now p.moves_first p.memories.now.kept.items
-    p.memories.now.marks.keys c.requires.plan c.requires.turn mask t c.args.vertex q c.of.result.now
-    c.deref.result.now letter plays c.requires.divided.fit of c.deref.ensures.value rest
-    c.rest_of-rest.ensures in
+    let l = left_behind c.requires.plan c.requires.turn mask t c.args.vertex q c.of.result.now
+    c.deref.result.now letter plays c.requires.divided.fit of c.deref.ensures.value rest c.rest_of-rest.ensures in
     let found = c.deref-2.result.now in
     let are = subst (λ (f : List (ℕ × ℕ)). AreLeaves t rest f) (sym c.deref-2.ensures.value) c.in_ok-leaves.ensures in
     let w = c.place_rows.new.self in
     renamed_within t w.places.items c.deref-3.result.now rest c.deref-3.ensures.value
-    (all_noted p.order a p.keys.now.keys p.certificate.now p.moves_first p.memories.now.kept.items
-    p.memories.now.marks.keys c.requires.plan c.requires.turn mask t c.args.vertex q c.requires.stands.0 letter
+    (all_noted c.requires.plan c.requires.turn mask t c.args.vertex q c.requires.stands.0 letter
     rest found w.rows.keys w.places.items c.requires.kept at plays l are c.in_ok-place_rows.ensures.placed)
 
 pub returns-clause-keeps : goal.returns-clause-keeps
@@ -141,19 +130,15 @@ returns-clause-drawn c =
     let of = classes_at (get nat_eq p.divided.now.classes q) (AreClassesOf a mask t q) c.of.result.now
     (c.requires.divided.each c.args.vertex q c.requires.stands.0 at) c.of.ensures in
     let rest = c.rest_of-rest.result in
-    let l = left_behind p.order a p.keys.now.keys p.certificate.now p.moves_first p.memories.now.kept.items
-    p.memories.now.marks.keys c.requires.plan c.requires.turn mask t c.args.vertex q c.of.result.now
-    c.deref.result.now letter plays c.requires.divided.fit of c.deref.ensures.value rest
-    c.rest_of-rest.ensures in
+    let l = left_behind c.requires.plan c.requires.turn mask t c.args.vertex q c.of.result.now
+    c.deref.result.now letter plays c.requires.divided.fit of c.deref.ensures.value rest c.rest_of-rest.ensures in
     let found = c.deref-2.result.now in
     let are = subst (λ (f : List (ℕ × ℕ)). AreLeaves t rest f) (sym c.deref-2.ensures.value) c.in_ok-leaves.ensures in
     let w = c.place_rows.new.self in
     let u = c.relabel_from.new.self in
     both_ok _ _ (λ made. IsDrawn p.moves_first (board_of p.order a) p.keys.now.keys p.memories.now.kept.items
     p.certificate.now u w.rows.keys c.args.vertex made) c.relabel_from.result c.relabel_from.ensures.held
-    c.relabel_from.ensures.leaf
-    (λ made held named. drawn_first p.order a p.keys.now.keys p.certificate.now p.moves_first
-    p.memories.now.kept.items p.memories.now.marks.keys c.requires.plan c.requires.turn mask t c.args.vertex q
+    c.relabel_from.ensures.leaf (λ made held named. drawn_first c.requires.plan c.requires.turn mask t c.args.vertex q
     c.requires.stands.0 letter rest found w.rows.keys w.places.items c.requires.kept at plays l are
     c.in_ok-place_rows.ensures.placed u made held
     (renamed t u w.places.items c.deref-3.result.now rest made c.deref-3.ensures.value named))

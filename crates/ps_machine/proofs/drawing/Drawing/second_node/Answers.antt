@@ -22,9 +22,7 @@ of-classes-requires c = is_divided (get nat_eq c.args.plan.now.divided.now.class
 pub rows_of_classes-requires-clause-entered : goal.rows_of_classes-requires-clause-entered
 rows_of_classes-requires-clause-entered c =
     let plan = c.args.plan.now in
-    let used =
-    kept_used plan.order plan.automaton.now plan.keys.now.keys plan.certificate.now plan.moves_first
-    plan.memories.now.kept.items plan.memories.now.marks.keys c.requires.plan c.args.vertex c.requires.kept in (
+    let used = kept_used c.requires.plan c.args.vertex c.requires.kept in (
       c.requires.stands.0,
       record {
         plan = c.requires.plan;
@@ -61,8 +59,7 @@ rows_of_classes-requires-clause-rests c =
     (λ i x within. (
       d.mask,
       d.fit,
-      class_rests plan.order a d.mask t d.fit q k.places k.list.items of.state of.are
-          i x within,
+      class_rests plan.order a d.mask t d.fit q k.places k.list.items of.state of.are i x within,
     ))
 
 pub relabel_from-requires-clause-held : goal.relabel_from-requires-clause-held
@@ -91,8 +88,7 @@ relabel_from-requires-clause-within c letter within =
     let kept = plan.memories.now.kept.items in
     let rows = c.rows_of_classes.new.self.rows.keys in
     let N = Names (board_of plan.order a) keys kept plan.certificate.now q rows in
-    let named =
-    subst (λ (l : List Class). AllZip N l c.deref-2.result.now) c.deref.ensures.value
+    let named = subst (λ (l : List Class). AllZip N l c.deref-2.result.now) c.deref.ensures.value
     (subst (λ (v : List ℕ). AllZip N c.deref.result.now v) (sym c.deref-2.ensures.value)
     c.in_ok-values.ensures.values) in
     places_within plan.order a d.mask t keys kept plan.certificate.now rows q k.places k.list.items
@@ -116,8 +112,7 @@ returns-clause-drawn c =
     let kept = plan.memories.now.kept.items in
     let rows = c.rows_of_classes.new.self.rows.keys in
     let N = Names (board_of plan.order a) keys kept plan.certificate.now q rows in
-    let named =
-    subst (λ (l : List Class). AllZip N l c.deref-2.result.now) c.deref.ensures.value
+    let named = subst (λ (l : List Class). AllZip N l c.deref-2.result.now) c.deref.ensures.value
     (subst (λ (v : List ℕ). AllZip N c.deref.result.now v) (sym c.deref-2.ensures.value)
     c.in_ok-values.ensures.values) in
     let u = c.relabel_from.new.self in
