@@ -64,11 +64,11 @@ has_mark marks memory mark at =
     (eq-eqb mark (get_or marks memory mark) (sym (get_or_from_slice_get marks memory mark mark at)))
 
 -- a memory with the mark of a vertex stands for it
-pub stands_for : (is_first : Bool) (keys : List Key) (used kept marks : List ℕ) (memory v q p : ℕ) →
+pub stands_for : {is_first : Bool} {keys : List Key} {used kept marks : List ℕ} (memory v q p : ℕ) →
     AllPairs (λ x y. x ≢ y) keys → AreMemories is_first keys used kept marks → StandsAt keys v (First q p) →
     slice_get marks memory ≡ Some (mark_of is_first v q) → (w : ℕ) → StandsAt keys w (First q p) →
     StandsFor is_first keys kept memory w q
-stands_for is_first keys used kept marks memory v q p differ m at is w there =
+stands_for {is_first} {keys} {kept} {marks} memory v q p differ m at is w there =
     let within : memory < length kept =
     omega (arith, slice_get_within marks memory (mark_of is_first v q) is, m.many) in
     let here = m.each memory within in
@@ -82,7 +82,7 @@ stands_for is_first keys used kept marks memory v q p differ m at is w there =
     }
   where
     by : (b : Bool) (u r : ℕ) → Some (mark_of b u r) ≡ Some (mark_of b v q) → Shares b u r w q
-    by true u r e = some_nat u v e ∙ one_place keys differ v w (First q p) at there
+    by true u r e = some_nat u v e ∙ one_place keys differ v w at there
     by false u r e = some_nat r q e
 
 -- ## Used vertices
@@ -157,10 +157,10 @@ pub record Chosen (game : ParityGame) (certificate : CertificateData) (v : ℕ) 
 
 module _ {board : Board} {mover : ℕ} {keys : List Key} {game : ParityGame} {certificate : CertificateData}
     (s : Setting board mover keys game certificate) where
-  pub move_at : (v : ℕ) (k : Key) → StandsAt keys v k → IsUsed game certificate v →
+  pub move_at : {v : ℕ} {k : Key} → StandsAt keys v k → IsUsed game certificate v →
       owner_of game v ≡ winner certificate → Chosen game certificate v
-  move_at v k at used own =
-      let within = within_game s v k at in
+  move_at {v} {k} at used own =
+      let within = within_game s v at in
       let won = used_won s.valid.closed used in
       let there =
       some_and (choice_of certificate v) (HasEdge game v) ((s.valid.closed.moves v within).own (own ∙ sym won)) in
@@ -177,14 +177,14 @@ module _ {board : Board} {mover : ℕ} {keys : List Key} {game : ParityGame} {ce
   next_keys : (v : ℕ) (k : Key) → StandsAt keys v k → (next : List Key) × LeadsTo board k next ×
       AllZip (StandsAt keys) (successors_of game v) next
   next_keys v k at =
-      let vertex = s.by_keys.vertices v (within_game s v k at) in (
+      let vertex = s.by_keys.vertices v (within_game s v at) in (
         vertex.next,
         subst (λ l. LeadsTo board l vertex.next) (same_some vertex.key k (sym vertex.stands ∙ at)) vertex.leads_to,
         vertex.successors,
       )
 
-  pub class_at : (v w q p : ℕ) → StandsAt keys v (First q p) → HasEdge game v w → ClassAt board keys q w
-  class_at v w q p at edge =
+  pub class_at : (v w : ℕ) {q p : ℕ} → StandsAt keys v (First q p) → HasEdge game v w → ClassAt board keys q w
+  class_at v w {q} {p} at edge =
       let n = next_keys v (First q p) at in
       let leads = n.1 in
       let c = edge.1 in
@@ -201,8 +201,8 @@ module _ {board : Board} {mover : ℕ} {keys : List Key} {game : ParityGame} {ce
         stands = subst (λ u. StandsAt keys u (key x)) c.2 (here.1 ∙ ap (λ k. Some k) is);
       }
 
-  pub move_to : (v w q x : ℕ) → StandsAt keys v (Second q x) → HasEdge game v w → MoveTo board keys q x w
-  move_to v w q x at edge =
+  pub move_to : (v w : ℕ) {q x : ℕ} → StandsAt keys v (Second q x) → HasEdge game v w → MoveTo board keys q x w
+  move_to v w {q} {x} at edge =
       let n = next_keys v (Second q x) at in
       let leads = n.1 in
       let c = edge.1 in
@@ -220,8 +220,9 @@ module _ {board : Board} {mover : ℕ} {keys : List Key} {game : ParityGame} {ce
       }
 
   -- the vertex of a class of the state
-  pub to_class_of : (v q p x : ℕ) → StandsAt keys v (First q p) → IsClass board q x → Leads keys game v (Second q x)
-  to_class_of v q p x at is =
+  pub to_class_of : (v : ℕ) {q p x : ℕ} → StandsAt keys v (First q p) → IsClass board q x →
+      Leads keys game v (Second q x)
+  to_class_of v {q} {p} {x} at is =
       let n = next_keys v (First q p) at in
       let leads = n.1 in
       let c = leads.1.complete x is in
@@ -230,14 +231,14 @@ module _ {board : Board} {mover : ℕ} {keys : List Key} {game : ParityGame} {ce
       let there = zip_vertex keys (successors_of game v) n.0 (key x) n.2 m.0 m.1 m.2 in
       record {
         vertex = there.0;
-        edge = (within_game s v (First q p) at, there.1);
+        edge = (within_game s v at, there.1);
         stands = there.2;
       }
 
   -- the vertex of the pair to which a move leads
-  pub to_pair_of : (v q x y : ℕ) → StandsAt keys v (Second q x) → IsMove board q x y →
+  pub to_pair_of : (v : ℕ) {q : ℕ} (x y : ℕ) → StandsAt keys v (Second q x) → IsMove board q x y →
       Leads keys game v (First (board.auto.next q (x + y)) (board.auto.priority q (x + y)))
-  to_pair_of v q x y at is =
+  to_pair_of v {q} x y at is =
       let n = next_keys v (Second q x) at in
       let leads = n.1 in
       let c = leads.1.complete y is in
@@ -246,7 +247,7 @@ module _ {board : Board} {mover : ℕ} {keys : List Key} {game : ParityGame} {ce
       let there = zip_vertex keys (successors_of game v) n.0 (key y) n.2 m.0 m.1 m.2 in
       record {
         vertex = there.0;
-        edge = (within_game s v (Second q x) at, there.1);
+        edge = (within_game s v at, there.1);
         stands = there.2;
       }
 
@@ -294,7 +295,7 @@ module _ {order : Order} {a : AutomatonData} {keys : List Key} {certificate : Ce
   pub kept_entry : (v : ℕ) → Contains kept v → v < length certificate.entries
   kept_entry v c =
       let k = kept_at v c in
-      let small = within_game (setting plan) v (First k.state k.priority) k.stands in
+      let small = within_game (setting plan) v k.stands in
       omega (arith, small, plan.fits.entry_each)
 
   small_next : IsWhole a → (q letter : ℕ) → (step_of a q letter).state ≤ a.states
@@ -333,10 +334,10 @@ module _ {order : Order} {a : AutomatonData} {keys : List Key} {certificate : Ce
 
       behind_key : (x : ℕ) (k : Key) → StandsAt keys x k → HasEdge plan.game x v → q ≤ a.states
       behind_key x (First r o) there edge =
-          let c = class_at s x v r o there edge in
+          let c = class_at s x v there edge in
           absurd (not_both r c.letter q p (same_some (Second r c.letter) (First q p) (sym c.stands ∙ at)))
       behind_key x (Second r c) there edge =
-          let m = move_to s x v r c there edge in
+          let m = move_to s x v there edge in
           let same = one_state keys v _ _ q p m.goes.stands at in
           let small = small_next w r (c + m.letter) in
           omega (arith, same, small)
@@ -375,15 +376,15 @@ all_rows P eq old row new e all here =
 pub keeps_rows_same : (rows : List Row) → KeepsRows rows rows
 keeps_rows_same rows = record { same = λ leaf r is. is }
 
-pub keeps_rows_trans : (one two three : List Row) → KeepsRows one two → KeepsRows two three → KeepsRows one three
-keeps_rows_trans one two three k l = record { same = λ leaf r is. l.same leaf r (k.same leaf r is) }
+pub keeps_rows_trans : {one two three : List Row} → KeepsRows one two → KeepsRows two three → KeepsRows one three
+keeps_rows_trans k l = record { same = λ leaf r is. l.same leaf r (k.same leaf r is) }
 
 -- a diagram that was drawn stays so while others are made
-pub drawn_kept : (is_first : Bool) (board : Board) (keys : List Key) (kept : List ℕ) (certificate : CertificateData)
-    (t u : Table) (old new : List Row) (v node : ℕ) → Keeps t u → KeepsRows old new →
+pub drawn_kept : {is_first : Bool} {board : Board} {keys : List Key} {kept : List ℕ} {certificate : CertificateData}
+    {t u : Table} {old new : List Row} {v node : ℕ} → Keeps t u → KeepsRows old new →
     IsDrawn is_first board keys kept certificate t old v node →
     IsDrawn is_first board keys kept certificate u new v node
-drawn_kept is_first board keys kept certificate t u old new v node k rows d =
+drawn_kept {t} {u} {node} k rows d =
     let same : (x : ℕ) → leaf_of u node x ≡ leaf_of t node x = λ x. leaf_kept x in
     record {
       held = k.held node d.held;

@@ -27,11 +27,11 @@ use Rattle.ps_machine.proofs.Lassos.Walking.{state_returns, parity_of_part}
 use Rattle.ps_machine.proofs.Lassos.EndlessRuns.{memories_on, endless, memory_returns, letter_returns, letter_within}
 use Rattle.ps_machine.proofs.Lassos.EndlessRuns.{memories_of_lasso, reads_other}
 
-module _ (file : FileData) (chain : Chain) (a : AutomatonData) (order : Order) (keys : List Key) (game : ParityGame)
-    (certificate : CertificateData) (m : Behaviour)
-    (built : IsBuiltFrom file chain a) (is_game : IsGameOf (board_of order a) (mover_of order) keys game)
-    (fits : Fits game certificate) (valid : IsValid game certificate) (is_machine : IsMachine m)
-    (has : HasPropositions a.names (board_of order a) m) (made : IsMachineOf (board_of order a) (mover_of order) keys
+module _ {file : FileData} {chain : Chain} {a : AutomatonData} (order : Order) {keys : List Key} {game : ParityGame}
+    {certificate : CertificateData} {m : Behaviour} (built : IsBuiltFrom file chain a)
+    (is_game : IsGameOf (board_of order a) (mover_of order) keys game) (fits : Fits game certificate)
+    (valid : IsValid game certificate) (is_machine : IsMachine m) (has : HasPropositions a.names (board_of order a) m)
+    (made : IsMachineOf (board_of order a) (mover_of order) keys
     game certificate m) where
   setting : Setting (board_of order a) (mover_of order) keys game certificate
   setting = record { is_mover = small_mover order; by_keys = is_game.by_keys; fits = fits; valid = valid }

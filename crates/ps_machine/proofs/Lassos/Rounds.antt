@@ -20,9 +20,9 @@ use Rattle.ps_machine.proofs.LeastLetters.{none_without_least, contained_or_not}
 -- ## Keys
 
 -- a key stands at one place
-pub one_place : (keys : List Key) → AllPairs (λ x y. x ≢ y) keys → (v w : ℕ) (k : Key) → StandsAt keys v k →
+pub one_place : (keys : List Key) → AllPairs (λ x y. x ≢ y) keys → (v w : ℕ) {k : Key} → StandsAt keys v k →
     StandsAt keys w k → v ≡ w
-one_place keys differ v w k at there = by (cases_lt v w) (cases_lt w v)
+one_place keys differ v w {k} at there = by (cases_lt v w) (cases_lt w v)
   where
     at_place : (u : ℕ) → StandsAt keys u k → get_or keys u k ≡ k
     at_place u s = get_or_from_slice_get keys u k k s
@@ -73,31 +73,31 @@ pub record Round (game : ParityGame) (certificate : CertificateData) (v w : ℕ)
 
 module _ {board : Board} {mover : ℕ} {keys : List Key} {game : ParityGame} {certificate : CertificateData}
     (s : Setting board mover keys game certificate) where
-  pub within_game : (v : ℕ) (k : Key) → StandsAt keys v k → v < vertex_count game
-  within_game v k at = omega (arith, slice_get_within keys v k at, s.by_keys.count)
+  pub within_game : (v : ℕ) {k : Key} → StandsAt keys v k → v < vertex_count game
+  within_game v {k} at = omega (arith, slice_get_within keys v k at, s.by_keys.count)
 
-  pub same_place : (v w : ℕ) (k : Key) → StandsAt keys v k → StandsAt keys w k → v ≡ w
+  pub same_place : (v w : ℕ) {k : Key} → StandsAt keys v k → StandsAt keys w k → v ≡ w
   same_place = one_place keys s.by_keys.different
 
-  pub owner_at : (v : ℕ) (k : Key) → StandsAt keys v k → owner_of game v ≡ owner_of_key mover k
-  owner_at v k at =
-      let vertex = s.by_keys.vertices v (within_game v k at) in
+  pub owner_at : (v : ℕ) {k : Key} → StandsAt keys v k → owner_of game v ≡ owner_of_key mover k
+  owner_at v {k} at =
+      let vertex = s.by_keys.vertices v (within_game v at) in
       vertex.owner ∙ ap (owner_of_key mover) (same_some vertex.key k (sym vertex.stands ∙ at))
 
-  pub priority_here : (v : ℕ) (k : Key) → StandsAt keys v k → priority_of game v ≡ priority_of_key k
-  priority_here v k at =
-      let vertex = s.by_keys.vertices v (within_game v k at) in
+  pub priority_here : (v : ℕ) {k : Key} → StandsAt keys v k → priority_of game v ≡ priority_of_key k
+  priority_here v {k} at =
+      let vertex = s.by_keys.vertices v (within_game v at) in
       vertex.priority ∙ ap priority_of_key (same_some vertex.key k (sym vertex.stands ∙ at))
 
   -- an edge to the vertex of a key to which the key leads
   edge_by_key : (v w : ℕ) (k l : Key) → StandsAt keys v k → StandsAt keys w l →
       ((next : List Key) → LeadsTo board k next → (Contains next l → ⊥) → ⊥) → HasEdge game v w
   edge_by_key v w k l at there leads =
-      let within = within_game v k at in
+      let within = within_game v at in
       let vertex = s.by_keys.vertices v within in
       let from : LeadsTo board k vertex.next =
       subst (λ key. LeadsTo board key vertex.next) (same_some vertex.key k (sym vertex.stands ∙ at)) vertex.leads_to in
-      let one : (u : ℕ) → StandsAt keys u l → u ≡ w = λ u is. same_place u w l is there in (
+      let one : (u : ℕ) → StandsAt keys u l → u ≡ w = λ u is. same_place u w is there in (
         within,
         decided (successors_of game v) (λ none. leads vertex.next from
             (λ c. none (zip_contains keys (successors_of game v) vertex.next w l vertex.successors one c.0 c.1 c.2))),
@@ -113,7 +113,7 @@ module _ {board : Board} {mover : ℕ} {keys : List Key} {game : ParityGame} {ce
   edge_by_move : (v w : ℕ) (k : Key) → StandsAt keys v k → owner_of game v ≡ winner_of certificate v →
       choice_of certificate v ≡ Some w → HasEdge game v w
   edge_by_move v w k at own is =
-      let moves = (s.valid.closed.moves v (within_game v k at)).own own in
+      let moves = (s.valid.closed.moves v (within_game v at)).own own in
       subst (λ o. IsSomeAnd o (HasEdge game v)) is moves
 
   pub to_class : (v at q p class : ℕ) → StandsAt keys v (First q p) → StandsAt keys at (Second q class) →
@@ -147,27 +147,27 @@ module _ {board : Board} {mover : ℕ} {keys : List Key} {game : ParityGame} {ce
       none (subst (λ l. Contains l (pair y)) (sym leads.2) (subst (λ k. Contains (map pair leads.0) k) same
       (map_contains pair leads.0 c.0 z c.1 c.2)))) y itself)
 
-  pub first_owner : (v q p : ℕ) → StandsAt keys v (First q p) → owner_of game v ≡ mover
-  first_owner v q p at = owner_at v (First q p) at
+  pub first_owner : (v : ℕ) {q p : ℕ} → StandsAt keys v (First q p) → owner_of game v ≡ mover
+  first_owner v {q} {p} at = owner_at v at
 
-  pub second_owner : (v q x : ℕ) → StandsAt keys v (Second q x) → owner_of game v ≡ 1 - mover
-  second_owner v q x at = owner_at v (Second q x) at
+  pub second_owner : (v : ℕ) {q x : ℕ} → StandsAt keys v (Second q x) → owner_of game v ≡ 1 - mover
+  second_owner v {q} {x} at = owner_at v at
 
   -- the winner of vertex 0 wins the vertices that are used, and so moves there as the certificate says
   pub round_first : (v q p x letter w : ℕ) → mover ≡ winner certificate → winner_of certificate v ≡ winner certificate →
       StandsAt keys v (First q p) → StepsFirst board keys certificate v q x letter → IsSecondLetter board x →
       GoesTo keys board q (x + letter) w → Round game certificate v w
   round_first v q p x letter w wins here at steps second goes =
-      let own : owner_of game v ≡ winner_of certificate v = first_owner v q p at ∙ wins ∙ sym here in
+      let own : owner_of game v ≡ winner_of certificate v = first_owner v at ∙ wins ∙ sym here in
       let sum : x + letter ≡ letter + x = omega arith in
       record {
         between = steps.chosen;
         there = edge_by_move v steps.chosen (First q p) at own steps.choice;
         on = to_pair steps.chosen w q letter x steps.stands second (subst (λ n. GoesTo keys board q n w) sum goes);
-        priority = priority_here steps.chosen (Second q letter) steps.stands;
+        priority = priority_here steps.chosen steps.stands;
         first = λ o. steps.choice;
         second =
-            λ o. (let other : 1 - mover ≡ mover = sym (second_owner steps.chosen q letter steps.stands) ∙ o
+            λ o. (let other : 1 - mover ≡ mover = sym (second_owner steps.chosen steps.stands) ∙ o
             ∙ sym wins in absurd (omega (arith, other, s.is_mover)));
       }
 
@@ -177,22 +177,21 @@ module _ {board : Board} {mover : ℕ} {keys : List Key} {game : ParityGame} {ce
       GoesTo keys board q (x + letter) w → Round game certificate v w
   round_second v u q p x letter w loses small at steps here goes =
       let owner : owner_of game steps.at ≡ winner_of certificate steps.at =
-      (let is = second_owner steps.at q steps.class steps.stands in
+      (let is = second_owner steps.at steps.stands in
       omega (arith, is, loses, small, s.is_mover, here)) in
       let goes_there = steps.least.here.1 in
       let same = steps.same letter steps.least.here.0 in
       let pair : First (board.auto.next q (x + letter)) (board.auto.priority q (x + letter)) ≡ First
       (board.auto.next q (steps.class + letter)) (board.auto.priority q (steps.class + letter)) =
       ap₂ (λ a b. First a b) same.state same.priority in
-      let entered : steps.chosen ≡ w = same_place steps.chosen w (First (board.auto.next q (steps.class + letter))
-      (board.auto.priority q (steps.class + letter))) goes_there.stands
+      let entered : steps.chosen ≡ w = same_place steps.chosen w goes_there.stands
       (subst (λ k. StandsAt keys w k) pair goes.stands) in
       let choice : choice_of certificate steps.at ≡ Some w = steps.choice ∙ ap (λ n. Some n) entered in
       record {
         between = steps.at;
         there = to_class v steps.at q p steps.class at steps.stands steps.is_class;
         on = edge_by_move steps.at w (Second q steps.class) steps.stands owner choice;
-        priority = priority_here steps.at (Second q steps.class) steps.stands;
-        first = λ o. absurd (loses (sym (first_owner v q p at) ∙ o));
+        priority = priority_here steps.at steps.stands;
+        first = λ o. absurd (loses (sym (first_owner v at) ∙ o));
         second = λ o. choice;
       }

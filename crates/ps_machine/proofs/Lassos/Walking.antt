@@ -141,7 +141,7 @@ module _ {board : Board} {mover : ℕ} {keys : List Key} {game : ParityGame} {ce
       s.valid.closed.stays v w (record { edge = edge; chosen = λ o. chosen (o ∙ here) }) ∙ here
 
   small_winner : winner certificate < 2
-  small_winner = s.fits.winners 0 (within_game s 0 (First board.auto.start 0) s.by_keys.begins)
+  small_winner = s.fits.winners 0 (within_game s 0 s.by_keys.begins)
 
   round_by : (first : Bool) → first ≡ (mover == winner certificate) → (v u q p x letter w : ℕ) →
       (first ≡ true → u ≡ v) → winner_of certificate v ≡ winner certificate → StandsAt keys v (First q p) →
@@ -153,7 +153,7 @@ module _ {board : Board} {mover : ℕ} {keys : List Key} {game : ParityGame} {ce
   round_by false is v u q p x letter w same here at played other goes =
       let loses = eqb-false mover (winner certificate) (sym is) in
       let edge = to_class s v played.at q p played.class at played.stands played.is_class in
-      let won = won_along v played.at here edge (λ o. absurd (loses (sym (first_owner s v q p at) ∙ o))) in
+      let won = won_along v played.at here edge (λ o. absurd (loses (sym (first_owner s v at) ∙ o))) in
       round_second s v u q p x letter w loses small_winner at played won goes
 
   record Next (memory v q x : ℕ) : Type 0 where
@@ -202,7 +202,7 @@ module _ {board : Board} {mover : ℕ} {keys : List Key} {game : ParityGame} {ce
     priority = 0;
     here =
         record {
-          used = used_first game certificate (within_game s 0 (First board.auto.start 0) s.by_keys.begins);
+          used = used_first game certificate (within_game s 0 s.by_keys.begins);
           stands = s.by_keys.begins;
         };
     least = λ w r p less. absurd (omega (arith, less));
@@ -320,9 +320,7 @@ module _ {board : Board} {mover : ℕ} {keys : List Key} {game : ParityGame} {ce
 
     entered_priority : (t : ℕ) → priority_of_vertex (suc t) ≡ priority_at board.auto w t
     unfolding priority_of_vertex vertex_at entering
-    entered_priority t =
-        priority_here s (vertex_at (suc t))
-        (First (state_at board.auto w (suc t)) (entering board.auto w (suc t))) (walk (suc t)).stands
+    entered_priority t = priority_here s (vertex_at (suc t)) (walk (suc t)).stands
 
     -- ## Parts that return
 
@@ -356,7 +354,7 @@ module _ {board : Board} {mover : ℕ} {keys : List Key} {game : ParityGame} {ce
           let there : StandsAt keys (vertex_at (suc (from + count))) (first_key (state_at a w from) (w from)) =
           subst (λ k. StandsAt keys (vertex_at (suc (from + count))) k) same (walk (suc (from + count))).stands in
           ap vertex_at (sym place_is) ∙ same_place s (vertex_at (suc (from + count)))
-          (vertex_at (suc from)) (first_key (state_at a w from) (w from)) there (walk (suc from)).stands
+          (vertex_at (suc from)) there (walk (suc from)).stands
 
       path : List ℕ
       path = list_of (place (suc from)) (suc (twice count))

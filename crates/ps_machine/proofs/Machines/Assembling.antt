@@ -68,8 +68,7 @@ drawn_more is_first board keys kept certificate t u old new nodes more i v node 
         (subst (Drawn (slice_index kept i)) (sym last) (subst (λ w. Drawn w node) at here))
     | inr other ↦ (let before : memory < i = omega (arith, less, other) in
         subst (Drawn (slice_index kept memory)) (sym (earlier memory before))
-        (drawn_kept is_first board keys kept certificate t u old new (slice_index kept memory)
-        (slice_index nodes memory) keeps rows (d.each memory before)))
+        (drawn_kept keeps rows (d.each memory before)))
   ];
 }
   where

@@ -55,7 +55,7 @@ pub own_none : (b : Bool) (board : Board) (y p : ℕ) → IsOwn b board y → is
 own_none true board y p own is = own.own p (back_not (board.is_first p) is)
 own_none false board y p own is = own.own p is
 
-module _ (board : Board) (keys : List Key) (kept : List ℕ) (certificate : CertificateData) (m : MachineData)
+module _ {board : Board} {keys : List Key} {kept : List ℕ} {certificate : CertificateData} {m : MachineData}
     (a : IsAssembled board keys kept certificate m) where
   n : ℕ
   n = board.propositions

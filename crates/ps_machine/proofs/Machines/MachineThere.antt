@@ -42,7 +42,7 @@ use Rattle.ps_machine.proofs.GameKeys.Standing.{one_state, same_some, stand-with
 
 -- ## Used vertices
 
-module _ (game : ParityGame) (certificate : CertificateData) (valid : IsValid game certificate)
+module _ {game : ParityGame} {certificate : CertificateData} (valid : IsValid game certificate)
     (within : (v w : ℕ) → HasEdge game v w → w < vertex_count game) where
   add_first : (xs old : List ℕ) (n : ℕ) → n ≤ length xs → (new : List ℕ) × Adds (Contains (take n xs)) old new
   add_first xs old zero few = (old, adds_none (Contains (take zero xs)) old (λ w c. omega (arith, c.1)))
@@ -160,7 +160,7 @@ module _ {board : Board} {mover : ℕ} {keys : List Key} {game : ParityGame} {ce
       omega (arith, below, s.by_keys.count)
 
   small_winner : winner certificate < 2
-  small_winner = s.fits.winners 0 (within_game s 0 (First board.auto.start 0) s.by_keys.begins)
+  small_winner = s.fits.winners 0 (within_game s 0 s.by_keys.begins)
 
   module _ (used : List ℕ) (are_used : AreUsed game certificate used) (kept marks : List ℕ) where
     record HasRow (is_first : Bool) (v q x : ℕ) : Type 0 where
@@ -173,10 +173,10 @@ module _ {board : Board} {mover : ℕ} {keys : List Key} {game : ParityGame} {ce
         StandsAt keys v (First q p) → IsUsed game certificate v → IsSecondLetter board x → HasRow true v q x
     row_first turn m v q p x stands is_used second =
         let wins : mover ≡ winner certificate = eqb-true mover (winner certificate) (sym turn) in
-        let chosen = move_at s v (First q p) stands is_used (first_owner s v q p stands ∙ wins) in
-        let c = class_at s v chosen.chosen q p stands chosen.edge in
+        let chosen = move_at s stands is_used (first_owner s v stands ∙ wins) in
+        let c = class_at s v chosen.chosen stands chosen.edge in
         let move = move_there board q c.letter x second in
-        let to = to_pair_of s chosen.chosen q c.letter move.0 c.stands move.1 in
+        let to = to_pair_of s chosen.chosen c.letter move.0 c.stands move.1 in
         let sum : c.letter + x ≡ x + c.letter = omega arith in
         let state : board.auto.next q (c.letter + move.0) ≡ board.auto.next q (x + c.letter) = move.2.state
         ∙ ap (board.auto.next q) sum in
@@ -185,12 +185,12 @@ module _ {board : Board} {mover : ℕ} {keys : List Key} {game : ParityGame} {ce
         let there : StandsAt keys to.vertex (First (board.auto.next q (x + c.letter))
         (board.auto.priority q (x + c.letter))) = subst (StandsAt keys to.vertex)
         (ap₂ (λ a b. First a b) state priority) to.stands in
-        let other : owner_of game chosen.chosen ≡ 1 - mover = second_owner s chosen.chosen q c.letter c.stands in
+        let other : owner_of game chosen.chosen ≡ 1 - mover = second_owner s chosen.chosen c.stands in
         let next_used : IsUsed game certificate to.vertex = used_more to.vertex chosen.used to.edge
         (edge_within chosen.chosen to.vertex to.edge)
         (λ own. absurd (let mine : 1 - mover ≡ mover = sym other ∙ own ∙ sym wins in omega (arith, mine, s.is_mover)))
         in
-        let next = memory_of true keys used kept marks m to.vertex (board.auto.next q (x + c.letter))
+        let next = memory_of m to.vertex (board.auto.next q (x + c.letter))
         (board.auto.priority q (x + c.letter)) s.by_keys.different ((are_used to.vertex).1 next_used) there in
         record {
           row = record { memory = next.0; letter = c.letter };
@@ -209,14 +209,13 @@ module _ {board : Board} {mover : ℕ} {keys : List Key} {game : ParityGame} {ce
     row_second turn m v q p x stands is_used first =
         let loses : mover ≢ winner certificate = eqb-false mover (winner certificate) (sym turn) in
         let class = class_there board q x first in
-        let to = to_class_of s v q p class.0 stands class.1 in
+        let to = to_class_of s v stands class.1 in
         let to_used : IsUsed game certificate to.vertex =
         used_more to.vertex is_used to.edge (edge_within v to.vertex to.edge)
-        (λ own. absurd (loses (sym (first_owner s v q p stands) ∙ own))) in
-        let owner = second_owner s to.vertex q class.0 to.stands in
-        let chosen = move_at s to.vertex (Second q class.0) to.stands to_used
-        (omega (arith, owner, loses, small_winner, s.is_mover)) in
-        let move = move_to s to.vertex chosen.chosen q class.0 to.stands chosen.edge in
+        (λ own. absurd (loses (sym (first_owner s v stands) ∙ own))) in
+        let owner = second_owner s to.vertex to.stands in
+        let chosen = move_at s to.stands to_used (omega (arith, owner, loses, small_winner, s.is_mover)) in
+        let move = move_to s to.vertex chosen.chosen to.stands chosen.edge in
         let letter = move.letter in
         let own : IsSecondLetter board letter = move.is_move.here.0 in
         let same : SameStep board q (x + letter) (class.0 + letter) = class.2 letter own in
@@ -224,7 +223,7 @@ module _ {board : Board} {mover : ℕ} {keys : List Key} {game : ParityGame} {ce
         (board.auto.priority q (x + letter))) =
         subst (StandsAt keys chosen.chosen) (ap₂ (λ a b. First a b) (sym same.state) (sym same.priority))
         move.goes.stands in
-        let next = memory_of false keys used kept marks m chosen.chosen (board.auto.next q (x + letter))
+        let next = memory_of m chosen.chosen (board.auto.next q (x + letter))
         (board.auto.priority q (x + letter)) s.by_keys.different ((are_used chosen.chosen).1 chosen.used) there in
         record {
           row = record { memory = next.0; letter = letter };
@@ -285,12 +284,11 @@ pub over_other : (b : Bool) (board : Board) (x : ℕ) → IsOver board.propositi
 over_other true board x over = over_second board x over
 over_other false board x over = over_first board x over
 
-module _ (names : List (List ℕ)) (board : Board) (mover : ℕ) (keys : List Key) (game : ParityGame)
-    (certificate : CertificateData)
-    (few : length names ≤ 64) (are_names : AreNames names) (as_many : length names ≡ board.propositions)
-    (setting : Setting board mover keys game certificate)
-    (first : Bool) (turn : first ≡ (mover == winner certificate)) (used : List ℕ)
-    (are_used : AreUsed game certificate used) (kept marks : List ℕ) (m : AreMemories first keys used kept marks)
+module _ (names : List (List ℕ)) {board : Board} {mover : ℕ} {keys : List Key} {game : ParityGame}
+    {certificate : CertificateData} (few : length names ≤ 64) (are_names : AreNames names)
+    (as_many : length names ≡ board.propositions) (setting : Setting board mover keys game certificate) {first : Bool}
+    (turn : first ≡ (mover == winner certificate)) {used : List ℕ} (are_used : AreUsed game certificate used)
+    {kept marks : List ℕ} (m : AreMemories first keys used kept marks)
   where
     -- what of a letter is the other player's
     read : ℕ → ℕ
@@ -417,9 +415,8 @@ module _ (names : List (List ℕ)) (board : Board) (mover : ℕ) (keys : List Ke
           ∙ ap not (sym (inputs.1.are p less) ∙ among));
       player = small_winner setting;
       some =
-          some_kept first keys used kept marks m 0 board.auto.start setting.by_keys.begins
-          ((are_used 0).1 (used_first game certificate (within_game setting 0
-          (First board.auto.start 0) setting.by_keys.begins)));
+          some_kept m 0 board.auto.start setting.by_keys.begins
+          ((are_used 0).1 (used_first game certificate (within_game setting 0 setting.by_keys.begins)));
       next_within = λ memory x within. (row_right memory x within).within;
       plays_own = λ memory x within. outputs_only (row memory x).letter (row_right memory x within).own;
       next_heeds = λ memory x y within same. ap (λ (r : Row). r.memory) (row_heeds memory x y same);
@@ -461,8 +458,8 @@ module _ (names : List (List ℕ)) (board : Board) (mover : ℕ) (keys : List Ke
         is_first = turn;
         kept = kept;
         rising = m.rising;
-        each = all_kept first keys used kept marks m game certificate are_used;
-        complete = each_kept first keys used kept marks m game certificate are_used;
+        each = all_kept m are_used;
+        complete = each_kept m are_used;
         memories = refl;
         steps = made_step;
       },
@@ -476,9 +473,8 @@ pub machine_there : (names : List (List ℕ)) (board : Board) (mover : ℕ) (key
 machine_there names board mover keys game certificate few are_names as_many small is fits valid =
     let s : Setting board mover keys game certificate =
     record { is_mover = small; by_keys = is.by_keys; fits = fits; valid = valid } in
-    let some = within_game s 0 (First board.auto.start 0) s.by_keys.begins in
-    let used = used_there game certificate valid (edge_within s) some in
+    let some = within_game s 0 s.by_keys.begins in
+    let used = used_there valid (edge_within s) some in
     let first = mover == winner certificate in
     let memories = memories_there first keys used.0 in
-    machine names board mover keys game certificate few are_names as_many s first refl used.0 used.1 memories.0
-    memories.1 memories.2
+    machine names few are_names as_many s refl used.1 memories.2

@@ -180,8 +180,8 @@ module _ (one other : List Key) (one_differ : AllPairs (λ x y. x ≢ y) one)
     (other_differ : AllPairs (λ x y. x ≢ y) other) where
   same_number : (c x y : ℕ) (k : Key) → Agree one other c → StandsAt one x k → StandsAt other y k → (x < c) ⊎ (x ≡ c) →
       (y < c) ⊎ (y ≡ c) → x ≡ y
-  same_number c x y k agree a b (inl less) at = one_place other other_differ x y k (sym (agree x less) ∙ a) b
-  same_number c x y k agree a b (inr is) (inl less) = one_place one one_differ x y k a (agree y less ∙ b)
+  same_number c x y k agree a b (inl less) at = one_place other other_differ x y (sym (agree x less) ∙ a) b
+  same_number c x y k agree a b (inr is) (inl less) = one_place one one_differ x y a (agree y less ∙ b)
   same_number c x y k agree a b (inr is) (inr too) = is ∙ sym too
 
   agree_more : (c x : ℕ) (k : Key) → Agree one other c → x ≡ c → StandsAt one x k → StandsAt other x k →
@@ -218,8 +218,7 @@ module _ (one other : List Key) (one_differ : AllPairs (λ x y. x ≢ y) one)
       let also_on : Counts ((list ++ x ∷ []) ++ (others ++ rest)) l =
       subst (λ k. Counts k l) (sym (append_assoc list (x ∷ []) (others ++ rest)))
       (subst (λ z. Counts (list ++ z ∷ (others ++ rest)) l) (sym same) also) in
-      joined list x y numbers others same
-      (elim old [
+      joined list x y numbers others same (elim old [
         | inl less ↦ walk (list ++ x ∷ []) numbers others next c more rest m l (counts_old list c x e less) agree a.1
             b.1 all_on also_on
         | inr is ↦ walk (list ++ x ∷ []) numbers others next (c + 1) more rest m l

@@ -92,8 +92,7 @@ module _ (first : Bool) (keys : List Key) (game : ParityGame) (certificate : Cer
       shares_mark first a.vertex a.state w r a.shares ∙ sym (shares_mark first b.vertex b.state w r b.shares) in
       let below = rises i j 0 less (slice_get_within kept j b.vertex b.is_kept) in
       none_below a.vertex a.state a.priority b.vertex b.state b.priority
-      (kept_at kept j b.vertex each b.is_kept) b.stands
-      (record { used = one.here.used; stands = a.stands }) same
+      (kept_at kept j b.vertex each b.is_kept) b.stands (record { used = one.here.used; stands = a.stands }) same
       (omega (
         arith,
         below,
@@ -128,9 +127,7 @@ module _ (board : Board) (keys : List Key) (certificate : CertificateData) (diff
   one_played true v q x one other s t = one_letter true board keys certificate v q x x one other refl s t
   one_played false v q x one other s t =
       let class = one_class q x s.class t.class s.is_class t.is_class s.same t.same in
-      let at =
-      one_place keys differ s.at t.at (Second q t.class) (subst (λ c. StandsAt keys s.at (Second q c)) class
-      s.stands) t.stands in
+      let at = one_place keys differ s.at t.at (subst (λ c. StandsAt keys s.at (Second q c)) class s.stands) t.stands in
       let chosen = some_nat s.chosen t.chosen (sym s.choice ∙ ap (choice_of certificate) at ∙ t.choice) in
       let P : ℕ → ℕ → ℕ → Type 0 = λ c w y. IsSecondLetter board y × GoesTo keys board q (c + y) w in
       one_least board.propositions (P t.class t.chosen) one other s.least.here.0.within t.least.here.0.within
@@ -170,8 +167,7 @@ module _ (names : List (List ℕ)) (board : Board) (mover : ℕ) (keys : List Ke
 
     other_step : (memory x : ℕ) → memory < m.memories → IsOther m.is_first board x → Steps memory x
     other_step memory x within is_other =
-        let t =
-        other.steps memory x (omega (arith, within, same_memories))
+        let t = other.steps memory x (omega (arith, within, same_memories))
         (subst (λ b. IsOther b board x) (sym same_first) is_other) in
         let q = board.auto.next t.state (x + o.plays memory x) in
         record {
@@ -208,13 +204,12 @@ module _ (names : List (List ℕ)) (board : Board) (mover : ℕ) (keys : List Ke
         let goes : GoesTo keys board s.state (x + m.plays memory x) t.entered =
         subst (λ y. GoesTo keys board s.state (x + y) t.entered) played
         (subst (λ q. GoesTo keys board q (x + o.plays memory x) t.entered) state t.goes) in
-        let entered = one_place keys differ t.entered s.entered _ goes.stands s.goes.stands in
+        let entered = one_place keys differ t.entered s.entered goes.stands s.goes.stands in
         let r = board.auto.next s.state (x + m.plays memory x) in
         let next : StandsFor m.is_first keys of.kept (o.next memory x) s.entered r =
         subst (λ w. StandsFor m.is_first keys of.kept (o.next memory x) w r) entered
         (subst (λ y. StandsFor m.is_first keys of.kept (o.next memory x) t.entered (board.auto.next s.state (x + y)))
-        played
-        (subst (λ q. StandsFor m.is_first keys of.kept (o.next memory x) t.entered
+        played (subst (λ q. StandsFor m.is_first keys of.kept (o.next memory x) t.entered
         (board.auto.next q (x + o.plays memory x))) state t.next)) in (
           one_memory m.is_first keys game certificate of.kept (m.next memory x) (o.next memory x) s.entered r of.rising
               of.each s.next next,
@@ -251,8 +246,7 @@ module _ (names : List (List ℕ)) (board : Board) (mover : ℕ) (keys : List Ke
     unfolding SameStepAt read
     same_anywhere memory x within =
         let there : memory < o.memories = omega (arith, within, same_memories) in
-        let here =
-        same_step memory (read x) within (over_other m.is_first board (read x)
+        let here = same_step memory (read x) within (over_other m.is_first board (read x)
         (part_over board.propositions (is_others m.is_first board) x)) in
         let same : AreSameOn o.inputs x (read x) = subst (λ l. AreSameOn l x (read x)) same_inputs (read_same x) in (
           is.next_heeds memory x (read x) within (read_same x) ∙ here.0

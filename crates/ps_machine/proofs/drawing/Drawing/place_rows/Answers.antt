@@ -16,8 +16,7 @@ pub returns-in_err-note-clause-same_rows : goal.returns-in_err-note-clause-same_
 returns-in_err-note-clause-same_rows c =
     let p = c.args.plan.now in
     let row : Row = record { memory = c.memory_behind-memory.result; letter = c.args.letter } in
-    (add_row p.automaton.now p.keys.now.keys p.moves_first (board_of p.order p.automaton.now) p.memories.now.kept.items
-    c.args.letter c.args.leaves.now c.args.self.now.rows.keys (row_eq.eq-value).it c.loop-leaf.self.rows.keys
+    (add_row (row_eq.eq-value).it c.loop-leaf.self.rows.keys
     c.loop-leaf.self.places.items c.loop-leaf.leaf-index row c.insert_full.new.self.keys
     c.loop-leaf.invariant.noted c.in_ok-place.ensures.keys (record
     { memory = c.memory_behind-memory.ensures.within; letter = c.requires.own })).same_rows
@@ -26,8 +25,7 @@ pub returns-in_err-note-clause-rows : goal.returns-in_err-note-clause-rows
 returns-in_err-note-clause-rows c =
     let p = c.args.plan.now in
     let row : Row = record { memory = c.memory_behind-memory.result; letter = c.args.letter } in
-    (add_row p.automaton.now p.keys.now.keys p.moves_first (board_of p.order p.automaton.now) p.memories.now.kept.items
-    c.args.letter c.args.leaves.now c.args.self.now.rows.keys (row_eq.eq-value).it c.loop-leaf.self.rows.keys
+    (add_row (row_eq.eq-value).it c.loop-leaf.self.rows.keys
     c.loop-leaf.self.places.items c.loop-leaf.leaf-index row c.insert_full.new.self.keys
     c.loop-leaf.invariant.noted c.in_ok-place.ensures.keys (record
     { memory = c.memory_behind-memory.ensures.within; letter = c.requires.own })).each
@@ -46,8 +44,7 @@ loop-leaf-preserved c =
     let new = c.insert_full.new.self.keys in
     let row : Row = record { memory = c.memory_behind-memory.result; letter = c.args.letter } in
     let within : i < length leaves = omega (arith, c.loop-leaf-test.true) in
-    let added =
-    add_row a keys p.moves_first board kept c.args.letter leaves old (row_eq.eq-value).it c.loop-leaf.self.rows.keys
+    let added = add_row (row_eq.eq-value).it c.loop-leaf.self.rows.keys
     c.loop-leaf.self.places.items i row new c.loop-leaf.invariant.noted c.in_ok-place.ensures.keys
     (record { memory = c.memory_behind-memory.ensures.within; letter = c.requires.own }) in
     let stored = c.in_ok-place.ensures.stored in
@@ -59,8 +56,7 @@ loop-leaf-preserved c =
     record {
       store = c.loop-leaf.invariant.store;
       noted =
-          note_more a keys p.moves_first board kept c.args.letter leaves old new c.loop-leaf.self.places.items
-          c.note.new.places.items i leaf c.in_ok-place.place row added
+          note_more new c.loop-leaf.self.places.items c.note.new.places.items i leaf c.in_ok-place.place row added
           (λ d. ap (λ (x : ℕ × ℕ). x.0) (get_or_default leaves i d (0, 0) within)) at refl next
           c.in_ok-note.ensures.noted c.in_ok-note.ensures.others;
     }

@@ -15,8 +15,7 @@ use Rattle.ps_machine.proofs.drawing.Drawing.rows_of_classes.Goals as goal
 pub loop-class-init : goal.loop-class-init
 loop-class-init c =
     let plan = c.args.plan.now in
-    let N =
-    Names (board_of plan.order plan.automaton.now) plan.keys.now.keys plan.memories.now.kept.items
+    let N = Names (board_of plan.order plan.automaton.now) plan.keys.now.keys plan.memories.now.kept.items
     plan.certificate.now c.args.state c.args.self.now.rows.keys in
     record {
       store = refl;
@@ -51,7 +50,7 @@ pub returns-in_err-push-clause-same_rows : goal.returns-in_err-push-clause-same_
 returns-in_err-push-clause-same_rows c =
     let old = c.loop-class.self.rows.keys in
     let new = c.insert_full.new.self.keys in
-    keeps_rows_trans c.args.self.now.rows.keys old new c.loop-class.invariant.same_rows
+    keeps_rows_trans c.loop-class.invariant.same_rows
     (keeps_rows (row_eq.eq-value).it old c.in_ok-row.row new c.in_ok-place.ensures.keys)
 
 pub returns-in_err-push-clause-rows : goal.returns-in_err-push-clause-rows
@@ -62,41 +61,34 @@ returns-in_err-push-clause-rows c =
     let row = c.in_ok-row.row in
     all_rows (IsRow plan.moves_first board kept) (row_eq.eq-value).it c.loop-class.self.rows.keys row
     c.insert_full.new.self.keys c.in_ok-place.ensures.keys c.loop-class.invariant.rows
-    (answer_row plan.moves_first board plan.keys.now.keys kept plan.certificate.now c.args.state
-    c.class-item.result.letter row c.requires.turn c.in_ok-row.ensures)
+    (answer_row c.requires.turn c.in_ok-row.ensures)
 
 pub loop-class-preserved : goal.loop-class-preserved
 loop-class-preserved c =
     let plan = c.args.plan.now in
     let board = board_of plan.order plan.automaton.now in
-    let keys = plan.keys.now.keys in
     let kept = plan.memories.now.kept.items in
-    let certificate = plan.certificate.now in
     let old = c.loop-class.self.rows.keys in
     let new = c.insert_full.new.self.keys in
     let inv = c.loop-class.invariant in
     record {
       store = inv.store;
       same_rows =
-          keeps_rows_trans c.args.self.now.rows.keys old new inv.same_rows
+          keeps_rows_trans inv.same_rows
           (keeps_rows (row_eq.eq-value).it old c.in_ok-row.row new c.in_ok-place.ensures.keys);
       rows =
           all_rows (IsRow plan.moves_first board kept) (row_eq.eq-value).it old c.in_ok-row.row new
-          c.in_ok-place.ensures.keys inv.rows
-          (answer_row plan.moves_first board keys kept certificate c.args.state c.class-item.result.letter
-          c.in_ok-row.row c.requires.turn c.in_ok-row.ensures);
+          c.in_ok-place.ensures.keys inv.rows (answer_row c.requires.turn c.in_ok-row.ensures);
       values =
-          named_next board keys kept certificate c.args.state old new c.args.classes.now c.loop-class.class-index
-          c.class-item.result c.loop-class.values.items c.push.new.self.items c.in_ok-place.place c.in_ok-row.row
-          c.in_ok-place.ensures.keys inv.values c.loop-class-test.true c.class-item.is c.in_ok-place.ensures.stored
-          c.in_ok-row.ensures c.in_ok-push.ensures.items;
+          named_next old new c.args.classes.now c.loop-class.class-index c.class-item.result c.loop-class.values.items
+          c.push.new.self.items c.in_ok-place.place c.in_ok-place.ensures.keys inv.values c.loop-class-test.true
+          c.class-item.is c.in_ok-place.ensures.stored c.in_ok-row.ensures c.in_ok-push.ensures.items;
     }
 
 pub returns-clause-values : goal.returns-clause-values
 returns-clause-values c =
     let plan = c.args.plan.now in
-    let N =
-    Names (board_of plan.order plan.automaton.now) plan.keys.now.keys plan.memories.now.kept.items
+    let N = Names (board_of plan.order plan.automaton.now) plan.keys.now.keys plan.memories.now.kept.items
     plan.certificate.now c.args.state c.loop-class.self.rows.keys in
     subst (λ (l : List Class). AllZip N l c.loop-class.values.items)
     (take_all c.loop-class.class-index c.args.classes.now c.loop-class-test.false) c.loop-class.invariant.values
