@@ -67,8 +67,8 @@ module _ (board : Board) where
       x + y ≡ letter_of board.propositions (λ p. is_in p x || is_in p y)
   both x y hx hy = sum_is board.propositions x y hx.within hy.within (apart x y hx hy)
 
-  pub sum_within : (x y : ℕ) → IsFirstLetter board x → IsSecondLetter board y → x + y < 2 ^ board.propositions
-  sum_within x y hx hy =
+  pub sum_within : {x y : ℕ} → IsFirstLetter board x → IsSecondLetter board y → x + y < 2 ^ board.propositions
+  sum_within {x} {y} hx hy =
       subst (λ k. k < 2 ^ board.propositions) (sym (both x y hx hy))
       (letter_lt board.propositions (λ p. is_in p x || is_in p y))
 
@@ -93,9 +93,9 @@ module _ (board : Board) where
     | inr ge ↦ absurd (true_is_not_false (sym is ∙ no_bit board.propositions mask p m.within ge))
   ]
 
-  pub agree_on : (mask x y : ℕ) → IsMaskOf board mask → IsFirstLetter board x → IsSecondLetter board y →
+  pub agree_on : {mask x y : ℕ} → IsMaskOf board mask → IsFirstLetter board x → IsSecondLetter board y →
       AgreeOn mask x (x + y)
-  agree_on mask x y m hx hy p is =
+  agree_on {mask} {x} {y} m hx hy p is =
       let lt = mask_below mask p m is in
       sym (sum_first x y p hx hy lt (sym (m.is p lt) ∙ is))
 
@@ -104,13 +104,13 @@ module _ (board : Board) where
   agree_off mask x y m hx hy p isnt = elim (cases_lt p board.propositions) [
     | inl lt ↦ sym (sum_second x y p hx hy lt (sym (m.is p lt) ∙ isnt))
     | inr ge ↦ no_bit board.propositions y p hy.within ge ∙ sym
-        (no_bit board.propositions (x + y) p (sum_within x y hx hy) ge)
+        (no_bit board.propositions (x + y) p (sum_within hx hy) ge)
   ]
 
   -- two letters of the second player and of one letter of the first agree where the mask is
   pub agree_first : (mask x y z : ℕ) → IsMaskOf board mask → IsFirstLetter board x → IsSecondLetter board y →
       IsSecondLetter board z → AgreeOn mask (x + y) (x + z)
-  agree_first mask x y z m hx hy hz p is = sym (agree_on mask x y m hx hy p is) ∙ agree_on mask x z m hx hz p is
+  agree_first mask x y z m hx hy hz p is = sym (agree_on m hx hy p is) ∙ agree_on m hx hz p is
 
   pub agree_second : (mask x w y : ℕ) → IsMaskOf board mask → IsFirstLetter board x → IsFirstLetter board w →
       IsSecondLetter board y → AgreeOff mask (x + y) (w + y)
@@ -251,8 +251,8 @@ neither_before n x y lx ly a b = elim (compared n x y lx ly) [
   | inr before ↦ elim before [ inl h ↦ absurd (a h) | inr h ↦ absurd (b h) ]
 ]
 
-pub not_before_itself : (x : ℕ) → IsBefore x x → ⊥
-not_before_itself x b = true_is_not_false (sym b.is_true ∙ b.is_false)
+pub not_before_itself : {x : ℕ} → IsBefore x x → ⊥
+not_before_itself b = true_is_not_false (sym b.is_true ∙ b.is_false)
 
 -- a letter is the second player's where what is the second player's in it doesn't come before it
 pub second_itself : (board : Board) (y : ℕ) → y < 2 ^ board.propositions → (IsBefore (second_of board y) y → ⊥) →

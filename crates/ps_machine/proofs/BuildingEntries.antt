@@ -24,11 +24,11 @@ module _ (game : ParityGame) (region : List Bool) (first second : ℕ → Option
             subst (λ u. P u (get_or (entries ++ e ∷ []) u no_entry)) (sym same)
             (subst (P n) (sym (get_or_push entries e no_entry n long)) last)
 
-    pub entries_won : (n : ℕ) (entries : List EntryData) (e : EntryData) →
+    pub entries_won : {n : ℕ} {entries : List EntryData} {e : EntryData} →
         AreEntries game region first second first_rows second_rows n entries → has region n ≡ true →
         IsEntryAmong game 0 first first_rows n e →
         AreEntries game region first second first_rows second_rows (n + 1) (entries ++ e ∷ [])
-    entries_won n entries e are wins is = record {
+    entries_won {n} {entries} {e} are wins is = record {
       each = length_push entries e ∙ ap (λ k. k + 1) are.each;
       won =
           each_entry (λ v x. has region v ≡ true → IsEntryAmong game 0 first first_rows v x) n entries e are.each
@@ -41,16 +41,15 @@ module _ (game : ParityGame) (region : List Bool) (first second : ℕ → Option
         both_ways : (b : Bool) → b ≡ true → b ≡ false → ⊥
         both_ways b t f = search rules
 
-    pub entries_lost : (n : ℕ) (entries : List EntryData) (e : EntryData) →
+    pub entries_lost : {n : ℕ} {entries : List EntryData} {e : EntryData} →
         AreEntries game region first second first_rows second_rows n entries → has region n ≡ false →
         IsEntryAmong game 1 second second_rows n e →
         AreEntries game region first second first_rows second_rows (n + 1) (entries ++ e ∷ [])
-    entries_lost n entries e are loses is = record {
+    entries_lost {n} {entries} {e} are loses is = record {
       each = length_push entries e ∙ ap (λ k. k + 1) are.each;
       won =
           each_entry (λ v x. has region v ≡ true → IsEntryAmong game 0 first first_rows v x) n entries e
-          are.each are.won
-          (λ wins. absurd (both_ways (has region n) wins loses));
+          are.each are.won (λ wins. absurd (both_ways (has region n) wins loses));
       lost =
           each_entry (λ v x. has region v ≡ false → IsEntryAmong game 1 second second_rows v x) n entries e are.each
           are.lost (λ _. is);

@@ -117,8 +117,7 @@ module _ (game : ParityGame) (is_game : IsGame game) (player : ℕ) (set : ℕ �
       k < length priorities → KeepsCount game c v w k
   side_counts v w k s t listed r within =
       let keep =
-      (ranks.columns k within).keep v w (record { from = s.inside; to = t.inside; remains = remains_for v w s r })
-      in
+      (ranks.columns k within).keep v w (record { from = s.inside; to = t.inside; remains = remains_for v w s r }) in
       let K : ℕ → ℕ → ℕ → Type 0 = λ p x y. KeepsRule p (priority_of game v) (priority_of game w) x y in
       let at : get_or priorities k 0 ≡ opposing_at c v k =
       ap (λ l. get_or l k 0) (sym listed ∙ ap (λ q. opposing c q) (sym s.winner)) in
@@ -141,8 +140,7 @@ module _ (game : ParityGame) (is_game : IsGame game) (player : ℕ) (set : ℕ �
       let remains : Remains game d u w =
       record {
         edge = r.remains.edge;
-        chosen = λ owns. sym (differs.moves u from) ∙ s.own (owns ∙ one)
-            ∙ r.remains.chosen (owns ∙ one);
+        chosen = λ owns. sym (differs.moves u from) ∙ s.own (owns ∙ one) ∙ r.remains.chosen (owns ∙ one);
       } in
       let lists : opposing d (winner_of d u) ≡ priorities = ap (λ q. opposing d q) one ∙ listed in
       subst (λ l. KeepsRule (get_or l k 0) (priority_of game u) (priority_of game w) (get_or (counts_of d u) k 0)
@@ -274,8 +272,7 @@ module _ (game : ParityGame) (region : List Bool) (lost : ℕ → Bool) (first s
           b.holds_first b.odd_ranks v w s r) in
           t.winner ∙ sym s.winner
       stays v w r (inr s) =
-          let t =
-          two_side w (b.is_game.within v w r.edge) (side_stays game b.is_game 1 lost second even even_rows made
+          let t = two_side w (b.is_game.within v w r.edge) (side_stays game b.is_game 1 lost second even even_rows made
           b.holds_second b.even_ranks v w s r) in
           t.winner ∙ sym s.winner
 
@@ -283,12 +280,10 @@ module _ (game : ParityGame) (region : List Bool) (lost : ℕ → Bool) (first s
           k < length (opposing made (winner_of made v)) → One v ⊎ Two v → One w ⊎ Two w → KeepsCount game made v w k
       keeps v w k r same within (inl s) (inl t) =
           side_counts game b.is_game 0 (has region) first odd odd_rows made b.holds_first b.odd_ranks v w k s t
-          opposing_first r
-          (subst (λ l. k < length l) (ap (λ p. opposing made p) s.winner ∙ opposing_first) within)
+          opposing_first r (subst (λ l. k < length l) (ap (λ p. opposing made p) s.winner ∙ opposing_first) within)
       keeps v w k r same within (inr s) (inr t) =
           side_counts game b.is_game 1 lost second even even_rows made b.holds_second b.even_ranks v w k s t
-          opposing_second r
-          (subst (λ l. k < length l) (ap (λ p. opposing made p) s.winner ∙ opposing_second) within)
+          opposing_second r (subst (λ l. k < length l) (ap (λ p. opposing made p) s.winner ∙ opposing_second) within)
       keeps v w k r same within (inl s) (inr t) = absurd (omega (arith, same, s.winner, t.winner))
       keeps v w k r same within (inr s) (inl t) = absurd (omega (arith, same, s.winner, t.winner))
 
@@ -325,9 +320,9 @@ module _ (game : ParityGame) (region : List Bool) (lost : ℕ → Bool) (first s
   certified = (fits, valid, least)
 
 -- a player who holds a set of vertices holds each set with the same vertices of the game
-holds_same : (game : ParityGame) (player : ℕ) (set other : ℕ → Bool) (table : ℕ → Option ℕ) →
+holds_same : {game : ParityGame} {player : ℕ} {set other : ℕ → Bool} {table : ℕ → Option ℕ} →
     ((v : ℕ) → v < vertex_count game → set v ≡ other v) → Holds game player set table → Holds game player other table
-holds_same game player set other table same h = record {
+holds_same same h = record {
   keeps = record {
     moves = λ v within inside owns. h.keeps.moves v within (same v within ∙ inside) owns;
     stays = λ path is begins follows k within. sym (same (get_or path k 0) (is.vertices k within))
@@ -338,12 +333,11 @@ holds_same game player set other table same h = record {
       follows loop;
 }
 
-pub lost_held : (game : ParityGame) (region full lost : List Bool) (table : ℕ → Option ℕ) →
+pub lost_held : {game : ParityGame} (region : List Bool) {full : List Bool} (lost : List Bool) {table : ℕ → Option ℕ} →
     full ≡ replicate (vertex_count game) true → ((v : ℕ) → has lost v ≡ (has full v && not (has region v))) →
     Holds game 1 (others region) table → Holds game 1 (has lost) table
-lost_held game region full lost table whole is h =
-    holds_same game 1 (others region) (has lost) table (λ v within.
-    sym (is v ∙ ap (λ x. x && not (has region v)) (ap (λ l. has l v) whole
+lost_held {game} region lost {table} whole is h =
+    holds_same (λ v within. sym (is v ∙ ap (λ x. x && not (has region v)) (ap (λ l. has l v) whole
     ∙ get_or-replicate (vertex_count game) v true false within))) h
 
 pub lost_rest : (game : ParityGame) (region full lost : List Bool) → full ≡ replicate (vertex_count game) true →
@@ -361,8 +355,8 @@ lost_rest game region full lost whole is v within = (λ e. now ∙ ap not e, λ 
     back false e = refl
 
 -- the same where the second region has all vertices that the first one has not
-pub certified_both : (game : ParityGame) (region full lost : List Bool) (first second : ℕ → Option ℕ)
-    (odd even : List ℕ) (odd_rows even_rows : List (List ℕ)) (entries : List EntryData) →
+pub certified_both : {game : ParityGame} {region full : List Bool} (lost : List Bool) {first second : ℕ → Option ℕ}
+    {odd even : List ℕ} {odd_rows even_rows : List (List ℕ)} {entries : List EntryData} →
     IsGame game → full ≡ replicate (vertex_count game) true → ((v : ℕ) →
     has lost v ≡ (has full v && not (has region v))) → Holds game 0 (has region) first →
     Holds game 1 (others region) second →
@@ -371,12 +365,12 @@ pub certified_both : (game : ParityGame) (region full lost : List Bool) (first s
     Fits game (record { odd = odd; even = even; entries = entries }) ×
     IsValid game (record { odd = odd; even = even; entries = entries })
     × HasLeastCounts game (record { odd = odd; even = even; entries = entries })
-certified_both game region full lost first second odd even odd_rows even_rows entries is_game whole is holds_first
-    holds_second odd_ranks even_ranks are_entries =
+certified_both {game} {region} {full} lost {first} {second} {odd} {even} {odd_rows} {even_rows} {entries} is_game
+    whole is holds_first holds_second odd_ranks even_ranks are_entries =
     certified game region (has lost) first second odd even odd_rows even_rows entries (record {
       is_game = is_game;
       holds_first = holds_first;
-      holds_second = lost_held game region full lost second whole is holds_second;
+      holds_second = lost_held region lost whole is holds_second;
       rest = lost_rest game region full lost whole is;
       odd_ranks = odd_ranks;
       even_ranks = even_ranks;

@@ -32,10 +32,10 @@ one_value v w e = cc
 is_some : (o : Option Classes) (c : Classes) → o ≡ Some c → IsSome o
 is_some o c e = subst (λ (x : Option Classes). IsSome x) (sym e) refl
 
-pub no_classes : (order : Order) (a : AutomatonData) (mask : ℕ) (t : Table) (rests : ℕ × ℕ → Option ℕ)
-    (classes : ℕ → Option Classes) (key : Key) → ((q : ℕ) → classes q ≡ None) → IsKnown order a mask t rests key →
+pub no_classes : {order : Order} {a : AutomatonData} {mask : ℕ} {t : Table} {rests : ℕ × ℕ → Option ℕ}
+    {classes : ℕ → Option Classes} {key : Key} → ((q : ℕ) → classes q ≡ None) → IsKnown order a mask t rests key →
     KnowsMoves order a mask t rests classes key
-no_classes order a mask t rests classes key none is =
+no_classes none is =
     record { is_known = is; are = λ q c e. absurd (some_none c (sym (none q) ∙ e)) }
 
 -- what was known is known as the table grows
@@ -146,10 +146,10 @@ some_of None P h all = absurd (true_is_not_false (sym h))
 some_of (Some c) P h all = all c refl
 
 -- the classes of all keys that were answered
-pub all_divided : (order o : Order) (a b : AutomatonData) (mask : ℕ) (t : Table) (classes : ℕ → Option Classes)
-    (keys : List Key) (key : Key) → o ≡ order → b ≡ a → StandsAt keys 0 key →
+pub all_divided : {order o : Order} {a b : AutomatonData} {mask : ℕ} {t : Table} {classes : ℕ → Option Classes}
+    {keys : List Key} (key : Key) → o ≡ order → b ≡ a → StandsAt keys 0 key →
     ((v : ℕ) (k : Key) → StandsAt keys v k → HasAnswered o b mask t classes k) → AreDivided order a keys t classes
-all_divided order o a b mask t classes keys key same is begins all =
+all_divided {order} {b} {mask} {t} {classes} {keys} key same is begins all =
     subst (λ (d : AutomatonData). AreDivided order d keys t classes) is
     (subst (λ (x : Order). AreDivided x b keys t classes) same (record {
       mask = mask;

@@ -44,9 +44,9 @@ use Rattle.ps_machine.proofs.GameKeys.Standing.{one_state, same_some, zip_at}
 -- ## Memories
 
 -- what stands at the place that a table gives
-pub at_position : {X : Type 0} (test : X → Bool) (xs : List X) (d : X) (i : ℕ) → position test xs ≡ Some i →
+pub at_position : {X : Type 0} (test : X → Bool) (xs : List X) (d : X) {i : ℕ} → position test xs ≡ Some i →
     (x : X) × (slice_get xs i ≡ Some x) × (test x ≡ true)
-at_position test xs d i e =
+at_position test xs d {i} e =
     let there = position-Some test xs i d e in
     (get_or xs i d, slice_get-get_or xs i d there.0, there.1)
 
@@ -88,10 +88,10 @@ stands_for {is_first} {keys} {kept} {marks} memory v q p differ m at is w there 
 -- ## Used vertices
 
 -- a path goes on by any edge, but by the winner's move where the winner moves
-pub used_more : {game : ParityGame} {certificate : CertificateData} {v : ℕ} (w : ℕ) → IsUsed game certificate v →
+pub used_more : {game : ParityGame} {certificate : CertificateData} {v : ℕ} {w : ℕ} → IsUsed game certificate v →
     HasEdge game v w → w < vertex_count game → (owner_of game v ≡ winner certificate → choice_of certificate v ≡ Some w)
     → IsUsed game certificate w
-used_more {game} {certificate} w u edge within chosen =
+used_more {game} {certificate} {w} u edge within chosen =
     let long = length_push u.path w in
     let Goes : ℕ → Type 0 = λ x. owner_of game x ≡ winner certificate → choice_of certificate x ≡ Some w in
     record {
@@ -170,7 +170,7 @@ module _ {board : Board} {mover : ℕ} {keys : List Key} {game : ParityGame} {ce
         chosen = there.0;
         choice = there.1;
         edge = there.2;
-        used = used_more there.0 used there.2 next (λ o. there.1);
+        used = used_more used there.2 next (λ o. there.1);
       }
 
   -- the keys to which a vertex's key leads
@@ -179,7 +179,7 @@ module _ {board : Board} {mover : ℕ} {keys : List Key} {game : ParityGame} {ce
   next_keys v k at =
       let vertex = s.by_keys.vertices v (within_game s v at) in (
         vertex.next,
-        subst (λ l. LeadsTo board l vertex.next) (same_some vertex.key k (sym vertex.stands ∙ at)) vertex.leads_to,
+        subst (λ l. LeadsTo board l vertex.next) (same_some (sym vertex.stands ∙ at)) vertex.leads_to,
         vertex.successors,
       )
 
@@ -253,8 +253,8 @@ module _ {board : Board} {mover : ℕ} {keys : List Key} {game : ParityGame} {ce
 
 -- ## The vertices of memories
 
-pub not_both : (r c q p : ℕ) → Second r c ≡ First q p → ⊥
-not_both r c q p e = search rules
+pub not_both : {r c q p : ℕ} → Second r c ≡ First q p → ⊥
+not_both e = search rules
 
 module _ {order : Order} {a : AutomatonData} {keys : List Key} {certificate : CertificateData} {is_first : Bool}
     {kept marks : List ℕ} (plan : IsPlan order a keys certificate is_first kept marks) where
@@ -282,15 +282,14 @@ module _ {order : Order} {a : AutomatonData} {keys : List Key} {certificate : Ce
   pub kept_within : (v : ℕ) → Contains kept v → v < length keys
   kept_within v c = let k = kept_at v c in slice_get_within keys v (First k.state k.priority) k.stands
 
-  pub kept_stands : (v : ℕ) → Contains kept v → (q p : ℕ) → get_or keys v (First 0 0) ≡ First q p →
+  pub kept_stands : (v : ℕ) → Contains kept v → {q p : ℕ} → get_or keys v (First 0 0) ≡ First q p →
       StandsAt keys v (First q p)
-  kept_stands v c q p is = slice_get-get_or keys v (First 0 0) (kept_within v c) ∙ ap (λ k. Some k) is
+  kept_stands v c is = slice_get-get_or keys v (First 0 0) (kept_within v c) ∙ ap (λ k. Some k) is
 
   pub kept_not_second : (v : ℕ) → Contains kept v → (q x : ℕ) → get_or keys v (First 0 0) ≡ Second q x → ⊥
   kept_not_second v c q x is =
       let k = kept_at v c in
-      not_both q x k.state k.priority (sym is ∙ get_or_from_slice_get keys v (First k.state k.priority)
-      (First 0 0) k.stands)
+      not_both (sym is ∙ get_or_from_slice_get keys v (First k.state k.priority) (First 0 0) k.stands)
 
   pub kept_entry : (v : ℕ) → Contains kept v → v < length certificate.entries
   kept_entry v c =
@@ -324,7 +323,7 @@ module _ {order : Order} {a : AutomatonData} {keys : List Key} {certificate : Ce
         let only : length u.path - 1 ≡ 0 = omega (arith, one, some) in
         let zero_is : 0 ≡ v = sym u.begins ∙ ap (slice_index u.path) (sym only) ∙ u.ends in
         let start : a.start ≡ q =
-        one_state keys v a.start 0 q p (subst (λ n. StandsAt keys n (First a.start 0)) zero_is s.by_keys.begins) at in
+        one_state keys v 0 p (subst (λ n. StandsAt keys n (First a.start 0)) zero_is s.by_keys.begins) at in
         let below = w.start in
         omega (arith, start, below))
   ]
@@ -335,10 +334,10 @@ module _ {order : Order} {a : AutomatonData} {keys : List Key} {certificate : Ce
       behind_key : (x : ℕ) (k : Key) → StandsAt keys x k → HasEdge plan.game x v → q ≤ a.states
       behind_key x (First r o) there edge =
           let c = class_at s x v there edge in
-          absurd (not_both r c.letter q p (same_some (Second r c.letter) (First q p) (sym c.stands ∙ at)))
+          absurd (not_both (same_some (sym c.stands ∙ at)))
       behind_key x (Second r c) there edge =
           let m = move_to s x v there edge in
-          let same = one_state keys v _ _ q p m.goes.stands at in
+          let same = one_state keys v _ p m.goes.stands at in
           let small = small_next w r (c + m.letter) in
           omega (arith, same, small)
 
@@ -367,9 +366,9 @@ keeps_rows eq old row new e =
     (by_case (λ rows. KeepsRows old rows) (list_any (eq row) old) old (old ++ row ∷ [])
     (record { same = λ leaf r is. is }) (record { same = λ leaf r is. slice_get-left old (row ∷ []) leaf r is }))
 
-pub all_rows : (P : Row → Type 0) (eq : Row → Row → Bool) (old : List Row) (row : Row) (new : List Row) →
+pub all_rows : (P : Row → Type 0) (eq : Row → Row → Bool) (old : List Row) (row : Row) {new : List Row} →
     new ≡ insert_key eq old row → All P old → P row → All P new
-all_rows P eq old row new e all here =
+all_rows P eq old row e all here =
     subst (λ rows. All P rows) (sym e) (by_case (λ rows. All P rows) (list_any (eq row) old) old (old ++ row ∷ []) all
     (All-push P old row all here))
 

@@ -147,10 +147,10 @@ pub renamed : (t u : Table) (places values : List ℕ) (rest made : ℕ) → val
 renamed t u places values rest made same named x = named x ∙ ap
     (λ (l : List ℕ). option_map (λ k. slice_index l k) (leaf_of t rest x)) same
 
-pub renamed_within : (t : Table) (places values : List ℕ) (rest : ℕ) → values ≡ places →
+pub renamed_within : (t : Table) {places values : List ℕ} (rest : ℕ) → values ≡ places →
     ((x : ℕ) → x < 2 ^ t.propositions → IfSome (leaf_of t rest x) (λ k. k < length places)) →
     (x : ℕ) → x < 2 ^ t.propositions → IfSome (leaf_of t rest x) (λ k. k < length values)
-renamed_within t places values rest same within = subst
+renamed_within t rest same within = subst
     (λ (l : List ℕ). (x : ℕ) → x < 2 ^ t.propositions → IfSome (leaf_of t rest x) (λ k. k < length l)) (sym same) within
 
 -- a class of the list
@@ -193,14 +193,14 @@ module _ {a : AutomatonData} {keys : List Key} {is_first : Bool} {board : Board}
       record { same_rows = keeps_rows_same old; each = each; placed = λ k d none. absurd (omega (arith, none)) }
 
   -- the row of a leaf is added
-  pub add_row : (eq : Row → Row → Bool) (rows : List Row) (places : List ℕ) (n : ℕ) (row : Row) (new : List Row) →
+  pub add_row : (eq : Row → Row → Bool) {rows : List Row} {places : List ℕ} {n : ℕ} {row : Row} {new : List Row} →
       AreNoted a keys is_first board kept letter found old rows places n → new ≡ insert_key eq rows row →
       IsRow is_first board kept row → AreNoted a keys is_first board kept letter found old new places n
-  add_row eq rows places n row new h e is =
+  add_row eq {rows} {row} {new} h e is =
       let k = keeps_rows eq rows row new e in
       record {
         same_rows = keeps_rows_trans h.same_rows k;
-        each = all_rows (IsRow is_first board kept) eq rows row new e h.each is;
+        each = all_rows (IsRow is_first board kept) eq rows row e h.each is;
         placed = λ i d within.
             (let p = h.placed i d within in
             record {
@@ -214,13 +214,13 @@ module _ {a : AutomatonData} {keys : List Key} {is_first : Bool} {board : Board}
       }
 
   -- and its place is noted
-  pub note_more : (rows : List Row) (places more : List ℕ) (n leaf place : ℕ) (row : Row) →
+  pub note_more : {rows : List Row} {places more : List ℕ} {n leaf place : ℕ} {row : Row} →
       AreNoted a keys is_first board kept letter found old rows places n → ((d : ℕ × ℕ) → (get_or found n d).0 ≡ leaf) →
       slice_get rows place ≡ Some row → row.letter ≡ letter → ((v : ℕ) → StandsAt keys v (step_key (pair_of a leaf)) →
       StandsFor is_first keys kept row.memory v (pair_of a leaf).state) →
       slice_get more leaf ≡ Some place → ((other i : ℕ) → other ≢ leaf → slice_get places other ≡ Some i →
       slice_get more other ≡ Some i) → AreNoted a keys is_first board kept letter found old rows more (n + 1)
-  note_more rows places more n leaf place row h is at plays next noted others = record {
+  note_more {rows} {places} {more} {n} {leaf} {place} {row} h is at plays next noted others = record {
     same_rows = h.same_rows;
     each = h.each;
     placed = λ k d within. at_leaf (get_or found k d).0 (λ differ. h.placed k d (earlier k d differ within));
@@ -312,12 +312,12 @@ module _ {order : Order} {a : AutomatonData} {keys : List Key} {certificate : Ce
       let to = class_chosen v chosen is_kept k.stands choice in
       slice_get_within keys chosen (Second k.state to.0) to.2
 
-  pub chosen_not_first : (v chosen r o : ℕ) → Contains kept v → choice_of certificate v ≡ Some chosen →
+  pub chosen_not_first : (v : ℕ) {chosen r o : ℕ} → Contains kept v → choice_of certificate v ≡ Some chosen →
       get_or keys chosen (First 0 0) ≡ First r o → ⊥
-  chosen_not_first v chosen r o is_kept choice is =
+  chosen_not_first v {chosen} is_kept choice is =
       let k = kept_at plan v is_kept in
       let to = class_chosen v chosen is_kept k.stands choice in
-      not_both k.state to.0 r o (sym (get_or_from_slice_get keys chosen (Second k.state to.0) (First 0 0) to.2) ∙ is)
+      not_both (sym (get_or_from_slice_get keys chosen (Second k.state to.0) (First 0 0) to.2) ∙ is)
 
   pub plays_class : (v chosen r letter : ℕ) → Contains kept v → choice_of certificate v ≡ Some chosen →
       get_or keys chosen (First 0 0) ≡ Second r letter → (q p : ℕ) → StandsAt keys v (First q p) →
@@ -359,7 +359,7 @@ module _ {order : Order} {a : AutomatonData} {keys : List Key} {certificate : Ce
           plan = plan;
           vertex = on.vertex;
           stands = subst (λ (x : Step). StandsAt keys on.vertex (First x.state x.priority)) there on.stands;
-          is_used = used_more on.vertex used on.edge (within_game s on.vertex on.stands) (λ own. absurd (other own));
+          is_used = used_more used on.edge (within_game s on.vertex on.stands) (λ own. absurd (other own));
         };
       } in
       subst (λ (x : ℕ × ℕ). IsEntered order a keys certificate is_first kept marks x.0)

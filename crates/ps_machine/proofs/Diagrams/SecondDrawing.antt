@@ -57,10 +57,10 @@ not_same x y e same = absurd (both (x == y) (eq-eqb x y same) e)
     both b t f = search rules
 
 -- the number that the table of keys gives
-pub found_at : (keys : List Key) (key : Key) (i : ℕ) → position ((key_eq.eq-value).it key) keys ≡ Some i →
+pub found_at : (keys : List Key) (key : Key) {i : ℕ} → position ((key_eq.eq-value).it key) keys ≡ Some i →
     StandsAt keys i key
-found_at keys key i e =
-    let there = at_position ((key_eq.eq-value).it key) keys key i e in
+found_at keys key {i} e =
+    let there = at_position ((key_eq.eq-value).it key) keys key e in
     there.1 ∙ ap (λ k. Some k) (sym (same_key key there.0 there.2))
 
 abbrev pair : AutomatonData → ℕ → ℕ → Key
@@ -95,7 +95,7 @@ module _ {order : Order} {a : AutomatonData} {keys : List Key} {certificate : Ce
       let small : winner certificate < 2 = plan.fits.winners 0 (within_game s 0 s.by_keys.begins) in
       let to = to_class_of s e.vertex e.stands is in
       let behind : to.vertex < vertex_count game = within_game s to.vertex to.stands in
-      let used : IsUsed game certificate to.vertex = used_more to.vertex e.is_used to.edge behind
+      let used : IsUsed game certificate to.vertex = used_more e.is_used to.edge behind
       (λ own. absurd (loses (sym (first_owner s e.vertex e.stands) ∙ own))) in
       let owner = second_owner s to.vertex to.stands in
       let own : owner_of game to.vertex ≡ winner certificate = omega (arith, owner, loses, small, s.is_mover) in
@@ -127,7 +127,7 @@ module _ {order : Order} {a : AutomatonData} {keys : List Key} {certificate : Ce
 
     module _ (step : Step) (e : step_key step ≡ pair a q (x + r.letter)) where
       same_step : step ≡ step_of a q (x + r.letter)
-      same_step = step_of_key step (step_of a q (x + r.letter)) e
+      same_step = step_of_key e
 
       pub reply_is : IsReply (board_of order a) keys certificate q x step.state step.priority
       reply_is = record {
@@ -163,7 +163,7 @@ module _ {order : Order} {a : AutomatonData} {mask : ℕ} {t : Table} {keys : Li
         get_or found m.place (0, 0),
         m.within,
         get_or_default found m.place (get_or found m.place (0, 0)) (0, 0) m.within,
-        is ∙ same_pair (step_of a q (x + reply.letter)) step reply.state reply.priority,
+        is ∙ same_pair reply.state reply.priority,
       )
 
   -- the move that leads to the step is the least letter that does
@@ -188,8 +188,7 @@ module _ {order : Order} {a : AutomatonData} {mask : ℕ} {t : Table} {keys : Li
           least = record {
             here = (move.here.0, goes);
             none_before = λ z other before.
-                (let same = step_of_key (step_of a q (x + z)) (step_of a q (x + letter))
-                (same_some _ _ (sym other.1.stands ∙ goes.stands)) in
+                (let same = step_of_key (same_some (sym other.1.stands ∙ goes.stands)) in
                 move.none_before z (
                   other.0,
                   record {
@@ -306,7 +305,7 @@ named_as N {ys} {same} is are zip = subst (λ l. AllZip N l same) is (subst (λ 
 pub class_each : {order : Order} {a : AutomatonData} {mask : ℕ} {t : Table} {q : ℕ} {c : Classes} →
     IsFit order a mask t → AreClassesOf a mask t q c →
     All (λ (c : Class). IsClass (board_of order a) q c.letter) c.list.items
-class_each {c} f of k d within = class_is f of k (get_or c.list.items k d) (slice_get-get_or c.list.items k d within)
+class_each {c} f of k d within = class_is f of k (slice_get-get_or c.list.items k d within)
 
 some_if : (o : Option ℕ) (n m : ℕ) → m ≡ n → IsSomeAnd o (λ k. k < n) → IfSome o (λ k. k < m)
 some_if None n m e is = tt

@@ -45,11 +45,11 @@ plain_parts all s d b e p h r =
     (All-cons (λ x. x ≢ quote) b d h r))
 
 -- the digits of one more proposition
-pub digits_more : (board : Board) (x p : ℕ) (start old new : List ℕ) (is_played is_true : Bool) →
+pub digits_more : (board : Board) (x p : ℕ) (start : List ℕ) {old new : List ℕ} {is_played is_true : Bool} →
     is_played ≡ board.is_first p → is_true ≡ is_in p x →
     old ≡ start ++ first_digits board x p → new ≡ old ++ digit_if is_played is_true →
     new ≡ start ++ first_digits board x (p + 1)
-digits_more board x p start old new is_played is_true f t e h =
+digits_more board x p start {is_played} {is_true} f t e h =
     let next : suc p ≡ p + 1 = omega arith in
     let digit : digit_if is_played is_true ≡ digit_of board x p = ap₂ (λ (a b : Bool). digit_if a b) f t in
     h ∙ ap₂ (λ (a b : List ℕ). a ++ b) e digit ∙ append_assoc start (first_digits board x p) (digit_of board x p)
@@ -82,9 +82,9 @@ range_push a (suc n) = ap (λ l. a ∷ l) (range_push (a + 1) n ∙ ap (λ k. ra
     shift : (k m : ℕ) → k + 1 + m ≡ k + suc m
     shift k m = omega arith
 
-pub range_more : (n : ℕ) (old new : List ℕ) → old ≡ range_with_len 0 n → new ≡ old ++ n ∷ [] →
+pub range_more : (n : ℕ) {old new : List ℕ} → old ≡ range_with_len 0 n → new ≡ old ++ n ∷ [] →
     new ≡ range_with_len 0 (n + 1)
-range_more n old new e h =
+range_more n e h =
     let next : suc n ≡ n + 1 = omega arith in
     let same : 0 + n ≡ n = omega arith in
     h ∙ ap (λ l. l ++ n ∷ []) e ∙ ap (λ k. range_with_len 0 n ++ k ∷ []) (sym same) ∙ sym (range_push 0 n)

@@ -188,12 +188,11 @@ module _ (m : Behaviour) (is_machine : IsMachine m) where
   ]
 
   -- what it makes is a letter
-  pub letter_within : (memory letter next : ℕ) → memory < m.memories → Makes m memory letter next →
+  pub letter_within : {memory letter next : ℕ} → memory < m.memories → Makes m memory letter next →
       letter < 2 ^ length m.names
-  letter_within memory letter next within makes =
+  letter_within {memory} within makes =
       let output = is_machine.plays_own memory makes.input within in
-      let sum =
-      sum_within (length m.names) makes.input (m.plays memory makes.input) makes.is_input.within output.within
+      let sum = sum_within (length m.names) makes.input (m.plays memory makes.input) makes.is_input.within output.within
       (apart makes.input (m.plays memory makes.input) makes.is_input output) in
       omega (arith, sum, makes.joined)
 

@@ -31,8 +31,7 @@ module _ {file : FileData} {chain : Chain} {a : AutomatonData} (order : Order) {
     {certificate : CertificateData} {m : Behaviour} (built : IsBuiltFrom file chain a)
     (is_game : IsGameOf (board_of order a) (mover_of order) keys game) (fits : Fits game certificate)
     (valid : IsValid game certificate) (is_machine : IsMachine m) (has : HasPropositions a.names (board_of order a) m)
-    (made : IsMachineOf (board_of order a) (mover_of order) keys
-    game certificate m) where
+    (made : IsMachineOf (board_of order a) (mover_of order) keys game certificate m) where
   setting : Setting (board_of order a) (mover_of order) keys game certificate
   setting = record { is_mover = small_mover order; by_keys = is_game.by_keys; fits = fits; valid = valid }
 
@@ -42,7 +41,7 @@ module _ {file : FileData} {chain : Chain} {a : AutomatonData} (order : Order) {
   module _ (stem lap : List ℕ) (l : IsLasso m stem lap) where
     each_letter : (t : ℕ) → t < length (stem ++ lap) → slice_index (stem ++ lap) t < 2 ^ length file.names
     each_letter t within =
-        let less = letter_within m is_machine (l.memories t) (slice_index (stem ++ lap) t) (l.memories (t + 1))
+        let less = letter_within m is_machine
         (memories_of_lasso m is_machine stem lap l t (omega (arith, within))) (l.makes t within) in
         subst (λ n. slice_index (stem ++ lap) t < 2 ^ n) names_are less
 

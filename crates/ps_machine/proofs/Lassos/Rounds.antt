@@ -82,12 +82,12 @@ module _ {board : Board} {mover : ℕ} {keys : List Key} {game : ParityGame} {ce
   pub owner_at : (v : ℕ) {k : Key} → StandsAt keys v k → owner_of game v ≡ owner_of_key mover k
   owner_at v {k} at =
       let vertex = s.by_keys.vertices v (within_game v at) in
-      vertex.owner ∙ ap (owner_of_key mover) (same_some vertex.key k (sym vertex.stands ∙ at))
+      vertex.owner ∙ ap (owner_of_key mover) (same_some (sym vertex.stands ∙ at))
 
   pub priority_here : (v : ℕ) {k : Key} → StandsAt keys v k → priority_of game v ≡ priority_of_key k
   priority_here v {k} at =
       let vertex = s.by_keys.vertices v (within_game v at) in
-      vertex.priority ∙ ap priority_of_key (same_some vertex.key k (sym vertex.stands ∙ at))
+      vertex.priority ∙ ap priority_of_key (same_some (sym vertex.stands ∙ at))
 
   -- an edge to the vertex of a key to which the key leads
   edge_by_key : (v w : ℕ) (k l : Key) → StandsAt keys v k → StandsAt keys w l →
@@ -96,7 +96,7 @@ module _ {board : Board} {mover : ℕ} {keys : List Key} {game : ParityGame} {ce
       let within = within_game v at in
       let vertex = s.by_keys.vertices v within in
       let from : LeadsTo board k vertex.next =
-      subst (λ key. LeadsTo board key vertex.next) (same_some vertex.key k (sym vertex.stands ∙ at)) vertex.leads_to in
+      subst (λ key. LeadsTo board key vertex.next) (same_some (sym vertex.stands ∙ at)) vertex.leads_to in
       let one : (u : ℕ) → StandsAt keys u l → u ≡ w = λ u is. same_place u w is there in (
         within,
         decided (successors_of game v) (λ none. leads vertex.next from

@@ -33,31 +33,29 @@ number_in : Option ℕ → ℕ
 number_in None = 0
 number_in (Some n) = n
 
-same_number : (a b : ℕ) (o : Option ℕ) → o ≡ Some a → o ≡ Some b → a ≡ b
+same_number : {a b : ℕ} {o : Option ℕ} → o ≡ Some a → o ≡ Some b → a ≡ b
 unfolding number_in
-same_number a b o e f = ap number_in (sym e ∙ f)
+same_number e f = ap number_in (sym e ∙ f)
 
 -- the kept vertex of a memory that stands at a vertex has the vertex's state
-same_state : (first : Bool) (keys : List Key) (kept : List ℕ) (memory v q p u r o : ℕ) →
+same_state : {first : Bool} {keys : List Key} {kept : List ℕ} {memory v q : ℕ} (p : ℕ) {u r : ℕ} (o : ℕ) →
     StandsFor first keys kept memory v q → StandsAt keys v (First q p) → slice_get kept memory ≡ Some u →
     StandsAt keys u (First r o) → r ≡ q
-same_state first keys kept memory v q p u r o f at is there =
-    let same : f.vertex ≡ u = same_number f.vertex u (slice_get kept memory) f.is_kept is in
+same_state {first} {keys} {kept} {memory} {v} {q} p {u} {r} o f at is there =
+    let same : f.vertex ≡ u = same_number f.is_kept is in
     let state : r ≡ f.state =
-    one_state keys u r o f.state f.priority there (subst (λ n. StandsAt keys n (First f.state f.priority))
-    same f.stands) in
+    one_state keys u o f.priority there (subst (λ n. StandsAt keys n (First f.state f.priority)) same f.stands) in
     state ∙ by first f.shares
   where
     by : (b : Bool) → Shares b f.vertex f.state v q → f.state ≡ q
     by true shares =
-        one_state keys v f.state f.priority q p (subst (λ n. StandsAt keys n (First f.state f.priority))
-        shares f.stands) at
+        one_state keys v f.priority p (subst (λ n. StandsAt keys n (First f.state f.priority)) shares f.stands) at
     by false shares = shares
 
-same_vertex : (first : Bool) (keys : List Key) (kept : List ℕ) (memory v q u : ℕ) →
+same_vertex : (first : Bool) {keys : List Key} {kept : List ℕ} {memory v q u : ℕ} →
     StandsFor first keys kept memory v q → slice_get kept memory ≡ Some u → first ≡ true → u ≡ v
-same_vertex true keys kept memory v q u f is e = same_number u f.vertex (slice_get kept memory) is f.is_kept ∙ f.shares
-same_vertex false keys kept memory v q u f is e = search rules
+same_vertex true f is e = same_number is f.is_kept ∙ f.shares
+same_vertex false f is e = search rules
 
 -- the values of a function as a list
 list_of : (ℕ → ℕ) → ℕ → List ℕ
@@ -171,17 +169,14 @@ module _ {board : Board} {mover : ℕ} {keys : List Key} {game : ParityGame} {ce
       let within : memory < m.memories =
       omega (arith, made.memories, slice_get_within made.kept memory f.vertex f.is_kept) in
       let step = made.steps memory x within (others x input) in
-      let state : step.state ≡ q =
-      same_state m.is_first keys made.kept memory v q p step.vertex step.state step.priority f at
-      step.is_kept step.stands in
+      let state : step.state ≡ q = same_state p step.priority f at step.is_kept step.stands in
       let letter = m.plays memory x in
       let played : IsPlayed m.is_first board keys certificate step.vertex q x letter =
       subst (λ n. IsPlayed m.is_first board keys certificate step.vertex n x letter) state step.played in
       let goes : GoesTo keys board q (x + letter) step.entered =
       subst (λ n. GoesTo keys board n (x + letter) step.entered) state step.goes in
       let round = round_by m.is_first made.is_first v step.vertex q p x letter step.entered
-      (same_vertex m.is_first keys made.kept memory v q step.vertex f step.is_kept) here at played
-      (others x input) goes in
+      (same_vertex m.is_first f step.is_kept) here at played (others x input) goes in
       record {
         vertex = step.entered;
         stands = goes.stands;
@@ -335,11 +330,9 @@ module _ {board : Board} {mover : ℕ} {keys : List Key} {game : ParityGame} {ce
           there.at_memory in
           let h = here.at_memory in
           let kept_state : h.state ≡ state_at a w from =
-          same_state m.is_first keys made.kept (memories from) here.vertex (state_at a w from) (entering a w from)
-          h.vertex h.state h.priority h here.stands h.is_kept h.stands in
-          let kept_there : h.state ≡ state_at a w (from + count) =
-          same_state m.is_first keys made.kept (memories from) there.vertex (state_at a w (from + count))
-          (entering a w (from + count)) h.vertex h.state h.priority f there.stands h.is_kept h.stands in
+          same_state (entering a w from) h.priority h here.stands h.is_kept h.stands in
+          let kept_there : h.state ≡ state_at a w (from + count) = same_state
+          (entering a w (from + count)) h.priority f there.stands h.is_kept h.stands in
           sym kept_there ∙ kept_state
 
       -- one step later it is at the same vertex again

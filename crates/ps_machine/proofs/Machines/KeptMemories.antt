@@ -45,9 +45,9 @@ module _ {is_first : Bool} {keys : List Key} {used kept marks : List ℕ} (m : A
             ∙ sym (get_or_from_slice_get marks l x 0 b))
 
     -- the memory of a used vertex stands for it, and is kept there or before
-    pub memory_of : (w r p : ℕ) → AllPairs (λ x y. x ≢ y) keys → Contains used w → StandsAt keys w (First r p) →
+    pub memory_of : {w r : ℕ} (p : ℕ) → AllPairs (λ x y. x ≢ y) keys → Contains used w → StandsAt keys w (First r p) →
         (memory : ℕ) × (memory < length kept) × StandsFor is_first keys kept memory w r
-    memory_of w r p differ is_used stands =
+    memory_of {w} {r} p differ is_used stands =
         let h = m.found w r p is_used stands in (
           h.memory,
           omega (arith, slice_get_within marks h.memory (mark_of is_first w r) h.is_marked, m.many),

@@ -45,13 +45,13 @@ use Rattle.ps_machine.proofs.GameKeys.Standing.{one_state, same_some, stand-with
 module _ {game : ParityGame} {certificate : CertificateData} (valid : IsValid game certificate)
     (within : (v w : ℕ) → HasEdge game v w → w < vertex_count game) where
   add_first : (xs old : List ℕ) (n : ℕ) → n ≤ length xs → (new : List ℕ) × Adds (Contains (take n xs)) old new
-  add_first xs old zero few = (old, adds_none (Contains (take zero xs)) old (λ w c. omega (arith, c.1)))
+  add_first xs old zero few = (old, adds_none (λ w c. omega (arith, c.1)))
   add_first xs old (suc n) few =
       let before = add_first xs old n (omega (arith, few)) in
       let new = insert_key nat_eq before.0 (get_or xs n 0) in (
         new,
         subst (λ i. Adds (Contains (take i xs)) old new) (add-one n)
-            (adds_next xs n old before.0 new (get_or xs n 0) (omega (arith, few)) refl refl before.1),
+            (adds_next xs n (omega (arith, few)) refl refl before.1),
       )
 
   add_next : (v : ℕ) (old : List ℕ) → IsUsed game certificate v →
@@ -61,7 +61,7 @@ module _ {game : ParityGame} {certificate : CertificateData} (valid : IsValid ga
     | inr other ↦
         let all = add_first (successors_of game v) old (length (successors_of game v)) (omega arith) in (
           all.0,
-          adds_all game certificate v (length (successors_of game v)) old all.0
+          adds_all game certificate v (length (successors_of game v))
               (used_within game certificate v used) other (omega arith) all.1,
         )
   ]
@@ -71,35 +71,34 @@ module _ {game : ParityGame} {certificate : CertificateData} (valid : IsValid ga
       by own None e = (old, adds_no_move game certificate v old own e)
       by own (Some chosen) e = (
         insert_key nat_eq old chosen,
-        adds_move game certificate v chosen old (insert_key nat_eq old chosen) valid used own e refl,
+        adds_move game certificate valid used own e refl,
       )
 
   search_on : (fuel turn : ℕ) (found : List ℕ) → IsSearched game certificate found turn →
       vertex_count game ≤ turn + fuel → (found : List ℕ) × AreUsed game certificate found
   search_on zero turn found s enough =
-      (let few = search_bounded game certificate found turn s in
-      (found, search_done game certificate found turn s (omega (arith, few, enough))))
+      (let few = search_bounded game certificate s in
+      (found, search_done game certificate s (omega (arith, few, enough))))
   search_on (suc fuel) turn found s enough = elim (cases_lt turn (length found)) [
-    | inr done ↦ (found, search_done game certificate found turn s done)
+    | inr done ↦ (found, search_done game certificate s done)
     | inl more ↦
         let v = get_or found turn 0 in
         let at : Some v ≡ slice_get found turn = sym (slice_get-get_or found turn 0 more) in
-        let next = add_next v found (used_at game certificate found turn v s at) in
-        search_on fuel (turn + 1) next.0 (search_next game certificate found next.0 turn v within s at next.1)
-        (omega (arith, enough))
+        let next = add_next v found (used_at game certificate s at) in
+        search_on fuel (turn + 1) next.0 (search_next game certificate within s at next.1) (omega (arith, enough))
   ]
 
   used_there : 0 < vertex_count game → (found : List ℕ) × AreUsed game certificate found
   used_there some =
-      search_on (vertex_count game) 0 (insert_key nat_eq [] 0) (search_first game certificate []
-      (insert_key nat_eq [] 0) some refl refl) (omega arith)
+      search_on (vertex_count game) 0 (insert_key nat_eq [] 0) (search_first game certificate some refl refl)
+      (omega arith)
 
 -- ## Memories
 
 module _ (is_first : Bool) (keys : List Key) (used : List ℕ) where
   memories_below : (n : ℕ) → n ≤ length keys → (kept : List ℕ) × (marks : List ℕ) ×
       AreMemoriesBelow is_first keys used kept marks n
-  memories_below zero few = ([], [], none_below is_first keys used [] [] refl refl)
+  memories_below zero few = ([], [], none_below is_first keys used refl refl)
   memories_below (suc n) few =
       (let m = memories_below n (omega (arith, few)) in at m.0 m.1 m.2 (get_or keys n (First 0 0))
       (slice_get-get_or keys n (First 0 0) (omega (arith, few))))
@@ -111,22 +110,21 @@ module _ (is_first : Bool) (keys : List Key) (used : List ℕ) where
         kept,
         marks,
         subst (AreMemoriesBelow is_first keys used kept marks) (add-one n)
-            (below_skip is_first keys used kept marks n (λ r p is_used other.
-            not_both q x r p (same_some (Second q x) (First r p) (sym stands ∙ other))) m),
+            (below_skip is_first keys used (λ r p is_used other. not_both (same_some (sym stands ∙ other))) m),
       )
       at kept marks m (First q p) stands = elim (contained_or_not used n) [
         | inr not_used ↦ (
           kept,
           marks,
           subst (AreMemoriesBelow is_first keys used kept marks) (add-one n)
-              (below_skip is_first keys used kept marks n (λ r o is_used other. not_used is_used) m),
+              (below_skip is_first keys used (λ r o is_used other. not_used is_used) m),
         )
         | inl is_used ↦ elim (contained_or_not marks (mark_of is_first n q)) [
           | inl came ↦ (
             kept,
             marks,
             subst (AreMemoriesBelow is_first keys used kept marks) (add-one n)
-                (below_more is_first keys used kept marks n q p m stands is_used kept marks (Stays came refl refl)),
+                (below_more is_first keys used kept marks n q p m stands is_used (Stays came refl refl)),
           )
           | inr comes ↦
               let more = kept ++ n ∷ [] in
@@ -134,8 +132,7 @@ module _ (is_first : Bool) (keys : List Key) (used : List ℕ) where
                 more,
                 others,
                 subst (AreMemoriesBelow is_first keys used more others) (add-one n)
-                    (below_more is_first keys used kept marks n q p m stands is_used more others
-                    (Grows comes refl refl)),
+                    (below_more is_first keys used kept marks n q p m stands is_used (Grows comes refl refl)),
               )
         ]
       ]
@@ -145,7 +142,7 @@ module _ (is_first : Bool) (keys : List Key) (used : List ℕ) where
       (let m = memories_below (length keys) (omega arith) in (
         m.0,
         m.1,
-        all_below is_first keys used m.0 m.1 (length keys) (omega arith) m.2,
+        all_below is_first keys used (omega arith) m.2,
       ))
 
 -- ## Rows
@@ -186,11 +183,11 @@ module _ {board : Board} {mover : ℕ} {keys : List Key} {game : ParityGame} {ce
         (board.auto.priority q (x + c.letter))) = subst (StandsAt keys to.vertex)
         (ap₂ (λ a b. First a b) state priority) to.stands in
         let other : owner_of game chosen.chosen ≡ 1 - mover = second_owner s chosen.chosen c.stands in
-        let next_used : IsUsed game certificate to.vertex = used_more to.vertex chosen.used to.edge
+        let next_used : IsUsed game certificate to.vertex = used_more chosen.used to.edge
         (edge_within chosen.chosen to.vertex to.edge)
         (λ own. absurd (let mine : 1 - mover ≡ mover = sym other ∙ own ∙ sym wins in omega (arith, mine, s.is_mover)))
         in
-        let next = memory_of m to.vertex (board.auto.next q (x + c.letter))
+        let next = memory_of m
         (board.auto.priority q (x + c.letter)) s.by_keys.different ((are_used to.vertex).1 next_used) there in
         record {
           row = record { memory = next.0; letter = c.letter };
@@ -210,8 +207,7 @@ module _ {board : Board} {mover : ℕ} {keys : List Key} {game : ParityGame} {ce
         let loses : mover ≢ winner certificate = eqb-false mover (winner certificate) (sym turn) in
         let class = class_there board q x first in
         let to = to_class_of s v stands class.1 in
-        let to_used : IsUsed game certificate to.vertex =
-        used_more to.vertex is_used to.edge (edge_within v to.vertex to.edge)
+        let to_used : IsUsed game certificate to.vertex = used_more is_used to.edge (edge_within v to.vertex to.edge)
         (λ own. absurd (loses (sym (first_owner s v stands) ∙ own))) in
         let owner = second_owner s to.vertex to.stands in
         let chosen = move_at s to.stands to_used (omega (arith, owner, loses, small_winner, s.is_mover)) in
@@ -223,7 +219,7 @@ module _ {board : Board} {mover : ℕ} {keys : List Key} {game : ParityGame} {ce
         (board.auto.priority q (x + letter))) =
         subst (StandsAt keys chosen.chosen) (ap₂ (λ a b. First a b) (sym same.state) (sym same.priority))
         move.goes.stands in
-        let next = memory_of m chosen.chosen (board.auto.next q (x + letter))
+        let next = memory_of m
         (board.auto.priority q (x + letter)) s.by_keys.different ((are_used chosen.chosen).1 chosen.used) there in
         record {
           row = record { memory = next.0; letter = letter };
@@ -239,7 +235,7 @@ module _ {board : Board} {mover : ℕ} {keys : List Key} {game : ParityGame} {ce
               least = record {
                 here = (own, move.goes);
                 none_before = λ z other before.
-                    (let e = same_some _ _ (sym other.1.stands ∙ move.goes.stands) in
+                    (let e = same_some (sym other.1.stands ∙ move.goes.stands) in
                     move.is_move.none_before z (
                       other.0,
                       record {
@@ -270,19 +266,19 @@ listed_there is zero = ([], listed_none is)
 listed_there is (suc n) = (let l = listed_there is n in elim (cases_Bool (is n)) [
   | inl here ↦ (
     l.0 ++ n ∷ [],
-    subst (λ k. AreListedBelow k is (l.0 ++ n ∷ [])) (add-one n) (listed_with n is l.0 (l.0 ++ n ∷ []) here refl l.1),
+    subst (λ k. AreListedBelow k is (l.0 ++ n ∷ [])) (add-one n) (listed_with here refl l.1),
   )
-  | inr isnt ↦ (l.0, subst (λ k. AreListedBelow k is l.0) (add-one n) (listed_without n is l.0 l.0 isnt refl l.1))
+  | inr isnt ↦ (l.0, subst (λ k. AreListedBelow k is l.0) (add-one n) (listed_without isnt refl l.1))
 ])
 
 other_over : (b : Bool) (board : Board) (x : ℕ) → IsOther b board x → IsOver board.propositions (is_others b board) x
 other_over true board x other = second_over board x other
 other_over false board x other = first_over board x other
 
-pub over_other : (b : Bool) (board : Board) (x : ℕ) → IsOver board.propositions (is_others b board) x →
+pub over_other : (b : Bool) (board : Board) {x : ℕ} → IsOver board.propositions (is_others b board) x →
     IsOther b board x
-over_other true board x over = over_second board x over
-over_other false board x over = over_first board x over
+over_other true board {x} over = over_second board over
+over_other false board {x} over = over_first board over
 
 module _ (names : List (List ℕ)) {board : Board} {mover : ℕ} {keys : List Key} {game : ParityGame}
     {certificate : CertificateData} (few : length names ≤ 64) (are_names : AreNames names)
@@ -296,9 +292,7 @@ module _ (names : List (List ℕ)) {board : Board} {mover : ℕ} {keys : List Ke
 
     read_other : (x : ℕ) → IsOther first board (read x)
     unfolding read
-    read_other x =
-        over_other first board (part board.propositions (is_others first board) x)
-        (part_over board.propositions (is_others first board) x)
+    read_other x = over_other first board (part_over board.propositions (is_others first board) x)
 
     read_itself : (x : ℕ) → IsOther first board x → read x ≡ x
     unfolding read
@@ -386,8 +380,7 @@ module _ (names : List (List ℕ)) {board : Board} {mover : ℕ} {keys : List Ke
         let v = get_or kept memory 0 in
         let one = row_right memory x within in
         let other = row_right memory y within in
-        let state : other.state ≡ one.state =
-        one_state keys v other.state other.priority one.state one.priority other.stands one.stands in
+        let state : other.state ≡ one.state = one_state keys v other.priority one.priority other.stands one.stands in
         one_letter first board keys certificate v one.state (read (read x)) (read (read y)) (row memory x).letter
         (row memory y).letter is one.right.played
         (subst (λ q. IsPlayed first board keys certificate v q (read (read y)) (row memory y).letter) state

@@ -23,16 +23,16 @@ not_not true = refl
 not_not false = refl
 
 -- what stands at a place of a list stands there in a longer one
-marked_left : (marks : List ℕ) (mark memory x : ℕ) → slice_get marks memory ≡ Some x →
+marked_left : (marks : List ℕ) (mark memory : ℕ) {x : ℕ} → slice_get marks memory ≡ Some x →
     slice_get (marks ++ mark ∷ []) memory ≡ Some x
-marked_left marks mark memory x at =
+marked_left marks mark memory {x} at =
     let within = slice_get_within marks memory x at in
     slice_get-get_or (marks ++ mark ∷ []) memory x (omega (arith, within, length_push marks mark))
     ∙ ap (λ n. Some n) (get_or_append_left marks (mark ∷ []) x memory within
     ∙ get_or_from_slice_get marks memory x x at)
 
-marked_last : (marks : List ℕ) (mark : ℕ) → slice_get (marks ++ mark ∷ []) (length marks) ≡ Some mark
-marked_last marks mark =
+marked_last : (marks : List ℕ) {mark : ℕ} → slice_get (marks ++ mark ∷ []) (length marks) ≡ Some mark
+marked_last marks {mark} =
     slice_get-get_or (marks ++ mark ∷ []) (length marks) 0 (omega (arith, length_push marks mark))
     ∙ ap (λ n. Some n) (get_or_push marks mark 0 (length marks) refl)
 
@@ -48,10 +48,10 @@ is_absent xs x b told is there = both b (told ∙ list_any-from_Contains nat_eq_
     both : (b : Bool) → b ≡ true → b ≡ false → ⊥
     both b t f = search rules
 
-pub keeps_known : (kept marks : List ℕ) (v mark : ℕ) (new : List ℕ) (b : Bool) →
+pub keeps_known : {kept marks : List ℕ} {v mark : ℕ} {new : List ℕ} {b : Bool} →
     b ≡ not (list_any (nat_eq mark) marks) → b ≡ false → new ≡ insert_key nat_eq marks mark →
     KeepsAt kept marks v mark kept new
-keeps_known kept marks v mark new b told is e = elim (inserted marks mark new e) [
+keeps_known {marks} {mark} {new} {b} told is e = elim (inserted marks mark new e) [
   | inl there ↦ Stays there.0 refl there.1
   | inr comes ↦ absurd (comes.0 (is_there marks mark (not b) (ap not told ∙ not_not (list_any (nat_eq mark) marks))
       (ap not is)))
@@ -70,8 +70,8 @@ module _ (is_first : Bool) (keys : List Key) (used : List ℕ) where
     pub found : (v q p : ℕ) → v < n → Contains used v → StandsAt keys v (First q p) →
         HasMemory kept marks v (mark_of is_first v q)
 
-  pub none_below : (kept marks : List ℕ) → kept ≡ [] → marks ≡ [] → AreMemoriesBelow kept marks 0
-  none_below kept marks k m =
+  pub none_below : {kept marks : List ℕ} → kept ≡ [] → marks ≡ [] → AreMemoriesBelow kept marks 0
+  none_below {marks} k m =
       subst (λ l. AreMemoriesBelow l marks 0) (sym k) (subst (λ l. AreMemoriesBelow [] l 0) (sym m) (record {
         many = refl;
         rising = λ i j d rises within. absurd (omega (arith, within));
@@ -88,9 +88,9 @@ module _ (is_first : Bool) (keys : List Key) (used : List ℕ) where
       less v h = omega (arith, h)
 
   -- a vertex without a memory: it is not used, or the first player does not move there
-  pub below_skip : (kept marks : List ℕ) (n : ℕ) → ((q p : ℕ) → Contains used n → StandsAt keys n (First q p) → ⊥) →
+  pub below_skip : {kept marks : List ℕ} {n : ℕ} → ((q p : ℕ) → Contains used n → StandsAt keys n (First q p) → ⊥) →
       AreMemoriesBelow kept marks n → AreMemoriesBelow kept marks (n + 1)
-  below_skip kept marks n none m = record {
+  below_skip {kept} {n} none m = record {
     many = m.many;
     rising = m.rising;
     different = m.different;
@@ -131,7 +131,7 @@ module _ (is_first : Bool) (keys : List Key) (used : List ℕ) where
     found_more kept' marks' still here v r l less used_v at = elim (less_or_last v n less) [
       | inl before ↦ still v (mark_of is_first v r) (m.found v r l before used_v at)
       | inr now ↦
-          let same : q ≡ r = one_state keys n q p r l stands (subst (λ w. StandsAt keys w (First r l)) now at) in
+          let same : q ≡ r = one_state keys n p l stands (subst (λ w. StandsAt keys w (First r l)) now at) in
           subst (λ w. HasMemory kept' marks' w (mark_of is_first w r)) (sym now)
           (subst (λ s. HasMemory kept' marks' n (mark_of is_first n s)) same here)
     ]
@@ -142,7 +142,7 @@ module _ (is_first : Bool) (keys : List Key) (used : List ℕ) where
         let within : h.memory < length kept = omega (arith, slice_get_within marks h.memory x h.is_marked, m.many) in
         record {
           memory = h.memory;
-          is_marked = marked_left marks (mark_of is_first n q) h.memory x h.is_marked;
+          is_marked = marked_left marks (mark_of is_first n q) h.memory h.is_marked;
           behind = subst (λ w. w ≤ v) (sym (kept_left h.memory within)) h.behind;
         }
 
@@ -151,7 +151,7 @@ module _ (is_first : Bool) (keys : List Key) (used : List ℕ) where
       memory = length kept;
       is_marked =
           subst (λ i. slice_get (marks ++ mark_of is_first n q ∷ []) i ≡ Some (mark_of is_first n q)) m.many
-          (marked_last marks (mark_of is_first n q));
+          (marked_last marks);
       behind = omega (arith, kept_last);
     }
 
@@ -167,8 +167,7 @@ module _ (is_first : Bool) (keys : List Key) (used : List ℕ) where
           is_used = subst (λ w. Contains used w) same old.is_used;
           mark =
               subst (λ w. slice_get (marks ++ mark_of is_first n q ∷ []) memory ≡ Some (mark_of is_first w old.state))
-              same (marked_left marks (mark_of is_first n q) memory
-              (mark_of is_first (get_or kept memory 0) old.state) old.mark);
+              same (marked_left marks (mark_of is_first n q) memory old.mark);
         }
 
     memory_last : IsMemory is_first keys used (kept ++ n ∷ []) (marks ++ mark_of is_first n q ∷ []) (length kept)
@@ -181,7 +180,7 @@ module _ (is_first : Bool) (keys : List Key) (used : List ℕ) where
           subst (λ w. slice_get (marks ++ mark_of is_first n q ∷ []) (length kept) ≡ Some (mark_of is_first w q))
           (sym kept_last)
           (subst (λ i. slice_get (marks ++ mark_of is_first n q ∷ []) i ≡ Some (mark_of is_first n q)) m.many
-          (marked_last marks (mark_of is_first n q)));
+          (marked_last marks));
     }
 
     below_stays : Contains marks (mark_of is_first n q) → AreMemoriesBelow kept marks (n + 1)
@@ -209,18 +208,18 @@ module _ (is_first : Bool) (keys : List Key) (used : List ℕ) where
       found = found_more (kept ++ n ∷ []) (marks ++ mark_of is_first n q ∷ []) has_left has_last;
     }
 
-    pub below_more : (kept' marks' : List ℕ) → KeepsAt kept marks n (mark_of is_first n q) kept' marks' →
+    pub below_more : {kept' marks' : List ℕ} → KeepsAt kept marks n (mark_of is_first n q) kept' marks' →
         AreMemoriesBelow kept' marks' (n + 1)
-    below_more kept' marks' (Stays came k l) =
+    below_more {marks'} (Stays came k l) =
         subst (λ x. AreMemoriesBelow x marks' (n + 1)) (sym k) (subst (λ x. AreMemoriesBelow kept x (n + 1)) (sym l)
         (below_stays came))
-    below_more kept' marks' (Grows comes k l) =
+    below_more {marks'} (Grows comes k l) =
         subst (λ x. AreMemoriesBelow x marks' (n + 1)) (sym k) (subst (λ x. AreMemoriesBelow (kept ++ n ∷ []) x (n + 1))
         (sym l) (below_grows comes))
 
-  pub all_below : (kept marks : List ℕ) (n : ℕ) → length keys ≤ n → AreMemoriesBelow kept marks n →
+  pub all_below : {kept marks : List ℕ} {n : ℕ} → length keys ≤ n → AreMemoriesBelow kept marks n →
       AreMemories is_first keys used kept marks
-  all_below kept marks n all m = record {
+  all_below all m = record {
     many = m.many;
     rising = m.rising;
     different = m.different;

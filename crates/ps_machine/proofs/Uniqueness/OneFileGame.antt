@@ -86,20 +86,19 @@ module _ (order : Order) (file : FileData) (chain : Chain) where
         let at_m = alike a b is too q m le lm in
         record {
           state = sym at_l.next ∙ s.state ∙ at_m.next;
-          priority = sym at_l.priority ∙ s.priority
-              ∙ at_m.priority;
+          priority = sym at_l.priority ∙ s.priority ∙ at_m.priority;
         }
 
     pub steps_too : (q x z : ℕ) → q ≤ file.states → IsFirstLetter (on a) x → IsFirstLetter (on a) z →
         SameSteps (on a) q x z → SameSteps (on b) q x z
     steps_too q x z le hx hz s y hy =
         let back = second_too b a y hy in
-        step_too q (x + y) (z + y) le (sum_within (on a) x y hx back) (sum_within (on a) z y hz back) (s y back)
+        step_too q (x + y) (z + y) le (sum_within (on a) hx back) (sum_within (on a) hz back) (s y back)
 
     move_step_too : (q x y z : ℕ) → q ≤ file.states → IsFirstLetter (on a) x → IsSecondLetter (on a) y →
         IsSecondLetter (on a) z → SameStep (on a) q (x + y) (x + z) → SameStep (on b) q (x + y) (x + z)
     move_step_too q x y z le hx hy hz =
-        step_too q (x + y) (x + z) le (sum_within (on a) x y hx hy) (sum_within (on a) x z hx hz)
+        step_too q (x + y) (x + z) le (sum_within (on a) hx hy) (sum_within (on a) hx hz)
 
   module _ (a b : Auto) (is : IsAutoOf file chain a) (too : IsAutoOf file chain b) where
     pub class_too : (q x : ℕ) → q ≤ file.states → IsClass (on a) q x → IsClass (on b) q x
@@ -117,8 +116,7 @@ module _ (order : Order) (file : FileData) (chain : Chain) where
           (let hz = second_too b a z p.0 in
           m.none_before z (
             hz,
-            move_step_too b a too is q x z y le (first_too a b x hx) p.0
-                (second_too a b y m.here.0) p.1,
+            move_step_too b a too is q x z y le (first_too a b x hx) p.0 (second_too a b y m.here.0) p.1,
           ) before);
     }
 
@@ -137,7 +135,7 @@ module _ (order : Order) (file : FileData) (chain : Chain) where
     next_fine (Second q x) next fine leads =
         subst (All IsFine) (sym leads.2) (All-map IsFine (λ y. First (a.next q (x + y)) (a.priority q (x + y))) leads.0
         (λ k d within. (let y = get_or leads.0 k d in is.within q (x + y) fine.0
-        (sum_within (on a) x y fine.1 (leads.1.each k d within).here.0))))
+        (sum_within (on a) fine.1 (leads.1.each k d within).here.0))))
 
     leads_too : (key : Key) (next : List Key) → IsFine key → LeadsTo (on a) key next → LeadsTo (on b) key next
     leads_too (First q p) next le leads = (
@@ -159,8 +157,7 @@ module _ (order : Order) (file : FileData) (chain : Chain) where
             (b.next q (x + get_or leads.0 k 0)) (b.priority q (x + get_or leads.0 k 0))
         same_key k within =
             let y = get_or leads.0 k 0 in
-            let steps =
-            alike a b is too q (x + y) fine.0 (sum_within (on a) x y fine.1 (leads.1.each k 0 within).here.0) in
+            let steps = alike a b is too q (x + y) fine.0 (sum_within (on a) fine.1 (leads.1.each k 0 within).here.0) in
             ap₂ (λ (s p : ℕ). First s p) steps.next steps.priority
 
     -- ## Games
@@ -173,7 +170,7 @@ module _ (order : Order) (file : FileData) (chain : Chain) where
 
       first_fine : (w : ℕ) (key : Key) → Contains (0 ∷ []) w → StandsAt keys w key → IsFine key
       first_fine w key c at = elim (in_cons 0 w [] c) [
-        | inl zero_is ↦ subst IsFine (same_some (First a.start 0) key
+        | inl zero_is ↦ subst IsFine (same_some
             (sym g.by_keys.begins ∙ ap (λ n. slice_get keys n) zero_is ∙ at)) is.start_within
         | inr later ↦ absurd (none_in w later)
       ]
@@ -253,9 +250,9 @@ named_same x y games ids names =
     ∙ ap (λ (l : List (Option (List ℕ))). let n : NamedGameData = record { game = y.game; ids = y.ids; names = l } in n)
     names
 
-pub one_chain : (order : Order) (file : FileData) (game other : NamedGameData) (a : IsGameOfFile order file game)
+pub one_chain : {order : Order} {file : FileData} {game other : NamedGameData} (a : IsGameOfFile order file game)
     (b : IsGameOfFile order file other) → IsAutoOf file b.chain a.auto
-one_chain order file game other a b =
+one_chain {file} a b =
     (let chains = same_value a.chain b.chain (sym a.is_chain ∙ b.is_chain) in
     subst (λ chain. IsAutoOf file chain a.auto) chains a.is_auto)
 
@@ -268,7 +265,7 @@ one_game_of_file order file game other a b =
     ∙ ap (key_names (board_of_file order file b.auto)) same.0 ∙ sym b.are_named.names)
   where
     is : IsAutoOf file b.chain a.auto
-    is = one_chain order file game other a b
+    is = one_chain a b
 
     same : (a.keys ≡ b.keys) × (game.game ≡ other.game)
     same = one_game_of (board_of_file order file b.auto) (mover_of order) a.keys b.keys game.game other.game

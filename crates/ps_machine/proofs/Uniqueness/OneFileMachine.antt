@@ -33,9 +33,9 @@ module _ (order : Order) (file : FileData) (chain : Chain) (a b : Auto) (is : Is
   abbrev other : Board
   other = board_of_file order file b
 
-  goes_too : (q letter w : ℕ) → q ≤ file.states → letter < 2 ^ length file.names → GoesTo keys one q letter w →
+  goes_too : {q letter w : ℕ} → q ≤ file.states → letter < 2 ^ length file.names → GoesTo keys one q letter w →
       GoesTo keys other q letter w
-  goes_too q letter w low lt goes =
+  goes_too {q} {letter} {w} low lt goes =
       let steps = alike order file chain a b is too q letter low lt in
       record { stands = subst (StandsAt keys w) (ap₂ (λ (s p : ℕ). First s p) steps.next steps.priority) goes.stands }
 
@@ -69,7 +69,7 @@ module _ (order : Order) (file : FileData) (chain : Chain) (a b : Auto) (is : Is
     played = record { chosen = s.chosen; choice = s.choice; stands = s.stands };
     within =
         (let key = key_fine order file chain a b is too mover keys game g s.chosen (Second q letter) s.stands in
-        subst (λ n. n < 2 ^ length file.names) (turned letter x) (sum_within before letter x key.1 second));
+        subst (λ n. n < 2 ^ length file.names) (turned letter x) (sum_within before key.1 second));
   }
 
   plays_second : (v q x letter : ℕ) → q ≤ file.states → IsFirstLetter before x →
@@ -86,13 +86,13 @@ module _ (order : Order) (file : FileData) (chain : Chain) (a b : Auto) (is : Is
       least = record {
         here = (
           second_too order file chain a b letter s.least.here.0,
-          goes_too order file chain a b is too mover keys game g q (s.class + letter) s.chosen low
-              (sum_within before s.class letter class_first s.least.here.0) s.least.here.1,
+          goes_too order file chain a b is too mover keys game g low
+              (sum_within before class_first s.least.here.0) s.least.here.1,
         );
         none_before = λ z there earlier. s.least.none_before z (back z there) earlier;
       };
     };
-    within = sum_within before x letter letter_first s.least.here.0;
+    within = sum_within before letter_first s.least.here.0;
   }
     where
       class_first : IsFirstLetter before s.class
@@ -102,8 +102,7 @@ module _ (order : Order) (file : FileData) (chain : Chain) (a b : Auto) (is : Is
           IsSecondLetter before z × GoesTo keys before q (s.class + z) s.chosen
       back z there =
           let second = second_too order file chain b a z there.0 in
-          let steps =
-          alike order file chain b a too is q (s.class + z) low (sum_within before s.class z class_first second) in (
+          let steps = alike order file chain b a too is q (s.class + z) low (sum_within before class_first second) in (
             second,
             record {
               stands = subst (StandsAt keys s.chosen)
@@ -131,7 +130,7 @@ module _ (order : Order) (file : FileData) (chain : Chain) (a b : Auto) (is : Is
         stands = s.stands;
         played = p.played;
         entered = s.entered;
-        goes = goes_too order file chain a b is too mover keys game g s.state letter s.entered low p.within s.goes;
+        goes = goes_too order file chain a b is too mover keys game g low p.within s.goes;
         next = subst (StandsFor m.is_first keys kept (m.next memory x) s.entered) steps.next s.next;
       }
 
@@ -155,8 +154,7 @@ module _ (order : Order) (file : FileData) (chain : Chain) (a b : Auto) (is : Is
       record {
         names_are = has.names_are;
         as_many = has.as_many;
-        reads = λ p less. has.reads p less
-            ∙ same m.is_first p;
+        reads = λ p less. has.reads p less ∙ same m.is_first p;
       }
     where
       same : (first : Bool) (p : ℕ) → is_others first before p ≡ is_others first behind p
@@ -165,8 +163,7 @@ module _ (order : Order) (file : FileData) (chain : Chain) (a b : Auto) (is : Is
 
 pub one_machine_of_file : (order : Order) (file : FileData) (game : NamedGameData)
     (first second : IsGameOfFile order file game) (certificate : CertificateData) (m o : Behaviour) →
-    IsMachine m → IsMachine o →
-    HasPropositions file.names (board_of_file order file first.auto) m →
+    IsMachine m → IsMachine o → HasPropositions file.names (board_of_file order file first.auto) m →
     HasPropositions file.names (board_of_file order file second.auto) o →
     IsMachineOf (board_of_file order file first.auto) (mover_of order) first.keys game.game certificate m →
     IsMachineOf (board_of_file order file second.auto) (mover_of order) second.keys game.game certificate o →
@@ -186,7 +183,7 @@ one_machine_of_file order file game first second certificate m o machine other h
     mover = mover_of order
 
     is : IsAutoOf file second.chain first.auto
-    is = one_chain order file game game first second
+    is = one_chain first second
 
     same : (first.keys ≡ second.keys) × (game.game ≡ game.game)
     same = one_game_of board mover first.keys second.keys game.game game.game

@@ -39,22 +39,20 @@ not_both x y a b = elim (cases_eq a.first b.first) [
   ]
 ]
 
-one_list : (P : ℕ → Type 0) (xs ys : List ℕ) → AreListed P xs → AreListed P ys → xs ≡ ys
-one_list P xs ys a b =
+one_list : {P : ℕ → Type 0} {xs ys : List ℕ} → AreListed P xs → AreListed P ys → xs ≡ ys
+one_list {P} {xs} {ys} a b =
     same_rising IsBefore not_both xs ys a.rising b.rising (λ z c. b.complete z (All-contains P xs z a.each c))
     (λ z c. a.complete z (All-contains P ys z b.each c))
 
 -- a key leads to one list of keys
 one_next : (board : Board) (key : Key) (one other : List Key) → LeadsTo board key one →
     LeadsTo board key other → one ≡ other
-one_next board (First q p) one other a b =
-    a.2 ∙ ap (map (λ x. Second q x)) (one_list (IsClass board q) a.0 b.0 a.1 b.1) ∙ sym b.2
+one_next board (First q p) one other a b = a.2 ∙ ap (map (λ x. Second q x)) (one_list a.1 b.1) ∙ sym b.2
 one_next board (Second q x) one other a b =
-    a.2 ∙ ap (map (λ y. First (board.auto.next q (x + y)) (board.auto.priority q (x + y))))
-    (one_list (IsMove board q x) a.0 b.0 a.1 b.1) ∙ sym b.2
+    a.2 ∙ ap (map (λ y. First (board.auto.next q (x + y)) (board.auto.priority q (x + y)))) (one_list a.1 b.1) ∙ sym b.2
 
-first_not_second : (q p r x : ℕ) → Second r x ≡ First q p → ⊥
-first_not_second q p r x e = search rules
+first_not_second : {q p r x : ℕ} → Second r x ≡ First q p → ⊥
+first_not_second e = search rules
 
 in_map : (f : ℕ → Key) (xs : List ℕ) (key : Key) → Contains (map f xs) key → (x : ℕ) × (f x ≡ key)
 in_map f xs key c =
@@ -65,19 +63,19 @@ in_map f xs key c =
 not_itself : (board : Board) (key : Key) (next : List Key) → LeadsTo board key next → Contains next key → ⊥
 not_itself board (First q p) next a c =
     (let at = in_map (λ x. Second q x) a.0 (First q p) (subst (λ l. Contains l (First q p)) a.2 c) in
-    first_not_second q p q at.0 at.1)
+    first_not_second at.1)
 not_itself board (Second q x) next a c =
     let f : ℕ → Key = λ y. First (board.auto.next q (x + y)) (board.auto.priority q (x + y)) in
     let at = in_map f a.0 (Second q x) (subst (λ l. Contains l (Second q x)) a.2 c) in
-    first_not_second (board.auto.next q (x + at.0)) (board.auto.priority q (x + at.0)) q x (sym at.1)
+    first_not_second (sym at.1)
 
 -- ## Lists whose numbers, with repeats left out, are those below a count
 
 abbrev pub Counts : List ℕ → ℕ → Type 0
 Counts list count = distinct list ≡ range_with_len 0 count
 
-counts_one : (list : List ℕ) (c d : ℕ) → Counts list c → Counts list d → c ≡ d
-counts_one list c d a b = sym (length-range_with_len 0 c) ∙ ap length (sym a ∙ b) ∙ length-range_with_len 0 d
+counts_one : (list : List ℕ) {c d : ℕ} → Counts list c → Counts list d → c ≡ d
+counts_one list {c} {d} a b = sym (length-range_with_len 0 c) ∙ ap length (sym a ∙ b) ∙ length-range_with_len 0 d
 
 all_unfiltered : (P : ℕ → Type 0) (x : ℕ) (l : List ℕ) → P x → All P (filter (λ y. not (x == y)) l) → All P l
 all_unfiltered P x [] here all = All-nil P
@@ -161,8 +159,8 @@ old_or_next list more x c m e all =
     let first =
     counts_front (list ++ x ∷ []) more m (subst (λ l. Counts l m) (sym (append_assoc list (x ∷ []) more)) all) in
     elim (counts_last list x first.0 first.1) [
-      | inl old ↦ inl (subst (λ n. x < n) (counts_one list first.0 c old.0 e) old.1)
-      | inr new ↦ inr (counts_one list x c new e)
+      | inl old ↦ inl (subst (λ n. x < n) (counts_one list old.0 e) old.1)
+      | inr new ↦ inr (counts_one list new e)
     ]
 
 -- ## Two numberings, step by step
@@ -247,7 +245,7 @@ pub zipped : (keys : List Key) (numbers : List ℕ) (next : List Key) (w : ℕ) 
 zipped keys [] next w key zip at c = absurd (none_in w c)
 zipped keys (n ∷ numbers) [] w key zip at c = absurd zip
 zipped keys (n ∷ numbers) (k ∷ next) w key zip at c = elim (in_cons n w numbers c) [
-  | inl same ↦ (0, omega arith, same_some k key (sym zip.0 ∙ ap (slice_get keys) same ∙ at))
+  | inl same ↦ (0, omega arith, same_some (sym zip.0 ∙ ap (slice_get keys) same ∙ at))
   | inr later ↦ (let there = zipped keys numbers next w key zip.1 at later in
       (suc there.0, omega (arith, there.1), there.2))
 ]
@@ -362,8 +360,7 @@ module _ (board : Board) (mover : ℕ) where
 
         key_same : a.key ≡ b.key
         key_same =
-            same_some a.key b.key (sym a.stands ∙ before.agree v (ahead one game v before.count is lt before.counts)
-            ∙ b.stands)
+            same_some (sym a.stands ∙ before.agree v (ahead one game v before.count is lt before.counts) ∙ b.stands)
 
         next_same : b.next ≡ a.next
         next_same =
@@ -393,12 +390,12 @@ module _ (board : Board) (mover : ℕ) where
     not_fewer : vertex_count game < vertex_count same → ⊥
     not_fewer less =
         let at = alike (vertex_count game) (omega arith) (omega (arith, less)) in
-        let whole = counts_one (listed game (vertex_count game)) at.count (vertex_count game) at.counts is.numbered in
+        let whole = counts_one (listed game (vertex_count game)) at.counts is.numbered in
         let more = ahead other same (vertex_count game) at.count too less (ap distinct (sym at.lists) ∙ at.counts) in
         omega (arith, whole, more)
 
-  vertex_same : (x y : VertexData) → x.owner ≡ y.owner → x.priority ≡ y.priority → x.successors ≡ y.successors → x ≡ y
-  vertex_same x y a b c =
+  vertex_same : {x y : VertexData} → x.owner ≡ y.owner → x.priority ≡ y.priority → x.successors ≡ y.successors → x ≡ y
+  vertex_same {x} {y} a b c =
       ap₂ (λ (o p : ℕ). let v : VertexData = record { owner = o; priority = p; successors = x.successors } in v) a b
       ∙ ap (λ (s : List ℕ). let v : VertexData = record { owner = y.owner; priority = y.priority; successors = s } in v)
       c
@@ -421,11 +418,10 @@ module _ (board : Board) (mover : ℕ) where
       at = alike one other game same is too (vertex_count game) (omega arith) (omega (arith, count_same))
 
       whole : at.count ≡ vertex_count game
-      whole = counts_one (listed game (vertex_count game)) at.count (vertex_count game) at.counts is.numbered
+      whole = counts_one (listed game (vertex_count game)) at.counts is.numbered
 
       keys_same : one ≡ other
-      keys_same = same_lists one other (is.by_keys.count ∙ count_same ∙ sym too.by_keys.count)
-          (λ k d within. same_some (get_or one k d) (get_or other k d)
+      keys_same = same_lists one other (is.by_keys.count ∙ count_same ∙ sym too.by_keys.count) (λ k d within. same_some
           (sym (slice_get-get_or one k d within) ∙ at.agree k (omega (arith, within, whole, is.by_keys.count))
           ∙ slice_get-get_or other k d (omega (arith, within, is.by_keys.count, count_same, too.by_keys.count))))
 
@@ -433,9 +429,8 @@ module _ (board : Board) (mover : ℕ) where
       each k lt =
           let a = is.by_keys.vertices k lt in
           let b = too.by_keys.vertices k (omega (arith, lt, count_same)) in
-          let key = same_some a.key b.key (sym a.stands ∙ at.agree k (omega (arith, lt, whole)) ∙ b.stands) in
-          vertex_same (get_or game k no_vertex) (get_or same k no_vertex)
-          (a.owner ∙ ap (owner_of_key mover) key ∙ sym b.owner)
+          let key = same_some (sym a.stands ∙ at.agree k (omega (arith, lt, whole)) ∙ b.stands) in
+          vertex_same (a.owner ∙ ap (owner_of_key mover) key ∙ sym b.owner)
           (a.priority ∙ ap priority_of_key key ∙ sym b.priority) (at.successors k lt)
 
       games_same : game ≡ same

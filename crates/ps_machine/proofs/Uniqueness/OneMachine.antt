@@ -77,7 +77,7 @@ module _ (first : Bool) (keys : List Key) (game : ParityGame) (certificate : Cer
       mark_of first v q ≡ mark_of first u r → v < u → ⊥
   none_below v q p u r o k stands used same less =
       k.least v q p less used (mark_shares first u k.state v q
-      (ap (mark_of first u) (one_state keys u k.state k.priority r o k.here.stands stands) ∙ sym same))
+      (ap (mark_of first u) (one_state keys u k.priority o k.here.stands stands) ∙ sym same))
 
   kept_at : (kept : List ℕ) (memory v : ℕ) → All Kept kept → slice_get kept memory ≡ Some v → Kept v
   kept_at kept memory v each at =
@@ -100,9 +100,9 @@ module _ (first : Bool) (keys : List Key) (game : ParityGame) (certificate : Cer
         get_or_from_slice_get kept j b.vertex 0 b.is_kept,
       ))
 
-  pub one_memory : (kept : List ℕ) (i j w r : ℕ) → AllPairs (λ v w. v < w) kept → All Kept kept →
+  pub one_memory : {kept : List ℕ} {i j w r : ℕ} → AllPairs (λ v w. v < w) kept → All Kept kept →
       StandsFor first keys kept i w r → StandsFor first keys kept j w r → i ≡ j
-  one_memory kept i j w r rises each a b = elim (cases_lt i j) [
+  one_memory {kept} {i} {j} {w} {r} rises each a b = elim (cases_lt i j) [
     | inl less ↦ absurd (not_lower kept i j w r rises each a b less)
     | inr high ↦ elim (cases_lt j i) [
       | inl less ↦ absurd (not_lower kept j i w r rises each b a less)
@@ -194,7 +194,7 @@ module _ (names : List (List ℕ)) (board : Board) (mover : ℕ) (keys : List Ke
         let s = of.steps memory x within is_other in
         let t = other_step memory x within is_other in
         let vertex = some_nat t.vertex s.vertex (sym t.is_kept ∙ s.is_kept) in
-        let state = one_state keys s.vertex t.state t.priority s.state s.priority
+        let state = one_state keys s.vertex t.priority s.priority
         (subst (λ v. StandsAt keys v (First t.state t.priority)) vertex t.stands) s.stands in
         let played =
         one_played board keys certificate differ m.is_first s.vertex s.state x (o.plays memory x) (m.plays memory x)
@@ -211,8 +211,7 @@ module _ (names : List (List ℕ)) (board : Board) (mover : ℕ) (keys : List Ke
         (subst (λ y. StandsFor m.is_first keys of.kept (o.next memory x) t.entered (board.auto.next s.state (x + y)))
         played (subst (λ q. StandsFor m.is_first keys of.kept (o.next memory x) t.entered
         (board.auto.next q (x + o.plays memory x))) state t.next)) in (
-          one_memory m.is_first keys game certificate of.kept (m.next memory x) (o.next memory x) s.entered r of.rising
-              of.each s.next next,
+          one_memory m.is_first keys game certificate of.rising of.each s.next next,
           sym played,
         )
       where
@@ -221,14 +220,13 @@ module _ (names : List (List ℕ)) (board : Board) (mover : ℕ) (keys : List Ke
 
     same_inputs : m.inputs ≡ o.inputs
     same_inputs =
-        one_listed board.propositions (is_others m.is_first board) m.inputs o.inputs (reads_listed names board m is has)
+        one_listed (reads_listed names board m is has)
         (subst (λ b. AreListedBelow board.propositions (is_others b board) o.inputs) same_first
         (reads_listed names board o too also))
 
     same_outputs : m.outputs ≡ o.outputs
     same_outputs =
-        one_listed board.propositions (λ p. not (is_others m.is_first board p)) m.outputs o.outputs
-        (plays_listed names board m is has)
+        one_listed (plays_listed names board m is has)
         (subst (λ b. AreListedBelow board.propositions (λ p. not (is_others b board p)) o.outputs) same_first
         (plays_listed names board o too also))
 
@@ -246,7 +244,7 @@ module _ (names : List (List ℕ)) (board : Board) (mover : ℕ) (keys : List Ke
     unfolding SameStepAt read
     same_anywhere memory x within =
         let there : memory < o.memories = omega (arith, within, same_memories) in
-        let here = same_step memory (read x) within (over_other m.is_first board (read x)
+        let here = same_step memory (read x) within (over_other m.is_first board
         (part_over board.propositions (is_others m.is_first board) x)) in
         let same : AreSameOn o.inputs x (read x) = subst (λ l. AreSameOn l x (read x)) same_inputs (read_same x) in (
           is.next_heeds memory x (read x) within (read_same x) ∙ here.0

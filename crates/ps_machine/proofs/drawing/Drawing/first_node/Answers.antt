@@ -54,8 +54,7 @@ relabel_from-requires-clause-within c =
     let t = c.args.plan.now.divided.now.store in
     let are = subst (λ (f : List (ℕ × ℕ)). AreLeaves t c.rest_of-rest.result f) (sym c.deref-2.ensures.value)
     c.in_ok-leaves.ensures in
-    renamed_within t c.place_rows.new.self.places.items c.deref-3.result.now c.rest_of-rest.result
-    c.deref-3.ensures.value
+    renamed_within t c.rest_of-rest.result c.deref-3.ensures.value
     (all_noted c.requires.plan c.requires.turn c.requires.kept at plays l are c.in_ok-place_rows.ensures.placed)
 
 pub returns-clause-keeps : goal.returns-clause-keeps

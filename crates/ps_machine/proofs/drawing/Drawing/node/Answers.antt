@@ -6,19 +6,16 @@ use Rattle.ps_machine.proofs.drawing.Drawing.node.Goals as goal
 
 pub bounds : goal.bounds
 bounds c =
-    let p = c.args.plan.now in
     subst (λ (l : List Key). c.args.vertex < length l) (sym c.as_slice.ensures.keys)
     (kept_within c.requires.plan c.args.vertex c.requires.kept)
 
 pub bounds-as_slice-vertex : goal.bounds-as_slice-vertex
 bounds-as_slice-vertex c =
-    let p = c.args.plan.now in
     subst (λ (l : List Key). c.args.vertex < length l) (sym c.as_slice.ensures.keys)
     (kept_within c.requires.plan c.args.vertex c.requires.kept)
 
 pub offset_bounds-as_slice-vertex : goal.offset_bounds-as_slice-vertex
 offset_bounds-as_slice-vertex c =
-    let p = c.args.plan.now in
     let below = subst (λ (l : List Key). c.args.vertex < length l) (sym c.as_slice.ensures.keys)
     (kept_within c.requires.plan c.args.vertex c.requires.kept) in
     record { fits = omega (arith, below, c.as_slice.type_inv.1) }
@@ -28,8 +25,7 @@ first_node-requires-clause-stands c =
     let p = c.args.plan.now in (
       c.in-First.priority,
       kept_stands c.requires.plan c.args.vertex c.requires.kept
-          c.in-First.state c.in-First.priority (ap (λ (l : List Key). get_or l c.args.vertex (First 0 0))
-          (sym c.as_slice.ensures.keys) ∙ c.in-First.is),
+          (ap (λ (l : List Key). get_or l c.args.vertex (First 0 0)) (sym c.as_slice.ensures.keys) ∙ c.in-First.is),
     )
 
 pub second_node-requires-clause-stands : goal.second_node-requires-clause-stands
@@ -37,12 +33,10 @@ second_node-requires-clause-stands c =
     let p = c.args.plan.now in (
       c.in-First.priority,
       kept_stands c.requires.plan c.args.vertex c.requires.kept
-          c.in-First.state c.in-First.priority (ap (λ (l : List Key). get_or l c.args.vertex (First 0 0))
-          (sym c.as_slice.ensures.keys) ∙ c.in-First.is),
+          (ap (λ (l : List Key). get_or l c.args.vertex (First 0 0)) (sym c.as_slice.ensures.keys) ∙ c.in-First.is),
     )
 
 pub unreachable-requires : goal.unreachable-requires
 unreachable-requires c =
-    let p = c.args.plan.now in
     kept_not_second c.requires.plan c.args.vertex c.requires.kept c.in-Second.state c.in-Second.letter
     (ap (λ (l : List Key). get_or l c.args.vertex (First 0 0)) (sym c.as_slice.ensures.keys) ∙ c.in-Second.is)

@@ -14,20 +14,14 @@ use Rattle.ps_machine.proofs.drawing.Drawing.place_rows.Goals as goal
 
 pub returns-in_err-note-clause-same_rows : goal.returns-in_err-note-clause-same_rows
 returns-in_err-note-clause-same_rows c =
-    let p = c.args.plan.now in
     let row : Row = record { memory = c.memory_behind-memory.result; letter = c.args.letter } in
-    (add_row (row_eq.eq-value).it c.loop-leaf.self.rows.keys
-    c.loop-leaf.self.places.items c.loop-leaf.leaf-index row c.insert_full.new.self.keys
-    c.loop-leaf.invariant.noted c.in_ok-place.ensures.keys (record
+    (add_row (row_eq.eq-value).it c.loop-leaf.invariant.noted c.in_ok-place.ensures.keys (record
     { memory = c.memory_behind-memory.ensures.within; letter = c.requires.own })).same_rows
 
 pub returns-in_err-note-clause-rows : goal.returns-in_err-note-clause-rows
 returns-in_err-note-clause-rows c =
-    let p = c.args.plan.now in
     let row : Row = record { memory = c.memory_behind-memory.result; letter = c.args.letter } in
-    (add_row (row_eq.eq-value).it c.loop-leaf.self.rows.keys
-    c.loop-leaf.self.places.items c.loop-leaf.leaf-index row c.insert_full.new.self.keys
-    c.loop-leaf.invariant.noted c.in_ok-place.ensures.keys (record
+    (add_row (row_eq.eq-value).it c.loop-leaf.invariant.noted c.in_ok-place.ensures.keys (record
     { memory = c.memory_behind-memory.ensures.within; letter = c.requires.own })).each
 
 pub loop-leaf-preserved : goal.loop-leaf-preserved
@@ -40,12 +34,10 @@ loop-leaf-preserved c =
     let leaves = c.args.leaves.now in
     let i = c.loop-leaf.leaf-index in
     let leaf = (get_or leaves i (0, 0)).0 in
-    let old = c.args.self.now.rows.keys in
     let new = c.insert_full.new.self.keys in
     let row : Row = record { memory = c.memory_behind-memory.result; letter = c.args.letter } in
     let within : i < length leaves = omega (arith, c.loop-leaf-test.true) in
-    let added = add_row (row_eq.eq-value).it c.loop-leaf.self.rows.keys
-    c.loop-leaf.self.places.items i row new c.loop-leaf.invariant.noted c.in_ok-place.ensures.keys
+    let added = add_row (row_eq.eq-value).it c.loop-leaf.invariant.noted c.in_ok-place.ensures.keys
     (record { memory = c.memory_behind-memory.ensures.within; letter = c.requires.own }) in
     let stored = c.in_ok-place.ensures.stored in
     let at : slice_get new c.in_ok-place.place ≡ Some row = stored.1
@@ -56,7 +48,6 @@ loop-leaf-preserved c =
     record {
       store = c.loop-leaf.invariant.store;
       noted =
-          note_more new c.loop-leaf.self.places.items c.note.new.places.items i leaf c.in_ok-place.place row added
-          (λ d. ap (λ (x : ℕ × ℕ). x.0) (get_or_default leaves i d (0, 0) within)) at refl next
+          note_more added (λ d. ap (λ (x : ℕ × ℕ). x.0) (get_or_default leaves i d (0, 0) within)) at refl next
           c.in_ok-note.ensures.noted c.in_ok-note.ensures.others;
     }

@@ -60,8 +60,7 @@ returns-in_err-push-clause-rows c =
     let kept = plan.memories.now.kept.items in
     let row = c.in_ok-row.row in
     all_rows (IsRow plan.moves_first board kept) (row_eq.eq-value).it c.loop-class.self.rows.keys row
-    c.insert_full.new.self.keys c.in_ok-place.ensures.keys c.loop-class.invariant.rows
-    (answer_row c.requires.turn c.in_ok-row.ensures)
+    c.in_ok-place.ensures.keys c.loop-class.invariant.rows (answer_row c.requires.turn c.in_ok-row.ensures)
 
 pub loop-class-preserved : goal.loop-class-preserved
 loop-class-preserved c =
@@ -77,7 +76,7 @@ loop-class-preserved c =
           keeps_rows_trans inv.same_rows
           (keeps_rows (row_eq.eq-value).it old c.in_ok-row.row new c.in_ok-place.ensures.keys);
       rows =
-          all_rows (IsRow plan.moves_first board kept) (row_eq.eq-value).it old c.in_ok-row.row new
+          all_rows (IsRow plan.moves_first board kept) (row_eq.eq-value).it old c.in_ok-row.row
           c.in_ok-place.ensures.keys inv.rows (answer_row c.requires.turn c.in_ok-row.ensures);
       values =
           named_next old new c.args.classes.now c.loop-class.class-index c.class-item.result c.loop-class.values.items

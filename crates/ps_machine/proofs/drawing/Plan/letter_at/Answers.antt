@@ -6,25 +6,20 @@ use Rattle.ps_machine.proofs.Diagrams.FirstDrawing.{has_choice, chosen_within, c
 use Rattle.ps_machine.proofs.drawing.Plan.letter_at.Goals as goal
 
 pub choice-requires : goal.choice-requires
-choice-requires c =
-    let s = c.args.self.now in
-    kept_entry c.requires.plan c.args.vertex c.requires.kept
+choice-requires c = kept_entry c.requires.plan c.args.vertex c.requires.kept
 
 pub unwrap-chosen-requires : goal.unwrap-chosen-requires
 unwrap-chosen-requires c =
-    let s = c.args.self.now in
     ap is_some c.choice.ensures ∙ has_choice c.requires.plan c.requires.turn c.args.vertex c.requires.kept
 
 pub bounds : goal.bounds
 bounds c =
-    let s = c.args.self.now in
     subst (λ (l : List Key). c.unwrap-chosen.result < length l) (sym c.as_slice.ensures.keys)
     (chosen_within c.requires.plan c.requires.turn c.args.vertex c.unwrap-chosen.result c.requires.kept
     (sym c.choice.ensures ∙ c.unwrap-chosen.ensures))
 
 pub offset_bounds-as_slice-chosen : goal.offset_bounds-as_slice-chosen
 offset_bounds-as_slice-chosen c =
-    let s = c.args.self.now in
     let below = subst (λ (l : List Key). c.unwrap-chosen.result < length l) (sym c.as_slice.ensures.keys)
     (chosen_within c.requires.plan c.requires.turn c.args.vertex c.unwrap-chosen.result c.requires.kept
     (sym c.choice.ensures ∙ c.unwrap-chosen.ensures)) in
@@ -32,14 +27,12 @@ offset_bounds-as_slice-chosen c =
 
 pub unreachable-requires : goal.unreachable-requires
 unreachable-requires c =
-    let s = c.args.self.now in
-    chosen_not_first c.requires.plan c.requires.turn c.args.vertex c.unwrap-chosen.result c.in-First.state
-    c.in-First.priority c.requires.kept (sym c.choice.ensures ∙ c.unwrap-chosen.ensures)
+    chosen_not_first c.requires.plan c.requires.turn c.args.vertex c.requires.kept
+    (sym c.choice.ensures ∙ c.unwrap-chosen.ensures)
     (ap (λ (l : List Key). get_or l c.unwrap-chosen.result (First 0 0)) (sym c.as_slice.ensures.keys) ∙ c.in-First.is)
 
 pub returns : goal.returns
 returns c =
-    let s = c.args.self.now in
     plays_class c.requires.plan c.requires.turn c.args.vertex c.unwrap-chosen.result c.in-Second.state
     c.in-Second.letter c.requires.kept (sym c.choice.ensures ∙ c.unwrap-chosen.ensures)
     (ap (λ (l : List Key). get_or l c.unwrap-chosen.result (First 0 0)) (sym c.as_slice.ensures.keys) ∙ c.in-Second.is)

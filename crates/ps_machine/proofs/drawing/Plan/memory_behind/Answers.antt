@@ -20,8 +20,7 @@ unwrap-requires c =
     let keys = self.keys.now.keys in
     let key = First c.args.state c.args.priority in
     let plan = c.requires.plan in
-    let there =
-    at_position _ keys key c.unwrap-vertex.result (sym c.get_index_of.ensures.index ∙ c.unwrap-vertex.ensures) in
+    let there = at_position _ keys key (sym c.get_index_of.ensures.index ∙ c.unwrap-vertex.ensures) in
     let at : StandsAt keys c.unwrap-vertex.result key = there.1
     ∙ ap (λ k. Some k) (sym (same_key key there.0 there.2)) in
     let same : c.requires.vertex ≡ c.unwrap-vertex.result =
@@ -40,13 +39,11 @@ returns-clause-stands c v at =
     let keys = self.keys.now.keys in
     let key = First c.args.state c.args.priority in
     let plan = c.requires.plan in
-    let found =
-    at_position _ keys key c.unwrap-vertex.result (sym c.get_index_of.ensures.index ∙ c.unwrap-vertex.ensures) in
+    let found = at_position _ keys key (sym c.get_index_of.ensures.index ∙ c.unwrap-vertex.ensures) in
     let here : StandsAt keys c.unwrap-vertex.result key = found.1
     ∙ ap (λ k. Some k) (sym (same_key key found.0 found.2)) in
     let marks = self.memories.now.marks.keys in
-    let there = at_position (eqb c.mark-mark.result) marks 0 c.unwrap.result
-    (sym c.get_index_of-2.ensures.index ∙ c.unwrap.ensures) in
+    let there = at_position (eqb c.mark-mark.result) marks 0 (sym c.get_index_of-2.ensures.index ∙ c.unwrap.ensures) in
     let is : slice_get marks c.unwrap.result ≡ Some (mark_of self.moves_first c.unwrap-vertex.result c.args.state) =
     there.1 ∙ ap (λ n. Some n) (sym (eqb-true c.mark-mark.result there.0 there.2) ∙ c.mark-mark.ensures) in
     stands_for c.unwrap.result c.unwrap-vertex.result

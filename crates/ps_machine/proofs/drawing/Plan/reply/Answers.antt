@@ -14,23 +14,22 @@ unwrap-at-requires c =
 pub unwrap-chosen-requires : goal.unwrap-chosen-requires
 unwrap-chosen-requires c =
     let r = replies c.requires.turn c.requires.entered.1 c.requires.class in
-    let at = found_at c.args.self.now.keys.now.keys (Second c.args.state c.args.letter) c.unwrap-at.result
+    let at = found_at c.args.self.now.keys.now.keys (Second c.args.state c.args.letter)
     (sym c.get_index_of.ensures.index ∙ c.unwrap-at.ensures) in
     subst IsSome (sym (c.choice.ensures ∙ reply_choice r c.unwrap-at.result at)) refl
 
 pub unreachable-requires : goal.unreachable-requires
 unreachable-requires c =
     let r = replies c.requires.turn c.requires.entered.1 c.requires.class in
-    let at = found_at c.args.self.now.keys.now.keys (Second c.args.state c.args.letter) c.unwrap-at.result
+    let at = found_at c.args.self.now.keys.now.keys (Second c.args.state c.args.letter)
     (sym c.get_index_of.ensures.index ∙ c.unwrap-at.ensures) in
-    not_both c.in-Second.state c.in-Second.letter _ _
-    (reply_key r c.unwrap-at.result (First 0 0) at (sym c.choice.ensures ∙ c.unwrap-chosen.ensures)
+    not_both (reply_key r c.unwrap-at.result (First 0 0) at (sym c.choice.ensures ∙ c.unwrap-chosen.ensures)
     c.as_slice.ensures.keys c.in-Second.is)
 
 pub returns-clause-reply : goal.returns-clause-reply
 returns-clause-reply c =
     let r = replies c.requires.turn c.requires.entered.1 c.requires.class in
-    let at = found_at c.args.self.now.keys.now.keys (Second c.args.state c.args.letter) c.unwrap-at.result
+    let at = found_at c.args.self.now.keys.now.keys (Second c.args.state c.args.letter)
     (sym c.get_index_of.ensures.index ∙ c.unwrap-at.ensures) in
     reply_is r (record { state = c.in-First.state; priority = c.in-First.priority })
     (reply_key r c.unwrap-at.result (First 0 0) at (sym c.choice.ensures ∙ c.unwrap-chosen.ensures)
@@ -39,7 +38,7 @@ returns-clause-reply c =
 pub returns-clause-enters : goal.returns-clause-enters
 returns-clause-enters c =
     let r = replies c.requires.turn c.requires.entered.1 c.requires.class in
-    let at = found_at c.args.self.now.keys.now.keys (Second c.args.state c.args.letter) c.unwrap-at.result
+    let at = found_at c.args.self.now.keys.now.keys (Second c.args.state c.args.letter)
     (sym c.get_index_of.ensures.index ∙ c.unwrap-at.ensures) in
     reply_enters r (record { state = c.in-First.state; priority = c.in-First.priority })
     (reply_key r c.unwrap-at.result (First 0 0) at (sym c.choice.ensures ∙ c.unwrap-chosen.ensures)
