@@ -40,7 +40,8 @@ use Rattle.ps_machine.specs.contracts.key.KeyPartialEq.TheImpl as key_eq
 use Rattle.ps_machine.specs.contracts.machine.RowPartialEq.TheImpl as row_eq
 use Rattle.ps_machine.proofs.BoardLetters.{mask_below}
 use Rattle.ps_machine.proofs.BoardSteps.{below_back, same_pair, same_itself, same_steps, class_first, class_is}
-use Rattle.ps_machine.proofs.BoardSteps.{class_of, no_class, move_is, move_leaf, move_of, step_of_key}
+use Rattle.ps_machine.proofs.BoardSteps.{class_of, no_class, step_of_key}
+use Rattle.ps_machine.proofs.BoardMoves.{move_is, move_leaf, move_of}
 use Rattle.ps_machine.proofs.Diagrams.DrawingLemmas.{at_position, keeps_rows, setting, used_more, move_at, move_to}
 use Rattle.ps_machine.proofs.Diagrams.DrawingLemmas.{to_class_of}
 use Rattle.ps_machine.proofs.GameKeys.KeyTests.{same_key}

@@ -25,7 +25,8 @@ use Rattle.ps_machine.specs.declared.key.Key.TheVariants.{First, Second}
 use Rattle.ps_machine.specs.declared.key.Order.{Order}
 use Rattle.ps_machine.proofs.BoardLetters.{sum_within}
 use Rattle.ps_machine.proofs.BoardSteps.{map_same}
-use Rattle.ps_machine.proofs.Uniqueness.OneGame.{ahead, count_at, has_it, one_game_of, zipped}
+use Rattle.ps_machine.proofs.Uniqueness.OneGame.{ahead, count_at, one_game_of, zipped}
+use Rattle.ps_machine.proofs.Uniqueness.Counting.{has_it}
 use Rattle.ps_machine.proofs.Uniqueness.Rising.{in_cons, none_in}
 use Rattle.ps_machine.proofs.GameKeys.Standing.{came, same_some}
 

@@ -6,8 +6,8 @@ use Rattle.ps_machine.specs.Drawing.{IsOwn}
 use Rattle.ps_machine.specs.Planning.{IsDrawnBy}
 use Rattle.ps_machine.proofs.Diagrams.ClassTables.{lent}
 use Rattle.ps_machine.proofs.GameKeys.Exploring.{both_ok}
-use Rattle.ps_machine.proofs.Diagrams.FirstDrawing.{class_listed, left_behind, entered, all_noted, drawn_first, renamed}
-use Rattle.ps_machine.proofs.Diagrams.FirstDrawing.{renamed_within}
+use Rattle.ps_machine.proofs.Diagrams.FirstDrawing.{entered, all_noted, drawn_first}
+use Rattle.ps_machine.proofs.Diagrams.ClassRests.{class_listed, left_behind, renamed, renamed_within}
 use Rattle.ps_machine.proofs.drawing.Drawing.first_node.Goals as goal
 
 pub of-requires : goal.of-requires

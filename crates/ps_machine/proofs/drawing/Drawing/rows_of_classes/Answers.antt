@@ -91,27 +91,3 @@ returns-clause-values c =
     plan.certificate.now c.args.state c.loop-class.self.rows.keys in
     subst (λ (l : List Class). AllZip N l c.loop-class.values.items)
     (take_all c.loop-class.class-index c.args.classes.now c.loop-class-test.false) c.loop-class.invariant.values
-
-pub returns-in_err-row-clause-store : goal.returns-in_err-row-clause-store
-returns-in_err-row-clause-store c = c.loop-class.invariant.store
-
-pub returns-in_err-row-clause-same_rows : goal.returns-in_err-row-clause-same_rows
-returns-in_err-row-clause-same_rows c = c.loop-class.invariant.same_rows
-
-pub returns-in_err-row-clause-rows : goal.returns-in_err-row-clause-rows
-returns-in_err-row-clause-rows c = c.loop-class.invariant.rows
-
-pub returns-in_err-place-clause-store : goal.returns-in_err-place-clause-store
-returns-in_err-place-clause-store c = c.loop-class.invariant.store
-
-pub returns-in_err-push-clause-store : goal.returns-in_err-push-clause-store
-returns-in_err-push-clause-store c = c.loop-class.invariant.store
-
-pub returns-clause-store : goal.returns-clause-store
-returns-clause-store c = c.loop-class.invariant.store
-
-pub returns-clause-same_rows : goal.returns-clause-same_rows
-returns-clause-same_rows c = c.loop-class.invariant.same_rows
-
-pub returns-clause-rows : goal.returns-clause-rows
-returns-clause-rows c = c.loop-class.invariant.rows

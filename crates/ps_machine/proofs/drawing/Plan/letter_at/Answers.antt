@@ -1,4 +1,4 @@
-use Rattle.std.proofs.Common.{◌<◌, List, length, get_or, ap, sym, subst, ◌∙◌, arith, is_some}
+use Rattle.std.proofs.Common.{List, length, get_or, ap, sym, ◌∙◌, arith, is_some}
 use Rattle.ps_machine.specs.declared.key.Key.{Key}
 use Rattle.ps_machine.specs.declared.key.Key.TheVariants.{First}
 use Rattle.ps_machine.proofs.Diagrams.DrawingLemmas.{kept_entry}
@@ -14,16 +14,14 @@ unwrap-chosen-requires c =
 
 pub bounds : goal.bounds
 bounds c =
-    subst (λ (l : List Key). c.unwrap-chosen.result < length l) (sym c.as_slice.ensures.keys)
-    (chosen_within c.requires.plan c.requires.turn c.args.vertex c.unwrap-chosen.result c.requires.kept
-    (sym c.choice.ensures ∙ c.unwrap-chosen.ensures))
+    rw c.as_slice.ensures.keys (chosen_within c.requires.plan c.requires.turn c.args.vertex c.unwrap-chosen.result
+    c.requires.kept (sym c.choice.ensures ∙ c.unwrap-chosen.ensures))
 
 pub offset_bounds-as_slice-chosen : goal.offset_bounds-as_slice-chosen
 offset_bounds-as_slice-chosen c =
-    let below = subst (λ (l : List Key). c.unwrap-chosen.result < length l) (sym c.as_slice.ensures.keys)
-    (chosen_within c.requires.plan c.requires.turn c.args.vertex c.unwrap-chosen.result c.requires.kept
-    (sym c.choice.ensures ∙ c.unwrap-chosen.ensures)) in
-    record { fits = omega (arith, below, c.as_slice.type_inv.1) }
+    let below = chosen_within c.requires.plan c.requires.turn c.args.vertex c.unwrap-chosen.result c.requires.kept
+    (sym c.choice.ensures ∙ c.unwrap-chosen.ensures) in
+    record { fits = omega (arith, below, ap length c.as_slice.ensures.keys, c.as_slice.type_inv.1) }
 
 pub unreachable-requires : goal.unreachable-requires
 unreachable-requires c =
