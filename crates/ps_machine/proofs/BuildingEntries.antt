@@ -35,11 +35,8 @@ module _ (game : ParityGame) (region : List Bool) (first second : ℕ → Option
           are.won (λ _. is);
       lost =
           each_entry (λ v x. has region v ≡ false → IsEntryAmong game 1 second second_rows v x) n entries e are.each
-          are.lost (λ loses. absurd (both_ways (has region n) wins loses));
+          are.lost (λ loses. cc);
     }
-      where
-        both_ways : (b : Bool) → b ≡ true → b ≡ false → ⊥
-        both_ways b t f = search rules
 
     pub entries_lost : {n : ℕ} {entries : List EntryData} {e : EntryData} →
         AreEntries game region first second first_rows second_rows n entries → has region n ≡ false →
@@ -49,14 +46,11 @@ module _ (game : ParityGame) (region : List Bool) (first second : ℕ → Option
       each = length_push entries e ∙ ap (λ k. k + 1) are.each;
       won =
           each_entry (λ v x. has region v ≡ true → IsEntryAmong game 0 first first_rows v x) n entries e
-          are.each are.won (λ wins. absurd (both_ways (has region n) wins loses));
+          are.each are.won (λ wins. cc);
       lost =
           each_entry (λ v x. has region v ≡ false → IsEntryAmong game 1 second second_rows v x) n entries e are.each
           are.lost (λ _. is);
     }
-      where
-        both_ways : (b : Bool) → b ≡ true → b ≡ false → ⊥
-        both_ways b t f = search rules
 
 -- an entry with the row of its vertex
 pub among : (game : ParityGame) (player : ℕ) (table : ℕ → Option ℕ) (rows : List (List ℕ)) (v : ℕ) (row : List ℕ)

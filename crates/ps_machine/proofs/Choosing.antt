@@ -64,9 +64,6 @@ module _ (n : ℕ) (mine : ℕ → Bool) where
     | inr other ↦ inr (λ over. other (part_itself y over))
   ]
 
-pub not_true : (b : Bool) → b ≡ true → not b ≡ false
-not_true b e = ap not e
-
 pub not_false : (b : Bool) → not b ≡ false → b ≡ true
 not_false true e = refl
 not_false false e = sym e
@@ -140,8 +137,9 @@ module _ (board : Board) where
   steps_sym q a b same y second = record { state = sym (same y second).state; priority = sym (same y second).priority }
 
   -- the class of a letter of the first player
-  pub class_there : (q x : ℕ) → IsFirstLetter board x → (class : ℕ) × IsClass board q class × SameSteps board q x class
-  class_there q x first =
+  pub class_there : (q : ℕ) {x : ℕ} → IsFirstLetter board x →
+      (class : ℕ) × IsClass board q class × SameSteps board q x class
+  class_there q {x} first =
       let P : ℕ → Type 0 = λ other. IsFirstLetter board other × SameSteps board q other x in
       let l = least_there board.propositions P (λ y. both_or_not (IsFirstLetter board y) (SameSteps board q y x)
       (first_or_not y) (steps_or_not q y x)) (λ y is. is.0.within) x
@@ -157,9 +155,9 @@ module _ (board : Board) where
       )
 
   -- the move behind a class that leads where a letter of the second player leads
-  pub move_there : (q class y : ℕ) → IsSecondLetter board y →
+  pub move_there : {q : ℕ} (class : ℕ) {y : ℕ} → IsSecondLetter board y →
       (move : ℕ) × IsMove board q class move × SameStep board q (class + move) (class + y)
-  move_there q class y second =
+  move_there {q} class {y} second =
       let P : ℕ → Type 0 = λ other. IsSecondLetter board other × SameStep board q (class + other) (class + y) in
       let l = least_there board.propositions P (λ z. both_or_not (IsSecondLetter board z)
       (SameStep board q (class + z) (class + y)) (second_or_not z) (step_or_not))
@@ -187,10 +185,10 @@ priority_in : Key → ℕ
 priority_in (First q p) = p
 priority_in (Second q x) = 0
 
-pub same_states : (q p r o : ℕ) → First q p ≡ First r o → q ≡ r
+pub same_states : {q p r o : ℕ} → First q p ≡ First r o → q ≡ r
 unfolding state_in
-same_states q p r o e = ap state_in e
+same_states e = ap state_in e
 
-pub same_priorities : (q p r o : ℕ) → First q p ≡ First r o → p ≡ o
+pub same_priorities : {q p r o : ℕ} → First q p ≡ First r o → p ≡ o
 unfolding priority_in
-same_priorities q p r o e = ap priority_in e
+same_priorities e = ap priority_in e

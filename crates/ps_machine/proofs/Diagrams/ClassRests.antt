@@ -28,15 +28,15 @@ small_power : (n : ℕ) → n < 2 ^ n
 small_power zero = omega arith
 small_power (suc n) = (let before = small_power n in omega (arith, before, pow-suc 2 n))
 
-chosen_bit : (b c d : Bool) → b ≡ true → cond b c d ≡ c
-chosen_bit b c d e = ap (λ x. cond x c d) e
+chosen_bit : {b c : Bool} (d : Bool) → b ≡ true → cond b c d ≡ c
+chosen_bit {c} d e = ap (λ x. cond x c d) e
 
-other_bit : (b c d : Bool) → b ≡ false → cond b c d ≡ d
-other_bit b c d e = ap (λ x. cond x c d) e
+other_bit : {b : Bool} (c : Bool) {d : Bool} → b ≡ false → cond b c d ≡ d
+other_bit c {d} e = ap (λ x. cond x c d) e
 
-cond_alike : (b c d e : Bool) → (b ≡ false → d ≡ e) → cond b c d ≡ cond b c e
-cond_alike true c d e alike = refl
-cond_alike false c d e alike = alike refl
+cond_alike : (b c : Bool) {d e : Bool} → (b ≡ false → d ≡ e) → cond b c d ≡ cond b c e
+cond_alike true c alike = refl
+cond_alike false c alike = alike refl
 
 -- the letter with one letter's bits on the mask, and another's elsewhere
 module _ (n mask class : ℕ) (small : mask < 2 ^ n) where
@@ -51,22 +51,21 @@ module _ (n mask class : ℕ) (small : mask < 2 ^ n) where
   joint_bit u p = elim (cases_lt p (n + u)) [
     | inl less ↦ letter_is (n + u) (bits u) p less
     | inr more ↦ no_bit (n + u) (joint u) p (letter_lt (n + u) (bits u)) more
-        ∙ sym (other_bit (is_in p mask) (is_in p class) (is_in p u) (no_bit n mask p small (omega (arith, more)))
+        ∙ sym (other_bit (is_in p class) (no_bit n mask p small (omega (arith, more)))
         ∙ no_bit u u p (small_power u) (omega (arith, more)))
   ]
 
   joint_on : (u : ℕ) → AgreeOn mask class (joint u)
   unfolding bits
-  joint_on u p on = sym (joint_bit u p ∙ chosen_bit (is_in p mask) (is_in p class) (is_in p u) on)
+  joint_on u p on = sym (joint_bit u p ∙ chosen_bit (is_in p u) on)
 
   joint_off : (u : ℕ) → AgreeOff mask u (joint u)
   unfolding bits
-  joint_off u p off = sym (joint_bit u p ∙ other_bit (is_in p mask) (is_in p class) (is_in p u) off)
+  joint_off u p off = sym (joint_bit u p ∙ other_bit (is_in p class) off)
 
   joint_same : (u v p : ℕ) → (is_in p mask ≡ false → is_in p u ≡ is_in p v) → is_in p (joint u) ≡ is_in p (joint v)
   unfolding bits
-  joint_same u v p alike =
-      joint_bit u p ∙ cond_alike (is_in p mask) (is_in p class) (is_in p u) (is_in p v) alike ∙ sym (joint_bit v p)
+  joint_same u v p alike = joint_bit u p ∙ cond_alike (is_in p mask) (is_in p class) alike ∙ sym (joint_bit v p)
 
 -- the rest heeds the second player's propositions alone
 unfoldable pub Heeds : Order → AutomatonData → Table → ℕ → Type 0
@@ -114,7 +113,7 @@ module _ {order : Order} {a : AutomatonData} {mask : ℕ} {t : Table} {q : ℕ} 
         fit = f;
         is_rest =
             subst (λ l. IsRest order a mask t q l rest) any.4.0
-            (subst (λ n. IsRest order a mask t q c.letter n) any.4.1 (class_rest f of any.0 c at));
+            (subst (λ n. IsRest order a mask t q c.letter n) any.4.1 (class_rest f of any.0 at));
         heeds_second = subst (λ n. Heeds order a t n) any.4.1 (class_heeds any.0 c at);
       }
 
@@ -132,9 +131,9 @@ renamed_within t rest same within = subst
     (λ (l : List ℕ). (x : ℕ) → x < 2 ^ t.propositions → IfSome (leaf_of t rest x) (λ k. k < length l)) (sym same) within
 
 -- a class of the list
-pub any_class : (list : List Class) (letter : ℕ) (c : Class) → c.letter ≡ letter → (k : ℕ) → k < length list →
+pub any_class : (list : List Class) {letter : ℕ} {c : Class} → c.letter ≡ letter → (k : ℕ) → k < length list →
     ((d : Class) → get_or list k d ≡ c) → Any (λ (d : Class). (d.letter ≡ letter) × (d.rest ≡ c.rest)) list
-any_class list letter c is k within at = (k, c, within, at c, (is, refl))
+any_class list {c} is k within at = (k, c, within, at c, (is, refl))
 
 -- the classes of a vertex's state have that of the move, behind which something is left
 module _ {order : Order} {a : AutomatonData} {keys : List Key} {t : Table} {classes : ℕ → Option Classes} (v : ℕ)

@@ -23,20 +23,11 @@ use Rattle.ps_machine.specs.declared.key.Order.{Order}
 use Rattle.ps_machine.proofs.BoardSteps.{class_different, class_leads, class_some, known_first, still_known}
 use Rattle.ps_machine.proofs.Diagrams.Remembering.{fit_kept}
 
-some_none : {X : Type 0} (x : X) → None ≡ Some x → ⊥
-some_none x e = cc
-
-one_value : (v w : Classes) → Some v ≡ Some w → v ≡ w
-one_value v w e = cc
-
-is_some : (o : Option Classes) (c : Classes) → o ≡ Some c → IsSome o
-is_some o c e = subst (λ (x : Option Classes). IsSome x) (sym e) refl
-
 pub no_classes : {order : Order} {a : AutomatonData} {mask : ℕ} {t : Table} {rests : ℕ × ℕ → Option ℕ}
     {classes : ℕ → Option Classes} {key : Key} → ((q : ℕ) → classes q ≡ None) → IsKnown order a mask t rests key →
     KnowsMoves order a mask t rests classes key
 no_classes none is =
-    record { is_known = is; are = λ q c e. absurd (some_none c (sym (none q) ∙ e)) }
+    record { is_known = is; are = λ q c e. cc (none q) }
 
 -- what was known is known as the table grows
 module _ {order : Order} {a : AutomatonData} {mask : ℕ} {t u : Table} {rests now : ℕ × ℕ → Option ℕ}
@@ -67,8 +58,7 @@ module _ {order : Order} {a : AutomatonData} {mask : ℕ} {t u : Table} {rests n
       is_known = before key is.is_known;
       are = λ r c e. elim (bool_cases (eqb q r)) [
         | inl one ↦
-            (let value : added ≡ c = one_value added c
-            (sym (update r ∙ ap (λ (x : Bool). cond x (Some added) (classes r)) one) ∙ e) in
+            (let value : added ≡ c = cc (update r ∙ ap (λ (x : Bool). cond x (Some added) (classes r)) one) in
             subst (λ n. AreRemembered order a mask u now n c) (eqb-true q r one)
             (subst (λ (v : Classes). AreRemembered order a mask u now q v) value b))
         | inr other ↦ remembered_kept r c
@@ -93,15 +83,6 @@ module _ {order : Order} {a : AutomatonData} {mask : ℕ} {s t u : Table} {rests
 
   pub remembered : All (λ (k : Class). HasClass q l now (q, k.letter)) l → AreRemembered order a mask u now q c
   remembered has = record { are = of_state; known = known_first (fit_kept keeps fit) of_state named has }
-
--- a state that was divided is
-pub divided_more : (classes new : ℕ → Option Classes) (q : ℕ) (added : Classes) →
-    ((r : ℕ) → new r ≡ cond (eqb q r) (Some added) (classes r)) → (r : ℕ) → IsSome (classes r) → IsSome (new r)
-divided_more classes new q added update r h = elim (bool_cases (eqb q r)) [
-  | inl one ↦ is_some (new r) added (update r ∙ ap (λ (x : Bool). cond x (Some added) (classes r)) one)
-  | inr other ↦ subst (λ (x : Option Classes). IsSome x)
-      (sym (update r ∙ ap (λ (x : Bool). cond x (Some added) (classes r)) other)) h
-]
 
 -- the keys of a state's classes
 module _ {order : Order} {a : AutomatonData} {mask : ℕ} {t : Table} {rests : ℕ × ℕ → Option ℕ}
@@ -164,15 +145,14 @@ pub is_divided : (o : Option Classes) (P : Classes → Type 0) → IsSomeAnd o P
 is_divided None P h = absurd h
 is_divided (Some c) P h = refl
 
-pub classes_at : (o : Option Classes) (P : Classes → Type 0) (c : Classes) → IsSomeAnd o P → o ≡ Some c → P c
-classes_at o P c h e = subst (λ (x : Option Classes). IsSomeAnd x P) e h
+pub classes_at : {o : Option Classes} (P : Classes → Type 0) {c : Classes} → IsSomeAnd o P → o ≡ Some c → P c
+classes_at P h e = subst (λ (x : Option Classes). IsSomeAnd x P) e h
 
 -- the classes that are lent for the state of a vertex
 pub classes_there : {order : Order} {a : AutomatonData} {keys : List Key} {t : Table} {classes : ℕ → Option Classes}
     (v : ℕ) {q p : ℕ} {c : Classes} → (d : AreDivided order a keys t classes) → StandsAt keys v (First q p) →
     classes q ≡ Some c → AreClassesOf a d.mask t q c
-classes_there {a} {t} {classes} v {q} {p} {c} d at e =
-    classes_at (classes q) (AreClassesOf a d.mask t q) c (d.each v q p at) e
+classes_there {a} {t} {classes} v {q} {p} {c} d at e = classes_at (AreClassesOf a d.mask t q) (d.each v q p at) e
 
 pub lent : {order : Order} {a : AutomatonData} {keys : List Key} {t : Table} {classes : ℕ → Option Classes}
     (v : ℕ) {q p : ℕ} → (d : AreDivided order a keys t classes) → StandsAt keys v (First q p) → IsSome (classes q)

@@ -57,18 +57,18 @@ has_key keys v key at =
     list_any_at ((key_eq.eq-value).it key) keys v key (slice_get_within keys v key at)
     (subst (λ k. (key_eq.eq-value).it key k ≡ true) (sym (get_or_from_slice_get keys v key key at)) (key_same key))
 
-pub has_mark : (marks : List ℕ) (memory mark : ℕ) → slice_get marks memory ≡ Some mark →
+pub has_mark : (marks : List ℕ) (memory : ℕ) {mark : ℕ} → slice_get marks memory ≡ Some mark →
     list_any (eqb mark) marks ≡ true
-has_mark marks memory mark at =
+has_mark marks memory {mark} at =
     list_any_at (eqb mark) marks memory mark (slice_get_within marks memory mark at)
     (eq-eqb mark (get_or marks memory mark) (sym (get_or_from_slice_get marks memory mark mark at)))
 
 -- a memory with the mark of a vertex stands for it
-pub stands_for : {is_first : Bool} {keys : List Key} {used kept marks : List ℕ} (memory v q p : ℕ) →
+pub stands_for : {is_first : Bool} {keys : List Key} {used kept marks : List ℕ} {memory : ℕ} (v : ℕ) {q : ℕ} (p : ℕ) →
     AllPairs (λ x y. x ≢ y) keys → AreMemories is_first keys used kept marks → StandsAt keys v (First q p) →
-    slice_get marks memory ≡ Some (mark_of is_first v q) → (w : ℕ) → StandsAt keys w (First q p) →
+    slice_get marks memory ≡ Some (mark_of is_first v q) → {w : ℕ} → StandsAt keys w (First q p) →
     StandsFor is_first keys kept memory w q
-stands_for {is_first} {keys} {kept} {marks} memory v q p differ m at is w there =
+stands_for {is_first} {keys} {kept} {marks} {memory} v {q} p differ m at is {w} there =
     let within : memory < length kept =
     omega (arith, slice_get_within marks memory (mark_of is_first v q) is, m.many) in
     let here = m.each memory within in
@@ -120,13 +120,13 @@ setting {order} plan =
 
 -- ## Where keys lead
 
-zip_vertex : (keys : List Key) (numbers : List ℕ) (next : List Key) (k : Key) → AllZip (StandsAt keys) numbers next →
+zip_vertex : (keys : List Key) (numbers : List ℕ) (next : List Key) {k : Key} → AllZip (StandsAt keys) numbers next →
     (i : ℕ) → i < length next → get_or next i k ≡ k → (w : ℕ) × Contains numbers w × StandsAt keys w k
-zip_vertex keys numbers [] k zip i within is = absurd (omega (arith, within))
-zip_vertex keys [] (l ∷ next) k zip i within is = absurd zip
-zip_vertex keys (n ∷ numbers) (l ∷ next) k zip zero within is = (n, (0, omega arith, refl), zip.0 ∙ ap (λ x. Some x) is)
-zip_vertex keys (n ∷ numbers) (l ∷ next) k zip (suc i) within is =
-    let there = zip_vertex keys numbers next k zip.1 i (omega (arith, within)) is in
+zip_vertex keys numbers [] zip i within is = absurd (omega (arith, within))
+zip_vertex keys [] (l ∷ next) zip i within is = absurd zip
+zip_vertex keys (n ∷ numbers) (l ∷ next) zip zero within is = (n, (0, omega arith, refl), zip.0 ∙ ap (λ x. Some x) is)
+zip_vertex keys (n ∷ numbers) (l ∷ next) {k} zip (suc i) within is =
+    let there = zip_vertex keys numbers next zip.1 i (omega (arith, within)) is in
     let c = there.1 in
     (there.0, (suc c.0, omega (arith, c.1), c.2), there.2)
 
@@ -183,8 +183,8 @@ module _ {board : Board} {mover : ℕ} {keys : List Key} {game : ParityGame} {ce
         vertex.successors,
       )
 
-  pub class_at : (v w : ℕ) {q p : ℕ} → StandsAt keys v (First q p) → HasEdge game v w → ClassAt board keys q w
-  class_at v w {q} {p} at edge =
+  pub class_at : (v : ℕ) {w : ℕ} {q p : ℕ} → StandsAt keys v (First q p) → HasEdge game v w → ClassAt board keys q w
+  class_at v {w} {q} {p} at edge =
       let n = next_keys v (First q p) at in
       let leads = n.1 in
       let c = edge.1 in
@@ -201,8 +201,8 @@ module _ {board : Board} {mover : ℕ} {keys : List Key} {game : ParityGame} {ce
         stands = subst (λ u. StandsAt keys u (key x)) c.2 (here.1 ∙ ap (λ k. Some k) is);
       }
 
-  pub move_to : (v w : ℕ) {q x : ℕ} → StandsAt keys v (Second q x) → HasEdge game v w → MoveTo board keys q x w
-  move_to v w {q} {x} at edge =
+  pub move_to : (v : ℕ) {w : ℕ} {q x : ℕ} → StandsAt keys v (Second q x) → HasEdge game v w → MoveTo board keys q x w
+  move_to v {w} {q} {x} at edge =
       let n = next_keys v (Second q x) at in
       let leads = n.1 in
       let c = edge.1 in
@@ -220,15 +220,15 @@ module _ {board : Board} {mover : ℕ} {keys : List Key} {game : ParityGame} {ce
       }
 
   -- the vertex of a class of the state
-  pub to_class_of : (v : ℕ) {q p x : ℕ} → StandsAt keys v (First q p) → IsClass board q x →
+  pub to_class_of : {v : ℕ} {q p x : ℕ} → StandsAt keys v (First q p) → IsClass board q x →
       Leads keys game v (Second q x)
-  to_class_of v {q} {p} {x} at is =
+  to_class_of {v} {q} {p} {x} at is =
       let n = next_keys v (First q p) at in
       let leads = n.1 in
       let c = leads.1.complete x is in
       let key : ℕ → Key = λ y. Second q y in
-      let m = subst (λ l. Contains l (key x)) (sym leads.2) (map_contains key leads.0 c.0 x c.1 c.2) in
-      let there = zip_vertex keys (successors_of game v) n.0 (key x) n.2 m.0 m.1 m.2 in
+      let m = subst (λ l. Contains l (key x)) (sym leads.2) (map_contains key leads.0 c.0 c.1 c.2) in
+      let there = zip_vertex keys (successors_of game v) n.0 n.2 m.0 m.1 m.2 in
       record {
         vertex = there.0;
         edge = (within_game s v at, there.1);
@@ -236,15 +236,15 @@ module _ {board : Board} {mover : ℕ} {keys : List Key} {game : ParityGame} {ce
       }
 
   -- the vertex of the pair to which a move leads
-  pub to_pair_of : (v : ℕ) {q : ℕ} (x y : ℕ) → StandsAt keys v (Second q x) → IsMove board q x y →
+  pub to_pair_of : {v : ℕ} {q : ℕ} (x y : ℕ) → StandsAt keys v (Second q x) → IsMove board q x y →
       Leads keys game v (First (board.auto.next q (x + y)) (board.auto.priority q (x + y)))
-  to_pair_of v {q} x y at is =
+  to_pair_of {v} {q} x y at is =
       let n = next_keys v (Second q x) at in
       let leads = n.1 in
       let c = leads.1.complete y is in
       let key : ℕ → Key = λ z. First (board.auto.next q (x + z)) (board.auto.priority q (x + z)) in
-      let m = subst (λ l. Contains l (key y)) (sym leads.2) (map_contains key leads.0 c.0 y c.1 c.2) in
-      let there = zip_vertex keys (successors_of game v) n.0 (key y) n.2 m.0 m.1 m.2 in
+      let m = subst (λ l. Contains l (key y)) (sym leads.2) (map_contains key leads.0 c.0 c.1 c.2) in
+      let there = zip_vertex keys (successors_of game v) n.0 n.2 m.0 m.1 m.2 in
       record {
         vertex = there.0;
         edge = (within_game s v at, there.1);
@@ -265,8 +265,8 @@ module _ {order : Order} {a : AutomatonData} {keys : List Key} {certificate : Ce
     pub stands : StandsAt keys v (First state priority)
     pub used : IsUsed plan.game certificate v
 
-  pub kept_at : (v : ℕ) → Contains kept v → KeptAt v
-  kept_at v c =
+  pub kept_at : {v : ℕ} → Contains kept v → KeptAt v
+  kept_at {v} c =
       let m = plan.memories.each c.0 c.1 in
       let same : slice_index kept c.0 ≡ v = get_or_default kept c.0 0 v c.1 ∙ c.2 in
       record {
@@ -276,75 +276,26 @@ module _ {order : Order} {a : AutomatonData} {keys : List Key} {certificate : Ce
         used = (plan.are_used v).0 (subst (λ w. Contains plan.used w) same m.is_used);
       }
 
-  pub kept_used : (v : ℕ) → Contains kept v → IsUsed plan.game certificate v
-  kept_used v c = (kept_at v c).used
+  pub kept_used : {v : ℕ} → Contains kept v → IsUsed plan.game certificate v
+  kept_used {v} c = (kept_at c).used
 
   pub kept_within : (v : ℕ) → Contains kept v → v < length keys
-  kept_within v c = let k = kept_at v c in slice_get_within keys v (First k.state k.priority) k.stands
+  kept_within v c = let k = kept_at c in slice_get_within keys v (First k.state k.priority) k.stands
 
   pub kept_stands : (v : ℕ) → Contains kept v → {q p : ℕ} → get_or keys v (First 0 0) ≡ First q p →
       StandsAt keys v (First q p)
   kept_stands v c is = slice_get-get_or keys v (First 0 0) (kept_within v c) ∙ ap (λ k. Some k) is
 
-  pub kept_not_second : (v : ℕ) → Contains kept v → (q x : ℕ) → get_or keys v (First 0 0) ≡ Second q x → ⊥
-  kept_not_second v c q x is =
-      let k = kept_at v c in
+  pub kept_not_second : (v : ℕ) → Contains kept v → {q x : ℕ} → get_or keys v (First 0 0) ≡ Second q x → ⊥
+  kept_not_second v c is =
+      let k = kept_at c in
       not_both (sym is ∙ get_or_from_slice_get keys v (First k.state k.priority) (First 0 0) k.stands)
 
   pub kept_entry : (v : ℕ) → Contains kept v → v < length certificate.entries
   kept_entry v c =
-      let k = kept_at v c in
+      let k = kept_at c in
       let small = within_game (setting plan) v k.stands in
       omega (arith, small, plan.fits.entry_each)
-
-  small_next : IsWhole a → (q letter : ℕ) → (step_of a q letter).state ≤ a.states
-  small_next w q letter =
-      elim (cases_lt (unwrap_or (leaf_of a.store (node_of a q) letter) (length a.steps)) (length a.steps)) [
-        | inl less ↦ w.targets (unwrap_or (leaf_of a.store (node_of a q) letter) (length a.steps)) less
-        | inr more ↦ (
-            let sink : Step = record { state = a.states; priority = 1 } in
-            let past : step_of a q letter ≡ sink =
-            get_or_past a.steps (unwrap_or (leaf_of a.store (node_of a q) letter) (length a.steps)) sink more in
-            omega (arith, ap (λ (s : Step). s.state) past))
-      ]
-
-  -- the states of used vertices are the automaton's
-  pub used_state : IsWhole a → (v q p : ℕ) → IsUsed plan.game certificate v → StandsAt keys v (First q p) → q ≤ a.states
-  used_state w v q p u at = elim (cases_lt 1 (length u.path)) [
-    | inl more ↦ (
-        let i = length u.path - 2 in
-        let long : i + 1 < length u.path = omega (arith, more) in
-        let to_last : length u.path - 1 ≡ i + 1 = omega (arith, more) in
-        let last : slice_index u.path (i + 1) ≡ v = ap (slice_index u.path) (sym to_last) ∙ u.ends in
-        behind (slice_index u.path i) (subst (λ x. HasEdge plan.game (slice_index u.path i) x) last
-        (u.is_path.edges i long)))
-    | inr one ↦ (
-        let some = u.is_path.begins in
-        let only : length u.path - 1 ≡ 0 = omega (arith, one, some) in
-        let zero_is : 0 ≡ v = sym u.begins ∙ ap (slice_index u.path) (sym only) ∙ u.ends in
-        let start : a.start ≡ q =
-        one_state keys v 0 p (subst (λ n. StandsAt keys n (First a.start 0)) zero_is s.by_keys.begins) at in
-        let below = w.start in
-        omega (arith, start, below))
-  ]
-    where
-      s : Setting (board_of order a) (mover_of order) keys plan.game certificate
-      s = setting plan
-
-      behind_key : (x : ℕ) (k : Key) → StandsAt keys x k → HasEdge plan.game x v → q ≤ a.states
-      behind_key x (First r o) there edge =
-          let c = class_at s x v there edge in
-          absurd (not_both (same_some (sym c.stands ∙ at)))
-      behind_key x (Second r c) there edge =
-          let m = move_to s x v there edge in
-          let same = one_state keys v _ p m.goes.stands at in
-          let small = small_next w r (c + m.letter) in
-          omega (arith, same, small)
-
-      behind : (x : ℕ) → HasEdge plan.game x v → q ≤ a.states
-      behind x edge =
-          let vertex = s.by_keys.vertices x edge.0 in
-          behind_key x vertex.key vertex.stands edge
 
 -- ## Rows
 
@@ -359,9 +310,9 @@ by_case P true old more h g = h
 by_case P false old more h g = g
 
 -- a row that is added, if it is not there, leaves the others at their places
-pub keeps_rows : (eq : Row → Row → Bool) (old : List Row) (row : Row) (new : List Row) → new ≡ insert_key eq old row →
+pub keeps_rows : (eq : Row → Row → Bool) {old : List Row} (row : Row) {new : List Row} → new ≡ insert_key eq old row →
     KeepsRows old new
-keeps_rows eq old row new e =
+keeps_rows eq {old} row e =
     subst (λ rows. KeepsRows old rows) (sym e)
     (by_case (λ rows. KeepsRows old rows) (list_any (eq row) old) old (old ++ row ∷ [])
     (record { same = λ leaf r is. is }) (record { same = λ leaf r is. slice_get-left old (row ∷ []) leaf r is }))
@@ -372,8 +323,8 @@ all_rows P eq old row e all here =
     subst (λ rows. All P rows) (sym e) (by_case (λ rows. All P rows) (list_any (eq row) old) old (old ++ row ∷ []) all
     (All-push P old row all here))
 
-pub keeps_rows_same : (rows : List Row) → KeepsRows rows rows
-keeps_rows_same rows = record { same = λ leaf r is. is }
+pub keeps_rows_same : {rows : List Row} → KeepsRows rows rows
+keeps_rows_same = record { same = λ leaf r is. is }
 
 pub keeps_rows_trans : {one two three : List Row} → KeepsRows one two → KeepsRows two three → KeepsRows one three
 keeps_rows_trans k l = record { same = λ leaf r is. l.same leaf r (k.same leaf r is) }

@@ -47,17 +47,12 @@ pub record AreNoted (a : AutomatonData) (keys : List Key) (is_first : Bool) (boa
 
 module _ {a : AutomatonData} {keys : List Key} {is_first : Bool} {board : Board} {kept : List ℕ} {letter : ℕ}
     {found : List (ℕ × ℕ)} {old : List Row} where
-  pub none_noted : (places : List ℕ) → All (IsRow is_first board kept) old →
-      AreNoted a keys is_first board kept letter found old old places 0
-  none_noted places each =
-      record { same_rows = keeps_rows_same old; each = each; placed = λ k d none. absurd (omega (arith, none)) }
-
   -- the row of a leaf is added
   pub add_row : (eq : Row → Row → Bool) {rows : List Row} {places : List ℕ} {n : ℕ} {row : Row} {new : List Row} →
       AreNoted a keys is_first board kept letter found old rows places n → new ≡ insert_key eq rows row →
       IsRow is_first board kept row → AreNoted a keys is_first board kept letter found old new places n
   add_row eq {rows} {row} {new} h e is =
-      let k = keeps_rows eq rows row new e in
+      let k = keeps_rows eq row e in
       record {
         same_rows = keeps_rows_trans h.same_rows k;
         each = all_rows (IsRow is_first board kept) eq rows row e h.each is;
@@ -83,7 +78,7 @@ module _ {a : AutomatonData} {keys : List Key} {is_first : Bool} {board : Board}
   note_more {rows} {places} {more} {n} {leaf} {place} {row} h is at plays next noted others = record {
     same_rows = h.same_rows;
     each = h.each;
-    placed = λ k d within. at_leaf (get_or found k d).0 (λ differ. h.placed k d (earlier k d differ within));
+    placed = λ k d within. at_leaf (λ differ. h.placed k d (earlier k d differ within));
   }
     where
       earlier : (k : ℕ) (d : ℕ × ℕ) → (get_or found k d).0 ≢ leaf → k < n + 1 → k < n
@@ -92,9 +87,9 @@ module _ {a : AutomatonData} {keys : List Key} {is_first : Bool} {board : Board}
         | inr other ↦ omega (arith, other, within)
       ]
 
-      at_leaf : (other : ℕ) → (other ≢ leaf → IsPlaced a keys is_first kept rows places letter other) →
+      at_leaf : {other : ℕ} → (other ≢ leaf → IsPlaced a keys is_first kept rows places letter other) →
           IsPlaced a keys is_first kept rows more letter other
-      at_leaf other was = elim (cases_eq other leaf) [
+      at_leaf {other} was = elim (cases_eq other leaf) [
         | inl same ↦ subst (λ l. IsPlaced a keys is_first kept rows more letter l) (sym same)
             (record { place = place; is_noted = noted; row = row; is_row = at; plays = plays; next = next })
         | inr differ ↦ (
@@ -115,9 +110,9 @@ letter_in : Key → ℕ
 letter_in (First q p) = 0
 letter_in (Second q x) = x
 
-same_letter : (q r x y : ℕ) → Second q x ≡ Second r y → x ≡ y
+same_letter : {q r x y : ℕ} → Second q x ≡ Second r y → x ≡ y
 unfolding letter_in
-same_letter q r x y e = ap letter_in e
+same_letter e = ap letter_in e
 
 module _ {order : Order} {a : AutomatonData} {keys : List Key} {certificate : CertificateData} {is_first : Bool}
     {kept marks : List ℕ} (plan : IsPlan order a keys certificate is_first kept marks) (first : is_first ≡ true) where
@@ -138,8 +133,8 @@ module _ {order : Order} {a : AutomatonData} {keys : List Key} {certificate : Ce
       let board = board_of order a in
       let mover = mover_of order in
       let s = setting plan in
-      let m = move_at s at (kept_used plan v is_kept) (first_owner s v at ∙ mover_wins) in
-      let c = class_at s v m.chosen at m.edge in
+      let m = move_at s at (kept_used plan is_kept) (first_owner s v at ∙ mover_wins) in
+      let c = class_at s v at m.edge in
       record {
         chosen = m.chosen;
         choice = m.choice;
@@ -150,10 +145,10 @@ module _ {order : Order} {a : AutomatonData} {keys : List Key} {certificate : Ce
       }
 
   -- the vertex that the certificate gives is one of a class
-  class_chosen : (v chosen : ℕ) {q p : ℕ} → Contains kept v → StandsAt keys v (First q p) →
+  class_chosen : (v : ℕ) {chosen : ℕ} {q p : ℕ} → Contains kept v → StandsAt keys v (First q p) →
       choice_of certificate v ≡ Some chosen → (letter : ℕ) × IsClass (board_of order a) q letter ×
       StandsAt keys chosen (Second q letter)
-  class_chosen v chosen {q} is_kept at choice =
+  class_chosen v {chosen} {q} is_kept at choice =
       let to = to_class v is_kept at in (
         to.letter,
         to.is_class,
@@ -163,29 +158,30 @@ module _ {order : Order} {a : AutomatonData} {keys : List Key} {certificate : Ce
 
   pub has_choice : (v : ℕ) → Contains kept v → is_some (choice_of certificate v) ≡ true
   has_choice v is_kept =
-      let k = kept_at plan v is_kept in
+      let k = kept_at plan is_kept in
       ap is_some (to_class v is_kept k.stands).choice
 
-  pub chosen_within : (v chosen : ℕ) → Contains kept v → choice_of certificate v ≡ Some chosen → chosen < length keys
-  chosen_within v chosen is_kept choice =
-      let k = kept_at plan v is_kept in
-      let to = class_chosen v chosen is_kept k.stands choice in
+  pub chosen_within : (v : ℕ) {chosen : ℕ} → Contains kept v → choice_of certificate v ≡ Some chosen →
+      chosen < length keys
+  chosen_within v {chosen} is_kept choice =
+      let k = kept_at plan is_kept in
+      let to = class_chosen v is_kept k.stands choice in
       slice_get_within keys chosen (Second k.state to.0) to.2
 
   pub chosen_not_first : (v : ℕ) {chosen r o : ℕ} → Contains kept v → choice_of certificate v ≡ Some chosen →
       get_or keys chosen (First 0 0) ≡ First r o → ⊥
   chosen_not_first v {chosen} is_kept choice is =
-      let k = kept_at plan v is_kept in
-      let to = class_chosen v chosen is_kept k.stands choice in
+      let k = kept_at plan is_kept in
+      let to = class_chosen v is_kept k.stands choice in
       not_both (sym (get_or_from_slice_get keys chosen (Second k.state to.0) (First 0 0) to.2) ∙ is)
 
   pub plays_class : (v chosen r letter : ℕ) → Contains kept v → choice_of certificate v ≡ Some chosen →
       get_or keys chosen (First 0 0) ≡ Second r letter → (q p : ℕ) → StandsAt keys v (First q p) →
       PlaysClass (board_of order a) keys certificate v q letter
   plays_class v chosen r letter is_kept choice is q p at =
-      let to = class_chosen v chosen is_kept at choice in
+      let to = class_chosen v is_kept at choice in
       let same : to.0 ≡ letter =
-      same_letter q r to.0 letter (sym (get_or_from_slice_get keys chosen (Second q to.0) (First 0 0) to.2) ∙ is) in
+      same_letter (sym (get_or_from_slice_get keys chosen (Second q to.0) (First 0 0) to.2) ∙ is) in
       record {
         chosen = chosen;
         choice = choice;
@@ -207,7 +203,7 @@ module _ {order : Order} {a : AutomatonData} {keys : List Key} {certificate : Ce
       let used : IsUsed plan.game certificate plays.chosen = subst (λ n. IsUsed plan.game certificate n) same to.used in
       let y = (get_or found k (0, 0)).1 in
       let leaf = (get_or found k (0, 0)).0 in
-      let on = to_pair_of s plays.chosen letter y plays.stands (move_is l.fit l.is_rest are k within) in
+      let on = to_pair_of s letter y plays.stands (move_is l.fit l.is_rest are k within) in
       let there : step_of a q (letter + y) ≡ pair_of a leaf =
       ap (λ o. pair_of a (unwrap_or o (length a.steps))) (move_leaf l.fit l.is_rest are k within) in
       let other : owner_of plan.game plays.chosen ≡ winner certificate → ⊥ =

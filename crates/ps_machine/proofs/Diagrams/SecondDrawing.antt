@@ -52,10 +52,7 @@ use Rattle.ps_machine.proofs.GameKeys.Standing.{same_some}
 -- ## The winner's move behind a class
 
 not_same : (x y : ℕ) → (x == y) ≡ false → x ≢ y
-not_same x y e same = absurd (both (x == y) (eq-eqb x y same) e)
-  where
-    both : (b : Bool) → b ≡ true → b ≡ false → ⊥
-    both b t f = search rules
+not_same x y e same = cc (eq-eqb x y same)
 
 -- the number that the table of keys gives
 pub found_at : (keys : List Key) (key : Key) {i : ℕ} → position ((key_eq.eq-value).it key) keys ≡ Some i →
@@ -94,14 +91,14 @@ module _ {order : Order} {a : AutomatonData} {keys : List Key} {certificate : Ce
       let s = setting plan in
       let loses : mover ≢ winner certificate = not_same mover (winner certificate) (sym plan.turn ∙ turn) in
       let small : winner certificate < 2 = plan.fits.winners 0 (within_game s 0 s.by_keys.begins) in
-      let to = to_class_of s e.vertex e.stands is in
+      let to = to_class_of s e.stands is in
       let behind : to.vertex < vertex_count game = within_game s to.vertex to.stands in
       let used : IsUsed game certificate to.vertex = used_more e.is_used to.edge behind
       (λ own. absurd (loses (sym (first_owner s e.vertex e.stands) ∙ own))) in
       let owner = second_owner s to.vertex to.stands in
       let own : owner_of game to.vertex ≡ winner certificate = omega (arith, owner, loses, small, s.is_mover) in
       let m = move_at s to.stands used own in
-      let t = move_to s to.vertex m.chosen to.stands m.edge in
+      let t = move_to s to.vertex to.stands m.edge in
       record {
         at = to.vertex;
         stands = to.stands;
@@ -156,7 +153,7 @@ module _ {order : Order} {a : AutomatonData} {mask : ℕ} {t : Table} {keys : Li
     (r : IsRest order a mask t q x rest) (are : AreLeaves t rest found) where
   pub leaf_there : Any (λ leaf. pair_of a leaf.0 ≡ step) found
   leaf_there =
-      let m = move_of f r are reply.letter reply.second in
+      let m = move_of f r are reply.second in
       let leaf = sym m.is ∙ r.leaves reply.letter reply.second in
       let is : pair_of a (get_or found m.place (0, 0)).0 ≡ step_of a q (x + reply.letter) =
       ap (λ o. pair_of a (unwrap_or o (length a.steps))) leaf in (
@@ -237,14 +234,14 @@ module _ (board : Board) (keys : List Key) (kept : List ℕ) (certificate : Cert
   abbrev pub Names : List Row → Class → ℕ → Type 0
   Names rows class value = NamesAnswer board keys kept certificate rows q class.letter value
 
-  still_named : (old new : List Row) → KeepsRows old new → (classes : List Class) (values : List ℕ) →
+  still_named : {old new : List Row} → KeepsRows old new → (classes : List Class) (values : List ℕ) →
       AllZip (Names old) classes values → AllZip (Names new) classes values
-  still_named old new k [] [] zip = tt
-  still_named old new k [] (value ∷ values) zip = zip
-  still_named old new k (class ∷ classes) [] zip = zip
-  still_named old new k (class ∷ classes) (value ∷ values) zip = (
+  still_named k [] [] zip = tt
+  still_named k [] (value ∷ values) zip = zip
+  still_named k (class ∷ classes) [] zip = zip
+  still_named {old} {new} k (class ∷ classes) (value ∷ values) zip = (
     record { row = zip.0.row; is_row = k.same value zip.0.row zip.0.is_row; is_answer = zip.0.is_answer },
-    still_named old new k classes values zip.1,
+    still_named k classes values zip.1,
   )
 
 module _ {board : Board} {keys : List Key} {kept : List ℕ} {certificate : CertificateData} {q : ℕ} where
@@ -257,14 +254,14 @@ module _ {board : Board} {keys : List Key} {kept : List ℕ} {certificate : Cert
       IsReplyRow board keys kept certificate q d.letter row → more ≡ values ++ value ∷ [] →
       AllZip (Names board keys kept certificate q new) (take (i + 1) classes) more
   named_next old new classes i d values more value {row} grown zip within is stored answer e =
-      let k = keeps_rows (row_eq.eq-value).it old row new grown in
-      let at : slice_get new value ≡ Some row = stored.1 ∙ ap (λ r. Some r) (sym (same_row row stored.0 stored.2)) in
+      let k = keeps_rows (row_eq.eq-value).it row grown in
+      let at : slice_get new value ≡ Some row = stored.1 ∙ ap (λ r. Some r) (sym (same_row stored.2)) in
       let here = subst (λ (c : Class). IsReplyRow board keys kept certificate q c.letter row) is answer in
       subst (λ l. AllZip (Names board keys kept certificate q new) (take (i + 1) classes) l) (sym e)
       (subst (λ l. AllZip (Names board keys kept certificate q new) l (values ++ value ∷ []))
       (sym (take_more classes i d within))
       (AllZip-push (Names board keys kept certificate q new) (take i classes) values (get_or classes i d) value
-      (still_named board keys kept certificate q old new k (take i classes) values zip)
+      (still_named board keys kept certificate q k (take i classes) values zip)
       (record { row = row; is_row = at; is_answer = here })))
 
   -- letters that step alike have one row
@@ -308,9 +305,9 @@ pub class_each : {order : Order} {a : AutomatonData} {mask : ℕ} {t : Table} {q
     All (λ (c : Class). IsClass (board_of order a) q c.letter) c.list.items
 class_each {c} f of k d within = class_is f of k (slice_get-get_or c.list.items k d within)
 
-some_if : (o : Option ℕ) (n m : ℕ) → m ≡ n → IsSomeAnd o (λ k. k < n) → IfSome o (λ k. k < m)
-some_if None n m e is = tt
-some_if (Some k) n m e is = omega (arith, e, is)
+some_if : (o : Option ℕ) {n m : ℕ} → m ≡ n → IsSomeAnd o (λ k. k < n) → IfSome o (λ k. k < m)
+some_if None e is = tt
+some_if (Some k) e is = omega (arith, e, is)
 
 module _ (keys : List Key) (kept : List ℕ) (certificate : CertificateData) (rows : List Row) (values : List ℕ)
     {order : Order} {a : AutomatonData} {mask : ℕ} {t : Table} {q : ℕ} {classes : Classes} (f : IsFit order a mask t)
@@ -321,7 +318,7 @@ module _ (keys : List Key) (kept : List ℕ) (certificate : CertificateData) (ro
 
   pub places_within : (letter : ℕ) → IfSome (leaf_of t classes.places letter) (λ k. k < length values)
   places_within letter =
-      some_if (leaf_of t classes.places letter) (length list) (length values)
+      some_if (leaf_of t classes.places letter)
       (AllZip-long (Names (board_of order a) keys kept certificate q rows) list values named) (of.are.placed letter)
 
   module _ (u : Table) (node : ℕ) (leaf : (letter : ℕ) → leaf_of u node letter ≡ option_map (λ k. slice_index values k)
@@ -332,7 +329,7 @@ module _ (keys : List Key) (kept : List ℕ) (certificate : CertificateData) (ro
         let m = class_of f of no_class x in
         let each = of.are.each m.place m.class m.at in
         let c = m.class.letter in
-        let hc = class_first f of m.place m.class m.at in
+        let hc = class_first f of m.place m.at in
         let alike = (of.are.alike x c (below_back f x hx.within) each.least.here.0).0 (m.is ∙ sym each.least.here.1) in
         let same = same_steps f q x c hx hc alike in
         let N = Names (board_of order a) keys kept certificate q rows in

@@ -53,15 +53,15 @@ module _ (n : ℕ) (P : ℕ → Type 0) (tell : (y : ℕ) → P y ⊎ (P y → �
   same_rank : (x y : ℕ) → P x → P y → rank 0 n x ≡ rank 0 n y → x ≡ y
   same_rank x y one other same = elim (compared n x y (within x one) (within y other)) [
     | inl is ↦ is
-    | inr (inl before) ↦ absurd (omega (arith, same, before_ranks n x y (within y other) before))
-    | inr (inr before) ↦ absurd (omega (arith, same, before_ranks n y x (within x one) before))
+    | inr (inl before) ↦ absurd (omega (arith, same, before_ranks n (within y other) before))
+    | inr (inr before) ↦ absurd (omega (arith, same, before_ranks n (within x one) before))
   ]
 
-  lower_before : (x y : ℕ) → P x → P y → rank 0 n x < rank 0 n y → IsBefore x y
-  lower_before x y one other lower = elim (compared n x y (within x one) (within y other)) [
+  lower_before : {x y : ℕ} → P x → P y → rank 0 n x < rank 0 n y → IsBefore x y
+  lower_before {x} {y} one other lower = elim (compared n x y (within x one) (within y other)) [
     | inl is ↦ absurd (let same : rank 0 n x ≡ rank 0 n y = ap (rank 0 n) is in omega (arith, same, lower))
     | inr (inl before) ↦ before
-    | inr (inr before) ↦ absurd (omega (arith, lower, before_ranks n y x (within x one) before))
+    | inr (inr before) ↦ absurd (omega (arith, lower, before_ranks n (within x one) before))
   ]
 
   list_below : (count : ℕ) → (letters : List ℕ) × ListedBelow letters count
@@ -88,7 +88,7 @@ module _ (n : ℕ) (P : ℕ → Type 0) (tell : (y : ℕ) → P y ⊎ (P y → �
             ];
             rising =
                 all_pairs_push IsBefore l.0 found.0 l.1.rising (λ k d inside.
-                lower_before (get_or l.0 k d) found.0 (l.1.each k d inside) found.1.0
+                lower_before (l.1.each k d inside) found.1.0
                 (let low = l.1.low k d inside in omega (arith, low, found.1.1)));
           },
         )
@@ -135,7 +135,7 @@ module _ (n : ℕ) (P : ℕ → Type 0) (tell : (y : ℕ) → P y ⊎ (P y → �
     | inr not_so ↦ inr (λ least. not_so least.here)
     | inl so ↦ (let l = least_there n P tell within y so in elim (cases_eq l.0 y) [
       | inl same ↦ inl (subst (IsLeast P) same l.1)
-      | inr other ↦ inr (λ least. other (one_least n P l.0 y (within l.0 l.1.here) (within y so) l.1 least))
+      | inr other ↦ inr (λ least. other (one_least n (within l.0 l.1.here) (within y so) l.1 least))
     ])
   ]
 
@@ -171,11 +171,8 @@ keys_fit all keys differ each =
 came_or_not : (keys : List Key) (k : Key) → Contains keys k ⊎ (Contains keys k → ⊥)
 came_or_not keys k = elim (cases_Bool (is_member is_key keys k)) [
   | inl is ↦ inl ((is_member-Decides told_apart keys k).0 is)
-  | inr isnt ↦ inr (λ c. clash (is_member is_key keys k) ((is_member-Decides told_apart keys k).1 c) isnt)
+  | inr isnt ↦ inr (λ c. cc ((is_member-Decides told_apart keys k).1 c))
 ]
-  where
-    clash : (b : Bool) → b ≡ true → b ≡ false → ⊥
-    clash b e f = cc
 
 module _ (mover : ℕ) (old : DraftData) (key : Key) (next : List Key) where
   visit_first : (i : ℕ) → i ≤ length next → (now : DraftData) × Visits mover old key (take i next) now
@@ -271,9 +268,9 @@ module _ (board : Board) (mover : ℕ) (start : board.auto.start ≤ board.state
   unfolding all_keys
   known_first = (start, (0, omega arith, refl))
 
-  known_second : (q x : ℕ) → q ≤ board.states → IsFirstLetter board x → Known (Second q x)
+  known_second : {q x : ℕ} → q ≤ board.states → IsFirstLetter board x → Known (Second q x)
   unfolding all_keys
-  known_second q x low first = (
+  known_second {q} {x} low first = (
     low,
     first,
     further (First board.auto.start 0) (Second q x) (keys_below (suc board.states))
@@ -308,14 +305,12 @@ module _ (board : Board) (mover : ℕ) (start : board.auto.start ≤ board.state
       (steps_or_not board q y x)) (λ y is. is.0.within) x in
       let l = letters_there board.propositions (IsClass board q) is (λ y is. is.here.0.within) in
       let key : ℕ → Key = λ x. Second q x in
-      let class = class_there board q (part board.propositions board.is_first 0)
-      (over_first board (part_over board.propositions board.is_first 0)) in
+      let class = class_there board q (over_first board (part_over board.propositions board.is_first 0)) in
       let there = l.1.complete class.0 class.1 in
       record {
         next = map key l.0;
         leads_to = (l.0, l.1, refl);
-        known =
-            All-map Known key l.0 (λ k d within. known_second q (get_or l.0 k d) known.0 (l.1.each k d within).here.0);
+        known = All-map Known key l.0 (λ k d within. known_second known.0 (l.1.each k d within).here.0);
         some = omega (arith, there.1, length-map l.0 key);
         differ = pairs_map (λ x y. x ≢ y) key l.0 0 (λ i j less within e. not_before_itself
             (subst (λ x. IsBefore x (get_or l.0 j 0)) (second_same e) (l.1.rising i j 0 less within)));
@@ -328,8 +323,7 @@ module _ (board : Board) (mover : ℕ) (start : board.auto.start ≤ board.state
       let l = letters_there board.propositions (IsMove board q x) is (λ y is. is.here.0.within) in
       let key : ℕ → Key = λ y. First (board.auto.next q (x + y)) (board.auto.priority q (x + y)) in
       let seconds : ℕ → Bool = λ p. not (board.is_first p) in
-      let move = move_there board q x (part board.propositions seconds 0)
-      (over_second board (part_over board.propositions seconds 0)) in
+      let move = move_there board x (over_second board (part_over board.propositions seconds 0)) in
       let there = l.1.complete move.0 move.1 in
       record {
         next = map key l.0;
@@ -342,7 +336,7 @@ module _ (board : Board) (mover : ℕ) (start : board.auto.start ≤ board.state
             pairs_map (λ x y. x ≢ y) key l.0 0 (λ i j less within e.
             (l.1.each j 0 within).none_before (get_or l.0 i 0) (
               (l.1.each i 0 (omega (arith, less, within))).here.0,
-              record { state = same_states _ _ _ _ e; priority = same_priorities _ _ _ _ e },
+              record { state = same_states e; priority = same_priorities e },
             ) (l.1.rising i j 0 less within));
       }
 

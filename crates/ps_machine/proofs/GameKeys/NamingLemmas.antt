@@ -20,29 +20,10 @@ plain_decimal n small =
     (λ k digits le h. All-append (λ x. x ≢ quote) digits ((48 + k % 10) ∷ []) h
     (plain_one (48 + k % 10) (λ e. omega (arith, e)))) n small
 
-pub plain_sink : IsPlain (115 ∷ 105 ∷ 110 ∷ 107 ∷ [])
-plain_sink =
-    let P : ℕ → Type 0 = λ x. x ≢ quote in
-    All-cons P 115 (105 ∷ 110 ∷ 107 ∷ []) (λ e. omega (arith, e))
-    (All-cons P 105 (110 ∷ 107 ∷ []) (λ e. omega (arith, e))
-    (All-cons P 110 (107 ∷ []) (λ e. omega (arith, e)) (plain_one 107 (λ e. omega (arith, e)))))
-
 pub plain_digit : (is_played is_true : Bool) → IsPlain (digit_if is_played is_true)
 plain_digit true true = plain_one 49 (λ e. omega (arith, e))
 plain_digit true false = plain_one 48 (λ e. omega (arith, e))
 plain_digit false b = All-nil (λ x. x ≢ quote)
-
--- a part, a byte and another part
-pub three_parts : (none one two all s d : List ℕ) (b : ℕ) → none ≡ [] → one ≡ none ++ s → two ≡ one ++ b ∷ [] →
-    all ≡ two ++ d → all ≡ s ++ b ∷ d
-three_parts none one two all s d b e0 e1 e2 e3 =
-    let first : one ≡ s = e1 ∙ ap (λ (l : List ℕ). l ++ s) e0 in
-    e3 ∙ ap (λ (l : List ℕ). l ++ d) (e2 ∙ ap (λ (l : List ℕ). l ++ b ∷ []) first) ∙ append_assoc s (b ∷ []) d
-
-pub plain_parts : (all s d : List ℕ) (b : ℕ) → all ≡ s ++ b ∷ d → IsPlain s → b ≢ 34 → IsPlain d → IsPlain all
-plain_parts all s d b e p h r =
-    All-same (λ x. x ≢ quote) all (s ++ b ∷ d) e (All-append (λ x. x ≢ quote) s (b ∷ d) p
-    (All-cons (λ x. x ≢ quote) b d h r))
 
 -- the digits of one more proposition
 pub digits_more : (board : Board) (x p : ℕ) (start : List ℕ) {old new : List ℕ} {is_played is_true : Bool} →

@@ -34,23 +34,23 @@ one_place keys differ v w {k} at there = by (cases_lt v w) (cases_lt w v)
         absurd (differ w v k less (slice_get_within keys v k at) (at_place w there ∙ sym (at_place v at)))
     by (inr more) (inr fewer) = omega (arith, more, fewer)
 
-pub map_contains : (f : ℕ → Key) (letters : List ℕ) (k y : ℕ) → k < length letters → get_or letters k y ≡ y →
+pub map_contains : (f : ℕ → Key) (letters : List ℕ) (k : ℕ) {y : ℕ} → k < length letters → get_or letters k y ≡ y →
     Contains (map f letters) (f y)
-map_contains f [] k y within is = absurd (omega (arith, within))
-map_contains f (x ∷ letters) zero y within is = (0, omega arith, ap f is)
-map_contains f (x ∷ letters) (suc k) y within is =
-    let c = map_contains f letters k y (omega (arith, within)) is in
+map_contains f [] k within is = absurd (omega (arith, within))
+map_contains f (x ∷ letters) zero within is = (0, omega arith, ap f is)
+map_contains f (x ∷ letters) (suc k) {y} within is =
+    let c = map_contains f letters k (omega (arith, within)) is in
     (suc c.0, omega (arith, c.1), c.2)
 
-zip_contains : (keys : List Key) (numbers : List ℕ) (next : List Key) (v : ℕ) (k : Key) →
+zip_contains : (keys : List Key) (numbers : List ℕ) (next : List Key) {v : ℕ} {k : Key} →
     AllZip (StandsAt keys) numbers next → ((w : ℕ) → StandsAt keys w k → w ≡ v) →
     (i : ℕ) → i < length next → get_or next i k ≡ k → Contains numbers v
-zip_contains keys numbers [] v k zip one i within is = absurd (omega (arith, within))
-zip_contains keys [] (l ∷ next) v k zip one i within is = absurd zip
-zip_contains keys (n ∷ numbers) (l ∷ next) v k zip one zero within is =
+zip_contains keys numbers [] zip one i within is = absurd (omega (arith, within))
+zip_contains keys [] (l ∷ next) zip one i within is = absurd zip
+zip_contains keys (n ∷ numbers) (l ∷ next) zip one zero within is =
     (0, omega arith, one n (zip.0 ∙ ap (λ x. Some x) is))
-zip_contains keys (n ∷ numbers) (l ∷ next) v k zip one (suc i) within is =
-    let c = zip_contains keys numbers next v k zip.1 one i (omega (arith, within)) is in
+zip_contains keys (n ∷ numbers) (l ∷ next) {v} {k} zip one (suc i) within is =
+    let c = zip_contains keys numbers next zip.1 one i (omega (arith, within)) is in
     (suc c.0, omega (arith, c.1), c.2)
 
 -- ## Edges
@@ -100,7 +100,7 @@ module _ {board : Board} {mover : ℕ} {keys : List Key} {game : ParityGame} {ce
       let one : (u : ℕ) → StandsAt keys u l → u ≡ w = λ u is. same_place u w is there in (
         within,
         decided (successors_of game v) (λ none. leads vertex.next from
-            (λ c. none (zip_contains keys (successors_of game v) vertex.next w l vertex.successors one c.0 c.1 c.2))),
+            (λ c. none (zip_contains keys (successors_of game v) vertex.next vertex.successors one c.0 c.1 c.2))),
       )
     where
       decided : (xs : List ℕ) → ((Contains xs w → ⊥) → ⊥) → Contains xs w
@@ -110,18 +110,18 @@ module _ {board : Board} {mover : ℕ} {keys : List Key} {game : ParityGame} {ce
       ]
 
   -- where the winner moves, the move is an edge
-  edge_by_move : (v w : ℕ) (k : Key) → StandsAt keys v k → owner_of game v ≡ winner_of certificate v →
+  edge_by_move : (v : ℕ) {w : ℕ} (k : Key) → StandsAt keys v k → owner_of game v ≡ winner_of certificate v →
       choice_of certificate v ≡ Some w → HasEdge game v w
-  edge_by_move v w k at own is =
+  edge_by_move v k at own is =
       let moves = (s.valid.closed.moves v (within_game v at)).own own in
       subst (λ o. IsSomeAnd o (HasEdge game v)) is moves
 
-  pub to_class : (v at q p class : ℕ) → StandsAt keys v (First q p) → StandsAt keys at (Second q class) →
+  pub to_class : (v at q p : ℕ) {class : ℕ} → StandsAt keys v (First q p) → StandsAt keys at (Second q class) →
       IsClass board q class → HasEdge game v at
-  to_class v at q p class here there is = edge_by_key v at (First q p) (Second q class) here there (λ next leads none.
+  to_class v at q p {class} here there is = edge_by_key v at (First q p) (Second q class) here there (λ next leads none.
       let c = leads.1.complete class is in
       none (subst (λ l. Contains l (Second q class)) (sym leads.2)
-      (map_contains (λ x. Second q x) leads.0 c.0 class c.1 c.2)))
+      (map_contains (λ x. Second q x) leads.0 c.0 c.1 c.2)))
 
   to_pair : (at w q class y : ℕ) → StandsAt keys at (Second q class) → IsSecondLetter board y →
       GoesTo keys board q (class + y) w → HasEdge game at w
@@ -145,7 +145,7 @@ module _ {board : Board} {mover : ℕ} {keys : List Key} {game : ParityGame} {ce
       let c = leads.1.complete z move in
       let same : pair z ≡ pair y = ap₂ (λ a b. First a b) least.here.1.state least.here.1.priority in
       none (subst (λ l. Contains l (pair y)) (sym leads.2) (subst (λ k. Contains (map pair leads.0) k) same
-      (map_contains pair leads.0 c.0 z c.1 c.2)))) y itself)
+      (map_contains pair leads.0 c.0 c.1 c.2)))) y itself)
 
   pub first_owner : (v : ℕ) {q p : ℕ} → StandsAt keys v (First q p) → owner_of game v ≡ mover
   first_owner v {q} {p} at = owner_at v at
@@ -162,7 +162,7 @@ module _ {board : Board} {mover : ℕ} {keys : List Key} {game : ParityGame} {ce
       let sum : x + letter ≡ letter + x = omega arith in
       record {
         between = steps.chosen;
-        there = edge_by_move v steps.chosen (First q p) at own steps.choice;
+        there = edge_by_move v (First q p) at own steps.choice;
         on = to_pair steps.chosen w q letter x steps.stands second (subst (λ n. GoesTo keys board q n w) sum goes);
         priority = priority_here steps.chosen steps.stands;
         first = λ o. steps.choice;
@@ -189,8 +189,8 @@ module _ {board : Board} {mover : ℕ} {keys : List Key} {game : ParityGame} {ce
       let choice : choice_of certificate steps.at ≡ Some w = steps.choice ∙ ap (λ n. Some n) entered in
       record {
         between = steps.at;
-        there = to_class v steps.at q p steps.class at steps.stands steps.is_class;
-        on = edge_by_move steps.at w (Second q steps.class) steps.stands owner choice;
+        there = to_class v steps.at q p at steps.stands steps.is_class;
+        on = edge_by_move steps.at (Second q steps.class) steps.stands owner choice;
         priority = priority_here steps.at steps.stands;
         first = λ o. absurd (loses (sym (first_owner v at) ∙ o));
         second = λ o. choice;

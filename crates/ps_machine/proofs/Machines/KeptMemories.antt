@@ -30,8 +30,8 @@ mark_shares false v q w r e = e
 module _ {is_first : Bool} {keys : List Key} {used kept marks : List ℕ} (m : AreMemories is_first keys used kept marks)
   where
     -- two memories with one mark are one
-    one_memory : (i j x : ℕ) → slice_get marks i ≡ Some x → slice_get marks j ≡ Some x → i ≡ j
-    one_memory i j x at there = elim (cases_lt i j) [
+    one_memory : {i j x : ℕ} → slice_get marks i ≡ Some x → slice_get marks j ≡ Some x → i ≡ j
+    one_memory {i} {j} {x} at there = elim (cases_lt i j) [
       | inl less ↦ absurd (apart i j less at there)
       | inr high ↦ elim (cases_lt j i) [
         | inl less ↦ absurd (apart j i less there at)
@@ -51,7 +51,7 @@ module _ {is_first : Bool} {keys : List Key} {used kept marks : List ℕ} (m : A
         let h = m.found w r p is_used stands in (
           h.memory,
           omega (arith, slice_get_within marks h.memory (mark_of is_first w r) h.is_marked, m.many),
-          stands_for h.memory w r p differ m stands h.is_marked w stands,
+          stands_for w p differ m stands h.is_marked stands,
         )
 
     -- the first memory is that of vertex 0
@@ -81,7 +81,7 @@ module _ {is_first : Bool} {keys : List Key} {used kept marks : List ℕ} (m : A
             here = record { used = (are_used (get_or kept memory 0)).0 here.is_used; stands = here.stands };
             least = λ w r p less there shares.
                 (let h = m.found w r p ((are_used w).1 there.used) there.stands in
-                let same : h.memory ≡ memory = one_memory h.memory memory (mark_of is_first w r) h.is_marked
+                let same : h.memory ≡ memory = one_memory h.is_marked
                 (here.mark ∙ ap (λ n. Some n) (shares_mark is_first (get_or kept memory 0) here.state w r shares)) in
                 let behind : get_or kept memory 0 ≤ w = subst (λ i. get_or kept i 0 ≤ w) same h.behind in
                 omega (arith, behind, less));

@@ -41,7 +41,7 @@ there_among p list c = subst (λ q. is_among q list ≡ true) c.2 (get_among lis
 
 -- the numbers below n that are so are listed in one way
 pub one_listed : {n : ℕ} {is : ℕ → Bool} {xs ys : List ℕ} → AreListedBelow n is xs → AreListedBelow n is ys → xs ≡ ys
-one_listed {n} {is} {xs} {ys} a b = same_numbers xs ys a.rising b.rising (into xs ys a b) (into ys xs b a)
+one_listed {n} {is} {xs} {ys} a b = same_numbers a.rising b.rising (into xs ys a b) (into ys xs b a)
   where
     into : (us vs : List ℕ) → AreListedBelow n is us → AreListedBelow n is vs → Within us vs
     into us vs l m p c =

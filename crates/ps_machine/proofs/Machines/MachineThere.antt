@@ -57,9 +57,9 @@ module _ {board : Board} {mover : ℕ} {keys : List Key} {game : ParityGame} {ce
     row_first turn m v q p x stands is_used second =
         let wins : mover ≡ winner certificate = eqb-true mover (winner certificate) (sym turn) in
         let chosen = move_at s stands is_used (first_owner s v stands ∙ wins) in
-        let c = class_at s v chosen.chosen stands chosen.edge in
-        let move = move_there board q c.letter x second in
-        let to = to_pair_of s chosen.chosen c.letter move.0 c.stands move.1 in
+        let c = class_at s v stands chosen.edge in
+        let move = move_there board c.letter second in
+        let to = to_pair_of s c.letter move.0 c.stands move.1 in
         let sum : c.letter + x ≡ x + c.letter = omega arith in
         let state : board.auto.next q (c.letter + move.0) ≡ board.auto.next q (x + c.letter) = move.2.state
         ∙ ap (board.auto.next q) sum in
@@ -91,13 +91,13 @@ module _ {board : Board} {mover : ℕ} {keys : List Key} {game : ParityGame} {ce
         StandsAt keys v (First q p) → IsUsed game certificate v → IsFirstLetter board x → HasRow false v q x
     row_second turn m v q p x stands is_used first =
         let loses : mover ≢ winner certificate = eqb-false mover (winner certificate) (sym turn) in
-        let class = class_there board q x first in
-        let to = to_class_of s v stands class.1 in
+        let class = class_there board q first in
+        let to = to_class_of s stands class.1 in
         let to_used : IsUsed game certificate to.vertex = used_more is_used to.edge (edge_within v to.vertex to.edge)
         (λ own. absurd (loses (sym (first_owner s v stands) ∙ own))) in
         let owner = second_owner s to.vertex to.stands in
         let chosen = move_at s to.stands to_used (omega (arith, owner, loses, small_winner, s.is_mover)) in
-        let move = move_to s to.vertex chosen.chosen to.stands chosen.edge in
+        let move = move_to s to.vertex to.stands chosen.edge in
         let letter = move.letter in
         let own : IsSecondLetter board letter = move.is_move.here.0 in
         let same : SameStep board q (x + letter) (class.0 + letter) = class.2 letter own in
@@ -125,8 +125,8 @@ module _ {board : Board} {mover : ℕ} {keys : List Key} {game : ParityGame} {ce
                     move.is_move.none_before z (
                       other.0,
                       record {
-                        state = same_states _ _ _ _ e;
-                        priority = same_priorities _ _ _ _ e;
+                        state = same_states e;
+                        priority = same_priorities e;
                       },
                     ) before);
               };
@@ -140,10 +140,10 @@ module _ {board : Board} {mover : ℕ} {keys : List Key} {game : ParityGame} {ce
         }
 
     row_there : (is_first : Bool) → is_first ≡ (mover == winner certificate) →
-        AreMemories is_first keys used kept marks → (v q p x : ℕ) → StandsAt keys v (First q p) →
+        AreMemories is_first keys used kept marks → {v q : ℕ} (p : ℕ) {x : ℕ} → StandsAt keys v (First q p) →
         IsUsed game certificate v → IsOther is_first board x → HasRow is_first v q x
-    row_there true turn m v q p x stands is_used other = row_first turn m v q p x stands is_used other
-    row_there false turn m v q p x stands is_used other = row_second turn m v q p x stands is_used other
+    row_there true turn m {v} {q} p {x} stands is_used other = row_first turn m v q p x stands is_used other
+    row_there false turn m {v} {q} p {x} stands is_used other = row_second turn m v q p x stands is_used other
 
 -- ## The machine
 
@@ -186,8 +186,7 @@ module _ (names : List (List ℕ)) {board : Board} {mover : ℕ} {keys : List Ke
     row_at : (memory z : ℕ) → memory < length kept → (row : Row) × IsRowOf memory (read z) row
     row_at memory z within =
         let here = m.each memory within in
-        let r = row_there setting used are_used kept marks first turn m
-        (get_or kept memory 0) here.state here.priority (read z) here.stands
+        let r = row_there setting used are_used kept marks first turn m here.priority here.stands
         ((are_used (get_or kept memory 0)).0 here.is_used) (read_other z) in (
           r.row,
           record {
@@ -207,9 +206,9 @@ module _ (names : List (List ℕ)) {board : Board} {mover : ℕ} {keys : List Ke
     row : ℕ → ℕ → Row
     row memory x = row_if memory (read x) (cases_lt memory (length kept))
 
-    row_right : (memory x : ℕ) → memory < length kept → IsRowOf memory (read (read x)) (row memory x)
+    row_right : {memory : ℕ} (x : ℕ) → memory < length kept → IsRowOf memory (read (read x)) (row memory x)
     unfolding row
-    row_right memory x within = by (cases_lt memory (length kept))
+    row_right {memory} x within = by (cases_lt memory (length kept))
       where
         by : (c : (memory < length kept) ⊎ (length kept ≤ memory)) →
             IsRowOf memory (read (read x)) (row_if memory (read x) c)
@@ -254,8 +253,8 @@ module _ (names : List (List ℕ)) {board : Board} {mover : ℕ} {keys : List Ke
         (row memory x).letter ≡ (row memory y).letter
     same_letter_played is memory x y within =
         let v = get_or kept memory 0 in
-        let one = row_right memory x within in
-        let other = row_right memory y within in
+        let one = row_right x within in
+        let other = row_right y within in
         let state : other.state ≡ one.state = one_state keys v other.priority one.priority other.stands one.stands in
         one_letter first board keys certificate v one.state (read (read x)) (read (read y)) (row memory x).letter
         (row memory y).letter is one.right.played
@@ -286,8 +285,8 @@ module _ (names : List (List ℕ)) {board : Board} {mover : ℕ} {keys : List Ke
       some =
           some_kept m 0 board.auto.start setting.by_keys.begins
           ((are_used 0).1 (used_first game certificate (within_game setting 0 setting.by_keys.begins)));
-      next_within = λ memory x within. (row_right memory x within).within;
-      plays_own = λ memory x within. outputs_only (row memory x).letter (row_right memory x within).own;
+      next_within = λ memory x within. (row_right x within).within;
+      plays_own = λ memory x within. outputs_only (row memory x).letter (row_right x within).own;
       next_heeds = λ memory x y within same. ap (λ (r : Row). r.memory) (row_heeds memory x y same);
       plays_heeds = λ memory x y within same. ap (λ (r : Row). r.letter) (row_heeds memory x y same);
       blind = λ is memory x y within. same_letter_played is memory x y within;
@@ -298,7 +297,7 @@ module _ (names : List (List ℕ)) {board : Board} {mover : ℕ} {keys : List Ke
     unfolding made
     made_step memory x within other =
         let v = get_or kept memory 0 in
-        let r = row_right memory x within in
+        let r = row_right x within in
         let letter = (row memory x).letter in
         let same : read (read x) ≡ x = ap read (read_itself x other) ∙ read_itself x other in
         record {

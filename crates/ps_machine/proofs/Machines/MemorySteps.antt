@@ -39,21 +39,18 @@ marked_last marks {mark} =
 -- ## One memory
 
 -- whether a number is in a list, as a table tells it
-pub is_there : (xs : List ℕ) (x : ℕ) (b : Bool) → b ≡ list_any (nat_eq x) xs → b ≡ true → Contains xs x
-is_there xs x b told is = Contains-from_any (λ y z h. eqb-true y z h) x xs (sym told ∙ is)
+pub is_there : (xs : List ℕ) (x : ℕ) {b : Bool} → b ≡ list_any (nat_eq x) xs → b ≡ true → Contains xs x
+is_there xs x told is = Contains-from_any (λ y z h. eqb-true y z h) x xs (sym told ∙ is)
 
-pub is_absent : (xs : List ℕ) (x : ℕ) (b : Bool) → b ≡ list_any (nat_eq x) xs → b ≡ false → Contains xs x → ⊥
-is_absent xs x b told is there = both b (told ∙ list_any-from_Contains nat_eq_equiv x xs there) is
-  where
-    both : (b : Bool) → b ≡ true → b ≡ false → ⊥
-    both b t f = search rules
+pub is_absent : (xs : List ℕ) (x : ℕ) {b : Bool} → b ≡ list_any (nat_eq x) xs → b ≡ false → Contains xs x → ⊥
+is_absent xs x told is there = cc (list_any-from_Contains nat_eq_equiv x xs there)
 
 pub keeps_known : {kept marks : List ℕ} {v mark : ℕ} {new : List ℕ} {b : Bool} →
     b ≡ not (list_any (nat_eq mark) marks) → b ≡ false → new ≡ insert_key nat_eq marks mark →
     KeepsAt kept marks v mark kept new
 keeps_known {marks} {mark} {new} {b} told is e = elim (inserted marks mark new e) [
   | inl there ↦ Stays there.0 refl there.1
-  | inr comes ↦ absurd (comes.0 (is_there marks mark (not b) (ap not told ∙ not_not (list_any (nat_eq mark) marks))
+  | inr comes ↦ absurd (comes.0 (is_there marks mark (ap not told ∙ not_not (list_any (nat_eq mark) marks))
       (ap not is)))
 ]
 
@@ -104,9 +101,9 @@ module _ (is_first : Bool) (keys : List Key) (used : List ℕ) where
   }
 
   -- where the mark has come, there is a memory
-  came_has : (kept marks : List ℕ) (n mark : ℕ) → AreMemoriesBelow kept marks n → Contains marks mark →
+  came_has : {kept marks : List ℕ} {n mark : ℕ} → AreMemoriesBelow kept marks n → Contains marks mark →
       HasMemory kept marks n mark
-  came_has kept marks n mark m came =
+  came_has {kept} {marks} {mark} m came =
       let within : came.0 < length kept = omega (arith, came.1, m.many) in
       let before = m.below came.0 0 within in
       record {
@@ -115,8 +112,8 @@ module _ (is_first : Bool) (keys : List Key) (used : List ℕ) where
         behind = omega (arith, before);
       }
 
-  module _ (kept marks : List ℕ) (n q p : ℕ) (m : AreMemoriesBelow kept marks n) (stands : StandsAt keys n (First q p))
-      (is_used : Contains used n) where
+  module _ {kept marks : List ℕ} {n : ℕ} (q p : ℕ) (m : AreMemoriesBelow kept marks n)
+      (stands : StandsAt keys n (First q p)) (is_used : Contains used n) where
     kept_left : (memory : ℕ) → memory < length kept → get_or (kept ++ n ∷ []) memory 0 ≡ get_or kept memory 0
     kept_left memory within = get_or_append_left kept (n ∷ []) 0 memory within
 
@@ -190,7 +187,7 @@ module _ (is_first : Bool) (keys : List Key) (used : List ℕ) where
       different = m.different;
       below = all_less kept n m.below;
       each = m.each;
-      found = found_more kept marks (λ v x h. h) (came_has kept marks n (mark_of is_first n q) m came);
+      found = found_more kept marks (λ v x h. h) (came_has m came);
     }
 
     below_grows : (Contains marks (mark_of is_first n q) → ⊥) →

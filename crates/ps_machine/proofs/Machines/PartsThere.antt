@@ -46,13 +46,13 @@ module _ {game : ParityGame} {certificate : CertificateData} (valid : IsValid ga
         let all = add_first (successors_of game v) old (length (successors_of game v)) (omega arith) in (
           all.0,
           adds_all game certificate v (length (successors_of game v))
-              (used_within game certificate v used) other (omega arith) all.1,
+              (used_within game certificate used) other (omega arith) all.1,
         )
   ]
     where
       by : owner_of game v ≡ winner certificate → (o : Option ℕ) → choice_of certificate v ≡ o →
           (new : List ℕ) × Adds (GoesOn game certificate v) old new
-      by own None e = (old, adds_no_move game certificate v old own e)
+      by own None e = (old, adds_no_move game certificate v own e)
       by own (Some chosen) e = (
         insert_key nat_eq old chosen,
         adds_move game certificate valid used own e refl,
@@ -108,7 +108,7 @@ module _ (is_first : Bool) (keys : List Key) (used : List ℕ) where
             kept,
             marks,
             subst (AreMemoriesBelow is_first keys used kept marks) (add-one n)
-                (below_more is_first keys used kept marks n q p m stands is_used (Stays came refl refl)),
+                (below_more is_first keys used q p m stands is_used (Stays came refl refl)),
           )
           | inr comes ↦
               let more = kept ++ n ∷ [] in
@@ -116,7 +116,7 @@ module _ (is_first : Bool) (keys : List Key) (used : List ℕ) where
                 more,
                 others,
                 subst (AreMemoriesBelow is_first keys used more others) (add-one n)
-                    (below_more is_first keys used kept marks n q p m stands is_used (Grows comes refl refl)),
+                    (below_more is_first keys used q p m stands is_used (Grows comes refl refl)),
               )
         ]
       ]

@@ -40,28 +40,28 @@ one_list {P} {xs} {ys} a b =
     (λ z c. a.complete z (All-contains P ys z b.each c))
 
 -- a key leads to one list of keys
-one_next : (board : Board) (key : Key) (one other : List Key) → LeadsTo board key one →
+one_next : (board : Board) (key : Key) {one other : List Key} → LeadsTo board key one →
     LeadsTo board key other → one ≡ other
-one_next board (First q p) one other a b = a.2 ∙ ap (map (λ x. Second q x)) (one_list a.1 b.1) ∙ sym b.2
-one_next board (Second q x) one other a b =
+one_next board (First q p) a b = a.2 ∙ ap (map (λ x. Second q x)) (one_list a.1 b.1) ∙ sym b.2
+one_next board (Second q x) a b =
     a.2 ∙ ap (map (λ y. First (board.auto.next q (x + y)) (board.auto.priority q (x + y)))) (one_list a.1 b.1) ∙ sym b.2
 
 first_not_second : {q p r x : ℕ} → Second r x ≡ First q p → ⊥
 first_not_second e = search rules
 
-in_map : (f : ℕ → Key) (xs : List ℕ) (key : Key) → Contains (map f xs) key → (x : ℕ) × (f x ≡ key)
-in_map f xs key c =
+in_map : (f : ℕ → Key) (xs : List ℕ) {key : Key} → Contains (map f xs) key → (x : ℕ) × (f x ≡ key)
+in_map f xs {key} c =
     let within : c.0 < length xs = omega (arith, c.1, length-map xs f) in
     (get_or xs c.0 0, sym (get_or-map f xs c.0 0 key within) ∙ c.2)
 
 -- and not to itself
 not_itself : (board : Board) (key : Key) (next : List Key) → LeadsTo board key next → Contains next key → ⊥
 not_itself board (First q p) next a c =
-    (let at = in_map (λ x. Second q x) a.0 (First q p) (subst (λ l. Contains l (First q p)) a.2 c) in
+    (let at = in_map (λ x. Second q x) a.0 (subst (λ l. Contains l (First q p)) a.2 c) in
     first_not_second at.1)
 not_itself board (Second q x) next a c =
     let f : ℕ → Key = λ y. First (board.auto.next q (x + y)) (board.auto.priority q (x + y)) in
-    let at = in_map f a.0 (Second q x) (subst (λ l. Contains l (Second q x)) a.2 c) in
+    let at = in_map f a.0 (subst (λ l. Contains l (Second q x)) a.2 c) in
     first_not_second (sym at.1)
 
 -- ## Two numberings, step by step
@@ -77,11 +77,11 @@ record Walked (one other : List Key) (list numbers others : List ℕ) : Type 0 w
 
 module _ (one other : List Key) (one_differ : AllPairs (λ x y. x ≢ y) one)
     (other_differ : AllPairs (λ x y. x ≢ y) other) where
-  same_number : (c x y : ℕ) (k : Key) → Agree one other c → StandsAt one x k → StandsAt other y k → (x < c) ⊎ (x ≡ c) →
+  same_number : {c x y : ℕ} (k : Key) → Agree one other c → StandsAt one x k → StandsAt other y k → (x < c) ⊎ (x ≡ c) →
       (y < c) ⊎ (y ≡ c) → x ≡ y
-  same_number c x y k agree a b (inl less) at = one_place other other_differ x y (sym (agree x less) ∙ a) b
-  same_number c x y k agree a b (inr is) (inl less) = one_place one one_differ x y a (agree y less ∙ b)
-  same_number c x y k agree a b (inr is) (inr too) = is ∙ sym too
+  same_number {x} {y} k agree a b (inl less) at = one_place other other_differ x y (sym (agree x less) ∙ a) b
+  same_number {x} {y} k agree a b (inr is) (inl less) = one_place one one_differ x y a (agree y less ∙ b)
+  same_number k agree a b (inr is) (inr too) = is ∙ sym too
 
   agree_more : (c x : ℕ) (k : Key) → Agree one other c → x ≡ c → StandsAt one x k → StandsAt other x k →
       Agree one other (c + 1)
@@ -110,7 +110,7 @@ module _ (one other : List Key) (one_differ : AllPairs (λ x y. x ≢ y) one)
   walk list (x ∷ numbers) [] (k ∷ next) c more rest m l e agree a b all also = absurd b
   walk list (x ∷ numbers) (y ∷ others) (k ∷ next) c more rest m l e agree a b all also =
       let old = old_or_next list (numbers ++ more) x c m e all in
-      let same = same_number c x y k agree a.0 b.0 old (old_or_next list (others ++ rest) y c l e also) in
+      let same = same_number k agree a.0 b.0 old (old_or_next list (others ++ rest) y c l e also) in
       let there : StandsAt other x k = subst (λ n. StandsAt other n k) (sym same) b.0 in
       let all_on : Counts ((list ++ x ∷ []) ++ (numbers ++ more)) m =
       subst (λ k. Counts k m) (sym (append_assoc list (x ∷ []) (numbers ++ more))) all in
@@ -145,7 +145,7 @@ pub zipped : (keys : List Key) (numbers : List ℕ) (next : List Key) (w : ℕ) 
     AllZip (StandsAt keys) numbers next → StandsAt keys w key → Contains numbers w → Contains next key
 zipped keys [] next w key zip at c = absurd (none_in w c)
 zipped keys (n ∷ numbers) [] w key zip at c = absurd zip
-zipped keys (n ∷ numbers) (k ∷ next) w key zip at c = elim (in_cons n w numbers c) [
+zipped keys (n ∷ numbers) (k ∷ next) w key zip at c = elim (in_cons numbers c) [
   | inl same ↦ (0, omega arith, same_some (sym zip.0 ∙ ap (slice_get keys) same ∙ at))
   | inr later ↦ (let there = zipped keys numbers next w key zip.1 at later in
       (suc there.0, omega (arith, there.1), there.2))
@@ -264,9 +264,7 @@ module _ (board : Board) (mover : ℕ) where
             same_some (sym a.stands ∙ before.agree v (ahead one game v before.count is lt before.counts) ∙ b.stands)
 
         next_same : b.next ≡ a.next
-        next_same =
-            one_next board a.key b.next a.next (subst (λ k. LeadsTo board k b.next) (sym key_same) b.leads_to)
-            a.leads_to
+        next_same = one_next board a.key (subst (λ k. LeadsTo board k b.next) (sym key_same) b.leads_to) a.leads_to
 
         first : (more : List ℕ) × Counts (listed game v ++ (successors_of game v ++ more)) (vertex_count game)
         first = front_counts one game v is lt

@@ -34,7 +34,7 @@ use Rattle.ps_machine.proofs.GameKeys.Standing.{one_state}
 
 -- ## Propositions
 
-module _ (names : List (List ℕ)) (board : Board) (m : Behaviour) (is : IsMachine m)
+module _ {names : List (List ℕ)} {board : Board} {m : Behaviour} (is : IsMachine m)
     (has : HasPropositions names board m) where
   many : length m.names ≡ board.propositions
   many = ap length has.names_are ∙ has.as_many
@@ -65,35 +65,35 @@ module _ (first : Bool) (keys : List Key) (game : ParityGame) (certificate : Cer
   abbrev Kept : ℕ → Type 0
   Kept v = IsKept first keys game certificate v
 
-  pub one_kept : (kept others : List ℕ) → AllPairs (λ v w. v < w) kept → AllPairs (λ v w. v < w) others →
+  pub one_kept : {kept others : List ℕ} → AllPairs (λ v w. v < w) kept → AllPairs (λ v w. v < w) others →
       All Kept kept → All Kept others →
       ((v : ℕ) → Kept v → Contains kept v) → ((v : ℕ) → Kept v → Contains others v) → kept ≡ others
-  one_kept kept others r s each all whole complete =
-      same_numbers kept others r s (λ v c. complete v (All-contains Kept kept v each c))
+  one_kept {kept} {others} r s each all whole complete =
+      same_numbers r s (λ v c. complete v (All-contains Kept kept v each c))
       (λ v c. whole v (All-contains Kept others v all c))
 
   -- no used vertex below a kept one shares its memory
-  none_below : (v q p u r o : ℕ) → Kept u → StandsAt keys u (First r o) → IsUsedFirst keys game certificate v q p →
+  none_below : {v q p : ℕ} (u r o : ℕ) → Kept u → StandsAt keys u (First r o) →
+      IsUsedFirst keys game certificate v q p →
       mark_of first v q ≡ mark_of first u r → v < u → ⊥
-  none_below v q p u r o k stands used same less =
+  none_below {v} {q} {p} u r o k stands used same less =
       k.least v q p less used (mark_shares first u k.state v q
       (ap (mark_of first u) (one_state keys u k.priority o k.here.stands stands) ∙ sym same))
 
-  kept_at : (kept : List ℕ) (memory v : ℕ) → All Kept kept → slice_get kept memory ≡ Some v → Kept v
-  kept_at kept memory v each at =
+  kept_at : (kept : List ℕ) (memory : ℕ) {v : ℕ} → All Kept kept → slice_get kept memory ≡ Some v → Kept v
+  kept_at kept memory {v} each at =
       subst Kept (get_or_from_slice_get kept memory v v at) (each memory v (slice_get_within kept memory v at))
 
   -- of two memories that stand at one vertex the first is not the lower one
-  not_lower : (kept : List ℕ) (i j w r : ℕ) → AllPairs (λ v w. v < w) kept → All Kept kept →
+  not_lower : {kept : List ℕ} {i j w r : ℕ} → AllPairs (λ v w. v < w) kept → All Kept kept →
       StandsFor first keys kept i w r → StandsFor first keys kept j w r → i < j → ⊥
-  not_lower kept i j w r rises each a b less =
-      let one = kept_at kept i a.vertex each a.is_kept in
+  not_lower {kept} {i} {j} {w} {r} rises each a b less =
+      let one = kept_at kept i each a.is_kept in
       let same : mark_of first a.vertex a.state ≡ mark_of first b.vertex b.state =
       shares_mark first a.vertex a.state w r a.shares ∙ sym (shares_mark first b.vertex b.state w r b.shares) in
       let below = rises i j 0 less (slice_get_within kept j b.vertex b.is_kept) in
-      none_below a.vertex a.state a.priority b.vertex b.state b.priority
-      (kept_at kept j b.vertex each b.is_kept) b.stands (record { used = one.here.used; stands = a.stands }) same
-      (omega (
+      none_below b.vertex b.state b.priority
+      (kept_at kept j each b.is_kept) b.stands (record { used = one.here.used; stands = a.stands }) same (omega (
         arith,
         below,
         get_or_from_slice_get kept i a.vertex 0 a.is_kept,
@@ -103,9 +103,9 @@ module _ (first : Bool) (keys : List Key) (game : ParityGame) (certificate : Cer
   pub one_memory : {kept : List ℕ} {i j w r : ℕ} → AllPairs (λ v w. v < w) kept → All Kept kept →
       StandsFor first keys kept i w r → StandsFor first keys kept j w r → i ≡ j
   one_memory {kept} {i} {j} {w} {r} rises each a b = elim (cases_lt i j) [
-    | inl less ↦ absurd (not_lower kept i j w r rises each a b less)
+    | inl less ↦ absurd (not_lower rises each a b less)
     | inr high ↦ elim (cases_lt j i) [
-      | inl less ↦ absurd (not_lower kept j i w r rises each b a less)
+      | inl less ↦ absurd (not_lower rises each b a less)
       | inr low ↦ omega (arith, high, low)
     ]
   ]
@@ -117,20 +117,20 @@ module _ (board : Board) (keys : List Key) (certificate : CertificateData) (diff
       SameSteps board q x d → c ≡ d
   one_class q x c d a b to too =
       let same = steps_trans board q c x d (steps_sym board q x c to) too in
-      neither_before board.propositions c d a.here.0.within b.here.0.within
+      neither_before board.propositions a.here.0.within b.here.0.within
       (λ before. b.none_before c (a.here.0, same) before)
       (λ before. a.none_before d (b.here.0, steps_sym board q c d same) before)
 
   -- what is played at a vertex of a state, where the other player's letter is x
-  one_played : (first : Bool) (v q x one other : ℕ) → IsPlayed first board keys certificate v q x one →
+  one_played : (first : Bool) (v q x : ℕ) {one other : ℕ} → IsPlayed first board keys certificate v q x one →
       IsPlayed first board keys certificate v q x other → one ≡ other
-  one_played true v q x one other s t = one_letter true board keys certificate v q x x one other refl s t
-  one_played false v q x one other s t =
+  one_played true v q x {one} {other} s t = one_letter true board keys certificate v q x x one other refl s t
+  one_played false v q x {one} s t =
       let class = one_class q x s.class t.class s.is_class t.is_class s.same t.same in
       let at = one_place keys differ s.at t.at (subst (λ c. StandsAt keys s.at (Second q c)) class s.stands) t.stands in
       let chosen = some_nat s.chosen t.chosen (sym s.choice ∙ ap (choice_of certificate) at ∙ t.choice) in
       let P : ℕ → ℕ → ℕ → Type 0 = λ c w y. IsSecondLetter board y × GoesTo keys board q (c + y) w in
-      one_least board.propositions (P t.class t.chosen) one other s.least.here.0.within t.least.here.0.within
+      one_least board.propositions s.least.here.0.within t.least.here.0.within
       (subst (λ c. IsLeast (P c t.chosen) one) class (subst (λ w. IsLeast (P s.class w) one) chosen s.least)) t.least
 
 -- ## Machines
@@ -145,7 +145,7 @@ module _ (names : List (List ℕ)) (board : Board) (mover : ℕ) (keys : List Ke
     same_first = other.is_first ∙ sym of.is_first
 
     same_kept : other.kept ≡ of.kept
-    same_kept = one_kept m.is_first keys game certificate other.kept of.kept other.rising of.rising
+    same_kept = one_kept m.is_first keys game certificate other.rising of.rising
         (subst (λ b. All (IsKept b keys game certificate) other.kept) same_first other.each) of.each
         (subst (λ b. (v : ℕ) → IsKept b keys game certificate v → Contains other.kept v) same_first other.complete)
         of.complete
@@ -196,8 +196,7 @@ module _ (names : List (List ℕ)) (board : Board) (mover : ℕ) (keys : List Ke
         let vertex = some_nat t.vertex s.vertex (sym t.is_kept ∙ s.is_kept) in
         let state = one_state keys s.vertex t.priority s.priority
         (subst (λ v. StandsAt keys v (First t.state t.priority)) vertex t.stands) s.stands in
-        let played =
-        one_played board keys certificate differ m.is_first s.vertex s.state x (o.plays memory x) (m.plays memory x)
+        let played = one_played board keys certificate differ m.is_first s.vertex s.state x
         (subst (λ v. IsPlayed m.is_first board keys certificate v s.state x (o.plays memory x)) vertex
         (subst (λ q. IsPlayed m.is_first board keys certificate t.vertex q x (o.plays memory x)) state t.played))
         s.played in
@@ -220,15 +219,14 @@ module _ (names : List (List ℕ)) (board : Board) (mover : ℕ) (keys : List Ke
 
     same_inputs : m.inputs ≡ o.inputs
     same_inputs =
-        one_listed (reads_listed names board m is has)
-        (subst (λ b. AreListedBelow board.propositions (is_others b board) o.inputs) same_first
-        (reads_listed names board o too also))
+        one_listed (reads_listed is has)
+        (subst (λ b. AreListedBelow board.propositions (is_others b board) o.inputs) same_first (reads_listed too also))
 
     same_outputs : m.outputs ≡ o.outputs
     same_outputs =
-        one_listed (plays_listed names board m is has)
+        one_listed (plays_listed is has)
         (subst (λ b. AreListedBelow board.propositions (λ p. not (is_others b board p)) o.outputs) same_first
-        (plays_listed names board o too also))
+        (plays_listed too also))
 
     -- what is read of any letter
     read : ℕ → ℕ
@@ -237,7 +235,7 @@ module _ (names : List (List ℕ)) (board : Board) (mover : ℕ) (keys : List Ke
     read_same : (x : ℕ) → AreSameOn m.inputs x (read x)
     unfolding read
     read_same x p among =
-        let less = (reads_listed names board m is has).within p among in
+        let less = (reads_listed is has).within p among in
         sym (part_bit board.propositions (is_others m.is_first board) x p less (sym (has.reads p less) ∙ among))
 
     same_anywhere : (memory x : ℕ) → memory < m.memories → SameStepAt memory x

@@ -10,4 +10,4 @@ returns c =
     first_from_find c.find.new.self _ (Some c.in-Some.class) (λ (class : Class). class.letter ≡ c.args.letter)
     (λ class. class.letter ≢ c.args.letter) c.in-Some.ensures.ran
     (YieldsList-from_slice c.args.classes.now c.iter.ensures.rest) (λ x q k. search rules) (λ x q k. search rules) in
-    any_class c.args.classes.now c.args.letter c.in-Some.class.now found.0 found.1 found.2 found.3
+    any_class c.args.classes.now found.0 found.1 found.2 found.3

@@ -40,13 +40,11 @@ loop-vertex-preserved c =
           subst (λ mark. KeepsAt old.kept.items old.marks.keys n mark now.kept.items now.marks.keys) w.mark.ensures
           w.in_ok-keep.ensures in
           subst (λ (m : Memories). AreMemoriesBelow first keys used m.kept.items m.marks.keys (n + 1))
-          (sym w.memories-is)
-          (below_more first keys used old.kept.items old.marks.keys n c.in-First.state c.in-First.priority
-          c.loop-vertex.invariant stands (is_there used n c.contains.result told w.if-contains.true) keeps))
+          (sym w.memories-is) (below_more first keys used c.in-First.state c.in-First.priority
+          c.loop-vertex.invariant stands (is_there used n told w.if-contains.true) keeps))
       | else-contains w ↦ subst (λ (m : Memories). AreMemoriesBelow first keys used m.kept.items m.marks.keys (n + 1))
           (sym w.memories-is) (below_skip first keys used
-          (λ q p is_used stands. is_absent used n c.contains.result told w.if-contains.false is_used)
-          c.loop-vertex.invariant)
+          (λ q p is_used stands. is_absent used n told w.if-contains.false is_used) c.loop-vertex.invariant)
     ]
 
 pub returns : goal.returns

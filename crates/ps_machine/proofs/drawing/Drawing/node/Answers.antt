@@ -36,5 +36,5 @@ second_node-requires-clause-stands c = (
 
 pub unreachable-requires : goal.unreachable-requires
 unreachable-requires c =
-    kept_not_second c.requires.plan c.args.vertex c.requires.kept c.in-Second.state c.in-Second.letter
+    kept_not_second c.requires.plan c.args.vertex c.requires.kept
     (ap (λ (l : List Key). get_or l c.args.vertex (First 0 0)) (sym c.as_slice.ensures.keys) ∙ c.in-Second.is)

@@ -40,8 +40,7 @@ loop-leaf-preserved c =
     let added = add_row (row_eq.eq-value).it c.loop-leaf.invariant.noted c.in_ok-place.ensures.keys
     (record { memory = c.memory_behind-memory.ensures.within; letter = c.requires.own }) in
     let stored = c.in_ok-place.ensures.stored in
-    let at : slice_get new c.in_ok-place.place ≡ Some row = stored.1
-    ∙ ap (λ r. Some r) (sym (same_row row stored.0 stored.2)) in
+    let at : slice_get new c.in_ok-place.place ≡ Some row = stored.1 ∙ ap (λ r. Some r) (sym (same_row stored.2)) in
     let Next : Step → Type 0 = λ s. (v : ℕ) → StandsAt keys v (First s.state s.priority) →
     StandsFor p.moves_first keys kept c.memory_behind-memory.result v s.state in
     let next = subst Next c.pair-step.ensures.pair c.memory_behind-memory.ensures.stands in

@@ -19,7 +19,7 @@ loop-class-init c =
     plan.certificate.now c.args.state c.args.self.now.rows.keys in
     record {
       store = refl;
-      same_rows = keeps_rows_same c.args.self.now.rows.keys;
+      same_rows = keeps_rows_same;
       rows = c.requires.rows;
       values = subst (λ (l : List ℕ). AllZip N (take 0 c.args.classes.now) l) (sym c.new-values.ensures.items) tt;
     }
@@ -51,7 +51,7 @@ returns-in_err-push-clause-same_rows c =
     let old = c.loop-class.self.rows.keys in
     let new = c.insert_full.new.self.keys in
     keeps_rows_trans c.loop-class.invariant.same_rows
-    (keeps_rows (row_eq.eq-value).it old c.in_ok-row.row new c.in_ok-place.ensures.keys)
+    (keeps_rows (row_eq.eq-value).it c.in_ok-row.row c.in_ok-place.ensures.keys)
 
 pub returns-in_err-push-clause-rows : goal.returns-in_err-push-clause-rows
 returns-in_err-push-clause-rows c =
@@ -73,8 +73,7 @@ loop-class-preserved c =
     record {
       store = inv.store;
       same_rows =
-          keeps_rows_trans inv.same_rows
-          (keeps_rows (row_eq.eq-value).it old c.in_ok-row.row new c.in_ok-place.ensures.keys);
+          keeps_rows_trans inv.same_rows (keeps_rows (row_eq.eq-value).it c.in_ok-row.row c.in_ok-place.ensures.keys);
       rows =
           all_rows (IsRow plan.moves_first board kept) (row_eq.eq-value).it old c.in_ok-row.row
           c.in_ok-place.ensures.keys inv.rows (answer_row c.requires.turn c.in_ok-row.ensures);

@@ -22,7 +22,7 @@ rows_of_classes-requires-clause-entered c = (
     plan = c.requires.plan;
     vertex = c.args.vertex;
     stands = c.requires.stands.1;
-    is_used = kept_used c.requires.plan c.args.vertex c.requires.kept;
+    is_used = kept_used c.requires.plan c.requires.kept;
   },
 )
 

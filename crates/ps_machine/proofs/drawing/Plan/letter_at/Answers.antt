@@ -14,12 +14,12 @@ unwrap-chosen-requires c =
 
 pub bounds : goal.bounds
 bounds c =
-    rw c.as_slice.ensures.keys (chosen_within c.requires.plan c.requires.turn c.args.vertex c.unwrap-chosen.result
+    rw c.as_slice.ensures.keys (chosen_within c.requires.plan c.requires.turn c.args.vertex
     c.requires.kept (sym c.choice.ensures ∙ c.unwrap-chosen.ensures))
 
 pub offset_bounds-as_slice-chosen : goal.offset_bounds-as_slice-chosen
 offset_bounds-as_slice-chosen c =
-    let below = chosen_within c.requires.plan c.requires.turn c.args.vertex c.unwrap-chosen.result c.requires.kept
+    let below = chosen_within c.requires.plan c.requires.turn c.args.vertex c.requires.kept
     (sym c.choice.ensures ∙ c.unwrap-chosen.ensures) in
     record { fits = omega (arith, below, ap length c.as_slice.ensures.keys, c.as_slice.type_inv.1) }
 

@@ -30,8 +30,7 @@ unwrap-requires c =
     let marks = self.memories.now.marks.keys in
     let mark : c.mark-mark.result ≡ mark_of self.moves_first c.requires.vertex c.args.state = c.mark-mark.ensures
     ∙ ap (λ v. mark_of self.moves_first v c.args.state) (sym same) in
-    c.get_index_of-2.ensures.found ∙ has_mark marks m.memory c.mark-mark.result
-    (m.is_marked ∙ ap (λ n. Some n) (sym mark))
+    c.get_index_of-2.ensures.found ∙ has_mark marks m.memory (m.is_marked ∙ ap (λ n. Some n) (sym mark))
 
 pub returns-clause-stands : goal.returns-clause-stands
 returns-clause-stands c v at =
@@ -46,5 +45,4 @@ returns-clause-stands c v at =
     let there = at_position (eqb c.mark-mark.result) marks 0 (sym c.get_index_of-2.ensures.index ∙ c.unwrap.ensures) in
     let is : slice_get marks c.unwrap.result ≡ Some (mark_of self.moves_first c.unwrap-vertex.result c.args.state) =
     there.1 ∙ ap (λ n. Some n) (sym (eqb-true c.mark-mark.result there.0 there.2) ∙ c.mark-mark.ensures) in
-    stands_for c.unwrap.result c.unwrap-vertex.result
-    c.args.state c.args.priority plan.is_game.by_keys.different plan.memories here is v at
+    stands_for c.unwrap-vertex.result c.args.priority plan.is_game.by_keys.different plan.memories here is at
