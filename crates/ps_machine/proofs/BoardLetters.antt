@@ -66,9 +66,7 @@ module _ (board : Board) where
   both x y hx hy = sum_is board.propositions x y hx.within hy.within (apart x y hx hy)
 
   pub sum_within : {x y : ℕ} → IsFirstLetter board x → IsSecondLetter board y → x + y < 2 ^ board.propositions
-  sum_within {x} {y} hx hy =
-      subst (λ k. k < 2 ^ board.propositions) (sym (both x y hx hy))
-      (letter_lt board.propositions (λ p. is_in p x || is_in p y))
+  sum_within {x} {y} hx hy = rw (both x y hx hy) (letter_lt board.propositions (λ p. is_in p x || is_in p y))
 
   sum_bit : (x y p : ℕ) → IsFirstLetter board x → IsSecondLetter board y → p < board.propositions →
       is_in p (x + y) ≡ (is_in p x || is_in p y)

@@ -1,6 +1,6 @@
 -- Entries of a certificate, one after another.
 use Rattle.std.proofs.Common.{◌≡◌, ◌⊎◌, inl, inr, ℕ, ◌+◌, ◌<◌, List, [], ◌∷◌, ◌++◌, length, get_or, Option, Bool, true}
-use Rattle.std.proofs.Common.{false, ap, sym, subst, ◌∙◌, rules, arith}
+use Rattle.std.proofs.Common.{false, ap, sym, subst, ◌∙◌, arith}
 use Rattle.std.proofs.lemmas.List.{length_push, get_or_push, get_or_append_left}
 use Rattle.ps_game.specs.Games.{ParityGame}
 use Rattle.ps_game.specs.Regions.{has}
@@ -17,12 +17,8 @@ module _ (game : ParityGame) (region : List Bool) (first second : ℕ → Option
     each_entry P n entries e long before last v within = by (less_or_last v n within)
       where
         by : (v < n) ⊎ (v ≡ n) → P v (get_or (entries ++ e ∷ []) v no_entry)
-        by (inl less) =
-            subst (P v) (sym (get_or_append_left entries (e ∷ []) no_entry v (omega (arith, less, long))))
-            (before v less)
-        by (inr same) =
-            subst (λ u. P u (get_or (entries ++ e ∷ []) u no_entry)) (sym same)
-            (subst (P n) (sym (get_or_push entries e no_entry n long)) last)
+        by (inl less) = rw (get_or_append_left entries (e ∷ []) no_entry v (omega (arith, less, long))) (before v less)
+        by (inr same) = rw (same, get_or_push entries e no_entry n long) last
 
     pub entries_won : {n : ℕ} {entries : List EntryData} {e : EntryData} →
         AreEntries game region first second first_rows second_rows n entries → has region n ≡ true →

@@ -107,9 +107,7 @@ module _ {game : ParityGame} (is_game : IsGame game) {player : ℕ} {set : ℕ �
   side_choice v within s = by (same_or_not (owner_of game v) player)
     where
       by : (owner_of game v ≡ player) ⊎ (owner_of game v ≢ player) → IfSome (choice_of c v) (λ w. w < vertex_count game)
-      by (inl owns) =
-          subst (λ o. IfSome o (λ w. w < vertex_count game)) (sym (s.own owns))
-          (some_within v is_game (table v) (holds.keeps.moves v within s.inside owns))
+      by (inl owns) = rw (s.own owns) (some_within v is_game (table v) (holds.keeps.moves v within s.inside owns))
       by (inr not_own) = subst (λ o. IfSome o (λ w. w < vertex_count game)) (sym (s.other not_own)) tt
 
   side_counts : (v w k : ℕ) → IsSide game player set table priorities rows c v →

@@ -144,8 +144,7 @@ module _ {order : Order} {a : AutomatonData} {keys : List Key} {t : Table} {clas
 
   pub class_listed : {certificate : CertificateData} {letter : ℕ} →
       PlaysClass (board_of order a) keys certificate v q letter → Any (λ (k : Class). k.letter ≡ letter) l
-  class_listed {letter} plays = subst (λ (cs : List Class). Any (λ (k : Class). k.letter ≡ letter) cs) (sym same)
-      (class_there d.fit are_classes letter plays.is_class)
+  class_listed {letter} plays = rw same (class_there d.fit are_classes letter plays.is_class)
 
   pub left_behind : {letter rest : ℕ} → Any (λ (k : Class). (k.letter ≡ letter) × (k.rest ≡ rest)) l →
       Left order a d.mask t q letter rest

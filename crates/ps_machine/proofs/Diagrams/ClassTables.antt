@@ -1,6 +1,6 @@
 -- The classes of states, which are remembered.
-use Rattle.std.proofs.Common.{◌≡◌, ◌≢◌, ◌∙◌, ℕ, ◌<◌, ◌≤◌, Bool, cond, eqb, Option, None, Some}
-use Rattle.std.proofs.Common.{Result, Ok, Err, List, length, get_or, ap, refl, subst, sym, inl, inr}
+use Rattle.std.proofs.Common.{◌≡◌, ◌≢◌, ◌∙◌, ℕ, ◌<◌, ◌≤◌, Bool, cond, eqb, Option, None, Some, Result, Ok, Err, List}
+use Rattle.std.proofs.Common.{length, get_or, ap, refl, subst, sym, inl, inr}
 use Rattle.std.specs.Prelude.{IsSome, IsSomeAnd, OnOk}
 use Rattle.std.specs.List.{All, AllPairs}
 use Rattle.std.proofs.lemmas.Bool.{eqb-true}
@@ -86,24 +86,27 @@ module _ {order : Order} {a : AutomatonData} {mask : ℕ} {s t u : Table} {rests
 
 -- the keys of a state's classes
 module _ {order : Order} {a : AutomatonData} {mask : ℕ} {t : Table} {rests : ℕ × ℕ → Option ℕ}
-    {classes : ℕ → Option Classes} {q p : ℕ} (is : KnowsMoves order a mask t rests classes (First q p)) {c : Classes}
-    (at : classes q ≡ Some c) {next : List Key} (e : next ≡ class_keys q c.list.items) where
+    {classes : ℕ → Option Classes} {key : Key} {q p : ℕ} (known : KnowsMoves order a mask t rests classes key)
+    (is_first : key ≡ First q p) {c : Classes} (at : classes q ≡ Some c) {l : List Class} (same : l ≡ c.list.items)
+    {next : List Key} (made : next ≡ class_keys q l) where
   of : AreClassesOf a mask t q c
-  of = (is.are q c at).are
+  of = (known.are q c at).are
 
-  pub leads_behind : LeadsTo (board_of order a) (First q p) next
-  leads_behind = subst (LeadsTo (board_of order a) (First q p)) (sym e) (class_leads is.is_known.fit of p)
+  e : next ≡ class_keys q c.list.items
+  e = made ∙ ap (class_keys q) same
+
+  pub leads_behind : LeadsTo (board_of order a) key next
+  leads_behind = rw (is_first, e) (class_leads known.is_known.fit of p)
 
   pub known_behind : All (KnowsMoves order a mask t rests classes) next
   known_behind = subst (λ (keys : List Key). All (KnowsMoves order a mask t rests classes) keys) (sym e)
-      (λ k d within. record { is_known = (is.are q c at).known k d within; are = is.are })
+      (λ k d within. record { is_known = (known.are q c at).known k d within; are = known.are })
 
   pub some_behind : 0 < length next
-  some_behind = subst (λ (keys : List Key). 0 < length keys) (sym e) (class_some is.is_known.fit of)
+  some_behind = subst (λ (keys : List Key). 0 < length keys) (sym e) (class_some known.is_known.fit of)
 
   pub different_behind : AllPairs (λ x y. x ≢ y) next
-  different_behind = subst (λ (keys : List Key). AllPairs (λ x y. x ≢ y) keys) (sym e)
-      (class_different is.is_known.fit of)
+  different_behind = rw e (class_different known.is_known.fit of)
 
 -- ## What was answered
 

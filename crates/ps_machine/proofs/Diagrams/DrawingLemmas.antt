@@ -1,13 +1,11 @@
 -- What the diagrams of both movers rest on: memories of vertices, used vertices, where they lead, and rows.
-use Rattle.std.proofs.Common.{◌≤◌, inl, inr, ◌≡◌, ◌≢◌, ℕ, zero, suc, ◌+◌, ◌-◌, ◌<◌, Bool, true, false, List, [], ◌∷◌}
-use Rattle.std.proofs.Common.{◌++◌, length, get_or, Some, refl, ap, sym, subst, ◌∙◌, arith, rules, eqb}
+use Rattle.std.proofs.Common.{◌≡◌, ◌≢◌, ℕ, zero, suc, ◌+◌, ◌-◌, ◌<◌, Bool, true, false, List, [], ◌∷◌, ◌++◌, length}
+use Rattle.std.proofs.Common.{get_or, map, Some, ap, sym, subst, ◌∙◌, arith, rules, eqb}
 use Rattle.std.specs.Prelude.{slice_get, slice_index, IfSome}
 use Rattle.std.specs.List.{All, AllPairs, AllZip, Contains, list_any, position}
 use Rattle.std.specs.Bool.{if◌then◌else◌}
-use Rattle.std.specs.Option.{unwrap_or}
-use Rattle.std.proofs.lemmas.Bool.{cases_lt, eq-eqb}
-use Rattle.std.proofs.lemmas.List.{get_or_default, get_or_past, length-map, get_or-map, get_or_append_left, get_or_push}
-use Rattle.std.proofs.lemmas.List.{length_push}
+use Rattle.std.proofs.lemmas.Bool.{eq-eqb}
+use Rattle.std.proofs.lemmas.List.{get_or_default, length-map, get_or-map, get_or_append_left, get_or_push, length_push}
 use Rattle.std.proofs.lemmas.List.Elements.{All-push}
 use Rattle.std.proofs.lemmas.List.Folds.{list_any_at}
 use Rattle.std.proofs.lemmas.List.Quantifiers.{position-Some}
@@ -21,9 +19,8 @@ use Rattle.ps_diagram.specs.Letters.{assignment}
 use Rattle.ps_diagram.specs.Tree.{leaf_at}
 use Rattle.ps_diagram.specs.Table.{Table, Keeps, leaf_of}
 use Rattle.ps_diagram.proofs.KnownLemmas.{some_nat}
-use Rattle.ps_automaton.specs.Automata.{AutomatonData, IsWhole, node_of, step_of}
-use Rattle.ps_automaton.specs.declared.step.Step.{Step}
-use Rattle.ps_machine.specs.Boards.{Board, IsClass, IsMove, LeadsTo}
+use Rattle.ps_automaton.specs.Automata.{AutomatonData}
+use Rattle.ps_machine.specs.Boards.{AreListed, Board, IsClass, IsMove, LeadsTo}
 use Rattle.ps_machine.specs.BuiltBoards.{board_of}
 use Rattle.ps_machine.specs.Drawing.{AreMemories, IsPlan, IsDrawn, KeepsRows, mark_of}
 use Rattle.ps_machine.specs.Extracting.{IsUsed, GoesTo, Shares, StandsFor}
@@ -39,7 +36,7 @@ use Rattle.ps_machine.specs.contracts.key.KeyPartialEq.TheImpl as key_eq
 use Rattle.ps_machine.proofs.GameKeys.KeyTests.{key_same}
 use Rattle.ps_machine.proofs.Diagrams.Remembering.{some_and}
 use Rattle.ps_machine.proofs.Lassos.Rounds.{Setting, one_place, within_game, map_contains}
-use Rattle.ps_machine.proofs.GameKeys.Standing.{one_state, same_some, zip_at}
+use Rattle.ps_machine.proofs.GameKeys.Standing.{same_some, zip_at, zip_vertex}
 
 -- ## Memories
 
@@ -120,15 +117,24 @@ setting {order} plan =
 
 -- ## Where keys lead
 
-zip_vertex : (keys : List Key) (numbers : List ℕ) (next : List Key) {k : Key} → AllZip (StandsAt keys) numbers next →
-    (i : ℕ) → i < length next → get_or next i k ≡ k → (w : ℕ) × Contains numbers w × StandsAt keys w k
-zip_vertex keys numbers [] zip i within is = absurd (omega (arith, within))
-zip_vertex keys [] (l ∷ next) zip i within is = absurd zip
-zip_vertex keys (n ∷ numbers) (l ∷ next) zip zero within is = (n, (0, omega arith, refl), zip.0 ∙ ap (λ x. Some x) is)
-zip_vertex keys (n ∷ numbers) (l ∷ next) {k} zip (suc i) within is =
-    let there = zip_vertex keys numbers next zip.1 i (omega (arith, within)) is in
-    let c = there.1 in
-    (there.0, (suc c.0, omega (arith, c.1), c.2), there.2)
+-- numbers whose keys are those of listed letters
+module _ (keys : List Key) (key : ℕ → Key) (numbers : List ℕ) {P : ℕ → Type 0} {letters : List ℕ} {next : List Key}
+    (listed : AreListed P letters) (are : next ≡ map key letters) (zip : AllZip (StandsAt keys) numbers next) where
+  letter_of_number : {w : ℕ} → Contains numbers w → (x : ℕ) × P x × StandsAt keys w (key x)
+  letter_of_number {w} c =
+      let here = zip_at keys numbers next c.0 w (key 0) zip c.1 in
+      let within : c.0 < length letters =
+      omega (arith, here.0, ap (λ (l : List Key). length l) are, length-map letters key) in
+      let x = get_or letters c.0 0 in
+      let is : get_or next c.0 (key 0) ≡ key x = ap (λ l. get_or l c.0 (key 0)) are
+      ∙ get_or-map key letters c.0 0 (key 0) within in
+      (x, listed.each c.0 0 within, subst (λ u. StandsAt keys u (key x)) c.2 (here.1 ∙ ap (λ k. Some k) is))
+
+  number_of_letter : {x : ℕ} → P x → (w : ℕ) × Contains numbers w × StandsAt keys w (key x)
+  number_of_letter {x} is =
+      let c = listed.complete x is in
+      let m = subst (λ l. Contains l (key x)) (sym are) (map_contains key letters c.0 c.1 c.2) in
+      zip_vertex keys numbers next zip m
 
 -- a successor that stands for a key
 pub record Leads (keys : List Key) (game : ParityGame) (v : ℕ) (k : Key) : Type 0 where
@@ -157,6 +163,9 @@ pub record Chosen (game : ParityGame) (certificate : CertificateData) (v : ℕ) 
 
 module _ {board : Board} {mover : ℕ} {keys : List Key} {game : ParityGame} {certificate : CertificateData}
     (s : Setting board mover keys game certificate) where
+  abbrev pair_key : ℕ → ℕ → ℕ → Key
+  pair_key q x y = First (board.auto.next q (x + y)) (board.auto.priority q (x + y))
+
   pub move_at : {v : ℕ} {k : Key} → StandsAt keys v k → IsUsed game certificate v →
       owner_of game v ≡ winner certificate → Chosen game certificate v
   move_at {v} {k} at used own =
@@ -183,73 +192,32 @@ module _ {board : Board} {mover : ℕ} {keys : List Key} {game : ParityGame} {ce
         vertex.successors,
       )
 
-  pub class_at : (v : ℕ) {w : ℕ} {q p : ℕ} → StandsAt keys v (First q p) → HasEdge game v w → ClassAt board keys q w
-  class_at v {w} {q} {p} at edge =
+  pub class_at : (v : ℕ) {w q p : ℕ} → StandsAt keys v (First q p) → HasEdge game v w → ClassAt board keys q w
+  class_at v {q = q} {p} at edge =
       let n = next_keys v (First q p) at in
-      let leads = n.1 in
-      let c = edge.1 in
-      let key : ℕ → Key = λ x. Second q x in
-      let here = zip_at keys (successors_of game v) n.0 c.0 w (key 0) n.2 c.1 in
-      let within : c.0 < length leads.0 =
-      omega (arith, here.0, ap (λ (l : List Key). length l) leads.2, length-map leads.0 key) in
-      let x = get_or leads.0 c.0 0 in
-      let is : get_or n.0 c.0 (key 0) ≡ key x = ap (λ l. get_or l c.0 (key 0)) leads.2
-      ∙ get_or-map key leads.0 c.0 0 (key 0) within in
-      record {
-        letter = x;
-        is_class = leads.1.each c.0 0 within;
-        stands = subst (λ u. StandsAt keys u (key x)) c.2 (here.1 ∙ ap (λ k. Some k) is);
-      }
+      let x = letter_of_number keys (λ x. Second q x) (successors_of game v) n.1.1 n.1.2 n.2 edge.1 in
+      record { letter = x.0; is_class = x.1; stands = x.2 }
 
-  pub move_to : (v : ℕ) {w : ℕ} {q x : ℕ} → StandsAt keys v (Second q x) → HasEdge game v w → MoveTo board keys q x w
-  move_to v {w} {q} {x} at edge =
+  pub move_to : (v : ℕ) {w q x : ℕ} → StandsAt keys v (Second q x) → HasEdge game v w → MoveTo board keys q x w
+  move_to v {q = q} {x} at edge =
       let n = next_keys v (Second q x) at in
-      let leads = n.1 in
-      let c = edge.1 in
-      let key : ℕ → Key = λ y. First (board.auto.next q (x + y)) (board.auto.priority q (x + y)) in
-      let here = zip_at keys (successors_of game v) n.0 c.0 w (key 0) n.2 c.1 in
-      let within : c.0 < length leads.0 =
-      omega (arith, here.0, ap (λ (l : List Key). length l) leads.2, length-map leads.0 key) in
-      let y = get_or leads.0 c.0 0 in
-      let is : get_or n.0 c.0 (key 0) ≡ key y = ap (λ l. get_or l c.0 (key 0)) leads.2
-      ∙ get_or-map key leads.0 c.0 0 (key 0) within in
-      record {
-        letter = y;
-        is_move = leads.1.each c.0 0 within;
-        goes = record { stands = subst (λ u. StandsAt keys u (key y)) c.2 (here.1 ∙ ap (λ k. Some k) is) };
-      }
+      let y = letter_of_number keys (pair_key q x) (successors_of game v) n.1.1 n.1.2 n.2 edge.1 in
+      record { letter = y.0; is_move = y.1; goes = record { stands = y.2 } }
 
   -- the vertex of a class of the state
-  pub to_class_of : {v : ℕ} {q p x : ℕ} → StandsAt keys v (First q p) → IsClass board q x →
-      Leads keys game v (Second q x)
-  to_class_of {v} {q} {p} {x} at is =
+  pub to_class_of : {v q p x : ℕ} → StandsAt keys v (First q p) → IsClass board q x → Leads keys game v (Second q x)
+  to_class_of {v} {q} {p} at is =
       let n = next_keys v (First q p) at in
-      let leads = n.1 in
-      let c = leads.1.complete x is in
-      let key : ℕ → Key = λ y. Second q y in
-      let m = subst (λ l. Contains l (key x)) (sym leads.2) (map_contains key leads.0 c.0 c.1 c.2) in
-      let there = zip_vertex keys (successors_of game v) n.0 n.2 m.0 m.1 m.2 in
-      record {
-        vertex = there.0;
-        edge = (within_game s v at, there.1);
-        stands = there.2;
-      }
+      let there = number_of_letter keys (λ y. Second q y) (successors_of game v) n.1.1 n.1.2 n.2 is in
+      record { vertex = there.0; edge = (within_game s v at, there.1); stands = there.2 }
 
   -- the vertex of the pair to which a move leads
-  pub to_pair_of : {v : ℕ} {q : ℕ} (x y : ℕ) → StandsAt keys v (Second q x) → IsMove board q x y →
-      Leads keys game v (First (board.auto.next q (x + y)) (board.auto.priority q (x + y)))
+  pub to_pair_of : {v q : ℕ} (x y : ℕ) → StandsAt keys v (Second q x) → IsMove board q x y →
+      Leads keys game v (pair_key q x y)
   to_pair_of {v} {q} x y at is =
       let n = next_keys v (Second q x) at in
-      let leads = n.1 in
-      let c = leads.1.complete y is in
-      let key : ℕ → Key = λ z. First (board.auto.next q (x + z)) (board.auto.priority q (x + z)) in
-      let m = subst (λ l. Contains l (key y)) (sym leads.2) (map_contains key leads.0 c.0 c.1 c.2) in
-      let there = zip_vertex keys (successors_of game v) n.0 n.2 m.0 m.1 m.2 in
-      record {
-        vertex = there.0;
-        edge = (within_game s v at, there.1);
-        stands = there.2;
-      }
+      let there = number_of_letter keys (pair_key q x) (successors_of game v) n.1.1 n.1.2 n.2 is in
+      record { vertex = there.0; edge = (within_game s v at, there.1); stands = there.2 }
 
 -- ## The vertices of memories
 
@@ -320,8 +288,7 @@ keeps_rows eq {old} row e =
 pub all_rows : (P : Row → Type 0) (eq : Row → Row → Bool) (old : List Row) (row : Row) {new : List Row} →
     new ≡ insert_key eq old row → All P old → P row → All P new
 all_rows P eq old row e all here =
-    subst (λ rows. All P rows) (sym e) (by_case (λ rows. All P rows) (list_any (eq row) old) old (old ++ row ∷ []) all
-    (All-push P old row all here))
+    rw e (by_case (λ rows. All P rows) (list_any (eq row) old) old (old ++ row ∷ []) all (All-push P old row all here))
 
 pub keeps_rows_same : {rows : List Row} → KeepsRows rows rows
 keeps_rows_same = record { same = λ leaf r is. is }

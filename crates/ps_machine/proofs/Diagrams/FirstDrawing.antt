@@ -30,7 +30,7 @@ use Rattle.ps_machine.specs.declared.key.Order.{Order}
 use Rattle.ps_machine.specs.declared.machine.Row.{Row}
 use Rattle.ps_machine.proofs.BoardSteps.{heeds, below_back, some_of}
 use Rattle.ps_machine.proofs.BoardMoves.{move_is, move_leaf, leaf_within}
-use Rattle.ps_machine.proofs.Diagrams.DrawingLemmas.{setting, kept_at, kept_used, not_both, keeps_rows, keeps_rows_same}
+use Rattle.ps_machine.proofs.Diagrams.DrawingLemmas.{setting, kept_at, kept_used, not_both, keeps_rows}
 use Rattle.ps_machine.proofs.Diagrams.DrawingLemmas.{keeps_rows_trans, all_rows, move_at, class_at, to_pair_of}
 use Rattle.ps_machine.proofs.Diagrams.DrawingLemmas.{used_more}
 use Rattle.ps_machine.proofs.Lassos.Rounds.{within_game, first_owner, second_owner}

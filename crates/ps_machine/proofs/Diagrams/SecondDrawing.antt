@@ -1,6 +1,6 @@
 -- The diagrams of a machine whose player moves second.
-use Rattle.std.proofs.Common.{◌≡◌, ◌≢◌, ℕ, ◌+◌, ◌<◌, ◌≤◌, Bool, true, false, List, [], ◌∷◌, ◌++◌, length, get_or, take}
-use Rattle.std.proofs.Common.{Option, Some, None, ap, ap₂, sym, subst, ◌∙◌, rules, arith, ◌==◌}
+use Rattle.std.proofs.Common.{◌≡◌, ◌≢◌, ℕ, ◌+◌, ◌<◌, Bool, true, false, List, [], ◌∷◌, ◌++◌, length, get_or, take}
+use Rattle.std.proofs.Common.{Option, Some, None, ap, ap₂, sym, subst, ◌∙◌, arith, ◌==◌}
 use Rattle.std.specs.Prelude.{Any, IfSome, IsSomeAnd, MatchOption, slice_get, slice_index, option_map}
 use Rattle.std.specs.List.{All, AllZip, position}
 use Rattle.std.specs.Option.{unwrap_or}
@@ -141,9 +141,7 @@ module _ {order : Order} {a : AutomatonData} {keys : List Key} {certificate : Ce
       }
 
       pub reply_enters : CanEnter order a keys certificate is_first kept marks step.state step.priority
-      reply_enters =
-          subst (λ (s : Step). CanEnter order a keys certificate is_first kept marks s.state s.priority)
-          (sym same_step) r.enters
+      reply_enters = rw same_step r.enters
 
 -- ## The letter that is played
 

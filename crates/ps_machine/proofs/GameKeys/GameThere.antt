@@ -33,7 +33,7 @@ use Rattle.ps_machine.specs.contracts.key.KeyPartialEq.TheImpl as key_eq
 use Rattle.ps_machine.proofs.BoardLetters.{compared, not_before_itself, one_least, sum_within}
 use Rattle.ps_machine.proofs.BoardSteps.{pairs_map, second_same}
 use Rattle.ps_machine.proofs.Choosing.{both_or_not, class_there, first_or_not, move_there, over_first, over_second}
-use Rattle.ps_machine.proofs.Choosing.{part, part_over, same_priorities, same_states, second_or_not, step_or_not}
+use Rattle.ps_machine.proofs.Choosing.{part_over, same_priorities, same_states, second_or_not, step_or_not}
 use Rattle.ps_machine.proofs.Choosing.{steps_or_not}
 use Rattle.ps_machine.proofs.GameKeys.Exploring.{by_keys, explored_first, explored_more}
 use Rattle.ps_machine.proofs.GameKeys.KeyTests.{key_same, same_key}

@@ -1,7 +1,7 @@
 -- A lasso of a machine is read on and on; and its letters are those of the automaton.
 use Rattle.std.proofs.Common.{◌≡◌, ℕ, zero, suc, ◌+◌, ◌-◌, ◌*◌, ◌/◌, ◌%◌, ◌^◌, ◌<◌, ◌≤◌, ◌⊎◌, inl, inr, Bool, true}
 use Rattle.std.proofs.Common.{false, cond, not, ltb, List, ◌++◌, length, get_or, refl, ap, sym, subst, ◌∙◌, arith}
-use Rattle.std.proofs.Common.{rules, add-one}
+use Rattle.std.proofs.Common.{add-one}
 use Rattle.std.specs.Prelude.{slice_index}
 use Rattle.ps_diagram.proofs.Letters.{no_bit}
 use Rattle.std.proofs.Math.Nat.{div-add-mod, mod-lt}

@@ -1,10 +1,11 @@
 -- One step of the machine is two steps through the game: to the vertex of a class, and on to that of a pair.
-use Rattle.std.proofs.Common.{◌≡◌, ◌≢◌, ℕ, zero, suc, ◌+◌, ◌-◌, ◌<◌, ◌≤◌, ◌⊎◌, inl, inr, List, [], ◌∷◌, length, map}
-use Rattle.std.proofs.Common.{get_or, Some, refl, ap, ap₂, sym, subst, ◌∙◌, arith}
+use Rattle.std.proofs.Common.{◌≡◌, ◌≢◌, ℕ, ◌+◌, ◌-◌, ◌<◌, ◌≤◌, ◌⊎◌, inl, inr, List, length, map, get_or, Some, refl, ap}
+use Rattle.std.proofs.Common.{ap₂, sym, subst, ◌∙◌, arith}
 use Rattle.std.specs.Prelude.{IsSomeAnd}
-use Rattle.std.specs.List.{AllPairs, AllZip, Contains}
+use Rattle.std.specs.List.{AllPairs, Contains}
 use Rattle.std.proofs.lemmas.Option.{slice_get_within, get_or_from_slice_get}
 use Rattle.std.proofs.lemmas.Bool.{cases_lt}
+use Rattle.std.proofs.lemmas.List.{length-map, get_or-map}
 use Rattle.ps_game.specs.Games.{ParityGame, vertex_count, owner_of, priority_of, successors_of, HasEdge}
 use Rattle.ps_certificate.specs.Certificates.{CertificateData, Fits, IsValid, winner_of, choice_of}
 use Rattle.ps_machine.specs.Keys.{owner_of_key, priority_of_key}
@@ -14,7 +15,7 @@ use Rattle.ps_machine.specs.Extracting.{GoesTo, StepsFirst, StepsSecond}
 use Rattle.ps_machine.specs.Solving.{winner}
 use Rattle.ps_machine.specs.declared.key.Key.{Key}
 use Rattle.ps_machine.specs.declared.key.Key.TheVariants.{First, Second}
-use Rattle.ps_machine.proofs.GameKeys.Standing.{same_some}
+use Rattle.ps_machine.proofs.GameKeys.Standing.{same_some, zip_vertex}
 use Rattle.ps_machine.proofs.LeastLetters.{none_without_least, contained_or_not}
 
 -- ## Keys
@@ -36,22 +37,8 @@ one_place keys differ v w {k} at there = by (cases_lt v w) (cases_lt w v)
 
 pub map_contains : (f : ℕ → Key) (letters : List ℕ) (k : ℕ) {y : ℕ} → k < length letters → get_or letters k y ≡ y →
     Contains (map f letters) (f y)
-map_contains f [] k within is = absurd (omega (arith, within))
-map_contains f (x ∷ letters) zero within is = (0, omega arith, ap f is)
-map_contains f (x ∷ letters) (suc k) {y} within is =
-    let c = map_contains f letters k (omega (arith, within)) is in
-    (suc c.0, omega (arith, c.1), c.2)
-
-zip_contains : (keys : List Key) (numbers : List ℕ) (next : List Key) {v : ℕ} {k : Key} →
-    AllZip (StandsAt keys) numbers next → ((w : ℕ) → StandsAt keys w k → w ≡ v) →
-    (i : ℕ) → i < length next → get_or next i k ≡ k → Contains numbers v
-zip_contains keys numbers [] zip one i within is = absurd (omega (arith, within))
-zip_contains keys [] (l ∷ next) zip one i within is = absurd zip
-zip_contains keys (n ∷ numbers) (l ∷ next) zip one zero within is =
-    (0, omega arith, one n (zip.0 ∙ ap (λ x. Some x) is))
-zip_contains keys (n ∷ numbers) (l ∷ next) {v} {k} zip one (suc i) within is =
-    let c = zip_contains keys numbers next zip.1 one i (omega (arith, within)) is in
-    (suc c.0, omega (arith, c.1), c.2)
+map_contains f letters k {y} within is =
+    (k, omega (arith, within, length-map letters f), get_or-map f letters k y (f y) within ∙ ap f is)
 
 -- ## Edges
 
@@ -99,8 +86,9 @@ module _ {board : Board} {mover : ℕ} {keys : List Key} {game : ParityGame} {ce
       subst (λ key. LeadsTo board key vertex.next) (same_some (sym vertex.stands ∙ at)) vertex.leads_to in
       let one : (u : ℕ) → StandsAt keys u l → u ≡ w = λ u is. same_place u w is there in (
         within,
-        decided (successors_of game v) (λ none. leads vertex.next from
-            (λ c. none (zip_contains keys (successors_of game v) vertex.next vertex.successors one c.0 c.1 c.2))),
+        decided (successors_of game v) (λ none. leads vertex.next from (λ c.
+            let there = zip_vertex keys (successors_of game v) vertex.next vertex.successors c in
+            none (subst (Contains (successors_of game v)) (one there.0 there.2) there.1))),
       )
     where
       decided : (xs : List ℕ) → ((Contains xs w → ⊥) → ⊥) → Contains xs w

@@ -1,6 +1,6 @@
 -- The memories of the vertices that were looked at, and what one more vertex adds.
 use Rattle.std.proofs.Common.{◌≡◌, ◌≢◌, inl, inr, ℕ, ◌+◌, ◌<◌, ◌≤◌, Bool, true, false, List, [], ◌∷◌, ◌++◌, length}
-use Rattle.std.proofs.Common.{get_or, Some, refl, ap, sym, subst, ◌∙◌, arith, rules, not, nat_eq}
+use Rattle.std.proofs.Common.{get_or, Some, refl, ap, sym, subst, ◌∙◌, arith, not, nat_eq}
 use Rattle.std.specs.List.{All, AllPairs, Contains, list_any, slice_get}
 use Rattle.std.specs.Cmp.{nat_eq_equiv}
 use Rattle.std.proofs.lemmas.Bool.{eqb-true}
@@ -207,12 +207,8 @@ module _ (is_first : Bool) (keys : List Key) (used : List ℕ) where
 
     pub below_more : {kept' marks' : List ℕ} → KeepsAt kept marks n (mark_of is_first n q) kept' marks' →
         AreMemoriesBelow kept' marks' (n + 1)
-    below_more {marks'} (Stays came k l) =
-        subst (λ x. AreMemoriesBelow x marks' (n + 1)) (sym k) (subst (λ x. AreMemoriesBelow kept x (n + 1)) (sym l)
-        (below_stays came))
-    below_more {marks'} (Grows comes k l) =
-        subst (λ x. AreMemoriesBelow x marks' (n + 1)) (sym k) (subst (λ x. AreMemoriesBelow (kept ++ n ∷ []) x (n + 1))
-        (sym l) (below_grows comes))
+    below_more {marks'} (Stays came k l) = rw (k, l) (below_stays came)
+    below_more {marks'} (Grows comes k l) = rw (k, l) (below_grows comes)
 
   pub all_below : {kept marks : List ℕ} {n : ℕ} → length keys ≤ n → AreMemoriesBelow kept marks n →
       AreMemories is_first keys used kept marks

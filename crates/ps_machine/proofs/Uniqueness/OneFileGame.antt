@@ -130,10 +130,9 @@ module _ (order : Order) (file : FileData) (chain : Chain) where
 
     next_fine : (key : Key) (next : List Key) → IsFine key → LeadsTo (on a) key next → All IsFine next
     next_fine (First q p) next le leads =
-        subst (All IsFine) (sym leads.2) (All-map IsFine (λ x. Second q x) leads.0
-        (λ k d within. (le, (leads.1.each k d within).here.0)))
+        rw leads.2 (All-map IsFine (λ x. Second q x) leads.0 (λ k d within. (le, (leads.1.each k d within).here.0)))
     next_fine (Second q x) next fine leads =
-        subst (All IsFine) (sym leads.2) (All-map IsFine (λ y. First (a.next q (x + y)) (a.priority q (x + y))) leads.0
+        rw leads.2 (All-map IsFine (λ y. First (a.next q (x + y)) (a.priority q (x + y))) leads.0
         (λ k d within. (let y = get_or leads.0 k d in is.within q (x + y) fine.0
         (sum_within (on a) fine.1 (leads.1.each k d within).here.0))))
 

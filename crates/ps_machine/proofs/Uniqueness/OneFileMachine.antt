@@ -1,6 +1,5 @@
 -- A certificate of a file's game has one machine: the automata of a file differ only where no play comes.
-use Rattle.std.proofs.Common.{◌≡◌, ℕ, ◌+◌, ◌^◌, ◌<◌, ◌≤◌, Bool, true, false, List, length, refl, ap₂, subst}
-use Rattle.std.proofs.Common.{◌∙◌, arith}
+use Rattle.std.proofs.Common.{◌≡◌, ℕ, ◌+◌, ◌^◌, ◌<◌, ◌≤◌, Bool, true, false, List, length, refl, ap₂, subst, ◌∙◌, arith}
 use Rattle.ps_automaton.specs.Autos.{Auto, IsAutoOf}
 use Rattle.ps_automaton.specs.Chains.{Chain}
 use Rattle.ps_certificate.specs.Certificates.{CertificateData}
@@ -19,8 +18,7 @@ use Rattle.ps_machine.specs.declared.key.Key.TheVariants.{First, Second}
 use Rattle.ps_machine.specs.declared.key.Order.{Order}
 use Rattle.ps_machine.proofs.BoardLetters.{sum_within}
 use Rattle.ps_machine.proofs.Uniqueness.OneFileGame.{alike, class_too, first_too, game_too, key_fine, on, one_chain}
-use Rattle.ps_machine.proofs.Uniqueness.OneFileGame.{second_too}
-use Rattle.ps_machine.proofs.Uniqueness.OneFileGame.{steps_too}
+use Rattle.ps_machine.proofs.Uniqueness.OneFileGame.{second_too, steps_too}
 use Rattle.ps_machine.proofs.Uniqueness.OneGame.{one_game_of}
 use Rattle.ps_machine.proofs.Uniqueness.OneMachine.{one_machine}
 

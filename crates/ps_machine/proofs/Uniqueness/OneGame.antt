@@ -17,9 +17,9 @@ use Rattle.ps_machine.specs.Numbering.{listed, StandsAt, IsVertexOf}
 use Rattle.ps_machine.specs.declared.key.Key.{Key}
 use Rattle.ps_machine.specs.declared.key.Key.TheVariants.{First, Second}
 use Rattle.ps_machine.proofs.GameKeys.Exploring.{less_or_last}
-use Rattle.ps_machine.proofs.Uniqueness.Rising.{in_cons, none_in, same_rising}
+use Rattle.ps_machine.proofs.Uniqueness.Rising.{same_rising}
 use Rattle.ps_machine.proofs.Lassos.Rounds.{one_place}
-use Rattle.ps_machine.proofs.GameKeys.Standing.{came, same_some}
+use Rattle.ps_machine.proofs.GameKeys.Standing.{came, same_some, zip_at}
 use Rattle.ps_machine.proofs.Uniqueness.Counting.{Counts, counts_one, counts_below, has_it, counts_old, counts_new}
 use Rattle.ps_machine.proofs.Uniqueness.Counting.{none, counts_front, old_or_next}
 
@@ -143,13 +143,9 @@ gap v n le = (n - v, omega (arith, le))
 
 pub zipped : (keys : List Key) (numbers : List ℕ) (next : List Key) (w : ℕ) (key : Key) →
     AllZip (StandsAt keys) numbers next → StandsAt keys w key → Contains numbers w → Contains next key
-zipped keys [] next w key zip at c = absurd (none_in w c)
-zipped keys (n ∷ numbers) [] w key zip at c = absurd zip
-zipped keys (n ∷ numbers) (k ∷ next) w key zip at c = elim (in_cons numbers c) [
-  | inl same ↦ (0, omega arith, same_some (sym zip.0 ∙ ap (slice_get keys) same ∙ at))
-  | inr later ↦ (let there = zipped keys numbers next w key zip.1 at later in
-      (suc there.0, omega (arith, there.1), there.2))
-]
+zipped keys numbers next w key zip at c =
+    let there = zip_at keys numbers next c.0 w key zip c.1 in
+    (c.0, there.0, same_some (sym there.1 ∙ ap (slice_get keys) c.2 ∙ at))
 
 module _ (board : Board) (mover : ℕ) where
   abbrev pub IsIt : List Key → ParityGame → Type 0

@@ -1,6 +1,6 @@
 -- A certificate has one machine: its memories rise, and at each of them one letter is played and one memory comes next.
-use Rattle.std.proofs.Common.{◌≡◌, ◌≢◌, inl, inr, ℕ, ◌+◌, ◌<◌, Bool, true, false, not, List, length, Some, refl}
-use Rattle.std.proofs.Common.{ap, sym, subst, ◌∙◌, arith}
+use Rattle.std.proofs.Common.{◌≡◌, ◌≢◌, inl, inr, ℕ, ◌+◌, ◌<◌, Bool, true, false, not, List, length, Some, refl, ap}
+use Rattle.std.proofs.Common.{sym, subst, ◌∙◌, arith}
 use Rattle.std.specs.Prelude.{slice_get}
 use Rattle.std.specs.List.{All, AllPairs, Contains}
 use Rattle.std.proofs.lemmas.Bool.{cases_Bool, cases_lt}
@@ -17,8 +17,8 @@ use Rattle.ps_machine.specs.Behaviours.{Behaviour, IsMachine, AreSameOn}
 use Rattle.ps_machine.specs.Behaving.{BehavesAs}
 use Rattle.ps_machine.specs.Boards.{Board, IsClass, IsGameOf, IsSecondLetter, SameSteps}
 use Rattle.ps_machine.specs.Drawing.{mark_of}
-use Rattle.ps_machine.specs.Extracting.{GoesTo, HasPropositions, IsKept, IsMachineOf, IsOther, IsPlayed}
-use Rattle.ps_machine.specs.Extracting.{IsUsedFirst, StandsFor, is_others}
+use Rattle.ps_machine.specs.Extracting.{GoesTo, HasPropositions, IsKept, IsMachineOf, IsOther, IsPlayed, IsUsedFirst}
+use Rattle.ps_machine.specs.Extracting.{StandsFor, is_others}
 use Rattle.ps_machine.specs.Numbering.{StandsAt}
 use Rattle.ps_machine.specs.declared.key.Key.{Key}
 use Rattle.ps_machine.specs.declared.key.Key.TheVariants.{First, Second}
@@ -74,8 +74,7 @@ module _ (first : Bool) (keys : List Key) (game : ParityGame) (certificate : Cer
 
   -- no used vertex below a kept one shares its memory
   none_below : {v q p : ℕ} (u r o : ℕ) → Kept u → StandsAt keys u (First r o) →
-      IsUsedFirst keys game certificate v q p →
-      mark_of first v q ≡ mark_of first u r → v < u → ⊥
+      IsUsedFirst keys game certificate v q p → mark_of first v q ≡ mark_of first u r → v < u → ⊥
   none_below {v} {q} {p} u r o k stands used same less =
       k.least v q p less used (mark_shares first u k.state v q
       (ap (mark_of first u) (one_state keys u k.priority o k.here.stands stands) ∙ sym same))

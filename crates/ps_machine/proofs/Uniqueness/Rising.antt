@@ -1,6 +1,5 @@
 -- Two lists that rise in one order and have the same members are one.
-use Rattle.std.proofs.Common.{◌≡◌, ℕ, zero, suc, ◌<◌, ◌⊎◌, inl, inr, List, [], ◌∷◌, refl, ap₂, sym, subst, ◌∙◌}
-use Rattle.std.proofs.Common.{arith}
+use Rattle.std.proofs.Common.{◌≡◌, ℕ, zero, suc, ◌<◌, ◌⊎◌, inl, inr, List, [], ◌∷◌, refl, ap₂, sym, subst, ◌∙◌, arith}
 use Rattle.std.specs.List.{AllPairs, Contains}
 
 -- an element of a list is its head, or one of the others, at its place

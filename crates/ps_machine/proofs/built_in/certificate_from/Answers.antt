@@ -1,5 +1,4 @@
 use Rattle.std.proofs.Common.{◌∙◌, true, replicate, ap}
-use Rattle.ps_game.specs.Regions.{move_at}
 use Rattle.ps_machine.proofs.Certified.{certified_both, lost_held}
 use Rattle.ps_machine.proofs.built_in.certificate_from.Goals as goal
 

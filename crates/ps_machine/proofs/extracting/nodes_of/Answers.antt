@@ -1,6 +1,4 @@
-use Rattle.std.proofs.Common.{ap, ◌∙◌}
-use Rattle.std.proofs.Common.{get_or}
-use Rattle.ps_machine.specs.BuiltBoards.{board_of}
+use Rattle.std.proofs.Common.{ap, ◌∙◌, get_or}
 use Rattle.ps_machine.proofs.Machines.Assembling.{drawn_more}
 use Rattle.ps_machine.proofs.extracting.nodes_of.Goals as goal
 

@@ -2,7 +2,6 @@ use Rattle.std.proofs.Common.{◌≡◌, ℕ, not, List, Vec, ap, ◌∙◌}
 use Rattle.std.specs.Global.{Global}
 use Rattle.ps_machine.specs.Boards.{is_first_of}
 use Rattle.ps_machine.specs.BuiltBoards.{board_of}
-use Rattle.ps_machine.specs.Extracting.{is_others}
 use Rattle.ps_machine.proofs.Machines.Assembling.{same_names, plays_own, reads_others}
 use Rattle.ps_machine.proofs.Machines.Listing.{listed_with, listed_without}
 use Rattle.ps_machine.proofs.extracting.roles.Goals as goal

@@ -4,7 +4,6 @@ use Rattle.indexmap.specs.IndexMap.{get}
 use Rattle.ps_automaton.specs.Automata.{AutomatonData}
 use Rattle.ps_machine.specs.Dividing.{AreDivided}
 use Rattle.ps_machine.specs.Knowing.{HasAnswered}
-use Rattle.ps_machine.specs.Moving.{pair_eq}
 use Rattle.ps_machine.specs.declared.divided.Divided.{Divided}
 use Rattle.ps_machine.specs.declared.key.Key.TheVariants.{First}
 use Rattle.ps_machine.specs.declared.key.Order.{Order}

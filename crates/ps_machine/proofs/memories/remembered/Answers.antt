@@ -5,8 +5,7 @@ use Rattle.ps_machine.specs.Numbering.{StandsAt}
 use Rattle.ps_machine.specs.declared.key.Key.TheVariants.{First}
 use Rattle.ps_machine.specs.declared.memories.Memories.{Memories}
 use Rattle.ps_machine.proofs.Machines.MemorySteps.{AreMemoriesBelow, none_below, below_skip, below_more, all_below}
-use Rattle.ps_machine.proofs.Machines.MemorySteps.{is_there}
-use Rattle.ps_machine.proofs.Machines.MemorySteps.{is_absent}
+use Rattle.ps_machine.proofs.Machines.MemorySteps.{is_there, is_absent}
 use Rattle.ps_machine.proofs.memories.remembered.Goals as goal
 use Rattle.ps_machine.proofs.memories.remembered.Goals.{then-contains+in_ok-keep, else-contains}
 

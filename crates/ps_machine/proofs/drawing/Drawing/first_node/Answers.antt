@@ -58,8 +58,7 @@ relabel_from-requires-clause-within c =
     (all_noted c.requires.plan c.requires.turn c.requires.kept at plays l are c.in_ok-place_rows.ensures.placed)
 
 pub returns-clause-keeps : goal.returns-clause-keeps
-returns-clause-keeps c = subst (λ (x : Table). Keeps x c.relabel_from.new.self) c.place_rows.ensures.store
-    c.relabel_from.ensures.keeps
+returns-clause-keeps c = rw (← c.place_rows.ensures.store) c.relabel_from.ensures.keeps
 
 pub returns-clause-drawn : goal.returns-clause-drawn
 returns-clause-drawn c =

@@ -32,13 +32,10 @@ row_of_class-requires-clause-class c =
 
 pub row_of_class-requires-clause-rest : goal.row_of_class-requires-clause-rest
 row_of_class-requires-clause-rest c =
-    subst (λ (k : Class). IsRestBy c.args.plan.now c.args.state k.letter k.rest) (sym c.class-item.is)
-    (c.requires.rests c.loop-class.class-index c.class-item.result c.loop-class-test.true)
+    rw c.class-item.is (c.requires.rests c.loop-class.class-index c.class-item.result c.loop-class-test.true)
 
 pub returns-in_err-place-clause-same_rows : goal.returns-in_err-place-clause-same_rows
-returns-in_err-place-clause-same_rows c =
-    subst (λ (l : List Row). KeepsRows c.args.self.now.rows.keys l) (sym c.in_err-place.ensures.err)
-    c.loop-class.invariant.same_rows
+returns-in_err-place-clause-same_rows c = rw c.in_err-place.ensures.err c.loop-class.invariant.same_rows
 
 pub returns-in_err-place-clause-rows : goal.returns-in_err-place-clause-rows
 returns-in_err-place-clause-rows c =

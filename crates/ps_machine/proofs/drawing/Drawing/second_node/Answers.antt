@@ -1,5 +1,5 @@
-use Rattle.std.proofs.Common.{ℕ, List, sym, subst}
-use Rattle.std.specs.List.{All, AllZip}
+use Rattle.std.proofs.Common.{List, sym, subst}
+use Rattle.std.specs.List.{All}
 use Rattle.ps_diagram.specs.Table.{Table, Keeps}
 use Rattle.ps_diagram.specs.declared.classes.Class.{Class}
 use Rattle.ps_machine.specs.Boards.{IsClass}
@@ -28,8 +28,7 @@ rows_of_classes-requires-clause-entered c = (
 
 pub rows_of_classes-requires-clause-classes : goal.rows_of_classes-requires-clause-classes
 rows_of_classes-requires-clause-classes c =
-    subst (λ (l : List Class). All (λ (x : Class). IsClass (board_by c.args.plan.now) c.args.state x.letter) l)
-    (sym c.deref.ensures.value) (class_each c.requires.divided.fit
+    rw c.deref.ensures.value (class_each c.requires.divided.fit
     (classes_there c.args.vertex c.requires.divided c.requires.stands.1 c.of-classes.ensures))
 
 pub rows_of_classes-requires-clause-rests : goal.rows_of_classes-requires-clause-rests
@@ -58,8 +57,7 @@ relabel_from-requires-clause-within c letter within =
     c.deref-2.ensures.value c.in_ok-values.ensures.values) letter
 
 pub returns-clause-keeps : goal.returns-clause-keeps
-returns-clause-keeps c = subst (λ (t : Table). Keeps t c.relabel_from.new.self) c.rows_of_classes.ensures.store
-    c.relabel_from.ensures.keeps
+returns-clause-keeps c = rw (← c.rows_of_classes.ensures.store) c.relabel_from.ensures.keeps
 
 pub returns-clause-drawn : goal.returns-clause-drawn
 returns-clause-drawn c =
