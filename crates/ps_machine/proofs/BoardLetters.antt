@@ -13,19 +13,17 @@ use Rattle.ps_machine.specs.Moving.{IsMaskOf}
 
 -- ## Sums of letters with no proposition in common
 
-sum_step : (a b : Bool) (k l m s : ℕ) → (a && b) ≡ false → k + l ≡ m →
+sum_step : (a b : Bool) (k l : ℕ) {m : ℕ} (s : ℕ) → (a && b) ≡ false → k + l ≡ m →
     (k + cond a s 0) + (l + cond b s 0) ≡ m + cond (a || b) s 0
-sum_step true true k l m s apart e = absurd (true_is_not_false apart)
-sum_step true false k l m s apart e = omega arith
-sum_step false true k l m s apart e = omega arith
-sum_step false false k l m s apart e = omega arith
+sum_step true true k l s apart e = absurd (true_is_not_false apart)
+sum_step true false k l s apart e = omega arith
+sum_step false true k l s apart e = omega arith
+sum_step false false k l s apart e = omega arith
 
 sum_of : (n : ℕ) (f g : ℕ → Bool) → ((p : ℕ) → (f p && g p) ≡ false) →
     letter_of n f + letter_of n g ≡ letter_of n (λ p. f p || g p)
 sum_of zero f g apart = omega arith
-sum_of (suc n) f g apart =
-    sum_step (f n) (g n) (letter_of n f) (letter_of n g) (letter_of n (λ p. f p || g p)) (2 ^ n) (apart n)
-    (sum_of n f g apart)
+sum_of (suc n) f g apart = sum_step (f n) (g n) (letter_of n f) (letter_of n g) (2 ^ n) (apart n) (sum_of n f g apart)
 
 number_is : (n x : ℕ) → x < 2 ^ n → x ≡ letter_of n (assignment x)
 number_is n x lt =
@@ -38,9 +36,9 @@ sum_is n x y a b apart =
     ap (λ k. k + y) (number_is n x a) ∙ ap (λ k. letter_of n (assignment x) + k) (number_is n y b)
     ∙ sum_of n (assignment x) (assignment y) apart
 
-and_false-right : (a b : Bool) → b ≡ false → (a && b) ≡ false
-and_false-right true b e = e
-and_false-right false b e = refl
+and_false-right : (a : Bool) {b : Bool} → b ≡ false → (a && b) ≡ false
+and_false-right true e = e
+and_false-right false e = refl
 
 and_false-left : (a b : Bool) → a ≡ false → (a && b) ≡ false
 and_false-left a b e = ap (λ x. x && b) e
@@ -49,17 +47,17 @@ or_false-right : (a b : Bool) → b ≡ false → (a || b) ≡ a
 or_false-right true b e = refl
 or_false-right false b e = e
 
-or_false-left : (a b : Bool) → a ≡ false → (a || b) ≡ b
-or_false-left a b e = ap (λ x. x || b) e
+or_false-left : {a b : Bool} → a ≡ false → (a || b) ≡ b
+or_false-left {b} e = ap (λ x. x || b) e
 
-and_true-right : (a b : Bool) → b ≡ true → (a && b) ≡ a
-and_true-right true b e = e
-and_true-right false b e = refl
+and_true-right : (a : Bool) {b : Bool} → b ≡ true → (a && b) ≡ a
+and_true-right true e = e
+and_true-right false e = refl
 
 module _ (board : Board) where
   apart : (x y : ℕ) → IsFirstLetter board x → IsSecondLetter board y → (p : ℕ) → (is_in p x && is_in p y) ≡ false
   apart x y hx hy p = elim (bool_cases (board.is_first p)) [
-    | inl is ↦ and_false-right (is_in p x) (is_in p y) (hy.own p is)
+    | inl is ↦ and_false-right (is_in p x) (hy.own p is)
     | inr isnt ↦ and_false-left (is_in p x) (is_in p y) (hx.own p isnt)
   ]
 
@@ -67,23 +65,21 @@ module _ (board : Board) where
       x + y ≡ letter_of board.propositions (λ p. is_in p x || is_in p y)
   both x y hx hy = sum_is board.propositions x y hx.within hy.within (apart x y hx hy)
 
-  pub sum_within : (x y : ℕ) → IsFirstLetter board x → IsSecondLetter board y → x + y < 2 ^ board.propositions
-  sum_within x y hx hy =
-      subst (λ k. k < 2 ^ board.propositions) (sym (both x y hx hy))
-      (letter_lt board.propositions (λ p. is_in p x || is_in p y))
+  pub sum_within : {x y : ℕ} → IsFirstLetter board x → IsSecondLetter board y → x + y < 2 ^ board.propositions
+  sum_within {x} {y} hx hy = rw (both x y hx hy) (letter_lt board.propositions (λ p. is_in p x || is_in p y))
 
   sum_bit : (x y p : ℕ) → IsFirstLetter board x → IsSecondLetter board y → p < board.propositions →
       is_in p (x + y) ≡ (is_in p x || is_in p y)
   sum_bit x y p hx hy lt =
       ap (is_in p) (both x y hx hy) ∙ letter_is board.propositions (λ q. is_in q x || is_in q y) p lt
 
-  pub sum_first : (x y p : ℕ) → IsFirstLetter board x → IsSecondLetter board y → p < board.propositions →
+  pub sum_first : {x y : ℕ} (p : ℕ) → IsFirstLetter board x → IsSecondLetter board y → p < board.propositions →
       board.is_first p ≡ true → is_in p (x + y) ≡ is_in p x
-  sum_first x y p hx hy lt is = sum_bit x y p hx hy lt ∙ or_false-right (is_in p x) (is_in p y) (hy.own p is)
+  sum_first {x} {y} p hx hy lt is = sum_bit x y p hx hy lt ∙ or_false-right (is_in p x) (is_in p y) (hy.own p is)
 
-  pub sum_second : (x y p : ℕ) → IsFirstLetter board x → IsSecondLetter board y → p < board.propositions →
+  pub sum_second : {x y : ℕ} (p : ℕ) → IsFirstLetter board x → IsSecondLetter board y → p < board.propositions →
       board.is_first p ≡ false → is_in p (x + y) ≡ is_in p y
-  sum_second x y p hx hy lt isnt = sum_bit x y p hx hy lt ∙ or_false-left (is_in p x) (is_in p y) (hx.own p isnt)
+  sum_second {x} {y} p hx hy lt isnt = sum_bit x y p hx hy lt ∙ or_false-left (hx.own p isnt)
 
   -- ## The mask of the first player
 
@@ -93,34 +89,28 @@ module _ (board : Board) where
     | inr ge ↦ absurd (true_is_not_false (sym is ∙ no_bit board.propositions mask p m.within ge))
   ]
 
-  pub agree_on : (mask x y : ℕ) → IsMaskOf board mask → IsFirstLetter board x → IsSecondLetter board y →
+  pub agree_on : {mask x y : ℕ} → IsMaskOf board mask → IsFirstLetter board x → IsSecondLetter board y →
       AgreeOn mask x (x + y)
-  agree_on mask x y m hx hy p is =
+  agree_on {mask} {x} {y} m hx hy p is =
       let lt = mask_below mask p m is in
-      sym (sum_first x y p hx hy lt (sym (m.is p lt) ∙ is))
+      sym (sum_first p hx hy lt (sym (m.is p lt) ∙ is))
 
-  pub agree_off : (mask x y : ℕ) → IsMaskOf board mask → IsFirstLetter board x → IsSecondLetter board y →
+  pub agree_off : {mask x y : ℕ} → IsMaskOf board mask → IsFirstLetter board x → IsSecondLetter board y →
       AgreeOff mask y (x + y)
-  agree_off mask x y m hx hy p isnt = elim (cases_lt p board.propositions) [
-    | inl lt ↦ sym (sum_second x y p hx hy lt (sym (m.is p lt) ∙ isnt))
+  agree_off {x} {y} m hx hy p isnt = elim (cases_lt p board.propositions) [
+    | inl lt ↦ sym (sum_second p hx hy lt (sym (m.is p lt) ∙ isnt))
     | inr ge ↦ no_bit board.propositions y p hy.within ge ∙ sym
-        (no_bit board.propositions (x + y) p (sum_within x y hx hy) ge)
+        (no_bit board.propositions (x + y) p (sum_within hx hy) ge)
   ]
 
-  -- two letters of the second player and of one letter of the first agree where the mask is
-  pub agree_first : (mask x y z : ℕ) → IsMaskOf board mask → IsFirstLetter board x → IsSecondLetter board y →
-      IsSecondLetter board z → AgreeOn mask (x + y) (x + z)
-  agree_first mask x y z m hx hy hz p is = sym (agree_on mask x y m hx hy p is) ∙ agree_on mask x z m hx hz p is
-
-  pub agree_second : (mask x w y : ℕ) → IsMaskOf board mask → IsFirstLetter board x → IsFirstLetter board w →
+  pub agree_second : {mask x w y : ℕ} → IsMaskOf board mask → IsFirstLetter board x → IsFirstLetter board w →
       IsSecondLetter board y → AgreeOff mask (x + y) (w + y)
-  agree_second mask x w y m hx hw hy p isnt =
-      sym (agree_off mask x y m hx hy p isnt) ∙ agree_off mask w y m hw hy p isnt
+  agree_second m hx hw hy p isnt = sym (agree_off m hx hy p isnt) ∙ agree_off m hw hy p isnt
 
   -- a letter over the mask alone is the first player's
-  pub masked_first : (mask x : ℕ) → IsMaskOf board mask → x < 2 ^ board.propositions →
+  pub masked_first : {mask x : ℕ} → IsMaskOf board mask → x < 2 ^ board.propositions →
       ((p : ℕ) → is_in p mask ≡ false → is_in p x ≡ false) → IsFirstLetter board x
-  masked_first mask x m lt masked = record {
+  masked_first {x} m lt masked = record {
     within = lt;
     own = λ p isnt. elim (cases_lt p board.propositions) [
       | inl below ↦ masked p (m.is p below ∙ isnt)
@@ -138,7 +128,7 @@ module _ (board : Board) where
     within = letter_lt board.propositions (λ p. is_in p u && not (board.is_first p));
     own = λ p is. elim (cases_lt p board.propositions) [
       | inl below ↦ letter_is board.propositions (λ q. is_in q u && not (board.is_first q)) p below
-          ∙ and_false-right (is_in p u) (not (board.is_first p)) (ap not is)
+          ∙ and_false-right (is_in p u) (ap not is)
       | inr ge ↦ no_bit board.propositions (second_of u) p (letter_lt board.propositions
           (λ q. is_in q u && not (board.is_first q))) ge
     ];
@@ -146,7 +136,7 @@ module _ (board : Board) where
 
   pub second_bit : (u p : ℕ) → p < board.propositions → board.is_first p ≡ false → is_in p (second_of u) ≡ is_in p u
   second_bit u p lt isnt = letter_is board.propositions (λ q. is_in q u && not (board.is_first q)) p lt
-      ∙ and_true-right (is_in p u) (not (board.is_first p)) (ap not isnt)
+      ∙ and_true-right (is_in p u) (ap not isnt)
 
   second_off : (mask y : ℕ) → IsMaskOf board mask → y < 2 ^ board.propositions → AgreeOff mask y (second_of y)
   second_off mask y m lt p isnt = elim (cases_lt p board.propositions) [
@@ -156,20 +146,20 @@ module _ (board : Board) where
   ]
 
   -- a letter is that of a first letter and of its own second one, where it agrees with the first
-  pub as_sum : (mask x u p : ℕ) → IsMaskOf board mask → IsFirstLetter board x → AgreeOn mask x u →
+  pub as_sum : {mask x : ℕ} (u p : ℕ) → IsMaskOf board mask → IsFirstLetter board x → AgreeOn mask x u →
       p < board.propositions → is_in p u ≡ is_in p (x + second_of u)
-  as_sum mask x u p m hx on lt = elim (bool_cases (board.is_first p)) [
-    | inl is ↦ sym (on p (m.is p lt ∙ is)) ∙ sym (sum_first x (second_of u) p hx (second_is u) lt is)
-    | inr isnt ↦ sym (second_bit u p lt isnt) ∙ sym (sum_second x (second_of u) p hx (second_is u) lt isnt)
+  as_sum u p m hx on lt = elim (bool_cases (board.is_first p)) [
+    | inl is ↦ sym (on p (m.is p lt ∙ is)) ∙ sym (sum_first p hx (second_is u) lt is)
+    | inr isnt ↦ sym (second_bit u p lt isnt) ∙ sym (sum_second p hx (second_is u) lt isnt)
   ]
 
   -- the same with the second part of another letter that agrees outside the mask
-  pub as_other_sum : (mask x u v p : ℕ) → IsMaskOf board mask → IsFirstLetter board x → AgreeOn mask x v →
+  pub as_other_sum : {mask x : ℕ} (u v p : ℕ) → IsMaskOf board mask → IsFirstLetter board x → AgreeOn mask x v →
       AgreeOff mask u v → p < board.propositions → is_in p v ≡ is_in p (x + second_of u)
-  as_other_sum mask x u v p m hx on off lt = elim (bool_cases (board.is_first p)) [
-    | inl is ↦ sym (on p (m.is p lt ∙ is)) ∙ sym (sum_first x (second_of u) p hx (second_is u) lt is)
+  as_other_sum u v p m hx on off lt = elim (bool_cases (board.is_first p)) [
+    | inl is ↦ sym (on p (m.is p lt ∙ is)) ∙ sym (sum_first p hx (second_is u) lt is)
     | inr isnt ↦ sym (off p (m.is p lt ∙ isnt)) ∙ sym (second_bit u p lt isnt)
-        ∙ sym (sum_second x (second_of u) p hx (second_is u) lt isnt)
+        ∙ sym (sum_second p hx (second_is u) lt isnt)
   ]
 
   pub zero_second : IsSecondLetter board 0
@@ -202,9 +192,9 @@ alike_more n f g h e q lt = elim (cases_lt q n) [
   | inr ge ↦ (let P : ℕ → Type 0 = λ k. f k ≡ g k in let same : n ≡ q = omega (arith, lt, ge) in subst P same e)
 ]
 
-first_difference : (n : ℕ) (f g : ℕ → Bool) → ((q : ℕ) → q < n → f q ≡ g q) ⊎ Differ n f g
-first_difference zero f g = inl (λ q lt. absurd (omega (arith, lt)))
-first_difference (suc n) f g = elim (first_difference n f g) [
+first_difference : (n : ℕ) {f g : ℕ → Bool} → ((q : ℕ) → q < n → f q ≡ g q) ⊎ Differ n f g
+first_difference zero = inl (λ q lt. absurd (omega (arith, lt)))
+first_difference (suc n) {f} {g} = elim (first_difference n) [
   | inl h ↦ elim (bool_same (f n) (g n)) [
     | inl e ↦ inl (alike_more n f g h e)
     | inr ne ↦ inr (record { at = n; below = omega arith; differ = ne; same = h })
@@ -217,42 +207,42 @@ first_difference (suc n) f g = elim (first_difference n f g) [
   })
 ]
 
-not_true : (a b : Bool) → (a ≡ b → ⊥) → a ≡ true → b ≡ false
-not_true a true ne e = absurd (ne e)
-not_true a false ne e = refl
+not_true : {a : Bool} (b : Bool) → (a ≡ b → ⊥) → a ≡ true → b ≡ false
+not_true true ne e = absurd (ne e)
+not_true false ne e = refl
 
-not_false : (a b : Bool) → (a ≡ b → ⊥) → a ≡ false → b ≡ true
-not_false a true ne e = refl
-not_false a false ne e = absurd (ne e)
+not_false : {a : Bool} (b : Bool) → (a ≡ b → ⊥) → a ≡ false → b ≡ true
+not_false true ne e = refl
+not_false false ne e = absurd (ne e)
 
 pub compared : (n x y : ℕ) → x < 2 ^ n → y < 2 ^ n → (x ≡ y) ⊎ (IsBefore x y ⊎ IsBefore y x)
-compared n x y lx ly = elim (first_difference n (assignment x) (assignment y)) [
+compared n x y lx ly = elim (first_difference n) [
   | inl h ↦ inl (same_letter n x y lx ly h)
   | inr d ↦ elim (bool_cases (is_in d.at x)) [
     | inl is ↦ inr (inr (record {
       first = d.at;
-      is_false = not_true (is_in d.at x) (is_in d.at y) d.differ is;
+      is_false = not_true (is_in d.at y) d.differ is;
       is_true = is;
       same = λ p lt. sym (d.same p lt);
     }))
     | inr isnt ↦ inr (inl (record {
       first = d.at;
       is_false = isnt;
-      is_true = not_false (is_in d.at x) (is_in d.at y) d.differ isnt;
+      is_true = not_false (is_in d.at y) d.differ isnt;
       same = d.same;
     }))
   ]
 ]
 
 -- two letters neither of which comes before the other are one
-pub neither_before : (n x y : ℕ) → x < 2 ^ n → y < 2 ^ n → (IsBefore x y → ⊥) → (IsBefore y x → ⊥) → x ≡ y
-neither_before n x y lx ly a b = elim (compared n x y lx ly) [
+pub neither_before : (n : ℕ) {x y : ℕ} → x < 2 ^ n → y < 2 ^ n → (IsBefore x y → ⊥) → (IsBefore y x → ⊥) → x ≡ y
+neither_before n {x} {y} lx ly a b = elim (compared n x y lx ly) [
   | inl same ↦ same
   | inr before ↦ elim before [ inl h ↦ absurd (a h) | inr h ↦ absurd (b h) ]
 ]
 
-pub not_before_itself : (x : ℕ) → IsBefore x x → ⊥
-not_before_itself x b = true_is_not_false (sym b.is_true ∙ b.is_false)
+pub not_before_itself : {x : ℕ} → IsBefore x x → ⊥
+not_before_itself b = true_is_not_false (sym b.is_true ∙ b.is_false)
 
 -- a letter is the second player's where what is the second player's in it doesn't come before it
 pub second_itself : (board : Board) (y : ℕ) → y < 2 ^ board.propositions → (IsBefore (second_of board y) y → ⊥) →
@@ -273,12 +263,12 @@ second_itself board y lt never = subst (IsSecondLetter board) same (second_is bo
     ]
 
     same : second_of board y ≡ y
-    same = neither_before board.propositions (second_of board y) y (second_is board y).within lt never later
+    same = neither_before board.propositions (second_is board y).within lt never later
 
 pub second_agrees : (board : Board) (mask y : ℕ) → IsMaskOf board mask → y < 2 ^ board.propositions →
     AgreeOff mask y (second_of board y)
 second_agrees board mask y m lt = second_off board mask y m lt
 
 -- two least letters with the same property are one
-pub one_least : (n : ℕ) (P : ℕ → Type 0) (x y : ℕ) → x < 2 ^ n → y < 2 ^ n → IsLeast P x → IsLeast P y → x ≡ y
-one_least n P x y lx ly a b = neither_before n x y lx ly (λ h. b.none_before x a.here h) (λ h. a.none_before y b.here h)
+pub one_least : (n : ℕ) {P : ℕ → Type 0} {x y : ℕ} → x < 2 ^ n → y < 2 ^ n → IsLeast P x → IsLeast P y → x ≡ y
+one_least n {x} {y} lx ly a b = neither_before n lx ly (λ h. b.none_before x a.here h) (λ h. a.none_before y b.here h)

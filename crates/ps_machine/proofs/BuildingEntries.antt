@@ -1,6 +1,6 @@
 -- Entries of a certificate, one after another.
 use Rattle.std.proofs.Common.{◌≡◌, ◌⊎◌, inl, inr, ℕ, ◌+◌, ◌<◌, List, [], ◌∷◌, ◌++◌, length, get_or, Option, Bool, true}
-use Rattle.std.proofs.Common.{false, ap, sym, subst, ◌∙◌, rules, arith}
+use Rattle.std.proofs.Common.{false, ap, sym, subst, ◌∙◌, arith}
 use Rattle.std.proofs.lemmas.List.{length_push, get_or_push, get_or_append_left}
 use Rattle.ps_game.specs.Games.{ParityGame}
 use Rattle.ps_game.specs.Regions.{has}
@@ -17,47 +17,36 @@ module _ (game : ParityGame) (region : List Bool) (first second : ℕ → Option
     each_entry P n entries e long before last v within = by (less_or_last v n within)
       where
         by : (v < n) ⊎ (v ≡ n) → P v (get_or (entries ++ e ∷ []) v no_entry)
-        by (inl less) =
-            subst (P v) (sym (get_or_append_left entries (e ∷ []) no_entry v (omega (arith, less, long))))
-            (before v less)
-        by (inr same) =
-            subst (λ u. P u (get_or (entries ++ e ∷ []) u no_entry)) (sym same)
-            (subst (P n) (sym (get_or_push entries e no_entry n long)) last)
+        by (inl less) = rw (get_or_append_left entries (e ∷ []) no_entry v (omega (arith, less, long))) (before v less)
+        by (inr same) = rw (same, get_or_push entries e no_entry n long) last
 
-    pub entries_won : (n : ℕ) (entries : List EntryData) (e : EntryData) →
+    pub entries_won : {n : ℕ} {entries : List EntryData} {e : EntryData} →
         AreEntries game region first second first_rows second_rows n entries → has region n ≡ true →
         IsEntryAmong game 0 first first_rows n e →
         AreEntries game region first second first_rows second_rows (n + 1) (entries ++ e ∷ [])
-    entries_won n entries e are wins is = record {
+    entries_won {n} {entries} {e} are wins is = record {
       each = length_push entries e ∙ ap (λ k. k + 1) are.each;
       won =
           each_entry (λ v x. has region v ≡ true → IsEntryAmong game 0 first first_rows v x) n entries e are.each
           are.won (λ _. is);
       lost =
           each_entry (λ v x. has region v ≡ false → IsEntryAmong game 1 second second_rows v x) n entries e are.each
-          are.lost (λ loses. absurd (both_ways (has region n) wins loses));
+          are.lost (λ loses. cc);
     }
-      where
-        both_ways : (b : Bool) → b ≡ true → b ≡ false → ⊥
-        both_ways b t f = search rules
 
-    pub entries_lost : (n : ℕ) (entries : List EntryData) (e : EntryData) →
+    pub entries_lost : {n : ℕ} {entries : List EntryData} {e : EntryData} →
         AreEntries game region first second first_rows second_rows n entries → has region n ≡ false →
         IsEntryAmong game 1 second second_rows n e →
         AreEntries game region first second first_rows second_rows (n + 1) (entries ++ e ∷ [])
-    entries_lost n entries e are loses is = record {
+    entries_lost {n} {entries} {e} are loses is = record {
       each = length_push entries e ∙ ap (λ k. k + 1) are.each;
       won =
           each_entry (λ v x. has region v ≡ true → IsEntryAmong game 0 first first_rows v x) n entries e
-          are.each are.won
-          (λ wins. absurd (both_ways (has region n) wins loses));
+          are.each are.won (λ wins. cc);
       lost =
           each_entry (λ v x. has region v ≡ false → IsEntryAmong game 1 second second_rows v x) n entries e are.each
           are.lost (λ _. is);
     }
-      where
-        both_ways : (b : Bool) → b ≡ true → b ≡ false → ⊥
-        both_ways b t f = search rules
 
 -- an entry with the row of its vertex
 pub among : (game : ParityGame) (player : ℕ) (table : ℕ → Option ℕ) (rows : List (List ℕ)) (v : ℕ) (row : List ℕ)

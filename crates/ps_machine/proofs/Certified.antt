@@ -73,18 +73,18 @@ same_or_not x y = by (x == y) refl
     by true e = inl (grind (arith, nat_tests))
     by false e = inr (λ same. grind (arith, nat_tests))
 
-some_within : (game : ParityGame) (v : ℕ) → IsGame game → (o : Option ℕ) → IsSomeAnd o (HasEdge game v) →
+some_within : {game : ParityGame} (v : ℕ) → IsGame game → (o : Option ℕ) → IsSomeAnd o (HasEdge game v) →
     IfSome o (λ w. w < vertex_count game)
-some_within game v is_game None is = tt
-some_within game v is_game (Some w) is = is_game.within v w is
+some_within v is_game None is = tt
+some_within v is_game (Some w) is = is_game.within v w is
 
-module _ (game : ParityGame) (is_game : IsGame game) (player : ℕ) (set : ℕ → Bool) (table : ℕ → Option ℕ)
-    (priorities : List ℕ) (rows : List (List ℕ)) (c : CertificateData)
-    (holds : Holds game player set table) (ranks : AreRanks game player set table priorities rows) where
+module _ {game : ParityGame} (is_game : IsGame game) {player : ℕ} {set : ℕ → Bool} {table : ℕ → Option ℕ}
+    {priorities : List ℕ} {rows : List (List ℕ)} {c : CertificateData} (holds : Holds game player set table)
+    (ranks : AreRanks game player set table priorities rows) where
   -- the edges of the certificate are those of the table
-  remains_for : (v w : ℕ) → IsSide game player set table priorities rows c v → Remains game c v w →
+  remains_for : {v w : ℕ} → IsSide game player set table priorities rows c v → Remains game c v w →
       RemainsFor game player table v w
-  remains_for v w s r = record {
+  remains_for s r = record {
     edge = r.edge;
     chosen = λ owns. sym (s.own owns) ∙ r.chosen (owns ∙ sym s.winner);
   }
@@ -92,7 +92,7 @@ module _ (game : ParityGame) (is_game : IsGame game) (player : ℕ) (set : ℕ �
   side_stays : (v w : ℕ) → IsSide game player set table priorities rows c v → Remains game c v w → IsTrue (set w)
   side_stays v w s r =
       holds.keeps.stays (v ∷ w ∷ []) (two_path game v w is_game r.edge) s.inside
-      (two_follows game player table v w (remains_for v w s r).chosen) 1 (omega arith)
+      (two_follows game player table v w (remains_for s r).chosen) 1 (omega arith)
 
   side_move : (v : ℕ) → v < vertex_count game → IsSide game player set table priorities rows c v → HasRightMove game c v
   side_move v within s = record {
@@ -107,9 +107,7 @@ module _ (game : ParityGame) (is_game : IsGame game) (player : ℕ) (set : ℕ �
   side_choice v within s = by (same_or_not (owner_of game v) player)
     where
       by : (owner_of game v ≡ player) ⊎ (owner_of game v ≢ player) → IfSome (choice_of c v) (λ w. w < vertex_count game)
-      by (inl owns) =
-          subst (λ o. IfSome o (λ w. w < vertex_count game)) (sym (s.own owns))
-          (some_within game v is_game (table v) (holds.keeps.moves v within s.inside owns))
+      by (inl owns) = rw (s.own owns) (some_within v is_game (table v) (holds.keeps.moves v within s.inside owns))
       by (inr not_own) = subst (λ o. IfSome o (λ w. w < vertex_count game)) (sym (s.other not_own)) tt
 
   side_counts : (v w k : ℕ) → IsSide game player set table priorities rows c v →
@@ -117,8 +115,7 @@ module _ (game : ParityGame) (is_game : IsGame game) (player : ℕ) (set : ℕ �
       k < length priorities → KeepsCount game c v w k
   side_counts v w k s t listed r within =
       let keep =
-      (ranks.columns k within).keep v w (record { from = s.inside; to = t.inside; remains = remains_for v w s r })
-      in
+      (ranks.columns k within).keep v w (record { from = s.inside; to = t.inside; remains = remains_for s r }) in
       let K : ℕ → ℕ → ℕ → Type 0 = λ p x y. KeepsRule p (priority_of game v) (priority_of game w) x y in
       let at : get_or priorities k 0 ≡ opposing_at c v k =
       ap (λ l. get_or l k 0) (sym listed ∙ ap (λ q. opposing c q) (sym s.winner)) in
@@ -141,8 +138,7 @@ module _ (game : ParityGame) (is_game : IsGame game) (player : ℕ) (set : ℕ �
       let remains : Remains game d u w =
       record {
         edge = r.remains.edge;
-        chosen = λ owns. sym (differs.moves u from) ∙ s.own (owns ∙ one)
-            ∙ r.remains.chosen (owns ∙ one);
+        chosen = λ owns. sym (differs.moves u from) ∙ s.own (owns ∙ one) ∙ r.remains.chosen (owns ∙ one);
       } in
       let lists : opposing d (winner_of d u) ≡ priorities = ap (λ q. opposing d q) one ∙ listed in
       subst (λ l. KeepsRule (get_or l k 0) (priority_of game u) (priority_of game w) (get_or (counts_of d u) k 0)
@@ -179,8 +175,8 @@ pub record AreBoth (game : ParityGame) (region : List Bool) (lost : ℕ → Bool
   pub even_ranks : AreRanks game 1 lost second even even_rows
   pub are_entries : AreEntries game region first second odd_rows even_rows (vertex_count game) entries
 
-module _ (game : ParityGame) (region : List Bool) (lost : ℕ → Bool) (first second : ℕ → Option ℕ) (odd even : List ℕ)
-    (odd_rows even_rows : List (List ℕ)) (entries : List EntryData)
+module _ {game : ParityGame} {region : List Bool} {lost : ℕ → Bool} {first second : ℕ → Option ℕ} {odd even : List ℕ}
+    {odd_rows even_rows : List (List ℕ)} {entries : List EntryData}
     (b : AreBoth game region lost first second odd even odd_rows even_rows entries) where
   made : CertificateData
   made = record { odd = odd; even = even; entries = entries }
@@ -222,9 +218,6 @@ module _ (game : ParityGame) (region : List Bool) (lost : ℕ → Bool) (first s
   unfolding opposing made
   opposing_second = refl
 
-  apart : (w p q : ℕ) → winner_of made w ≡ p → winner_of made w ≡ q → p ≢ q → ⊥
-  apart w p q e f differ = differ (sym e ∙ f)
-
   fits : Fits game made
   unfolding One Two made
   fits = record {
@@ -241,10 +234,8 @@ module _ (game : ParityGame) (region : List Bool) (lost : ℕ → Bool) (first s
       winner_below v (inr s) = omega (arith, s.winner)
 
       choice : (v : ℕ) → v < vertex_count game → One v ⊎ Two v → IfSome (choice_of made v) (λ w. w < vertex_count game)
-      choice v within (inl s) =
-          side_choice game b.is_game 0 (has region) first odd odd_rows made b.holds_first b.odd_ranks v within s
-      choice v within (inr s) =
-          side_choice game b.is_game 1 lost second even even_rows made b.holds_second b.even_ranks v within s
+      choice v within (inl s) = side_choice b.is_game b.holds_first b.odd_ranks v within s
+      choice v within (inr s) = side_choice b.is_game b.holds_second b.even_ranks v within s
 
       counts : (v : ℕ) → One v ⊎ Two v → length (counts_of made v) ≡ length (opposing made (winner_of made v))
       counts v (inl s) = s.long ∙ ap (λ l. length l) (sym opposing_first ∙ ap (λ p. opposing made p) (sym s.winner))
@@ -262,33 +253,25 @@ module _ (game : ParityGame) (region : List Bool) (lost : ℕ → Bool) (first s
   }
     where
       move : (v : ℕ) → v < vertex_count game → One v ⊎ Two v → HasRightMove game made v
-      move v within (inl s) =
-          side_move game b.is_game 0 (has region) first odd odd_rows made b.holds_first b.odd_ranks v within s
-      move v within (inr s) =
-          side_move game b.is_game 1 lost second even even_rows made b.holds_second b.even_ranks v within s
+      move v within (inl s) = side_move b.is_game b.holds_first b.odd_ranks v within s
+      move v within (inr s) = side_move b.is_game b.holds_second b.even_ranks v within s
 
       stays : (v w : ℕ) → Remains game made v w → One v ⊎ Two v → winner_of made w ≡ winner_of made v
       stays v w r (inl s) =
-          let t =
-          one_side w (b.is_game.within v w r.edge) (side_stays game b.is_game 0 (has region) first odd odd_rows made
-          b.holds_first b.odd_ranks v w s r) in
+          let t = one_side w (b.is_game.within v w r.edge) (side_stays b.is_game b.holds_first b.odd_ranks v w s r) in
           t.winner ∙ sym s.winner
       stays v w r (inr s) =
-          let t =
-          two_side w (b.is_game.within v w r.edge) (side_stays game b.is_game 1 lost second even even_rows made
-          b.holds_second b.even_ranks v w s r) in
+          let t = two_side w (b.is_game.within v w r.edge) (side_stays b.is_game b.holds_second b.even_ranks v w s r) in
           t.winner ∙ sym s.winner
 
       keeps : (v w k : ℕ) → Remains game made v w → winner_of made w ≡ winner_of made v →
           k < length (opposing made (winner_of made v)) → One v ⊎ Two v → One w ⊎ Two w → KeepsCount game made v w k
       keeps v w k r same within (inl s) (inl t) =
-          side_counts game b.is_game 0 (has region) first odd odd_rows made b.holds_first b.odd_ranks v w k s t
-          opposing_first r
-          (subst (λ l. k < length l) (ap (λ p. opposing made p) s.winner ∙ opposing_first) within)
+          side_counts b.is_game b.holds_first b.odd_ranks v w k s t
+          opposing_first r (subst (λ l. k < length l) (ap (λ p. opposing made p) s.winner ∙ opposing_first) within)
       keeps v w k r same within (inr s) (inr t) =
-          side_counts game b.is_game 1 lost second even even_rows made b.holds_second b.even_ranks v w k s t
-          opposing_second r
-          (subst (λ l. k < length l) (ap (λ p. opposing made p) s.winner ∙ opposing_second) within)
+          side_counts b.is_game b.holds_second b.even_ranks v w k s t
+          opposing_second r (subst (λ l. k < length l) (ap (λ p. opposing made p) s.winner ∙ opposing_second) within)
       keeps v w k r same within (inl s) (inr t) = absurd (omega (arith, same, s.winner, t.winner))
       keeps v w k r same within (inr s) (inl t) = absurd (omega (arith, same, s.winner, t.winner))
 
@@ -303,20 +286,18 @@ module _ (game : ParityGame) (region : List Bool) (lost : ℕ → Bool) (first s
           v < vertex_count game → k < length (counts_of made v) → One v ⊎ Two v →
           get_or (counts_of made v) k 0 ≤ get_or (counts_of d v) k 0
       at_most d d_valid differs v k within inside (inl s) =
-          side_least game b.is_game 0 (has region) first odd odd_rows made b.holds_first b.odd_ranks d d_valid differs
+          side_least b.is_game b.holds_first b.odd_ranks d d_valid differs
           (sym differs.odd) (λ u below. one_side u below) v k s inside
       at_most d d_valid differs v k within inside (inr s) =
-          side_least game b.is_game 1 lost second even even_rows made b.holds_second b.even_ranks d d_valid differs
+          side_least b.is_game b.holds_second b.even_ranks d d_valid differs
           (sym differs.even) (λ u below. two_side u below) v k s inside
 
       without : (v k : ℕ) → k < length (counts_of made v) → opposing_at made v k < priority_of game v → One v ⊎ Two v →
           get_or (counts_of made v) k 0 ≡ 0
       without v k inside below (inl s) =
-          side_without_meaning game b.is_game 0 (has region) first odd odd_rows made b.holds_first b.odd_ranks v k s
-          opposing_first inside below
+          side_without_meaning b.is_game b.holds_first b.odd_ranks v k s opposing_first inside below
       without v k inside below (inr s) =
-          side_without_meaning game b.is_game 1 lost second even even_rows made b.holds_second b.even_ranks v k s
-          opposing_second inside below
+          side_without_meaning b.is_game b.holds_second b.even_ranks v k s opposing_second inside below
 
   certified : Fits game (record { odd = odd; even = even; entries = entries }) ×
       IsValid game (record { odd = odd; even = even; entries = entries })
@@ -325,9 +306,9 @@ module _ (game : ParityGame) (region : List Bool) (lost : ℕ → Bool) (first s
   certified = (fits, valid, least)
 
 -- a player who holds a set of vertices holds each set with the same vertices of the game
-holds_same : (game : ParityGame) (player : ℕ) (set other : ℕ → Bool) (table : ℕ → Option ℕ) →
+holds_same : {game : ParityGame} {player : ℕ} {set other : ℕ → Bool} {table : ℕ → Option ℕ} →
     ((v : ℕ) → v < vertex_count game → set v ≡ other v) → Holds game player set table → Holds game player other table
-holds_same game player set other table same h = record {
+holds_same same h = record {
   keeps = record {
     moves = λ v within inside owns. h.keeps.moves v within (same v within ∙ inside) owns;
     stays = λ path is begins follows k within. sym (same (get_or path k 0) (is.vertices k within))
@@ -338,12 +319,11 @@ holds_same game player set other table same h = record {
       follows loop;
 }
 
-pub lost_held : (game : ParityGame) (region full lost : List Bool) (table : ℕ → Option ℕ) →
+pub lost_held : {game : ParityGame} (region : List Bool) {full : List Bool} (lost : List Bool) {table : ℕ → Option ℕ} →
     full ≡ replicate (vertex_count game) true → ((v : ℕ) → has lost v ≡ (has full v && not (has region v))) →
     Holds game 1 (others region) table → Holds game 1 (has lost) table
-lost_held game region full lost table whole is h =
-    holds_same game 1 (others region) (has lost) table (λ v within.
-    sym (is v ∙ ap (λ x. x && not (has region v)) (ap (λ l. has l v) whole
+lost_held {game} region lost {table} whole is h =
+    holds_same (λ v within. sym (is v ∙ ap (λ x. x && not (has region v)) (ap (λ l. has l v) whole
     ∙ get_or-replicate (vertex_count game) v true false within))) h
 
 pub lost_rest : (game : ParityGame) (region full lost : List Bool) → full ≡ replicate (vertex_count game) true →
@@ -361,8 +341,8 @@ lost_rest game region full lost whole is v within = (λ e. now ∙ ap not e, λ 
     back false e = refl
 
 -- the same where the second region has all vertices that the first one has not
-pub certified_both : (game : ParityGame) (region full lost : List Bool) (first second : ℕ → Option ℕ)
-    (odd even : List ℕ) (odd_rows even_rows : List (List ℕ)) (entries : List EntryData) →
+pub certified_both : {game : ParityGame} {region full : List Bool} (lost : List Bool) {first second : ℕ → Option ℕ}
+    {odd even : List ℕ} {odd_rows even_rows : List (List ℕ)} {entries : List EntryData} →
     IsGame game → full ≡ replicate (vertex_count game) true → ((v : ℕ) →
     has lost v ≡ (has full v && not (has region v))) → Holds game 0 (has region) first →
     Holds game 1 (others region) second →
@@ -371,12 +351,12 @@ pub certified_both : (game : ParityGame) (region full lost : List Bool) (first s
     Fits game (record { odd = odd; even = even; entries = entries }) ×
     IsValid game (record { odd = odd; even = even; entries = entries })
     × HasLeastCounts game (record { odd = odd; even = even; entries = entries })
-certified_both game region full lost first second odd even odd_rows even_rows entries is_game whole is holds_first
-    holds_second odd_ranks even_ranks are_entries =
-    certified game region (has lost) first second odd even odd_rows even_rows entries (record {
+certified_both {game} {region} {full} lost {first} {second} {odd} {even} {odd_rows} {even_rows} {entries} is_game
+    whole is holds_first holds_second odd_ranks even_ranks are_entries =
+    certified (record {
       is_game = is_game;
       holds_first = holds_first;
-      holds_second = lost_held game region full lost second whole is holds_second;
+      holds_second = lost_held region lost whole is holds_second;
       rest = lost_rest game region full lost whole is;
       odd_ranks = odd_ranks;
       even_ranks = even_ranks;

@@ -64,9 +64,6 @@ module _ (n : ℕ) (mine : ℕ → Bool) where
     | inr other ↦ inr (λ over. other (part_itself y over))
   ]
 
-pub not_true : (b : Bool) → b ≡ true → not b ≡ false
-not_true b e = ap not e
-
 pub not_false : (b : Bool) → not b ≡ false → b ≡ true
 not_false true e = refl
 not_false false e = sym e
@@ -81,31 +78,31 @@ module _ (board : Board) where
   pub first_over : (x : ℕ) → IsFirstLetter board x → IsOver board.propositions board.is_first x
   first_over x first = record { within = first.within; own = first.own }
 
-  pub over_first : (x : ℕ) → IsOver board.propositions board.is_first x → IsFirstLetter board x
-  over_first x over = record { within = over.within; own = over.own }
+  pub over_first : {x : ℕ} → IsOver board.propositions board.is_first x → IsFirstLetter board x
+  over_first over = record { within = over.within; own = over.own }
 
   pub second_over : (y : ℕ) → IsSecondLetter board y → IsOver board.propositions (λ p. not (board.is_first p)) y
   second_over y second = record { within = second.within; own = λ p e. second.own p (not_false (board.is_first p) e) }
 
-  pub over_second : (y : ℕ) → IsOver board.propositions (λ p. not (board.is_first p)) y → IsSecondLetter board y
-  over_second y over = record { within = over.within; own = λ p e. over.own p (ap not e) }
+  pub over_second : {y : ℕ} → IsOver board.propositions (λ p. not (board.is_first p)) y → IsSecondLetter board y
+  over_second over = record { within = over.within; own = λ p e. over.own p (ap not e) }
 
   pub first_or_not : (x : ℕ) → IsFirstLetter board x ⊎ (IsFirstLetter board x → ⊥)
   first_or_not x = elim (over_or_not board.propositions board.is_first x) [
-    | inl over ↦ inl (over_first x over)
+    | inl over ↦ inl (over_first over)
     | inr none ↦ inr (λ first. none (first_over x first))
   ]
 
   pub second_or_not : (y : ℕ) → IsSecondLetter board y ⊎ (IsSecondLetter board y → ⊥)
   second_or_not y = elim (over_or_not board.propositions (λ p. not (board.is_first p)) y) [
-    | inl over ↦ inl (over_second y over)
+    | inl over ↦ inl (over_second over)
     | inr none ↦ inr (λ second. none (second_over y second))
   ]
 
   -- ## Steps that are the same
 
-  pub step_or_not : (q one other : ℕ) → SameStep board q one other ⊎ (SameStep board q one other → ⊥)
-  step_or_not q one other = elim (cases_eq (board.auto.next q one) (board.auto.next q other)) [
+  pub step_or_not : {q one other : ℕ} → SameStep board q one other ⊎ (SameStep board q one other → ⊥)
+  step_or_not {q} {one} {other} = elim (cases_eq (board.auto.next q one) (board.auto.next q other)) [
     | inr apart ↦ inr (λ s. apart s.state)
     | inl state ↦ elim (cases_eq (board.auto.priority q one) (board.auto.priority q other)) [
       | inr apart ↦ inr (λ s. apart s.priority)
@@ -116,7 +113,7 @@ module _ (board : Board) where
   pub steps_or_not : (q one other : ℕ) → SameSteps board q one other ⊎ (SameSteps board q one other → ⊥)
   steps_or_not q one other = elim (some_or_none Differ differ_or_not (2 ^ board.propositions) (λ y d. d.0.within)) [
     | inl differ ↦ inr (λ same. differ.1.1 (same differ.0 differ.1.0))
-    | inr none ↦ inl (λ y second. elim (step_or_not q (one + y) (other + y))
+    | inr none ↦ inl (λ y second. elim (step_or_not)
         [ inl same ↦ same | inr apart ↦ absurd (none (y, (second, apart))) ])
   ]
     where
@@ -126,27 +123,25 @@ module _ (board : Board) where
       differ_or_not : (y : ℕ) → Differ y ⊎ (Differ y → ⊥)
       differ_or_not y = elim (second_or_not y) [
         | inr not_second ↦ inr (λ d. not_second d.0)
-        | inl second ↦ elim (step_or_not q (one + y) (other + y))
-            [ inl same ↦ inr (λ d. d.1 same) | inr apart ↦ inl (second, apart) ]
+        | inl second ↦ elim (step_or_not) [ inl same ↦ inr (λ d. d.1 same) | inr apart ↦ inl (second, apart) ]
       ]
 
   pub steps_trans : (q a b c : ℕ) → SameSteps board q a b → SameSteps board q b c → SameSteps board q a c
   steps_trans q a b c one other y second =
       record {
         state = (one y second).state ∙ (other y second).state;
-        priority = (one y second).priority
-            ∙ (other y second).priority;
+        priority = (one y second).priority ∙ (other y second).priority;
       }
 
   pub steps_sym : (q a b : ℕ) → SameSteps board q a b → SameSteps board q b a
   steps_sym q a b same y second = record { state = sym (same y second).state; priority = sym (same y second).priority }
 
   -- the class of a letter of the first player
-  pub class_there : (q x : ℕ) → IsFirstLetter board x → (class : ℕ) × IsClass board q class × SameSteps board q x class
-  class_there q x first =
+  pub class_there : (q : ℕ) {x : ℕ} → IsFirstLetter board x →
+      (class : ℕ) × IsClass board q class × SameSteps board q x class
+  class_there q {x} first =
       let P : ℕ → Type 0 = λ other. IsFirstLetter board other × SameSteps board q other x in
-      let l =
-      least_there board.propositions P (λ y. both_or_not (IsFirstLetter board y) (SameSteps board q y x)
+      let l = least_there board.propositions P (λ y. both_or_not (IsFirstLetter board y) (SameSteps board q y x)
       (first_or_not y) (steps_or_not q y x)) (λ y is. is.0.within) x
       (first, λ y second. record { state = refl; priority = refl }) in
       let class = l.0 in
@@ -160,13 +155,12 @@ module _ (board : Board) where
       )
 
   -- the move behind a class that leads where a letter of the second player leads
-  pub move_there : (q class y : ℕ) → IsSecondLetter board y →
+  pub move_there : {q : ℕ} (class : ℕ) {y : ℕ} → IsSecondLetter board y →
       (move : ℕ) × IsMove board q class move × SameStep board q (class + move) (class + y)
-  move_there q class y second =
+  move_there {q} class {y} second =
       let P : ℕ → Type 0 = λ other. IsSecondLetter board other × SameStep board q (class + other) (class + y) in
-      let l =
-      least_there board.propositions P (λ z. both_or_not (IsSecondLetter board z)
-      (SameStep board q (class + z) (class + y)) (second_or_not z) (step_or_not q (class + z) (class + y)))
+      let l = least_there board.propositions P (λ z. both_or_not (IsSecondLetter board z)
+      (SameStep board q (class + z) (class + y)) (second_or_not z) (step_or_not))
       (λ z is. is.0.within) y (second, record { state = refl; priority = refl }) in
       let here = l.1.here in (
         l.0,
@@ -175,8 +169,7 @@ module _ (board : Board) where
           none_before =
               λ other is before. l.1.none_before other (
                 is.0,
-                record
-                    { state = is.1.state ∙ here.1.state; priority = is.1.priority ∙ here.1.priority },
+                record { state = is.1.state ∙ here.1.state; priority = is.1.priority ∙ here.1.priority },
               ) before;
         },
         here.1,
@@ -192,10 +185,10 @@ priority_in : Key → ℕ
 priority_in (First q p) = p
 priority_in (Second q x) = 0
 
-pub same_states : (q p r o : ℕ) → First q p ≡ First r o → q ≡ r
+pub same_states : {q p r o : ℕ} → First q p ≡ First r o → q ≡ r
 unfolding state_in
-same_states q p r o e = ap state_in e
+same_states e = ap state_in e
 
-pub same_priorities : (q p r o : ℕ) → First q p ≡ First r o → p ≡ o
+pub same_priorities : {q p r o : ℕ} → First q p ≡ First r o → p ≡ o
 unfolding priority_in
-same_priorities q p r o e = ap priority_in e
+same_priorities e = ap priority_in e

@@ -5,5 +5,6 @@ pub mod RowTests
 pub mod MaskLemmas
 pub mod Remembering
 pub mod DrawingLemmas
+pub mod ClassRests
 pub mod FirstDrawing
 pub mod SecondDrawing

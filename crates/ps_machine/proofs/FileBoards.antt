@@ -12,9 +12,9 @@ use Rattle.ps_machine.specs.Keys.{mover_of}
 use Rattle.ps_machine.specs.declared.key.Key.{Key}
 use Rattle.ps_machine.specs.declared.key.Order.{Order}
 
-pub board_is : (order : Order) (file : FileData) (chain : Chain) (a : AutomatonData) → IsBuiltFrom file chain a →
+pub board_is : (order : Order) {file : FileData} {chain : Chain} {a : AutomatonData} → IsBuiltFrom file chain a →
     board_of order a ≡ board_of_file order file (auto_of a)
-board_is order file chain a built =
+board_is order {file} {a} built =
     ap₂ (λ (q n : ℕ). let board : Board = record {
       auto = auto_of a;
       states = q;
@@ -38,6 +38,6 @@ game_of_file order file chain a keys game is_game are_named built = record {
   auto = auto_of a;
   is_auto = built.auto;
   keys = keys;
-  is_game = subst (λ board. IsGameOf board (mover_of order) keys game.game) (board_is order file chain a built) is_game;
-  are_named = subst (λ board. AreNamed board keys game) (board_is order file chain a built) are_named;
+  is_game = subst (λ board. IsGameOf board (mover_of order) keys game.game) (board_is order built) is_game;
+  are_named = subst (λ board. AreNamed board keys game) (board_is order built) are_named;
 }

@@ -1,10 +1,13 @@
 -- Letters in their order: no property of letters goes down forever; and the sum of two letters without a common
 -- proposition is a letter.
 use Rattle.std.proofs.Common.{◌≡◌, ℕ, zero, suc, ◌+◌, ◌/◌, ◌%◌, ◌^◌, ◌<◌, ◌≤◌, ◌⊎◌, inl, inr, Bool, true, false, cond}
-use Rattle.std.proofs.Common.{List, [], ◌∷◌, length, get_or, refl, ap, sym, ◌∙◌, arith, rules, nat_eq}
-use Rattle.std.specs.List.{Contains}
+use Rattle.std.proofs.Common.{List, ap, sym, ◌∙◌, arith, rules, nat_eq}
+use Rattle.std.specs.List.{Contains, list_any}
+use Rattle.std.specs.Cmp.{nat_eq_equiv}
 use Rattle.std.specs.Int.{bit_at}
-use Rattle.std.proofs.lemmas.Bool.{cases_eq, cases_lt}
+use Rattle.std.proofs.lemmas.Bool.{cases_Bool, cases_eq, cases_lt, eqb-true}
+use Rattle.std.proofs.lemmas.Bool.Decides.{nat_tests}
+use Rattle.std.proofs.lemmas.Map.Views.{Contains-from_any, list_any-from_Contains}
 use Rattle.std.proofs.lemmas.Nat.Bits.{bit_at-suc, bit_at_lowest, bit_at-lt}
 use Rattle.std.proofs.Math.Nat.{pow-suc}
 use Rattle.ps_label.specs.Truth.{is_in}
@@ -36,8 +39,8 @@ bit_decides false true n r s e f h = omega (arith, h)
 bit_decides true c n r s e f h = search rules
 bit_decides false false n r s e f h = search rules
 
-bit_alike : (b c : Bool) (n r s : ℕ) → b ≡ c → r < s → cond b (2 ^ n) 0 + r < cond c (2 ^ n) 0 + s
-bit_alike b c n r s e h =
+bit_alike : {b c : Bool} (n r s : ℕ) → b ≡ c → r < s → cond b (2 ^ n) 0 + r < cond c (2 ^ n) 0 + s
+bit_alike {b} {c} n r s e h =
     (let same : cond b (2 ^ n) 0 ≡ cond c (2 ^ n) 0 = ap (λ d. cond d (2 ^ n) 0) e in omega (arith, same, h))
 
 rank_rises : (from n x y first : ℕ) → from ≤ first → first < from + n → is_in first x ≡ false → is_in first y ≡ true →
@@ -47,22 +50,18 @@ rank_rises from zero x y first low high one other same = absurd (omega (arith, l
 rank_rises from (suc n) x y first low high one other same = elim (cases_eq from first) [
   | inl here ↦ bit_decides (is_in from x) (is_in from y) n (rank (from + 1) n x) (rank (from + 1) n y)
       (ap (λ p. is_in p x) here ∙ one) (ap (λ p. is_in p y) here ∙ other) (rank_lt (from + 1) n x)
-  | inr later ↦ bit_alike (is_in from x) (is_in from y) n (rank (from + 1) n x) (rank (from + 1) n y)
-      (same from (omega (arith, low, later)))
+  | inr later ↦ bit_alike n (rank (from + 1) n x) (rank (from + 1) n y) (same from (omega (arith, low, later)))
       (rank_rises (from + 1) n x y first (omega (arith, low, later)) (omega (arith, high)) one other same)
 ]
 
 true_is_within : (n y p : ℕ) → y < 2 ^ n → is_in p y ≡ true → p < n
 true_is_within n y p within is = elim (cases_lt p n) [
   | inl less ↦ less
-  | inr more ↦ absurd (both (is_in p y) is (no_bit n y p within more))
+  | inr more ↦ cc (no_bit n y p within more)
 ]
-  where
-    both : (b : Bool) → b ≡ true → b ≡ false → ⊥
-    both b t f = search rules
 
-pub before_ranks : (n x y : ℕ) → y < 2 ^ n → IsBefore x y → rank 0 n x < rank 0 n y
-before_ranks n x y within before =
+pub before_ranks : (n : ℕ) {x y : ℕ} → y < 2 ^ n → IsBefore x y → rank 0 n x < rank 0 n y
+before_ranks n {x} {y} within before =
     let first_within : before.first < 0 + n = omega (arith, true_is_within n y before.first within before.is_true) in
     rank_rises 0 n x y before.first (omega arith) first_within before.is_false before.is_true before.same
 
@@ -72,7 +71,7 @@ goes_down n P within none zero y here small = absurd (omega (arith, small))
 goes_down n P within none (suc bound) y here small = none y (record {
   here = here;
   none_before = λ x at before.
-      let lower = before_ranks n x y (within y here) before in
+      let lower = before_ranks n (within y here) before in
       goes_down n P within none bound x at (omega (arith, small, lower));
 })
 
@@ -93,8 +92,7 @@ down_to_least n P tell within (suc bound) y here small =
         y,
         record {
           here = here;
-          none_before = λ x at before.
-              none (x, (at, before_ranks n x y (within y here) before));
+          none_before = λ x at before. none (x, (at, before_ranks n (within y here) before));
         },
       )
     ]
@@ -119,13 +117,7 @@ least_there n P tell within y here = down_to_least n P tell within (rank 0 n y +
 -- ## Sums
 
 bits_apart : (a b : ℕ) → a < 2 → b < 2 → (nat_eq a 1 ≡ true → nat_eq b 1 ≡ false) → a + b < 2
-bits_apart zero zero h k apart = omega arith
-bits_apart zero (suc zero) h k apart = omega arith
-bits_apart (suc zero) zero h k apart = omega arith
-bits_apart (suc zero) (suc zero) h k apart = (let wrong : true ≡ false = apart refl in search rules)
-bits_apart (suc (suc a)) b h k apart = absurd (omega (arith, h))
-bits_apart zero (suc (suc b)) h k apart = absurd (omega (arith, k))
-bits_apart (suc zero) (suc (suc b)) h k apart = absurd (omega (arith, k))
+bits_apart a b h k apart = grind (arith, nat_tests)
 
 half_bit : (x p : ℕ) → is_in p (x / 2) ≡ is_in (suc p) x
 half_bit x p = ap (λ n. nat_eq n 1) (sym (bit_at-suc x p))
@@ -139,8 +131,7 @@ by_halves n x y halves bits = omega (arith, twice n, halves, bits)
 pub sum_within : (n x y : ℕ) → x < 2 ^ n → y < 2 ^ n → ((p : ℕ) → is_in p x ≡ true → is_in p y ≡ false) → x + y < 2 ^ n
 sum_within zero x y a b apart = omega (arith, a, b)
 sum_within (suc n) x y a b apart =
-    let halves : x / 2 + y / 2 < 2 ^ n =
-    sum_within n (x / 2) (y / 2) (half_within n x a) (half_within n y b)
+    let halves : x / 2 + y / 2 < 2 ^ n = sum_within n (x / 2) (y / 2) (half_within n x a) (half_within n y b)
     (λ p is. half_bit y p ∙ apart (suc p) (sym (half_bit x p) ∙ is)) in
     let low : bit_at x 0 + bit_at y 0 < 2 =
     bits_apart (bit_at x 0) (bit_at y 0) (bit_at-lt x 0) (bit_at-lt y 0) (apart 0) in
@@ -148,20 +139,9 @@ sum_within (suc n) x y a b apart =
 
 -- ## Lists
 
-not_there : (y : ℕ) (ys : List ℕ) (x : ℕ) → (y ≡ x → ⊥) → (Contains ys x → ⊥) → (k : ℕ) → k < suc (length ys) →
-    get_or (y ∷ ys) k x ≡ x → ⊥
-not_there y ys x other none zero within is = other is
-not_there y ys x other none (suc k) within is = none (k, omega (arith, within), is)
-
-one_more : (y : ℕ) (ys : List ℕ) (x : ℕ) → (y ≡ x → ⊥) → Contains ys x ⊎ (Contains ys x → ⊥) →
-    Contains (y ∷ ys) x ⊎ (Contains (y ∷ ys) x → ⊥)
-one_more y ys x other (inl c) = inl (suc c.0, omega (arith, c.1), c.2)
-one_more y ys x other (inr none) = inr (λ c. not_there y ys x other none c.0 c.1 c.2)
-
 -- a number stands in a list or does not
 pub contained_or_not : (xs : List ℕ) (x : ℕ) → Contains xs x ⊎ (Contains xs x → ⊥)
-contained_or_not [] x = inr (λ c. omega (arith, c.1))
-contained_or_not (y ∷ ys) x = elim (cases_eq y x) [
-  | inl e ↦ inl (0, omega arith, e)
-  | inr other ↦ one_more y ys x other (contained_or_not ys x)
+contained_or_not xs x = elim (cases_Bool (list_any (nat_eq x) xs)) [
+  | inl is ↦ inl (Contains-from_any (λ a b h. eqb-true a b h) x xs is)
+  | inr isnt ↦ inr (λ c. cc (list_any-from_Contains nat_eq_equiv x xs c))
 ]

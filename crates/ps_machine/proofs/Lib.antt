@@ -1,4 +1,5 @@
 mod BoardLetters
+mod BoardMoves
 mod BoardSteps
 mod BuildingEntries
 mod Certified

@@ -7,4 +7,5 @@ pub mod Listing
 pub mod Assembling
 pub mod MachineLemmas
 pub mod Extracted
+pub mod PartsThere
 pub mod MachineThere

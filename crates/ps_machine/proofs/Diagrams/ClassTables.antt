@@ -1,11 +1,12 @@
 -- The classes of states, which are remembered.
-use Rattle.std.proofs.Common.{◌≡◌, ◌≢◌, ◌∙◌, ℕ, ◌<◌, ◌≤◌, Bool, cond, eqb, Option, None, Some}
-use Rattle.std.proofs.Common.{Result, Ok, Err, List, length, get_or, ap, refl, subst, sym, inl, inr}
+use Rattle.std.proofs.Common.{◌≡◌, ◌≢◌, ◌∙◌, ℕ, ◌<◌, ◌≤◌, Bool, cond, eqb, Option, None, Some, Result, Ok, Err, List}
+use Rattle.std.proofs.Common.{length, get_or, ap, refl, subst, sym, inl, inr}
 use Rattle.std.specs.Prelude.{IsSome, IsSomeAnd, OnOk}
 use Rattle.std.specs.List.{All, AllPairs}
 use Rattle.std.proofs.lemmas.Bool.{eqb-true}
 use Rattle.ps_diagram.specs.Classes.{AreClasses}
 use Rattle.ps_diagram.specs.Table.{Table, Keeps}
+use Rattle.ps_diagram.specs.declared.classes.Class.{Class}
 use Rattle.ps_diagram.specs.declared.classes.Classes.{Classes}
 use Rattle.ps_diagram.proofs.Cells.{bool_cases, true_is_not_false}
 use Rattle.ps_diagram.proofs.Classing.{classes_kept}
@@ -14,69 +15,50 @@ use Rattle.ps_machine.specs.Boards.{LeadsTo}
 use Rattle.ps_machine.specs.BuiltBoards.{board_of}
 use Rattle.ps_machine.specs.Dividing.{AreClassesOf, AreDivided}
 use Rattle.ps_machine.specs.Knowing.{AreRemembered, HasAnswered, IsDivided, KnowsMoves}
-use Rattle.ps_machine.specs.Moving.{IsKnown, class_keys}
+use Rattle.ps_machine.specs.Moving.{HasClass, IsFit, IsKnown, Remembers, class_keys}
 use Rattle.ps_machine.specs.Numbering.{StandsAt}
 use Rattle.ps_machine.specs.declared.key.Key.{Key}
 use Rattle.ps_machine.specs.declared.key.Key.TheVariants.{First, Second}
 use Rattle.ps_machine.specs.declared.key.Order.{Order}
-use Rattle.ps_machine.proofs.BoardSteps.{class_different, class_leads, class_some}
+use Rattle.ps_machine.proofs.BoardSteps.{class_different, class_leads, class_some, known_first, still_known}
+use Rattle.ps_machine.proofs.Diagrams.Remembering.{fit_kept}
 
-some_none : {X : Type 0} (x : X) → None ≡ Some x → ⊥
-some_none x e = cc
-
-one_value : (v w : Classes) → Some v ≡ Some w → v ≡ w
-one_value v w e = cc
-
-is_some : (o : Option Classes) (c : Classes) → o ≡ Some c → IsSome o
-is_some o c e = subst (λ (x : Option Classes). IsSome x) (sym e) refl
-
-pub no_classes : (order : Order) (a : AutomatonData) (mask : ℕ) (t : Table) (rests : ℕ × ℕ → Option ℕ)
-    (classes : ℕ → Option Classes) (key : Key) → ((q : ℕ) → classes q ≡ None) → IsKnown order a mask t rests key →
+pub no_classes : {order : Order} {a : AutomatonData} {mask : ℕ} {t : Table} {rests : ℕ × ℕ → Option ℕ}
+    {classes : ℕ → Option Classes} {key : Key} → ((q : ℕ) → classes q ≡ None) → IsKnown order a mask t rests key →
     KnowsMoves order a mask t rests classes key
-no_classes order a mask t rests classes key none is =
-    record { is_known = is; are = λ q c e. absurd (some_none c (sym (none q) ∙ e)) }
-
-pub classes_of_state : (a : AutomatonData) (mask : ℕ) (s u : Table) (q node : ℕ) (c : Classes) → q ≤ a.states →
-    s ≡ a.store → node ≡ node_of a q → AreClasses s u node mask c.places c.list.items → AreClassesOf a mask u q c
-classes_of_state a mask s u q node c state same is are = record {
-  state = state;
-  are = subst (λ (x : Table). AreClasses x u (node_of a q) mask c.places c.list.items) same
-      (subst (λ n. AreClasses s u n mask c.places c.list.items) is are);
-}
+no_classes none is =
+    record { is_known = is; are = λ q c e. cc (none q) }
 
 -- what was known is known as the table grows
-module _ (order : Order) (a : AutomatonData) (mask : ℕ) (t u : Table) (rests now : ℕ × ℕ → Option ℕ)
+module _ {order : Order} {a : AutomatonData} {mask : ℕ} {t u : Table} {rests now : ℕ × ℕ → Option ℕ}
     (keeps : Keeps t u) (before : (k : Key) → IsKnown order a mask t rests k → IsKnown order a mask u now k) where
   remembered_kept : (q : ℕ) (c : Classes) → AreRemembered order a mask t rests q c →
       AreRemembered order a mask u now q c
   remembered_kept q c h = record {
     are = record {
       state = h.are.state;
-      are = classes_kept a.store t u keeps (node_of a q) mask c.places c.list.items
-          h.are.are;
+      are = classes_kept a.store t u keeps (node_of a q) mask c.places c.list.items h.are.are;
     };
     known = λ k d within. before (get_or (class_keys q c.list.items) k d) (h.known k d within);
   }
 
-  module _ (classes : ℕ → Option Classes) (key : Key) (is : KnowsMoves order a mask t rests classes key) where
+  module _ {classes : ℕ → Option Classes} {key : Key} (is : KnowsMoves order a mask t rests classes key) where
     -- with no more classes
-    pub moves_kept : (new : ℕ → Option Classes) → ((r : ℕ) → new r ≡ classes r) → KnowsMoves order a mask u now new key
-    moves_kept new same = record {
+    pub moves_kept : {new : ℕ → Option Classes} → ((r : ℕ) → new r ≡ classes r) → KnowsMoves order a mask u now new key
+    moves_kept same = record {
       is_known = before key is.is_known;
-      are = λ r c e. remembered_kept r c
-          (is.are r c (sym (same r) ∙ e));
+      are = λ r c e. remembered_kept r c (is.are r c (sym (same r) ∙ e));
     }
 
     -- and with those of one more state
-    pub moves_more : (new : ℕ → Option Classes) (q : ℕ) (added : Classes) →
+    pub moves_more : {new : ℕ → Option Classes} {q : ℕ} {added : Classes} →
         ((r : ℕ) → new r ≡ cond (eqb q r) (Some added) (classes r)) → AreRemembered order a mask u now q added →
         KnowsMoves order a mask u now new key
-    moves_more new q added update b = record {
+    moves_more {q} {added} update b = record {
       is_known = before key is.is_known;
       are = λ r c e. elim (bool_cases (eqb q r)) [
         | inl one ↦
-            (let value : added ≡ c = one_value added c
-            (sym (update r ∙ ap (λ (x : Bool). cond x (Some added) (classes r)) one) ∙ e) in
+            (let value : added ≡ c = cc (update r ∙ ap (λ (x : Bool). cond x (Some added) (classes r)) one) in
             subst (λ n. AreRemembered order a mask u now n c) (eqb-true q r one)
             (subst (λ (v : Classes). AreRemembered order a mask u now q v) value b))
         | inr other ↦ remembered_kept r c
@@ -84,45 +66,54 @@ module _ (order : Order) (a : AutomatonData) (mask : ℕ) (t u : Table) (rests n
       ];
     }
 
--- a state that was divided is
-pub divided_more : (classes new : ℕ → Option Classes) (q : ℕ) (added : Classes) →
-    ((r : ℕ) → new r ≡ cond (eqb q r) (Some added) (classes r)) → (r : ℕ) → IsSome (classes r) → IsSome (new r)
-divided_more classes new q added update r h = elim (bool_cases (eqb q r)) [
-  | inl one ↦ is_some (new r) added (update r ∙ ap (λ (x : Bool). cond x (Some added) (classes r)) one)
-  | inr other ↦ subst (λ (x : Option Classes). IsSome x)
-      (sym (update r ∙ ap (λ (x : Bool). cond x (Some added) (classes r)) other)) h
-]
+-- the classes of one more state, made in a table that grew, and their rests, which are remembered
+module _ {order : Order} {a : AutomatonData} {mask : ℕ} {s t u : Table} {rests now : ℕ × ℕ → Option ℕ} {q node : ℕ}
+    (c : Classes) {l : List Class} (keeps : Keeps t u) (fit : IsFit order a mask t) (state : q ≤ a.states)
+    (same : s ≡ a.store) (is : node ≡ node_of a q) (made : AreClasses s u node mask c.places c.list.items)
+    (named : l ≡ c.list.items) (m : Remembers q l rests now) where
+  of_state : AreClassesOf a mask u q c
+  of_state = record {
+    state = state;
+    are = subst (λ (x : Table). AreClasses x u (node_of a q) mask c.places c.list.items) same
+        (subst (λ n. AreClasses s u n mask c.places c.list.items) is made);
+  }
+
+  pub known_before : (key : Key) → IsKnown order a mask t rests key → IsKnown order a mask u now key
+  known_before key known = still_known (fit_kept keeps fit) of_state named keeps m key known
+
+  pub remembered : All (λ (k : Class). HasClass q l now (q, k.letter)) l → AreRemembered order a mask u now q c
+  remembered has = record { are = of_state; known = known_first (fit_kept keeps fit) of_state named has }
 
 -- the keys of a state's classes
-module _ (order : Order) (a : AutomatonData) (mask : ℕ) (t : Table) (rests : ℕ × ℕ → Option ℕ)
-    (classes : ℕ → Option Classes) (q p : ℕ) (is : KnowsMoves order a mask t rests classes (First q p)) (c : Classes)
-    (at : classes q ≡ Some c)
-    (next : List Key) (e : next ≡ class_keys q c.list.items) where
+module _ {order : Order} {a : AutomatonData} {mask : ℕ} {t : Table} {rests : ℕ × ℕ → Option ℕ}
+    {classes : ℕ → Option Classes} {key : Key} {q p : ℕ} (known : KnowsMoves order a mask t rests classes key)
+    (is_first : key ≡ First q p) {c : Classes} (at : classes q ≡ Some c) {l : List Class} (same : l ≡ c.list.items)
+    {next : List Key} (made : next ≡ class_keys q l) where
   of : AreClassesOf a mask t q c
-  of = (is.are q c at).are
+  of = (known.are q c at).are
 
-  pub leads_behind : LeadsTo (board_of order a) (First q p) next
-  leads_behind = subst (LeadsTo (board_of order a) (First q p)) (sym e)
-      (class_leads order a mask t is.is_known.fit q c.places c.list.items of.state of.are p)
+  e : next ≡ class_keys q c.list.items
+  e = made ∙ ap (class_keys q) same
+
+  pub leads_behind : LeadsTo (board_of order a) key next
+  leads_behind = rw (is_first, e) (class_leads known.is_known.fit of p)
 
   pub known_behind : All (KnowsMoves order a mask t rests classes) next
   known_behind = subst (λ (keys : List Key). All (KnowsMoves order a mask t rests classes) keys) (sym e)
-      (λ k d within. record { is_known = (is.are q c at).known k d within; are = is.are })
+      (λ k d within. record { is_known = (known.are q c at).known k d within; are = known.are })
 
   pub some_behind : 0 < length next
-  some_behind = subst (λ (keys : List Key). 0 < length keys) (sym e)
-      (class_some order a mask t is.is_known.fit q c.places c.list.items of.state of.are)
+  some_behind = subst (λ (keys : List Key). 0 < length keys) (sym e) (class_some known.is_known.fit of)
 
   pub different_behind : AllPairs (λ x y. x ≢ y) next
-  different_behind = subst (λ (keys : List Key). AllPairs (λ x y. x ≢ y) keys) (sym e)
-      (class_different order a mask t is.is_known.fit q c.places c.list.items of.state of.are)
+  different_behind = rw e (class_different known.is_known.fit of)
 
 -- ## What was answered
 
-pub answered_by : (order : Order) (a : AutomatonData) (mask : ℕ) (t : Table) (rests : ℕ × ℕ → Option ℕ)
-    (classes : ℕ → Option Classes) (any key : Key) → KnowsMoves order a mask t rests classes any →
+pub answered_by : {order : Order} {a : AutomatonData} {mask : ℕ} {t : Table} {rests : ℕ × ℕ → Option ℕ}
+    {classes : ℕ → Option Classes} {any key : Key} → KnowsMoves order a mask t rests classes any →
     IsDivided classes key → HasAnswered order a mask t classes key
-answered_by order a mask t rests classes any key is divided =
+answered_by is divided =
     record { fit = is.is_known.fit; are = λ q c e. (is.are q c e).are; is_divided = divided }
 
 pub divided_still : (old new : ℕ → Option Classes) → ((q : ℕ) → IsSome (old q) → IsSome (new q)) → (key : Key) →
@@ -139,13 +130,12 @@ some_of None P h all = absurd (true_is_not_false (sym h))
 some_of (Some c) P h all = all c refl
 
 -- the classes of all keys that were answered
-pub all_divided : (order o : Order) (a b : AutomatonData) (mask : ℕ) (t : Table) (classes : ℕ → Option Classes)
-    (keys : List Key) (key : Key) → o ≡ order → b ≡ a → StandsAt keys 0 key →
+pub all_divided : {order o : Order} {a b : AutomatonData} {mask : ℕ} {t : Table} {classes : ℕ → Option Classes}
+    {keys : List Key} (key : Key) → o ≡ order → b ≡ a → StandsAt keys 0 key →
     ((v : ℕ) (k : Key) → StandsAt keys v k → HasAnswered o b mask t classes k) → AreDivided order a keys t classes
-all_divided order o a b mask t classes keys key same is begins all =
+all_divided {order} {b} {mask} {t} {classes} {keys} key same is begins all =
     subst (λ (d : AutomatonData). AreDivided order d keys t classes) is
-    (subst (λ (x : Order). AreDivided x b keys t classes) same
-    (record {
+    (subst (λ (x : Order). AreDivided x b keys t classes) same (record {
       mask = mask;
       fit = (all 0 key begins).fit;
       each = λ v q p at. (let h = all v (First q p) at in some_of (classes q) (AreClassesOf b mask t q) h.is_divided
@@ -158,5 +148,15 @@ pub is_divided : (o : Option Classes) (P : Classes → Type 0) → IsSomeAnd o P
 is_divided None P h = absurd h
 is_divided (Some c) P h = refl
 
-pub classes_at : (o : Option Classes) (P : Classes → Type 0) (c : Classes) → IsSomeAnd o P → o ≡ Some c → P c
-classes_at o P c h e = subst (λ (x : Option Classes). IsSomeAnd x P) e h
+pub classes_at : {o : Option Classes} (P : Classes → Type 0) {c : Classes} → IsSomeAnd o P → o ≡ Some c → P c
+classes_at P h e = subst (λ (x : Option Classes). IsSomeAnd x P) e h
+
+-- the classes that are lent for the state of a vertex
+pub classes_there : {order : Order} {a : AutomatonData} {keys : List Key} {t : Table} {classes : ℕ → Option Classes}
+    (v : ℕ) {q p : ℕ} {c : Classes} → (d : AreDivided order a keys t classes) → StandsAt keys v (First q p) →
+    classes q ≡ Some c → AreClassesOf a d.mask t q c
+classes_there {a} {t} {classes} v {q} {p} {c} d at e = classes_at (AreClassesOf a d.mask t q) (d.each v q p at) e
+
+pub lent : {order : Order} {a : AutomatonData} {keys : List Key} {t : Table} {classes : ℕ → Option Classes}
+    (v : ℕ) {q p : ℕ} → (d : AreDivided order a keys t classes) → StandsAt keys v (First q p) → IsSome (classes q)
+lent {a} {t} {classes} v {q} {p} d at = is_divided (classes q) (AreClassesOf a d.mask t q) (d.each v q p at)

@@ -1,13 +1,11 @@
 -- What the diagrams of both movers rest on: memories of vertices, used vertices, where they lead, and rows.
-use Rattle.std.proofs.Common.{◌≤◌, inl, inr, ◌≡◌, ◌≢◌, ℕ, zero, suc, ◌+◌, ◌-◌, ◌<◌, Bool, true, false, List, [], ◌∷◌}
-use Rattle.std.proofs.Common.{◌++◌, length, get_or, Some, refl, ap, sym, subst, ◌∙◌, arith, rules, eqb}
+use Rattle.std.proofs.Common.{◌≡◌, ◌≢◌, ℕ, zero, suc, ◌+◌, ◌-◌, ◌<◌, Bool, true, false, List, [], ◌∷◌, ◌++◌, length}
+use Rattle.std.proofs.Common.{get_or, map, Some, ap, sym, subst, ◌∙◌, arith, rules, eqb}
 use Rattle.std.specs.Prelude.{slice_get, slice_index, IfSome}
 use Rattle.std.specs.List.{All, AllPairs, AllZip, Contains, list_any, position}
 use Rattle.std.specs.Bool.{if◌then◌else◌}
-use Rattle.std.specs.Option.{unwrap_or}
-use Rattle.std.proofs.lemmas.Bool.{cases_lt, eq-eqb}
-use Rattle.std.proofs.lemmas.List.{get_or_default, get_or_past, length-map, get_or-map, get_or_append_left, get_or_push}
-use Rattle.std.proofs.lemmas.List.{length_push}
+use Rattle.std.proofs.lemmas.Bool.{eq-eqb}
+use Rattle.std.proofs.lemmas.List.{get_or_default, length-map, get_or-map, get_or_append_left, get_or_push, length_push}
 use Rattle.std.proofs.lemmas.List.Elements.{All-push}
 use Rattle.std.proofs.lemmas.List.Folds.{list_any_at}
 use Rattle.std.proofs.lemmas.List.Quantifiers.{position-Some}
@@ -21,9 +19,8 @@ use Rattle.ps_diagram.specs.Letters.{assignment}
 use Rattle.ps_diagram.specs.Tree.{leaf_at}
 use Rattle.ps_diagram.specs.Table.{Table, Keeps, leaf_of}
 use Rattle.ps_diagram.proofs.KnownLemmas.{some_nat}
-use Rattle.ps_automaton.specs.Automata.{AutomatonData, IsWhole, node_of, step_of}
-use Rattle.ps_automaton.specs.declared.step.Step.{Step}
-use Rattle.ps_machine.specs.Boards.{Board, IsClass, IsMove, LeadsTo}
+use Rattle.ps_automaton.specs.Automata.{AutomatonData}
+use Rattle.ps_machine.specs.Boards.{AreListed, Board, IsClass, IsMove, LeadsTo}
 use Rattle.ps_machine.specs.BuiltBoards.{board_of}
 use Rattle.ps_machine.specs.Drawing.{AreMemories, IsPlan, IsDrawn, KeepsRows, mark_of}
 use Rattle.ps_machine.specs.Extracting.{IsUsed, GoesTo, Shares, StandsFor}
@@ -39,14 +36,14 @@ use Rattle.ps_machine.specs.contracts.key.KeyPartialEq.TheImpl as key_eq
 use Rattle.ps_machine.proofs.GameKeys.KeyTests.{key_same}
 use Rattle.ps_machine.proofs.Diagrams.Remembering.{some_and}
 use Rattle.ps_machine.proofs.Lassos.Rounds.{Setting, one_place, within_game, map_contains}
-use Rattle.ps_machine.proofs.GameKeys.Standing.{one_state, same_some, zip_at}
+use Rattle.ps_machine.proofs.GameKeys.Standing.{same_some, zip_at, zip_vertex}
 
 -- ## Memories
 
 -- what stands at the place that a table gives
-pub at_position : {X : Type 0} (test : X → Bool) (xs : List X) (d : X) (i : ℕ) → position test xs ≡ Some i →
+pub at_position : {X : Type 0} (test : X → Bool) (xs : List X) (d : X) {i : ℕ} → position test xs ≡ Some i →
     (x : X) × (slice_get xs i ≡ Some x) × (test x ≡ true)
-at_position test xs d i e =
+at_position test xs d {i} e =
     let there = position-Some test xs i d e in
     (get_or xs i d, slice_get-get_or xs i d there.0, there.1)
 
@@ -57,18 +54,18 @@ has_key keys v key at =
     list_any_at ((key_eq.eq-value).it key) keys v key (slice_get_within keys v key at)
     (subst (λ k. (key_eq.eq-value).it key k ≡ true) (sym (get_or_from_slice_get keys v key key at)) (key_same key))
 
-pub has_mark : (marks : List ℕ) (memory mark : ℕ) → slice_get marks memory ≡ Some mark →
+pub has_mark : (marks : List ℕ) (memory : ℕ) {mark : ℕ} → slice_get marks memory ≡ Some mark →
     list_any (eqb mark) marks ≡ true
-has_mark marks memory mark at =
+has_mark marks memory {mark} at =
     list_any_at (eqb mark) marks memory mark (slice_get_within marks memory mark at)
     (eq-eqb mark (get_or marks memory mark) (sym (get_or_from_slice_get marks memory mark mark at)))
 
 -- a memory with the mark of a vertex stands for it
-pub stands_for : (is_first : Bool) (keys : List Key) (used kept marks : List ℕ) (memory v q p : ℕ) →
+pub stands_for : {is_first : Bool} {keys : List Key} {used kept marks : List ℕ} {memory : ℕ} (v : ℕ) {q : ℕ} (p : ℕ) →
     AllPairs (λ x y. x ≢ y) keys → AreMemories is_first keys used kept marks → StandsAt keys v (First q p) →
-    slice_get marks memory ≡ Some (mark_of is_first v q) → (w : ℕ) → StandsAt keys w (First q p) →
+    slice_get marks memory ≡ Some (mark_of is_first v q) → {w : ℕ} → StandsAt keys w (First q p) →
     StandsFor is_first keys kept memory w q
-stands_for is_first keys used kept marks memory v q p differ m at is w there =
+stands_for {is_first} {keys} {kept} {marks} {memory} v {q} p differ m at is {w} there =
     let within : memory < length kept =
     omega (arith, slice_get_within marks memory (mark_of is_first v q) is, m.many) in
     let here = m.each memory within in
@@ -82,17 +79,16 @@ stands_for is_first keys used kept marks memory v q p differ m at is w there =
     }
   where
     by : (b : Bool) (u r : ℕ) → Some (mark_of b u r) ≡ Some (mark_of b v q) → Shares b u r w q
-    by true u r e = some_nat u v e ∙ one_place keys differ v w (First q p) at there
+    by true u r e = some_nat u v e ∙ one_place keys differ v w at there
     by false u r e = some_nat r q e
 
 -- ## Used vertices
 
 -- a path goes on by any edge, but by the winner's move where the winner moves
-pub used_more : (game : ParityGame) (certificate : CertificateData) (v w : ℕ) → IsUsed game certificate v →
+pub used_more : {game : ParityGame} {certificate : CertificateData} {v : ℕ} {w : ℕ} → IsUsed game certificate v →
     HasEdge game v w → w < vertex_count game → (owner_of game v ≡ winner certificate → choice_of certificate v ≡ Some w)
-    →
-    IsUsed game certificate w
-used_more game certificate v w u edge within chosen =
+    → IsUsed game certificate w
+used_more {game} {certificate} {w} u edge within chosen =
     let long = length_push u.path w in
     let Goes : ℕ → Type 0 = λ x. owner_of game x ≡ winner certificate → choice_of certificate x ≡ Some w in
     record {
@@ -105,31 +101,40 @@ used_more game certificate v w u edge within chosen =
       ends = get_or_push u.path w 0 (length (u.path ++ w ∷ []) - 1) (omega (arith, long));
     }
 
-pub used_won : (game : ParityGame) (certificate : CertificateData) (v : ℕ) → IsClosed game certificate →
+pub used_won : {game : ParityGame} {certificate : CertificateData} {v : ℕ} → IsClosed game certificate →
     IsUsed game certificate v → winner_of certificate v ≡ winner certificate
-used_won game certificate v closed u =
+used_won {game} {certificate} closed u =
     let some = u.is_path.begins in
     subst (λ x. winner_of certificate x ≡ winner certificate) u.ends
     (path_stays game certificate (winner certificate) u.path closed u.is_path u.follows
     (ap (winner_of certificate) u.begins) (length u.path - 1) (omega (arith, some)))
 
-pub setting : (order : Order) (a : AutomatonData) (keys : List Key) (certificate : CertificateData) (is_first : Bool)
-    (kept marks : List ℕ) → (plan : IsPlan order a keys certificate is_first kept marks) →
+pub setting : {order : Order} {a : AutomatonData} {keys : List Key} {certificate : CertificateData} {is_first : Bool}
+    {kept marks : List ℕ} → (plan : IsPlan order a keys certificate is_first kept marks) →
     Setting (board_of order a) (mover_of order) keys plan.game certificate
-setting order a keys certificate is_first kept marks plan =
+setting {order} plan =
     record { is_mover = small_mover order; by_keys = plan.is_game.by_keys; fits = plan.fits; valid = plan.valid }
 
 -- ## Where keys lead
 
-zip_vertex : (keys : List Key) (numbers : List ℕ) (next : List Key) (k : Key) → AllZip (StandsAt keys) numbers next →
-    (i : ℕ) → i < length next → get_or next i k ≡ k → (w : ℕ) × Contains numbers w × StandsAt keys w k
-zip_vertex keys numbers [] k zip i within is = absurd (omega (arith, within))
-zip_vertex keys [] (l ∷ next) k zip i within is = absurd zip
-zip_vertex keys (n ∷ numbers) (l ∷ next) k zip zero within is = (n, (0, omega arith, refl), zip.0 ∙ ap (λ x. Some x) is)
-zip_vertex keys (n ∷ numbers) (l ∷ next) k zip (suc i) within is =
-    let there = zip_vertex keys numbers next k zip.1 i (omega (arith, within)) is in
-    let c = there.1 in
-    (there.0, (suc c.0, omega (arith, c.1), c.2), there.2)
+-- numbers whose keys are those of listed letters
+module _ (keys : List Key) (key : ℕ → Key) (numbers : List ℕ) {P : ℕ → Type 0} {letters : List ℕ} {next : List Key}
+    (listed : AreListed P letters) (are : next ≡ map key letters) (zip : AllZip (StandsAt keys) numbers next) where
+  letter_of_number : {w : ℕ} → Contains numbers w → (x : ℕ) × P x × StandsAt keys w (key x)
+  letter_of_number {w} c =
+      let here = zip_at keys numbers next c.0 w (key 0) zip c.1 in
+      let within : c.0 < length letters =
+      omega (arith, here.0, ap (λ (l : List Key). length l) are, length-map letters key) in
+      let x = get_or letters c.0 0 in
+      let is : get_or next c.0 (key 0) ≡ key x = ap (λ l. get_or l c.0 (key 0)) are
+      ∙ get_or-map key letters c.0 0 (key 0) within in
+      (x, listed.each c.0 0 within, subst (λ u. StandsAt keys u (key x)) c.2 (here.1 ∙ ap (λ k. Some k) is))
+
+  number_of_letter : {x : ℕ} → P x → (w : ℕ) × Contains numbers w × StandsAt keys w (key x)
+  number_of_letter {x} is =
+      let c = listed.complete x is in
+      let m = subst (λ l. Contains l (key x)) (sym are) (map_contains key letters c.0 c.1 c.2) in
+      zip_vertex keys numbers next zip m
 
 -- a successor that stands for a key
 pub record Leads (keys : List Key) (game : ParityGame) (v : ℕ) (k : Key) : Type 0 where
@@ -156,13 +161,16 @@ pub record Chosen (game : ParityGame) (certificate : CertificateData) (v : ℕ) 
   pub edge : HasEdge game v chosen
   pub used : IsUsed game certificate chosen
 
-module _ (board : Board) (mover : ℕ) (keys : List Key) (game : ParityGame) (certificate : CertificateData)
+module _ {board : Board} {mover : ℕ} {keys : List Key} {game : ParityGame} {certificate : CertificateData}
     (s : Setting board mover keys game certificate) where
-  pub move_at : (v : ℕ) (k : Key) → StandsAt keys v k → IsUsed game certificate v →
+  abbrev pair_key : ℕ → ℕ → ℕ → Key
+  pair_key q x y = First (board.auto.next q (x + y)) (board.auto.priority q (x + y))
+
+  pub move_at : {v : ℕ} {k : Key} → StandsAt keys v k → IsUsed game certificate v →
       owner_of game v ≡ winner certificate → Chosen game certificate v
-  move_at v k at used own =
-      let within = within_game board mover keys game certificate s v k at in
-      let won = used_won game certificate v s.valid.closed used in
+  move_at {v} {k} at used own =
+      let within = within_game s v at in
+      let won = used_won s.valid.closed used in
       let there =
       some_and (choice_of certificate v) (HasEdge game v) ((s.valid.closed.moves v within).own (own ∙ sym won)) in
       let next : there.0 < vertex_count game =
@@ -171,94 +179,53 @@ module _ (board : Board) (mover : ℕ) (keys : List Key) (game : ParityGame) (ce
         chosen = there.0;
         choice = there.1;
         edge = there.2;
-        used = used_more game certificate v there.0 used there.2 next (λ o. there.1);
+        used = used_more used there.2 next (λ o. there.1);
       }
 
   -- the keys to which a vertex's key leads
   next_keys : (v : ℕ) (k : Key) → StandsAt keys v k → (next : List Key) × LeadsTo board k next ×
       AllZip (StandsAt keys) (successors_of game v) next
   next_keys v k at =
-      let vertex = s.by_keys.vertices v (within_game board mover keys game certificate s v k at) in (
+      let vertex = s.by_keys.vertices v (within_game s v at) in (
         vertex.next,
-        subst (λ l. LeadsTo board l vertex.next) (same_some vertex.key k (sym vertex.stands ∙ at))
-            vertex.leads_to,
+        subst (λ l. LeadsTo board l vertex.next) (same_some (sym vertex.stands ∙ at)) vertex.leads_to,
         vertex.successors,
       )
 
-  pub class_at : (v w q p : ℕ) → StandsAt keys v (First q p) → HasEdge game v w → ClassAt board keys q w
-  class_at v w q p at edge =
+  pub class_at : (v : ℕ) {w q p : ℕ} → StandsAt keys v (First q p) → HasEdge game v w → ClassAt board keys q w
+  class_at v {q = q} {p} at edge =
       let n = next_keys v (First q p) at in
-      let leads = n.1 in
-      let c = edge.1 in
-      let key : ℕ → Key = λ x. Second q x in
-      let here = zip_at keys (successors_of game v) n.0 c.0 w (key 0) n.2 c.1 in
-      let within : c.0 < length leads.0 =
-      omega (arith, here.0, ap (λ (l : List Key). length l) leads.2, length-map leads.0 key) in
-      let x = get_or leads.0 c.0 0 in
-      let is : get_or n.0 c.0 (key 0) ≡ key x = ap (λ l. get_or l c.0 (key 0)) leads.2
-      ∙ get_or-map key leads.0 c.0 0 (key 0) within in
-      record {
-        letter = x;
-        is_class = leads.1.each c.0 0 within;
-        stands = subst (λ u. StandsAt keys u (key x)) c.2 (here.1 ∙ ap (λ k. Some k) is);
-      }
+      let x = letter_of_number keys (λ x. Second q x) (successors_of game v) n.1.1 n.1.2 n.2 edge.1 in
+      record { letter = x.0; is_class = x.1; stands = x.2 }
 
-  pub move_to : (v w q x : ℕ) → StandsAt keys v (Second q x) → HasEdge game v w → MoveTo board keys q x w
-  move_to v w q x at edge =
+  pub move_to : (v : ℕ) {w q x : ℕ} → StandsAt keys v (Second q x) → HasEdge game v w → MoveTo board keys q x w
+  move_to v {q = q} {x} at edge =
       let n = next_keys v (Second q x) at in
-      let leads = n.1 in
-      let c = edge.1 in
-      let key : ℕ → Key = λ y. First (board.auto.next q (x + y)) (board.auto.priority q (x + y)) in
-      let here = zip_at keys (successors_of game v) n.0 c.0 w (key 0) n.2 c.1 in
-      let within : c.0 < length leads.0 =
-      omega (arith, here.0, ap (λ (l : List Key). length l) leads.2, length-map leads.0 key) in
-      let y = get_or leads.0 c.0 0 in
-      let is : get_or n.0 c.0 (key 0) ≡ key y = ap (λ l. get_or l c.0 (key 0)) leads.2
-      ∙ get_or-map key leads.0 c.0 0 (key 0) within in
-      record {
-        letter = y;
-        is_move = leads.1.each c.0 0 within;
-        goes = record { stands = subst (λ u. StandsAt keys u (key y)) c.2 (here.1 ∙ ap (λ k. Some k) is) };
-      }
+      let y = letter_of_number keys (pair_key q x) (successors_of game v) n.1.1 n.1.2 n.2 edge.1 in
+      record { letter = y.0; is_move = y.1; goes = record { stands = y.2 } }
 
   -- the vertex of a class of the state
-  pub to_class_of : (v q p x : ℕ) → StandsAt keys v (First q p) → IsClass board q x → Leads keys game v (Second q x)
-  to_class_of v q p x at is =
+  pub to_class_of : {v q p x : ℕ} → StandsAt keys v (First q p) → IsClass board q x → Leads keys game v (Second q x)
+  to_class_of {v} {q} {p} at is =
       let n = next_keys v (First q p) at in
-      let leads = n.1 in
-      let c = leads.1.complete x is in
-      let key : ℕ → Key = λ y. Second q y in
-      let m = subst (λ l. Contains l (key x)) (sym leads.2) (map_contains key leads.0 c.0 x c.1 c.2) in
-      let there = zip_vertex keys (successors_of game v) n.0 (key x) n.2 m.0 m.1 m.2 in
-      record {
-        vertex = there.0;
-        edge = (within_game board mover keys game certificate s v (First q p) at, there.1);
-        stands = there.2;
-      }
+      let there = number_of_letter keys (λ y. Second q y) (successors_of game v) n.1.1 n.1.2 n.2 is in
+      record { vertex = there.0; edge = (within_game s v at, there.1); stands = there.2 }
 
   -- the vertex of the pair to which a move leads
-  pub to_pair_of : (v q x y : ℕ) → StandsAt keys v (Second q x) → IsMove board q x y →
-      Leads keys game v (First (board.auto.next q (x + y)) (board.auto.priority q (x + y)))
-  to_pair_of v q x y at is =
+  pub to_pair_of : {v q : ℕ} (x y : ℕ) → StandsAt keys v (Second q x) → IsMove board q x y →
+      Leads keys game v (pair_key q x y)
+  to_pair_of {v} {q} x y at is =
       let n = next_keys v (Second q x) at in
-      let leads = n.1 in
-      let c = leads.1.complete y is in
-      let key : ℕ → Key = λ z. First (board.auto.next q (x + z)) (board.auto.priority q (x + z)) in
-      let m = subst (λ l. Contains l (key y)) (sym leads.2) (map_contains key leads.0 c.0 y c.1 c.2) in
-      let there = zip_vertex keys (successors_of game v) n.0 (key y) n.2 m.0 m.1 m.2 in
-      record {
-        vertex = there.0;
-        edge = (within_game board mover keys game certificate s v (Second q x) at, there.1);
-        stands = there.2;
-      }
+      let there = number_of_letter keys (pair_key q x) (successors_of game v) n.1.1 n.1.2 n.2 is in
+      record { vertex = there.0; edge = (within_game s v at, there.1); stands = there.2 }
 
 -- ## The vertices of memories
 
-pub not_both : (r c q p : ℕ) → Second r c ≡ First q p → ⊥
-not_both r c q p e = search rules
+pub not_both : {r c q p : ℕ} → Second r c ≡ First q p → ⊥
+not_both e = search rules
 
-module _ (order : Order) (a : AutomatonData) (keys : List Key) (certificate : CertificateData) (is_first : Bool)
-    (kept marks : List ℕ) (plan : IsPlan order a keys certificate is_first kept marks) where
+module _ {order : Order} {a : AutomatonData} {keys : List Key} {certificate : CertificateData} {is_first : Bool}
+    {kept marks : List ℕ} (plan : IsPlan order a keys certificate is_first kept marks) where
   -- the vertex of a memory is used, and the first player moves there
   pub record KeptAt (v : ℕ) : Type 0 where
     pub state : ℕ
@@ -266,8 +233,8 @@ module _ (order : Order) (a : AutomatonData) (keys : List Key) (certificate : Ce
     pub stands : StandsAt keys v (First state priority)
     pub used : IsUsed plan.game certificate v
 
-  pub kept_at : (v : ℕ) → Contains kept v → KeptAt v
-  kept_at v c =
+  pub kept_at : {v : ℕ} → Contains kept v → KeptAt v
+  kept_at {v} c =
       let m = plan.memories.each c.0 c.1 in
       let same : slice_index kept c.0 ≡ v = get_or_default kept c.0 0 v c.1 ∙ c.2 in
       record {
@@ -277,79 +244,26 @@ module _ (order : Order) (a : AutomatonData) (keys : List Key) (certificate : Ce
         used = (plan.are_used v).0 (subst (λ w. Contains plan.used w) same m.is_used);
       }
 
-  pub kept_used : (v : ℕ) → Contains kept v → IsUsed plan.game certificate v
-  kept_used v c = (kept_at v c).used
+  pub kept_used : {v : ℕ} → Contains kept v → IsUsed plan.game certificate v
+  kept_used {v} c = (kept_at c).used
 
   pub kept_within : (v : ℕ) → Contains kept v → v < length keys
-  kept_within v c = let k = kept_at v c in slice_get_within keys v (First k.state k.priority) k.stands
+  kept_within v c = let k = kept_at c in slice_get_within keys v (First k.state k.priority) k.stands
 
-  pub kept_stands : (v : ℕ) → Contains kept v → (q p : ℕ) → get_or keys v (First 0 0) ≡ First q p →
+  pub kept_stands : (v : ℕ) → Contains kept v → {q p : ℕ} → get_or keys v (First 0 0) ≡ First q p →
       StandsAt keys v (First q p)
-  kept_stands v c q p is = slice_get-get_or keys v (First 0 0) (kept_within v c) ∙ ap (λ k. Some k) is
+  kept_stands v c is = slice_get-get_or keys v (First 0 0) (kept_within v c) ∙ ap (λ k. Some k) is
 
-  pub kept_not_second : (v : ℕ) → Contains kept v → (q x : ℕ) → get_or keys v (First 0 0) ≡ Second q x → ⊥
-  kept_not_second v c q x is =
-      let k = kept_at v c in
-      not_both q x k.state k.priority (sym is ∙ get_or_from_slice_get keys v (First k.state k.priority)
-      (First 0 0) k.stands)
+  pub kept_not_second : (v : ℕ) → Contains kept v → {q x : ℕ} → get_or keys v (First 0 0) ≡ Second q x → ⊥
+  kept_not_second v c is =
+      let k = kept_at c in
+      not_both (sym is ∙ get_or_from_slice_get keys v (First k.state k.priority) (First 0 0) k.stands)
 
   pub kept_entry : (v : ℕ) → Contains kept v → v < length certificate.entries
   kept_entry v c =
-      let k = kept_at v c in
-      let small =
-      within_game (board_of order a) (mover_of order) keys plan.game certificate
-      (setting order a keys certificate is_first kept marks plan) v (First k.state k.priority) k.stands in
+      let k = kept_at c in
+      let small = within_game (setting plan) v k.stands in
       omega (arith, small, plan.fits.entry_each)
-
-  small_next : IsWhole a → (q letter : ℕ) → (step_of a q letter).state ≤ a.states
-  small_next w q letter =
-      elim (cases_lt (unwrap_or (leaf_of a.store (node_of a q) letter) (length a.steps)) (length a.steps)) [
-        | inl less ↦ w.targets (unwrap_or (leaf_of a.store (node_of a q) letter) (length a.steps)) less
-        | inr more ↦ (
-            let sink : Step = record { state = a.states; priority = 1 } in
-            let past : step_of a q letter ≡ sink =
-            get_or_past a.steps (unwrap_or (leaf_of a.store (node_of a q) letter) (length a.steps)) sink more in
-            omega (arith, ap (λ (s : Step). s.state) past))
-      ]
-
-  -- the states of used vertices are the automaton's
-  pub used_state : IsWhole a → (v q p : ℕ) → IsUsed plan.game certificate v → StandsAt keys v (First q p) → q ≤ a.states
-  used_state w v q p u at = elim (cases_lt 1 (length u.path)) [
-    | inl more ↦ (
-        let i = length u.path - 2 in
-        let long : i + 1 < length u.path = omega (arith, more) in
-        let to_last : length u.path - 1 ≡ i + 1 = omega (arith, more) in
-        let last : slice_index u.path (i + 1) ≡ v = ap (slice_index u.path) (sym to_last) ∙ u.ends in
-        behind (slice_index u.path i) (subst (λ x. HasEdge plan.game (slice_index u.path i) x) last
-        (u.is_path.edges i long)))
-    | inr one ↦ (
-        let some = u.is_path.begins in
-        let only : length u.path - 1 ≡ 0 = omega (arith, one, some) in
-        let zero_is : 0 ≡ v = sym u.begins ∙ ap (slice_index u.path) (sym only) ∙ u.ends in
-        let start : a.start ≡ q =
-        one_state keys v a.start 0 q p (subst (λ n. StandsAt keys n (First a.start 0)) zero_is s.by_keys.begins) at
-        in
-        let below = w.start in
-        omega (arith, start, below))
-  ]
-    where
-      s : Setting (board_of order a) (mover_of order) keys plan.game certificate
-      s = setting order a keys certificate is_first kept marks plan
-
-      behind_key : (x : ℕ) (k : Key) → StandsAt keys x k → HasEdge plan.game x v → q ≤ a.states
-      behind_key x (First r o) there edge =
-          let c = class_at (board_of order a) (mover_of order) keys plan.game certificate s x v r o there edge in
-          absurd (not_both r c.letter q p (same_some (Second r c.letter) (First q p) (sym c.stands ∙ at)))
-      behind_key x (Second r c) there edge =
-          let m = move_to (board_of order a) (mover_of order) keys plan.game certificate s x v r c there edge in
-          let same = one_state keys v _ _ q p m.goes.stands at in
-          let small = small_next w r (c + m.letter) in
-          omega (arith, same, small)
-
-      behind : (x : ℕ) → HasEdge plan.game x v → q ≤ a.states
-      behind x edge =
-          let vertex = s.by_keys.vertices x edge.0 in
-          behind_key x vertex.key vertex.stands edge
 
 -- ## Rows
 
@@ -364,31 +278,30 @@ by_case P true old more h g = h
 by_case P false old more h g = g
 
 -- a row that is added, if it is not there, leaves the others at their places
-pub keeps_rows : (eq : Row → Row → Bool) (old : List Row) (row : Row) (new : List Row) → new ≡ insert_key eq old row →
+pub keeps_rows : (eq : Row → Row → Bool) {old : List Row} (row : Row) {new : List Row} → new ≡ insert_key eq old row →
     KeepsRows old new
-keeps_rows eq old row new e =
+keeps_rows eq {old} row e =
     subst (λ rows. KeepsRows old rows) (sym e)
     (by_case (λ rows. KeepsRows old rows) (list_any (eq row) old) old (old ++ row ∷ [])
     (record { same = λ leaf r is. is }) (record { same = λ leaf r is. slice_get-left old (row ∷ []) leaf r is }))
 
-pub all_rows : (P : Row → Type 0) (eq : Row → Row → Bool) (old : List Row) (row : Row) (new : List Row) →
+pub all_rows : (P : Row → Type 0) (eq : Row → Row → Bool) (old : List Row) (row : Row) {new : List Row} →
     new ≡ insert_key eq old row → All P old → P row → All P new
-all_rows P eq old row new e all here =
-    subst (λ rows. All P rows) (sym e) (by_case (λ rows. All P rows) (list_any (eq row) old) old (old ++ row ∷ []) all
-    (All-push P old row all here))
+all_rows P eq old row e all here =
+    rw e (by_case (λ rows. All P rows) (list_any (eq row) old) old (old ++ row ∷ []) all (All-push P old row all here))
 
-pub keeps_rows_same : (rows : List Row) → KeepsRows rows rows
-keeps_rows_same rows = record { same = λ leaf r is. is }
+pub keeps_rows_same : {rows : List Row} → KeepsRows rows rows
+keeps_rows_same = record { same = λ leaf r is. is }
 
-pub keeps_rows_trans : (one two three : List Row) → KeepsRows one two → KeepsRows two three → KeepsRows one three
-keeps_rows_trans one two three k l = record { same = λ leaf r is. l.same leaf r (k.same leaf r is) }
+pub keeps_rows_trans : {one two three : List Row} → KeepsRows one two → KeepsRows two three → KeepsRows one three
+keeps_rows_trans k l = record { same = λ leaf r is. l.same leaf r (k.same leaf r is) }
 
 -- a diagram that was drawn stays so while others are made
-pub drawn_kept : (is_first : Bool) (board : Board) (keys : List Key) (kept : List ℕ) (certificate : CertificateData)
-    (t u : Table) (old new : List Row) (v node : ℕ) → Keeps t u → KeepsRows old new →
+pub drawn_kept : {is_first : Bool} {board : Board} {keys : List Key} {kept : List ℕ} {certificate : CertificateData}
+    {t u : Table} {old new : List Row} {v node : ℕ} → Keeps t u → KeepsRows old new →
     IsDrawn is_first board keys kept certificate t old v node →
     IsDrawn is_first board keys kept certificate u new v node
-drawn_kept is_first board keys kept certificate t u old new v node k rows d =
+drawn_kept {t} {u} {node} k rows d =
     let same : (x : ℕ) → leaf_of u node x ≡ leaf_of t node x = λ x. leaf_kept x in
     record {
       held = k.held node d.held;

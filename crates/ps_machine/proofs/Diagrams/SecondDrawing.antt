@@ -1,6 +1,6 @@
 -- The diagrams of a machine whose player moves second.
-use Rattle.std.proofs.Common.{◌≡◌, ◌≢◌, ℕ, ◌+◌, ◌<◌, ◌≤◌, Bool, true, false, List, [], ◌∷◌, ◌++◌, length, get_or, take}
-use Rattle.std.proofs.Common.{Option, Some, None, ap, ap₂, sym, subst, ◌∙◌, rules, arith, ◌==◌}
+use Rattle.std.proofs.Common.{◌≡◌, ◌≢◌, ℕ, ◌+◌, ◌<◌, Bool, true, false, List, [], ◌∷◌, ◌++◌, length, get_or, take}
+use Rattle.std.proofs.Common.{Option, Some, None, ap, ap₂, sym, subst, ◌∙◌, arith, ◌==◌}
 use Rattle.std.specs.Prelude.{Any, IfSome, IsSomeAnd, MatchOption, slice_get, slice_index, option_map}
 use Rattle.std.specs.List.{All, AllZip, position}
 use Rattle.std.specs.Option.{unwrap_or}
@@ -16,7 +16,7 @@ use Rattle.ps_certificate.specs.Certificates.{CertificateData, choice_of}
 use Rattle.ps_certificate.proofs.Edges.{some_of}
 use Rattle.ps_diagram.specs.Letters.{AgreeOn}
 use Rattle.ps_diagram.specs.Reached.{AreLeaves}
-use Rattle.ps_diagram.specs.Classes.{AreClasses}
+use Rattle.ps_diagram.specs.declared.classes.Classes.{Classes}
 use Rattle.ps_diagram.specs.Table.{Table, IsNode, leaf_of}
 use Rattle.ps_diagram.specs.declared.classes.Class.{Class}
 use Rattle.ps_diagram.proofs.KnownLemmas.{some_nat}
@@ -24,6 +24,7 @@ use Rattle.ps_automaton.specs.Automata.{AutomatonData, node_of, pair_of, step_of
 use Rattle.ps_automaton.specs.declared.step.Step.{Step}
 use Rattle.ps_machine.specs.Boards.{Board, IsFirstLetter, IsSecondLetter, SameSteps, IsClass, IsMove}
 use Rattle.ps_machine.specs.BuiltBoards.{board_of}
+use Rattle.ps_machine.specs.Dividing.{AreClassesOf}
 use Rattle.ps_machine.specs.Drawing.{CanEnter, IsReplyRow, IsDrawn, IsReply, IsRow, IsRowAt, KeepsRows, LeadsToRow}
 use Rattle.ps_machine.specs.Drawing.{NamesAnswer}
 use Rattle.ps_machine.specs.Extracting.{IsUsed, GoesTo, StandsFor}
@@ -39,7 +40,8 @@ use Rattle.ps_machine.specs.contracts.key.KeyPartialEq.TheImpl as key_eq
 use Rattle.ps_machine.specs.contracts.machine.RowPartialEq.TheImpl as row_eq
 use Rattle.ps_machine.proofs.BoardLetters.{mask_below}
 use Rattle.ps_machine.proofs.BoardSteps.{below_back, same_pair, same_itself, same_steps, class_first, class_is}
-use Rattle.ps_machine.proofs.BoardSteps.{class_of, no_class, move_is, move_leaf, move_of, step_of_key}
+use Rattle.ps_machine.proofs.BoardSteps.{class_of, no_class, step_of_key}
+use Rattle.ps_machine.proofs.BoardMoves.{move_is, move_leaf, move_of}
 use Rattle.ps_machine.proofs.Diagrams.DrawingLemmas.{at_position, keeps_rows, setting, used_more, move_at, move_to}
 use Rattle.ps_machine.proofs.Diagrams.DrawingLemmas.{to_class_of}
 use Rattle.ps_machine.proofs.GameKeys.KeyTests.{same_key}
@@ -50,23 +52,20 @@ use Rattle.ps_machine.proofs.GameKeys.Standing.{same_some}
 -- ## The winner's move behind a class
 
 not_same : (x y : ℕ) → (x == y) ≡ false → x ≢ y
-not_same x y e same = absurd (both (x == y) (eq-eqb x y same) e)
-  where
-    both : (b : Bool) → b ≡ true → b ≡ false → ⊥
-    both b t f = search rules
+not_same x y e same = cc (eq-eqb x y same)
 
 -- the number that the table of keys gives
-pub found_at : (keys : List Key) (key : Key) (i : ℕ) → position ((key_eq.eq-value).it key) keys ≡ Some i →
+pub found_at : (keys : List Key) (key : Key) {i : ℕ} → position ((key_eq.eq-value).it key) keys ≡ Some i →
     StandsAt keys i key
-found_at keys key i e =
-    let there = at_position ((key_eq.eq-value).it key) keys key i e in
+found_at keys key {i} e =
+    let there = at_position ((key_eq.eq-value).it key) keys key e in
     there.1 ∙ ap (λ k. Some k) (sym (same_key key there.0 there.2))
+
+abbrev pair : AutomatonData → ℕ → ℕ → Key
+pair a q l = step_key (step_of a q l)
 
 module _ (order : Order) (a : AutomatonData) (keys : List Key) (certificate : CertificateData) (is_first : Bool)
     (kept marks : List ℕ) where
-  abbrev pair : ℕ → ℕ → Key
-  pair q l = step_key (step_of a q l)
-
   -- where the winner moves behind the letter x of the state q, and a letter that leads there
   pub record Replies (q x : ℕ) : Type 0 where
     pub at : ℕ
@@ -80,27 +79,26 @@ module _ (order : Order) (a : AutomatonData) (keys : List Key) (certificate : Ce
         (step_of a q (x + letter)).priority
     pub apart : (v w : ℕ) (k : Key) → StandsAt keys v k → StandsAt keys w k → v ≡ w
 
-  pub replies : (q p x : ℕ) → is_first ≡ false → CanEnter order a keys certificate is_first kept marks q p →
-      IsClass (board_of order a) q x → Replies q x
-  replies q p x turn e is =
+module _ {order : Order} {a : AutomatonData} {keys : List Key} {certificate : CertificateData} {is_first : Bool}
+    {kept marks : List ℕ} where
+  pub replies : {q p x : ℕ} → is_first ≡ false → CanEnter order a keys certificate is_first kept marks q p →
+      IsClass (board_of order a) q x → Replies order a keys certificate is_first kept marks q x
+  replies {q} {x} turn e is =
       let plan = e.plan in
       let game = plan.game in
       let board = board_of order a in
       let mover = mover_of order in
-      let s = setting order a keys certificate is_first kept marks plan in
+      let s = setting plan in
       let loses : mover ≢ winner certificate = not_same mover (winner certificate) (sym plan.turn ∙ turn) in
-      let small : winner certificate < 2 =
-      plan.fits.winners 0 (within_game board mover keys game certificate s 0 (First a.start 0) s.by_keys.begins) in
-      let to = to_class_of board mover keys game certificate s e.vertex q p x e.stands is in
-      let behind : to.vertex < vertex_count game =
-      within_game board mover keys game certificate s to.vertex (Second q x) to.stands in
-      let used : IsUsed game certificate to.vertex =
-      used_more game certificate e.vertex to.vertex e.is_used to.edge behind
-      (λ own. absurd (loses (sym (first_owner board mover keys game certificate s e.vertex q p e.stands) ∙ own))) in
-      let owner = second_owner board mover keys game certificate s to.vertex q x to.stands in
+      let small : winner certificate < 2 = plan.fits.winners 0 (within_game s 0 s.by_keys.begins) in
+      let to = to_class_of s e.stands is in
+      let behind : to.vertex < vertex_count game = within_game s to.vertex to.stands in
+      let used : IsUsed game certificate to.vertex = used_more e.is_used to.edge behind
+      (λ own. absurd (loses (sym (first_owner s e.vertex e.stands) ∙ own))) in
+      let owner = second_owner s to.vertex to.stands in
       let own : owner_of game to.vertex ≡ winner certificate = omega (arith, owner, loses, small, s.is_mover) in
-      let m = move_at board mover keys game certificate s to.vertex (Second q x) to.stands used own in
-      let t = move_to board mover keys game certificate s to.vertex m.chosen q x to.stands m.edge in
+      let m = move_at s to.stands used own in
+      let t = move_to s to.vertex to.stands m.edge in
       record {
         at = to.vertex;
         stands = to.stands;
@@ -110,24 +108,24 @@ module _ (order : Order) (a : AutomatonData) (keys : List Key) (certificate : Ce
         second = t.is_move.here.0;
         goes = t.goes;
         enters = record { plan = plan; vertex = m.chosen; stands = t.goes.stands; is_used = m.used };
-        apart = λ v w k. same_place board mover keys game certificate s v w k;
+        apart = λ v w k. same_place s v w;
       }
 
-  module _ (q x : ℕ) (r : Replies q x) where
+  module _ {q x : ℕ} (r : Replies order a keys certificate is_first kept marks q x) where
     pub reply_choice : (at : ℕ) → StandsAt keys at (Second q x) → choice_of certificate at ≡ Some r.chosen
     reply_choice at there = ap (choice_of certificate) (r.apart at r.at (Second q x) there r.stands) ∙ r.choice
 
     -- what the table of keys has where the winner moves to
-    pub reply_key : (at chosen : ℕ) (slice : List Key) (k d : Key) → StandsAt keys at (Second q x) →
-        choice_of certificate at ≡ Some chosen → slice ≡ keys → get_or slice chosen d ≡ k → k ≡ pair q (x + r.letter)
-    reply_key at chosen slice k d there choice e is =
+    pub reply_key : (at : ℕ) {chosen : ℕ} {slice : List Key} {k : Key} (d : Key) → StandsAt keys at (Second q x) →
+        choice_of certificate at ≡ Some chosen → slice ≡ keys → get_or slice chosen d ≡ k → k ≡ pair a q (x + r.letter)
+    reply_key at {chosen} d there choice e is =
         let same : chosen ≡ r.chosen = some_nat chosen r.chosen (sym choice ∙ reply_choice at there) in
         sym is ∙ ap (λ (l : List Key). get_or l chosen d) e ∙ ap (λ n. get_or keys n d) same
-        ∙ get_or_from_slice_get keys r.chosen (pair q (x + r.letter)) d r.goes.stands
+        ∙ get_or_from_slice_get keys r.chosen (pair a q (x + r.letter)) d r.goes.stands
 
-    module _ (step : Step) (e : step_key step ≡ pair q (x + r.letter)) where
+    module _ (step : Step) (e : step_key step ≡ pair a q (x + r.letter)) where
       same_step : step ≡ step_of a q (x + r.letter)
-      same_step = step_of_key step (step_of a q (x + r.letter)) e
+      same_step = step_of_key e
 
       pub reply_is : IsReply (board_of order a) keys certificate q x step.state step.priority
       reply_is = record {
@@ -143,101 +141,90 @@ module _ (order : Order) (a : AutomatonData) (keys : List Key) (certificate : Ce
       }
 
       pub reply_enters : CanEnter order a keys certificate is_first kept marks step.state step.priority
-      reply_enters =
-          subst (λ (s : Step). CanEnter order a keys certificate is_first kept marks s.state s.priority)
-          (sym same_step) r.enters
+      reply_enters = rw same_step r.enters
 
 -- ## The letter that is played
 
-module _ (order : Order) (a : AutomatonData) (mask : ℕ) (t : Table) (keys : List Key) (kept : List ℕ)
-    (certificate : CertificateData) (q x : ℕ) where
-  module _ (step : Step) (reply : IsReply (board_of order a) keys certificate q x step.state step.priority) where
-    pub leaf_there : (rest : ℕ) (found : List (ℕ × ℕ)) → IsFit order a mask t → IsRest order a mask t q x rest →
-        AreLeaves t rest found → Any (λ leaf. pair_of a leaf.0 ≡ step) found
-    leaf_there rest found f r are =
-        let m = move_of order a mask t q x rest found f r are reply.letter reply.second in
-        let leaf = sym m.is ∙ r.leaves reply.letter reply.second in
-        let is : pair_of a (get_or found m.place (0, 0)).0 ≡ step_of a q (x + reply.letter) =
-        ap (λ o. pair_of a (unwrap_or o (length a.steps))) leaf in (
-          m.place,
-          get_or found m.place (0, 0),
-          m.within,
-          get_or_default found m.place (get_or found m.place (0, 0))
-              (0, 0) m.within,
-          is ∙ same_pair (step_of a q (x + reply.letter)) step reply.state reply.priority,
-        )
+module _ {order : Order} {a : AutomatonData} {mask : ℕ} {t : Table} {keys : List Key} {certificate : CertificateData}
+    {q x rest : ℕ} {found : List (ℕ × ℕ)} {step : Step}
+    (reply : IsReply (board_of order a) keys certificate q x step.state step.priority) (f : IsFit order a mask t)
+    (r : IsRest order a mask t q x rest) (are : AreLeaves t rest found) where
+  pub leaf_there : Any (λ leaf. pair_of a leaf.0 ≡ step) found
+  leaf_there =
+      let m = move_of f r are reply.second in
+      let leaf = sym m.is ∙ r.leaves reply.letter reply.second in
+      let is : pair_of a (get_or found m.place (0, 0)).0 ≡ step_of a q (x + reply.letter) =
+      ap (λ o. pair_of a (unwrap_or o (length a.steps))) leaf in (
+        m.place,
+        get_or found m.place (0, 0),
+        m.within,
+        get_or_default found m.place (get_or found m.place (0, 0)) (0, 0) m.within,
+        is ∙ same_pair reply.state reply.priority,
+      )
 
-    -- the move that leads to the step is the least letter that does
-    answer_by : (letter memory : ℕ) → IsClass (board_of order a) q x → IsMove (board_of order a) q x letter →
-        step_of a q (x + letter) ≡ step →
-        ((v : ℕ) → StandsAt keys v (First step.state step.priority) → StandsFor false keys kept memory v step.state) →
-        IsReplyRow (board_of order a) keys kept certificate q x (record { memory = memory; letter = letter })
-    answer_by letter memory class move is stands v =
-        let goes : GoesTo keys (board_of order a) q (x + letter) reply.chosen =
-        record {
-          stands = subst (λ (s : Step). StandsAt keys reply.chosen (First s.state s.priority)) (sym is)
-              reply.entered;
-        } in
-        record {
-          played = record {
-            class = x;
-            is_class = class;
-            same = same_itself order a mask q x;
-            at = reply.at;
-            stands = reply.stands;
-            chosen = reply.chosen;
-            choice = reply.choice;
-            least = record {
-              here = (move.here.0, goes);
-              none_before = λ z other before.
-                  (let same = step_of_key (step_of a q (x + z)) (step_of a q (x + letter))
-                  (same_some _ _ (sym other.1.stands ∙ goes.stands)) in
-                  move.none_before z (
-                    other.0,
-                    record {
-                      state = ap (λ (s : Step). s.state) same;
-                      priority = ap (λ (s : Step). s.priority) same;
-                    },
-                  ) before);
-            };
+  -- the move that leads to the step is the least letter that does
+  answer_by : {kept : List ℕ} (letter memory : ℕ) → IsClass (board_of order a) q x →
+      IsMove (board_of order a) q x letter → step_of a q (x + letter) ≡ step →
+      ((v : ℕ) → StandsAt keys v (First step.state step.priority) → StandsFor false keys kept memory v step.state) →
+      IsReplyRow (board_of order a) keys kept certificate q x (record { memory = memory; letter = letter })
+  answer_by {kept} letter memory class move is stands v =
+      let goes : GoesTo keys (board_of order a) q (x + letter) reply.chosen =
+      record {
+        stands = subst (λ (s : Step). StandsAt keys reply.chosen (First s.state s.priority)) (sym is) reply.entered;
+      } in
+      record {
+        played = record {
+          class = x;
+          is_class = class;
+          same = same_itself order a q x;
+          at = reply.at;
+          stands = reply.stands;
+          chosen = reply.chosen;
+          choice = reply.choice;
+          least = record {
+            here = (move.here.0, goes);
+            none_before = λ z other before.
+                (let same = step_of_key (same_some (sym other.1.stands ∙ goes.stands)) in
+                move.none_before z (
+                  other.0,
+                  record {
+                    state = ap (λ (s : Step). s.state) same;
+                    priority = ap (λ (s : Step). s.priority) same;
+                  },
+                ) before);
           };
-          entered = reply.chosen;
-          goes = goes;
-          next =
-              subst (λ (s : Step). StandsFor false keys kept memory reply.chosen s.state) (sym is)
-              (stands reply.chosen reply.entered);
-        }
+        };
+        entered = reply.chosen;
+        goes = goes;
+        next =
+            subst (λ (s : Step). StandsFor false keys kept memory reply.chosen s.state) (sym is)
+            (stands reply.chosen reply.entered);
+      }
 
-    pub answered : (rest : ℕ) (found : List (ℕ × ℕ)) (letter memory : ℕ) → IsFit order a mask t →
-        IsRest order a mask t q x rest → AreLeaves t rest found → IsClass (board_of order a) q x →
-        Any (λ leaf. (pair_of a leaf.0 ≡ step) × (leaf.1 ≡ letter)) found →
-        ((v : ℕ) → StandsAt keys v (First step.state step.priority) → StandsFor false keys kept memory v step.state)
-        →
-        IsReplyRow (board_of order a) keys kept certificate q x (record { memory = memory; letter = letter })
-    answered rest found letter memory f r are class any stands =
-        let k = any.0 in
-        let leaf = any.1 in
-        let within = any.2 in
-        let here : get_or found k (0, 0) ≡ leaf = get_or_default found k (0, 0) leaf within ∙ any.3 in
-        let played : (get_or found k (0, 0)).1 ≡ letter = ap (λ (l : ℕ × ℕ). l.1) here ∙ any.4.1 in
-        let named : pair_of a (get_or found k (0, 0)).0 ≡ step = ap (λ (l : ℕ × ℕ). pair_of a l.0) here ∙ any.4.0 in
-        let move =
-        subst (λ y. IsMove (board_of order a) q x y) played (move_is order a mask t q x rest found f r are k within)
-        in
-        let leads = ap (λ y. leaf_of a.store (node_of a q) (x + y)) (sym played)
-        ∙ move_leaf order a mask t q x rest found f r are k within in
-        answer_by letter memory class move (ap (λ o. pair_of a (unwrap_or o (length a.steps))) leads ∙ named) stands
+  pub answered : {kept : List ℕ} (letter memory : ℕ) → IsClass (board_of order a) q x →
+      Any (λ leaf. (pair_of a leaf.0 ≡ step) × (leaf.1 ≡ letter)) found →
+      ((v : ℕ) → StandsAt keys v (First step.state step.priority) → StandsFor false keys kept memory v step.state) →
+      IsReplyRow (board_of order a) keys kept certificate q x (record { memory = memory; letter = letter })
+  answered letter memory class any stands =
+      let k = any.0 in
+      let leaf = any.1 in
+      let within = any.2 in
+      let here : get_or found k (0, 0) ≡ leaf = get_or_default found k (0, 0) leaf within ∙ any.3 in
+      let played : (get_or found k (0, 0)).1 ≡ letter = ap (λ (l : ℕ × ℕ). l.1) here ∙ any.4.1 in
+      let named : pair_of a (get_or found k (0, 0)).0 ≡ step = ap (λ (l : ℕ × ℕ). pair_of a l.0) here ∙ any.4.0 in
+      let move = subst (λ y. IsMove (board_of order a) q x y) played (move_is f r are k within) in
+      let leads = ap (λ y. leaf_of a.store (node_of a q) (x + y)) (sym played) ∙ move_leaf f r are k within in
+      answer_by letter memory class move (ap (λ o. pair_of a (unwrap_or o (length a.steps))) leads ∙ named) stands
 
 -- ## Rows
 
-pub answer_row : (is_first : Bool) (board : Board) (keys : List Key) (kept : List ℕ) (certificate : CertificateData)
-    (q x : ℕ) (row : Row) → is_first ≡ false → IsReplyRow board keys kept certificate q x row →
+pub answer_row : {is_first : Bool} {board : Board} {keys : List Key} {kept : List ℕ} {certificate : CertificateData}
+    {q x : ℕ} {row : Row} → is_first ≡ false → IsReplyRow board keys kept certificate q x row →
     IsRow is_first board kept row
-answer_row is_first board keys kept certificate q x row turn answer =
+answer_row {board} {kept} {row} turn answer =
     let at = answer 0 in
     subst (λ b. IsRow b board kept row) (sym turn) (record {
-      memory = slice_get_within kept row.memory at.next.vertex
-          at.next.is_kept;
+      memory = slice_get_within kept row.memory at.next.vertex at.next.is_kept;
       letter = at.played.least.here.0;
     })
 
@@ -245,36 +232,40 @@ module _ (board : Board) (keys : List Key) (kept : List ℕ) (certificate : Cert
   abbrev pub Names : List Row → Class → ℕ → Type 0
   Names rows class value = NamesAnswer board keys kept certificate rows q class.letter value
 
-  still_named : (old new : List Row) → KeepsRows old new → (classes : List Class) (values : List ℕ) →
+  still_named : {old new : List Row} → KeepsRows old new → (classes : List Class) (values : List ℕ) →
       AllZip (Names old) classes values → AllZip (Names new) classes values
-  still_named old new k [] [] zip = tt
-  still_named old new k [] (value ∷ values) zip = zip
-  still_named old new k (class ∷ classes) [] zip = zip
-  still_named old new k (class ∷ classes) (value ∷ values) zip = (
+  still_named k [] [] zip = tt
+  still_named k [] (value ∷ values) zip = zip
+  still_named k (class ∷ classes) [] zip = zip
+  still_named {old} {new} k (class ∷ classes) (value ∷ values) zip = (
     record { row = zip.0.row; is_row = k.same value zip.0.row zip.0.is_row; is_answer = zip.0.is_answer },
-    still_named old new k classes values zip.1,
+    still_named k classes values zip.1,
   )
 
+module _ {board : Board} {keys : List Key} {kept : List ℕ} {certificate : CertificateData} {q : ℕ} where
   -- one more class
   pub named_next : (old new : List Row) (classes : List Class) (i : ℕ) (d : Class) (values more : List ℕ) (value : ℕ)
-      (row : Row) → new ≡ insert_key (row_eq.eq-value).it old row → AllZip (Names old) (take i classes) values →
+      {row : Row} → new ≡ insert_key (row_eq.eq-value).it old row →
+      AllZip (Names board keys kept certificate q old) (take i classes) values →
       i < length classes → d ≡ get_or classes i d →
       (r : Row) × (slice_get new value ≡ Some r) × ((row_eq.eq-value).it row r ≡ true) →
       IsReplyRow board keys kept certificate q d.letter row → more ≡ values ++ value ∷ [] →
-      AllZip (Names new) (take (i + 1) classes) more
-  named_next old new classes i d values more value row grown zip within is stored answer e =
-      let k = keeps_rows (row_eq.eq-value).it old row new grown in
-      let at : slice_get new value ≡ Some row = stored.1 ∙ ap (λ r. Some r) (sym (same_row row stored.0 stored.2)) in
+      AllZip (Names board keys kept certificate q new) (take (i + 1) classes) more
+  named_next old new classes i d values more value {row} grown zip within is stored answer e =
+      let k = keeps_rows (row_eq.eq-value).it row grown in
+      let at : slice_get new value ≡ Some row = stored.1 ∙ ap (λ r. Some r) (sym (same_row stored.2)) in
       let here = subst (λ (c : Class). IsReplyRow board keys kept certificate q c.letter row) is answer in
-      subst (λ l. AllZip (Names new) (take (i + 1) classes) l) (sym e)
-      (subst (λ l. AllZip (Names new) l (values ++ value ∷ [])) (sym (take_more classes i d within))
-      (AllZip-push (Names new) (take i classes) values (get_or classes i d) value
-      (still_named old new k (take i classes) values zip) (record { row = row; is_row = at; is_answer = here })))
+      subst (λ l. AllZip (Names board keys kept certificate q new) (take (i + 1) classes) l) (sym e)
+      (subst (λ l. AllZip (Names board keys kept certificate q new) l (values ++ value ∷ []))
+      (sym (take_more classes i d within))
+      (AllZip-push (Names board keys kept certificate q new) (take i classes) values (get_or classes i d) value
+      (still_named board keys kept certificate q k (take i classes) values zip)
+      (record { row = row; is_row = at; is_answer = here })))
 
   -- letters that step alike have one row
-  alike_row : (v x c : ℕ) (row : Row) → SameSteps board q x c → IsRowAt false board keys kept certificate v q c row →
+  alike_row : {v x c : ℕ} {row : Row} → SameSteps board q x c → IsRowAt false board keys kept certificate v q c row →
       IsRowAt false board keys kept certificate v q x row
-  alike_row v x c row same r =
+  alike_row {v} {x} {c} {row} same r =
       let played = r.played in
       let step = same row.letter played.least.here.0 in
       let key : First (board.auto.next q (x + row.letter)) (board.auto.priority q (x + row.letter)) ≡ First
@@ -302,41 +293,45 @@ module _ (board : Board) (keys : List Key) (kept : List ℕ) (certificate : Cert
 
 -- ## The diagram
 
-pub class_each : (order : Order) (a : AutomatonData) (mask : ℕ) (t : Table) (q places : ℕ) (list : List Class) →
-    IsFit order a mask t → q ≤ a.states → AreClasses a.store t (node_of a q) mask places list → All
-    (λ (c : Class). IsClass (board_of order a) q c.letter) list
-class_each order a mask t q places list f h are k d within =
-    class_is order a mask t q places list f h are k (get_or list k d) (slice_get-get_or list k d within)
+-- a fact on two lists, by other names of these
+pub named_as : {X : Type 0} (N : X → ℕ → Type 0) {xs ys : List X} {values same : List ℕ} → ys ≡ xs → same ≡ values →
+    AllZip N ys values → AllZip N xs same
+named_as N {ys} {same} is are zip = subst (λ l. AllZip N l same) is (subst (λ v. AllZip N ys v) (sym are) zip)
 
-some_if : (o : Option ℕ) (n m : ℕ) → m ≡ n → IsSomeAnd o (λ k. k < n) → IfSome o (λ k. k < m)
-some_if None n m e is = tt
-some_if (Some k) n m e is = omega (arith, e, is)
+pub class_each : {order : Order} {a : AutomatonData} {mask : ℕ} {t : Table} {q : ℕ} {c : Classes} →
+    IsFit order a mask t → AreClassesOf a mask t q c →
+    All (λ (c : Class). IsClass (board_of order a) q c.letter) c.list.items
+class_each {c} f of k d within = class_is f of k (slice_get-get_or c.list.items k d within)
 
-module _ (order : Order) (a : AutomatonData) (mask : ℕ) (t : Table) (keys : List Key) (kept : List ℕ)
-    (certificate : CertificateData) (rows : List Row) (q places : ℕ) (list : List Class) (values : List ℕ)
-    (f : IsFit order a mask t) (h : q ≤ a.states) (are : AreClasses a.store t (node_of a q) mask places list)
-    (named : AllZip (Names (board_of order a) keys kept certificate q rows) list values) where
-  pub places_within : (letter : ℕ) → IfSome (leaf_of t places letter) (λ k. k < length values)
+some_if : (o : Option ℕ) {n m : ℕ} → m ≡ n → IsSomeAnd o (λ k. k < n) → IfSome o (λ k. k < m)
+some_if None e is = tt
+some_if (Some k) e is = omega (arith, e, is)
+
+module _ (keys : List Key) (kept : List ℕ) (certificate : CertificateData) (rows : List Row) (values : List ℕ)
+    {order : Order} {a : AutomatonData} {mask : ℕ} {t : Table} {q : ℕ} {classes : Classes} (f : IsFit order a mask t)
+    (of : AreClassesOf a mask t q classes)
+    (named : AllZip (Names (board_of order a) keys kept certificate q rows) classes.list.items values) where
+  abbrev list : List Class
+  list = classes.list.items
+
+  pub places_within : (letter : ℕ) → IfSome (leaf_of t classes.places letter) (λ k. k < length values)
   places_within letter =
-      some_if (leaf_of t places letter) (length list) (length values)
-      (AllZip-long (Names (board_of order a) keys kept certificate q rows) list values named) (are.placed letter)
+      some_if (leaf_of t classes.places letter)
+      (AllZip-long (Names (board_of order a) keys kept certificate q rows) list values named) (of.are.placed letter)
 
   module _ (u : Table) (node : ℕ) (leaf : (letter : ℕ) → leaf_of u node letter ≡ option_map (λ k. slice_index values k)
-      (leaf_of t places letter)) where
+      (leaf_of t classes.places letter)) where
     to_row : (v x : ℕ) → IsFirstLetter (board_of order a) x → LeadsToRow false (board_of order a) keys kept certificate
         u rows node v q x
     to_row v x hx =
-        let m = class_of order a mask t q places list f h are no_class x in
-        let each = are.each m.place m.class m.at in
+        let m = class_of f of no_class x in
+        let each = of.are.each m.place m.class m.at in
         let c = m.class.letter in
-        let hc = class_first order a mask t q places list f h are m.place m.class m.at in
-        let alike =
-        (are.alike x c (below_back order a mask t x f hx.within) each.least.here.0).0
-        (m.is ∙ sym each.least.here.1) in
-        let same = same_steps order a mask t q x c f h hx hc alike in
+        let hc = class_first f of m.place m.at in
+        let alike = (of.are.alike x c (below_back f x hx.within) each.least.here.0).0 (m.is ∙ sym each.least.here.1) in
+        let same = same_steps f q x c hx hc alike in
         let N = Names (board_of order a) keys kept certificate q rows in
-        let left =
-        subst (λ o. MatchOption o (Unit {0}) (λ class. IsSomeAnd (slice_get values m.place) (N class))) m.at
+        let left = subst (λ o. MatchOption o (Unit {0}) (λ class. IsSomeAnd (slice_get values m.place) (N class))) m.at
         (AllZip-left N list values named m.place) in
         let value = some_of (slice_get values m.place) (N m.class) left in
         record {
@@ -345,16 +340,15 @@ module _ (order : Order) (a : AutomatonData) (mask : ℕ) (t : Table) (keys : Li
               ∙ ap (λ n. Some n) (get_or_from_slice_get values m.place value.0 0 value.1);
           row = value.2.row;
           is_row = value.2.is_row;
-          is_right = alike_row (board_of order a) keys kept certificate q v x c value.2.row same (value.2.is_answer v);
+          is_right = alike_row same (value.2.is_answer v);
         }
 
     heeds_first : (x y : ℕ) → ((p : ℕ) → p < length a.names → (board_of order a).is_first p ≡ true →
         is_in p x ≡ is_in p y) → leaf_of u node x ≡ leaf_of u node y
     heeds_first x y alike =
-        let on : AgreeOn mask x y =
-        λ p is. (let within = mask_below (board_of order a) mask p f.is_mask is in
+        let on : AgreeOn mask x y = λ p is. (let within = mask_below (board_of order a) mask p f.is_mask is in
         alike p within (sym (f.is_mask.is p within) ∙ is)) in
-        leaf x ∙ ap (λ o. option_map (λ k. slice_index values k) o) (are.read x y on) ∙ sym (leaf y)
+        leaf x ∙ ap (λ o. option_map (λ k. slice_index values k) o) (of.are.read x y on) ∙ sym (leaf y)
 
     pub drawn_second : (v p : ℕ) → StandsAt keys v (First q p) → IsNode u node →
         IsDrawn false (board_of order a) keys kept certificate u rows v node

@@ -33,7 +33,7 @@ use Rattle.ps_machine.specs.contracts.key.KeyPartialEq.TheImpl as key_eq
 use Rattle.ps_machine.proofs.BoardLetters.{compared, not_before_itself, one_least, sum_within}
 use Rattle.ps_machine.proofs.BoardSteps.{pairs_map, second_same}
 use Rattle.ps_machine.proofs.Choosing.{both_or_not, class_there, first_or_not, move_there, over_first, over_second}
-use Rattle.ps_machine.proofs.Choosing.{part, part_over, same_priorities, same_states, second_or_not, step_or_not}
+use Rattle.ps_machine.proofs.Choosing.{part_over, same_priorities, same_states, second_or_not, step_or_not}
 use Rattle.ps_machine.proofs.Choosing.{steps_or_not}
 use Rattle.ps_machine.proofs.GameKeys.Exploring.{by_keys, explored_first, explored_more}
 use Rattle.ps_machine.proofs.GameKeys.KeyTests.{key_same, same_key}
@@ -53,15 +53,15 @@ module _ (n : ℕ) (P : ℕ → Type 0) (tell : (y : ℕ) → P y ⊎ (P y → �
   same_rank : (x y : ℕ) → P x → P y → rank 0 n x ≡ rank 0 n y → x ≡ y
   same_rank x y one other same = elim (compared n x y (within x one) (within y other)) [
     | inl is ↦ is
-    | inr (inl before) ↦ absurd (omega (arith, same, before_ranks n x y (within y other) before))
-    | inr (inr before) ↦ absurd (omega (arith, same, before_ranks n y x (within x one) before))
+    | inr (inl before) ↦ absurd (omega (arith, same, before_ranks n (within y other) before))
+    | inr (inr before) ↦ absurd (omega (arith, same, before_ranks n (within x one) before))
   ]
 
-  lower_before : (x y : ℕ) → P x → P y → rank 0 n x < rank 0 n y → IsBefore x y
-  lower_before x y one other lower = elim (compared n x y (within x one) (within y other)) [
+  lower_before : {x y : ℕ} → P x → P y → rank 0 n x < rank 0 n y → IsBefore x y
+  lower_before {x} {y} one other lower = elim (compared n x y (within x one) (within y other)) [
     | inl is ↦ absurd (let same : rank 0 n x ≡ rank 0 n y = ap (rank 0 n) is in omega (arith, same, lower))
     | inr (inl before) ↦ before
-    | inr (inr before) ↦ absurd (omega (arith, lower, before_ranks n y x (within x one) before))
+    | inr (inr before) ↦ absurd (omega (arith, lower, before_ranks n (within x one) before))
   ]
 
   list_below : (count : ℕ) → (letters : List ℕ) × ListedBelow letters count
@@ -83,13 +83,12 @@ module _ (n : ℕ) (P : ℕ → Type 0) (tell : (y : ℕ) → P y ⊎ (P y → �
             low = All-push (λ y. rank 0 n y < suc count) l.0 found.0 (raised l.0 l.1.low) (omega (arith, found.1.1));
             complete = λ y is low. elim (cases_eq (rank 0 n y) count) [
               | inl here ↦ subst (Contains (l.0 ++ found.0 ∷ [])) (same_rank found.0 y found.1.0 is
-                  (found.1.1 ∙ sym here))
-                  (Contains-push l.0 found.0)
+                  (found.1.1 ∙ sym here)) (Contains-push l.0 found.0)
               | inr other ↦ Contains-append_left l.0 (found.0 ∷ []) y (l.1.complete y is (omega (arith, low, other)))
             ];
             rising =
                 all_pairs_push IsBefore l.0 found.0 l.1.rising (λ k d inside.
-                lower_before (get_or l.0 k d) found.0 (l.1.each k d inside) found.1.0
+                lower_before (l.1.each k d inside) found.1.0
                 (let low = l.1.low k d inside in omega (arith, low, found.1.1)));
           },
         )
@@ -136,7 +135,7 @@ module _ (n : ℕ) (P : ℕ → Type 0) (tell : (y : ℕ) → P y ⊎ (P y → �
     | inr not_so ↦ inr (λ least. not_so least.here)
     | inl so ↦ (let l = least_there n P tell within y so in elim (cases_eq l.0 y) [
       | inl same ↦ inl (subst (IsLeast P) same l.1)
-      | inr other ↦ inr (λ least. other (one_least n P l.0 y (within l.0 l.1.here) (within y so) l.1 least))
+      | inr other ↦ inr (λ least. other (one_least n (within l.0 l.1.here) (within y so) l.1 least))
     ])
   ]
 
@@ -172,20 +171,16 @@ keys_fit all keys differ each =
 came_or_not : (keys : List Key) (k : Key) → Contains keys k ⊎ (Contains keys k → ⊥)
 came_or_not keys k = elim (cases_Bool (is_member is_key keys k)) [
   | inl is ↦ inl ((is_member-Decides told_apart keys k).0 is)
-  | inr isnt ↦ inr (λ c. clash (is_member is_key keys k) ((is_member-Decides told_apart keys k).1 c) isnt)
+  | inr isnt ↦ inr (λ c. cc ((is_member-Decides told_apart keys k).1 c))
 ]
-  where
-    clash : (b : Bool) → b ≡ true → b ≡ false → ⊥
-    clash b e f = cc
 
 module _ (mover : ℕ) (old : DraftData) (key : Key) (next : List Key) where
   visit_first : (i : ℕ) → i ≤ length next → (now : DraftData) × Visits mover old key (take i next) now
   visit_first zero few =
       (let now : DraftData = record {
         keys = old.keys;
-        game = with_vertex old.game (owner_of_key mover key)
-            (priority_of_key key);
-      } in (now, visits_none mover old key now refl refl))
+        game = with_vertex old.game (owner_of_key mover key) (priority_of_key key);
+      } in (now, visits_none refl refl))
   visit_first (suc i) few = (let before = visit_first i (omega (arith, few)) in
       let k = get_or next i (First 0 0) in
       elim (came_or_not before.0.keys k) [
@@ -201,7 +196,7 @@ module _ (mover : ℕ) (old : DraftData) (key : Key) (next : List Key) where
           let new : DraftData = record { keys = keys; game = with_edge now.game (vertex_count old.game) number } in (
             new,
             subst (λ j. Visits mover old key (take j next) new) (add-one i)
-                (visits_next mover old key next i now number new (omega (arith, few)) v is refl),
+                (visits_next next i (omega (arith, few)) v is refl),
           )
 
   visit_there : (new : DraftData) × Visits mover old key next new
@@ -273,9 +268,9 @@ module _ (board : Board) (mover : ℕ) (start : board.auto.start ≤ board.state
   unfolding all_keys
   known_first = (start, (0, omega arith, refl))
 
-  known_second : (q x : ℕ) → q ≤ board.states → IsFirstLetter board x → Known (Second q x)
+  known_second : {q x : ℕ} → q ≤ board.states → IsFirstLetter board x → Known (Second q x)
   unfolding all_keys
-  known_second q x low first = (
+  known_second {q} {x} low first = (
     low,
     first,
     further (First board.auto.start 0) (Second q x) (keys_below (suc board.states))
@@ -310,49 +305,39 @@ module _ (board : Board) (mover : ℕ) (start : board.auto.start ≤ board.state
       (steps_or_not board q y x)) (λ y is. is.0.within) x in
       let l = letters_there board.propositions (IsClass board q) is (λ y is. is.here.0.within) in
       let key : ℕ → Key = λ x. Second q x in
-      let class =
-      class_there board q (part board.propositions board.is_first 0)
-      (over_first board (part board.propositions board.is_first 0) (part_over board.propositions board.is_first 0))
-      in
+      let class = class_there board q (over_first board (part_over board.propositions board.is_first 0)) in
       let there = l.1.complete class.0 class.1 in
       record {
         next = map key l.0;
         leads_to = (l.0, l.1, refl);
-        known =
-            All-map Known key l.0 (λ k d within. known_second q (get_or l.0 k d) known.0 (l.1.each k d within).here.0);
+        known = All-map Known key l.0 (λ k d within. known_second known.0 (l.1.each k d within).here.0);
         some = omega (arith, there.1, length-map l.0 key);
-        differ = pairs_map (λ x y. x ≢ y) key l.0 0 (λ i j less within e. not_before_itself (get_or l.0 j 0)
-            (subst (λ x. IsBefore x (get_or l.0 j 0)) (second_same q (get_or l.0 i 0) (get_or l.0 j 0) e)
-            (l.1.rising i j 0 less within)));
+        differ = pairs_map (λ x y. x ≢ y) key l.0 0 (λ i j less within e. not_before_itself
+            (subst (λ x. IsBefore x (get_or l.0 j 0)) (second_same e) (l.1.rising i j 0 less within)));
       }
   next_there (Second q x) known =
       let is : (y : ℕ) → IsMove board q x y ⊎ (IsMove board q x y → ⊥) =
-      λ y. least_or_not board.propositions (λ other. IsSecondLetter board other ×
-      SameStep board q (x + other) (x + y))
+      λ y. least_or_not board.propositions (λ other. IsSecondLetter board other × SameStep board q (x + other) (x + y))
       (λ z. both_or_not (IsSecondLetter board z) (SameStep board q (x + z) (x + y)) (second_or_not board z)
-      (step_or_not board q (x + z) (x + y))) (λ z is. is.0.within) y in
+      (step_or_not board)) (λ z is. is.0.within) y in
       let l = letters_there board.propositions (IsMove board q x) is (λ y is. is.here.0.within) in
       let key : ℕ → Key = λ y. First (board.auto.next q (x + y)) (board.auto.priority q (x + y)) in
       let seconds : ℕ → Bool = λ p. not (board.is_first p) in
-      let move =
-      move_there board q x (part board.propositions seconds 0)
-      (over_second board (part board.propositions seconds 0) (part_over board.propositions seconds 0)) in
+      let move = move_there board x (over_second board (part_over board.propositions seconds 0)) in
       let there = l.1.complete move.0 move.1 in
       record {
         next = map key l.0;
         leads_to = (l.0, l.1, refl);
         known =
             All-map Known key l.0 (λ k d within. known_pair q (x + get_or l.0 k d) known.0
-            (sum_within board x (get_or l.0 k d) known.1 (l.1.each k d within).here.0));
+            (sum_within board known.1 (l.1.each k d within).here.0));
         some = omega (arith, there.1, length-map l.0 key);
         differ =
             pairs_map (λ x y. x ≢ y) key l.0 0 (λ i j less within e.
             (l.1.each j 0 within).none_before (get_or l.0 i 0) (
               (l.1.each i 0 (omega (arith, less, within))).here.0,
-              record
-                  { state = same_states _ _ _ _ e; priority = same_priorities _ _ _ _ e },
-            )
-            (l.1.rising i j 0 less within));
+              record { state = same_states e; priority = same_priorities e },
+            ) (l.1.rising i j 0 less within));
       }
 
   abbrev Explored : DraftData → ℕ → Type 0
@@ -368,9 +353,7 @@ module _ (board : Board) (mover : ℕ) (start : board.auto.start ≤ board.state
 
   done : (draft : DraftData) (v : ℕ) → Explored draft v → length draft.keys ≤ v → SomeGame
   done draft v e all =
-      let is =
-      by_keys (LeadsTo board) Known mover (First board.auto.start 0) draft v draft.keys draft.game e
-      (slice_get_past draft.keys v all) refl refl in
+      let is = by_keys e (slice_get_past draft.keys v all) refl refl in
       (draft.keys, draft.game, record { by_keys = is.0; numbered = is.1 })
 
   explore : (fuel : ℕ) (draft : DraftData) (v : ℕ) → Explored draft v → length all_keys ≤ v + fuel → SomeGame
@@ -381,8 +364,7 @@ module _ (board : Board) (mover : ℕ) (start : board.auto.start ≤ board.state
         let key = get_or draft.keys v (First 0 0) in
         let next = next_there key (e.all_known v (First 0 0) more) in
         let visit = visit_there mover draft key next.next in
-        explore fuel visit.0 (v + 1)
-        (explored_more (LeadsTo board) Known mover (First board.auto.start 0) draft v key next.next visit.0 e
+        explore fuel visit.0 (v + 1) (explored_more e
         (slice_get-get_or draft.keys v (First 0 0) more) next.leads_to next.known next.some next.differ visit.1)
         (omega (arith, enough))
   ]
@@ -390,8 +372,7 @@ module _ (board : Board) (mover : ℕ) (start : board.auto.start ≤ board.state
   pub board_game_there : SomeGame
   board_game_there =
       let draft : DraftData = record { keys = First board.auto.start 0 ∷ []; game = [] } in
-      explore (length all_keys) draft 0 (explored_first (LeadsTo board) Known mover (First board.auto.start 0) draft
-      known_first refl refl) (omega arith)
+      explore (length all_keys) draft 0 (explored_first known_first refl refl) (omega arith)
 
 pub game_there : (order : Order) (file : FileData) → IsSoundFile file → IsAdmitted file →
     (game : NamedGameData) × IsGameOfFile order file game

@@ -3,7 +3,7 @@ use Rattle.std.proofs.Common.{◌≡◌, ◌≢◌, ℕ, zero, suc, ◌+◌, ◌
 use Rattle.std.proofs.Common.{decimal, refl, ap, ap₂, sym, subst, ◌∙◌, arith, append_assoc}
 use Rattle.std.specs.List.{AllPairs, range_with_len}
 use Rattle.ps_text.proofs.Decimals.{number_text}
-use Rattle.std.proofs.lemmas.List.Elements.{All-nil, All-cons, All-append, All-contains, All-same}
+use Rattle.std.proofs.lemmas.List.Elements.{All-nil, All-cons, All-append, All-contains}
 use Rattle.std.proofs.lemmas.List.FromFn.{length-range_with_len, get_or-range_with_len}
 use Rattle.ps_game.specs.Games.{quote, HasNoQuote}
 use Rattle.ps_label.specs.Truth.{is_in}
@@ -17,36 +17,17 @@ plain_one b h = All-cons (λ x. x ≢ quote) b [] h (All-nil (λ x. x ≢ quote)
 pub plain_decimal : (n : ℕ) → n < 2 ^ 64 → IsPlain (decimal n)
 plain_decimal n small k d lt e = let digit = (number_text n small).all k d lt in omega (arith, digit.0, e)
 
-pub plain_sink : IsPlain (115 ∷ 105 ∷ 110 ∷ 107 ∷ [])
-plain_sink =
-    let P : ℕ → Type 0 = λ x. x ≢ quote in
-    All-cons P 115 (105 ∷ 110 ∷ 107 ∷ []) (λ e. omega (arith, e))
-    (All-cons P 105 (110 ∷ 107 ∷ []) (λ e. omega (arith, e))
-    (All-cons P 110 (107 ∷ []) (λ e. omega (arith, e)) (plain_one 107 (λ e. omega (arith, e)))))
-
 pub plain_digit : (is_played is_true : Bool) → IsPlain (digit_if is_played is_true)
 plain_digit true true = plain_one 49 (λ e. omega (arith, e))
 plain_digit true false = plain_one 48 (λ e. omega (arith, e))
 plain_digit false b = All-nil (λ x. x ≢ quote)
 
--- a part, a byte and another part
-pub three_parts : (none one two all s d : List ℕ) (b : ℕ) → none ≡ [] → one ≡ none ++ s → two ≡ one ++ b ∷ [] →
-    all ≡ two ++ d → all ≡ s ++ b ∷ d
-three_parts none one two all s d b e0 e1 e2 e3 =
-    let first : one ≡ s = e1 ∙ ap (λ (l : List ℕ). l ++ s) e0 in
-    e3 ∙ ap (λ (l : List ℕ). l ++ d) (e2 ∙ ap (λ (l : List ℕ). l ++ b ∷ []) first) ∙ append_assoc s (b ∷ []) d
-
-pub plain_parts : (all s d : List ℕ) (b : ℕ) → all ≡ s ++ b ∷ d → IsPlain s → b ≢ 34 → IsPlain d → IsPlain all
-plain_parts all s d b e p h r =
-    All-same (λ x. x ≢ quote) all (s ++ b ∷ d) e (All-append (λ x. x ≢ quote) s (b ∷ d) p
-    (All-cons (λ x. x ≢ quote) b d h r))
-
 -- the digits of one more proposition
-pub digits_more : (board : Board) (x p : ℕ) (start old new : List ℕ) (is_played is_true : Bool) →
+pub digits_more : (board : Board) (x p : ℕ) (start : List ℕ) {old new : List ℕ} {is_played is_true : Bool} →
     is_played ≡ board.is_first p → is_true ≡ is_in p x →
     old ≡ start ++ first_digits board x p → new ≡ old ++ digit_if is_played is_true →
     new ≡ start ++ first_digits board x (p + 1)
-digits_more board x p start old new is_played is_true f t e h =
+digits_more board x p start {is_played} {is_true} f t e h =
     let next : suc p ≡ p + 1 = omega arith in
     let digit : digit_if is_played is_true ≡ digit_of board x p = ap₂ (λ (a b : Bool). digit_if a b) f t in
     h ∙ ap₂ (λ (a b : List ℕ). a ++ b) e digit ∙ append_assoc start (first_digits board x p) (digit_of board x p)
@@ -79,9 +60,9 @@ range_push a (suc n) = ap (λ l. a ∷ l) (range_push (a + 1) n ∙ ap (λ k. ra
     shift : (k m : ℕ) → k + 1 + m ≡ k + suc m
     shift k m = omega arith
 
-pub range_more : (n : ℕ) (old new : List ℕ) → old ≡ range_with_len 0 n → new ≡ old ++ n ∷ [] →
+pub range_more : (n : ℕ) {old new : List ℕ} → old ≡ range_with_len 0 n → new ≡ old ++ n ∷ [] →
     new ≡ range_with_len 0 (n + 1)
-range_more n old new e h =
+range_more n e h =
     let next : suc n ≡ n + 1 = omega arith in
     let same : 0 + n ≡ n = omega arith in
     h ∙ ap (λ l. l ++ n ∷ []) e ∙ ap (λ k. range_with_len 0 n ++ k ∷ []) (sym same) ∙ sym (range_push 0 n)

@@ -21,16 +21,15 @@ use Rattle.ps_machine.specs.declared.key.Key.TheVariants.{First}
 use Rattle.ps_machine.specs.declared.key.Order.{Order}
 use Rattle.ps_machine.proofs.GameKeys.NamingLemmas.{no_quote}
 
-pub known_start : (order : Order) (a b : AutomatonData) (mask : ℕ) (t : Table) (rests : ℕ × ℕ → Option ℕ) (q : ℕ) →
+pub known_start : {order : Order} {a b : AutomatonData} {mask : ℕ} {t : Table} {rests : ℕ × ℕ → Option ℕ} {q : ℕ} →
     b ≡ a → IsFit order b mask t → q < a.states → IsKnown order b mask t rests (First q 0)
-known_start order a b mask t rests q same fit lt =
+known_start {q} same fit lt =
     record { fit = fit; has_rest = subst (λ (d : AutomatonData). q ≤ d.states) (sym same) (omega (arith, lt)) }
 
-pub game_is : (order o : Order) (a b : AutomatonData) (q : ℕ) (keys : List Key) (game : ParityGame) → o ≡ order →
+pub game_is : {order o : Order} {a b : AutomatonData} {q : ℕ} {keys : List Key} {game : ParityGame} → o ≡ order →
     b ≡ a → q ≡ a.start → IsGameByKeys (LeadsTo (board_of o b)) (mover_of order) (First q 0) keys game →
-    IsNumbered game →
-    IsGameOf (board_of order a) (mover_of order) keys game
-game_is order o a b q keys game same is start by_keys numbered = record {
+    IsNumbered game → IsGameOf (board_of order a) (mover_of order) keys game
+game_is {order} {a} {b} {q} {keys} {game} same is start by_keys numbered = record {
   by_keys = subst (λ k. IsGameByKeys (LeadsTo (board_of order a)) (mover_of order) (First k 0) keys game) start
       (subst (λ d. IsGameByKeys (LeadsTo (board_of order d)) (mover_of order) (First q 0) keys game) is
       (subst (λ p. IsGameByKeys (LeadsTo (board_of p b)) (mover_of order) (First q 0) keys game) same by_keys));

@@ -1,7 +1,7 @@
 -- A lasso of a machine is read on and on; and its letters are those of the automaton.
 use Rattle.std.proofs.Common.{◌≡◌, ℕ, zero, suc, ◌+◌, ◌-◌, ◌*◌, ◌/◌, ◌%◌, ◌^◌, ◌<◌, ◌≤◌, ◌⊎◌, inl, inr, Bool, true}
 use Rattle.std.proofs.Common.{false, cond, not, ltb, List, ◌++◌, length, get_or, refl, ap, sym, subst, ◌∙◌, arith}
-use Rattle.std.proofs.Common.{rules, add-one}
+use Rattle.std.proofs.Common.{add-one}
 use Rattle.std.specs.Prelude.{slice_index}
 use Rattle.ps_diagram.proofs.Letters.{no_bit}
 use Rattle.std.proofs.Math.Nat.{div-add-mod, mod-lt}
@@ -25,9 +25,9 @@ use Rattle.ps_machine.proofs.Lassos.Walking.{IsEndless}
 folded : ℕ → ℕ → ℕ → ℕ
 folded stem lap t = cond (ltb t stem) t (stem + (t - stem) % lap)
 
-folded_within : (stem lap t : ℕ) → t < stem → folded stem lap t ≡ t
+folded_within : (stem lap : ℕ) {t : ℕ} → t < stem → folded stem lap t ≡ t
 unfolding folded
-folded_within stem lap t less = ap (λ (b : Bool). cond b t (stem + (t - stem) % lap)) (lt-ltb t stem less)
+folded_within stem lap {t} less = ap (λ (b : Bool). cond b t (stem + (t - stem) % lap)) (lt-ltb t stem less)
 
 folded_behind : (stem lap t : ℕ) → stem ≤ t → folded stem lap t ≡ stem + (t - stem) % lap
 unfolding folded
@@ -55,10 +55,7 @@ next_in_lap lap n some = by (cases_lt (suc (n % lap)) lap)
         let is : suc q * lap + 0 ≡ suc n = omega (arith, parts, full) in
         inr (full, ap (λ m. m % lap) (sym is) ∙ mod-mul-add (suc q) lap 0 some)
 
-module _ (m : Behaviour) (stem lap : List ℕ) (l : IsLasso m stem lap) where
-  whole : List ℕ
-  whole = stem ++ lap
-
+module _ {m : Behaviour} {stem lap : List ℕ} (l : IsLasso m stem lap) where
   long : length (stem ++ lap) ≡ length stem + length lap
   long = length-append stem lap
 
@@ -68,7 +65,7 @@ module _ (m : Behaviour) (stem lap : List ℕ) (l : IsLasso m stem lap) where
   place_within : (t : ℕ) → at_place t < length (stem ++ lap)
   unfolding at_place
   place_within t = elim (cases_lt t (length stem)) [
-    | inl less ↦ (let is = folded_within (length stem) (length lap) t less in omega (arith, is, less, long))
+    | inl less ↦ (let is = folded_within (length stem) (length lap) less in omega (arith, is, less, long))
     | inr more ↦ (let is = folded_behind (length stem) (length lap) t more in
         omega (arith, is, long, mod-lt (t - length stem) l.some))
   ]
@@ -76,7 +73,7 @@ module _ (m : Behaviour) (stem lap : List ℕ) (l : IsLasso m stem lap) where
   letter_at : (t : ℕ) → slice_index (stem ++ lap) (at_place t) ≡ word stem lap t
   unfolding at_place
   letter_at t = elim (cases_lt t (length stem)) [
-    | inl less ↦ ap (λ n. get_or (stem ++ lap) n 0) (folded_within (length stem) (length lap) t less)
+    | inl less ↦ ap (λ n. get_or (stem ++ lap) n 0) (folded_within (length stem) (length lap) less)
         ∙ get_or-append stem lap 0 t less ∙ sym (word_within stem lap t less)
     | inr more ↦ ap (λ n. get_or (stem ++ lap) n 0) (folded_behind (length stem) (length lap) t more)
         ∙ get_or-append-add stem lap ((t - length stem) % length lap) 0 ∙ sym (word_behind stem lap t more)
@@ -105,12 +102,12 @@ module _ (m : Behaviour) (stem lap : List ℕ) (l : IsLasso m stem lap) where
       by : (t < u) ⊎ (u ≤ t) → (suc t < u) ⊎ (u ≤ suc t) → l.memories (folded u (length lap) t + 1) ≡ l.memories
           (folded u (length lap) (suc t))
       by (inl less) (inl next) =
-          let here = folded_within u (length lap) t less in
-          let there = folded_within u (length lap) (suc t) next in
+          let here = folded_within u (length lap) less in
+          let there = folded_within u (length lap) next in
           let same : folded u (length lap) t + 1 ≡ folded u (length lap) (suc t) = omega (arith, here, there) in
           ap l.memories same
       by (inl less) (inr next) =
-          let here = folded_within u (length lap) t less in
+          let here = folded_within u (length lap) less in
           let there = folded_behind u (length lap) (suc t) next in
           let none : suc t - u ≡ 0 * length lap + 0 = omega (arith, less) in
           let begin : (suc t - u) % length lap ≡ 0 = ap (λ n. n % length lap) none
@@ -136,7 +133,7 @@ module _ (m : Behaviour) (stem lap : List ℕ) (l : IsLasso m stem lap) where
   }
     where
       by : (0 < length stem) ⊎ (length stem ≤ 0) → l.memories (folded (length stem) (length lap) 0) ≡ 0
-      by (inl less) = ap l.memories (folded_within (length stem) (length lap) 0 less) ∙ l.begins
+      by (inl less) = ap l.memories (folded_within (length stem) (length lap) less) ∙ l.begins
       by (inr more) =
           let none : 0 - length stem ≡ 0 * length lap + 0 = omega arith in
           let begin : (0 - length stem) % length lap ≡ 0 = ap (λ n. n % length lap) none
@@ -176,40 +173,35 @@ either_bool : (b : Bool) → (b ≡ true) ⊎ (b ≡ false)
 either_bool true = inl refl
 either_bool false = inr refl
 
-not_both : (b : Bool) → b ≡ true → b ≡ false → ⊥
-not_both b t f = search rules
-
-module _ (m : Behaviour) (is_machine : IsMachine m) where
+module _ {m : Behaviour} (is_machine : IsMachine m) where
   -- a letter that it reads and one that it plays have no proposition in common
   apart : (x y : ℕ) → IsInput m x → IsOutput m y → (p : ℕ) → is_in p x ≡ true → is_in p y ≡ false
   apart x y input output p is = elim (either_bool (is_among p m.inputs)) [
     | inl among ↦ output.own p (is_machine.apart p among)
-    | inr none ↦ absurd (not_both (is_in p x) is (input.own p none))
+    | inr none ↦ cc (input.own p none)
   ]
 
   -- what it makes is a letter
-  pub letter_within : (memory letter next : ℕ) → memory < m.memories → Makes m memory letter next →
+  pub letter_within : {memory letter next : ℕ} → memory < m.memories → Makes m memory letter next →
       letter < 2 ^ length m.names
-  letter_within memory letter next within makes =
+  letter_within {memory} within makes =
       let output = is_machine.plays_own memory makes.input within in
-      let sum =
-      sum_within (length m.names) makes.input (m.plays memory makes.input) makes.is_input.within output.within
+      let sum = sum_within (length m.names) makes.input (m.plays memory makes.input) makes.is_input.within output.within
       (apart makes.input (m.plays memory makes.input) makes.is_input output) in
       omega (arith, sum, makes.joined)
 
-  pub memories_of_lasso : (stem lap : List ℕ) (l : IsLasso m stem lap) (t : ℕ) → t ≤ length (stem ++ lap) →
+  pub memories_of_lasso : {stem lap : List ℕ} (l : IsLasso m stem lap) (t : ℕ) → t ≤ length (stem ++ lap) →
       l.memories t < m.memories
-  memories_of_lasso stem lap l zero low = omega (arith, is_machine.some, l.begins)
-  memories_of_lasso stem lap l (suc t) low =
+  memories_of_lasso l zero low = omega (arith, is_machine.some, l.begins)
+  memories_of_lasso {stem} {lap} l (suc t) low =
       let makes = l.makes t (omega (arith, low)) in
-      let next =
-      is_machine.next_within (l.memories t) makes.input (memories_of_lasso stem lap l t (omega (arith, low))) in
+      let next = is_machine.next_within (l.memories t) makes.input (memories_of_lasso l t (omega (arith, low))) in
       let place : l.memories (t + 1) ≡ l.memories (suc t) = ap l.memories (add-one t) in
       omega (arith, next, makes.next_is, place)
 
-  pub reads_other : (names : List (List ℕ)) (board : Board) → HasPropositions names board m → (x : ℕ) → IsInput m x →
+  pub reads_other : {names : List (List ℕ)} {board : Board} → HasPropositions names board m → (x : ℕ) → IsInput m x →
       IsOther m.is_first board x
-  reads_other names board h x input = by m.is_first refl
+  reads_other {board} h x input = by m.is_first refl
     where
       within : x < 2 ^ board.propositions
       within =

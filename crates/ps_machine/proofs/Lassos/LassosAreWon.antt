@@ -27,24 +27,22 @@ use Rattle.ps_machine.proofs.Lassos.Walking.{state_returns, parity_of_part}
 use Rattle.ps_machine.proofs.Lassos.EndlessRuns.{memories_on, endless, memory_returns, letter_returns, letter_within}
 use Rattle.ps_machine.proofs.Lassos.EndlessRuns.{memories_of_lasso, reads_other}
 
-module _ (file : FileData) (chain : Chain) (a : AutomatonData) (order : Order) (keys : List Key) (game : ParityGame)
-    (certificate : CertificateData) (m : Behaviour)
-    (built : IsBuiltFrom file chain a) (is_game : IsGameOf (board_of order a) (mover_of order) keys game)
-    (fits : Fits game certificate) (valid : IsValid game certificate) (is_machine : IsMachine m)
-    (has : HasPropositions a.names (board_of order a) m) (made : IsMachineOf (board_of order a) (mover_of order) keys
-    game certificate m) where
+module _ {file : FileData} {chain : Chain} {a : AutomatonData} (order : Order) {keys : List Key} {game : ParityGame}
+    {certificate : CertificateData} {m : Behaviour} (built : IsBuiltFrom file chain a)
+    (is_game : IsGameOf (board_of order a) (mover_of order) keys game) (fits : Fits game certificate)
+    (valid : IsValid game certificate) (is_machine : IsMachine m) (has : HasPropositions a.names (board_of order a) m)
+    (made : IsMachineOf (board_of order a) (mover_of order) keys game certificate m) where
   setting : Setting (board_of order a) (mover_of order) keys game certificate
   setting = record { is_mover = small_mover order; by_keys = is_game.by_keys; fits = fits; valid = valid }
 
   names_are : length m.names ≡ length file.names
   names_are = ap length (has.names_are ∙ built.names)
 
-  module _ (stem lap : List ℕ) (l : IsLasso m stem lap) where
+  module _ {stem lap : List ℕ} (l : IsLasso m stem lap) where
     each_letter : (t : ℕ) → t < length (stem ++ lap) → slice_index (stem ++ lap) t < 2 ^ length file.names
     each_letter t within =
-        let less =
-        letter_within m is_machine (l.memories t) (slice_index (stem ++ lap) t) (l.memories (t + 1))
-        (memories_of_lasso m is_machine stem lap l t (omega (arith, within))) (l.makes t within) in
+        let less = letter_within is_machine
+        (memories_of_lasso is_machine l t (omega (arith, within))) (l.makes t within) in
         subst (λ n. slice_index (stem ++ lap) t < 2 ^ n) names_are less
 
     in_stem : All (λ letter. letter < 2 ^ length file.names) stem
@@ -62,7 +60,7 @@ module _ (file : FileData) (chain : Chain) (a : AutomatonData) (order : Order) (
         subst (λ x. x < 2 ^ length file.names) (is ∙ get_or_default lap t 0 d within) less
 
     others : (x : ℕ) → IsInput m x → IsOther m.is_first (board_of order a) x
-    others x = reads_other m is_machine a.names (board_of order a) has x
+    others x = reads_other is_machine has x
 
     from : ℕ
     from = length stem + 0 * length lap
@@ -82,22 +80,17 @@ module _ (file : FileData) (chain : Chain) (a : AutomatonData) (order : Order) (
     unfolding count
     some_count = omega (arith, l.some)
 
-    back : memories_on m stem lap l (from + count) ≡ memories_on m stem lap l from
-    back = ap (memories_on m stem lap l) end_is ∙ memory_returns m stem lap l
-        ∙ ap (memories_on m stem lap l) (sym from_is)
+    back : memories_on l (from + count) ≡ memories_on l from
+    back = ap (memories_on l) end_is ∙ memory_returns l ∙ ap (memories_on l) (sym from_is)
 
     again : word stem lap (from + count) ≡ word stem lap from
-    again = ap (word stem lap) end_is ∙ letter_returns m stem lap l ∙ ap (word stem lap) (sym from_is)
+    again = ap (word stem lap) end_is ∙ letter_returns l ∙ ap (word stem lap) (sym from_is)
 
     parity : greatest_from (priority_at (auto_of a) (word stem lap)) from count % 2 ≡ winner certificate
-    parity =
-        parity_of_part (board_of order a) (mover_of order) keys game certificate setting m made others (word stem lap)
-        (memories_on m stem lap l) (endless m stem lap l) from count some_count back again
+    parity = parity_of_part setting made others (endless l) from count some_count back again
 
     returns : state_at (auto_of a) (word stem lap) (from + count) ≡ state_at (auto_of a) (word stem lap) from
-    returns =
-        state_returns (board_of order a) (mover_of order) keys game certificate setting m made others (word stem lap)
-        (memories_on m stem lap l) (endless m stem lap l) from count some_count back again
+    returns = state_returns setting made others (endless l) from count some_count back again
 
     returned : state_at (auto_of a) (word stem lap) (length stem + (0 + 1) * length lap) ≡ state_at (auto_of a)
         (word stem lap) (length stem + 0 * length lap)
@@ -110,21 +103,19 @@ module _ (file : FileData) (chain : Chain) (a : AutomatonData) (order : Order) (
     unfolding from count
     if_even is =
         even_is_accepted file chain (auto_of a) built.is_chain built.auto stem lap l.some in_stem in_lap 0 1
-        (omega arith) returned
-        (eq-eqb (greatest_from (priority_at (auto_of a) (word stem lap)) from count % 2) 0
+        (omega arith) returned (eq-eqb (greatest_from (priority_at (auto_of a) (word stem lap)) from count % 2) 0
         (parity ∙ sym made.player ∙ is))
 
     only_even : IsAccepted file stem lap → m.player ≡ 0
     unfolding from count
     only_even accepted =
-        let even =
-        accepted_is_even file chain (auto_of a) built.is_chain built.auto stem lap l.some in_stem in_lap 0 1
+        let even = accepted_is_even file chain (auto_of a) built.is_chain built.auto stem lap l.some in_stem in_lap 0 1
         (omega arith) returned accepted in
         made.player ∙ sym parity ∙ eqb-true (greatest_from (priority_at (auto_of a) (word stem lap)) from count % 2) 0
         even
 
   pub each_lasso_won : LassosWon file m
   each_lasso_won = record {
-    accepted = λ is stem lap l. if_even stem lap l is;
-    rejected = λ other stem lap l accepted. other (only_even stem lap l accepted);
+    accepted = λ is stem lap l. if_even l is;
+    rejected = λ other stem lap l accepted. other (only_even l accepted);
   }

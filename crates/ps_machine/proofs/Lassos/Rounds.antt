@@ -1,10 +1,11 @@
 -- One step of the machine is two steps through the game: to the vertex of a class, and on to that of a pair.
-use Rattle.std.proofs.Common.{◌≡◌, ◌≢◌, ℕ, zero, suc, ◌+◌, ◌-◌, ◌<◌, ◌≤◌, ◌⊎◌, inl, inr, List, [], ◌∷◌, length, map}
-use Rattle.std.proofs.Common.{get_or, Some, refl, ap, ap₂, sym, subst, ◌∙◌, arith}
+use Rattle.std.proofs.Common.{◌≡◌, ◌≢◌, ℕ, ◌+◌, ◌-◌, ◌<◌, ◌≤◌, ◌⊎◌, inl, inr, List, length, map, get_or, Some, refl, ap}
+use Rattle.std.proofs.Common.{ap₂, sym, subst, ◌∙◌, arith}
 use Rattle.std.specs.Prelude.{IsSomeAnd}
-use Rattle.std.specs.List.{AllPairs, AllZip, Contains}
+use Rattle.std.specs.List.{AllPairs, Contains}
 use Rattle.std.proofs.lemmas.Option.{slice_get_within, get_or_from_slice_get}
 use Rattle.std.proofs.lemmas.Bool.{cases_lt}
+use Rattle.std.proofs.lemmas.List.{length-map, get_or-map}
 use Rattle.ps_game.specs.Games.{ParityGame, vertex_count, owner_of, priority_of, successors_of, HasEdge}
 use Rattle.ps_certificate.specs.Certificates.{CertificateData, Fits, IsValid, winner_of, choice_of}
 use Rattle.ps_machine.specs.Keys.{owner_of_key, priority_of_key}
@@ -14,15 +15,15 @@ use Rattle.ps_machine.specs.Extracting.{GoesTo, StepsFirst, StepsSecond}
 use Rattle.ps_machine.specs.Solving.{winner}
 use Rattle.ps_machine.specs.declared.key.Key.{Key}
 use Rattle.ps_machine.specs.declared.key.Key.TheVariants.{First, Second}
-use Rattle.ps_machine.proofs.GameKeys.Standing.{same_some}
+use Rattle.ps_machine.proofs.GameKeys.Standing.{same_some, zip_vertex}
 use Rattle.ps_machine.proofs.LeastLetters.{none_without_least, contained_or_not}
 
 -- ## Keys
 
 -- a key stands at one place
-pub one_place : (keys : List Key) → AllPairs (λ x y. x ≢ y) keys → (v w : ℕ) (k : Key) → StandsAt keys v k →
+pub one_place : (keys : List Key) → AllPairs (λ x y. x ≢ y) keys → (v w : ℕ) {k : Key} → StandsAt keys v k →
     StandsAt keys w k → v ≡ w
-one_place keys differ v w k at there = by (cases_lt v w) (cases_lt w v)
+one_place keys differ v w {k} at there = by (cases_lt v w) (cases_lt w v)
   where
     at_place : (u : ℕ) → StandsAt keys u k → get_or keys u k ≡ k
     at_place u s = get_or_from_slice_get keys u k k s
@@ -34,24 +35,10 @@ one_place keys differ v w k at there = by (cases_lt v w) (cases_lt w v)
         absurd (differ w v k less (slice_get_within keys v k at) (at_place w there ∙ sym (at_place v at)))
     by (inr more) (inr fewer) = omega (arith, more, fewer)
 
-pub map_contains : (f : ℕ → Key) (letters : List ℕ) (k y : ℕ) → k < length letters → get_or letters k y ≡ y →
+pub map_contains : (f : ℕ → Key) (letters : List ℕ) (k : ℕ) {y : ℕ} → k < length letters → get_or letters k y ≡ y →
     Contains (map f letters) (f y)
-map_contains f [] k y within is = absurd (omega (arith, within))
-map_contains f (x ∷ letters) zero y within is = (0, omega arith, ap f is)
-map_contains f (x ∷ letters) (suc k) y within is =
-    let c = map_contains f letters k y (omega (arith, within)) is in
-    (suc c.0, omega (arith, c.1), c.2)
-
-zip_contains : (keys : List Key) (numbers : List ℕ) (next : List Key) (v : ℕ) (k : Key) →
-    AllZip (StandsAt keys) numbers next → ((w : ℕ) → StandsAt keys w k → w ≡ v) →
-    (i : ℕ) → i < length next → get_or next i k ≡ k → Contains numbers v
-zip_contains keys numbers [] v k zip one i within is = absurd (omega (arith, within))
-zip_contains keys [] (l ∷ next) v k zip one i within is = absurd zip
-zip_contains keys (n ∷ numbers) (l ∷ next) v k zip one zero within is =
-    (0, omega arith, one n (zip.0 ∙ ap (λ x. Some x) is))
-zip_contains keys (n ∷ numbers) (l ∷ next) v k zip one (suc i) within is =
-    let c = zip_contains keys numbers next v k zip.1 one i (omega (arith, within)) is in
-    (suc c.0, omega (arith, c.1), c.2)
+map_contains f letters k {y} within is =
+    (k, omega (arith, within, length-map letters f), get_or-map f letters k y (f y) within ∙ ap f is)
 
 -- ## Edges
 
@@ -71,37 +58,37 @@ pub record Round (game : ParityGame) (certificate : CertificateData) (v w : ℕ)
   pub first : owner_of game v ≡ winner certificate → choice_of certificate v ≡ Some between
   pub second : owner_of game between ≡ winner certificate → choice_of certificate between ≡ Some w
 
-module _ (board : Board) (mover : ℕ) (keys : List Key) (game : ParityGame) (certificate : CertificateData)
+module _ {board : Board} {mover : ℕ} {keys : List Key} {game : ParityGame} {certificate : CertificateData}
     (s : Setting board mover keys game certificate) where
-  pub within_game : (v : ℕ) (k : Key) → StandsAt keys v k → v < vertex_count game
-  within_game v k at = omega (arith, slice_get_within keys v k at, s.by_keys.count)
+  pub within_game : (v : ℕ) {k : Key} → StandsAt keys v k → v < vertex_count game
+  within_game v {k} at = omega (arith, slice_get_within keys v k at, s.by_keys.count)
 
-  pub same_place : (v w : ℕ) (k : Key) → StandsAt keys v k → StandsAt keys w k → v ≡ w
+  pub same_place : (v w : ℕ) {k : Key} → StandsAt keys v k → StandsAt keys w k → v ≡ w
   same_place = one_place keys s.by_keys.different
 
-  pub owner_at : (v : ℕ) (k : Key) → StandsAt keys v k → owner_of game v ≡ owner_of_key mover k
-  owner_at v k at =
-      let vertex = s.by_keys.vertices v (within_game v k at) in
-      vertex.owner ∙ ap (owner_of_key mover) (same_some vertex.key k (sym vertex.stands ∙ at))
+  pub owner_at : (v : ℕ) {k : Key} → StandsAt keys v k → owner_of game v ≡ owner_of_key mover k
+  owner_at v {k} at =
+      let vertex = s.by_keys.vertices v (within_game v at) in
+      vertex.owner ∙ ap (owner_of_key mover) (same_some (sym vertex.stands ∙ at))
 
-  pub priority_here : (v : ℕ) (k : Key) → StandsAt keys v k → priority_of game v ≡ priority_of_key k
-  priority_here v k at =
-      let vertex = s.by_keys.vertices v (within_game v k at) in
-      vertex.priority ∙ ap priority_of_key (same_some vertex.key k (sym vertex.stands ∙ at))
+  pub priority_here : (v : ℕ) {k : Key} → StandsAt keys v k → priority_of game v ≡ priority_of_key k
+  priority_here v {k} at =
+      let vertex = s.by_keys.vertices v (within_game v at) in
+      vertex.priority ∙ ap priority_of_key (same_some (sym vertex.stands ∙ at))
 
   -- an edge to the vertex of a key to which the key leads
   edge_by_key : (v w : ℕ) (k l : Key) → StandsAt keys v k → StandsAt keys w l →
       ((next : List Key) → LeadsTo board k next → (Contains next l → ⊥) → ⊥) → HasEdge game v w
   edge_by_key v w k l at there leads =
-      let within = within_game v k at in
+      let within = within_game v at in
       let vertex = s.by_keys.vertices v within in
       let from : LeadsTo board k vertex.next =
-      subst (λ key. LeadsTo board key vertex.next) (same_some vertex.key k (sym vertex.stands ∙ at))
-      vertex.leads_to in
-      let one : (u : ℕ) → StandsAt keys u l → u ≡ w = λ u is. same_place u w l is there in (
+      subst (λ key. LeadsTo board key vertex.next) (same_some (sym vertex.stands ∙ at)) vertex.leads_to in
+      let one : (u : ℕ) → StandsAt keys u l → u ≡ w = λ u is. same_place u w is there in (
         within,
-        decided (successors_of game v) (λ none. leads vertex.next from
-            (λ c. none (zip_contains keys (successors_of game v) vertex.next w l vertex.successors one c.0 c.1 c.2))),
+        decided (successors_of game v) (λ none. leads vertex.next from (λ c.
+            let there = zip_vertex keys (successors_of game v) vertex.next vertex.successors c in
+            none (subst (Contains (successors_of game v)) (one there.0 there.2) there.1))),
       )
     where
       decided : (xs : List ℕ) → ((Contains xs w → ⊥) → ⊥) → Contains xs w
@@ -111,18 +98,18 @@ module _ (board : Board) (mover : ℕ) (keys : List Key) (game : ParityGame) (ce
       ]
 
   -- where the winner moves, the move is an edge
-  edge_by_move : (v w : ℕ) (k : Key) → StandsAt keys v k → owner_of game v ≡ winner_of certificate v →
+  edge_by_move : (v : ℕ) {w : ℕ} (k : Key) → StandsAt keys v k → owner_of game v ≡ winner_of certificate v →
       choice_of certificate v ≡ Some w → HasEdge game v w
-  edge_by_move v w k at own is =
-      let moves = (s.valid.closed.moves v (within_game v k at)).own own in
+  edge_by_move v k at own is =
+      let moves = (s.valid.closed.moves v (within_game v at)).own own in
       subst (λ o. IsSomeAnd o (HasEdge game v)) is moves
 
-  pub to_class : (v at q p class : ℕ) → StandsAt keys v (First q p) → StandsAt keys at (Second q class) →
+  pub to_class : (v at q p : ℕ) {class : ℕ} → StandsAt keys v (First q p) → StandsAt keys at (Second q class) →
       IsClass board q class → HasEdge game v at
-  to_class v at q p class here there is = edge_by_key v at (First q p) (Second q class) here there (λ next leads none.
+  to_class v at q p {class} here there is = edge_by_key v at (First q p) (Second q class) here there (λ next leads none.
       let c = leads.1.complete class is in
       none (subst (λ l. Contains l (Second q class)) (sym leads.2)
-      (map_contains (λ x. Second q x) leads.0 c.0 class c.1 c.2)))
+      (map_contains (λ x. Second q x) leads.0 c.0 c.1 c.2)))
 
   to_pair : (at w q class y : ℕ) → StandsAt keys at (Second q class) → IsSecondLetter board y →
       GoesTo keys board q (class + y) w → HasEdge game at w
@@ -146,30 +133,29 @@ module _ (board : Board) (mover : ℕ) (keys : List Key) (game : ParityGame) (ce
       let c = leads.1.complete z move in
       let same : pair z ≡ pair y = ap₂ (λ a b. First a b) least.here.1.state least.here.1.priority in
       none (subst (λ l. Contains l (pair y)) (sym leads.2) (subst (λ k. Contains (map pair leads.0) k) same
-      (map_contains pair leads.0 c.0 z c.1 c.2))))
-      y itself)
+      (map_contains pair leads.0 c.0 c.1 c.2)))) y itself)
 
-  pub first_owner : (v q p : ℕ) → StandsAt keys v (First q p) → owner_of game v ≡ mover
-  first_owner v q p at = owner_at v (First q p) at
+  pub first_owner : (v : ℕ) {q p : ℕ} → StandsAt keys v (First q p) → owner_of game v ≡ mover
+  first_owner v {q} {p} at = owner_at v at
 
-  pub second_owner : (v q x : ℕ) → StandsAt keys v (Second q x) → owner_of game v ≡ 1 - mover
-  second_owner v q x at = owner_at v (Second q x) at
+  pub second_owner : (v : ℕ) {q x : ℕ} → StandsAt keys v (Second q x) → owner_of game v ≡ 1 - mover
+  second_owner v {q} {x} at = owner_at v at
 
   -- the winner of vertex 0 wins the vertices that are used, and so moves there as the certificate says
   pub round_first : (v q p x letter w : ℕ) → mover ≡ winner certificate → winner_of certificate v ≡ winner certificate →
       StandsAt keys v (First q p) → StepsFirst board keys certificate v q x letter → IsSecondLetter board x →
       GoesTo keys board q (x + letter) w → Round game certificate v w
   round_first v q p x letter w wins here at steps second goes =
-      let own : owner_of game v ≡ winner_of certificate v = first_owner v q p at ∙ wins ∙ sym here in
+      let own : owner_of game v ≡ winner_of certificate v = first_owner v at ∙ wins ∙ sym here in
       let sum : x + letter ≡ letter + x = omega arith in
       record {
         between = steps.chosen;
-        there = edge_by_move v steps.chosen (First q p) at own steps.choice;
+        there = edge_by_move v (First q p) at own steps.choice;
         on = to_pair steps.chosen w q letter x steps.stands second (subst (λ n. GoesTo keys board q n w) sum goes);
-        priority = priority_here steps.chosen (Second q letter) steps.stands;
+        priority = priority_here steps.chosen steps.stands;
         first = λ o. steps.choice;
         second =
-            λ o. (let other : 1 - mover ≡ mover = sym (second_owner steps.chosen q letter steps.stands) ∙ o
+            λ o. (let other : 1 - mover ≡ mover = sym (second_owner steps.chosen steps.stands) ∙ o
             ∙ sym wins in absurd (omega (arith, other, s.is_mover)));
       }
 
@@ -179,23 +165,21 @@ module _ (board : Board) (mover : ℕ) (keys : List Key) (game : ParityGame) (ce
       GoesTo keys board q (x + letter) w → Round game certificate v w
   round_second v u q p x letter w loses small at steps here goes =
       let owner : owner_of game steps.at ≡ winner_of certificate steps.at =
-      (let is = second_owner steps.at q steps.class steps.stands in
+      (let is = second_owner steps.at steps.stands in
       omega (arith, is, loses, small, s.is_mover, here)) in
       let goes_there = steps.least.here.1 in
       let same = steps.same letter steps.least.here.0 in
       let pair : First (board.auto.next q (x + letter)) (board.auto.priority q (x + letter)) ≡ First
       (board.auto.next q (steps.class + letter)) (board.auto.priority q (steps.class + letter)) =
       ap₂ (λ a b. First a b) same.state same.priority in
-      let entered : steps.chosen ≡ w =
-      same_place steps.chosen w (First (board.auto.next q (steps.class + letter))
-      (board.auto.priority q (steps.class + letter))) goes_there.stands
+      let entered : steps.chosen ≡ w = same_place steps.chosen w goes_there.stands
       (subst (λ k. StandsAt keys w k) pair goes.stands) in
       let choice : choice_of certificate steps.at ≡ Some w = steps.choice ∙ ap (λ n. Some n) entered in
       record {
         between = steps.at;
-        there = to_class v steps.at q p steps.class at steps.stands steps.is_class;
-        on = edge_by_move steps.at w (Second q steps.class) steps.stands owner choice;
-        priority = priority_here steps.at (Second q steps.class) steps.stands;
-        first = λ o. absurd (loses (sym (first_owner v q p at) ∙ o));
+        there = to_class v steps.at q p at steps.stands steps.is_class;
+        on = edge_by_move steps.at (Second q steps.class) steps.stands owner choice;
+        priority = priority_here steps.at steps.stands;
+        first = λ o. absurd (loses (sym (first_owner v at) ∙ o));
         second = λ o. choice;
       }

@@ -1,7 +1,6 @@
 -- A machine that reads letters on and on walks through the game, by the winner's moves, and the automaton goes with it.
-use Rattle.std.proofs.Common.{◌≡◌, ℕ, zero, suc, ◌+◌, ◌-◌, ◌%◌, ◌<◌, ◌≤◌, Bool, true, false, List, [], ◌∷◌, length}
-use Rattle.std.proofs.Common.{get_or, max, Option, Some, None, refl, ap, ap₂, sym, subst, ◌∙◌, arith, rules, add-one}
-use Rattle.std.proofs.Common.{add-zero, ◌==◌}
+use Rattle.std.proofs.Common.{◌≡◌, ℕ, zero, suc, ◌+◌, ◌-◌, ◌%◌, ◌<◌, ◌≤◌, Bool, true, false, List, length, get_or}
+use Rattle.std.proofs.Common.{Option, Some, None, refl, ap, ap₂, sym, subst, ◌∙◌, arith, rules, add-one, add-zero, ◌==◌}
 use Rattle.std.specs.Prelude.{IsTrue, slice_index}
 use Rattle.std.specs.List.{slice_get}
 use Rattle.std.proofs.Math.Nat.{le-max_left, le-max_right, le_antisymm}
@@ -9,8 +8,8 @@ use Rattle.std.proofs.lemmas.Option.{slice_get_within, slice_get-get_or}
 use Rattle.std.proofs.lemmas.Bool.{eqb-true, eqb-false, eq-eqb}
 use Rattle.ps_automaton.specs.Autos.{Auto, state_at, priority_at, greatest_from}
 use Rattle.ps_automaton.proofs.Orbits.{all_below}
-use Rattle.ps_game.specs.Games.{ParityGame, vertex_count, owner_of, priority_of, HasEdge}
-use Rattle.ps_game.specs.Plays.{IsPath, IsLoop, Follows, WinsLoop, loop_priority}
+use Rattle.ps_game.specs.Games.{ParityGame, owner_of, priority_of, HasEdge}
+use Rattle.ps_game.specs.Plays.{IsLoop, WinsLoop, loop_priority}
 use Rattle.ps_game.proofs.LoopPriorities.{le-loop_priority, loop_priority_stands}
 use Rattle.ps_certificate.specs.Certificates.{CertificateData, winner_of, choice_of}
 use Rattle.ps_certificate.proofs.Holding.{BothHold-from_valid}
@@ -24,8 +23,9 @@ use Rattle.ps_machine.specs.declared.key.Key.TheVariants.{First}
 use Rattle.ps_machine.proofs.Machines.Following.{used_first}
 use Rattle.ps_machine.proofs.GameKeys.Standing.{one_state}
 use Rattle.ps_machine.proofs.Lassos.Rounds.{Setting, Round, within_game, same_place, first_owner, priority_here}
-use Rattle.ps_machine.proofs.Lassos.Rounds.{to_class}
-use Rattle.ps_machine.proofs.Lassos.Rounds.{round_first, round_second}
+use Rattle.ps_machine.proofs.Lassos.Rounds.{to_class, round_first, round_second}
+use Rattle.ps_machine.proofs.Lassos.ListedPaths.{list_of, length-list_of, get_or-list_of, twice, twice_rises}
+use Rattle.ps_machine.proofs.Lassos.ListedPaths.{greatest_shift, list_is_path, list_follows}
 
 -- ## Plain facts
 
@@ -33,92 +33,29 @@ number_in : Option ℕ → ℕ
 number_in None = 0
 number_in (Some n) = n
 
-same_number : (a b : ℕ) (o : Option ℕ) → o ≡ Some a → o ≡ Some b → a ≡ b
+same_number : {a b : ℕ} {o : Option ℕ} → o ≡ Some a → o ≡ Some b → a ≡ b
 unfolding number_in
-same_number a b o e f = ap number_in (sym e ∙ f)
+same_number e f = ap number_in (sym e ∙ f)
 
 -- the kept vertex of a memory that stands at a vertex has the vertex's state
-same_state : (first : Bool) (keys : List Key) (kept : List ℕ) (memory v q p u r o : ℕ) →
+same_state : {first : Bool} {keys : List Key} {kept : List ℕ} {memory v q : ℕ} (p : ℕ) {u r : ℕ} (o : ℕ) →
     StandsFor first keys kept memory v q → StandsAt keys v (First q p) → slice_get kept memory ≡ Some u →
     StandsAt keys u (First r o) → r ≡ q
-same_state first keys kept memory v q p u r o f at is there =
-    let same : f.vertex ≡ u = same_number f.vertex u (slice_get kept memory) f.is_kept is in
+same_state {first} {keys} {kept} {memory} {v} {q} p {u} {r} o f at is there =
+    let same : f.vertex ≡ u = same_number f.is_kept is in
     let state : r ≡ f.state =
-    one_state keys u r o f.state f.priority there (subst (λ n. StandsAt keys n (First f.state f.priority))
-    same f.stands) in
+    one_state keys u o f.priority there (subst (λ n. StandsAt keys n (First f.state f.priority)) same f.stands) in
     state ∙ by first f.shares
   where
     by : (b : Bool) → Shares b f.vertex f.state v q → f.state ≡ q
     by true shares =
-        one_state keys v f.state f.priority q p (subst (λ n. StandsAt keys n (First f.state f.priority))
-        shares f.stands) at
+        one_state keys v f.priority p (subst (λ n. StandsAt keys n (First f.state f.priority)) shares f.stands) at
     by false shares = shares
 
-same_vertex : (first : Bool) (keys : List Key) (kept : List ℕ) (memory v q u : ℕ) →
+same_vertex : (first : Bool) {keys : List Key} {kept : List ℕ} {memory v q u : ℕ} →
     StandsFor first keys kept memory v q → slice_get kept memory ≡ Some u → first ≡ true → u ≡ v
-same_vertex true keys kept memory v q u f is e = same_number u f.vertex (slice_get kept memory) is f.is_kept ∙ f.shares
-same_vertex false keys kept memory v q u f is e = search rules
-
--- the values of a function as a list
-list_of : (ℕ → ℕ) → ℕ → List ℕ
-list_of f zero = []
-list_of f (suc n) = f 0 ∷ list_of (λ k. f (suc k)) n
-
-length-list_of : (f : ℕ → ℕ) (n : ℕ) → length (list_of f n) ≡ n
-unfolding list_of
-length-list_of f zero = refl
-length-list_of f (suc n) = ap suc (length-list_of (λ k. f (suc k)) n)
-
-get_or-list_of : (f : ℕ → ℕ) (n k d : ℕ) → k < n → get_or (list_of f n) k d ≡ f k
-unfolding list_of
-get_or-list_of f zero k d within = absurd (omega (arith, within))
-get_or-list_of f (suc n) zero d within = refl
-get_or-list_of f (suc n) (suc k) d within = get_or-list_of (λ i. f (suc i)) n k d (omega (arith, within))
-
-module _ (game : ParityGame) (f : ℕ → ℕ) (edge : (k : ℕ) → HasEdge game (f k) (f (suc k))) (n : ℕ) where
-  there : (k : ℕ) → k < suc n → slice_index (list_of f (suc n)) k ≡ f k
-  there k within = get_or-list_of f (suc n) k 0 within
-
-  next_there : (k : ℕ) → k + 1 < suc n → slice_index (list_of f (suc n)) (k + 1) ≡ f (suc k)
-  next_there k within = there (k + 1) within ∙ ap f (add-one k)
-
-  list_is_path : IsPath game (list_of f (suc n))
-  list_is_path =
-      let long = length-list_of f (suc n) in
-      record {
-        begins = omega (arith, long);
-        vertices =
-            λ k within. subst (λ v. v < vertex_count game) (sym (there k (omega (arith, long, within)))) (edge k).0;
-        edges = λ k within.
-            subst (λ v. HasEdge game v (slice_index (list_of f (suc n)) (k + 1)))
-            (sym (there k (omega (arith, long, within))))
-            (subst (λ w. HasEdge game (f k) w) (sym (next_there k (omega (arith, long, within)))) (edge k));
-      }
-
-  list_follows : (player : ℕ) (table : ℕ → Option ℕ) → ((k : ℕ) → owner_of game (f k) ≡ player →
-      table (f k) ≡ Some (f (suc k))) → Follows game player table (list_of f (suc n))
-  list_follows player table each k within own =
-      let long = length-list_of f (suc n) in
-      let here = there k (omega (arith, long, within)) in
-      let next = next_there k (omega (arith, long, within)) in
-      ap table here ∙ each k (ap (owner_of game) (sym here) ∙ own) ∙ ap (λ v. Some v) (sym next)
-
-twice : ℕ → ℕ
-twice zero = zero
-twice (suc n) = suc (suc (twice n))
-
-twice_rises : (m n : ℕ) → m < n → twice m < twice n
-unfolding twice
-twice_rises m zero less = absurd (omega (arith, less))
-twice_rises zero (suc n) less = omega arith
-twice_rises (suc m) (suc n) less = (let before = twice_rises m n (omega (arith, less)) in omega (arith, before))
-
-greatest_shift : (f g : ℕ → ℕ) → ((t : ℕ) → f (suc t) ≡ g t) → (from count : ℕ) →
-    greatest_from f (suc from) count ≡ greatest_from g from count
-greatest_shift f g each from zero = refl
-greatest_shift f g each from (suc count) =
-    let place : suc from + 1 ≡ suc (from + 1) = omega arith in
-    ap₂ max (each from) (ap (λ n. greatest_from f n count) place ∙ greatest_shift f g each (from + 1) count)
+same_vertex true f is e = same_number is f.is_kept ∙ f.shares
+same_vertex false f is e = search rules
 
 -- ## The walk
 
@@ -131,35 +68,31 @@ pub record IsEndless (m : Behaviour) (w memories : ℕ → ℕ) : Type 0 where
   pub begins : memories 0 ≡ 0
   pub makes : (t : ℕ) → Makes m (memories t) (w t) (memories (suc t))
 
-module _ (board : Board) (mover : ℕ) (keys : List Key) (game : ParityGame) (certificate : CertificateData)
-    (s : Setting board mover keys game certificate) (m : Behaviour)
-    (made : IsMachineOf board mover keys game certificate m)
-    (others : (x : ℕ) → IsInput m x → IsOther m.is_first board x) where
-  won_along : (v w : ℕ) → winner_of certificate v ≡ winner certificate → HasEdge game v w →
+module _ {board : Board} {mover : ℕ} {keys : List Key} {game : ParityGame} {certificate : CertificateData}
+    (s : Setting board mover keys game certificate) {m : Behaviour}
+    (made : IsMachineOf board mover keys game certificate m) (others : (x : ℕ) → IsInput m x →
+    IsOther m.is_first board x) where
+  won_along : (v : ℕ) {w : ℕ} → winner_of certificate v ≡ winner certificate → HasEdge game v w →
       (owner_of game v ≡ winner certificate → choice_of certificate v ≡ Some w) →
       winner_of certificate w ≡ winner certificate
-  won_along v w here edge chosen =
+  won_along v {w} here edge chosen =
       s.valid.closed.stays v w (record { edge = edge; chosen = λ o. chosen (o ∙ here) }) ∙ here
 
   small_winner : winner certificate < 2
-  small_winner =
-      s.fits.winners 0 (within_game board mover keys game certificate s 0 (First board.auto.start 0) s.by_keys.begins)
+  small_winner = s.fits.winners 0 (within_game s 0 s.by_keys.begins)
 
   round_by : (first : Bool) → first ≡ (mover == winner certificate) → (v u q p x letter w : ℕ) →
       (first ≡ true → u ≡ v) → winner_of certificate v ≡ winner certificate → StandsAt keys v (First q p) →
       IsPlayed first board keys certificate u q x letter → IsOther first board x → GoesTo keys board q (x + letter) w →
       Round game certificate v w
   round_by true is v u q p x letter w same here at played other goes =
-      round_first board mover keys game certificate s v q p x letter w (eqb-true mover (winner certificate) (sym is))
+      round_first s v q p x letter w (eqb-true mover (winner certificate) (sym is))
       here at (subst (λ n. IsPlayed true board keys certificate n q x letter) (same refl) played) other goes
   round_by false is v u q p x letter w same here at played other goes =
       let loses = eqb-false mover (winner certificate) (sym is) in
-      let edge =
-      to_class board mover keys game certificate s v played.at q p played.class at played.stands played.is_class in
-      let won =
-      won_along v played.at here edge (λ o. absurd (loses (sym
-      (first_owner board mover keys game certificate s v q p at) ∙ o))) in
-      round_second board mover keys game certificate s v u q p x letter w loses small_winner at played won goes
+      let edge = to_class s v played.at q p at played.stands played.is_class in
+      let won = won_along v here edge (λ o. absurd (loses (sym (first_owner s v at) ∙ o))) in
+      round_second s v u q p x letter w loses small_winner at played won goes
 
   record Next (memory v q x : ℕ) : Type 0 where
     pub vertex : ℕ
@@ -170,33 +103,28 @@ module _ (board : Board) (mover : ℕ) (keys : List Key) (game : ParityGame) (ce
     pub won : winner_of certificate vertex ≡ winner certificate
     pub round : Round game certificate v vertex
 
-  next_vertex : (memory v q p x : ℕ) → StandsAt keys v (First q p) → StandsFor m.is_first keys made.kept memory v q →
+  next_vertex : {memory v q : ℕ} (p : ℕ) {x : ℕ} → StandsAt keys v (First q p) →
+      StandsFor m.is_first keys made.kept memory v q →
       winner_of certificate v ≡ winner certificate → IsInput m x → Next memory v q x
-  next_vertex memory v q p x at f here input =
+  next_vertex {memory} {v} {q} p {x} at f here input =
       let within : memory < m.memories =
       omega (arith, made.memories, slice_get_within made.kept memory f.vertex f.is_kept) in
       let step = made.steps memory x within (others x input) in
-      let state : step.state ≡ q =
-      same_state m.is_first keys made.kept memory v q p step.vertex step.state step.priority f at
-      step.is_kept step.stands in
+      let state : step.state ≡ q = same_state p step.priority f at step.is_kept step.stands in
       let letter = m.plays memory x in
       let played : IsPlayed m.is_first board keys certificate step.vertex q x letter =
       subst (λ n. IsPlayed m.is_first board keys certificate step.vertex n x letter) state step.played in
       let goes : GoesTo keys board q (x + letter) step.entered =
       subst (λ n. GoesTo keys board n (x + letter) step.entered) state step.goes in
-      let round =
-      round_by m.is_first made.is_first v step.vertex q p x letter step.entered
-      (same_vertex m.is_first keys made.kept memory v q step.vertex f step.is_kept) here at played
-      (others x input) goes in
+      let round = round_by m.is_first made.is_first v step.vertex q p x letter step.entered
+      (same_vertex m.is_first f step.is_kept) here at played (others x input) goes in
       record {
         vertex = step.entered;
         stands = goes.stands;
         at_memory =
             subst (λ n. StandsFor m.is_first keys made.kept (m.next memory x) step.entered
             (board.auto.next n (x + letter))) state step.next;
-        won =
-            won_along round.between step.entered (won_along v round.between here round.there round.first)
-            round.on round.second;
+        won = won_along round.between (won_along v here round.there round.first) round.on round.second;
         round = round;
       }
 
@@ -208,8 +136,7 @@ module _ (board : Board) (mover : ℕ) (keys : List Key) (game : ParityGame) (ce
     priority = 0;
     here =
         record {
-          used = used_first game certificate (within_game board mover keys game certificate s 0
-              (First board.auto.start 0) s.by_keys.begins);
+          used = used_first game certificate (within_game s 0 s.by_keys.begins);
           stands = s.by_keys.begins;
         };
     least = λ w r p less. absurd (omega (arith, less));
@@ -228,7 +155,7 @@ module _ (board : Board) (mover : ℕ) (keys : List Key) (game : ParityGame) (ce
 
   -- ## On and on
 
-  module _ (w memories : ℕ → ℕ) (e : IsEndless m w memories) where
+  module _ {w memories : ℕ → ℕ} (e : IsEndless m w memories) where
     record At (t : ℕ) : Type 0 where
       pub vertex : ℕ
       pub stands : StandsAt keys vertex (First (state_at board.auto w t) (entering board.auto w t))
@@ -245,9 +172,7 @@ module _ (board : Board) (mover : ℕ) (keys : List Key) (game : ParityGame) (ce
         let a = board.auto in
         let makes = e.makes t in
         let q = state_at a w t in
-        let n =
-        next_vertex (memories t) now.vertex q (entering a w t) makes.input now.stands now.at_memory now.won
-        makes.is_input in
+        let n = next_vertex (entering a w t) now.stands now.at_memory now.won makes.is_input in
         let letter : makes.input + m.plays (memories t) makes.input ≡ w t = sym makes.joined in
         record {
           next = record {
@@ -266,15 +191,14 @@ module _ (board : Board) (mover : ℕ) (keys : List Key) (game : ParityGame) (ce
     walk zero = record {
       vertex = 0;
       stands = s.by_keys.begins;
-      at_memory = subst (λ k. StandsFor m.is_first keys made.kept k 0 board.auto.start) (sym e.begins)
-          (record {
-            vertex = 0;
-            state = board.auto.start;
-            priority = 0;
-            is_kept = memory_of_start;
-            stands = s.by_keys.begins;
-            shares = start_shares m.is_first;
-          });
+      at_memory = subst (λ k. StandsFor m.is_first keys made.kept k 0 board.auto.start) (sym e.begins) (record {
+        vertex = 0;
+        state = board.auto.start;
+        priority = 0;
+        is_kept = memory_of_start;
+        stands = s.by_keys.begins;
+        shares = start_shares m.is_first;
+      });
       won = refl;
     }
     walk (suc t) = (advance t (walk t)).next
@@ -287,7 +211,7 @@ module _ (board : Board) (mover : ℕ) (keys : List Key) (game : ParityGame) (ce
     round_at t = (advance t (walk t)).round
 
     -- the vertices from a place on
-    place : ℕ → ℕ → ℕ
+    pub place : ℕ → ℕ → ℕ
     place t zero = vertex_at t
     place t (suc zero) = (round_at t).between
     place t (suc (suc k)) = place (suc t) k
@@ -329,9 +253,7 @@ module _ (board : Board) (mover : ℕ) (keys : List Key) (game : ParityGame) (ce
 
     entered_priority : (t : ℕ) → priority_of_vertex (suc t) ≡ priority_at board.auto w t
     unfolding priority_of_vertex vertex_at entering
-    entered_priority t =
-        priority_here board mover keys game certificate s (vertex_at (suc t))
-        (First (state_at board.auto w (suc t)) (entering board.auto w (suc t))) (walk (suc t)).stands
+    entered_priority t = priority_here s (vertex_at (suc t)) (walk (suc t)).stands
 
     -- ## Parts that return
 
@@ -342,16 +264,13 @@ module _ (board : Board) (mover : ℕ) (keys : List Key) (game : ParityGame) (ce
           let a = board.auto in
           let here = walk from in
           let there = walk (from + count) in
-          let f =
-          subst (λ k. StandsFor m.is_first keys made.kept k there.vertex (state_at a w (from + count))) back
+          let f = subst (λ k. StandsFor m.is_first keys made.kept k there.vertex (state_at a w (from + count))) back
           there.at_memory in
           let h = here.at_memory in
           let kept_state : h.state ≡ state_at a w from =
-          same_state m.is_first keys made.kept (memories from) here.vertex (state_at a w from) (entering a w from)
-          h.vertex h.state h.priority h here.stands h.is_kept h.stands in
-          let kept_there : h.state ≡ state_at a w (from + count) =
-          same_state m.is_first keys made.kept (memories from) there.vertex (state_at a w (from + count))
-          (entering a w (from + count)) h.vertex h.state h.priority f there.stands h.is_kept h.stands in
+          same_state (entering a w from) h.priority h here.stands h.is_kept h.stands in
+          let kept_there : h.state ≡ state_at a w (from + count) = same_state
+          (entering a w (from + count)) h.priority f there.stands h.is_kept h.stands in
           sym kept_there ∙ kept_state
 
       -- one step later it is at the same vertex again
@@ -365,8 +284,8 @@ module _ (board : Board) (mover : ℕ) (keys : List Key) (game : ParityGame) (ce
           = ap₂ first_key state_returns again in
           let there : StandsAt keys (vertex_at (suc (from + count))) (first_key (state_at a w from) (w from)) =
           subst (λ k. StandsAt keys (vertex_at (suc (from + count))) k) same (walk (suc (from + count))).stands in
-          ap vertex_at (sym place_is) ∙ same_place board mover keys game certificate s (vertex_at (suc (from + count)))
-          (vertex_at (suc from)) (first_key (state_at a w from) (w from)) there (walk (suc from)).stands
+          ap vertex_at (sym place_is) ∙ same_place s (vertex_at (suc (from + count)))
+          (vertex_at (suc from)) there (walk (suc from)).stands
 
       path : List ℕ
       path = list_of (place (suc from)) (suc (twice count))

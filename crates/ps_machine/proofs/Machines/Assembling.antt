@@ -54,24 +54,24 @@ reads_others false board p false is e = absurd (true_is_not_false e)
 
 -- ## Diagrams
 
-pub drawn_more : (is_first : Bool) (board : Board) (keys : List Key) (kept : List ℕ) (certificate : CertificateData)
-    (t u : Table) (old new : List Row) (nodes more : List ℕ) (i v node : ℕ) → Keeps t u → KeepsRows old new →
+pub drawn_more : {is_first : Bool} {board : Board} {keys : List Key} {kept : List ℕ} {certificate : CertificateData}
+    {t u : Table} {old new : List Row} {nodes more : List ℕ} {i v node : ℕ} → Keeps t u → KeepsRows old new →
     All (IsRow is_first board kept) new →
     IsDrawn is_first board keys kept certificate u new v node → v ≡ slice_index kept i → more ≡ nodes ++ node ∷ [] →
     AreDrawn is_first board keys kept certificate t old nodes i →
     AreDrawn is_first board keys kept certificate u new more (i + 1)
-drawn_more is_first board keys kept certificate t u old new nodes more i v node keeps rows all here at e d = record {
-  rows_are = all;
-  many = ap (λ (l : List ℕ). length l) e ∙ length_push nodes node ∙ ap (λ n. n + 1) d.many;
-  each = λ memory less. elim (cases_eq memory i) [
-    | inl same ↦ subst (λ j. Drawn (slice_index kept j) (slice_index more j)) (sym same)
-        (subst (Drawn (slice_index kept i)) (sym last) (subst (λ w. Drawn w node) at here))
-    | inr other ↦ (let before : memory < i = omega (arith, less, other) in
-        subst (Drawn (slice_index kept memory)) (sym (earlier memory before))
-        (drawn_kept is_first board keys kept certificate t u old new (slice_index kept memory)
-        (slice_index nodes memory) keeps rows (d.each memory before)))
-  ];
-}
+drawn_more {is_first} {board} {keys} {kept} {certificate} {u} {new} {nodes} {more} {i} {node} keeps rows all here
+    at e d = record {
+      rows_are = all;
+      many = ap (λ (l : List ℕ). length l) e ∙ length_push nodes node ∙ ap (λ n. n + 1) d.many;
+      each = λ memory less. elim (cases_eq memory i) [
+        | inl same ↦ subst (λ j. Drawn (slice_index kept j) (slice_index more j)) (sym same)
+            (subst (Drawn (slice_index kept i)) (sym last) (subst (λ w. Drawn w node) at here))
+        | inr other ↦ (let before : memory < i = omega (arith, less, other) in
+            subst (Drawn (slice_index kept memory)) (sym (earlier memory before))
+            (drawn_kept keeps rows (d.each memory before)))
+      ];
+    }
   where
     Drawn : ℕ → ℕ → Type 0
     Drawn w n = IsDrawn is_first board keys kept certificate u new w n

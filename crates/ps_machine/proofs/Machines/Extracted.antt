@@ -13,84 +13,80 @@ use Rattle.ps_machine.specs.Drawing.{AreMemories, AreUsed, IsPlan}
 use Rattle.ps_machine.specs.Extracting.{HasPropositions, IsMachineOf}
 use Rattle.ps_machine.specs.Solving.{winner}
 use Rattle.ps_machine.specs.Keys.{mover_of}
-use Rattle.ps_machine.specs.Machines.{behaviour}
+use Rattle.ps_machine.specs.Machines.{MachineData, IsWholeMachine, behaviour}
 use Rattle.ps_machine.specs.declared.key.Key.{Key}
 use Rattle.ps_machine.specs.declared.key.Order.{Order}
 use Rattle.ps_machine.specs.declared.machine.Diagrams.{Diagrams}
 use Rattle.ps_machine.specs.declared.machine.Propositions.{Propositions}
 use Rattle.ps_machine.proofs.Machines.Following.{used_first}
 use Rattle.ps_machine.proofs.Machines.KeptMemories.{all_kept, each_kept, some_kept}
-use Rattle.ps_machine.proofs.Machines.MachineLemmas.{is_step}
+use Rattle.ps_machine.proofs.Machines.MachineLemmas.{is_machine, is_step}
 use Rattle.std.proofs.lemmas.Option.{slice_get_within}
 
-pub some_vertices : (board : Board) (mover : ℕ) (keys : List Key) (game : ParityGame) → IsGameOf board mover keys game →
+pub some_vertices : {board : Board} {mover : ℕ} {keys : List Key} {game : ParityGame} → IsGameOf board mover keys game →
     0 < vertex_count game
-some_vertices board mover keys game is =
+some_vertices {keys} is =
     (let first = slice_get_within keys 0 _ is.by_keys.begins in omega (arith, first, is.by_keys.count))
 
 -- what is known before the diagrams are drawn
-unfoldable pub plan_is : (order : Order) (a : AutomatonData) (keys seen : List Key) (game shown : ParityGame)
-    (certificate : CertificateData) (first : Bool) (found kept marks : List ℕ) →
+unfoldable pub plan_is : {order : Order} {a : AutomatonData} {keys seen : List Key} {game shown : ParityGame}
+    {certificate : CertificateData} {first : Bool} {found kept marks : List ℕ} →
     IsGameOf (board_of order a) (mover_of order) keys game → Fits game certificate → IsValid game certificate →
     first ≡ (mover_of order == winner certificate) → shown ≡ game → AreUsed shown certificate found → seen ≡ keys →
     AreMemories first seen found kept marks → IsPlan order a keys certificate first kept marks
-plan_is order a keys seen game shown certificate first found kept marks is fits valid turn same are_used these
-    memories = record {
-      game = game;
-      is_game = is;
-      fits = fits;
-      valid = valid;
-      turn = turn;
-      used = found;
-      are_used = subst (λ g. AreUsed g certificate found) same are_used;
-      memories = subst (λ ks. AreMemories first ks found kept marks) these memories;
-    }
+plan_is {game} {certificate} {first} {found} {kept} {marks} is fits valid turn same are_used these memories = record {
+  game = game;
+  is_game = is;
+  fits = fits;
+  valid = valid;
+  turn = turn;
+  used = found;
+  are_used = subst (λ g. AreUsed g certificate found) same are_used;
+  memories = subst (λ ks. AreMemories first ks found kept marks) these memories;
+}
 
-module _ (order : Order) (a : AutomatonData) (keys : List Key) (certificate : CertificateData) (first : Bool)
-    (kept marks : List ℕ) (plan : IsPlan order a keys certificate first kept marks) (player : ℕ)
+module _ {order : Order} {a : AutomatonData} {keys : List Key} {certificate : CertificateData} {first : Bool}
+    {kept marks : List ℕ} (plan : IsPlan order a keys certificate first kept marks) {player : ℕ}
     (own : player ≡ winner certificate) where
   some : 0 < length kept
   some =
       let game = plan.game in
-      let zero =
-      used_first game certificate (some_vertices (board_of order a) (mover_of order) keys game plan.is_game) in
-      some_kept first keys plan.used kept marks plan.memories 0 a.start plan.is_game.by_keys.begins
-      ((plan.are_used 0).1 zero)
+      let zero = used_first game certificate (some_vertices plan.is_game) in
+      some_kept plan.memories 0 a.start plan.is_game.by_keys.begins ((plan.are_used 0).1 zero)
 
-  pub assembled : (p : Propositions) (d : Diagrams) → length a.names ≤ 64 → AreNames a.names →
+  -- what the machine that is made owes
+  pub record IsMade (n : MachineData) : Type 0 where
+    pub is_machine : IsWholeMachine n
+    pub has : HasPropositions a.names (board_of order a) (behaviour n)
+    pub of : IsMachineOf (board_of order a) (mover_of order) keys plan.game certificate (behaviour n)
+
+  pub made : (p : Propositions) (d : Diagrams) {n : MachineData} → length a.names ≤ 64 → AreNames a.names →
       map bytes_of p.names.items ≡ a.names → HasRoles first (board_of order a) p.inputs.items p.outputs.items →
       d.store.propositions ≡ length a.names → AreDrawn first (board_of order a) keys kept certificate d.store
-      d.rows.keys d.nodes.items (length kept) → IsAssembled (board_of order a) keys kept certificate
-      (machine_of player first p d)
-  assembled p d few sound names roles letters drawn = record {
-    few_names = subst (λ ns. length ns ≤ 64) (sym names) few;
-    are_names = subst AreNames (sym names) sound;
-    as_many = ap (λ ns. length ns) names;
-    letters = letters ∙ ap (λ ns. length ns) (sym names);
-    player =
-        (let small = plan.fits.winners 0 (some_vertices (board_of order a) (mover_of order) keys plan.game plan.is_game)
-        in omega (arith, small, own));
-    some = some;
-    roles = roles;
-    drawn = drawn;
-  }
-
-  pub has_propositions : (p : Propositions) (d : Diagrams) → map bytes_of p.names.items ≡ a.names →
-      HasRoles first (board_of order a) p.inputs.items p.outputs.items →
-      HasPropositions a.names (board_of order a) (behaviour (machine_of player first p d))
-  has_propositions p d names roles = record { names_are = names; as_many = refl; reads = roles.read.are }
-
-  pub is_machine_of : (p : Propositions) (d : Diagrams) → IsAssembled (board_of order a) keys kept certificate
-      (machine_of player first p d) →
-      IsMachineOf (board_of order a) (mover_of order) keys plan.game certificate
-      (behaviour (machine_of player first p d))
-  is_machine_of p d is = record {
-    player = own;
-    is_first = plan.turn;
-    kept = kept;
-    rising = plan.memories.rising;
-    each = all_kept first keys plan.used kept marks plan.memories plan.game certificate plan.are_used;
-    complete = each_kept first keys plan.used kept marks plan.memories plan.game certificate plan.are_used;
-    memories = is.drawn.many;
-    steps = is_step (board_of order a) keys kept certificate (machine_of player first p d) is;
-  }
+      d.rows.keys d.nodes.items (length kept) → n ≡ machine_of player first p d → IsMade n
+  made p d few sound names roles letters drawn is = subst IsMade (sym is) (record {
+    is_machine = is_machine assembled;
+    has = record { names_are = names; as_many = refl; reads = roles.read.are };
+    of = record {
+      player = own;
+      is_first = plan.turn;
+      kept = kept;
+      rising = plan.memories.rising;
+      each = all_kept plan.memories plan.are_used;
+      complete = each_kept plan.memories plan.are_used;
+      memories = drawn.many;
+      steps = is_step assembled;
+    };
+  })
+    where
+      assembled : IsAssembled (board_of order a) keys kept certificate (machine_of player first p d)
+      assembled = record {
+        few_names = subst (λ ns. length ns ≤ 64) (sym names) few;
+        are_names = subst AreNames (sym names) sound;
+        as_many = ap (λ ns. length ns) names;
+        letters = letters ∙ ap (λ ns. length ns) (sym names);
+        player = (let small = plan.fits.winners 0 (some_vertices plan.is_game) in omega (arith, small, own));
+        some = some;
+        roles = roles;
+        drawn = drawn;
+      }

@@ -27,11 +27,11 @@ pub mark_shares : (is_first : Bool) (v q w r : ℕ) → mark_of is_first v q ≡
 mark_shares true v q w r e = e
 mark_shares false v q w r e = e
 
-module _ (is_first : Bool) (keys : List Key) (used kept marks : List ℕ) (m : AreMemories is_first keys used kept marks)
+module _ {is_first : Bool} {keys : List Key} {used kept marks : List ℕ} (m : AreMemories is_first keys used kept marks)
   where
     -- two memories with one mark are one
-    one_memory : (i j x : ℕ) → slice_get marks i ≡ Some x → slice_get marks j ≡ Some x → i ≡ j
-    one_memory i j x at there = elim (cases_lt i j) [
+    one_memory : {i j x : ℕ} → slice_get marks i ≡ Some x → slice_get marks j ≡ Some x → i ≡ j
+    one_memory {i} {j} {x} at there = elim (cases_lt i j) [
       | inl less ↦ absurd (apart i j less at there)
       | inr high ↦ elim (cases_lt j i) [
         | inl less ↦ absurd (apart j i less there at)
@@ -45,13 +45,13 @@ module _ (is_first : Bool) (keys : List Key) (used kept marks : List ℕ) (m : A
             ∙ sym (get_or_from_slice_get marks l x 0 b))
 
     -- the memory of a used vertex stands for it, and is kept there or before
-    pub memory_of : (w r p : ℕ) → AllPairs (λ x y. x ≢ y) keys → Contains used w → StandsAt keys w (First r p) →
+    pub memory_of : {w r : ℕ} (p : ℕ) → AllPairs (λ x y. x ≢ y) keys → Contains used w → StandsAt keys w (First r p) →
         (memory : ℕ) × (memory < length kept) × StandsFor is_first keys kept memory w r
-    memory_of w r p differ is_used stands =
+    memory_of {w} {r} p differ is_used stands =
         let h = m.found w r p is_used stands in (
           h.memory,
           omega (arith, slice_get_within marks h.memory (mark_of is_first w r) h.is_marked, m.many),
-          stands_for is_first keys used kept marks h.memory w r p differ m stands h.is_marked w stands,
+          stands_for w p differ m stands h.is_marked stands,
         )
 
     -- the first memory is that of vertex 0
@@ -70,7 +70,7 @@ module _ (is_first : Bool) (keys : List Key) (used kept marks : List ℕ) (m : A
     pub some_kept : (p q : ℕ) → StandsAt keys 0 (First q p) → Contains used 0 → 0 < length kept
     some_kept p q stands is_used = slice_get_within kept 0 0 (first_kept p q stands is_used)
 
-    module _ (game : ParityGame) (certificate : CertificateData) (are_used : AreUsed game certificate used) where
+    module _ {game : ParityGame} {certificate : CertificateData} (are_used : AreUsed game certificate used) where
       -- at a memory's vertex no vertex before shares the memory
       kept_at : (memory : ℕ) → memory < length kept → IsKept is_first keys game certificate (get_or kept memory 0)
       kept_at memory within =
@@ -81,8 +81,7 @@ module _ (is_first : Bool) (keys : List Key) (used kept marks : List ℕ) (m : A
             here = record { used = (are_used (get_or kept memory 0)).0 here.is_used; stands = here.stands };
             least = λ w r p less there shares.
                 (let h = m.found w r p ((are_used w).1 there.used) there.stands in
-                let same : h.memory ≡ memory =
-                one_memory h.memory memory (mark_of is_first w r) h.is_marked
+                let same : h.memory ≡ memory = one_memory h.is_marked
                 (here.mark ∙ ap (λ n. Some n) (shares_mark is_first (get_or kept memory 0) here.state w r shares)) in
                 let behind : get_or kept memory 0 ≤ w = subst (λ i. get_or kept i 0 ≤ w) same h.behind in
                 omega (arith, behind, less));

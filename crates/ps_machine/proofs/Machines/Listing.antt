@@ -40,8 +40,8 @@ there_among : (p : ℕ) (list : List ℕ) → Contains list p → is_among p lis
 there_among p list c = subst (λ q. is_among q list ≡ true) c.2 (get_among list c.0 p c.1)
 
 -- the numbers below n that are so are listed in one way
-pub one_listed : (n : ℕ) (is : ℕ → Bool) (xs ys : List ℕ) → AreListedBelow n is xs → AreListedBelow n is ys → xs ≡ ys
-one_listed n is xs ys a b = same_numbers xs ys a.rising b.rising (into xs ys a b) (into ys xs b a)
+pub one_listed : {n : ℕ} {is : ℕ → Bool} {xs ys : List ℕ} → AreListedBelow n is xs → AreListedBelow n is ys → xs ≡ ys
+one_listed {n} {is} {xs} {ys} a b = same_numbers a.rising b.rising (into xs ys a b) (into ys xs b a)
   where
     into : (us vs : List ℕ) → AreListedBelow n is us → AreListedBelow n is vs → Within us vs
     into us vs l m p c =
@@ -56,9 +56,9 @@ listed_none is = record {
   are = λ p less. absurd (omega (arith, less));
 }
 
-pub listed_with : (n : ℕ) (is : ℕ → Bool) (list new : List ℕ) → is n ≡ true → new ≡ list ++ n ∷ [] →
+pub listed_with : {n : ℕ} {is : ℕ → Bool} {list new : List ℕ} → is n ≡ true → new ≡ list ++ n ∷ [] →
     AreListedBelow n is list → AreListedBelow (n + 1) is new
-listed_with n is list new here e l =
+listed_with {n} {is} {list} here e l =
     subst (AreListedBelow (n + 1) is) (sym e) (record {
       rising =
           all_pairs_push (λ p q. p < q) list n l.rising (λ k d within.
@@ -73,9 +73,9 @@ listed_with n is list new here e l =
       ];
     })
 
-pub listed_without : (n : ℕ) (is : ℕ → Bool) (list new : List ℕ) → is n ≡ false → new ≡ list →
+pub listed_without : {n : ℕ} {is : ℕ → Bool} {list new : List ℕ} → is n ≡ false → new ≡ list →
     AreListedBelow n is list → AreListedBelow (n + 1) is new
-listed_without n is list new isnt e l =
+listed_without {n} {is} {list} isnt e l =
     subst (AreListedBelow (n + 1) is) (sym e) (record {
       rising = l.rising;
       within = λ p among. (let less = l.within p among in omega (arith, less));

@@ -42,8 +42,7 @@ pub one_letter : (b : Bool) (board : Board) (keys : List Key) (certificate : Cer
 unfolding letter_in
 one_letter true board keys certificate v q x y one other is s t =
     let chosen = some_nat s.chosen t.chosen (sym s.choice ∙ t.choice) in
-    ap letter_in (same_some (Second q one) (Second q other) (sym s.stands
-    ∙ ap (λ w. slice_get keys w) chosen ∙ t.stands))
+    ap letter_in (same_some (sym s.stands ∙ ap (λ w. slice_get keys w) chosen ∙ t.stands))
 one_letter false board keys certificate v q x y one other is s t = absurd (true_is_not_false (sym is))
 
 pub own_within : (b : Bool) (board : Board) (y : ℕ) → IsOwn b board y → y < 2 ^ board.propositions
@@ -55,7 +54,7 @@ pub own_none : (b : Bool) (board : Board) (y p : ℕ) → IsOwn b board y → is
 own_none true board y p own is = own.own p (back_not (board.is_first p) is)
 own_none false board y p own is = own.own p is
 
-module _ (board : Board) (keys : List Key) (kept : List ℕ) (certificate : CertificateData) (m : MachineData)
+module _ {board : Board} {keys : List Key} {kept : List ℕ} {certificate : CertificateData} {m : MachineData}
     (a : IsAssembled board keys kept certificate m) where
   n : ℕ
   n = board.propositions
@@ -105,9 +104,9 @@ module _ (board : Board) (keys : List Key) (kept : List ℕ) (certificate : Cert
       (leads memory x d).leaf
   leaf_is memory x d = d.heeds x (part x) (λ p less is. part_bit x p less is) ∙ (leads memory x d).is_leaf
 
-  step_is : (memory x leaf : ℕ) (row : Row) → leaf_of m.store (slice_index m.nodes memory) x ≡ Some leaf →
+  step_is : (memory x : ℕ) {leaf : ℕ} {row : Row} → leaf_of m.store (slice_index m.nodes memory) x ≡ Some leaf →
       slice_get m.rows leaf ≡ Some row → step_of m memory x ≡ row
-  step_is memory x leaf row e f = ap (λ o. row_of m (unwrap_or o (length m.rows))) e
+  step_is memory x {leaf} {row} e f = ap (λ o. row_of m (unwrap_or o (length m.rows))) e
       ∙ get_or_from_slice_get m.rows leaf row (record { memory = 0; letter = 0 }) f
 
   drawn_at : (memory : ℕ) → memory < length m.nodes → Drawn memory
@@ -135,10 +134,10 @@ module _ (board : Board) (keys : List Key) (kept : List ℕ) (certificate : Cert
   plays_same is memory x y d =
       let one = leads memory x d in
       let other = leads memory y d in
-      ap (λ (r : Row). r.letter) (step_is memory x one.leaf one.row (leaf_is memory x d) one.is_row)
+      ap (λ (r : Row). r.letter) (step_is memory x (leaf_is memory x d) one.is_row)
       ∙ one_letter m.is_first board keys certificate (slice_index kept memory) d.state (part x) (part y) one.row.letter
       other.row.letter is one.is_right.played other.is_right.played
-      ∙ sym (ap (λ (r : Row). r.letter) (step_is memory y other.leaf other.row (leaf_is memory y d) other.is_row))
+      ∙ sym (ap (λ (r : Row). r.letter) (step_is memory y (leaf_is memory y d) other.is_row))
 
   read_or_played : (p : ℕ) → p < length m.names → (is_among p m.inputs ≡ true) ⊎ (is_among p m.outputs ≡ true)
   read_or_played p within =
@@ -214,7 +213,7 @@ module _ (board : Board) (keys : List Key) (kept : List ℕ) (certificate : Cert
       let d = drawn_at memory within in
       let l = d.leads x other in
       let v = slice_index kept memory in
-      let step = sym (step_is memory x l.leaf l.row l.is_leaf l.is_row) in
+      let step = sym (step_is memory x l.is_leaf l.is_row) in
       record {
         vertex = v;
         state = d.state;

@@ -1,169 +1,49 @@
 -- A machine is there for each valid certificate of a board's game: its vertices, its memories and its steps are found
 -- by definition.
-use Rattle.std.proofs.Common.{◌≡◌, ◌≢◌, ◌⊎◌, inl, inr, ℕ, zero, suc, ◌+◌, ◌-◌, ◌^◌, ◌<◌, ◌≤◌, Bool, true, false, not}
-use Rattle.std.proofs.Common.{List, [], ◌∷◌, ◌++◌, length, take, get_or, nat_eq, Option, None, Some, refl, ap, ap₂, sym}
-use Rattle.std.proofs.Common.{subst, ◌∙◌, arith, add-one}
-use Rattle.std.specs.Prelude.{◌==◌, slice_get}
-use Rattle.std.specs.List.{Contains}
-use Rattle.std.proofs.lemmas.Bool.{cases_Bool, cases_eq, cases_lt, eqb-true, eqb-false}
+use Rattle.std.proofs.Common.{◌≡◌, ◌≢◌, ◌⊎◌, inl, inr, ℕ, ◌+◌, ◌-◌, ◌^◌, ◌<◌, ◌≤◌, Bool, true, false, not, List, length}
+use Rattle.std.proofs.Common.{get_or, refl, ap, ap₂, sym, subst, ◌∙◌, arith}
+use Rattle.std.specs.Prelude.{◌==◌}
+use Rattle.std.proofs.lemmas.Bool.{cases_Bool, cases_lt, eqb-true, eqb-false}
 use Rattle.std.proofs.lemmas.List.Elements.{All-contains}
 use Rattle.std.proofs.lemmas.Option.{slice_get-get_or}
-use Rattle.indexmap.specs.IndexSet.{insert_key}
 use Rattle.ps_game.specs.Games.{ParityGame, HasEdge, vertex_count, owner_of, successors_of}
-use Rattle.ps_certificate.specs.Certificates.{CertificateData, Fits, IsValid, choice_of}
+use Rattle.ps_certificate.specs.Certificates.{CertificateData, Fits, IsValid}
 use Rattle.ps_diagram.proofs.Letters.{no_bit}
 use Rattle.ps_hoa.specs.Sound.{AreNames}
 use Rattle.ps_machine.specs.Assembling.{AreListedBelow}
 use Rattle.ps_machine.specs.Behaviours.{Behaviour, IsMachine, IsOutput, AreSameOn}
 use Rattle.ps_machine.specs.Boards.{Board, IsFirstLetter, IsSecondLetter, SameStep, IsGameOf}
-use Rattle.ps_machine.specs.Drawing.{Adds, AreMemories, AreUsed, GoesOn, IsOwn, IsRowAt, Stays, Grows, mark_of}
+use Rattle.ps_machine.specs.Drawing.{AreMemories, AreUsed, IsOwn, IsRowAt}
 use Rattle.ps_machine.specs.Extracting.{GoesTo, HasPropositions, IsMachineOf, IsOther, IsPlayed, IsStep, IsUsed}
 use Rattle.ps_machine.specs.Extracting.{StandsFor, is_others}
 use Rattle.ps_machine.specs.Numbering.{StandsAt}
 use Rattle.ps_machine.specs.Solving.{winner}
 use Rattle.ps_machine.specs.declared.key.Key.{Key}
-use Rattle.ps_machine.specs.declared.key.Key.TheVariants.{First, Second}
+use Rattle.ps_machine.specs.declared.key.Key.TheVariants.{First}
 use Rattle.ps_machine.specs.declared.machine.Row.{Row}
 use Rattle.ps_machine.proofs.Choosing.{class_there, first_over, move_there, over_first, over_second, part, part_itself}
 use Rattle.ps_machine.proofs.Choosing.{part_over, part_same, same_priorities, same_states, second_over, IsOver}
-use Rattle.ps_machine.proofs.Diagrams.DrawingLemmas.{class_at, move_at, move_to, not_both, to_class_of, to_pair_of}
-use Rattle.ps_machine.proofs.Diagrams.DrawingLemmas.{used_more}
-use Rattle.ps_machine.proofs.Machines.Following.{IsSearched, adds_all, adds_move, adds_next, adds_no_move, adds_none}
-use Rattle.ps_machine.proofs.Machines.Following.{search_bounded, search_done, search_first, search_next, used_at}
+use Rattle.ps_machine.proofs.Diagrams.DrawingLemmas.{class_at, move_at, move_to, to_class_of, to_pair_of, used_more}
 use Rattle.ps_machine.proofs.Machines.Following.{used_first}
-use Rattle.ps_machine.proofs.Machines.Following.{used_within}
 use Rattle.ps_machine.proofs.Machines.KeptMemories.{all_kept, each_kept, memory_of, some_kept}
-use Rattle.ps_machine.proofs.LeastLetters.{contained_or_not}
-use Rattle.ps_machine.proofs.Machines.Listing.{listed_none, listed_with, listed_without}
 use Rattle.ps_machine.proofs.Machines.MachineLemmas.{back, one_letter, own_none, own_within}
-use Rattle.ps_machine.proofs.Machines.MemorySteps.{AreMemoriesBelow, all_below, below_more, below_skip, none_below}
 use Rattle.ps_machine.proofs.Lassos.Rounds.{Setting, first_owner, second_owner, within_game}
 use Rattle.ps_machine.proofs.GameKeys.Standing.{one_state, same_some, stand-within}
-
--- ## Used vertices
-
-module _ (game : ParityGame) (certificate : CertificateData) (valid : IsValid game certificate)
-    (within : (v w : ℕ) → HasEdge game v w → w < vertex_count game) where
-  add_first : (xs old : List ℕ) (n : ℕ) → n ≤ length xs → (new : List ℕ) × Adds (Contains (take n xs)) old new
-  add_first xs old zero few = (old, adds_none (Contains (take zero xs)) old (λ w c. omega (arith, c.1)))
-  add_first xs old (suc n) few =
-      let before = add_first xs old n (omega (arith, few)) in
-      let new = insert_key nat_eq before.0 (get_or xs n 0) in (
-        new,
-        subst (λ i. Adds (Contains (take i xs)) old new) (add-one n)
-            (adds_next xs n old before.0 new (get_or xs n 0) (omega (arith, few)) refl refl before.1),
-      )
-
-  add_next : (v : ℕ) (old : List ℕ) → IsUsed game certificate v →
-      (new : List ℕ) × Adds (GoesOn game certificate v) old new
-  add_next v old used = elim (cases_eq (owner_of game v) (winner certificate)) [
-    | inl own ↦ by own (choice_of certificate v) refl
-    | inr other ↦
-        let all = add_first (successors_of game v) old (length (successors_of game v)) (omega arith) in (
-          all.0,
-          adds_all game certificate v (length (successors_of game v)) old all.0
-              (used_within game certificate v used) other (omega arith) all.1,
-        )
-  ]
-    where
-      by : owner_of game v ≡ winner certificate → (o : Option ℕ) → choice_of certificate v ≡ o →
-          (new : List ℕ) × Adds (GoesOn game certificate v) old new
-      by own None e = (old, adds_no_move game certificate v old own e)
-      by own (Some chosen) e = (
-        insert_key nat_eq old chosen,
-        adds_move game certificate v chosen old (insert_key nat_eq old chosen) valid
-            used own e refl,
-      )
-
-  search_on : (fuel turn : ℕ) (found : List ℕ) → IsSearched game certificate found turn →
-      vertex_count game ≤ turn + fuel → (found : List ℕ) × AreUsed game certificate found
-  search_on zero turn found s enough =
-      (let few = search_bounded game certificate found turn s in
-      (found, search_done game certificate found turn s (omega (arith, few, enough))))
-  search_on (suc fuel) turn found s enough = elim (cases_lt turn (length found)) [
-    | inr done ↦ (found, search_done game certificate found turn s done)
-    | inl more ↦
-        let v = get_or found turn 0 in
-        let at : Some v ≡ slice_get found turn = sym (slice_get-get_or found turn 0 more) in
-        let next = add_next v found (used_at game certificate found turn v s at) in
-        search_on fuel (turn + 1) next.0 (search_next game certificate found next.0 turn v within s at next.1)
-        (omega (arith, enough))
-  ]
-
-  used_there : 0 < vertex_count game → (found : List ℕ) × AreUsed game certificate found
-  used_there some =
-      search_on (vertex_count game) 0 (insert_key nat_eq [] 0) (search_first game certificate []
-      (insert_key nat_eq [] 0) some refl refl) (omega arith)
-
--- ## Memories
-
-module _ (is_first : Bool) (keys : List Key) (used : List ℕ) where
-  memories_below : (n : ℕ) → n ≤ length keys → (kept : List ℕ) × (marks : List ℕ) ×
-      AreMemoriesBelow is_first keys used kept marks n
-  memories_below zero few = ([], [], none_below is_first keys used [] [] refl refl)
-  memories_below (suc n) few =
-      (let m = memories_below n (omega (arith, few)) in at m.0 m.1 m.2 (get_or keys n (First 0 0))
-      (slice_get-get_or keys n (First 0 0) (omega (arith, few))))
-    where
-      at : (kept marks : List ℕ) → AreMemoriesBelow is_first keys used kept marks n → (key : Key) →
-          StandsAt keys n key → (kept : List ℕ) × (marks : List ℕ) ×
-          AreMemoriesBelow is_first keys used kept marks (suc n)
-      at kept marks m (Second q x) stands = (
-        kept,
-        marks,
-        subst (AreMemoriesBelow is_first keys used kept marks) (add-one n)
-            (below_skip is_first keys used kept marks n (λ r p is_used other.
-            not_both q x r p (same_some (Second q x) (First r p) (sym stands ∙ other))) m),
-      )
-      at kept marks m (First q p) stands = elim (contained_or_not used n) [
-        | inr not_used ↦ (
-          kept,
-          marks,
-          subst (AreMemoriesBelow is_first keys used kept marks) (add-one n)
-              (below_skip is_first keys used kept marks n (λ r o is_used other. not_used is_used) m),
-        )
-        | inl is_used ↦ elim (contained_or_not marks (mark_of is_first n q)) [
-          | inl came ↦ (
-            kept,
-            marks,
-            subst (AreMemoriesBelow is_first keys used kept marks) (add-one n)
-                (below_more is_first keys used kept marks n q p m stands is_used kept marks (Stays came refl refl)),
-          )
-          | inr comes ↦
-              let more = kept ++ n ∷ [] in
-              let others = marks ++ mark_of is_first n q ∷ [] in (
-                more,
-                others,
-                subst (AreMemoriesBelow is_first keys used more others) (add-one n)
-                    (below_more is_first keys used kept marks n q p m stands is_used more others
-                    (Grows comes refl refl)),
-              )
-        ]
-      ]
-
-  memories_there : (kept : List ℕ) × (marks : List ℕ) × AreMemories is_first keys used kept marks
-  memories_there =
-      (let m = memories_below (length keys) (omega arith) in (
-        m.0,
-        m.1,
-        all_below is_first keys used m.0 m.1 (length keys) (omega arith) m.2,
-      ))
+use Rattle.ps_machine.proofs.Machines.PartsThere.{listed_there, used_there, memories_there}
 
 -- ## Rows
 
-module _ (board : Board) (mover : ℕ) (keys : List Key) (game : ParityGame) (certificate : CertificateData)
+module _ {board : Board} {mover : ℕ} {keys : List Key} {game : ParityGame} {certificate : CertificateData}
     (s : Setting board mover keys game certificate) where
   edge_within : (v w : ℕ) → HasEdge game v w → w < vertex_count game
   edge_within v w edge =
       let at = s.by_keys.vertices v edge.0 in
-      let below =
-      All-contains (λ u. u < length keys) (successors_of game v) w
+      let below = All-contains (λ u. u < length keys) (successors_of game v) w
       (stand-within keys (successors_of game v) at.next at.successors) edge.1 in
       omega (arith, below, s.by_keys.count)
 
   small_winner : winner certificate < 2
-  small_winner =
-      s.fits.winners 0 (within_game board mover keys game certificate s 0 (First board.auto.start 0) s.by_keys.begins)
+  small_winner = s.fits.winners 0 (within_game s 0 s.by_keys.begins)
 
   module _ (used : List ℕ) (are_used : AreUsed game certificate used) (kept marks : List ℕ) where
     record HasRow (is_first : Bool) (v q x : ℕ) : Type 0 where
@@ -176,12 +56,10 @@ module _ (board : Board) (mover : ℕ) (keys : List Key) (game : ParityGame) (ce
         StandsAt keys v (First q p) → IsUsed game certificate v → IsSecondLetter board x → HasRow true v q x
     row_first turn m v q p x stands is_used second =
         let wins : mover ≡ winner certificate = eqb-true mover (winner certificate) (sym turn) in
-        let chosen =
-        move_at board mover keys game certificate s v (First q p) stands is_used
-        (first_owner board mover keys game certificate s v q p stands ∙ wins) in
-        let c = class_at board mover keys game certificate s v chosen.chosen q p stands chosen.edge in
-        let move = move_there board q c.letter x second in
-        let to = to_pair_of board mover keys game certificate s chosen.chosen q c.letter move.0 c.stands move.1 in
+        let chosen = move_at s stands is_used (first_owner s v stands ∙ wins) in
+        let c = class_at s v stands chosen.edge in
+        let move = move_there board c.letter second in
+        let to = to_pair_of s c.letter move.0 c.stands move.1 in
         let sum : c.letter + x ≡ x + c.letter = omega arith in
         let state : board.auto.next q (c.letter + move.0) ≡ board.auto.next q (x + c.letter) = move.2.state
         ∙ ap (board.auto.next q) sum in
@@ -190,15 +68,12 @@ module _ (board : Board) (mover : ℕ) (keys : List Key) (game : ParityGame) (ce
         let there : StandsAt keys to.vertex (First (board.auto.next q (x + c.letter))
         (board.auto.priority q (x + c.letter))) = subst (StandsAt keys to.vertex)
         (ap₂ (λ a b. First a b) state priority) to.stands in
-        let other : owner_of game chosen.chosen ≡ 1 - mover =
-        second_owner board mover keys game certificate s chosen.chosen q c.letter c.stands in
-        let next_used : IsUsed game certificate to.vertex =
-        used_more game certificate chosen.chosen to.vertex chosen.used to.edge
+        let other : owner_of game chosen.chosen ≡ 1 - mover = second_owner s chosen.chosen c.stands in
+        let next_used : IsUsed game certificate to.vertex = used_more chosen.used to.edge
         (edge_within chosen.chosen to.vertex to.edge)
         (λ own. absurd (let mine : 1 - mover ≡ mover = sym other ∙ own ∙ sym wins in omega (arith, mine, s.is_mover)))
         in
-        let next =
-        memory_of true keys used kept marks m to.vertex (board.auto.next q (x + c.letter))
+        let next = memory_of m
         (board.auto.priority q (x + c.letter)) s.by_keys.different ((are_used to.vertex).1 next_used) there in
         record {
           row = record { memory = next.0; letter = c.letter };
@@ -216,17 +91,13 @@ module _ (board : Board) (mover : ℕ) (keys : List Key) (game : ParityGame) (ce
         StandsAt keys v (First q p) → IsUsed game certificate v → IsFirstLetter board x → HasRow false v q x
     row_second turn m v q p x stands is_used first =
         let loses : mover ≢ winner certificate = eqb-false mover (winner certificate) (sym turn) in
-        let class = class_there board q x first in
-        let to = to_class_of board mover keys game certificate s v q p class.0 stands class.1 in
-        let to_used : IsUsed game certificate to.vertex =
-        used_more game certificate v to.vertex is_used to.edge (edge_within v to.vertex to.edge)
-        (λ own. absurd (loses (sym (first_owner board mover keys game certificate s v q p stands) ∙ own))) in
-        let owner = second_owner board mover keys game certificate s to.vertex q class.0 to.stands in
-        let chosen =
-        move_at board mover keys game certificate s to.vertex (Second q class.0) to.stands to_used
-        (omega (arith, owner, loses, small_winner, s.is_mover)) in
-        let move =
-        move_to board mover keys game certificate s to.vertex chosen.chosen q class.0 to.stands chosen.edge in
+        let class = class_there board q first in
+        let to = to_class_of s stands class.1 in
+        let to_used : IsUsed game certificate to.vertex = used_more is_used to.edge (edge_within v to.vertex to.edge)
+        (λ own. absurd (loses (sym (first_owner s v stands) ∙ own))) in
+        let owner = second_owner s to.vertex to.stands in
+        let chosen = move_at s to.stands to_used (omega (arith, owner, loses, small_winner, s.is_mover)) in
+        let move = move_to s to.vertex to.stands chosen.edge in
         let letter = move.letter in
         let own : IsSecondLetter board letter = move.is_move.here.0 in
         let same : SameStep board q (x + letter) (class.0 + letter) = class.2 letter own in
@@ -234,8 +105,7 @@ module _ (board : Board) (mover : ℕ) (keys : List Key) (game : ParityGame) (ce
         (board.auto.priority q (x + letter))) =
         subst (StandsAt keys chosen.chosen) (ap₂ (λ a b. First a b) (sym same.state) (sym same.priority))
         move.goes.stands in
-        let next =
-        memory_of false keys used kept marks m chosen.chosen (board.auto.next q (x + letter))
+        let next = memory_of m
         (board.auto.priority q (x + letter)) s.by_keys.different ((are_used chosen.chosen).1 chosen.used) there in
         record {
           row = record { memory = next.0; letter = letter };
@@ -251,12 +121,12 @@ module _ (board : Board) (mover : ℕ) (keys : List Key) (game : ParityGame) (ce
               least = record {
                 here = (own, move.goes);
                 none_before = λ z other before.
-                    (let e = same_some _ _ (sym other.1.stands ∙ move.goes.stands) in
+                    (let e = same_some (sym other.1.stands ∙ move.goes.stands) in
                     move.is_move.none_before z (
                       other.0,
                       record {
-                        state = same_states _ _ _ _ e;
-                        priority = same_priorities _ _ _ _ e;
+                        state = same_states e;
+                        priority = same_priorities e;
                       },
                     ) before);
               };
@@ -270,39 +140,27 @@ module _ (board : Board) (mover : ℕ) (keys : List Key) (game : ParityGame) (ce
         }
 
     row_there : (is_first : Bool) → is_first ≡ (mover == winner certificate) →
-        AreMemories is_first keys used kept marks → (v q p x : ℕ) → StandsAt keys v (First q p) →
+        AreMemories is_first keys used kept marks → {v q : ℕ} (p : ℕ) {x : ℕ} → StandsAt keys v (First q p) →
         IsUsed game certificate v → IsOther is_first board x → HasRow is_first v q x
-    row_there true turn m v q p x stands is_used other = row_first turn m v q p x stands is_used other
-    row_there false turn m v q p x stands is_used other = row_second turn m v q p x stands is_used other
+    row_there true turn m {v} {q} p {x} stands is_used other = row_first turn m v q p x stands is_used other
+    row_there false turn m {v} {q} p {x} stands is_used other = row_second turn m v q p x stands is_used other
 
 -- ## The machine
-
-listed_there : (is : ℕ → Bool) (n : ℕ) → (list : List ℕ) × AreListedBelow n is list
-listed_there is zero = ([], listed_none is)
-listed_there is (suc n) = (let l = listed_there is n in elim (cases_Bool (is n)) [
-  | inl here ↦ (
-    l.0 ++ n ∷ [],
-    subst (λ k. AreListedBelow k is (l.0 ++ n ∷ [])) (add-one n)
-        (listed_with n is l.0 (l.0 ++ n ∷ []) here refl l.1),
-  )
-  | inr isnt ↦ (l.0, subst (λ k. AreListedBelow k is l.0) (add-one n) (listed_without n is l.0 l.0 isnt refl l.1))
-])
 
 other_over : (b : Bool) (board : Board) (x : ℕ) → IsOther b board x → IsOver board.propositions (is_others b board) x
 other_over true board x other = second_over board x other
 other_over false board x other = first_over board x other
 
-pub over_other : (b : Bool) (board : Board) (x : ℕ) → IsOver board.propositions (is_others b board) x →
+pub over_other : (b : Bool) (board : Board) {x : ℕ} → IsOver board.propositions (is_others b board) x →
     IsOther b board x
-over_other true board x over = over_second board x over
-over_other false board x over = over_first board x over
+over_other true board {x} over = over_second board over
+over_other false board {x} over = over_first board over
 
-module _ (names : List (List ℕ)) (board : Board) (mover : ℕ) (keys : List Key) (game : ParityGame)
-    (certificate : CertificateData)
-    (few : length names ≤ 64) (are_names : AreNames names) (as_many : length names ≡ board.propositions)
-    (setting : Setting board mover keys game certificate)
-    (first : Bool) (turn : first ≡ (mover == winner certificate)) (used : List ℕ)
-    (are_used : AreUsed game certificate used) (kept marks : List ℕ) (m : AreMemories first keys used kept marks)
+module _ (names : List (List ℕ)) {board : Board} {mover : ℕ} {keys : List Key} {game : ParityGame}
+    {certificate : CertificateData} (few : length names ≤ 64) (are_names : AreNames names)
+    (as_many : length names ≡ board.propositions) (setting : Setting board mover keys game certificate) {first : Bool}
+    (turn : first ≡ (mover == winner certificate)) {used : List ℕ} (are_used : AreUsed game certificate used)
+    {kept marks : List ℕ} (m : AreMemories first keys used kept marks)
   where
     -- what of a letter is the other player's
     read : ℕ → ℕ
@@ -310,9 +168,7 @@ module _ (names : List (List ℕ)) (board : Board) (mover : ℕ) (keys : List Ke
 
     read_other : (x : ℕ) → IsOther first board (read x)
     unfolding read
-    read_other x =
-        over_other first board (part board.propositions (is_others first board) x)
-        (part_over board.propositions (is_others first board) x)
+    read_other x = over_other first board (part_over board.propositions (is_others first board) x)
 
     read_itself : (x : ℕ) → IsOther first board x → read x ≡ x
     unfolding read
@@ -330,9 +186,7 @@ module _ (names : List (List ℕ)) (board : Board) (mover : ℕ) (keys : List Ke
     row_at : (memory z : ℕ) → memory < length kept → (row : Row) × IsRowOf memory (read z) row
     row_at memory z within =
         let here = m.each memory within in
-        let r =
-        row_there board mover keys game certificate setting used are_used kept marks first turn m
-        (get_or kept memory 0) here.state here.priority (read z) here.stands
+        let r = row_there setting used are_used kept marks first turn m here.priority here.stands
         ((are_used (get_or kept memory 0)).0 here.is_used) (read_other z) in (
           r.row,
           record {
@@ -352,9 +206,9 @@ module _ (names : List (List ℕ)) (board : Board) (mover : ℕ) (keys : List Ke
     row : ℕ → ℕ → Row
     row memory x = row_if memory (read x) (cases_lt memory (length kept))
 
-    row_right : (memory x : ℕ) → memory < length kept → IsRowOf memory (read (read x)) (row memory x)
+    row_right : {memory : ℕ} (x : ℕ) → memory < length kept → IsRowOf memory (read (read x)) (row memory x)
     unfolding row
-    row_right memory x within = by (cases_lt memory (length kept))
+    row_right {memory} x within = by (cases_lt memory (length kept))
       where
         by : (c : (memory < length kept) ⊎ (length kept ≤ memory)) →
             IsRowOf memory (read (read x)) (row_if memory (read x) c)
@@ -399,10 +253,9 @@ module _ (names : List (List ℕ)) (board : Board) (mover : ℕ) (keys : List Ke
         (row memory x).letter ≡ (row memory y).letter
     same_letter_played is memory x y within =
         let v = get_or kept memory 0 in
-        let one = row_right memory x within in
-        let other = row_right memory y within in
-        let state : other.state ≡ one.state =
-        one_state keys v other.state other.priority one.state one.priority other.stands one.stands in
+        let one = row_right x within in
+        let other = row_right y within in
+        let state : other.state ≡ one.state = one_state keys v other.priority one.priority other.stands one.stands in
         one_letter first board keys certificate v one.state (read (read x)) (read (read y)) (row memory x).letter
         (row memory y).letter is one.right.played
         (subst (λ q. IsPlayed first board keys certificate v q (read (read y)) (row memory y).letter) state
@@ -428,13 +281,12 @@ module _ (names : List (List ℕ)) (board : Board) (mover : ℕ) (keys : List Ke
       apart =
           λ p among. (let less = inputs.1.within p among in outputs.1.are p less
           ∙ ap not (sym (inputs.1.are p less) ∙ among));
-      player = small_winner board mover keys game certificate setting;
+      player = small_winner setting;
       some =
-          some_kept first keys used kept marks m 0 board.auto.start setting.by_keys.begins
-          ((are_used 0).1 (used_first game certificate (within_game board mover keys game certificate setting 0
-          (First board.auto.start 0) setting.by_keys.begins)));
-      next_within = λ memory x within. (row_right memory x within).within;
-      plays_own = λ memory x within. outputs_only (row memory x).letter (row_right memory x within).own;
+          some_kept m 0 board.auto.start setting.by_keys.begins
+          ((are_used 0).1 (used_first game certificate (within_game setting 0 setting.by_keys.begins)));
+      next_within = λ memory x within. (row_right x within).within;
+      plays_own = λ memory x within. outputs_only (row memory x).letter (row_right x within).own;
       next_heeds = λ memory x y within same. ap (λ (r : Row). r.memory) (row_heeds memory x y same);
       plays_heeds = λ memory x y within same. ap (λ (r : Row). r.letter) (row_heeds memory x y same);
       blind = λ is memory x y within. same_letter_played is memory x y within;
@@ -445,7 +297,7 @@ module _ (names : List (List ℕ)) (board : Board) (mover : ℕ) (keys : List Ke
     unfolding made
     made_step memory x within other =
         let v = get_or kept memory 0 in
-        let r = row_right memory x within in
+        let r = row_right x within in
         let letter = (row memory x).letter in
         let same : read (read x) ≡ x = ap read (read_itself x other) ∙ read_itself x other in
         record {
@@ -474,8 +326,8 @@ module _ (names : List (List ℕ)) (board : Board) (mover : ℕ) (keys : List Ke
         is_first = turn;
         kept = kept;
         rising = m.rising;
-        each = all_kept first keys used kept marks m game certificate are_used;
-        complete = each_kept first keys used kept marks m game certificate are_used;
+        each = all_kept m are_used;
+        complete = each_kept m are_used;
         memories = refl;
         steps = made_step;
       },
@@ -489,9 +341,8 @@ pub machine_there : (names : List (List ℕ)) (board : Board) (mover : ℕ) (key
 machine_there names board mover keys game certificate few are_names as_many small is fits valid =
     let s : Setting board mover keys game certificate =
     record { is_mover = small; by_keys = is.by_keys; fits = fits; valid = valid } in
-    let some = within_game board mover keys game certificate s 0 (First board.auto.start 0) s.by_keys.begins in
-    let used = used_there game certificate valid (edge_within board mover keys game certificate s) some in
+    let some = within_game s 0 s.by_keys.begins in
+    let used = used_there valid (edge_within s) some in
     let first = mover == winner certificate in
     let memories = memories_there first keys used.0 in
-    machine names board mover keys game certificate few are_names as_many s first refl used.0 used.1 memories.0
-    memories.1 memories.2
+    machine names few are_names as_many s refl used.1 memories.2

@@ -1,6 +1,6 @@
 -- The memories of the vertices that were looked at, and what one more vertex adds.
 use Rattle.std.proofs.Common.{◌≡◌, ◌≢◌, inl, inr, ℕ, ◌+◌, ◌<◌, ◌≤◌, Bool, true, false, List, [], ◌∷◌, ◌++◌, length}
-use Rattle.std.proofs.Common.{get_or, Some, refl, ap, sym, subst, ◌∙◌, arith, rules, not, nat_eq}
+use Rattle.std.proofs.Common.{get_or, Some, refl, ap, sym, subst, ◌∙◌, arith, not, nat_eq}
 use Rattle.std.specs.List.{All, AllPairs, Contains, list_any, slice_get}
 use Rattle.std.specs.Cmp.{nat_eq_equiv}
 use Rattle.std.proofs.lemmas.Bool.{eqb-true}
@@ -23,37 +23,34 @@ not_not true = refl
 not_not false = refl
 
 -- what stands at a place of a list stands there in a longer one
-marked_left : (marks : List ℕ) (mark memory x : ℕ) → slice_get marks memory ≡ Some x →
+marked_left : (marks : List ℕ) (mark memory : ℕ) {x : ℕ} → slice_get marks memory ≡ Some x →
     slice_get (marks ++ mark ∷ []) memory ≡ Some x
-marked_left marks mark memory x at =
+marked_left marks mark memory {x} at =
     let within = slice_get_within marks memory x at in
     slice_get-get_or (marks ++ mark ∷ []) memory x (omega (arith, within, length_push marks mark))
     ∙ ap (λ n. Some n) (get_or_append_left marks (mark ∷ []) x memory within
     ∙ get_or_from_slice_get marks memory x x at)
 
-marked_last : (marks : List ℕ) (mark : ℕ) → slice_get (marks ++ mark ∷ []) (length marks) ≡ Some mark
-marked_last marks mark =
+marked_last : (marks : List ℕ) {mark : ℕ} → slice_get (marks ++ mark ∷ []) (length marks) ≡ Some mark
+marked_last marks {mark} =
     slice_get-get_or (marks ++ mark ∷ []) (length marks) 0 (omega (arith, length_push marks mark))
     ∙ ap (λ n. Some n) (get_or_push marks mark 0 (length marks) refl)
 
 -- ## One memory
 
 -- whether a number is in a list, as a table tells it
-pub is_there : (xs : List ℕ) (x : ℕ) (b : Bool) → b ≡ list_any (nat_eq x) xs → b ≡ true → Contains xs x
-is_there xs x b told is = Contains-from_any (λ y z h. eqb-true y z h) x xs (sym told ∙ is)
+pub is_there : (xs : List ℕ) (x : ℕ) {b : Bool} → b ≡ list_any (nat_eq x) xs → b ≡ true → Contains xs x
+is_there xs x told is = Contains-from_any (λ y z h. eqb-true y z h) x xs (sym told ∙ is)
 
-pub is_absent : (xs : List ℕ) (x : ℕ) (b : Bool) → b ≡ list_any (nat_eq x) xs → b ≡ false → Contains xs x → ⊥
-is_absent xs x b told is there = both b (told ∙ list_any-from_Contains nat_eq_equiv x xs there) is
-  where
-    both : (b : Bool) → b ≡ true → b ≡ false → ⊥
-    both b t f = search rules
+pub is_absent : (xs : List ℕ) (x : ℕ) {b : Bool} → b ≡ list_any (nat_eq x) xs → b ≡ false → Contains xs x → ⊥
+is_absent xs x told is there = cc (list_any-from_Contains nat_eq_equiv x xs there)
 
-pub keeps_known : (kept marks : List ℕ) (v mark : ℕ) (new : List ℕ) (b : Bool) →
+pub keeps_known : {kept marks : List ℕ} {v mark : ℕ} {new : List ℕ} {b : Bool} →
     b ≡ not (list_any (nat_eq mark) marks) → b ≡ false → new ≡ insert_key nat_eq marks mark →
     KeepsAt kept marks v mark kept new
-keeps_known kept marks v mark new b told is e = elim (inserted marks mark new e) [
+keeps_known {marks} {mark} {new} {b} told is e = elim (inserted marks mark new e) [
   | inl there ↦ Stays there.0 refl there.1
-  | inr comes ↦ absurd (comes.0 (is_there marks mark (not b) (ap not told ∙ not_not (list_any (nat_eq mark) marks))
+  | inr comes ↦ absurd (comes.0 (is_there marks mark (ap not told ∙ not_not (list_any (nat_eq mark) marks))
       (ap not is)))
 ]
 
@@ -70,8 +67,8 @@ module _ (is_first : Bool) (keys : List Key) (used : List ℕ) where
     pub found : (v q p : ℕ) → v < n → Contains used v → StandsAt keys v (First q p) →
         HasMemory kept marks v (mark_of is_first v q)
 
-  pub none_below : (kept marks : List ℕ) → kept ≡ [] → marks ≡ [] → AreMemoriesBelow kept marks 0
-  none_below kept marks k m =
+  pub none_below : {kept marks : List ℕ} → kept ≡ [] → marks ≡ [] → AreMemoriesBelow kept marks 0
+  none_below {marks} k m =
       subst (λ l. AreMemoriesBelow l marks 0) (sym k) (subst (λ l. AreMemoriesBelow [] l 0) (sym m) (record {
         many = refl;
         rising = λ i j d rises within. absurd (omega (arith, within));
@@ -88,9 +85,9 @@ module _ (is_first : Bool) (keys : List Key) (used : List ℕ) where
       less v h = omega (arith, h)
 
   -- a vertex without a memory: it is not used, or the first player does not move there
-  pub below_skip : (kept marks : List ℕ) (n : ℕ) → ((q p : ℕ) → Contains used n → StandsAt keys n (First q p) → ⊥) →
+  pub below_skip : {kept marks : List ℕ} {n : ℕ} → ((q p : ℕ) → Contains used n → StandsAt keys n (First q p) → ⊥) →
       AreMemoriesBelow kept marks n → AreMemoriesBelow kept marks (n + 1)
-  below_skip kept marks n none m = record {
+  below_skip {kept} {n} none m = record {
     many = m.many;
     rising = m.rising;
     different = m.different;
@@ -104,9 +101,9 @@ module _ (is_first : Bool) (keys : List Key) (used : List ℕ) where
   }
 
   -- where the mark has come, there is a memory
-  came_has : (kept marks : List ℕ) (n mark : ℕ) → AreMemoriesBelow kept marks n → Contains marks mark →
+  came_has : {kept marks : List ℕ} {n mark : ℕ} → AreMemoriesBelow kept marks n → Contains marks mark →
       HasMemory kept marks n mark
-  came_has kept marks n mark m came =
+  came_has {kept} {marks} {mark} m came =
       let within : came.0 < length kept = omega (arith, came.1, m.many) in
       let before = m.below came.0 0 within in
       record {
@@ -115,8 +112,8 @@ module _ (is_first : Bool) (keys : List Key) (used : List ℕ) where
         behind = omega (arith, before);
       }
 
-  module _ (kept marks : List ℕ) (n q p : ℕ) (m : AreMemoriesBelow kept marks n) (stands : StandsAt keys n (First q p))
-      (is_used : Contains used n) where
+  module _ {kept marks : List ℕ} {n : ℕ} (q p : ℕ) (m : AreMemoriesBelow kept marks n)
+      (stands : StandsAt keys n (First q p)) (is_used : Contains used n) where
     kept_left : (memory : ℕ) → memory < length kept → get_or (kept ++ n ∷ []) memory 0 ≡ get_or kept memory 0
     kept_left memory within = get_or_append_left kept (n ∷ []) 0 memory within
 
@@ -131,7 +128,7 @@ module _ (is_first : Bool) (keys : List Key) (used : List ℕ) where
     found_more kept' marks' still here v r l less used_v at = elim (less_or_last v n less) [
       | inl before ↦ still v (mark_of is_first v r) (m.found v r l before used_v at)
       | inr now ↦
-          let same : q ≡ r = one_state keys n q p r l stands (subst (λ w. StandsAt keys w (First r l)) now at) in
+          let same : q ≡ r = one_state keys n p l stands (subst (λ w. StandsAt keys w (First r l)) now at) in
           subst (λ w. HasMemory kept' marks' w (mark_of is_first w r)) (sym now)
           (subst (λ s. HasMemory kept' marks' n (mark_of is_first n s)) same here)
     ]
@@ -142,7 +139,7 @@ module _ (is_first : Bool) (keys : List Key) (used : List ℕ) where
         let within : h.memory < length kept = omega (arith, slice_get_within marks h.memory x h.is_marked, m.many) in
         record {
           memory = h.memory;
-          is_marked = marked_left marks (mark_of is_first n q) h.memory x h.is_marked;
+          is_marked = marked_left marks (mark_of is_first n q) h.memory h.is_marked;
           behind = subst (λ w. w ≤ v) (sym (kept_left h.memory within)) h.behind;
         }
 
@@ -151,7 +148,7 @@ module _ (is_first : Bool) (keys : List Key) (used : List ℕ) where
       memory = length kept;
       is_marked =
           subst (λ i. slice_get (marks ++ mark_of is_first n q ∷ []) i ≡ Some (mark_of is_first n q)) m.many
-          (marked_last marks (mark_of is_first n q));
+          (marked_last marks);
       behind = omega (arith, kept_last);
     }
 
@@ -167,8 +164,7 @@ module _ (is_first : Bool) (keys : List Key) (used : List ℕ) where
           is_used = subst (λ w. Contains used w) same old.is_used;
           mark =
               subst (λ w. slice_get (marks ++ mark_of is_first n q ∷ []) memory ≡ Some (mark_of is_first w old.state))
-              same (marked_left marks (mark_of is_first n q) memory
-              (mark_of is_first (get_or kept memory 0) old.state) old.mark);
+              same (marked_left marks (mark_of is_first n q) memory old.mark);
         }
 
     memory_last : IsMemory is_first keys used (kept ++ n ∷ []) (marks ++ mark_of is_first n q ∷ []) (length kept)
@@ -181,7 +177,7 @@ module _ (is_first : Bool) (keys : List Key) (used : List ℕ) where
           subst (λ w. slice_get (marks ++ mark_of is_first n q ∷ []) (length kept) ≡ Some (mark_of is_first w q))
           (sym kept_last)
           (subst (λ i. slice_get (marks ++ mark_of is_first n q ∷ []) i ≡ Some (mark_of is_first n q)) m.many
-          (marked_last marks (mark_of is_first n q)));
+          (marked_last marks));
     }
 
     below_stays : Contains marks (mark_of is_first n q) → AreMemoriesBelow kept marks (n + 1)
@@ -191,7 +187,7 @@ module _ (is_first : Bool) (keys : List Key) (used : List ℕ) where
       different = m.different;
       below = all_less kept n m.below;
       each = m.each;
-      found = found_more kept marks (λ v x h. h) (came_has kept marks n (mark_of is_first n q) m came);
+      found = found_more kept marks (λ v x h. h) (came_has m came);
     }
 
     below_grows : (Contains marks (mark_of is_first n q) → ⊥) →
@@ -209,18 +205,14 @@ module _ (is_first : Bool) (keys : List Key) (used : List ℕ) where
       found = found_more (kept ++ n ∷ []) (marks ++ mark_of is_first n q ∷ []) has_left has_last;
     }
 
-    pub below_more : (kept' marks' : List ℕ) → KeepsAt kept marks n (mark_of is_first n q) kept' marks' →
+    pub below_more : {kept' marks' : List ℕ} → KeepsAt kept marks n (mark_of is_first n q) kept' marks' →
         AreMemoriesBelow kept' marks' (n + 1)
-    below_more kept' marks' (Stays came k l) =
-        subst (λ x. AreMemoriesBelow x marks' (n + 1)) (sym k) (subst (λ x. AreMemoriesBelow kept x (n + 1)) (sym l)
-        (below_stays came))
-    below_more kept' marks' (Grows comes k l) =
-        subst (λ x. AreMemoriesBelow x marks' (n + 1)) (sym k) (subst (λ x. AreMemoriesBelow (kept ++ n ∷ []) x (n + 1))
-        (sym l) (below_grows comes))
+    below_more {marks'} (Stays came k l) = rw (k, l) (below_stays came)
+    below_more {marks'} (Grows comes k l) = rw (k, l) (below_grows comes)
 
-  pub all_below : (kept marks : List ℕ) (n : ℕ) → length keys ≤ n → AreMemoriesBelow kept marks n →
+  pub all_below : {kept marks : List ℕ} {n : ℕ} → length keys ≤ n → AreMemoriesBelow kept marks n →
       AreMemories is_first keys used kept marks
-  all_below kept marks n all m = record {
+  all_below all m = record {
     many = m.many;
     rising = m.rising;
     different = m.different;

@@ -25,7 +25,8 @@ use Rattle.ps_machine.specs.declared.key.Key.TheVariants.{First, Second}
 use Rattle.ps_machine.specs.declared.key.Order.{Order}
 use Rattle.ps_machine.proofs.BoardLetters.{sum_within}
 use Rattle.ps_machine.proofs.BoardSteps.{map_same}
-use Rattle.ps_machine.proofs.Uniqueness.OneGame.{ahead, count_at, has_it, one_game_of, zipped}
+use Rattle.ps_machine.proofs.Uniqueness.OneGame.{ahead, count_at, one_game_of, zipped}
+use Rattle.ps_machine.proofs.Uniqueness.Counting.{has_it}
 use Rattle.ps_machine.proofs.Uniqueness.Rising.{in_cons, none_in}
 use Rattle.ps_machine.proofs.GameKeys.Standing.{came, same_some}
 
@@ -47,7 +48,7 @@ module _ (order : Order) (file : FileData) (chain : Chain) where
   abbrev pub on : Auto → Board
   on auto = board_of_file order file auto
 
-  module _ (a b : Auto) (is : IsAutoOf file chain a) (too : IsAutoOf file chain b) where
+  module _ {a b : Auto} (is : IsAutoOf file chain a) (too : IsAutoOf file chain b) where
     at_state : (q letter : ℕ) → q < file.states → letter < 2 ^ length file.names → StepAlike a b q letter
     at_state q letter low lt = elim (is.steps q letter low lt) [
       | inl takes ↦ (let edge = too.by_edge q letter takes.sets (a.next q letter) takes.goes in
@@ -72,59 +73,56 @@ module _ (order : Order) (file : FileData) (chain : Chain) where
 
   -- ## Letters, classes and moves
 
-  pub first_too : (a b : Auto) (x : ℕ) → IsFirstLetter (on a) x → IsFirstLetter (on b) x
-  first_too a b x letter = record { within = letter.within; own = letter.own }
+  pub first_too : (a b : Auto) {x : ℕ} → IsFirstLetter (on a) x → IsFirstLetter (on b) x
+  first_too a b letter = record { within = letter.within; own = letter.own }
 
-  pub second_too : (a b : Auto) (y : ℕ) → IsSecondLetter (on a) y → IsSecondLetter (on b) y
-  second_too a b y letter = record { within = letter.within; own = letter.own }
+  pub second_too : (a b : Auto) {y : ℕ} → IsSecondLetter (on a) y → IsSecondLetter (on b) y
+  second_too a b letter = record { within = letter.within; own = letter.own }
 
-  module _ (a b : Auto) (is : IsAutoOf file chain a) (too : IsAutoOf file chain b) where
-    step_too : (q l m : ℕ) → q ≤ file.states → l < 2 ^ length file.names → m < 2 ^ length file.names →
+  module _ {a b : Auto} (is : IsAutoOf file chain a) (too : IsAutoOf file chain b) where
+    step_too : {q l m : ℕ} → q ≤ file.states → l < 2 ^ length file.names → m < 2 ^ length file.names →
         SameStep (on a) q l m → SameStep (on b) q l m
-    step_too q l m le ll lm s =
-        let at_l = alike a b is too q l le ll in
-        let at_m = alike a b is too q m le lm in
+    step_too {q} {l} {m} le ll lm s =
+        let at_l = alike is too q l le ll in
+        let at_m = alike is too q m le lm in
         record {
           state = sym at_l.next ∙ s.state ∙ at_m.next;
-          priority = sym at_l.priority ∙ s.priority
-              ∙ at_m.priority;
+          priority = sym at_l.priority ∙ s.priority ∙ at_m.priority;
         }
 
-    pub steps_too : (q x z : ℕ) → q ≤ file.states → IsFirstLetter (on a) x → IsFirstLetter (on a) z →
+    pub steps_too : (q : ℕ) {x z : ℕ} → q ≤ file.states → IsFirstLetter (on a) x → IsFirstLetter (on a) z →
         SameSteps (on a) q x z → SameSteps (on b) q x z
-    steps_too q x z le hx hz s y hy =
-        let back = second_too b a y hy in
-        step_too q (x + y) (z + y) le (sum_within (on a) x y hx back) (sum_within (on a) z y hz back) (s y back)
+    steps_too q le hx hz s y hy =
+        let back = second_too b a hy in
+        step_too le (sum_within (on a) hx back) (sum_within (on a) hz back) (s y back)
 
-    move_step_too : (q x y z : ℕ) → q ≤ file.states → IsFirstLetter (on a) x → IsSecondLetter (on a) y →
+    move_step_too : {q x y z : ℕ} → q ≤ file.states → IsFirstLetter (on a) x → IsSecondLetter (on a) y →
         IsSecondLetter (on a) z → SameStep (on a) q (x + y) (x + z) → SameStep (on b) q (x + y) (x + z)
-    move_step_too q x y z le hx hy hz =
-        step_too q (x + y) (x + z) le (sum_within (on a) x y hx hy) (sum_within (on a) x z hx hz)
+    move_step_too le hx hy hz = step_too le (sum_within (on a) hx hy) (sum_within (on a) hx hz)
 
-  module _ (a b : Auto) (is : IsAutoOf file chain a) (too : IsAutoOf file chain b) where
+  module _ {a b : Auto} (is : IsAutoOf file chain a) (too : IsAutoOf file chain b) where
     pub class_too : (q x : ℕ) → q ≤ file.states → IsClass (on a) q x → IsClass (on b) q x
     class_too q x le c = record {
-      here = (first_too a b x c.here.0, steps_too a b is too q x x le c.here.0 c.here.0 c.here.1);
+      here = (first_too a b c.here.0, steps_too is too q le c.here.0 c.here.0 c.here.1);
       none_before = λ z p before.
-          (let hz = first_too b a z p.0 in
-          c.none_before z (hz, steps_too b a too is q z x le p.0 (first_too a b x c.here.0) p.1) before);
+          (let hz = first_too b a p.0 in
+          c.none_before z (hz, steps_too too is q le p.0 (first_too a b c.here.0) p.1) before);
     }
 
     move_too : (q x y : ℕ) → q ≤ file.states → IsFirstLetter (on a) x → IsMove (on a) q x y → IsMove (on b) q x y
     move_too q x y le hx m = record {
-      here = (second_too a b y m.here.0, move_step_too a b is too q x y y le hx m.here.0 m.here.0 m.here.1);
+      here = (second_too a b m.here.0, move_step_too is too le hx m.here.0 m.here.0 m.here.1);
       none_before = λ z p before.
-          (let hz = second_too b a z p.0 in
+          (let hz = second_too b a p.0 in
           m.none_before z (
             hz,
-            move_step_too b a too is q x z y le (first_too a b x hx) p.0
-                (second_too a b y m.here.0) p.1,
+            move_step_too too is le (first_too a b hx) p.0 (second_too a b m.here.0) p.1,
           ) before);
     }
 
   -- ## Keys
 
-  module _ (a b : Auto) (is : IsAutoOf file chain a) (too : IsAutoOf file chain b) where
+  module _ {a b : Auto} (is : IsAutoOf file chain a) (too : IsAutoOf file chain b) where
     -- a state up to the sink, and a letter of the player who moves first
     abbrev pub IsFine : Key → Type 0
     IsFine (First q p) = q ≤ file.states
@@ -132,24 +130,23 @@ module _ (order : Order) (file : FileData) (chain : Chain) where
 
     next_fine : (key : Key) (next : List Key) → IsFine key → LeadsTo (on a) key next → All IsFine next
     next_fine (First q p) next le leads =
-        subst (All IsFine) (sym leads.2) (All-map IsFine (λ x. Second q x) leads.0
-        (λ k d within. (le, (leads.1.each k d within).here.0)))
+        rw leads.2 (All-map IsFine (λ x. Second q x) leads.0 (λ k d within. (le, (leads.1.each k d within).here.0)))
     next_fine (Second q x) next fine leads =
-        subst (All IsFine) (sym leads.2) (All-map IsFine (λ y. First (a.next q (x + y)) (a.priority q (x + y))) leads.0
+        rw leads.2 (All-map IsFine (λ y. First (a.next q (x + y)) (a.priority q (x + y))) leads.0
         (λ k d within. (let y = get_or leads.0 k d in is.within q (x + y) fine.0
-        (sum_within (on a) x y fine.1 (leads.1.each k d within).here.0))))
+        (sum_within (on a) fine.1 (leads.1.each k d within).here.0))))
 
     leads_too : (key : Key) (next : List Key) → IsFine key → LeadsTo (on a) key next → LeadsTo (on b) key next
     leads_too (First q p) next le leads = (
       leads.0,
-      relisted (IsClass (on a) q) (IsClass (on b) q) leads.0 (λ x. class_too a b is too q x le)
-          (λ x. class_too b a too is q x le) leads.1,
+      relisted (IsClass (on a) q) (IsClass (on b) q) leads.0 (λ x. class_too is too q x le)
+          (λ x. class_too too is q x le) leads.1,
       leads.2,
     )
     leads_too (Second q x) next fine leads = (
       leads.0,
-      relisted (IsMove (on a) q x) (IsMove (on b) q x) leads.0 (λ y. move_too a b is too q x y fine.0 fine.1)
-          (λ y. move_too b a too is q x y fine.0 (first_too a b x fine.1)) leads.1,
+      relisted (IsMove (on a) q x) (IsMove (on b) q x) leads.0 (λ y. move_too is too q x y fine.0 fine.1)
+          (λ y. move_too too is q x y fine.0 (first_too a b fine.1)) leads.1,
       leads.2 ∙ map_same (λ y. First (a.next q (x + y)) (a.priority q (x + y)))
           (λ y. First (b.next q (x + y)) (b.priority q (x + y))) leads.0 0 same_key,
     )
@@ -159,21 +156,20 @@ module _ (order : Order) (file : FileData) (chain : Chain) where
             (b.next q (x + get_or leads.0 k 0)) (b.priority q (x + get_or leads.0 k 0))
         same_key k within =
             let y = get_or leads.0 k 0 in
-            let steps =
-            alike a b is too q (x + y) fine.0 (sum_within (on a) x y fine.1 (leads.1.each k 0 within).here.0) in
+            let steps = alike is too q (x + y) fine.0 (sum_within (on a) fine.1 (leads.1.each k 0 within).here.0) in
             ap₂ (λ (s p : ℕ). First s p) steps.next steps.priority
 
     -- ## Games
 
-    module _ (mover : ℕ) (keys : List Key) (game : ParityGame) (g : IsGameOf (on a) mover keys game) where
+    module _ {mover : ℕ} {keys : List Key} {game : ParityGame} (g : IsGameOf (on a) mover keys game) where
       has_come : (v : ℕ) → v < vertex_count game → Contains (listed game v) v
       has_come v lt =
           let c = count_at (on a) mover keys game v g (omega (arith, lt)) in
           has_it (listed game v) v (came (listed game v) c.0 v c.1 (ahead (on a) mover keys game v c.0 g lt c.1))
 
       first_fine : (w : ℕ) (key : Key) → Contains (0 ∷ []) w → StandsAt keys w key → IsFine key
-      first_fine w key c at = elim (in_cons 0 w [] c) [
-        | inl zero_is ↦ subst IsFine (same_some (First a.start 0) key
+      first_fine w key c at = elim (in_cons [] c) [
+        | inl zero_is ↦ subst IsFine (same_some
             (sym g.by_keys.begins ∙ ap (λ n. slice_get keys n) zero_is ∙ at)) is.start_within
         | inr later ↦ absurd (none_in w later)
       ]
@@ -253,9 +249,9 @@ named_same x y games ids names =
     ∙ ap (λ (l : List (Option (List ℕ))). let n : NamedGameData = record { game = y.game; ids = y.ids; names = l } in n)
     names
 
-pub one_chain : (order : Order) (file : FileData) (game other : NamedGameData) (a : IsGameOfFile order file game)
+pub one_chain : {order : Order} {file : FileData} {game other : NamedGameData} (a : IsGameOfFile order file game)
     (b : IsGameOfFile order file other) → IsAutoOf file b.chain a.auto
-one_chain order file game other a b =
+one_chain {file} a b =
     (let chains = same_value a.chain b.chain (sym a.is_chain ∙ b.is_chain) in
     subst (λ chain. IsAutoOf file chain a.auto) chains a.is_auto)
 
@@ -268,8 +264,8 @@ one_game_of_file order file game other a b =
     ∙ ap (key_names (board_of_file order file b.auto)) same.0 ∙ sym b.are_named.names)
   where
     is : IsAutoOf file b.chain a.auto
-    is = one_chain order file game other a b
+    is = one_chain a b
 
     same : (a.keys ≡ b.keys) × (game.game ≡ other.game)
     same = one_game_of (board_of_file order file b.auto) (mover_of order) a.keys b.keys game.game other.game
-        (game_too order file b.chain a.auto b.auto is b.is_auto (mover_of order) a.keys game.game a.is_game) b.is_game
+        (game_too order file b.chain is b.is_auto a.is_game) b.is_game

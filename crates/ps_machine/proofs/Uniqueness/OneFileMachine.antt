@@ -1,6 +1,5 @@
 -- A certificate of a file's game has one machine: the automata of a file differ only where no play comes.
-use Rattle.std.proofs.Common.{◌≡◌, ℕ, ◌+◌, ◌^◌, ◌<◌, ◌≤◌, Bool, true, false, List, length, refl, ap₂, subst}
-use Rattle.std.proofs.Common.{◌∙◌, arith}
+use Rattle.std.proofs.Common.{◌≡◌, ℕ, ◌+◌, ◌^◌, ◌<◌, ◌≤◌, Bool, true, false, List, length, refl, ap₂, subst, ◌∙◌, arith}
 use Rattle.ps_automaton.specs.Autos.{Auto, IsAutoOf}
 use Rattle.ps_automaton.specs.Chains.{Chain}
 use Rattle.ps_certificate.specs.Certificates.{CertificateData}
@@ -19,34 +18,32 @@ use Rattle.ps_machine.specs.declared.key.Key.TheVariants.{First, Second}
 use Rattle.ps_machine.specs.declared.key.Order.{Order}
 use Rattle.ps_machine.proofs.BoardLetters.{sum_within}
 use Rattle.ps_machine.proofs.Uniqueness.OneFileGame.{alike, class_too, first_too, game_too, key_fine, on, one_chain}
-use Rattle.ps_machine.proofs.Uniqueness.OneFileGame.{second_too}
-use Rattle.ps_machine.proofs.Uniqueness.OneFileGame.{steps_too}
+use Rattle.ps_machine.proofs.Uniqueness.OneFileGame.{second_too, steps_too}
 use Rattle.ps_machine.proofs.Uniqueness.OneGame.{one_game_of}
 use Rattle.ps_machine.proofs.Uniqueness.OneMachine.{one_machine}
 
-module _ (order : Order) (file : FileData) (chain : Chain) (a b : Auto) (is : IsAutoOf file chain a)
-    (too : IsAutoOf file chain b)
-    (mover : ℕ) (keys : List Key) (game : ParityGame) (g : IsGameOf (on order file chain a) mover keys game) where
+module _ (order : Order) {file : FileData} {chain : Chain} {a b : Auto} (is : IsAutoOf file chain a)
+    (too : IsAutoOf file chain b) {mover : ℕ} {keys : List Key} {game : ParityGame}
+    (g : IsGameOf (on order file chain a) mover keys game) where
   abbrev one : Board
   one = board_of_file order file a
 
   abbrev other : Board
   other = board_of_file order file b
 
-  goes_too : (q letter w : ℕ) → q ≤ file.states → letter < 2 ^ length file.names → GoesTo keys one q letter w →
+  goes_too : {q letter w : ℕ} → q ≤ file.states → letter < 2 ^ length file.names → GoesTo keys one q letter w →
       GoesTo keys other q letter w
-  goes_too q letter w low lt goes =
-      let steps = alike order file chain a b is too q letter low lt in
+  goes_too {q} {letter} {w} low lt goes =
+      let steps = alike order file chain is too q letter low lt in
       record { stands = subst (StandsAt keys w) (ap₂ (λ (s p : ℕ). First s p) steps.next steps.priority) goes.stands }
 
   other_too : (first : Bool) (x : ℕ) → IsOther first other x → IsOther first one x
-  other_too true x letter = second_too order file chain b a x letter
-  other_too false x letter = first_too order file chain b a x letter
+  other_too true x letter = second_too order file chain b a letter
+  other_too false x letter = first_too order file chain b a letter
 
-module _ (order : Order) (file : FileData) (chain : Chain) (a b : Auto) (is : IsAutoOf file chain a)
-    (too : IsAutoOf file chain b)
-    (mover : ℕ) (keys : List Key) (game : ParityGame) (g : IsGameOf (board_of_file order file a) mover keys game)
-    (certificate : CertificateData) where
+module _ (order : Order) {file : FileData} {chain : Chain} {a b : Auto} (is : IsAutoOf file chain a)
+    (too : IsAutoOf file chain b) {mover : ℕ} {keys : List Key} {game : ParityGame}
+    (g : IsGameOf (board_of_file order file a) mover keys game) (certificate : CertificateData) where
   abbrev before : Board
   before = board_of_file order file a
 
@@ -54,7 +51,7 @@ module _ (order : Order) (file : FileData) (chain : Chain) (a b : Auto) (is : Is
   behind = board_of_file order file b
 
   fine : (v q p : ℕ) → StandsAt keys v (First q p) → q ≤ file.states
-  fine v q p stands = key_fine order file chain a b is too mover keys game g v (First q p) stands
+  fine v q p stands = key_fine order file chain is too g v (First q p) stands
 
   record Plays (first : Bool) (v q x letter : ℕ) : Type 0 where
     played : IsPlayed first behind keys certificate v q x letter
@@ -63,36 +60,35 @@ module _ (order : Order) (file : FileData) (chain : Chain) (a b : Auto) (is : Is
   turned : (x y : ℕ) → x + y ≡ y + x
   turned x y = omega arith
 
-  plays_first : (v q x letter : ℕ) → IsSecondLetter before x → IsPlayed true before keys certificate v q x letter →
+  plays_first : {v q x letter : ℕ} → IsSecondLetter before x → IsPlayed true before keys certificate v q x letter →
       Plays true v q x letter
-  plays_first v q x letter second s = record {
+  plays_first {q} {x} {letter} second s = record {
     played = record { chosen = s.chosen; choice = s.choice; stands = s.stands };
     within =
-        (let key = key_fine order file chain a b is too mover keys game g s.chosen (Second q letter) s.stands in
-        subst (λ n. n < 2 ^ length file.names) (turned letter x) (sum_within before letter x key.1 second));
+        (let key = key_fine order file chain is too g s.chosen (Second q letter) s.stands in
+        subst (λ n. n < 2 ^ length file.names) (turned letter x) (sum_within before key.1 second));
   }
 
-  plays_second : (v q x letter : ℕ) → q ≤ file.states → IsFirstLetter before x →
+  plays_second : {v q x letter : ℕ} → q ≤ file.states → IsFirstLetter before x →
       IsPlayed false before keys certificate v q x letter → Plays false v q x letter
-  plays_second v q x letter low letter_first s = record {
+  plays_second {q} {x} low letter_first s = record {
     played = record {
       class = s.class;
-      is_class = class_too order file chain a b is too q s.class low s.is_class;
-      same = steps_too order file chain a b is too q x s.class low letter_first class_first s.same;
+      is_class = class_too order file chain is too q s.class low s.is_class;
+      same = steps_too order file chain is too q low letter_first class_first s.same;
       at = s.at;
       stands = s.stands;
       chosen = s.chosen;
       choice = s.choice;
       least = record {
         here = (
-          second_too order file chain a b letter s.least.here.0,
-          goes_too order file chain a b is too mover keys game g q (s.class + letter) s.chosen low
-              (sum_within before s.class letter class_first s.least.here.0) s.least.here.1,
+          second_too order file chain a b s.least.here.0,
+          goes_too order is too g low (sum_within before class_first s.least.here.0) s.least.here.1,
         );
         none_before = λ z there earlier. s.least.none_before z (back z there) earlier;
       };
     };
-    within = sum_within before x letter letter_first s.least.here.0;
+    within = sum_within before letter_first s.least.here.0;
   }
     where
       class_first : IsFirstLetter before s.class
@@ -101,9 +97,8 @@ module _ (order : Order) (file : FileData) (chain : Chain) (a b : Auto) (is : Is
       back : (z : ℕ) → IsSecondLetter behind z × GoesTo keys behind q (s.class + z) s.chosen →
           IsSecondLetter before z × GoesTo keys before q (s.class + z) s.chosen
       back z there =
-          let second = second_too order file chain b a z there.0 in
-          let steps =
-          alike order file chain b a too is q (s.class + z) low (sum_within before s.class z class_first second) in (
+          let second = second_too order file chain b a there.0 in
+          let steps = alike order file chain too is q (s.class + z) low (sum_within before class_first second) in (
             second,
             record {
               stands = subst (StandsAt keys s.chosen)
@@ -113,16 +108,16 @@ module _ (order : Order) (file : FileData) (chain : Chain) (a b : Auto) (is : Is
 
   plays : (first : Bool) (v q x letter : ℕ) → q ≤ file.states → IsOther first before x →
       IsPlayed first before keys certificate v q x letter → Plays first v q x letter
-  plays true v q x letter low is_other s = plays_first v q x letter is_other s
-  plays false v q x letter low is_other s = plays_second v q x letter low is_other s
+  plays true v q x letter low is_other s = plays_first is_other s
+  plays false v q x letter low is_other s = plays_second low is_other s
 
-  step_too : (kept : List ℕ) (m : Behaviour) (memory x : ℕ) → IsOther m.is_first before x →
+  step_too : {kept : List ℕ} {m : Behaviour} {memory x : ℕ} → IsOther m.is_first before x →
       IsStep before keys kept certificate m memory x → IsStep behind keys kept certificate m memory x
-  step_too kept m memory x is_other s =
+  step_too {kept} {m} {memory} {x} is_other s =
       let low = fine s.vertex s.state s.priority s.stands in
       let p = plays m.is_first s.vertex s.state x (m.plays memory x) low is_other s.played in
       let letter = x + m.plays memory x in
-      let steps = alike order file chain a b is too s.state letter low p.within in
+      let steps = alike order file chain is too s.state letter low p.within in
       record {
         vertex = s.vertex;
         state = s.state;
@@ -131,7 +126,7 @@ module _ (order : Order) (file : FileData) (chain : Chain) (a b : Auto) (is : Is
         stands = s.stands;
         played = p.played;
         entered = s.entered;
-        goes = goes_too order file chain a b is too mover keys game g s.state letter s.entered low p.within s.goes;
+        goes = goes_too order is too g low p.within s.goes;
         next = subst (StandsFor m.is_first keys kept (m.next memory x) s.entered) steps.next s.next;
       }
 
@@ -146,8 +141,8 @@ module _ (order : Order) (file : FileData) (chain : Chain) (a b : Auto) (is : Is
     complete = of.complete;
     memories = of.memories;
     steps = λ memory x within is_other.
-        (let back = other_too order file chain a b is too mover keys game g m.is_first x is_other in
-        step_too of.kept m memory x back (of.steps memory x within back));
+        (let back = other_too order is too g m.is_first x is_other in
+        step_too back (of.steps memory x within back));
   }
 
   propositions_too : (m : Behaviour) → HasPropositions file.names before m → HasPropositions file.names behind m
@@ -155,8 +150,7 @@ module _ (order : Order) (file : FileData) (chain : Chain) (a b : Auto) (is : Is
       record {
         names_are = has.names_are;
         as_many = has.as_many;
-        reads = λ p less. has.reads p less
-            ∙ same m.is_first p;
+        reads = λ p less. has.reads p less ∙ same m.is_first p;
       }
     where
       same : (first : Bool) (p : ℕ) → is_others first before p ≡ is_others first behind p
@@ -165,19 +159,16 @@ module _ (order : Order) (file : FileData) (chain : Chain) (a b : Auto) (is : Is
 
 pub one_machine_of_file : (order : Order) (file : FileData) (game : NamedGameData)
     (first second : IsGameOfFile order file game) (certificate : CertificateData) (m o : Behaviour) →
-    IsMachine m → IsMachine o →
-    HasPropositions file.names (board_of_file order file first.auto) m →
+    IsMachine m → IsMachine o → HasPropositions file.names (board_of_file order file first.auto) m →
     HasPropositions file.names (board_of_file order file second.auto) o →
     IsMachineOf (board_of_file order file first.auto) (mover_of order) first.keys game.game certificate m →
     IsMachineOf (board_of_file order file second.auto) (mover_of order) second.keys game.game certificate o →
     BehavesAs m o
 one_machine_of_file order file game first second certificate m o machine other has also of and =
     one_machine file.names board mover second.keys game.game certificate second.is_game m o machine other
-    (propositions_too order file second.chain first.auto second.auto is second.is_auto mover first.keys game.game
-    first.is_game certificate m has) also
+    (propositions_too order is second.is_auto first.is_game certificate m has) also
     (subst (λ (keys : List Key). IsMachineOf board mover keys game.game certificate m) same.0
-    (machine_too order file second.chain first.auto second.auto is second.is_auto mover first.keys game.game
-    first.is_game certificate m of)) and
+    (machine_too order is second.is_auto first.is_game certificate m of)) and
   where
     board : Board
     board = board_of_file order file second.auto
@@ -186,9 +177,8 @@ one_machine_of_file order file game first second certificate m o machine other h
     mover = mover_of order
 
     is : IsAutoOf file second.chain first.auto
-    is = one_chain order file game game first second
+    is = one_chain first second
 
     same : (first.keys ≡ second.keys) × (game.game ≡ game.game)
     same = one_game_of board mover first.keys second.keys game.game game.game
-        (game_too order file second.chain first.auto second.auto is second.is_auto mover first.keys game.game
-        first.is_game) second.is_game
+        (game_too order file second.chain is second.is_auto first.is_game) second.is_game

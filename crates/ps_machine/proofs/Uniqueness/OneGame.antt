@@ -1,32 +1,27 @@
 -- There is one game of a board: breadth-first numbers leave no choice.
-use Rattle.std.proofs.Common.{◌≡◌, ◌≢◌, ℕ, zero, suc, ◌+◌, ◌-◌, ◌<◌, ◌≤◌, ◌⊎◌, inl, inr, true, cond, not, ◌==◌, filter}
-use Rattle.std.proofs.Common.{List, [], ◌∷◌, ◌++◌, length, map, get_or, refl, ap, ap₂, sym, subst, ◌∙◌, rules, arith}
-use Rattle.std.specs.List.{All, AllPairs, AllZip, Contains, range_with_len, slice_get, list_any}
-use Rattle.std.proofs.Math.ListN.{get_or-append}
-use Rattle.std.proofs.Math.Seq.{get_or-append_seam}
-use Rattle.std.proofs.lemmas.Bool.{cases_eq, cases_lt, cases_Bool, eqb-true, eq-eqb, ne_eqb}
-use Rattle.std.proofs.lemmas.List.{append-nil, append_assoc, length-append, length-map, get_or-map, get_or_default}
-use Rattle.std.proofs.lemmas.List.{same_lists}
-use Rattle.std.proofs.lemmas.Grind.{same_number_lists}
-use Rattle.std.proofs.lemmas.List.Elements.{All-nil, All-cons, All-head, All-tail, All-contains, Contains-append_cases}
-use Rattle.std.proofs.lemmas.List.Folds.{Any-from_list_any}
-use Rattle.std.proofs.lemmas.List.FromFn.{get_or-range_with_len, length-range_with_len}
+use Rattle.std.proofs.Common.{◌≡◌, ◌≢◌, ℕ, zero, suc, ◌+◌, ◌-◌, ◌<◌, ◌≤◌, ◌⊎◌, inl, inr, not, List, [], ◌∷◌, ◌++◌}
+use Rattle.std.proofs.Common.{length, map, get_or, refl, ap, ap₂, sym, subst, ◌∙◌, rules, arith}
+use Rattle.std.specs.List.{AllPairs, AllZip, Contains, slice_get}
+use Rattle.std.proofs.lemmas.Bool.{cases_eq, cases_lt}
+use Rattle.std.proofs.lemmas.List.{append-nil, append_assoc, length-map, get_or-map, get_or_default, same_lists}
+use Rattle.std.proofs.lemmas.List.Elements.{All-contains, Contains-append_cases}
 use Rattle.std.proofs.lemmas.Option.{slice_get-get_or}
 use Rattle.ps_label.specs.Truth.{is_in}
 use Rattle.ps_diagram.specs.Letters.{IsBefore}
 use Rattle.ps_diagram.proofs.Cells.{true_is_not_false}
 use Rattle.ps_game.specs.Games.{ParityGame, VertexData, no_vertex, vertex_count, owner_of, priority_of, successors_of}
 use Rattle.ps_game.specs.Drafts.{distinct}
-use Rattle.ps_game.proofs.Distinct.{distinct-push}
-use Rattle.ps_machine.specs.Boards.{Board, AreListed, LeadsTo, IsGameOf, IsClass, IsMove}
+use Rattle.ps_machine.specs.Boards.{Board, AreListed, LeadsTo, IsGameOf}
 use Rattle.ps_machine.specs.Keys.{owner_of_key, priority_of_key}
 use Rattle.ps_machine.specs.Numbering.{listed, StandsAt, IsVertexOf}
 use Rattle.ps_machine.specs.declared.key.Key.{Key}
 use Rattle.ps_machine.specs.declared.key.Key.TheVariants.{First, Second}
 use Rattle.ps_machine.proofs.GameKeys.Exploring.{less_or_last}
-use Rattle.ps_machine.proofs.Uniqueness.Rising.{in_cons, none_in, same_rising}
+use Rattle.ps_machine.proofs.Uniqueness.Rising.{same_rising}
 use Rattle.ps_machine.proofs.Lassos.Rounds.{one_place}
-use Rattle.ps_machine.proofs.GameKeys.Standing.{came, not_come, range-push, same_some}
+use Rattle.ps_machine.proofs.GameKeys.Standing.{came, same_some, zip_at}
+use Rattle.ps_machine.proofs.Uniqueness.Counting.{Counts, counts_one, counts_below, has_it, counts_old, counts_new}
+use Rattle.ps_machine.proofs.Uniqueness.Counting.{none, counts_front, old_or_next}
 
 -- ## Letters in their order
 
@@ -39,131 +34,35 @@ not_both x y a b = elim (cases_eq a.first b.first) [
   ]
 ]
 
-one_list : (P : ℕ → Type 0) (xs ys : List ℕ) → AreListed P xs → AreListed P ys → xs ≡ ys
-one_list P xs ys a b =
+one_list : {P : ℕ → Type 0} {xs ys : List ℕ} → AreListed P xs → AreListed P ys → xs ≡ ys
+one_list {P} {xs} {ys} a b =
     same_rising IsBefore not_both xs ys a.rising b.rising (λ z c. b.complete z (All-contains P xs z a.each c))
     (λ z c. a.complete z (All-contains P ys z b.each c))
 
 -- a key leads to one list of keys
-one_next : (board : Board) (key : Key) (one other : List Key) → LeadsTo board key one →
+one_next : (board : Board) (key : Key) {one other : List Key} → LeadsTo board key one →
     LeadsTo board key other → one ≡ other
-one_next board (First q p) one other a b =
-    a.2 ∙ ap (map (λ x. Second q x)) (one_list (IsClass board q) a.0 b.0 a.1 b.1) ∙ sym b.2
-one_next board (Second q x) one other a b =
-    a.2 ∙ ap (map (λ y. First (board.auto.next q (x + y)) (board.auto.priority q (x + y))))
-    (one_list (IsMove board q x) a.0 b.0 a.1 b.1) ∙ sym b.2
+one_next board (First q p) a b = a.2 ∙ ap (map (λ x. Second q x)) (one_list a.1 b.1) ∙ sym b.2
+one_next board (Second q x) a b =
+    a.2 ∙ ap (map (λ y. First (board.auto.next q (x + y)) (board.auto.priority q (x + y)))) (one_list a.1 b.1) ∙ sym b.2
 
-first_not_second : (q p r x : ℕ) → Second r x ≡ First q p → ⊥
-first_not_second q p r x e = search rules
+first_not_second : {q p r x : ℕ} → Second r x ≡ First q p → ⊥
+first_not_second e = search rules
 
-in_map : (f : ℕ → Key) (xs : List ℕ) (key : Key) → Contains (map f xs) key → (x : ℕ) × (f x ≡ key)
-in_map f xs key c =
+in_map : (f : ℕ → Key) (xs : List ℕ) {key : Key} → Contains (map f xs) key → (x : ℕ) × (f x ≡ key)
+in_map f xs {key} c =
     let within : c.0 < length xs = omega (arith, c.1, length-map xs f) in
     (get_or xs c.0 0, sym (get_or-map f xs c.0 0 key within) ∙ c.2)
 
 -- and not to itself
 not_itself : (board : Board) (key : Key) (next : List Key) → LeadsTo board key next → Contains next key → ⊥
 not_itself board (First q p) next a c =
-    (let at = in_map (λ x. Second q x) a.0 (First q p) (subst (λ l. Contains l (First q p)) a.2 c) in
-    first_not_second q p q at.0 at.1)
+    (let at = in_map (λ x. Second q x) a.0 (subst (λ l. Contains l (First q p)) a.2 c) in
+    first_not_second at.1)
 not_itself board (Second q x) next a c =
     let f : ℕ → Key = λ y. First (board.auto.next q (x + y)) (board.auto.priority q (x + y)) in
-    let at = in_map f a.0 (Second q x) (subst (λ l. Contains l (Second q x)) a.2 c) in
-    first_not_second (board.auto.next q (x + at.0)) (board.auto.priority q (x + at.0)) q x (sym at.1)
-
--- ## Lists whose numbers, with repeats left out, are those below a count
-
-abbrev pub Counts : List ℕ → ℕ → Type 0
-Counts list count = distinct list ≡ range_with_len 0 count
-
-counts_one : (list : List ℕ) (c d : ℕ) → Counts list c → Counts list d → c ≡ d
-counts_one list c d a b = sym (length-range_with_len 0 c) ∙ ap length (sym a ∙ b) ∙ length-range_with_len 0 d
-
-all_unfiltered : (P : ℕ → Type 0) (x : ℕ) (l : List ℕ) → P x → All P (filter (λ y. not (x == y)) l) → All P l
-all_unfiltered P x [] here all = All-nil P
-all_unfiltered P x (z ∷ zs) here all = elim (cases_eq x z) [
-  | inl same ↦
-      (let drops : filter (λ y. not (x == y)) (z ∷ zs) ≡ filter (λ y. not (x == y)) zs = ap
-      (λ b. cond (not b) (z ∷ filter (λ y. not (x == y)) zs) (filter (λ y. not (x == y)) zs)) (eq-eqb x z same) in
-      All-cons P z zs (subst P same here) (all_unfiltered P x zs here (subst (λ l. All P l) drops all)))
-  | inr other ↦
-      (let keeps : filter (λ y. not (x == y)) (z ∷ zs) ≡ z ∷ filter (λ y. not (x == y)) zs = ap
-      (λ b. cond (not b) (z ∷ filter (λ y. not (x == y)) zs) (filter (λ y. not (x == y)) zs)) (ne_eqb x z other) in
-      let kept : All P (z ∷ filter (λ y. not (x == y)) zs) = subst (λ l. All P l) keeps all in
-      All-cons P z zs (All-head P z (filter (λ y. not (x == y)) zs) kept)
-      (all_unfiltered P x zs here (All-tail P z (filter (λ y. not (x == y)) zs) kept)))
-]
-
-all_from_distinct : (P : ℕ → Type 0) (xs : List ℕ) → All P (distinct xs) → All P xs
-all_from_distinct P [] all = all
-all_from_distinct P (x ∷ xs) all =
-    let here = All-head P x (filter (λ y. not (x == y)) (distinct xs)) all in
-    All-cons P x xs here (all_from_distinct P xs (all_unfiltered P x (distinct xs) here
-    (All-tail P x (filter (λ y. not (x == y)) (distinct xs)) all)))
-
-counts_below : (list : List ℕ) (c : ℕ) → Counts list c → All (λ w. w < c) list
-counts_below list c e = all_from_distinct (λ w. w < c) list (subst (λ l. All (λ w. w < c) l) (sym e)
-    (λ k d within. (let small : k < c = omega (arith, within, length-range_with_len 0 c) in
-    omega (arith, get_or-range_with_len 0 c k d small, small))))
-
-pub has_it : (xs : List ℕ) (y : ℕ) → list_any (λ z. z == y) xs ≡ true → Contains xs y
-has_it xs y e =
-    let any = Any-from_list_any (λ z. z == y) xs e in
-    let same : any.1 ≡ y = eqb-true any.1 y any.4 in
-    subst (Contains xs) same (any.0, any.2, any.3)
-
-counts_old : (list : List ℕ) (c x : ℕ) → Counts list c → x < c → Counts (list ++ x ∷ []) c
-counts_old list c x e lt =
-    distinct-push list x ∙ ap (λ b. cond b (distinct list) (distinct list ++ x ∷ [])) (came list c x e lt) ∙ e
-
-counts_new : (list : List ℕ) (c : ℕ) → Counts list c → Counts (list ++ c ∷ []) (c + 1)
-counts_new list c e =
-    distinct-push list c ∙ ap (λ b. cond b (distinct list) (distinct list ++ c ∷ []))
-    (not_come list c (counts_below list c e)) ∙ ap (λ l. l ++ c ∷ []) e ∙ range-push c
-
-none : (n : ℕ) → 0 + n ≡ n
-none n = omega arith
-
--- a last number is one that was there, or the next
-last_one : (list : List ℕ) (x m : ℕ) → distinct list ++ x ∷ [] ≡ range_with_len 0 m → Counts list x
-last_one list x m e =
-    let c = length (distinct list) in
-    let long : c + 1 ≡ m = sym (length-append (distinct list) (x ∷ [])) ∙ ap length e ∙ length-range_with_len 0 m in
-    let x_is : x ≡ c = sym (get_or-append_seam (distinct list) x [] 0) ∙ ap (λ l. get_or l c 0) e
-    ∙ get_or-range_with_len 0 m c 0 (omega (arith, long)) ∙ none c in
-    same_number_lists (distinct list) (range_with_len 0 x) (sym x_is ∙ sym (length-range_with_len 0 x))
-    (λ k within. sym (get_or-append (distinct list) (x ∷ []) 0 k within) ∙ ap (λ l. get_or l k 0) e
-    ∙ get_or-range_with_len 0 m k 0 (omega (arith, within, long))
-    ∙ sym (get_or-range_with_len 0 x k 0 (omega (arith, within, x_is))))
-
-counts_last : (list : List ℕ) (x m : ℕ) → Counts (list ++ x ∷ []) m → (Counts list m × (x < m)) ⊎ Counts list x
-counts_last list x m e = elim (cases_Bool (list_any (λ y. y == x) list)) [
-  | inl is ↦
-      (let same : distinct (list ++ x ∷ []) ≡ distinct list = distinct-push list x
-      ∙ ap (λ b. cond b (distinct list) (distinct list ++ x ∷ [])) is in
-      let counts : Counts list m = sym same ∙ e in
-      inl (counts, All-contains (λ w. w < m) list x (counts_below list m counts) (has_it list x is)))
-  | inr isnt ↦
-      (let same : distinct (list ++ x ∷ []) ≡ distinct list ++ x ∷ [] = distinct-push list x
-      ∙ ap (λ b. cond b (distinct list) (distinct list ++ x ∷ [])) isnt in
-      inr (last_one list x m (sym same ∙ e)))
-]
-
-counts_front : (list more : List ℕ) (m : ℕ) → Counts (list ++ more) m → (c : ℕ) × Counts list c
-counts_front list [] m e = (m, subst (λ l. Counts l m) (append-nil list) e)
-counts_front list (y ∷ more) m e =
-    let first =
-    counts_front (list ++ y ∷ []) more m (subst (λ l. Counts l m) (sym (append_assoc list (y ∷ []) more)) e) in
-    elim (counts_last list y first.0 first.1) [ inl old ↦ (first.0, old.0) | inr new ↦ (y, new) ]
-
-old_or_next : (list more : List ℕ) (x c m : ℕ) → Counts list c → Counts (list ++ x ∷ more) m → (x < c) ⊎ (x ≡ c)
-old_or_next list more x c m e all =
-    let first =
-    counts_front (list ++ x ∷ []) more m (subst (λ l. Counts l m) (sym (append_assoc list (x ∷ []) more)) all) in
-    elim (counts_last list x first.0 first.1) [
-      | inl old ↦ inl (subst (λ n. x < n) (counts_one list first.0 c old.0 e) old.1)
-      | inr new ↦ inr (counts_one list x c new e)
-    ]
+    let at = in_map f a.0 (subst (λ l. Contains l (Second q x)) a.2 c) in
+    first_not_second (sym at.1)
 
 -- ## Two numberings, step by step
 
@@ -178,11 +77,11 @@ record Walked (one other : List Key) (list numbers others : List ℕ) : Type 0 w
 
 module _ (one other : List Key) (one_differ : AllPairs (λ x y. x ≢ y) one)
     (other_differ : AllPairs (λ x y. x ≢ y) other) where
-  same_number : (c x y : ℕ) (k : Key) → Agree one other c → StandsAt one x k → StandsAt other y k → (x < c) ⊎ (x ≡ c) →
+  same_number : {c x y : ℕ} (k : Key) → Agree one other c → StandsAt one x k → StandsAt other y k → (x < c) ⊎ (x ≡ c) →
       (y < c) ⊎ (y ≡ c) → x ≡ y
-  same_number c x y k agree a b (inl less) at = one_place other other_differ x y k (sym (agree x less) ∙ a) b
-  same_number c x y k agree a b (inr is) (inl less) = one_place one one_differ x y k a (agree y less ∙ b)
-  same_number c x y k agree a b (inr is) (inr too) = is ∙ sym too
+  same_number {x} {y} k agree a b (inl less) at = one_place other other_differ x y (sym (agree x less) ∙ a) b
+  same_number {x} {y} k agree a b (inr is) (inl less) = one_place one one_differ x y a (agree y less ∙ b)
+  same_number k agree a b (inr is) (inr too) = is ∙ sym too
 
   agree_more : (c x : ℕ) (k : Key) → Agree one other c → x ≡ c → StandsAt one x k → StandsAt other x k →
       Agree one other (c + 1)
@@ -211,15 +110,14 @@ module _ (one other : List Key) (one_differ : AllPairs (λ x y. x ≢ y) one)
   walk list (x ∷ numbers) [] (k ∷ next) c more rest m l e agree a b all also = absurd b
   walk list (x ∷ numbers) (y ∷ others) (k ∷ next) c more rest m l e agree a b all also =
       let old = old_or_next list (numbers ++ more) x c m e all in
-      let same = same_number c x y k agree a.0 b.0 old (old_or_next list (others ++ rest) y c l e also) in
+      let same = same_number k agree a.0 b.0 old (old_or_next list (others ++ rest) y c l e also) in
       let there : StandsAt other x k = subst (λ n. StandsAt other n k) (sym same) b.0 in
       let all_on : Counts ((list ++ x ∷ []) ++ (numbers ++ more)) m =
       subst (λ k. Counts k m) (sym (append_assoc list (x ∷ []) (numbers ++ more))) all in
       let also_on : Counts ((list ++ x ∷ []) ++ (others ++ rest)) l =
       subst (λ k. Counts k l) (sym (append_assoc list (x ∷ []) (others ++ rest)))
       (subst (λ z. Counts (list ++ z ∷ (others ++ rest)) l) (sym same) also) in
-      joined list x y numbers others same
-      (elim old [
+      joined list x y numbers others same (elim old [
         | inl less ↦ walk (list ++ x ∷ []) numbers others next c more rest m l (counts_old list c x e less) agree a.1
             b.1 all_on also_on
         | inr is ↦ walk (list ++ x ∷ []) numbers others next (c + 1) more rest m l
@@ -245,13 +143,9 @@ gap v n le = (n - v, omega (arith, le))
 
 pub zipped : (keys : List Key) (numbers : List ℕ) (next : List Key) (w : ℕ) (key : Key) →
     AllZip (StandsAt keys) numbers next → StandsAt keys w key → Contains numbers w → Contains next key
-zipped keys [] next w key zip at c = absurd (none_in w c)
-zipped keys (n ∷ numbers) [] w key zip at c = absurd zip
-zipped keys (n ∷ numbers) (k ∷ next) w key zip at c = elim (in_cons n w numbers c) [
-  | inl same ↦ (0, omega arith, same_some k key (sym zip.0 ∙ ap (slice_get keys) same ∙ at))
-  | inr later ↦ (let there = zipped keys numbers next w key zip.1 at later in
-      (suc there.0, omega (arith, there.1), there.2))
-]
+zipped keys numbers next w key zip at c =
+    let there = zip_at keys numbers next c.0 w key zip c.1 in
+    (c.0, there.0, same_some (sym there.1 ∙ ap (slice_get keys) c.2 ∙ at))
 
 module _ (board : Board) (mover : ℕ) where
   abbrev pub IsIt : List Key → ParityGame → Type 0
@@ -363,13 +257,10 @@ module _ (board : Board) (mover : ℕ) where
 
         key_same : a.key ≡ b.key
         key_same =
-            same_some a.key b.key (sym a.stands ∙ before.agree v (ahead one game v before.count is lt before.counts)
-            ∙ b.stands)
+            same_some (sym a.stands ∙ before.agree v (ahead one game v before.count is lt before.counts) ∙ b.stands)
 
         next_same : b.next ≡ a.next
-        next_same =
-            one_next board a.key b.next a.next (subst (λ k. LeadsTo board k b.next) (sym key_same) b.leads_to)
-            a.leads_to
+        next_same = one_next board a.key (subst (λ k. LeadsTo board k b.next) (sym key_same) b.leads_to) a.leads_to
 
         first : (more : List ℕ) × Counts (listed game v ++ (successors_of game v ++ more)) (vertex_count game)
         first = front_counts one game v is lt
@@ -394,12 +285,12 @@ module _ (board : Board) (mover : ℕ) where
     not_fewer : vertex_count game < vertex_count same → ⊥
     not_fewer less =
         let at = alike (vertex_count game) (omega arith) (omega (arith, less)) in
-        let whole = counts_one (listed game (vertex_count game)) at.count (vertex_count game) at.counts is.numbered in
+        let whole = counts_one (listed game (vertex_count game)) at.counts is.numbered in
         let more = ahead other same (vertex_count game) at.count too less (ap distinct (sym at.lists) ∙ at.counts) in
         omega (arith, whole, more)
 
-  vertex_same : (x y : VertexData) → x.owner ≡ y.owner → x.priority ≡ y.priority → x.successors ≡ y.successors → x ≡ y
-  vertex_same x y a b c =
+  vertex_same : {x y : VertexData} → x.owner ≡ y.owner → x.priority ≡ y.priority → x.successors ≡ y.successors → x ≡ y
+  vertex_same {x} {y} a b c =
       ap₂ (λ (o p : ℕ). let v : VertexData = record { owner = o; priority = p; successors = x.successors } in v) a b
       ∙ ap (λ (s : List ℕ). let v : VertexData = record { owner = y.owner; priority = y.priority; successors = s } in v)
       c
@@ -422,11 +313,10 @@ module _ (board : Board) (mover : ℕ) where
       at = alike one other game same is too (vertex_count game) (omega arith) (omega (arith, count_same))
 
       whole : at.count ≡ vertex_count game
-      whole = counts_one (listed game (vertex_count game)) at.count (vertex_count game) at.counts is.numbered
+      whole = counts_one (listed game (vertex_count game)) at.counts is.numbered
 
       keys_same : one ≡ other
-      keys_same = same_lists one other (is.by_keys.count ∙ count_same ∙ sym too.by_keys.count)
-          (λ k d within. same_some (get_or one k d) (get_or other k d)
+      keys_same = same_lists one other (is.by_keys.count ∙ count_same ∙ sym too.by_keys.count) (λ k d within. same_some
           (sym (slice_get-get_or one k d within) ∙ at.agree k (omega (arith, within, whole, is.by_keys.count))
           ∙ slice_get-get_or other k d (omega (arith, within, is.by_keys.count, count_same, too.by_keys.count))))
 
@@ -434,9 +324,8 @@ module _ (board : Board) (mover : ℕ) where
       each k lt =
           let a = is.by_keys.vertices k lt in
           let b = too.by_keys.vertices k (omega (arith, lt, count_same)) in
-          let key = same_some a.key b.key (sym a.stands ∙ at.agree k (omega (arith, lt, whole)) ∙ b.stands) in
-          vertex_same (get_or game k no_vertex) (get_or same k no_vertex)
-          (a.owner ∙ ap (owner_of_key mover) key ∙ sym b.owner)
+          let key = same_some (sym a.stands ∙ at.agree k (omega (arith, lt, whole)) ∙ b.stands) in
+          vertex_same (a.owner ∙ ap (owner_of_key mover) key ∙ sym b.owner)
           (a.priority ∙ ap priority_of_key key ∙ sym b.priority) (at.successors k lt)
 
       games_same : game ≡ same

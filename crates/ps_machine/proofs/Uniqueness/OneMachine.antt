@@ -1,6 +1,6 @@
 -- A certificate has one machine: its memories rise, and at each of them one letter is played and one memory comes next.
-use Rattle.std.proofs.Common.{◌≡◌, ◌≢◌, inl, inr, ℕ, ◌+◌, ◌<◌, Bool, true, false, not, List, length, Some, refl}
-use Rattle.std.proofs.Common.{ap, sym, subst, ◌∙◌, arith}
+use Rattle.std.proofs.Common.{◌≡◌, ◌≢◌, inl, inr, ℕ, ◌+◌, ◌<◌, Bool, true, false, not, List, length, Some, refl, ap}
+use Rattle.std.proofs.Common.{sym, subst, ◌∙◌, arith}
 use Rattle.std.specs.Prelude.{slice_get}
 use Rattle.std.specs.List.{All, AllPairs, Contains}
 use Rattle.std.proofs.lemmas.Bool.{cases_Bool, cases_lt}
@@ -17,8 +17,8 @@ use Rattle.ps_machine.specs.Behaviours.{Behaviour, IsMachine, AreSameOn}
 use Rattle.ps_machine.specs.Behaving.{BehavesAs}
 use Rattle.ps_machine.specs.Boards.{Board, IsClass, IsGameOf, IsSecondLetter, SameSteps}
 use Rattle.ps_machine.specs.Drawing.{mark_of}
-use Rattle.ps_machine.specs.Extracting.{GoesTo, HasPropositions, IsKept, IsMachineOf, IsOther, IsPlayed}
-use Rattle.ps_machine.specs.Extracting.{IsUsedFirst, StandsFor, is_others}
+use Rattle.ps_machine.specs.Extracting.{GoesTo, HasPropositions, IsKept, IsMachineOf, IsOther, IsPlayed, IsUsedFirst}
+use Rattle.ps_machine.specs.Extracting.{StandsFor, is_others}
 use Rattle.ps_machine.specs.Numbering.{StandsAt}
 use Rattle.ps_machine.specs.declared.key.Key.{Key}
 use Rattle.ps_machine.specs.declared.key.Key.TheVariants.{First, Second}
@@ -34,7 +34,7 @@ use Rattle.ps_machine.proofs.GameKeys.Standing.{one_state}
 
 -- ## Propositions
 
-module _ (names : List (List ℕ)) (board : Board) (m : Behaviour) (is : IsMachine m)
+module _ {names : List (List ℕ)} {board : Board} {m : Behaviour} (is : IsMachine m)
     (has : HasPropositions names board m) where
   many : length m.names ≡ board.propositions
   many = ap length has.names_are ∙ has.as_many
@@ -65,48 +65,46 @@ module _ (first : Bool) (keys : List Key) (game : ParityGame) (certificate : Cer
   abbrev Kept : ℕ → Type 0
   Kept v = IsKept first keys game certificate v
 
-  pub one_kept : (kept others : List ℕ) → AllPairs (λ v w. v < w) kept → AllPairs (λ v w. v < w) others →
+  pub one_kept : {kept others : List ℕ} → AllPairs (λ v w. v < w) kept → AllPairs (λ v w. v < w) others →
       All Kept kept → All Kept others →
       ((v : ℕ) → Kept v → Contains kept v) → ((v : ℕ) → Kept v → Contains others v) → kept ≡ others
-  one_kept kept others r s each all whole complete =
-      same_numbers kept others r s (λ v c. complete v (All-contains Kept kept v each c))
+  one_kept {kept} {others} r s each all whole complete =
+      same_numbers r s (λ v c. complete v (All-contains Kept kept v each c))
       (λ v c. whole v (All-contains Kept others v all c))
 
   -- no used vertex below a kept one shares its memory
-  none_below : (v q p u r o : ℕ) → Kept u → StandsAt keys u (First r o) → IsUsedFirst keys game certificate v q p →
-      mark_of first v q ≡ mark_of first u r → v < u → ⊥
-  none_below v q p u r o k stands used same less =
+  none_below : {v q p : ℕ} (u r o : ℕ) → Kept u → StandsAt keys u (First r o) →
+      IsUsedFirst keys game certificate v q p → mark_of first v q ≡ mark_of first u r → v < u → ⊥
+  none_below {v} {q} {p} u r o k stands used same less =
       k.least v q p less used (mark_shares first u k.state v q
-      (ap (mark_of first u) (one_state keys u k.state k.priority r o k.here.stands stands) ∙ sym same))
+      (ap (mark_of first u) (one_state keys u k.priority o k.here.stands stands) ∙ sym same))
 
-  kept_at : (kept : List ℕ) (memory v : ℕ) → All Kept kept → slice_get kept memory ≡ Some v → Kept v
-  kept_at kept memory v each at =
+  kept_at : (kept : List ℕ) (memory : ℕ) {v : ℕ} → All Kept kept → slice_get kept memory ≡ Some v → Kept v
+  kept_at kept memory {v} each at =
       subst Kept (get_or_from_slice_get kept memory v v at) (each memory v (slice_get_within kept memory v at))
 
   -- of two memories that stand at one vertex the first is not the lower one
-  not_lower : (kept : List ℕ) (i j w r : ℕ) → AllPairs (λ v w. v < w) kept → All Kept kept →
+  not_lower : {kept : List ℕ} {i j w r : ℕ} → AllPairs (λ v w. v < w) kept → All Kept kept →
       StandsFor first keys kept i w r → StandsFor first keys kept j w r → i < j → ⊥
-  not_lower kept i j w r rises each a b less =
-      let one = kept_at kept i a.vertex each a.is_kept in
+  not_lower {kept} {i} {j} {w} {r} rises each a b less =
+      let one = kept_at kept i each a.is_kept in
       let same : mark_of first a.vertex a.state ≡ mark_of first b.vertex b.state =
       shares_mark first a.vertex a.state w r a.shares ∙ sym (shares_mark first b.vertex b.state w r b.shares) in
       let below = rises i j 0 less (slice_get_within kept j b.vertex b.is_kept) in
-      none_below a.vertex a.state a.priority b.vertex b.state b.priority
-      (kept_at kept j b.vertex each b.is_kept) b.stands
-      (record { used = one.here.used; stands = a.stands }) same
-      (omega (
+      none_below b.vertex b.state b.priority
+      (kept_at kept j each b.is_kept) b.stands (record { used = one.here.used; stands = a.stands }) same (omega (
         arith,
         below,
         get_or_from_slice_get kept i a.vertex 0 a.is_kept,
         get_or_from_slice_get kept j b.vertex 0 b.is_kept,
       ))
 
-  pub one_memory : (kept : List ℕ) (i j w r : ℕ) → AllPairs (λ v w. v < w) kept → All Kept kept →
+  pub one_memory : {kept : List ℕ} {i j w r : ℕ} → AllPairs (λ v w. v < w) kept → All Kept kept →
       StandsFor first keys kept i w r → StandsFor first keys kept j w r → i ≡ j
-  one_memory kept i j w r rises each a b = elim (cases_lt i j) [
-    | inl less ↦ absurd (not_lower kept i j w r rises each a b less)
+  one_memory {kept} {i} {j} {w} {r} rises each a b = elim (cases_lt i j) [
+    | inl less ↦ absurd (not_lower rises each a b less)
     | inr high ↦ elim (cases_lt j i) [
-      | inl less ↦ absurd (not_lower kept j i w r rises each b a less)
+      | inl less ↦ absurd (not_lower rises each b a less)
       | inr low ↦ omega (arith, high, low)
     ]
   ]
@@ -118,22 +116,20 @@ module _ (board : Board) (keys : List Key) (certificate : CertificateData) (diff
       SameSteps board q x d → c ≡ d
   one_class q x c d a b to too =
       let same = steps_trans board q c x d (steps_sym board q x c to) too in
-      neither_before board.propositions c d a.here.0.within b.here.0.within
+      neither_before board.propositions a.here.0.within b.here.0.within
       (λ before. b.none_before c (a.here.0, same) before)
       (λ before. a.none_before d (b.here.0, steps_sym board q c d same) before)
 
   -- what is played at a vertex of a state, where the other player's letter is x
-  one_played : (first : Bool) (v q x one other : ℕ) → IsPlayed first board keys certificate v q x one →
+  one_played : (first : Bool) (v q x : ℕ) {one other : ℕ} → IsPlayed first board keys certificate v q x one →
       IsPlayed first board keys certificate v q x other → one ≡ other
-  one_played true v q x one other s t = one_letter true board keys certificate v q x x one other refl s t
-  one_played false v q x one other s t =
+  one_played true v q x {one} {other} s t = one_letter true board keys certificate v q x x one other refl s t
+  one_played false v q x {one} s t =
       let class = one_class q x s.class t.class s.is_class t.is_class s.same t.same in
-      let at =
-      one_place keys differ s.at t.at (Second q t.class) (subst (λ c. StandsAt keys s.at (Second q c)) class
-      s.stands) t.stands in
+      let at = one_place keys differ s.at t.at (subst (λ c. StandsAt keys s.at (Second q c)) class s.stands) t.stands in
       let chosen = some_nat s.chosen t.chosen (sym s.choice ∙ ap (choice_of certificate) at ∙ t.choice) in
       let P : ℕ → ℕ → ℕ → Type 0 = λ c w y. IsSecondLetter board y × GoesTo keys board q (c + y) w in
-      one_least board.propositions (P t.class t.chosen) one other s.least.here.0.within t.least.here.0.within
+      one_least board.propositions s.least.here.0.within t.least.here.0.within
       (subst (λ c. IsLeast (P c t.chosen) one) class (subst (λ w. IsLeast (P s.class w) one) chosen s.least)) t.least
 
 -- ## Machines
@@ -148,7 +144,7 @@ module _ (names : List (List ℕ)) (board : Board) (mover : ℕ) (keys : List Ke
     same_first = other.is_first ∙ sym of.is_first
 
     same_kept : other.kept ≡ of.kept
-    same_kept = one_kept m.is_first keys game certificate other.kept of.kept other.rising of.rising
+    same_kept = one_kept m.is_first keys game certificate other.rising of.rising
         (subst (λ b. All (IsKept b keys game certificate) other.kept) same_first other.each) of.each
         (subst (λ b. (v : ℕ) → IsKept b keys game certificate v → Contains other.kept v) same_first other.complete)
         of.complete
@@ -170,8 +166,7 @@ module _ (names : List (List ℕ)) (board : Board) (mover : ℕ) (keys : List Ke
 
     other_step : (memory x : ℕ) → memory < m.memories → IsOther m.is_first board x → Steps memory x
     other_step memory x within is_other =
-        let t =
-        other.steps memory x (omega (arith, within, same_memories))
+        let t = other.steps memory x (omega (arith, within, same_memories))
         (subst (λ b. IsOther b board x) (sym same_first) is_other) in
         let q = board.auto.next t.state (x + o.plays memory x) in
         record {
@@ -198,26 +193,23 @@ module _ (names : List (List ℕ)) (board : Board) (mover : ℕ) (keys : List Ke
         let s = of.steps memory x within is_other in
         let t = other_step memory x within is_other in
         let vertex = some_nat t.vertex s.vertex (sym t.is_kept ∙ s.is_kept) in
-        let state = one_state keys s.vertex t.state t.priority s.state s.priority
+        let state = one_state keys s.vertex t.priority s.priority
         (subst (λ v. StandsAt keys v (First t.state t.priority)) vertex t.stands) s.stands in
-        let played =
-        one_played board keys certificate differ m.is_first s.vertex s.state x (o.plays memory x) (m.plays memory x)
+        let played = one_played board keys certificate differ m.is_first s.vertex s.state x
         (subst (λ v. IsPlayed m.is_first board keys certificate v s.state x (o.plays memory x)) vertex
         (subst (λ q. IsPlayed m.is_first board keys certificate t.vertex q x (o.plays memory x)) state t.played))
         s.played in
         let goes : GoesTo keys board s.state (x + m.plays memory x) t.entered =
         subst (λ y. GoesTo keys board s.state (x + y) t.entered) played
         (subst (λ q. GoesTo keys board q (x + o.plays memory x) t.entered) state t.goes) in
-        let entered = one_place keys differ t.entered s.entered _ goes.stands s.goes.stands in
+        let entered = one_place keys differ t.entered s.entered goes.stands s.goes.stands in
         let r = board.auto.next s.state (x + m.plays memory x) in
         let next : StandsFor m.is_first keys of.kept (o.next memory x) s.entered r =
         subst (λ w. StandsFor m.is_first keys of.kept (o.next memory x) w r) entered
         (subst (λ y. StandsFor m.is_first keys of.kept (o.next memory x) t.entered (board.auto.next s.state (x + y)))
-        played
-        (subst (λ q. StandsFor m.is_first keys of.kept (o.next memory x) t.entered
+        played (subst (λ q. StandsFor m.is_first keys of.kept (o.next memory x) t.entered
         (board.auto.next q (x + o.plays memory x))) state t.next)) in (
-          one_memory m.is_first keys game certificate of.kept (m.next memory x) (o.next memory x) s.entered r of.rising
-              of.each s.next next,
+          one_memory m.is_first keys game certificate of.rising of.each s.next next,
           sym played,
         )
       where
@@ -226,16 +218,14 @@ module _ (names : List (List ℕ)) (board : Board) (mover : ℕ) (keys : List Ke
 
     same_inputs : m.inputs ≡ o.inputs
     same_inputs =
-        one_listed board.propositions (is_others m.is_first board) m.inputs o.inputs (reads_listed names board m is has)
-        (subst (λ b. AreListedBelow board.propositions (is_others b board) o.inputs) same_first
-        (reads_listed names board o too also))
+        one_listed (reads_listed is has)
+        (subst (λ b. AreListedBelow board.propositions (is_others b board) o.inputs) same_first (reads_listed too also))
 
     same_outputs : m.outputs ≡ o.outputs
     same_outputs =
-        one_listed board.propositions (λ p. not (is_others m.is_first board p)) m.outputs o.outputs
-        (plays_listed names board m is has)
+        one_listed (plays_listed is has)
         (subst (λ b. AreListedBelow board.propositions (λ p. not (is_others b board p)) o.outputs) same_first
-        (plays_listed names board o too also))
+        (plays_listed too also))
 
     -- what is read of any letter
     read : ℕ → ℕ
@@ -244,15 +234,14 @@ module _ (names : List (List ℕ)) (board : Board) (mover : ℕ) (keys : List Ke
     read_same : (x : ℕ) → AreSameOn m.inputs x (read x)
     unfolding read
     read_same x p among =
-        let less = (reads_listed names board m is has).within p among in
+        let less = (reads_listed is has).within p among in
         sym (part_bit board.propositions (is_others m.is_first board) x p less (sym (has.reads p less) ∙ among))
 
     same_anywhere : (memory x : ℕ) → memory < m.memories → SameStepAt memory x
     unfolding SameStepAt read
     same_anywhere memory x within =
         let there : memory < o.memories = omega (arith, within, same_memories) in
-        let here =
-        same_step memory (read x) within (over_other m.is_first board (read x)
+        let here = same_step memory (read x) within (over_other m.is_first board
         (part_over board.propositions (is_others m.is_first board) x)) in
         let same : AreSameOn o.inputs x (read x) = subst (λ l. AreSameOn l x (read x)) same_inputs (read_same x) in (
           is.next_heeds memory x (read x) within (read_same x) ∙ here.0

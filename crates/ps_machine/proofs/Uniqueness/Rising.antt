@@ -1,12 +1,11 @@
 -- Two lists that rise in one order and have the same members are one.
-use Rattle.std.proofs.Common.{◌≡◌, ℕ, zero, suc, ◌<◌, ◌⊎◌, inl, inr, List, [], ◌∷◌, refl, ap₂, sym, subst, ◌∙◌}
-use Rattle.std.proofs.Common.{arith}
+use Rattle.std.proofs.Common.{◌≡◌, ℕ, zero, suc, ◌<◌, ◌⊎◌, inl, inr, List, [], ◌∷◌, refl, ap₂, sym, subst, ◌∙◌, arith}
 use Rattle.std.specs.List.{AllPairs, Contains}
 
 -- an element of a list is its head, or one of the others, at its place
-pub in_cons : (x z : ℕ) (xs : List ℕ) → Contains (x ∷ xs) z → (x ≡ z) ⊎ Contains xs z
-in_cons x z xs (zero, within, e) = inl e
-in_cons x z xs (suc k, within, e) = inr (k, omega (arith, within), e)
+pub in_cons : {x z : ℕ} (xs : List ℕ) → Contains (x ∷ xs) z → (x ≡ z) ⊎ Contains xs z
+in_cons xs (zero, within, e) = inl e
+in_cons xs (suc k, within, e) = inr (k, omega (arith, within), e)
 
 into_cons : (x z : ℕ) (xs : List ℕ) → Contains xs z → Contains (x ∷ xs) z
 into_cons x z xs c = (suc c.0, omega (arith, c.1), c.2)
@@ -27,9 +26,9 @@ module _ (Before : ℕ → ℕ → Type 0) (one_way : (x y : ℕ) → Before x y
 
   heads_same : (x y : ℕ) (xs ys : List ℕ) → AllPairs Before (x ∷ xs) → AllPairs Before (y ∷ ys) →
       Within (x ∷ xs) (y ∷ ys) → Within (y ∷ ys) (x ∷ xs) → x ≡ y
-  heads_same x y xs ys r s a b = elim (in_cons y x ys (a x (0, omega arith, refl))) [
+  heads_same x y xs ys r s a b = elim (in_cons ys (a x (0, omega arith, refl))) [
     | inl same ↦ sym same
-    | inr later ↦ elim (in_cons x y xs (b y (0, omega arith, refl))) [
+    | inr later ↦ elim (in_cons xs (b y (0, omega arith, refl))) [
       | inl same ↦ same
       | inr too ↦ absurd (one_way x y (before_others x y xs r too) (before_others y x ys s later))
     ]
@@ -38,9 +37,8 @@ module _ (Before : ℕ → ℕ → Type 0) (one_way : (x y : ℕ) → Before x y
   never_itself : (x z : ℕ) → Before x z → x ≡ z → ⊥
   never_itself x z b same = (let itself : Before x x = subst (Before x) (sym same) b in one_way x x itself itself)
 
-  tails_within : (x y : ℕ) (xs ys : List ℕ) → x ≡ y → AllPairs Before (x ∷ xs) → Within (x ∷ xs) (y ∷ ys) →
-      Within xs ys
-  tails_within x y xs ys same r a z c = elim (in_cons y z ys (a z (into_cons x z xs c))) [
+  tails_within : {x y : ℕ} (xs ys : List ℕ) → x ≡ y → AllPairs Before (x ∷ xs) → Within (x ∷ xs) (y ∷ ys) → Within xs ys
+  tails_within {x} xs ys same r a z c = elim (in_cons ys (a z (into_cons x z xs c))) [
     | inl is ↦ absurd (never_itself x z (before_others x z xs r c) (same ∙ is))
     | inr there ↦ there
   ]
@@ -51,16 +49,14 @@ module _ (Before : ℕ → ℕ → Type 0) (one_way : (x y : ℕ) → Before x y
   same_rising (x ∷ xs) [] r s a b = absurd (none_in x (a x (0, omega arith, refl)))
   same_rising (x ∷ xs) (y ∷ ys) r s a b =
       let same = heads_same x y xs ys r s a b in
-      ap₂ (λ (z : ℕ) (zs : List ℕ). z ∷ zs) same
-      (same_rising xs ys (rising_tail x xs r) (rising_tail y ys s)
-      (tails_within x y xs ys same r a) (tails_within y x ys xs (sym same) s b))
+      ap₂ (λ (z : ℕ) (zs : List ℕ). z ∷ zs) same (same_rising xs ys (rising_tail x xs r) (rising_tail y ys s)
+      (tails_within xs ys same r a) (tails_within ys xs (sym same) s b))
 
 -- ## Numbers
 
 one_below : (x y : ℕ) → x < y → y < x → ⊥
 one_below x y less more = omega (arith, less, more)
 
-pub same_numbers : (xs ys : List ℕ) → AllPairs (λ x y. x < y) xs → AllPairs (λ x y. x < y) ys →
-    Within xs ys → Within ys xs →
-    xs ≡ ys
-same_numbers xs ys r s a b = same_rising (λ x y. x < y) one_below xs ys r s a b
+pub same_numbers : {xs ys : List ℕ} → AllPairs (λ x y. x < y) xs → AllPairs (λ x y. x < y) ys →
+    Within xs ys → Within ys xs → xs ≡ ys
+same_numbers {xs} {ys} r s a b = same_rising (λ x y. x < y) one_below xs ys r s a b

@@ -1,5 +1,4 @@
 use Rattle.std.proofs.Common.{◌∙◌, true, replicate, ap}
-use Rattle.ps_game.specs.Regions.{move_at}
 use Rattle.ps_machine.proofs.Certified.{certified_both, lost_held}
 use Rattle.ps_machine.proofs.built_in.certificate_from.Goals as goal
 
@@ -7,17 +6,12 @@ pub counts_of-requires-2-clause-holds : goal.counts_of-requires-2-clause-holds
 counts_of-requires-2-clause-holds g c =
     let lost = c.difference_with.new.self in
     let whole = c.in_ok-lost.ensures ∙ ap (λ n. replicate n true) c.count.ensures.vertices in
-    lost_held (g.A.Arena.game c.args.arena.now) c.args.won.now c.in_ok-lost.lost lost (move_at c.args.second.now) whole
-    c.difference_with.ensures.difference c.requires.holds_second
+    lost_held c.args.won.now lost whole c.difference_with.ensures.difference c.requires.holds_second
 
 pub returns-clause-fits : goal.returns-clause-fits
 returns-clause-fits g c =
     let whole = c.in_ok-lost.ensures ∙ ap (λ n. replicate n true) c.count.ensures.vertices in
-    let both =
-    certified_both (g.A.Arena.game c.args.arena.now) c.args.won.now c.in_ok-lost.lost c.difference_with.new.self
-    (move_at c.args.first.now) (move_at c.args.second.now)
-    c.in_ok-odd.odd.priorities.items c.in_ok-even.even.priorities.items c.in_ok-odd.odd.counts c.in_ok-even.even.counts
-    c.in_ok-entries.entries
+    let both = certified_both c.difference_with.new.self
     c.count.ensures.well_formed whole c.difference_with.ensures.difference c.requires.holds_first
     c.requires.holds_second c.in_ok-odd.ensures.ranks c.in_ok-even.ensures.ranks c.in_ok-entries.ensures in
     both.0
@@ -25,11 +19,7 @@ returns-clause-fits g c =
 pub returns-clause-valid : goal.returns-clause-valid
 returns-clause-valid g c =
     let whole = c.in_ok-lost.ensures ∙ ap (λ n. replicate n true) c.count.ensures.vertices in
-    let both =
-    certified_both (g.A.Arena.game c.args.arena.now) c.args.won.now c.in_ok-lost.lost c.difference_with.new.self
-    (move_at c.args.first.now) (move_at c.args.second.now)
-    c.in_ok-odd.odd.priorities.items c.in_ok-even.even.priorities.items c.in_ok-odd.odd.counts c.in_ok-even.even.counts
-    c.in_ok-entries.entries
+    let both = certified_both c.difference_with.new.self
     c.count.ensures.well_formed whole c.difference_with.ensures.difference c.requires.holds_first
     c.requires.holds_second c.in_ok-odd.ensures.ranks c.in_ok-even.ensures.ranks c.in_ok-entries.ensures in
     both.1
@@ -37,11 +27,7 @@ returns-clause-valid g c =
 pub returns-clause-least : goal.returns-clause-least
 returns-clause-least g c =
     let whole = c.in_ok-lost.ensures ∙ ap (λ n. replicate n true) c.count.ensures.vertices in
-    let both =
-    certified_both (g.A.Arena.game c.args.arena.now) c.args.won.now c.in_ok-lost.lost c.difference_with.new.self
-    (move_at c.args.first.now) (move_at c.args.second.now)
-    c.in_ok-odd.odd.priorities.items c.in_ok-even.even.priorities.items c.in_ok-odd.odd.counts c.in_ok-even.even.counts
-    c.in_ok-entries.entries
+    let both = certified_both c.difference_with.new.self
     c.count.ensures.well_formed whole c.difference_with.ensures.difference c.requires.holds_first
     c.requires.holds_second c.in_ok-odd.ensures.ranks c.in_ok-even.ensures.ranks c.in_ok-entries.ensures in
     both.2

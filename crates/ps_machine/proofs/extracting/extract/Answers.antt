@@ -10,11 +10,7 @@ use Rattle.ps_machine.proofs.extracting.extract.Goals as goal
 
 pub machine_of_certificate-requires : goal.machine_of_certificate-requires
 machine_of_certificate-requires c =
-    let board = board_of c.args.order c.args.automaton.now in
-    let given = c.requires.game in
-    let same =
-    (one_game_of board (mover_of c.args.order) given.0 c.in_ok-keyed.keyed.keys.keys c.args.game.now.game
-    c.in_ok-keyed.keyed.game.game given.1 c.in_ok-keyed.ensures.game).1 in
+    let same = (one_game_of _ _ _ _ _ _ c.requires.game.1 c.in_ok-keyed.ensures.game).1 in
     record {
       game = c.in_ok-keyed.ensures.game;
       classes = c.in_ok-keyed.ensures.classes;
@@ -30,8 +26,7 @@ returns-clause-machine c =
     let game = c.args.game.now.game in
     let certificate = c.args.certificate.now in
     IfOk-weaker c.machine_of_certificate.result _ _
-    (λ m of keys is. (let one = one_game_of board mover made.keys.keys keys made.game.game game
-    c.in_ok-keyed.ensures.game is in
+    (λ m of keys is. (let one = one_game_of _ _ _ _ _ _ c.in_ok-keyed.ensures.game is in
     subst (λ ks. IsMachineOf board mover ks game certificate (behaviour m)) one.0
     (subst (λ g. IsMachineOf board mover made.keys.keys g certificate (behaviour m)) one.1 of)))
     c.machine_of_certificate.ensures.machine

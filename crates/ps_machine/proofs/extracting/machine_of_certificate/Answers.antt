@@ -5,12 +5,8 @@ use Rattle.ps_machine.proofs.extracting.machine_of_certificate.Goals as goal
 
 pub machine_by-requires-clause-plan : goal.machine_by-requires-clause-plan
 machine_by-requires-clause-plan c =
-    let game = c.args.game.now in
-    let memories = c.in_ok-memories.memories in
     let kept = c.in_ok-memories.ensures in
-    plan_is c.args.order c.args.automaton.now game.keys.keys c.as_slice.result.now game.game.game c.game.result.now
-    c.args.certificate.now (nat_eq c.number.result c.winner.result) kept.0 memories.kept.items memories.marks.keys
-    c.requires.game c.requires.fits c.requires.valid
+    plan_is c.requires.game c.requires.fits c.requires.valid
     (ap₂ nat_eq (c.number.ensures.number ∙ c.mover.ensures.mover) c.winner.ensures) c.game.ensures.game kept.1
     c.as_slice.ensures.keys kept.2
 

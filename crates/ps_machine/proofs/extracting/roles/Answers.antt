@@ -2,7 +2,6 @@ use Rattle.std.proofs.Common.{◌≡◌, ℕ, not, List, Vec, ap, ◌∙◌}
 use Rattle.std.specs.Global.{Global}
 use Rattle.ps_machine.specs.Boards.{is_first_of}
 use Rattle.ps_machine.specs.BuiltBoards.{board_of}
-use Rattle.ps_machine.specs.Extracting.{is_others}
 use Rattle.ps_machine.proofs.Machines.Assembling.{same_names, plays_own, reads_others}
 use Rattle.ps_machine.proofs.Machines.Listing.{listed_with, listed_without}
 use Rattle.ps_machine.proofs.extracting.roles.Goals as goal
@@ -25,23 +24,14 @@ loop-proposition-preserved c =
       | then-is_first-moves_first+in_ok-push w ↦
           (let own = plays_own m board p c.is_first.result first w.if-is_first-moves_first.true in
           record {
-            read =
-                listed_without p (is_others m board) c.loop-proposition.inputs.items
-                c.if-is_first-moves_first.inputs.items own (ap items_of w.inputs-is) before.read;
-            played =
-                listed_with p (λ q. not (is_others m board q)) c.loop-proposition.outputs.items
-                c.if-is_first-moves_first.outputs.items (ap not own)
-                (ap items_of w.outputs-is ∙ w.in_ok-push.ensures.items) before.played;
+            read = listed_without own (ap items_of w.inputs-is) before.read;
+            played = listed_with (ap not own) (ap items_of w.outputs-is ∙ w.in_ok-push.ensures.items) before.played;
           })
       | else-is_first-moves_first+in_ok-push-2 w ↦
           (let others = reads_others m board p c.is_first.result first w.if-is_first-moves_first.false in
           record {
-            read =
-                listed_with p (is_others m board) c.loop-proposition.inputs.items c.if-is_first-moves_first.inputs.items
-                others (ap items_of w.inputs-is ∙ w.in_ok-push-2.ensures.items) before.read;
-            played =
-                listed_without p (λ q. not (is_others m board q)) c.loop-proposition.outputs.items
-                c.if-is_first-moves_first.outputs.items (ap not others) (ap items_of w.outputs-is) before.played;
+            read = listed_with others (ap items_of w.inputs-is ∙ w.in_ok-push-2.ensures.items) before.read;
+            played = listed_without (ap not others) (ap items_of w.outputs-is) before.played;
           })
     ]
 

@@ -4,7 +4,6 @@ use Rattle.indexmap.specs.IndexMap.{get}
 use Rattle.ps_automaton.specs.Automata.{AutomatonData}
 use Rattle.ps_machine.specs.Dividing.{AreDivided}
 use Rattle.ps_machine.specs.Knowing.{HasAnswered}
-use Rattle.ps_machine.specs.Moving.{pair_eq}
 use Rattle.ps_machine.specs.declared.divided.Divided.{Divided}
 use Rattle.ps_machine.specs.declared.key.Key.TheVariants.{First}
 use Rattle.ps_machine.specs.declared.key.Order.{Order}
@@ -14,21 +13,14 @@ use Rattle.ps_machine.proofs.game.divided_game_of.Goals as goal
 
 pub game_by_keys-requires : goal.game_by_keys-requires
 game_by_keys-requires c =
-    let m = c.new-moves.result in
     let e = c.new-moves.ensures in
-    no_classes m.order m.automaton.now m.mask m.divided.store (get pair_eq m.rests) (get nat_eq m.divided.classes)
-    (First c.start.result 0) e.none
-    (known_start m.order c.args.automaton.now m.automaton.now m.mask m.divided.store (get pair_eq m.rests)
-    c.start.result e.automaton e.fit c.start.ensures.state)
+    no_classes e.none (known_start e.automaton e.fit c.start.ensures.state)
 
 pub returns-clause-game : goal.returns-clause-game
 returns-clause-game c =
-    let m = c.new-moves.result in
     let e = c.new-moves.ensures in
-    let r = c.in_ok-keyed.keyed in
     let said = c.in_ok-keyed.ensures in
-    game_is c.args.order m.order c.args.automaton.now m.automaton.now c.start.result r.keys.keys r.game e.order
-    e.automaton c.start.ensures.start said.by_keys said.numbered
+    game_is e.order e.automaton c.start.ensures.start said.by_keys said.numbered
 
 pub returns-clause-classes : goal.returns-clause-classes
 returns-clause-classes c =
@@ -37,9 +29,7 @@ returns-clause-classes c =
     let keys = c.in_ok-keyed.keyed.keys.keys in
     let said = c.in_ok-keyed.ensures in
     let are : AreDivided c.args.order c.args.automaton.now keys n.divided.store (get nat_eq n.divided.classes) =
-    all_divided c.args.order n.order c.args.automaton.now n.automaton.now n.mask n.divided.store
-    (get nat_eq n.divided.classes) keys (First c.start.result 0)
-    (ap (λ (p : Order × AutomatonData). p.0) said.kept ∙ e.order)
+    all_divided (First c.start.result 0) (ap (λ (p : Order × AutomatonData). p.0) said.kept ∙ e.order)
     (ap (λ (p : Order × AutomatonData). p.1) said.kept ∙ e.automaton) said.by_keys.begins
     (λ v k at. subst (HasAnswered n.order n.automaton.now n.mask n.divided.store (get nat_eq n.divided.classes))
     (get_or_from_slice_get keys v k k at) (said.answered v k (slice_get_within keys v k at))) in

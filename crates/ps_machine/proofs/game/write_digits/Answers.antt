@@ -11,8 +11,7 @@ loop-proposition-preserved c =
     let p = c.loop-proposition.proposition in
     record {
       bytes =
-          digits_more board c.args.letter p c.args.out.now.items c.loop-proposition.out.items
-          c.write_digit.new.out.items c.is_first-is_played.result _
+          digits_more board c.args.letter p c.args.out.now.items
           (c.is_first-is_played.ensures ∙ ap (λ xs. is_first_of c.args.order xs p) c.controllable.ensures.controllable)
           (ap (λ n. nat_eq n 1) (shr_and_one c.args.letter p)) c.loop-proposition.invariant.bytes
           c.in_ok-write_digit.ensures.bytes;

@@ -5,23 +5,20 @@ use Rattle.ps_machine.specs.Numbering.{StandsAt}
 use Rattle.ps_machine.specs.declared.key.Key.TheVariants.{First}
 use Rattle.ps_machine.specs.declared.memories.Memories.{Memories}
 use Rattle.ps_machine.proofs.Machines.MemorySteps.{AreMemoriesBelow, none_below, below_skip, below_more, all_below}
-use Rattle.ps_machine.proofs.Machines.MemorySteps.{is_there}
-use Rattle.ps_machine.proofs.Machines.MemorySteps.{is_absent}
+use Rattle.ps_machine.proofs.Machines.MemorySteps.{is_there, is_absent}
 use Rattle.ps_machine.proofs.memories.remembered.Goals as goal
 use Rattle.ps_machine.proofs.memories.remembered.Goals.{then-contains+in_ok-keep, else-contains}
 
 pub loop-vertex-init : goal.loop-vertex-init
 loop-vertex-init c =
-    none_below c.args.moves_first c.args.keys.now c.args.used.now.keys c.new.result.items c.new-2.result.keys
-    c.new.ensures.items c.new-2.ensures.empty
+    none_below c.args.moves_first c.args.keys.now c.args.used.now.keys c.new.ensures.items c.new-2.ensures.empty
 
 -- the second player moves there
 pub loop-vertex-preserved-in_default : goal.loop-vertex-preserved-in_default
 loop-vertex-preserved-in_default c =
     let keys = c.args.keys.now in
     let n = c.loop-vertex.vertex-counter in
-    below_skip c.args.moves_first keys c.args.used.now.keys c.loop-vertex.memories.kept.items
-    c.loop-vertex.memories.marks.keys n
+    below_skip c.args.moves_first keys c.args.used.now.keys
     (λ q p is_used stands. c.in_default.not-First q p (get_or_from_slice_get keys n (First q p) (First 0 0) stands))
     c.loop-vertex.invariant
 
@@ -42,19 +39,13 @@ loop-vertex-preserved c =
           subst (λ mark. KeepsAt old.kept.items old.marks.keys n mark now.kept.items now.marks.keys) w.mark.ensures
           w.in_ok-keep.ensures in
           subst (λ (m : Memories). AreMemoriesBelow first keys used m.kept.items m.marks.keys (n + 1))
-          (sym w.memories-is)
-          (below_more first keys used old.kept.items old.marks.keys n c.in-First.state c.in-First.priority
-          c.loop-vertex.invariant stands (is_there used n c.contains.result told w.if-contains.true)
-          now.kept.items now.marks.keys keeps))
-      | else-contains w ↦
-          subst (λ (m : Memories). AreMemoriesBelow first keys used m.kept.items m.marks.keys (n + 1))
-          (sym w.memories-is)
-          (below_skip first keys used old.kept.items old.marks.keys n
-          (λ q p is_used stands. is_absent used n c.contains.result told w.if-contains.false is_used)
-          c.loop-vertex.invariant)
+          (sym w.memories-is) (below_more first keys used c.in-First.state c.in-First.priority
+          c.loop-vertex.invariant stands (is_there used n told w.if-contains.true) keeps))
+      | else-contains w ↦ subst (λ (m : Memories). AreMemoriesBelow first keys used m.kept.items m.marks.keys (n + 1))
+          (sym w.memories-is) (below_skip first keys used
+          (λ q p is_used stands. is_absent used n told w.if-contains.false is_used) c.loop-vertex.invariant)
     ]
 
 pub returns : goal.returns
 returns c =
-    all_below c.args.moves_first c.args.keys.now c.args.used.now.keys c.loop-vertex.memories.kept.items
-    c.loop-vertex.memories.marks.keys c.loop-vertex.vertex-counter c.loop-vertex-test.false c.loop-vertex.invariant
+    all_below c.args.moves_first c.args.keys.now c.args.used.now.keys c.loop-vertex-test.false c.loop-vertex.invariant

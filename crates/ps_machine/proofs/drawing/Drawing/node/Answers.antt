@@ -1,55 +1,40 @@
-use Rattle.std.proofs.Common.{◌<◌, List, length, get_or, ap, sym, subst, ◌∙◌, arith}
+use Rattle.std.proofs.Common.{List, length, get_or, ap, sym, ◌∙◌, arith}
 use Rattle.ps_machine.specs.declared.key.Key.{Key}
 use Rattle.ps_machine.specs.declared.key.Key.TheVariants.{First}
 use Rattle.ps_machine.proofs.Diagrams.DrawingLemmas.{kept_within, kept_stands, kept_not_second}
 use Rattle.ps_machine.proofs.drawing.Drawing.node.Goals as goal
 
 pub bounds : goal.bounds
-bounds c =
-    let p = c.args.plan.now in
-    subst (λ (l : List Key). c.args.vertex < length l) (sym c.as_slice.ensures.keys)
-    (kept_within p.order p.automaton.now p.keys.now.keys p.certificate.now p.moves_first p.memories.now.kept.items
-    p.memories.now.marks.keys c.requires.plan c.args.vertex c.requires.kept)
+bounds c = rw c.as_slice.ensures.keys (kept_within c.requires.plan c.args.vertex c.requires.kept)
 
 pub bounds-as_slice-vertex : goal.bounds-as_slice-vertex
-bounds-as_slice-vertex c =
-    let p = c.args.plan.now in
-    subst (λ (l : List Key). c.args.vertex < length l) (sym c.as_slice.ensures.keys)
-    (kept_within p.order p.automaton.now p.keys.now.keys p.certificate.now p.moves_first p.memories.now.kept.items
-    p.memories.now.marks.keys c.requires.plan c.args.vertex c.requires.kept)
+bounds-as_slice-vertex c = rw c.as_slice.ensures.keys (kept_within c.requires.plan c.args.vertex c.requires.kept)
 
 pub offset_bounds-as_slice-vertex : goal.offset_bounds-as_slice-vertex
-offset_bounds-as_slice-vertex c =
-    let p = c.args.plan.now in
-    let below =
-    subst (λ (l : List Key). c.args.vertex < length l) (sym c.as_slice.ensures.keys)
-    (kept_within p.order p.automaton.now p.keys.now.keys p.certificate.now p.moves_first p.memories.now.kept.items
-    p.memories.now.marks.keys c.requires.plan c.args.vertex c.requires.kept) in
-    record { fits = omega (arith, below, c.as_slice.type_inv.1) }
+offset_bounds-as_slice-vertex c = record {
+  fits = omega (
+    arith,
+    kept_within c.requires.plan c.args.vertex c.requires.kept,
+    ap length c.as_slice.ensures.keys,
+    c.as_slice.type_inv.1,
+  );
+}
 
 pub first_node-requires-clause-stands : goal.first_node-requires-clause-stands
-first_node-requires-clause-stands c =
-    let p = c.args.plan.now in (
-      c.in-First.priority,
-      kept_stands p.order p.automaton.now p.keys.now.keys p.certificate.now p.moves_first
-          p.memories.now.kept.items p.memories.now.marks.keys c.requires.plan c.args.vertex c.requires.kept
-          c.in-First.state c.in-First.priority (ap (λ (l : List Key). get_or l c.args.vertex (First 0 0))
-          (sym c.as_slice.ensures.keys) ∙ c.in-First.is),
-    )
+first_node-requires-clause-stands c = (
+  c.in-First.priority,
+  kept_stands c.requires.plan c.args.vertex c.requires.kept
+      (ap (λ (l : List Key). get_or l c.args.vertex (First 0 0)) (sym c.as_slice.ensures.keys) ∙ c.in-First.is),
+)
 
 pub second_node-requires-clause-stands : goal.second_node-requires-clause-stands
-second_node-requires-clause-stands c =
-    let p = c.args.plan.now in (
-      c.in-First.priority,
-      kept_stands p.order p.automaton.now p.keys.now.keys p.certificate.now p.moves_first
-          p.memories.now.kept.items p.memories.now.marks.keys c.requires.plan c.args.vertex c.requires.kept
-          c.in-First.state c.in-First.priority (ap (λ (l : List Key). get_or l c.args.vertex (First 0 0))
-          (sym c.as_slice.ensures.keys) ∙ c.in-First.is),
-    )
+second_node-requires-clause-stands c = (
+  c.in-First.priority,
+  kept_stands c.requires.plan c.args.vertex c.requires.kept
+      (ap (λ (l : List Key). get_or l c.args.vertex (First 0 0)) (sym c.as_slice.ensures.keys) ∙ c.in-First.is),
+)
 
 pub unreachable-requires : goal.unreachable-requires
 unreachable-requires c =
-    let p = c.args.plan.now in
-    kept_not_second p.order p.automaton.now p.keys.now.keys p.certificate.now p.moves_first p.memories.now.kept.items
-    p.memories.now.marks.keys c.requires.plan c.args.vertex c.requires.kept c.in-Second.state c.in-Second.letter
+    kept_not_second c.requires.plan c.args.vertex c.requires.kept
     (ap (λ (l : List Key). get_or l c.args.vertex (First 0 0)) (sym c.as_slice.ensures.keys) ∙ c.in-Second.is)

@@ -14,22 +14,14 @@ use Rattle.ps_machine.proofs.drawing.Drawing.place_rows.Goals as goal
 
 pub returns-in_err-note-clause-same_rows : goal.returns-in_err-note-clause-same_rows
 returns-in_err-note-clause-same_rows c =
-    let p = c.args.plan.now in
     let row : Row = record { memory = c.memory_behind-memory.result; letter = c.args.letter } in
-    (add_row p.automaton.now p.keys.now.keys p.moves_first (board_of p.order p.automaton.now) p.memories.now.kept.items
-    c.args.letter c.args.leaves.now c.args.self.now.rows.keys (row_eq.eq-value).it c.loop-leaf.self.rows.keys
-    c.loop-leaf.self.places.items c.loop-leaf.leaf-index row c.insert_full.new.self.keys
-    c.loop-leaf.invariant.noted c.in_ok-place.ensures.keys (record
+    (add_row (row_eq.eq-value).it c.loop-leaf.invariant.noted c.in_ok-place.ensures.keys (record
     { memory = c.memory_behind-memory.ensures.within; letter = c.requires.own })).same_rows
 
 pub returns-in_err-note-clause-rows : goal.returns-in_err-note-clause-rows
 returns-in_err-note-clause-rows c =
-    let p = c.args.plan.now in
     let row : Row = record { memory = c.memory_behind-memory.result; letter = c.args.letter } in
-    (add_row p.automaton.now p.keys.now.keys p.moves_first (board_of p.order p.automaton.now) p.memories.now.kept.items
-    c.args.letter c.args.leaves.now c.args.self.now.rows.keys (row_eq.eq-value).it c.loop-leaf.self.rows.keys
-    c.loop-leaf.self.places.items c.loop-leaf.leaf-index row c.insert_full.new.self.keys
-    c.loop-leaf.invariant.noted c.in_ok-place.ensures.keys (record
+    (add_row (row_eq.eq-value).it c.loop-leaf.invariant.noted c.in_ok-place.ensures.keys (record
     { memory = c.memory_behind-memory.ensures.within; letter = c.requires.own })).each
 
 pub loop-leaf-preserved : goal.loop-leaf-preserved
@@ -42,25 +34,19 @@ loop-leaf-preserved c =
     let leaves = c.args.leaves.now in
     let i = c.loop-leaf.leaf-index in
     let leaf = (get_or leaves i (0, 0)).0 in
-    let old = c.args.self.now.rows.keys in
     let new = c.insert_full.new.self.keys in
     let row : Row = record { memory = c.memory_behind-memory.result; letter = c.args.letter } in
     let within : i < length leaves = omega (arith, c.loop-leaf-test.true) in
-    let added =
-    add_row a keys p.moves_first board kept c.args.letter leaves old (row_eq.eq-value).it c.loop-leaf.self.rows.keys
-    c.loop-leaf.self.places.items i row new c.loop-leaf.invariant.noted c.in_ok-place.ensures.keys
+    let added = add_row (row_eq.eq-value).it c.loop-leaf.invariant.noted c.in_ok-place.ensures.keys
     (record { memory = c.memory_behind-memory.ensures.within; letter = c.requires.own }) in
     let stored = c.in_ok-place.ensures.stored in
-    let at : slice_get new c.in_ok-place.place ≡ Some row = stored.1
-    ∙ ap (λ r. Some r) (sym (same_row row stored.0 stored.2)) in
+    let at : slice_get new c.in_ok-place.place ≡ Some row = stored.1 ∙ ap (λ r. Some r) (sym (same_row stored.2)) in
     let Next : Step → Type 0 = λ s. (v : ℕ) → StandsAt keys v (First s.state s.priority) →
     StandsFor p.moves_first keys kept c.memory_behind-memory.result v s.state in
     let next = subst Next c.pair-step.ensures.pair c.memory_behind-memory.ensures.stands in
     record {
       store = c.loop-leaf.invariant.store;
       noted =
-          note_more a keys p.moves_first board kept c.args.letter leaves old new c.loop-leaf.self.places.items
-          c.note.new.places.items i leaf c.in_ok-place.place row added
-          (λ d. ap (λ (x : ℕ × ℕ). x.0) (get_or_default leaves i d (0, 0) within)) at refl next
+          note_more added (λ d. ap (λ (x : ℕ × ℕ). x.0) (get_or_default leaves i d (0, 0) within)) at refl next
           c.in_ok-note.ensures.noted c.in_ok-note.ensures.others;
     }

@@ -15,12 +15,11 @@ use Rattle.ps_machine.proofs.drawing.Drawing.rows_of_classes.Goals as goal
 pub loop-class-init : goal.loop-class-init
 loop-class-init c =
     let plan = c.args.plan.now in
-    let N =
-    Names (board_of plan.order plan.automaton.now) plan.keys.now.keys plan.memories.now.kept.items
+    let N = Names (board_of plan.order plan.automaton.now) plan.keys.now.keys plan.memories.now.kept.items
     plan.certificate.now c.args.state c.args.self.now.rows.keys in
     record {
       store = refl;
-      same_rows = keeps_rows_same c.args.self.now.rows.keys;
+      same_rows = keeps_rows_same;
       rows = c.requires.rows;
       values = subst (λ (l : List ℕ). AllZip N (take 0 c.args.classes.now) l) (sym c.new-values.ensures.items) tt;
     }
@@ -33,13 +32,10 @@ row_of_class-requires-clause-class c =
 
 pub row_of_class-requires-clause-rest : goal.row_of_class-requires-clause-rest
 row_of_class-requires-clause-rest c =
-    subst (λ (k : Class). IsRestBy c.args.plan.now c.args.state k.letter k.rest) (sym c.class-item.is)
-    (c.requires.rests c.loop-class.class-index c.class-item.result c.loop-class-test.true)
+    rw c.class-item.is (c.requires.rests c.loop-class.class-index c.class-item.result c.loop-class-test.true)
 
 pub returns-in_err-place-clause-same_rows : goal.returns-in_err-place-clause-same_rows
-returns-in_err-place-clause-same_rows c =
-    subst (λ (l : List Row). KeepsRows c.args.self.now.rows.keys l) (sym c.in_err-place.ensures.err)
-    c.loop-class.invariant.same_rows
+returns-in_err-place-clause-same_rows c = rw c.in_err-place.ensures.err c.loop-class.invariant.same_rows
 
 pub returns-in_err-place-clause-rows : goal.returns-in_err-place-clause-rows
 returns-in_err-place-clause-rows c =
@@ -51,8 +47,8 @@ pub returns-in_err-push-clause-same_rows : goal.returns-in_err-push-clause-same_
 returns-in_err-push-clause-same_rows c =
     let old = c.loop-class.self.rows.keys in
     let new = c.insert_full.new.self.keys in
-    keeps_rows_trans c.args.self.now.rows.keys old new c.loop-class.invariant.same_rows
-    (keeps_rows (row_eq.eq-value).it old c.in_ok-row.row new c.in_ok-place.ensures.keys)
+    keeps_rows_trans c.loop-class.invariant.same_rows
+    (keeps_rows (row_eq.eq-value).it c.in_ok-row.row c.in_ok-place.ensures.keys)
 
 pub returns-in_err-push-clause-rows : goal.returns-in_err-push-clause-rows
 returns-in_err-push-clause-rows c =
@@ -61,66 +57,33 @@ returns-in_err-push-clause-rows c =
     let kept = plan.memories.now.kept.items in
     let row = c.in_ok-row.row in
     all_rows (IsRow plan.moves_first board kept) (row_eq.eq-value).it c.loop-class.self.rows.keys row
-    c.insert_full.new.self.keys c.in_ok-place.ensures.keys c.loop-class.invariant.rows
-    (answer_row plan.moves_first board plan.keys.now.keys kept plan.certificate.now c.args.state
-    c.class-item.result.letter row c.requires.turn c.in_ok-row.ensures)
+    c.in_ok-place.ensures.keys c.loop-class.invariant.rows (answer_row c.requires.turn c.in_ok-row.ensures)
 
 pub loop-class-preserved : goal.loop-class-preserved
 loop-class-preserved c =
     let plan = c.args.plan.now in
     let board = board_of plan.order plan.automaton.now in
-    let keys = plan.keys.now.keys in
     let kept = plan.memories.now.kept.items in
-    let certificate = plan.certificate.now in
     let old = c.loop-class.self.rows.keys in
     let new = c.insert_full.new.self.keys in
     let inv = c.loop-class.invariant in
     record {
       store = inv.store;
       same_rows =
-          keeps_rows_trans c.args.self.now.rows.keys old new inv.same_rows
-          (keeps_rows (row_eq.eq-value).it old c.in_ok-row.row new c.in_ok-place.ensures.keys);
+          keeps_rows_trans inv.same_rows (keeps_rows (row_eq.eq-value).it c.in_ok-row.row c.in_ok-place.ensures.keys);
       rows =
-          all_rows (IsRow plan.moves_first board kept) (row_eq.eq-value).it old c.in_ok-row.row new
-          c.in_ok-place.ensures.keys inv.rows
-          (answer_row plan.moves_first board keys kept certificate c.args.state c.class-item.result.letter
-          c.in_ok-row.row c.requires.turn c.in_ok-row.ensures);
+          all_rows (IsRow plan.moves_first board kept) (row_eq.eq-value).it old c.in_ok-row.row
+          c.in_ok-place.ensures.keys inv.rows (answer_row c.requires.turn c.in_ok-row.ensures);
       values =
-          named_next board keys kept certificate c.args.state old new c.args.classes.now c.loop-class.class-index
-          c.class-item.result c.loop-class.values.items c.push.new.self.items c.in_ok-place.place c.in_ok-row.row
-          c.in_ok-place.ensures.keys inv.values c.loop-class-test.true c.class-item.is c.in_ok-place.ensures.stored
-          c.in_ok-row.ensures c.in_ok-push.ensures.items;
+          named_next old new c.args.classes.now c.loop-class.class-index c.class-item.result c.loop-class.values.items
+          c.push.new.self.items c.in_ok-place.place c.in_ok-place.ensures.keys inv.values c.loop-class-test.true
+          c.class-item.is c.in_ok-place.ensures.stored c.in_ok-row.ensures c.in_ok-push.ensures.items;
     }
 
 pub returns-clause-values : goal.returns-clause-values
 returns-clause-values c =
     let plan = c.args.plan.now in
-    let N =
-    Names (board_of plan.order plan.automaton.now) plan.keys.now.keys plan.memories.now.kept.items
+    let N = Names (board_of plan.order plan.automaton.now) plan.keys.now.keys plan.memories.now.kept.items
     plan.certificate.now c.args.state c.loop-class.self.rows.keys in
     subst (λ (l : List Class). AllZip N l c.loop-class.values.items)
     (take_all c.loop-class.class-index c.args.classes.now c.loop-class-test.false) c.loop-class.invariant.values
-
-pub returns-in_err-row-clause-store : goal.returns-in_err-row-clause-store
-returns-in_err-row-clause-store c = c.loop-class.invariant.store
-
-pub returns-in_err-row-clause-same_rows : goal.returns-in_err-row-clause-same_rows
-returns-in_err-row-clause-same_rows c = c.loop-class.invariant.same_rows
-
-pub returns-in_err-row-clause-rows : goal.returns-in_err-row-clause-rows
-returns-in_err-row-clause-rows c = c.loop-class.invariant.rows
-
-pub returns-in_err-place-clause-store : goal.returns-in_err-place-clause-store
-returns-in_err-place-clause-store c = c.loop-class.invariant.store
-
-pub returns-in_err-push-clause-store : goal.returns-in_err-push-clause-store
-returns-in_err-push-clause-store c = c.loop-class.invariant.store
-
-pub returns-clause-store : goal.returns-clause-store
-returns-clause-store c = c.loop-class.invariant.store
-
-pub returns-clause-same_rows : goal.returns-clause-same_rows
-returns-clause-same_rows c = c.loop-class.invariant.same_rows
-
-pub returns-clause-rows : goal.returns-clause-rows
-returns-clause-rows c = c.loop-class.invariant.rows

@@ -1,4 +1,4 @@
-use Rattle.std.proofs.Common.{◌<◌, List, length, get_or, ap, sym, subst, ◌∙◌, arith, is_some}
+use Rattle.std.proofs.Common.{List, length, get_or, ap, sym, ◌∙◌, arith, is_some}
 use Rattle.ps_machine.specs.declared.key.Key.{Key}
 use Rattle.ps_machine.specs.declared.key.Key.TheVariants.{First}
 use Rattle.ps_machine.proofs.Diagrams.DrawingLemmas.{kept_entry}
@@ -6,47 +6,31 @@ use Rattle.ps_machine.proofs.Diagrams.FirstDrawing.{has_choice, chosen_within, c
 use Rattle.ps_machine.proofs.drawing.Plan.letter_at.Goals as goal
 
 pub choice-requires : goal.choice-requires
-choice-requires c =
-    let s = c.args.self.now in
-    kept_entry s.order s.automaton.now s.keys.now.keys s.certificate.now s.moves_first s.memories.now.kept.items
-    s.memories.now.marks.keys c.requires.plan c.args.vertex c.requires.kept
+choice-requires c = kept_entry c.requires.plan c.args.vertex c.requires.kept
 
 pub unwrap-chosen-requires : goal.unwrap-chosen-requires
 unwrap-chosen-requires c =
-    let s = c.args.self.now in
-    ap is_some c.choice.ensures ∙ has_choice s.order s.automaton.now s.keys.now.keys s.certificate.now s.moves_first
-    s.memories.now.kept.items s.memories.now.marks.keys c.requires.plan c.requires.turn c.args.vertex
-    c.requires.kept
+    ap is_some c.choice.ensures ∙ has_choice c.requires.plan c.requires.turn c.args.vertex c.requires.kept
 
 pub bounds : goal.bounds
 bounds c =
-    let s = c.args.self.now in
-    subst (λ (l : List Key). c.unwrap-chosen.result < length l) (sym c.as_slice.ensures.keys)
-    (chosen_within s.order s.automaton.now s.keys.now.keys s.certificate.now s.moves_first s.memories.now.kept.items
-    s.memories.now.marks.keys c.requires.plan c.requires.turn c.args.vertex c.unwrap-chosen.result c.requires.kept
-    (sym c.choice.ensures ∙ c.unwrap-chosen.ensures))
+    rw c.as_slice.ensures.keys (chosen_within c.requires.plan c.requires.turn c.args.vertex
+    c.requires.kept (sym c.choice.ensures ∙ c.unwrap-chosen.ensures))
 
 pub offset_bounds-as_slice-chosen : goal.offset_bounds-as_slice-chosen
 offset_bounds-as_slice-chosen c =
-    let s = c.args.self.now in
-    let below = subst (λ (l : List Key). c.unwrap-chosen.result < length l) (sym c.as_slice.ensures.keys)
-    (chosen_within s.order s.automaton.now s.keys.now.keys s.certificate.now s.moves_first s.memories.now.kept.items
-    s.memories.now.marks.keys c.requires.plan c.requires.turn c.args.vertex c.unwrap-chosen.result c.requires.kept
-    (sym c.choice.ensures ∙ c.unwrap-chosen.ensures)) in
-    record { fits = omega (arith, below, c.as_slice.type_inv.1) }
+    let below = chosen_within c.requires.plan c.requires.turn c.args.vertex c.requires.kept
+    (sym c.choice.ensures ∙ c.unwrap-chosen.ensures) in
+    record { fits = omega (arith, below, ap length c.as_slice.ensures.keys, c.as_slice.type_inv.1) }
 
 pub unreachable-requires : goal.unreachable-requires
 unreachable-requires c =
-    let s = c.args.self.now in
-    chosen_not_first s.order s.automaton.now s.keys.now.keys s.certificate.now s.moves_first s.memories.now.kept.items
-    s.memories.now.marks.keys c.requires.plan c.requires.turn c.args.vertex c.unwrap-chosen.result c.in-First.state
-    c.in-First.priority c.requires.kept (sym c.choice.ensures ∙ c.unwrap-chosen.ensures)
+    chosen_not_first c.requires.plan c.requires.turn c.args.vertex c.requires.kept
+    (sym c.choice.ensures ∙ c.unwrap-chosen.ensures)
     (ap (λ (l : List Key). get_or l c.unwrap-chosen.result (First 0 0)) (sym c.as_slice.ensures.keys) ∙ c.in-First.is)
 
 pub returns : goal.returns
 returns c =
-    let s = c.args.self.now in
-    plays_class s.order s.automaton.now s.keys.now.keys s.certificate.now s.moves_first s.memories.now.kept.items
-    s.memories.now.marks.keys c.requires.plan c.requires.turn c.args.vertex c.unwrap-chosen.result c.in-Second.state
+    plays_class c.requires.plan c.requires.turn c.args.vertex c.unwrap-chosen.result c.in-Second.state
     c.in-Second.letter c.requires.kept (sym c.choice.ensures ∙ c.unwrap-chosen.ensures)
     (ap (λ (l : List Key). get_or l c.unwrap-chosen.result (First 0 0)) (sym c.as_slice.ensures.keys) ∙ c.in-Second.is)

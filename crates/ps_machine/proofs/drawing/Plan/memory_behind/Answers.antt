@@ -20,21 +20,17 @@ unwrap-requires c =
     let keys = self.keys.now.keys in
     let key = First c.args.state c.args.priority in
     let plan = c.requires.plan in
-    let there =
-    at_position _ keys key c.unwrap-vertex.result (sym c.get_index_of.ensures.index ∙ c.unwrap-vertex.ensures) in
+    let there = at_position _ keys key (sym c.get_index_of.ensures.index ∙ c.unwrap-vertex.ensures) in
     let at : StandsAt keys c.unwrap-vertex.result key = there.1
     ∙ ap (λ k. Some k) (sym (same_key key there.0 there.2)) in
     let same : c.requires.vertex ≡ c.unwrap-vertex.result =
-    one_place keys plan.is_game.by_keys.different c.requires.vertex c.unwrap-vertex.result key
-    c.requires.stands at in
-    let m =
-    plan.memories.found c.requires.vertex c.args.state c.args.priority
+    one_place keys plan.is_game.by_keys.different c.requires.vertex c.unwrap-vertex.result c.requires.stands at in
+    let m = plan.memories.found c.requires.vertex c.args.state c.args.priority
     ((plan.are_used c.requires.vertex).1 c.requires.is_used) c.requires.stands in
     let marks = self.memories.now.marks.keys in
     let mark : c.mark-mark.result ≡ mark_of self.moves_first c.requires.vertex c.args.state = c.mark-mark.ensures
     ∙ ap (λ v. mark_of self.moves_first v c.args.state) (sym same) in
-    c.get_index_of-2.ensures.found ∙ has_mark marks m.memory c.mark-mark.result
-    (m.is_marked ∙ ap (λ n. Some n) (sym mark))
+    c.get_index_of-2.ensures.found ∙ has_mark marks m.memory (m.is_marked ∙ ap (λ n. Some n) (sym mark))
 
 pub returns-clause-stands : goal.returns-clause-stands
 returns-clause-stands c v at =
@@ -42,15 +38,11 @@ returns-clause-stands c v at =
     let keys = self.keys.now.keys in
     let key = First c.args.state c.args.priority in
     let plan = c.requires.plan in
-    let found =
-    at_position _ keys key c.unwrap-vertex.result (sym c.get_index_of.ensures.index ∙ c.unwrap-vertex.ensures) in
+    let found = at_position _ keys key (sym c.get_index_of.ensures.index ∙ c.unwrap-vertex.ensures) in
     let here : StandsAt keys c.unwrap-vertex.result key = found.1
     ∙ ap (λ k. Some k) (sym (same_key key found.0 found.2)) in
     let marks = self.memories.now.marks.keys in
-    let there =
-    at_position (eqb c.mark-mark.result) marks 0 c.unwrap.result
-    (sym c.get_index_of-2.ensures.index ∙ c.unwrap.ensures) in
+    let there = at_position (eqb c.mark-mark.result) marks 0 (sym c.get_index_of-2.ensures.index ∙ c.unwrap.ensures) in
     let is : slice_get marks c.unwrap.result ≡ Some (mark_of self.moves_first c.unwrap-vertex.result c.args.state) =
     there.1 ∙ ap (λ n. Some n) (sym (eqb-true c.mark-mark.result there.0 there.2) ∙ c.mark-mark.ensures) in
-    stands_for self.moves_first keys plan.used self.memories.now.kept.items marks c.unwrap.result c.unwrap-vertex.result
-    c.args.state c.args.priority plan.is_game.by_keys.different plan.memories here is v at
+    stands_for c.unwrap-vertex.result c.args.priority plan.is_game.by_keys.different plan.memories here is at

@@ -7,83 +7,39 @@ use Rattle.ps_machine.proofs.drawing.Plan.reply.Goals as goal
 
 pub unwrap-at-requires : goal.unwrap-at-requires
 unwrap-at-requires c =
-    let plan = c.args.self.now in
-    let keys = plan.keys.now.keys in
-    let r =
-    replies plan.order plan.automaton.now keys plan.certificate.now plan.moves_first plan.memories.now.kept.items
-    plan.memories.now.marks.keys c.args.state c.requires.entered.0 c.args.letter c.requires.turn
-    c.requires.entered.1 c.requires.class in
-    c.get_index_of.ensures.found ∙ has_key keys r.at (Second c.args.state c.args.letter) r.stands
+    let r = replies c.requires.turn c.requires.entered.1 c.requires.class in
+    c.get_index_of.ensures.found
+    ∙ has_key c.args.self.now.keys.now.keys r.at (Second c.args.state c.args.letter) r.stands
 
 pub unwrap-chosen-requires : goal.unwrap-chosen-requires
 unwrap-chosen-requires c =
-    let plan = c.args.self.now in
-    let keys = plan.keys.now.keys in
-    let r =
-    replies plan.order plan.automaton.now keys plan.certificate.now plan.moves_first plan.memories.now.kept.items
-    plan.memories.now.marks.keys c.args.state c.requires.entered.0 c.args.letter c.requires.turn
-    c.requires.entered.1 c.requires.class in
-    let at =
-    found_at keys (Second c.args.state c.args.letter) c.unwrap-at.result
+    let r = replies c.requires.turn c.requires.entered.1 c.requires.class in
+    let at = found_at c.args.self.now.keys.now.keys (Second c.args.state c.args.letter)
     (sym c.get_index_of.ensures.index ∙ c.unwrap-at.ensures) in
-    subst IsSome (sym (c.choice.ensures ∙ reply_choice plan.order plan.automaton.now keys plan.certificate.now
-    plan.moves_first plan.memories.now.kept.items plan.memories.now.marks.keys c.args.state c.args.letter r
-    c.unwrap-at.result at)) refl
+    subst IsSome (sym (c.choice.ensures ∙ reply_choice r c.unwrap-at.result at)) refl
 
 pub unreachable-requires : goal.unreachable-requires
 unreachable-requires c =
-    let plan = c.args.self.now in
-    let keys = plan.keys.now.keys in
-    let r =
-    replies plan.order plan.automaton.now keys plan.certificate.now plan.moves_first plan.memories.now.kept.items
-    plan.memories.now.marks.keys c.args.state c.requires.entered.0 c.args.letter c.requires.turn
-    c.requires.entered.1 c.requires.class in
-    let at =
-    found_at keys (Second c.args.state c.args.letter) c.unwrap-at.result
+    let r = replies c.requires.turn c.requires.entered.1 c.requires.class in
+    let at = found_at c.args.self.now.keys.now.keys (Second c.args.state c.args.letter)
     (sym c.get_index_of.ensures.index ∙ c.unwrap-at.ensures) in
-    not_both c.in-Second.state c.in-Second.letter _ _
-    (reply_key plan.order plan.automaton.now keys plan.certificate.now plan.moves_first plan.memories.now.kept.items
-    plan.memories.now.marks.keys c.args.state c.args.letter r c.unwrap-at.result c.unwrap-chosen.result
-    c.as_slice.result.now
-    (Second c.in-Second.state c.in-Second.letter) (First 0 0) at (sym c.choice.ensures ∙ c.unwrap-chosen.ensures)
+    not_both (reply_key r c.unwrap-at.result (First 0 0) at (sym c.choice.ensures ∙ c.unwrap-chosen.ensures)
     c.as_slice.ensures.keys c.in-Second.is)
 
 pub returns-clause-reply : goal.returns-clause-reply
 returns-clause-reply c =
-    let plan = c.args.self.now in
-    let keys = plan.keys.now.keys in
-    let r =
-    replies plan.order plan.automaton.now keys plan.certificate.now plan.moves_first plan.memories.now.kept.items
-    plan.memories.now.marks.keys c.args.state c.requires.entered.0 c.args.letter c.requires.turn
-    c.requires.entered.1 c.requires.class in
-    let at =
-    found_at keys (Second c.args.state c.args.letter) c.unwrap-at.result
+    let r = replies c.requires.turn c.requires.entered.1 c.requires.class in
+    let at = found_at c.args.self.now.keys.now.keys (Second c.args.state c.args.letter)
     (sym c.get_index_of.ensures.index ∙ c.unwrap-at.ensures) in
-    reply_is plan.order plan.automaton.now keys plan.certificate.now plan.moves_first plan.memories.now.kept.items
-    plan.memories.now.marks.keys c.args.state c.args.letter r
-    (record { state = c.in-First.state; priority = c.in-First.priority })
-    (reply_key plan.order plan.automaton.now keys plan.certificate.now plan.moves_first plan.memories.now.kept.items
-    plan.memories.now.marks.keys c.args.state c.args.letter r c.unwrap-at.result c.unwrap-chosen.result
-    c.as_slice.result.now
-    (First c.in-First.state c.in-First.priority) (First 0 0) at (sym c.choice.ensures ∙ c.unwrap-chosen.ensures)
+    reply_is r (record { state = c.in-First.state; priority = c.in-First.priority })
+    (reply_key r c.unwrap-at.result (First 0 0) at (sym c.choice.ensures ∙ c.unwrap-chosen.ensures)
     c.as_slice.ensures.keys c.in-First.is)
 
 pub returns-clause-enters : goal.returns-clause-enters
 returns-clause-enters c =
-    let plan = c.args.self.now in
-    let keys = plan.keys.now.keys in
-    let r =
-    replies plan.order plan.automaton.now keys plan.certificate.now plan.moves_first plan.memories.now.kept.items
-    plan.memories.now.marks.keys c.args.state c.requires.entered.0 c.args.letter c.requires.turn
-    c.requires.entered.1 c.requires.class in
-    let at =
-    found_at keys (Second c.args.state c.args.letter) c.unwrap-at.result
+    let r = replies c.requires.turn c.requires.entered.1 c.requires.class in
+    let at = found_at c.args.self.now.keys.now.keys (Second c.args.state c.args.letter)
     (sym c.get_index_of.ensures.index ∙ c.unwrap-at.ensures) in
-    reply_enters plan.order plan.automaton.now keys plan.certificate.now plan.moves_first plan.memories.now.kept.items
-    plan.memories.now.marks.keys c.args.state c.args.letter r
-    (record { state = c.in-First.state; priority = c.in-First.priority })
-    (reply_key plan.order plan.automaton.now keys plan.certificate.now plan.moves_first plan.memories.now.kept.items
-    plan.memories.now.marks.keys c.args.state c.args.letter r c.unwrap-at.result c.unwrap-chosen.result
-    c.as_slice.result.now
-    (First c.in-First.state c.in-First.priority) (First 0 0) at (sym c.choice.ensures ∙ c.unwrap-chosen.ensures)
+    reply_enters r (record { state = c.in-First.state; priority = c.in-First.priority })
+    (reply_key r c.unwrap-at.result (First 0 0) at (sym c.choice.ensures ∙ c.unwrap-chosen.ensures)
     c.as_slice.ensures.keys c.in-First.is)

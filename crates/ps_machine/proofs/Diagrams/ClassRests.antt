@@ -1,0 +1,153 @@
+-- What is left behind the letter of a class: it heeds the second player's propositions alone.
+use Rattle.std.proofs.Common.{◌≡◌, ℕ, zero, suc, ◌+◌, ◌^◌, ◌<◌, Bool, true, false, cond, List, length, get_or}
+use Rattle.std.proofs.Common.{option_map, Option, Some, refl, ap, sym, subst, ◌∙◌, arith, inl, inr}
+use Rattle.std.specs.Prelude.{IfSome, slice_get, slice_index, Any}
+use Rattle.std.proofs.lemmas.Bool.{cases_lt}
+use Rattle.std.proofs.Math.Nat.{pow-suc}
+use Rattle.std.proofs.lemmas.Option.{slice_get-get_or}
+use Rattle.ps_label.specs.Truth.{is_in}
+use Rattle.ps_certificate.specs.Certificates.{CertificateData}
+use Rattle.ps_diagram.specs.Letters.{letter_of, AgreeOn, AgreeOff}
+use Rattle.ps_diagram.specs.Table.{Table, leaf_of}
+use Rattle.ps_diagram.specs.declared.classes.Class.{Class}
+use Rattle.ps_diagram.specs.declared.classes.Classes.{Classes}
+use Rattle.ps_diagram.proofs.Letters.{letter_lt, letter_is, no_bit}
+use Rattle.ps_automaton.specs.Automata.{AutomatonData, node_of}
+use Rattle.ps_machine.specs.BuiltBoards.{board_of}
+use Rattle.ps_machine.specs.Dividing.{AreClassesOf, AreDivided}
+use Rattle.ps_machine.specs.Placing.{PlaysClass}
+use Rattle.ps_machine.specs.Moving.{IsFit, IsRest}
+use Rattle.ps_machine.specs.Numbering.{StandsAt}
+use Rattle.ps_machine.specs.declared.key.Key.{Key}
+use Rattle.ps_machine.specs.declared.key.Key.TheVariants.{First}
+use Rattle.ps_machine.specs.declared.key.Order.{Order}
+use Rattle.ps_machine.proofs.BoardSteps.{heeds, class_there, class_rest}
+use Rattle.ps_machine.proofs.Diagrams.ClassTables.{classes_there}
+
+small_power : (n : ℕ) → n < 2 ^ n
+small_power zero = omega arith
+small_power (suc n) = (let before = small_power n in omega (arith, before, pow-suc 2 n))
+
+chosen_bit : {b c : Bool} (d : Bool) → b ≡ true → cond b c d ≡ c
+chosen_bit {c} d e = ap (λ x. cond x c d) e
+
+other_bit : {b : Bool} (c : Bool) {d : Bool} → b ≡ false → cond b c d ≡ d
+other_bit c {d} e = ap (λ x. cond x c d) e
+
+cond_alike : (b c : Bool) {d e : Bool} → (b ≡ false → d ≡ e) → cond b c d ≡ cond b c e
+cond_alike true c alike = refl
+cond_alike false c alike = alike refl
+
+-- the letter with one letter's bits on the mask, and another's elsewhere
+module _ (n mask class : ℕ) (small : mask < 2 ^ n) where
+  bits : ℕ → ℕ → Bool
+  bits u p = cond (is_in p mask) (is_in p class) (is_in p u)
+
+  joint : ℕ → ℕ
+  joint u = letter_of (n + u) (bits u)
+
+  joint_bit : (u p : ℕ) → is_in p (joint u) ≡ bits u p
+  unfolding bits joint
+  joint_bit u p = elim (cases_lt p (n + u)) [
+    | inl less ↦ letter_is (n + u) (bits u) p less
+    | inr more ↦ no_bit (n + u) (joint u) p (letter_lt (n + u) (bits u)) more
+        ∙ sym (other_bit (is_in p class) (no_bit n mask p small (omega (arith, more)))
+        ∙ no_bit u u p (small_power u) (omega (arith, more)))
+  ]
+
+  joint_on : (u : ℕ) → AgreeOn mask class (joint u)
+  unfolding bits
+  joint_on u p on = sym (joint_bit u p ∙ chosen_bit (is_in p u) on)
+
+  joint_off : (u : ℕ) → AgreeOff mask u (joint u)
+  unfolding bits
+  joint_off u p off = sym (joint_bit u p ∙ other_bit (is_in p class) off)
+
+  joint_same : (u v p : ℕ) → (is_in p mask ≡ false → is_in p u ≡ is_in p v) → is_in p (joint u) ≡ is_in p (joint v)
+  unfolding bits
+  joint_same u v p alike = joint_bit u p ∙ cond_alike (is_in p mask) (is_in p class) alike ∙ sym (joint_bit v p)
+
+-- the rest heeds the second player's propositions alone
+unfoldable pub Heeds : Order → AutomatonData → Table → ℕ → Type 0
+Heeds order a t rest =
+    (x y : ℕ) → ((p : ℕ) → p < length a.names → (board_of order a).is_first p ≡ false → is_in p x ≡ is_in p y) →
+    leaf_of t rest x ≡ leaf_of t rest y
+
+-- what is left behind the letter of a class, and that it heeds the second player alone
+pub record Left (order : Order) (a : AutomatonData) (mask : ℕ) (t : Table) (q letter rest : ℕ) : Type 0 where
+  pub fit : IsFit order a mask t
+  pub is_rest : IsRest order a mask t q letter rest
+  pub heeds_second : Heeds order a t rest
+
+module _ {order : Order} {a : AutomatonData} {mask : ℕ} {t : Table} {q : ℕ} {classes : Classes}
+    (f : IsFit order a mask t) (of : AreClassesOf a mask t q classes) where
+  class_heeds : (k : ℕ) (c : Class) → slice_get classes.list.items k ≡ Some c → Heeds order a t c.rest
+  unfolding Heeds
+  class_heeds k c at x y alike = to x ∙ heeds f q (like x) (like y) of.state same ∙ sym (to y)
+    where
+      like : ℕ → ℕ
+      like u = joint (length a.names) mask c.letter f.is_mask.within u
+
+      there : (u : ℕ) → leaf_of t classes.places (like u) ≡ Some k
+      there u = sym (of.are.read c.letter (like u) (joint_on (length a.names) mask c.letter f.is_mask.within u))
+          ∙ (of.are.each k c at).least.here.1
+
+      to : (u : ℕ) → leaf_of t c.rest u ≡ leaf_of a.store (node_of a q) (like u)
+      to u =
+          let is = of.are.each k c at in
+          is.others u (like u) (joint_off (length a.names) mask c.letter f.is_mask.within u) ∙ is.shared (like u)
+          (there u)
+
+      same : (p : ℕ) → p < length a.names → is_in p (like x) ≡ is_in p (like y)
+      same p lt =
+          joint_same (length a.names) mask c.letter f.is_mask.within x y p
+          (λ off. alike p lt (sym (f.is_mask.is p lt) ∙ off))
+
+  pub left : {letter rest : ℕ} → Any (λ (c : Class). (c.letter ≡ letter) × (c.rest ≡ rest)) classes.list.items →
+      Left order a mask t q letter rest
+  left {letter} {rest} any =
+      let c : Class = any.1 in
+      let at : slice_get classes.list.items any.0 ≡ Some c = slice_get-get_or classes.list.items any.0 c any.2
+      ∙ ap (λ x. Some x) any.3 in
+      record {
+        fit = f;
+        is_rest =
+            subst (λ l. IsRest order a mask t q l rest) any.4.0
+            (subst (λ n. IsRest order a mask t q c.letter n) any.4.1 (class_rest f of any.0 at));
+        heeds_second = subst (λ n. Heeds order a t n) any.4.1 (class_heeds any.0 c at);
+      }
+
+-- the places by another name
+pub renamed : (t u : Table) (places values : List ℕ) (rest made : ℕ) → values ≡ places →
+    ((x : ℕ) → leaf_of u made x ≡ option_map (λ k. slice_index values k) (leaf_of t rest x)) →
+    (x : ℕ) → leaf_of u made x ≡ option_map (λ k. slice_index places k) (leaf_of t rest x)
+renamed t u places values rest made same named x = named x ∙ ap
+    (λ (l : List ℕ). option_map (λ k. slice_index l k) (leaf_of t rest x)) same
+
+pub renamed_within : (t : Table) {places values : List ℕ} (rest : ℕ) → values ≡ places →
+    ((x : ℕ) → x < 2 ^ t.propositions → IfSome (leaf_of t rest x) (λ k. k < length places)) →
+    (x : ℕ) → x < 2 ^ t.propositions → IfSome (leaf_of t rest x) (λ k. k < length values)
+renamed_within t rest same within = subst
+    (λ (l : List ℕ). (x : ℕ) → x < 2 ^ t.propositions → IfSome (leaf_of t rest x) (λ k. k < length l)) (sym same) within
+
+-- a class of the list
+pub any_class : (list : List Class) {letter : ℕ} {c : Class} → c.letter ≡ letter → (k : ℕ) → k < length list →
+    ((d : Class) → get_or list k d ≡ c) → Any (λ (d : Class). (d.letter ≡ letter) × (d.rest ≡ c.rest)) list
+any_class list {c} is k within at = (k, c, within, at c, (is, refl))
+
+-- the classes of a vertex's state have that of the move, behind which something is left
+module _ {order : Order} {a : AutomatonData} {keys : List Key} {t : Table} {classes : ℕ → Option Classes} (v : ℕ)
+    {q p : ℕ} {c : Classes} {l : List Class} (d : AreDivided order a keys t classes) (at : StandsAt keys v (First q p))
+    (of : classes q ≡ Some c) (same : l ≡ c.list.items) where
+  are_classes : AreClassesOf a d.mask t q c
+  are_classes = classes_there v d at of
+
+  pub class_listed : {certificate : CertificateData} {letter : ℕ} →
+      PlaysClass (board_of order a) keys certificate v q letter → Any (λ (k : Class). k.letter ≡ letter) l
+  class_listed {letter} plays = rw same (class_there d.fit are_classes letter plays.is_class)
+
+  pub left_behind : {letter rest : ℕ} → Any (λ (k : Class). (k.letter ≡ letter) × (k.rest ≡ rest)) l →
+      Left order a d.mask t q letter rest
+  left_behind {letter} {rest} any =
+      left d.fit are_classes (subst (λ (cs : List Class). Any (λ (k : Class). (k.letter ≡ letter) × (k.rest ≡ rest)) cs)
+      same any)
