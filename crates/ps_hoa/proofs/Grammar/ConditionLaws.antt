@@ -18,7 +18,7 @@ use Rattle.ps_hoa.specs.declared.fault.HoaCause.{HoaCause}
 use Rattle.ps_hoa.specs.declared.tokens.Kind.{Kind}
 use Rattle.ps_hoa.specs.declared.tokens.Kind.TheVariants.{Word, Int, LeftParen}
 use Rattle.ps_hoa.proofs.Grammar.KindSets.{within, apart, plain}
-use Rattle.ps_hoa.proofs.Grammar.OperandLaws.{Odd, Of, nothing_apart, plain_odd, only_first, laws_behind, laws_closed}
+use Rattle.ps_hoa.proofs.Grammar.OperandLaws.{Odd, Of, nothing_apart, plain_odd, laws_behind, laws_closed}
 use Rattle.ps_hoa.proofs.Grammar.LabelLaws.{is_start, laws_not, laws_left, laws_right, AndOrMore, laws_rows}
 use Rattle.ps_hoa.proofs.Grammar.LabelLaws.{laws_nested, no_more, no_null}
 
