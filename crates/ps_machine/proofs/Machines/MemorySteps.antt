@@ -7,7 +7,7 @@ use Rattle.std.proofs.lemmas.Bool.{eqb-true}
 use Rattle.std.proofs.lemmas.List.{get_or_append_left, get_or_push, length_push}
 use Rattle.std.proofs.lemmas.List.Elements.{All-nil, All-push}
 use Rattle.std.proofs.lemmas.List.Quantifiers.{all_pairs_push}
-use Rattle.std.proofs.lemmas.Option.{slice_get_within, slice_get-get_or, get_or_from_slice_get}
+use Rattle.std.proofs.lemmas.Option.{slice_get_within, slice_get-get_or}
 use Rattle.std.proofs.lemmas.Map.Views.{Contains-from_any, list_any-from_Contains}
 use Rattle.indexmap.specs.IndexSet.{insert_key}
 use Rattle.ps_machine.specs.Drawing.{AreMemories, HasMemory, IsMemory, KeepsAt, Stays, Grows, mark_of}
@@ -16,25 +16,11 @@ use Rattle.ps_machine.specs.declared.key.Key.{Key}
 use Rattle.ps_machine.specs.declared.key.Key.TheVariants.{First}
 use Rattle.ps_machine.proofs.GameKeys.Exploring.{less_or_last}
 use Rattle.ps_machine.proofs.Machines.Following.{different_push, inserted}
-use Rattle.ps_machine.proofs.GameKeys.Standing.{one_state}
+use Rattle.ps_machine.proofs.GameKeys.Standing.{one_state, slice_get-left, slice_get-seam}
 
 not_not : (b : Bool) → not (not b) ≡ b
 not_not true = refl
 not_not false = refl
-
--- what stands at a place of a list stands there in a longer one
-marked_left : (marks : List ℕ) (mark memory : ℕ) {x : ℕ} → slice_get marks memory ≡ Some x →
-    slice_get (marks ++ mark ∷ []) memory ≡ Some x
-marked_left marks mark memory {x} at =
-    let within = slice_get_within marks memory x at in
-    slice_get-get_or (marks ++ mark ∷ []) memory x (omega (arith, within, length_push marks mark))
-    ∙ ap (λ n. Some n) (get_or_append_left marks (mark ∷ []) x memory within
-    ∙ get_or_from_slice_get marks memory x x at)
-
-marked_last : (marks : List ℕ) {mark : ℕ} → slice_get (marks ++ mark ∷ []) (length marks) ≡ Some mark
-marked_last marks {mark} =
-    slice_get-get_or (marks ++ mark ∷ []) (length marks) 0 (omega (arith, length_push marks mark))
-    ∙ ap (λ n. Some n) (get_or_push marks mark 0 (length marks) refl)
 
 -- ## One memory
 
@@ -79,10 +65,7 @@ module _ (is_first : Bool) (keys : List Key) (used : List ℕ) where
       }))
 
   all_less : (kept : List ℕ) (n : ℕ) → All (λ v. v < n) kept → All (λ v. v < n + 1) kept
-  all_less kept n below i d within = less (get_or kept i d) (below i d within)
-    where
-      less : (v : ℕ) → v < n → v < n + 1
-      less v h = omega (arith, h)
+  all_less kept n below i d within = (let less = below i d within in omega (arith, less))
 
   -- a vertex without a memory: it is not used, or the first player does not move there
   pub below_skip : {kept marks : List ℕ} {n : ℕ} → ((q p : ℕ) → Contains used n → StandsAt keys n (First q p) → ⊥) →
@@ -139,7 +122,7 @@ module _ (is_first : Bool) (keys : List Key) (used : List ℕ) where
         let within : h.memory < length kept = omega (arith, slice_get_within marks h.memory x h.is_marked, m.many) in
         record {
           memory = h.memory;
-          is_marked = marked_left marks (mark_of is_first n q) h.memory h.is_marked;
+          is_marked = slice_get-left marks (mark_of is_first n q ∷ []) h.memory h.is_marked;
           behind = subst (λ w. w ≤ v) (sym (kept_left h.memory within)) h.behind;
         }
 
@@ -148,7 +131,7 @@ module _ (is_first : Bool) (keys : List Key) (used : List ℕ) where
       memory = length kept;
       is_marked =
           subst (λ i. slice_get (marks ++ mark_of is_first n q ∷ []) i ≡ Some (mark_of is_first n q)) m.many
-          (marked_last marks);
+          (slice_get-seam marks);
       behind = omega (arith, kept_last);
     }
 
@@ -164,7 +147,7 @@ module _ (is_first : Bool) (keys : List Key) (used : List ℕ) where
           is_used = subst (λ w. Contains used w) same old.is_used;
           mark =
               subst (λ w. slice_get (marks ++ mark_of is_first n q ∷ []) memory ≡ Some (mark_of is_first w old.state))
-              same (marked_left marks (mark_of is_first n q) memory old.mark);
+              same (slice_get-left marks (mark_of is_first n q ∷ []) memory old.mark);
         }
 
     memory_last : IsMemory is_first keys used (kept ++ n ∷ []) (marks ++ mark_of is_first n q ∷ []) (length kept)
@@ -177,7 +160,7 @@ module _ (is_first : Bool) (keys : List Key) (used : List ℕ) where
           subst (λ w. slice_get (marks ++ mark_of is_first n q ∷ []) (length kept) ≡ Some (mark_of is_first w q))
           (sym kept_last)
           (subst (λ i. slice_get (marks ++ mark_of is_first n q ∷ []) i ≡ Some (mark_of is_first n q)) m.many
-          (marked_last marks));
+          (slice_get-seam marks));
     }
 
     below_stays : Contains marks (mark_of is_first n q) → AreMemoriesBelow kept marks (n + 1)

@@ -1,6 +1,5 @@
 use Rattle.std.proofs.Common.{ℕ, List, sym, subst}
 use Rattle.ps_diagram.specs.Reached.{AreLeaves}
-use Rattle.ps_diagram.specs.Table.{Table, Keeps}
 use Rattle.ps_machine.specs.BuiltBoards.{board_of}
 use Rattle.ps_machine.specs.Drawing.{IsOwn}
 use Rattle.ps_machine.specs.Planning.{IsDrawnBy}

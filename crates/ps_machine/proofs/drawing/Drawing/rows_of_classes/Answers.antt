@@ -4,8 +4,7 @@ use Rattle.std.proofs.lemmas.List.{take_all}
 use Rattle.ps_diagram.specs.declared.classes.Class.{Class}
 use Rattle.ps_machine.specs.Boards.{IsClass}
 use Rattle.ps_machine.specs.BuiltBoards.{board_of}
-use Rattle.ps_machine.specs.Drawing.{IsRow, KeepsRows}
-use Rattle.ps_machine.specs.Planning.{IsRestBy}
+use Rattle.ps_machine.specs.Drawing.{IsRow}
 use Rattle.ps_machine.specs.declared.machine.Row.{Row}
 use Rattle.ps_machine.specs.contracts.machine.RowPartialEq.TheImpl as row_eq
 use Rattle.ps_machine.proofs.Diagrams.DrawingLemmas.{all_rows, keeps_rows, keeps_rows_same, keeps_rows_trans}

@@ -1,8 +1,6 @@
 use Rattle.std.proofs.Common.{List, sym, subst}
 use Rattle.std.specs.List.{All}
-use Rattle.ps_diagram.specs.Table.{Table, Keeps}
 use Rattle.ps_diagram.specs.declared.classes.Class.{Class}
-use Rattle.ps_machine.specs.Boards.{IsClass}
 use Rattle.ps_machine.specs.Drawing.{IsDrawn}
 use Rattle.ps_machine.specs.Planning.{IsDrawnBy, IsRestBy, NamesAnswerBy, board_by}
 use Rattle.ps_machine.proofs.BoardSteps.{class_rests}
