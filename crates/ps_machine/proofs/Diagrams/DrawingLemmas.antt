@@ -193,13 +193,13 @@ module _ {board : Board} {mover : ℕ} {keys : List Key} {game : ParityGame} {ce
       )
 
   pub class_at : (v : ℕ) {w q p : ℕ} → StandsAt keys v (First q p) → HasEdge game v w → ClassAt board keys q w
-  class_at v {q = q} {p} at edge =
+  class_at v {q} {p} at edge =
       let n = next_keys v (First q p) at in
       let x = letter_of_number keys (λ x. Second q x) (successors_of game v) n.1.1 n.1.2 n.2 edge.1 in
       record { letter = x.0; is_class = x.1; stands = x.2 }
 
   pub move_to : (v : ℕ) {w q x : ℕ} → StandsAt keys v (Second q x) → HasEdge game v w → MoveTo board keys q x w
-  move_to v {q = q} {x} at edge =
+  move_to v {q} {x} at edge =
       let n = next_keys v (Second q x) at in
       let y = letter_of_number keys (pair_key q x) (successors_of game v) n.1.1 n.1.2 n.2 edge.1 in
       record { letter = y.0; is_move = y.1; goes = record { stands = y.2 } }

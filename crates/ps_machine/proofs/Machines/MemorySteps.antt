@@ -97,16 +97,24 @@ module _ (is_first : Bool) (keys : List Key) (used : List ℕ) where
 
   module _ {kept marks : List ℕ} {n : ℕ} (q p : ℕ) (m : AreMemoriesBelow kept marks n)
       (stands : StandsAt keys n (First q p)) (is_used : Contains used n) where
-    kept_left : (memory : ℕ) → memory < length kept → get_or (kept ++ n ∷ []) memory 0 ≡ get_or kept memory 0
+    abbrev new_kept : List ℕ
+    new_kept = kept ++ n ∷ []
+
+    abbrev new_mark : ℕ
+    new_mark = mark_of is_first n q
+
+    abbrev new_marks : List ℕ
+    new_marks = marks ++ new_mark ∷ []
+
+    kept_left : (memory : ℕ) → memory < length kept → get_or new_kept memory 0 ≡ get_or kept memory 0
     kept_left memory within = get_or_append_left kept (n ∷ []) 0 memory within
 
-    kept_last : get_or (kept ++ n ∷ []) (length kept) 0 ≡ n
+    kept_last : get_or new_kept (length kept) 0 ≡ n
     kept_last = get_or_push kept n 0 (length kept) refl
 
     -- what is found at each vertex, where it was found before and is there now
     found_more : (kept' marks' : List ℕ) → ((v x : ℕ) → HasMemory kept marks v x → HasMemory kept' marks' v x) →
-        HasMemory kept' marks' n (mark_of is_first n q) →
-        (v r l : ℕ) → v < n + 1 → Contains used v → StandsAt keys v (First r l) →
+        HasMemory kept' marks' n new_mark → (v r l : ℕ) → v < n + 1 → Contains used v → StandsAt keys v (First r l) →
         HasMemory kept' marks' v (mark_of is_first v r)
     found_more kept' marks' still here v r l less used_v at = elim (less_or_last v n less) [
       | inl before ↦ still v (mark_of is_first v r) (m.found v r l before used_v at)
@@ -116,27 +124,23 @@ module _ (is_first : Bool) (keys : List Key) (used : List ℕ) where
           (subst (λ s. HasMemory kept' marks' n (mark_of is_first n s)) same here)
     ]
 
-    has_left : (v x : ℕ) → HasMemory kept marks v x → HasMemory (kept ++ n ∷ [])
-        (marks ++ mark_of is_first n q ∷ []) v x
+    has_left : (v x : ℕ) → HasMemory kept marks v x → HasMemory new_kept new_marks v x
     has_left v x h =
         let within : h.memory < length kept = omega (arith, slice_get_within marks h.memory x h.is_marked, m.many) in
         record {
           memory = h.memory;
-          is_marked = slice_get-left marks (mark_of is_first n q ∷ []) h.memory h.is_marked;
+          is_marked = slice_get-left marks (new_mark ∷ []) h.memory h.is_marked;
           behind = subst (λ w. w ≤ v) (sym (kept_left h.memory within)) h.behind;
         }
 
-    has_last : HasMemory (kept ++ n ∷ []) (marks ++ mark_of is_first n q ∷ []) n (mark_of is_first n q)
+    has_last : HasMemory new_kept new_marks n new_mark
     has_last = record {
       memory = length kept;
-      is_marked =
-          subst (λ i. slice_get (marks ++ mark_of is_first n q ∷ []) i ≡ Some (mark_of is_first n q)) m.many
-          (slice_get-seam marks);
+      is_marked = subst (λ i. slice_get new_marks i ≡ Some new_mark) m.many (slice_get-seam marks);
       behind = omega (arith, kept_last);
     }
 
-    memory_left : (memory : ℕ) → memory < length kept → IsMemory is_first keys used (kept ++ n ∷ [])
-        (marks ++ mark_of is_first n q ∷ []) memory
+    memory_left : (memory : ℕ) → memory < length kept → IsMemory is_first keys used new_kept new_marks memory
     memory_left memory within =
         let old = m.each memory within in
         let same = sym (kept_left memory within) in
@@ -146,24 +150,22 @@ module _ (is_first : Bool) (keys : List Key) (used : List ℕ) where
           stands = subst (λ w. StandsAt keys w (First old.state old.priority)) same old.stands;
           is_used = subst (λ w. Contains used w) same old.is_used;
           mark =
-              subst (λ w. slice_get (marks ++ mark_of is_first n q ∷ []) memory ≡ Some (mark_of is_first w old.state))
-              same (slice_get-left marks (mark_of is_first n q ∷ []) memory old.mark);
+              subst (λ w. slice_get new_marks memory ≡ Some (mark_of is_first w old.state))
+              same (slice_get-left marks (new_mark ∷ []) memory old.mark);
         }
 
-    memory_last : IsMemory is_first keys used (kept ++ n ∷ []) (marks ++ mark_of is_first n q ∷ []) (length kept)
+    memory_last : IsMemory is_first keys used new_kept new_marks (length kept)
     memory_last = record {
       state = q;
       priority = p;
       stands = subst (λ w. StandsAt keys w (First q p)) (sym kept_last) stands;
       is_used = subst (λ w. Contains used w) (sym kept_last) is_used;
       mark =
-          subst (λ w. slice_get (marks ++ mark_of is_first n q ∷ []) (length kept) ≡ Some (mark_of is_first w q))
-          (sym kept_last)
-          (subst (λ i. slice_get (marks ++ mark_of is_first n q ∷ []) i ≡ Some (mark_of is_first n q)) m.many
-          (slice_get-seam marks));
+          subst (λ w. slice_get new_marks (length kept) ≡ Some (mark_of is_first w q)) (sym kept_last)
+          (subst (λ i. slice_get new_marks i ≡ Some new_mark) m.many (slice_get-seam marks));
     }
 
-    below_stays : Contains marks (mark_of is_first n q) → AreMemoriesBelow kept marks (n + 1)
+    below_stays : Contains marks new_mark → AreMemoriesBelow kept marks (n + 1)
     below_stays came = record {
       many = m.many;
       rising = m.rising;
@@ -173,25 +175,23 @@ module _ (is_first : Bool) (keys : List Key) (used : List ℕ) where
       found = found_more kept marks (λ v x h. h) (came_has m came);
     }
 
-    below_grows : (Contains marks (mark_of is_first n q) → ⊥) →
-        AreMemoriesBelow (kept ++ n ∷ []) (marks ++ mark_of is_first n q ∷ []) (n + 1)
+    below_grows : (Contains marks new_mark → ⊥) → AreMemoriesBelow new_kept new_marks (n + 1)
     below_grows comes = record {
-      many = omega (arith, length_push marks (mark_of is_first n q), length_push kept n, m.many);
+      many = omega (arith, length_push marks new_mark, length_push kept n, m.many);
       rising = all_pairs_push (λ v w. v < w) kept n m.rising m.below;
-      different = different_push marks (mark_of is_first n q) comes m.different;
+      different = different_push marks new_mark comes m.different;
       below = All-push (λ v. v < n + 1) kept n (all_less kept n m.below) (omega arith);
       each = λ memory within. elim (less_or_last memory (length kept) (omega (arith, within, length_push kept n))) [
         | inl before ↦ memory_left memory before
-        | inr last ↦ subst (λ i. IsMemory is_first keys used (kept ++ n ∷ []) (marks ++ mark_of is_first n q ∷ []) i)
-            (sym last) memory_last
+        | inr last ↦ subst (λ i. IsMemory is_first keys used new_kept new_marks i) (sym last) memory_last
       ];
-      found = found_more (kept ++ n ∷ []) (marks ++ mark_of is_first n q ∷ []) has_left has_last;
+      found = found_more new_kept new_marks has_left has_last;
     }
 
-    pub below_more : {kept' marks' : List ℕ} → KeepsAt kept marks n (mark_of is_first n q) kept' marks' →
+    pub below_more : {kept' marks' : List ℕ} → KeepsAt kept marks n new_mark kept' marks' →
         AreMemoriesBelow kept' marks' (n + 1)
-    below_more {marks'} (Stays came k l) = rw (k, l) (below_stays came)
-    below_more {marks'} (Grows comes k l) = rw (k, l) (below_grows comes)
+    below_more (Stays came k l) = rw (k, l) (below_stays came)
+    below_more (Grows comes k l) = rw (k, l) (below_grows comes)
 
   pub all_below : {kept marks : List ℕ} {n : ℕ} → length keys ≤ n → AreMemoriesBelow kept marks n →
       AreMemories is_first keys used kept marks

@@ -56,9 +56,6 @@ relabel_from-requires-clause-within c =
     renamed_within t c.rest_of-rest.result c.deref-3.ensures.value
     (all_noted c.requires.plan c.requires.turn c.requires.kept at plays l are c.in_ok-place_rows.ensures.placed)
 
-pub returns-clause-keeps : goal.returns-clause-keeps
-returns-clause-keeps c = rw (← c.place_rows.ensures.store) c.relabel_from.ensures.keeps
-
 pub returns-clause-drawn : goal.returns-clause-drawn
 returns-clause-drawn c =
     let at = c.requires.stands.1 in

@@ -54,9 +54,6 @@ relabel_from-requires-clause-within c letter within =
     (named_as (λ (class : Class) value. NamesAnswerBy plan rows c.args.state class.letter value) c.deref.ensures.value
     c.deref-2.ensures.value c.in_ok-values.ensures.values) letter
 
-pub returns-clause-keeps : goal.returns-clause-keeps
-returns-clause-keeps c = rw (← c.rows_of_classes.ensures.store) c.relabel_from.ensures.keeps
-
 pub returns-clause-drawn : goal.returns-clause-drawn
 returns-clause-drawn c =
     let plan = c.args.plan.now in
