@@ -80,7 +80,7 @@ stands_for {is_first} {keys} {kept} {marks} {memory} v {q} p differ m at is {w} 
   where
     by : (b : Bool) (u r : ℕ) → Some (mark_of b u r) ≡ Some (mark_of b v q) → Shares b u r w q
     by true u r e = some_nat u v e ∙ one_place keys differ v w at there
-    by false u r e = some_nat r q e
+    by false u r e = cc
 
 -- ## Used vertices
 

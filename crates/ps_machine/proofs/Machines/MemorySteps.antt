@@ -149,9 +149,7 @@ module _ (is_first : Bool) (keys : List Key) (used : List ℕ) where
           priority = old.priority;
           stands = subst (λ w. StandsAt keys w (First old.state old.priority)) same old.stands;
           is_used = subst (λ w. Contains used w) same old.is_used;
-          mark =
-              subst (λ w. slice_get new_marks memory ≡ Some (mark_of is_first w old.state))
-              same (slice_get-left marks (new_mark ∷ []) memory old.mark);
+          mark = rw (← same) (slice_get-left marks (new_mark ∷ []) memory old.mark);
         }
 
     memory_last : IsMemory is_first keys used new_kept new_marks (length kept)
@@ -160,9 +158,7 @@ module _ (is_first : Bool) (keys : List Key) (used : List ℕ) where
       priority = p;
       stands = subst (λ w. StandsAt keys w (First q p)) (sym kept_last) stands;
       is_used = subst (λ w. Contains used w) (sym kept_last) is_used;
-      mark =
-          subst (λ w. slice_get new_marks (length kept) ≡ Some (mark_of is_first w q)) (sym kept_last)
-          (subst (λ i. slice_get new_marks i ≡ Some new_mark) m.many (slice_get-seam marks));
+      mark = rw (kept_last, ← m.many) (slice_get-seam marks);
     }
 
     below_stays : Contains marks new_mark → AreMemoriesBelow kept marks (n + 1)

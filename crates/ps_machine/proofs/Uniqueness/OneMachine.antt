@@ -23,11 +23,10 @@ use Rattle.ps_machine.specs.Numbering.{StandsAt}
 use Rattle.ps_machine.specs.declared.key.Key.{Key}
 use Rattle.ps_machine.specs.declared.key.Key.TheVariants.{First, Second}
 use Rattle.ps_machine.proofs.BoardLetters.{neither_before, one_least}
-use Rattle.ps_machine.proofs.Choosing.{part, part_bit, part_over, steps_sym, steps_trans}
+use Rattle.ps_machine.proofs.Choosing.{part, part_bit, part_over, steps_sym, steps_trans, over_other}
 use Rattle.ps_machine.proofs.Machines.KeptMemories.{mark_shares, shares_mark}
 use Rattle.ps_machine.proofs.Machines.Listing.{one_listed}
 use Rattle.ps_machine.proofs.Machines.MachineLemmas.{one_letter}
-use Rattle.ps_machine.proofs.Machines.MachineThere.{over_other}
 use Rattle.ps_machine.proofs.Uniqueness.Rising.{same_numbers}
 use Rattle.ps_machine.proofs.Lassos.Rounds.{one_place}
 use Rattle.ps_machine.proofs.GameKeys.Standing.{one_state}
