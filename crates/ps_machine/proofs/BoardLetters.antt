@@ -163,13 +163,10 @@ module _ (board : Board) where
   ]
 
   pub zero_second : IsSecondLetter board 0
-  zero_second = record { within = pow_pos board.propositions; own = λ p is. no_bit 0 0 p (omega arith) (omega arith) }
-    where
-      pow_pos : (n : ℕ) → 0 < 2 ^ n
-      pow_pos n = letter_lt_pos (letter_lt n (λ _. false))
-        where
-          letter_lt_pos : letter_of n (λ _. false) < 2 ^ n → 0 < 2 ^ n
-          letter_lt_pos h = omega (arith, h)
+  zero_second = record {
+    within = omega (arith, letter_lt board.propositions (λ _. false));
+    own = λ p is. no_bit 0 0 p (omega arith) (omega arith);
+  }
 
 -- ## The order of letters
 

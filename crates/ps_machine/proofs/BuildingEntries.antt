@@ -1,6 +1,6 @@
 -- Entries of a certificate, one after another.
 use Rattle.std.proofs.Common.{◌≡◌, ◌⊎◌, inl, inr, ℕ, ◌+◌, ◌<◌, List, [], ◌∷◌, ◌++◌, length, get_or, Option, Bool, true}
-use Rattle.std.proofs.Common.{false, ap, sym, subst, ◌∙◌, arith}
+use Rattle.std.proofs.Common.{false, ap, ◌∙◌, arith}
 use Rattle.std.proofs.lemmas.List.{length_push, get_or_push, get_or_append_left}
 use Rattle.ps_game.specs.Games.{ParityGame}
 use Rattle.ps_game.specs.Regions.{has}

@@ -2,9 +2,9 @@
 -- counts.
 use Rattle.std.proofs.Common.{◌≡◌, ◌≢◌, ◌⊎◌, inl, inr, ℕ, zero, suc, ◌+◌, ◌<◌, ◌≤◌, List, [], ◌∷◌, length, get_or}
 use Rattle.std.proofs.Common.{Option, Some, None, IfSome, IsSomeAnd, Bool, true, false, IsTrue, refl, ap, sym, subst}
-use Rattle.std.proofs.Common.{◌∙◌, rules, arith, ◌==◌, ◌&&◌, not, replicate}
+use Rattle.std.proofs.Common.{◌∙◌, rules, arith, ◌&&◌, not, replicate}
 use Rattle.std.proofs.lemmas.List.{get_or-replicate}
-use Rattle.std.proofs.lemmas.Bool.Decides.{nat_tests}
+use Rattle.std.proofs.lemmas.Bool.{cases_Bool, cases_eq}
 use Rattle.ps_game.specs.Games.{ParityGame, IsGame, HasEdge, owner_of, priority_of, vertex_count}
 use Rattle.ps_game.specs.Plays.{Holds, IsPath, Follows}
 use Rattle.ps_game.specs.Ranking.{RemainsFor, KeepRuleWithin, KeepsRule}
@@ -46,11 +46,7 @@ side game player set table priorities rows c v within inside ranks among =
 
 -- a play of two vertices
 two_path : (game : ParityGame) (v w : ℕ) → IsGame game → HasEdge game v w → IsPath game (v ∷ w ∷ [])
-two_path game v w is_game edge = record {
-  begins = omega arith;
-  vertices = places;
-  edges = steps;
-}
+two_path game v w is_game edge = record { begins = omega arith; vertices = places; edges = steps }
   where
     places : (k : ℕ) → k < 2 → get_or (v ∷ w ∷ []) k 0 < vertex_count game
     places zero within = edge.0
@@ -65,13 +61,6 @@ two_follows : (game : ParityGame) (player : ℕ) (table : ℕ → Option ℕ) (v
     (owner_of game v ≡ player → table v ≡ Some w) → Follows game player table (v ∷ w ∷ [])
 two_follows game player table v w chosen zero within owns = chosen owns
 two_follows game player table v w chosen (suc k) within owns = absurd (omega (arith, within))
-
-same_or_not : (x y : ℕ) → (x ≡ y) ⊎ (x ≢ y)
-same_or_not x y = by (x == y) refl
-  where
-    by : (b : Bool) → (x == y) ≡ b → (x ≡ y) ⊎ (x ≢ y)
-    by true e = inl (grind (arith, nat_tests))
-    by false e = inr (λ same. grind (arith, nat_tests))
 
 some_within : {game : ParityGame} (v : ℕ) → IsGame game → (o : Option ℕ) → IsSomeAnd o (HasEdge game v) →
     IfSome o (λ w. w < vertex_count game)
@@ -104,7 +93,7 @@ module _ {game : ParityGame} (is_game : IsGame game) {player : ℕ} {set : ℕ �
 
   side_choice : (v : ℕ) → v < vertex_count game → IsSide game player set table priorities rows c v →
       IfSome (choice_of c v) (λ w. w < vertex_count game)
-  side_choice v within s = by (same_or_not (owner_of game v) player)
+  side_choice v within s = by (cases_eq (owner_of game v) player)
     where
       by : (owner_of game v ≡ player) ⊎ (owner_of game v ≢ player) → IfSome (choice_of c v) (λ w. w < vertex_count game)
       by (inl owns) = rw (s.own owns) (some_within v is_game (table v) (holds.keeps.moves v within s.inside owns))
@@ -187,17 +176,6 @@ module _ {game : ParityGame} {region : List Bool} {lost : ℕ → Bool} {first s
   Two : ℕ → Type 0
   Two v = IsSide game 1 lost second even even_rows made v
 
-  sides : (v : ℕ) → v < vertex_count game → One v ⊎ Two v
-  unfolding One Two made
-  sides v within = by (has region v) refl
-    where
-      by : (x : Bool) → has region v ≡ x → One v ⊎ Two v
-      by true e =
-          inl (side game 0 (has region) first odd odd_rows made v within e b.odd_ranks (b.are_entries.won v within e))
-      by false e =
-          inr (side game 1 lost second even even_rows made v within ((b.rest v within).0 e) b.even_ranks
-          (b.are_entries.lost v within e))
-
   -- a vertex of a player's set is on the player's side
   one_side : (v : ℕ) → v < vertex_count game → has region v ≡ true → One v
   unfolding One made
@@ -209,6 +187,12 @@ module _ {game : ParityGame} {region : List Bool} {lost : ℕ → Bool} {first s
   two_side v within e =
       side game 1 lost second even even_rows made v within e b.even_ranks
       (b.are_entries.lost v within ((b.rest v within).1 e))
+
+  sides : (v : ℕ) → v < vertex_count game → One v ⊎ Two v
+  sides v within = elim (cases_Bool (has region v)) [
+    | inl is ↦ inl (one_side v within is)
+    | inr isnt ↦ inr (two_side v within ((b.rest v within).0 isnt))
+  ]
 
   opposing_first : opposing made 0 ≡ odd
   unfolding opposing made

@@ -8,9 +8,9 @@ use Rattle.ps_diagram.specs.Letters.{letter_of}
 use Rattle.ps_diagram.proofs.Alone.{same_letter}
 use Rattle.ps_diagram.proofs.Letters.{letter_lt, letter_is, no_bit}
 use Rattle.ps_automaton.proofs.Deciding.{some_or_none}
+use Rattle.ps_machine.specs.Extracting.{IsOther, is_others}
 use Rattle.ps_machine.specs.Boards.{Board, IsFirstLetter, IsSecondLetter, SameStep, SameSteps, IsClass, IsMove}
-use Rattle.ps_machine.specs.declared.key.Key.{Key}
-use Rattle.ps_machine.specs.declared.key.Key.TheVariants.{First, Second}
+use Rattle.ps_machine.specs.declared.key.Key.TheVariants.{First}
 use Rattle.ps_machine.proofs.LeastLetters.{least_there}
 
 -- ## Letters of one player
@@ -175,20 +175,22 @@ module _ (board : Board) where
         here.1,
       )
 
+-- ## Letters of the other player
+
+pub other_over : (b : Bool) (board : Board) (x : ℕ) → IsOther b board x →
+    IsOver board.propositions (is_others b board) x
+other_over true board x other = second_over board x other
+other_over false board x other = first_over board x other
+
+pub over_other : (b : Bool) (board : Board) {x : ℕ} → IsOver board.propositions (is_others b board) x →
+    IsOther b board x
+over_other true board over = over_second board over
+over_other false board over = over_first board over
+
 -- ## Keys
 
-state_in : Key → ℕ
-state_in (First q p) = q
-state_in (Second q x) = q
-
-priority_in : Key → ℕ
-priority_in (First q p) = p
-priority_in (Second q x) = 0
-
 pub same_states : {q p r o : ℕ} → First q p ≡ First r o → q ≡ r
-unfolding state_in
-same_states e = ap state_in e
+same_states e = cc
 
 pub same_priorities : {q p r o : ℕ} → First q p ≡ First r o → p ≡ o
-unfolding priority_in
-same_priorities e = ap priority_in e
+same_priorities e = cc

@@ -111,9 +111,7 @@ module _ {order : Order} {a : AutomatonData} {mask : ℕ} {t : Table} {q : ℕ} 
       ∙ ap (λ x. Some x) any.3 in
       record {
         fit = f;
-        is_rest =
-            subst (λ l. IsRest order a mask t q l rest) any.4.0
-            (subst (λ n. IsRest order a mask t q c.letter n) any.4.1 (class_rest f of any.0 at));
+        is_rest = rw (← any.4.0, ← any.4.1) (class_rest f of any.0 at);
         heeds_second = subst (λ n. Heeds order a t n) any.4.1 (class_heeds any.0 c at);
       }
 

@@ -74,8 +74,7 @@ module _ {order : Order} {a : AutomatonData} {mask : ℕ} {s t u : Table} {rests
   of_state : AreClassesOf a mask u q c
   of_state = record {
     state = state;
-    are = subst (λ (x : Table). AreClasses x u (node_of a q) mask c.places c.list.items) same
-        (subst (λ n. AreClasses s u n mask c.places c.list.items) is made);
+    are = rw (← same, ← is) made;
   }
 
   pub known_before : (key : Key) → IsKnown order a mask t rests key → IsKnown order a mask u now key

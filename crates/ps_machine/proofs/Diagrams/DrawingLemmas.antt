@@ -1,6 +1,6 @@
 -- What the diagrams of both movers rest on: memories of vertices, used vertices, where they lead, and rows.
-use Rattle.std.proofs.Common.{◌≡◌, ◌≢◌, ℕ, zero, suc, ◌+◌, ◌-◌, ◌<◌, Bool, true, false, List, [], ◌∷◌, ◌++◌, length}
-use Rattle.std.proofs.Common.{get_or, map, Some, ap, sym, subst, ◌∙◌, arith, rules, eqb}
+use Rattle.std.proofs.Common.{◌≡◌, ◌≢◌, ℕ, ◌+◌, ◌-◌, ◌<◌, Bool, true, false, List, [], ◌∷◌, ◌++◌, length, get_or, map}
+use Rattle.std.proofs.Common.{Some, ap, sym, subst, ◌∙◌, arith, rules, eqb}
 use Rattle.std.specs.Prelude.{slice_get, slice_index, IfSome}
 use Rattle.std.specs.List.{All, AllPairs, AllZip, Contains, list_any, position}
 use Rattle.std.specs.Bool.{if◌then◌else◌}
@@ -36,7 +36,7 @@ use Rattle.ps_machine.specs.contracts.key.KeyPartialEq.TheImpl as key_eq
 use Rattle.ps_machine.proofs.GameKeys.KeyTests.{key_same}
 use Rattle.ps_machine.proofs.Diagrams.Remembering.{some_and}
 use Rattle.ps_machine.proofs.Lassos.Rounds.{Setting, one_place, within_game, map_contains}
-use Rattle.ps_machine.proofs.GameKeys.Standing.{same_some, zip_at, zip_vertex}
+use Rattle.ps_machine.proofs.GameKeys.Standing.{same_some, slice_get-left, zip_at, zip_vertex}
 
 -- ## Memories
 
@@ -80,7 +80,7 @@ stands_for {is_first} {keys} {kept} {marks} {memory} v {q} p differ m at is {w} 
   where
     by : (b : Bool) (u r : ℕ) → Some (mark_of b u r) ≡ Some (mark_of b v q) → Shares b u r w q
     by true u r e = some_nat u v e ∙ one_place keys differ v w at there
-    by false u r e = some_nat r q e
+    by false u r e = cc
 
 -- ## Used vertices
 
@@ -193,13 +193,13 @@ module _ {board : Board} {mover : ℕ} {keys : List Key} {game : ParityGame} {ce
       )
 
   pub class_at : (v : ℕ) {w q p : ℕ} → StandsAt keys v (First q p) → HasEdge game v w → ClassAt board keys q w
-  class_at v {q = q} {p} at edge =
+  class_at v {q} {p} at edge =
       let n = next_keys v (First q p) at in
       let x = letter_of_number keys (λ x. Second q x) (successors_of game v) n.1.1 n.1.2 n.2 edge.1 in
       record { letter = x.0; is_class = x.1; stands = x.2 }
 
   pub move_to : (v : ℕ) {w q x : ℕ} → StandsAt keys v (Second q x) → HasEdge game v w → MoveTo board keys q x w
-  move_to v {q = q} {x} at edge =
+  move_to v {q} {x} at edge =
       let n = next_keys v (Second q x) at in
       let y = letter_of_number keys (pair_key q x) (successors_of game v) n.1.1 n.1.2 n.2 edge.1 in
       record { letter = y.0; is_move = y.1; goes = record { stands = y.2 } }
@@ -267,12 +267,6 @@ module _ {order : Order} {a : AutomatonData} {keys : List Key} {certificate : Ce
 
 -- ## Rows
 
-pub slice_get-left : {X : Type 0} (xs ys : List X) (i : ℕ) (x : X) → slice_get xs i ≡ Some x →
-    slice_get (xs ++ ys) i ≡ Some x
-slice_get-left [] ys i x e = search rules
-slice_get-left (y ∷ xs) ys zero x e = e
-slice_get-left (y ∷ xs) ys (suc i) x e = slice_get-left xs ys i x e
-
 by_case : (P : List Row → Type 0) (b : Bool) (old more : List Row) → P old → P more → P (if b then old else more)
 by_case P true old more h g = h
 by_case P false old more h g = g
@@ -283,7 +277,7 @@ pub keeps_rows : (eq : Row → Row → Bool) {old : List Row} (row : Row) {new :
 keeps_rows eq {old} row e =
     subst (λ rows. KeepsRows old rows) (sym e)
     (by_case (λ rows. KeepsRows old rows) (list_any (eq row) old) old (old ++ row ∷ [])
-    (record { same = λ leaf r is. is }) (record { same = λ leaf r is. slice_get-left old (row ∷ []) leaf r is }))
+    (record { same = λ leaf r is. is }) (record { same = λ leaf r is. slice_get-left old (row ∷ []) leaf is }))
 
 pub all_rows : (P : Row → Type 0) (eq : Row → Row → Bool) (old : List Row) (row : Row) {new : List Row} →
     new ≡ insert_key eq old row → All P old → P row → All P new

@@ -106,13 +106,8 @@ module _ {a : AutomatonData} {keys : List Key} {is_first : Bool} {board : Board}
 
 -- ## The move of a player who moves first
 
-letter_in : Key → ℕ
-letter_in (First q p) = 0
-letter_in (Second q x) = x
-
 same_letter : {q r x y : ℕ} → Second q x ≡ Second r y → x ≡ y
-unfolding letter_in
-same_letter e = ap letter_in e
+same_letter e = cc
 
 module _ {order : Order} {a : AutomatonData} {keys : List Key} {certificate : CertificateData} {is_first : Bool}
     {kept marks : List ℕ} (plan : IsPlan order a keys certificate is_first kept marks) (first : is_first ≡ true) where
@@ -246,9 +241,7 @@ module _ {order : Order} {a : AutomatonData} {keys : List Key} {certificate : Ce
           is_leaf = is;
           is_step = ap (λ o. pair_of a (unwrap_or o (length a.steps))) there.1;
           is_placed = subst (λ n. IsPlaced a keys is_first kept rows places letter n) same (placed any.0 any.1 any.2);
-          is_entered =
-              subst (λ n. IsEntered order a keys certificate is_first kept marks n) same
-              (entered is_kept at plays l are any.0 any.1 any.2);
+          is_entered = rw (← same) (entered is_kept at plays l are any.0 any.1 any.2);
         }
 
     -- each letter that leads the rest to a leaf leads it to one for which a place is noted

@@ -1,6 +1,6 @@
 -- Names of keys, as they are written.
-use Rattle.std.proofs.Common.{◌≡◌, ◌≢◌, ℕ, zero, suc, ◌+◌, ◌^◌, ◌<◌, Bool, true, false, List, [], ◌∷◌, ◌++◌, Some}
-use Rattle.std.proofs.Common.{decimal, refl, ap, ap₂, sym, subst, ◌∙◌, arith, append_assoc}
+use Rattle.std.proofs.Common.{◌≡◌, ◌≢◌, ℕ, suc, ◌+◌, ◌^◌, ◌<◌, Bool, true, false, List, [], ◌∷◌, ◌++◌, Some}
+use Rattle.std.proofs.Common.{decimal, refl, ap, ap₂, subst, ◌∙◌, arith, append_assoc}
 use Rattle.std.specs.List.{AllPairs, range_with_len}
 use Rattle.ps_text.proofs.Decimals.{number_text}
 use Rattle.std.proofs.lemmas.List.Elements.{All-nil, All-cons, All-append, All-contains}
@@ -10,6 +10,7 @@ use Rattle.ps_label.specs.Truth.{is_in}
 use Rattle.ps_machine.specs.Boards.{Board}
 use Rattle.ps_machine.specs.KeyNames.{first_digits, digit_of}
 use Rattle.ps_machine.specs.Naming.{IsPlain, digit_if}
+use Rattle.ps_machine.proofs.GameKeys.Standing.{range-push}
 
 plain_one : (b : ℕ) → b ≢ 34 → IsPlain (b ∷ [])
 plain_one b h = All-cons (λ x. x ≢ quote) b [] h (All-nil (λ x. x ≢ quote))
@@ -50,20 +51,6 @@ ids_differ n i j d less lt e =
     let second = get_or-range_with_len 0 n j d within in
     omega (arith, first, second, e, less)
 
-range_push : (a n : ℕ) → range_with_len a (suc n) ≡ range_with_len a n ++ (a + n) ∷ []
-range_push a zero = ap (λ k. k ∷ []) (plus a)
-  where
-    plus : (k : ℕ) → k ≡ k + 0
-    plus k = omega arith
-range_push a (suc n) = ap (λ l. a ∷ l) (range_push (a + 1) n ∙ ap (λ k. range_with_len (a + 1) n ++ k ∷ []) (shift a n))
-  where
-    shift : (k m : ℕ) → k + 1 + m ≡ k + suc m
-    shift k m = omega arith
-
 pub range_more : (n : ℕ) {old new : List ℕ} → old ≡ range_with_len 0 n → new ≡ old ++ n ∷ [] →
     new ≡ range_with_len 0 (n + 1)
-range_more n e h =
-    let next : suc n ≡ n + 1 = omega arith in
-    let same : 0 + n ≡ n = omega arith in
-    h ∙ ap (λ l. l ++ n ∷ []) e ∙ ap (λ k. range_with_len 0 n ++ k ∷ []) (sym same) ∙ sym (range_push 0 n)
-    ∙ ap (λ k. range_with_len 0 k) next
+range_more n e h = h ∙ ap (λ l. l ++ n ∷ []) e ∙ range-push n

@@ -8,7 +8,7 @@ use Rattle.std.proofs.Math.Nat.{div-add-mod, mod-lt}
 use Rattle.std.proofs.Math.ListN.{get_or-append}
 use Rattle.std.proofs.lemmas.Nat.{mod-mul-add}
 use Rattle.std.proofs.lemmas.List.{length-append, get_or-append-add}
-use Rattle.std.proofs.lemmas.Bool.{cases_lt, le-ltb, lt-ltb}
+use Rattle.std.proofs.lemmas.Bool.{cases_Bool, cases_lt, le-ltb, lt-ltb}
 use Rattle.ps_label.specs.Truth.{is_in}
 use Rattle.ps_hoa.specs.Files.{is_among}
 use Rattle.ps_automaton.specs.Words.{word}
@@ -169,14 +169,10 @@ module _ {m : Behaviour} {stem lap : List ℕ} (l : IsLasso m stem lap) where
 
 -- ## Letters
 
-either_bool : (b : Bool) → (b ≡ true) ⊎ (b ≡ false)
-either_bool true = inl refl
-either_bool false = inr refl
-
 module _ {m : Behaviour} (is_machine : IsMachine m) where
   -- a letter that it reads and one that it plays have no proposition in common
   apart : (x y : ℕ) → IsInput m x → IsOutput m y → (p : ℕ) → is_in p x ≡ true → is_in p y ≡ false
-  apart x y input output p is = elim (either_bool (is_among p m.inputs)) [
+  apart x y input output p is = elim (cases_Bool (is_among p m.inputs)) [
     | inl among ↦ output.own p (is_machine.apart p among)
     | inr none ↦ cc (input.own p none)
   ]

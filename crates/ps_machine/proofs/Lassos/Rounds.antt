@@ -1,10 +1,9 @@
 -- One step of the machine is two steps through the game: to the vertex of a class, and on to that of a pair.
-use Rattle.std.proofs.Common.{◌≡◌, ◌≢◌, ℕ, ◌+◌, ◌-◌, ◌<◌, ◌≤◌, ◌⊎◌, inl, inr, List, length, map, get_or, Some, refl, ap}
-use Rattle.std.proofs.Common.{ap₂, sym, subst, ◌∙◌, arith}
-use Rattle.std.specs.Prelude.{IsSomeAnd}
+use Rattle.std.proofs.Common.{◌≡◌, ◌≢◌, ℕ, ◌+◌, ◌-◌, ◌<◌, inl, inr, List, length, map, get_or, Some, refl, ap, ap₂, sym}
+use Rattle.std.proofs.Common.{subst, ◌∙◌, arith}
+use Rattle.std.specs.Prelude.{IsSomeAnd, slice_get}
 use Rattle.std.specs.List.{AllPairs, Contains}
 use Rattle.std.proofs.lemmas.Option.{slice_get_within, get_or_from_slice_get}
-use Rattle.std.proofs.lemmas.Bool.{cases_lt}
 use Rattle.std.proofs.lemmas.List.{length-map, get_or-map}
 use Rattle.ps_game.specs.Games.{ParityGame, vertex_count, owner_of, priority_of, successors_of, HasEdge}
 use Rattle.ps_certificate.specs.Certificates.{CertificateData, Fits, IsValid, winner_of, choice_of}
@@ -20,20 +19,17 @@ use Rattle.ps_machine.proofs.LeastLetters.{none_without_least, contained_or_not}
 
 -- ## Keys
 
--- a key stands at one place
-pub one_place : (keys : List Key) → AllPairs (λ x y. x ≢ y) keys → (v w : ℕ) {k : Key} → StandsAt keys v k →
-    StandsAt keys w k → v ≡ w
-one_place keys differ v w {k} at there = by (cases_lt v w) (cases_lt w v)
+-- of different items each stands at one place
+pub one_place : {X : Type 0} (xs : List X) → AllPairs (λ x y. x ≢ y) xs → (v w : ℕ) {x : X} →
+    slice_get xs v ≡ Some x → slice_get xs w ≡ Some x → v ≡ w
+one_place xs differ v w {x} at there =
+    let below : v < w → ⊥ = λ less. apart v w less at there in
+    let above : w < v → ⊥ = λ less. apart w v less there at in
+    omega (arith, below, above)
   where
-    at_place : (u : ℕ) → StandsAt keys u k → get_or keys u k ≡ k
-    at_place u s = get_or_from_slice_get keys u k k s
-
-    by : (v < w) ⊎ (w ≤ v) → (w < v) ⊎ (v ≤ w) → v ≡ w
-    by (inl less) e =
-        absurd (differ v w k less (slice_get_within keys w k there) (at_place v at ∙ sym (at_place w there)))
-    by (inr more) (inl less) =
-        absurd (differ w v k less (slice_get_within keys v k at) (at_place w there ∙ sym (at_place v at)))
-    by (inr more) (inr fewer) = omega (arith, more, fewer)
+    apart : (u t : ℕ) → u < t → slice_get xs u ≡ Some x → slice_get xs t ≡ Some x → ⊥
+    apart u t less a b = differ u t x less (slice_get_within xs t x b)
+        (get_or_from_slice_get xs u x x a ∙ sym (get_or_from_slice_get xs t x x b))
 
 pub map_contains : (f : ℕ → Key) (letters : List ℕ) (k : ℕ) {y : ℕ} → k < length letters → get_or letters k y ≡ y →
     Contains (map f letters) (f y)

@@ -1,6 +1,6 @@
 -- A machine that reads letters on and on walks through the game, by the winner's moves, and the automaton goes with it.
 use Rattle.std.proofs.Common.{◌≡◌, ℕ, zero, suc, ◌+◌, ◌-◌, ◌%◌, ◌<◌, ◌≤◌, Bool, true, false, List, length, get_or}
-use Rattle.std.proofs.Common.{Option, Some, None, refl, ap, ap₂, sym, subst, ◌∙◌, arith, rules, add-one, add-zero, ◌==◌}
+use Rattle.std.proofs.Common.{Option, Some, refl, ap, ap₂, sym, subst, ◌∙◌, arith, rules, add-one, add-zero, ◌==◌}
 use Rattle.std.specs.Prelude.{IsTrue, slice_index}
 use Rattle.std.specs.List.{slice_get}
 use Rattle.std.proofs.Math.Nat.{le-max_left, le-max_right, le_antisymm}
@@ -29,13 +29,8 @@ use Rattle.ps_machine.proofs.Lassos.ListedPaths.{greatest_shift, list_is_path, l
 
 -- ## Plain facts
 
-number_in : Option ℕ → ℕ
-number_in None = 0
-number_in (Some n) = n
-
 same_number : {a b : ℕ} {o : Option ℕ} → o ≡ Some a → o ≡ Some b → a ≡ b
-unfolding number_in
-same_number e f = ap number_in (sym e ∙ f)
+same_number e f = cc
 
 -- the kept vertex of a memory that stands at a vertex has the vertex's state
 same_state : {first : Bool} {keys : List Key} {kept : List ℕ} {memory v q : ℕ} (p : ℕ) {u r : ℕ} (o : ℕ) →

@@ -5,7 +5,7 @@ use Rattle.std.specs.Prelude.{slice_get}
 use Rattle.std.specs.List.{All, AllPairs, Contains}
 use Rattle.std.proofs.lemmas.Bool.{cases_lt}
 use Rattle.std.proofs.lemmas.List.{get_or_default}
-use Rattle.std.proofs.lemmas.Option.{slice_get_within, slice_get-get_or, get_or_from_slice_get}
+use Rattle.std.proofs.lemmas.Option.{slice_get_within, slice_get-get_or}
 use Rattle.ps_diagram.proofs.KnownLemmas.{some_nat}
 use Rattle.ps_game.specs.Games.{ParityGame}
 use Rattle.ps_certificate.specs.Certificates.{CertificateData}
@@ -15,6 +15,7 @@ use Rattle.ps_machine.specs.Numbering.{StandsAt}
 use Rattle.ps_machine.specs.declared.key.Key.{Key}
 use Rattle.ps_machine.specs.declared.key.Key.TheVariants.{First}
 use Rattle.ps_machine.proofs.Diagrams.DrawingLemmas.{stands_for}
+use Rattle.ps_machine.proofs.Lassos.Rounds.{one_place}
 
 -- vertices share a memory just where their marks are the same
 pub shares_mark : (is_first : Bool) (v q w r : ℕ) → Shares is_first v q w r →
@@ -31,18 +32,7 @@ module _ {is_first : Bool} {keys : List Key} {used kept marks : List ℕ} (m : A
   where
     -- two memories with one mark are one
     one_memory : {i j x : ℕ} → slice_get marks i ≡ Some x → slice_get marks j ≡ Some x → i ≡ j
-    one_memory {i} {j} {x} at there = elim (cases_lt i j) [
-      | inl less ↦ absurd (apart i j less at there)
-      | inr high ↦ elim (cases_lt j i) [
-        | inl less ↦ absurd (apart j i less there at)
-        | inr low ↦ omega arith
-      ]
-    ]
-      where
-        apart : (k l : ℕ) → k < l → slice_get marks k ≡ Some x → slice_get marks l ≡ Some x → ⊥
-        apart k l less a b =
-            m.different k l 0 less (slice_get_within marks l x b) (get_or_from_slice_get marks k x 0 a
-            ∙ sym (get_or_from_slice_get marks l x 0 b))
+    one_memory {i} {j} at there = one_place marks m.different i j at there
 
     -- the memory of a used vertex stands for it, and is kept there or before
     pub memory_of : {w r : ℕ} (p : ℕ) → AllPairs (λ x y. x ≢ y) keys → Contains used w → StandsAt keys w (First r p) →

@@ -1,48 +1,34 @@
 -- A machine that is put together of right parts is one, and is that of the certificate.
 use Rattle.std.proofs.Common.{◌≡◌, ℕ, ◌+◌, ◌^◌, ◌<◌, ◌⊎◌, inl, inr, Bool, true, false, not, List, length, Some, refl}
 use Rattle.std.proofs.Common.{ap, sym, subst, ◌∙◌, arith}
-use Rattle.std.specs.Prelude.{◌&&◌, IsSomeAnd, slice_get, slice_index}
+use Rattle.std.specs.Prelude.{IsSomeAnd, slice_get, slice_index}
 use Rattle.std.specs.Option.{unwrap_or}
 use Rattle.std.proofs.lemmas.Bool.{cases_Bool, cases_lt}
 use Rattle.std.proofs.lemmas.Option.{slice_get_within, slice_get-get_or, get_or_from_slice_get}
 use Rattle.ps_label.specs.Truth.{is_in}
 use Rattle.ps_certificate.specs.Certificates.{CertificateData}
-use Rattle.ps_diagram.specs.Letters.{letter_of}
 use Rattle.ps_diagram.specs.Table.{leaf_of}
 use Rattle.ps_diagram.proofs.Cells.{true_is_not_false}
-use Rattle.ps_diagram.proofs.KnownLemmas.{some_nat}
-use Rattle.ps_diagram.proofs.Letters.{letter_lt, letter_is, no_bit}
+use Rattle.ps_diagram.proofs.Letters.{no_bit}
 use Rattle.ps_hoa.specs.Files.{is_among}
 use Rattle.ps_machine.specs.Assembling.{IsAssembled}
 use Rattle.ps_machine.specs.Behaviours.{AreSameOn, IsMachine, IsOutput}
 use Rattle.ps_machine.specs.Boards.{Board}
 use Rattle.ps_machine.specs.Drawing.{IsOwn, IsRow, IsDrawn, LeadsToRow}
-use Rattle.ps_machine.specs.Extracting.{GoesTo, StandsFor, IsPlayed, IsOther, IsStep, is_others}
+use Rattle.ps_machine.specs.Extracting.{GoesTo, IsPlayed, IsOther, IsStep, is_others}
 use Rattle.ps_machine.specs.Machines.{MachineData, IsWholeMachine, behaviour, row_of, step_of}
 use Rattle.ps_machine.specs.declared.key.Key.{Key}
-use Rattle.ps_machine.specs.declared.key.Key.TheVariants.{First, Second}
 use Rattle.ps_machine.specs.declared.machine.Row.{Row}
-use Rattle.ps_machine.proofs.GameKeys.Standing.{same_some}
-
-pub back : (b : Bool) → not b ≡ false → b ≡ true
-back true e = refl
-back false e = sym e
+use Rattle.ps_machine.proofs.Choosing.{not_false, over_other, part, part_bit, part_over}
 
 back_not : (b : Bool) → not b ≡ true → b ≡ false
 back_not true e = sym e
 back_not false e = refl
 
-letter_in : Key → ℕ
-letter_in (First q p) = 0
-letter_in (Second q x) = x
-
 -- a player who moves first plays the same letter at a vertex, whatever the other one plays
 pub one_letter : (b : Bool) (board : Board) (keys : List Key) (certificate : CertificateData) (v q x y one other : ℕ) →
     b ≡ true → IsPlayed b board keys certificate v q x one → IsPlayed b board keys certificate v q y other → one ≡ other
-unfolding letter_in
-one_letter true board keys certificate v q x y one other is s t =
-    let chosen = some_nat s.chosen t.chosen (sym s.choice ∙ t.choice) in
-    ap letter_in (same_some (sym s.stands ∙ ap (λ w. slice_get keys w) chosen ∙ t.stands))
+one_letter true board keys certificate v q x y one other is s t = cc
 one_letter false board keys certificate v q x y one other is s t = absurd (true_is_not_false (sym is))
 
 pub own_within : (b : Bool) (board : Board) (y : ℕ) → IsOwn b board y → y < 2 ^ board.propositions
@@ -56,53 +42,28 @@ own_none false board y p own is = own.own p is
 
 module _ {board : Board} {keys : List Key} {kept : List ℕ} {certificate : CertificateData} {m : MachineData}
     (a : IsAssembled board keys kept certificate m) where
-  n : ℕ
-  n = board.propositions
-
   abbrev Drawn : ℕ → Type 0
   Drawn memory =
       IsDrawn m.is_first board keys kept certificate m.store m.rows (slice_index kept memory)
       (slice_index m.nodes memory)
 
-  of_others : ℕ → ℕ → Bool
-  of_others x p = is_others m.is_first board p && is_in p x
-
   -- what the other player's propositions are in a letter
-  part : ℕ → ℕ
-  part x = letter_of n (of_others x)
+  abbrev read : ℕ → ℕ
+  read x = part board.propositions (is_others m.is_first board) x
 
-  part_bit : (x p : ℕ) → p < board.propositions → is_others m.is_first board p ≡ true → is_in p x ≡ is_in p (part x)
-  unfolding part n of_others
-  part_bit x p less is = sym (letter_is n (of_others x) p less ∙ ap (λ b. b && is_in p x) is)
-
-  part_none : (x p : ℕ) → is_others m.is_first board p ≡ false → is_in p (part x) ≡ false
-  unfolding part n of_others
-  part_none x p isnt = elim (cases_lt p n) [
-    | inl less ↦ letter_is n (of_others x) p less ∙ ap (λ b. b && is_in p x) isnt
-    | inr more ↦ no_bit n (part x) p (letter_lt n (of_others x)) more
-  ]
-
-  part_other : (x : ℕ) → IsOther m.is_first board (part x)
-  unfolding part n
-  part_other x = by m.is_first refl
-    where
-      within : part x < 2 ^ board.propositions
-      within = letter_lt n (of_others x)
-
-      by : (b : Bool) → m.is_first ≡ b → IsOther b board (part x)
-      by true is =
-          record { within = within; own = λ p first. part_none x p (ap (λ b. is_others b board p) is ∙ ap not first) }
-      by false is =
-          record { within = within; own = λ p first. part_none x p (ap (λ b. is_others b board p) is ∙ first) }
+  read_other : (x : ℕ) → IsOther m.is_first board (read x)
+  read_other x = over_other m.is_first board (part_over board.propositions (is_others m.is_first board) x)
 
   -- each letter leads to the row of its part
   leads : (memory x : ℕ) → (d : Drawn memory) → LeadsToRow m.is_first board keys kept certificate m.store m.rows
-      (slice_index m.nodes memory) (slice_index kept memory) d.state (part x)
-  leads memory x d = d.leads (part x) (part_other x)
+      (slice_index m.nodes memory) (slice_index kept memory) d.state (read x)
+  leads memory x d = d.leads (read x) (read_other x)
 
   leaf_is : (memory x : ℕ) → (d : Drawn memory) → leaf_of m.store (slice_index m.nodes memory) x ≡ Some
       (leads memory x d).leaf
-  leaf_is memory x d = d.heeds x (part x) (λ p less is. part_bit x p less is) ∙ (leads memory x d).is_leaf
+  leaf_is memory x d =
+      d.heeds x (read x) (λ p less is. sym (part_bit board.propositions (is_others m.is_first board) x p less is))
+      ∙ (leads memory x d).is_leaf
 
   step_is : (memory x : ℕ) {leaf : ℕ} {row : Row} → leaf_of m.store (slice_index m.nodes memory) x ≡ Some leaf →
       slice_get m.rows leaf ≡ Some row → step_of m memory x ≡ row
@@ -116,7 +77,7 @@ module _ {board : Board} {keys : List Key} {kept : List ℕ} {certificate : Cert
   outputs_only y own = record {
     within = subst (λ k. y < 2 ^ k) (sym a.as_many) (own_within m.is_first board y own);
     own = λ p none. elim (cases_lt p board.propositions) [
-      | inl less ↦ own_none m.is_first board y p own (back (is_others m.is_first board p)
+      | inl less ↦ own_none m.is_first board y p own (not_false (is_others m.is_first board p)
           (sym (a.roles.played.are p less) ∙ none))
       | inr more ↦ no_bit board.propositions y p (own_within m.is_first board y own) more
     ];
@@ -135,7 +96,7 @@ module _ {board : Board} {keys : List Key} {kept : List ℕ} {certificate : Cert
       let one = leads memory x d in
       let other = leads memory y d in
       ap (λ (r : Row). r.letter) (step_is memory x (leaf_is memory x d) one.is_row)
-      ∙ one_letter m.is_first board keys certificate (slice_index kept memory) d.state (part x) (part y) one.row.letter
+      ∙ one_letter m.is_first board keys certificate (slice_index kept memory) d.state (read x) (read y) one.row.letter
       other.row.letter is one.is_right.played other.is_right.played
       ∙ sym (ap (λ (r : Row). r.letter) (step_is memory y (leaf_is memory y d) other.is_row))
 
@@ -220,11 +181,8 @@ module _ {board : Board} {keys : List Key} {kept : List ℕ} {certificate : Cert
         priority = d.priority;
         is_kept = slice_get-get_or kept memory 0 (omega (arith, within, a.drawn.many));
         stands = d.stands;
-        played =
-            subst (λ (r : Row). IsPlayed m.is_first board keys certificate v d.state x r.letter) step l.is_right.played;
+        played = rw (← step) l.is_right.played;
         entered = l.is_right.entered;
         goes = subst (λ (r : Row). GoesTo keys board d.state (x + r.letter) l.is_right.entered) step l.is_right.goes;
-        next =
-            subst (λ (r : Row). StandsFor m.is_first keys kept r.memory l.is_right.entered
-            (board.auto.next d.state (x + r.letter))) step l.is_right.next;
+        next = rw (← step) l.is_right.next;
       }

@@ -21,12 +21,12 @@ use Rattle.ps_machine.specs.Solving.{winner}
 use Rattle.ps_machine.specs.declared.key.Key.{Key}
 use Rattle.ps_machine.specs.declared.key.Key.TheVariants.{First}
 use Rattle.ps_machine.specs.declared.machine.Row.{Row}
-use Rattle.ps_machine.proofs.Choosing.{class_there, first_over, move_there, over_first, over_second, part, part_itself}
-use Rattle.ps_machine.proofs.Choosing.{part_over, part_same, same_priorities, same_states, second_over, IsOver}
+use Rattle.ps_machine.proofs.Choosing.{not_false, other_over, over_other, class_there, move_there, part, part_itself}
+use Rattle.ps_machine.proofs.Choosing.{part_over, part_same, same_priorities, same_states}
 use Rattle.ps_machine.proofs.Diagrams.DrawingLemmas.{class_at, move_at, move_to, to_class_of, to_pair_of, used_more}
 use Rattle.ps_machine.proofs.Machines.Following.{used_first}
 use Rattle.ps_machine.proofs.Machines.KeptMemories.{all_kept, each_kept, memory_of, some_kept}
-use Rattle.ps_machine.proofs.Machines.MachineLemmas.{back, one_letter, own_none, own_within}
+use Rattle.ps_machine.proofs.Machines.MachineLemmas.{one_letter, own_none, own_within}
 use Rattle.ps_machine.proofs.Lassos.Rounds.{Setting, first_owner, second_owner, within_game}
 use Rattle.ps_machine.proofs.GameKeys.Standing.{one_state, same_some, stand-within}
 use Rattle.ps_machine.proofs.Machines.PartsThere.{listed_there, used_there, memories_there}
@@ -147,15 +147,6 @@ module _ {board : Board} {mover : ℕ} {keys : List Key} {game : ParityGame} {ce
 
 -- ## The machine
 
-other_over : (b : Bool) (board : Board) (x : ℕ) → IsOther b board x → IsOver board.propositions (is_others b board) x
-other_over true board x other = second_over board x other
-other_over false board x other = first_over board x other
-
-pub over_other : (b : Bool) (board : Board) {x : ℕ} → IsOver board.propositions (is_others b board) x →
-    IsOther b board x
-over_other true board {x} over = over_second board over
-over_other false board {x} over = over_first board over
-
 module _ (names : List (List ℕ)) {board : Board} {mover : ℕ} {keys : List Key} {game : ParityGame}
     {certificate : CertificateData} (few : length names ≤ 64) (are_names : AreNames names)
     (as_many : length names ≡ board.propositions) (setting : Setting board mover keys game certificate) {first : Bool}
@@ -244,7 +235,8 @@ module _ (names : List (List ℕ)) {board : Board} {mover : ℕ} {keys : List Ke
     outputs_only y own = record {
       within = subst (λ k. y < 2 ^ k) (sym as_many) (own_within first board y own);
       own = λ p none. elim (cases_lt p board.propositions) [
-        | inl less ↦ own_none first board y p own (back (is_others first board p) (sym (outputs.1.are p less) ∙ none))
+        | inl less ↦ own_none first board y p own (not_false (is_others first board p)
+            (sym (outputs.1.are p less) ∙ none))
         | inr more ↦ no_bit board.propositions y p (own_within first board y own) more
       ];
     }

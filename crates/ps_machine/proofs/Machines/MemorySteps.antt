@@ -7,7 +7,7 @@ use Rattle.std.proofs.lemmas.Bool.{eqb-true}
 use Rattle.std.proofs.lemmas.List.{get_or_append_left, get_or_push, length_push}
 use Rattle.std.proofs.lemmas.List.Elements.{All-nil, All-push}
 use Rattle.std.proofs.lemmas.List.Quantifiers.{all_pairs_push}
-use Rattle.std.proofs.lemmas.Option.{slice_get_within, slice_get-get_or, get_or_from_slice_get}
+use Rattle.std.proofs.lemmas.Option.{slice_get_within, slice_get-get_or}
 use Rattle.std.proofs.lemmas.Map.Views.{Contains-from_any, list_any-from_Contains}
 use Rattle.indexmap.specs.IndexSet.{insert_key}
 use Rattle.ps_machine.specs.Drawing.{AreMemories, HasMemory, IsMemory, KeepsAt, Stays, Grows, mark_of}
@@ -16,25 +16,11 @@ use Rattle.ps_machine.specs.declared.key.Key.{Key}
 use Rattle.ps_machine.specs.declared.key.Key.TheVariants.{First}
 use Rattle.ps_machine.proofs.GameKeys.Exploring.{less_or_last}
 use Rattle.ps_machine.proofs.Machines.Following.{different_push, inserted}
-use Rattle.ps_machine.proofs.GameKeys.Standing.{one_state}
+use Rattle.ps_machine.proofs.GameKeys.Standing.{one_state, slice_get-left, slice_get-seam}
 
 not_not : (b : Bool) → not (not b) ≡ b
 not_not true = refl
 not_not false = refl
-
--- what stands at a place of a list stands there in a longer one
-marked_left : (marks : List ℕ) (mark memory : ℕ) {x : ℕ} → slice_get marks memory ≡ Some x →
-    slice_get (marks ++ mark ∷ []) memory ≡ Some x
-marked_left marks mark memory {x} at =
-    let within = slice_get_within marks memory x at in
-    slice_get-get_or (marks ++ mark ∷ []) memory x (omega (arith, within, length_push marks mark))
-    ∙ ap (λ n. Some n) (get_or_append_left marks (mark ∷ []) x memory within
-    ∙ get_or_from_slice_get marks memory x x at)
-
-marked_last : (marks : List ℕ) {mark : ℕ} → slice_get (marks ++ mark ∷ []) (length marks) ≡ Some mark
-marked_last marks {mark} =
-    slice_get-get_or (marks ++ mark ∷ []) (length marks) 0 (omega (arith, length_push marks mark))
-    ∙ ap (λ n. Some n) (get_or_push marks mark 0 (length marks) refl)
 
 -- ## One memory
 
@@ -79,10 +65,7 @@ module _ (is_first : Bool) (keys : List Key) (used : List ℕ) where
       }))
 
   all_less : (kept : List ℕ) (n : ℕ) → All (λ v. v < n) kept → All (λ v. v < n + 1) kept
-  all_less kept n below i d within = less (get_or kept i d) (below i d within)
-    where
-      less : (v : ℕ) → v < n → v < n + 1
-      less v h = omega (arith, h)
+  all_less kept n below i d within = (let less = below i d within in omega (arith, less))
 
   -- a vertex without a memory: it is not used, or the first player does not move there
   pub below_skip : {kept marks : List ℕ} {n : ℕ} → ((q p : ℕ) → Contains used n → StandsAt keys n (First q p) → ⊥) →
@@ -114,16 +97,24 @@ module _ (is_first : Bool) (keys : List Key) (used : List ℕ) where
 
   module _ {kept marks : List ℕ} {n : ℕ} (q p : ℕ) (m : AreMemoriesBelow kept marks n)
       (stands : StandsAt keys n (First q p)) (is_used : Contains used n) where
-    kept_left : (memory : ℕ) → memory < length kept → get_or (kept ++ n ∷ []) memory 0 ≡ get_or kept memory 0
+    abbrev new_kept : List ℕ
+    new_kept = kept ++ n ∷ []
+
+    abbrev new_mark : ℕ
+    new_mark = mark_of is_first n q
+
+    abbrev new_marks : List ℕ
+    new_marks = marks ++ new_mark ∷ []
+
+    kept_left : (memory : ℕ) → memory < length kept → get_or new_kept memory 0 ≡ get_or kept memory 0
     kept_left memory within = get_or_append_left kept (n ∷ []) 0 memory within
 
-    kept_last : get_or (kept ++ n ∷ []) (length kept) 0 ≡ n
+    kept_last : get_or new_kept (length kept) 0 ≡ n
     kept_last = get_or_push kept n 0 (length kept) refl
 
     -- what is found at each vertex, where it was found before and is there now
     found_more : (kept' marks' : List ℕ) → ((v x : ℕ) → HasMemory kept marks v x → HasMemory kept' marks' v x) →
-        HasMemory kept' marks' n (mark_of is_first n q) →
-        (v r l : ℕ) → v < n + 1 → Contains used v → StandsAt keys v (First r l) →
+        HasMemory kept' marks' n new_mark → (v r l : ℕ) → v < n + 1 → Contains used v → StandsAt keys v (First r l) →
         HasMemory kept' marks' v (mark_of is_first v r)
     found_more kept' marks' still here v r l less used_v at = elim (less_or_last v n less) [
       | inl before ↦ still v (mark_of is_first v r) (m.found v r l before used_v at)
@@ -133,27 +124,23 @@ module _ (is_first : Bool) (keys : List Key) (used : List ℕ) where
           (subst (λ s. HasMemory kept' marks' n (mark_of is_first n s)) same here)
     ]
 
-    has_left : (v x : ℕ) → HasMemory kept marks v x → HasMemory (kept ++ n ∷ [])
-        (marks ++ mark_of is_first n q ∷ []) v x
+    has_left : (v x : ℕ) → HasMemory kept marks v x → HasMemory new_kept new_marks v x
     has_left v x h =
         let within : h.memory < length kept = omega (arith, slice_get_within marks h.memory x h.is_marked, m.many) in
         record {
           memory = h.memory;
-          is_marked = marked_left marks (mark_of is_first n q) h.memory h.is_marked;
+          is_marked = slice_get-left marks (new_mark ∷ []) h.memory h.is_marked;
           behind = subst (λ w. w ≤ v) (sym (kept_left h.memory within)) h.behind;
         }
 
-    has_last : HasMemory (kept ++ n ∷ []) (marks ++ mark_of is_first n q ∷ []) n (mark_of is_first n q)
+    has_last : HasMemory new_kept new_marks n new_mark
     has_last = record {
       memory = length kept;
-      is_marked =
-          subst (λ i. slice_get (marks ++ mark_of is_first n q ∷ []) i ≡ Some (mark_of is_first n q)) m.many
-          (marked_last marks);
+      is_marked = subst (λ i. slice_get new_marks i ≡ Some new_mark) m.many (slice_get-seam marks);
       behind = omega (arith, kept_last);
     }
 
-    memory_left : (memory : ℕ) → memory < length kept → IsMemory is_first keys used (kept ++ n ∷ [])
-        (marks ++ mark_of is_first n q ∷ []) memory
+    memory_left : (memory : ℕ) → memory < length kept → IsMemory is_first keys used new_kept new_marks memory
     memory_left memory within =
         let old = m.each memory within in
         let same = sym (kept_left memory within) in
@@ -162,25 +149,19 @@ module _ (is_first : Bool) (keys : List Key) (used : List ℕ) where
           priority = old.priority;
           stands = subst (λ w. StandsAt keys w (First old.state old.priority)) same old.stands;
           is_used = subst (λ w. Contains used w) same old.is_used;
-          mark =
-              subst (λ w. slice_get (marks ++ mark_of is_first n q ∷ []) memory ≡ Some (mark_of is_first w old.state))
-              same (marked_left marks (mark_of is_first n q) memory old.mark);
+          mark = rw (← same) (slice_get-left marks (new_mark ∷ []) memory old.mark);
         }
 
-    memory_last : IsMemory is_first keys used (kept ++ n ∷ []) (marks ++ mark_of is_first n q ∷ []) (length kept)
+    memory_last : IsMemory is_first keys used new_kept new_marks (length kept)
     memory_last = record {
       state = q;
       priority = p;
       stands = subst (λ w. StandsAt keys w (First q p)) (sym kept_last) stands;
       is_used = subst (λ w. Contains used w) (sym kept_last) is_used;
-      mark =
-          subst (λ w. slice_get (marks ++ mark_of is_first n q ∷ []) (length kept) ≡ Some (mark_of is_first w q))
-          (sym kept_last)
-          (subst (λ i. slice_get (marks ++ mark_of is_first n q ∷ []) i ≡ Some (mark_of is_first n q)) m.many
-          (marked_last marks));
+      mark = rw (kept_last, ← m.many) (slice_get-seam marks);
     }
 
-    below_stays : Contains marks (mark_of is_first n q) → AreMemoriesBelow kept marks (n + 1)
+    below_stays : Contains marks new_mark → AreMemoriesBelow kept marks (n + 1)
     below_stays came = record {
       many = m.many;
       rising = m.rising;
@@ -190,25 +171,23 @@ module _ (is_first : Bool) (keys : List Key) (used : List ℕ) where
       found = found_more kept marks (λ v x h. h) (came_has m came);
     }
 
-    below_grows : (Contains marks (mark_of is_first n q) → ⊥) →
-        AreMemoriesBelow (kept ++ n ∷ []) (marks ++ mark_of is_first n q ∷ []) (n + 1)
+    below_grows : (Contains marks new_mark → ⊥) → AreMemoriesBelow new_kept new_marks (n + 1)
     below_grows comes = record {
-      many = omega (arith, length_push marks (mark_of is_first n q), length_push kept n, m.many);
+      many = omega (arith, length_push marks new_mark, length_push kept n, m.many);
       rising = all_pairs_push (λ v w. v < w) kept n m.rising m.below;
-      different = different_push marks (mark_of is_first n q) comes m.different;
+      different = different_push marks new_mark comes m.different;
       below = All-push (λ v. v < n + 1) kept n (all_less kept n m.below) (omega arith);
       each = λ memory within. elim (less_or_last memory (length kept) (omega (arith, within, length_push kept n))) [
         | inl before ↦ memory_left memory before
-        | inr last ↦ subst (λ i. IsMemory is_first keys used (kept ++ n ∷ []) (marks ++ mark_of is_first n q ∷ []) i)
-            (sym last) memory_last
+        | inr last ↦ subst (λ i. IsMemory is_first keys used new_kept new_marks i) (sym last) memory_last
       ];
-      found = found_more (kept ++ n ∷ []) (marks ++ mark_of is_first n q ∷ []) has_left has_last;
+      found = found_more new_kept new_marks has_left has_last;
     }
 
-    pub below_more : {kept' marks' : List ℕ} → KeepsAt kept marks n (mark_of is_first n q) kept' marks' →
+    pub below_more : {kept' marks' : List ℕ} → KeepsAt kept marks n new_mark kept' marks' →
         AreMemoriesBelow kept' marks' (n + 1)
-    below_more {marks'} (Stays came k l) = rw (k, l) (below_stays came)
-    below_more {marks'} (Grows comes k l) = rw (k, l) (below_grows comes)
+    below_more (Stays came k l) = rw (k, l) (below_stays came)
+    below_more (Grows comes k l) = rw (k, l) (below_grows comes)
 
   pub all_below : {kept marks : List ℕ} {n : ℕ} → length keys ≤ n → AreMemoriesBelow kept marks n →
       AreMemories is_first keys used kept marks

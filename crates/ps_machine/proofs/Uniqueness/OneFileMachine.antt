@@ -101,8 +101,7 @@ module _ (order : Order) {file : FileData} {chain : Chain} {a b : Auto} (is : Is
           let steps = alike order file chain too is q (s.class + z) low (sum_within before class_first second) in (
             second,
             record {
-              stands = subst (StandsAt keys s.chosen)
-                  (ap₂ (λ (r p : ℕ). First r p) steps.next steps.priority) there.1.stands;
+              stands = rw (← ap₂ (λ (r p : ℕ). First r p) steps.next steps.priority) there.1.stands;
             },
           )
 

@@ -301,13 +301,7 @@ module _ (board : Board) (mover : ℕ) where
   one_game_of one other game same is too = (keys_same, games_same)
     where
       count_same : vertex_count game ≡ vertex_count same
-      count_same = elim (cases_lt (vertex_count game) (vertex_count same)) [
-        | inl less ↦ absurd (not_fewer one other game same is too less)
-        | inr ge ↦ elim (cases_lt (vertex_count same) (vertex_count game)) [
-          | inl less ↦ absurd (not_fewer other one same game too is less)
-          | inr le ↦ omega (arith, ge, le)
-        ]
-      ]
+      count_same = omega (arith, not_fewer one other game same is too, not_fewer other one same game too is)
 
       at : Alike one other game same (vertex_count game)
       at = alike one other game same is too (vertex_count game) (omega arith) (omega (arith, count_same))

@@ -3,7 +3,7 @@ use Rattle.std.proofs.Common.{◌≡◌, ◌≢◌, inl, inr, ℕ, ◌+◌, ◌<
 use Rattle.std.proofs.Common.{sym, subst, ◌∙◌, arith}
 use Rattle.std.specs.Prelude.{slice_get}
 use Rattle.std.specs.List.{All, AllPairs, Contains}
-use Rattle.std.proofs.lemmas.Bool.{cases_Bool, cases_lt}
+use Rattle.std.proofs.lemmas.Bool.{cases_Bool}
 use Rattle.std.proofs.lemmas.List.Elements.{All-contains}
 use Rattle.std.proofs.lemmas.Option.{slice_get_within, get_or_from_slice_get}
 use Rattle.ps_game.specs.Games.{ParityGame}
@@ -23,11 +23,10 @@ use Rattle.ps_machine.specs.Numbering.{StandsAt}
 use Rattle.ps_machine.specs.declared.key.Key.{Key}
 use Rattle.ps_machine.specs.declared.key.Key.TheVariants.{First, Second}
 use Rattle.ps_machine.proofs.BoardLetters.{neither_before, one_least}
-use Rattle.ps_machine.proofs.Choosing.{part, part_bit, part_over, steps_sym, steps_trans}
+use Rattle.ps_machine.proofs.Choosing.{part, part_bit, part_over, steps_sym, steps_trans, over_other}
 use Rattle.ps_machine.proofs.Machines.KeptMemories.{mark_shares, shares_mark}
 use Rattle.ps_machine.proofs.Machines.Listing.{one_listed}
 use Rattle.ps_machine.proofs.Machines.MachineLemmas.{one_letter}
-use Rattle.ps_machine.proofs.Machines.MachineThere.{over_other}
 use Rattle.ps_machine.proofs.Uniqueness.Rising.{same_numbers}
 use Rattle.ps_machine.proofs.Lassos.Rounds.{one_place}
 use Rattle.ps_machine.proofs.GameKeys.Standing.{one_state}
@@ -101,13 +100,10 @@ module _ (first : Bool) (keys : List Key) (game : ParityGame) (certificate : Cer
 
   pub one_memory : {kept : List ℕ} {i j w r : ℕ} → AllPairs (λ v w. v < w) kept → All Kept kept →
       StandsFor first keys kept i w r → StandsFor first keys kept j w r → i ≡ j
-  one_memory {kept} {i} {j} {w} {r} rises each a b = elim (cases_lt i j) [
-    | inl less ↦ absurd (not_lower rises each a b less)
-    | inr high ↦ elim (cases_lt j i) [
-      | inl less ↦ absurd (not_lower rises each b a less)
-      | inr low ↦ omega (arith, high, low)
-    ]
-  ]
+  one_memory {i} {j} rises each a b =
+      let below : i < j → ⊥ = λ less. not_lower rises each a b less in
+      let above : j < i → ⊥ = λ less. not_lower rises each b a less in
+      omega (arith, below, above)
 
 -- ## Letters
 

@@ -1,5 +1,4 @@
 use Rattle.std.proofs.Common.{nat_eq, ap₂, ◌∙◌}
-use Rattle.std.proofs.lemmas.Result.{IfOk-weaker}
 use Rattle.ps_machine.proofs.Machines.Extracted.{plan_is}
 use Rattle.ps_machine.proofs.extracting.machine_of_certificate.Goals as goal
 
@@ -9,8 +8,3 @@ machine_by-requires-clause-plan c =
     plan_is c.requires.game c.requires.fits c.requires.valid
     (ap₂ nat_eq (c.number.ensures.number ∙ c.mover.ensures.mover) c.winner.ensures) c.game.ensures.game kept.1
     c.as_slice.ensures.keys kept.2
-
-pub returns-clause-machine : goal.returns-clause-machine
-returns-clause-machine c =
-    IfOk-weaker c.machine_by.result _ _ (λ m of. of c.args.game.now.game.game c.requires.game)
-    c.machine_by.ensures.machine

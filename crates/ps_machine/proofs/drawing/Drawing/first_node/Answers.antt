@@ -1,6 +1,5 @@
 use Rattle.std.proofs.Common.{ℕ, List, sym, subst}
 use Rattle.ps_diagram.specs.Reached.{AreLeaves}
-use Rattle.ps_diagram.specs.Table.{Table, Keeps}
 use Rattle.ps_machine.specs.BuiltBoards.{board_of}
 use Rattle.ps_machine.specs.Drawing.{IsOwn}
 use Rattle.ps_machine.specs.Planning.{IsDrawnBy}
@@ -56,9 +55,6 @@ relabel_from-requires-clause-within c =
     c.in_ok-leaves.ensures in
     renamed_within t c.rest_of-rest.result c.deref-3.ensures.value
     (all_noted c.requires.plan c.requires.turn c.requires.kept at plays l are c.in_ok-place_rows.ensures.placed)
-
-pub returns-clause-keeps : goal.returns-clause-keeps
-returns-clause-keeps c = rw (← c.place_rows.ensures.store) c.relabel_from.ensures.keeps
 
 pub returns-clause-drawn : goal.returns-clause-drawn
 returns-clause-drawn c =

@@ -1,12 +1,9 @@
 use Rattle.std.proofs.Common.{ℕ, List, refl, subst, sym, take}
-use Rattle.std.specs.List.{All, AllZip}
+use Rattle.std.specs.List.{AllZip}
 use Rattle.std.proofs.lemmas.List.{take_all}
 use Rattle.ps_diagram.specs.declared.classes.Class.{Class}
-use Rattle.ps_machine.specs.Boards.{IsClass}
 use Rattle.ps_machine.specs.BuiltBoards.{board_of}
-use Rattle.ps_machine.specs.Drawing.{IsRow, KeepsRows}
-use Rattle.ps_machine.specs.Planning.{IsRestBy}
-use Rattle.ps_machine.specs.declared.machine.Row.{Row}
+use Rattle.ps_machine.specs.Drawing.{IsRow}
 use Rattle.ps_machine.specs.contracts.machine.RowPartialEq.TheImpl as row_eq
 use Rattle.ps_machine.proofs.Diagrams.DrawingLemmas.{all_rows, keeps_rows, keeps_rows_same, keeps_rows_trans}
 use Rattle.ps_machine.proofs.Diagrams.SecondDrawing.{Names, answer_row, named_next}
@@ -23,25 +20,6 @@ loop-class-init c =
       rows = c.requires.rows;
       values = subst (λ (l : List ℕ). AllZip N (take 0 c.args.classes.now) l) (sym c.new-values.ensures.items) tt;
     }
-
-pub row_of_class-requires-clause-class : goal.row_of_class-requires-clause-class
-row_of_class-requires-clause-class c =
-    let plan = c.args.plan.now in
-    subst (λ (k : Class). IsClass (board_of plan.order plan.automaton.now) c.args.state k.letter)
-    (sym c.class-item.is) (c.requires.classes c.loop-class.class-index c.class-item.result c.loop-class-test.true)
-
-pub row_of_class-requires-clause-rest : goal.row_of_class-requires-clause-rest
-row_of_class-requires-clause-rest c =
-    rw c.class-item.is (c.requires.rests c.loop-class.class-index c.class-item.result c.loop-class-test.true)
-
-pub returns-in_err-place-clause-same_rows : goal.returns-in_err-place-clause-same_rows
-returns-in_err-place-clause-same_rows c = rw c.in_err-place.ensures.err c.loop-class.invariant.same_rows
-
-pub returns-in_err-place-clause-rows : goal.returns-in_err-place-clause-rows
-returns-in_err-place-clause-rows c =
-    let plan = c.args.plan.now in
-    subst (λ (l : List Row). All (IsRow plan.moves_first (board_of plan.order plan.automaton.now)
-    plan.memories.now.kept.items) l) (sym c.in_err-place.ensures.err) c.loop-class.invariant.rows
 
 pub returns-in_err-push-clause-same_rows : goal.returns-in_err-push-clause-same_rows
 returns-in_err-push-clause-same_rows c =
@@ -87,3 +65,7 @@ returns-clause-values c =
     plan.certificate.now c.args.state c.loop-class.self.rows.keys in
     subst (λ (l : List Class). AllZip N l c.loop-class.values.items)
     (take_all c.loop-class.class-index c.args.classes.now c.loop-class-test.false) c.loop-class.invariant.values
+
+pub row_of_class-requires-clause-rest : goal.row_of_class-requires-clause-rest
+row_of_class-requires-clause-rest c =
+    rw c.class-item.is (c.requires.rests c.loop-class.class-index c.class-item.result c.loop-class-test.true)

@@ -1,8 +1,6 @@
 use Rattle.std.proofs.Common.{List, sym, subst}
 use Rattle.std.specs.List.{All}
-use Rattle.ps_diagram.specs.Table.{Table, Keeps}
 use Rattle.ps_diagram.specs.declared.classes.Class.{Class}
-use Rattle.ps_machine.specs.Boards.{IsClass}
 use Rattle.ps_machine.specs.Drawing.{IsDrawn}
 use Rattle.ps_machine.specs.Planning.{IsDrawnBy, IsRestBy, NamesAnswerBy, board_by}
 use Rattle.ps_machine.proofs.BoardSteps.{class_rests}
@@ -55,9 +53,6 @@ relabel_from-requires-clause-within c letter within =
     c.requires.divided.fit of
     (named_as (λ (class : Class) value. NamesAnswerBy plan rows c.args.state class.letter value) c.deref.ensures.value
     c.deref-2.ensures.value c.in_ok-values.ensures.values) letter
-
-pub returns-clause-keeps : goal.returns-clause-keeps
-returns-clause-keeps c = rw (← c.rows_of_classes.ensures.store) c.relabel_from.ensures.keeps
 
 pub returns-clause-drawn : goal.returns-clause-drawn
 returns-clause-drawn c =
