@@ -17,7 +17,7 @@ table_of-numbers-requires c =
     let chain = chain_data c.in-Some.chain in
     let is : chain_of file.condition ≡ Some chain = ap chain_of (sym c.condition-2.ensures.value)
     ∙ sym c.in_ok-chain.ensures ∙ ap (option_map chain_data) c.in-Some.is in
-    chain_sets_below file.sets file.condition chain sound.sets sound.condition is
+    chain_sets_below file.sets file.condition sound.sets sound.condition is
 
 pub drafted-requires : goal.drafted-requires
 drafted-requires c =
@@ -28,7 +28,7 @@ drafted-requires c =
     ∙ sym c.in_ok-chain.ensures ∙ ap (option_map chain_data) c.in-Some.is in
     record {
       levels = record {
-        few = chain_sets_below file.sets file.condition chain sound.sets sound.condition is;
+        few = chain_sets_below file.sets file.condition sound.sets sound.condition is;
         table = c.table_of-numbers.ensures;
       };
     }
@@ -41,7 +41,7 @@ returns-clause-refused c =
     ∙ sym c.in_ok-chain.ensures ∙ ap (option_map chain_data) c.in-Some.is in
     let plain : has_complement file.condition ≡ false = ap has_complement (sym c.condition.ensures.value)
     ∙ sym c.is_complemented.ensures ∙ c.if-is_complemented.false in
-    IfErr-weaker c.drafted.result (IsDraftFault file) (IsRefused file) (draft_refused file chain plain is)
+    IfErr-weaker c.drafted.result (IsDraftFault file) (IsRefused file) (draft_refused file plain is)
     c.drafted.ensures.refused
 
 pub returns-clause-admitted : goal.returns-clause-admitted
@@ -54,15 +54,12 @@ returns-clause-admitted c =
     let plain : has_complement file.condition ≡ false = ap has_complement (sym c.condition.ensures.value)
     ∙ sym c.is_complemented.ensures ∙ c.if-is_complemented.false in
     let IsDrafted : Draft → Type 0 = λ d. IsDraft file chain d.pairs.steps.keys d.pairs.store d.nodes.items in
-    IfOk-weaker c.drafted.result IsDrafted (λ d. IsAdmitted file)
-    (λ d drafted. record {
+    IfOk-weaker c.drafted.result IsDrafted (λ d. IsAdmitted file) (λ d drafted. record {
       plain = plain;
       chain = chain;
       is_chain = is;
-      deterministic =
-          draft_is_deterministic file chain d.pairs.steps.keys d.pairs.store d.nodes.items sound drafted;
-    })
-    c.drafted.ensures.draft
+      deterministic = draft_is_deterministic sound drafted;
+    }) c.drafted.ensures.draft
 
 pub returns-clause-draft : goal.returns-clause-draft
 returns-clause-draft c =

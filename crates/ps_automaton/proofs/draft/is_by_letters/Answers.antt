@@ -15,4 +15,4 @@ returns-in-Letter c = λ _ file sound.
     ap (λ (es : List Edge). slice_get es 0) (sym c.deref.ensures.value) ∙ sym c.in-Some.ensures.value in
     let at : slice_get (map edge_data row.edges.items) 0 ≡ Some (edge_data e) =
     slice_get-map edge_data row.edges.items 0 ∙ ap (option_map edge_data) first in
-    by_letters_of file (row_data row) sound (edge_data e) _ at (ap guard_data c.in-Letter.is)
+    by_letters_of sound _ at (ap guard_data c.in-Letter.is)

@@ -14,8 +14,7 @@ pub node_of_union-requires-clause-within : goal.node_of_union-requires-clause-wi
 node_of_union-requires-clause-within c = λ letter small.
     let file = c.args.guards.now.file.now in
     let letters = c.in_ok-union.ensures.keeps.propositions ∙ c.requires.ready.letters in
-    leaf_within file (row_data c.args.guards.now.row.now) _ c.in_ok-union.union.targets c.joined.new.store
-    c.in_ok-union.union.node c.in_ok-union.ensures.union letter (subst (λ n. letter < 2 ^ n) letters small)
+    leaf_within c.in_ok-union.ensures.union letter (subst (λ n. letter < 2 ^ n) letters small)
 
 pub returns-clause-grows : goal.returns-clause-grows
 returns-clause-grows c =
@@ -26,9 +25,7 @@ returns-clause-grows c =
     target.state ≤ file.states = λ k target e.
     let h = union.joined.within k target e in omega (arith, h) in
     record {
-      keeps =
-          keeps_both c.args.pairs.now.store c.joined.new.store c.node_of_union.new.pairs.store
-          c.in_ok-union.ensures.keeps made.keeps;
+      keeps = keeps_both c.in_ok-union.ensures.keeps made.keeps;
       extends = made.extends;
       steps = made.within file.states low c.requires.steps;
     }
@@ -43,12 +40,10 @@ returns-clause-node c = λ q of_state.
     let new = c.node_of_union.new.pairs.steps.keys in
     let all_edges : length c.args.guards.now.row.now.edges.items ≡ length row.edges =
     sym (length-map c.args.guards.now.row.now.edges.items edge_data) in
-    let union =
-    subst (λ n. IsUnion file row n targets c.joined.new.store c.in_ok-union.union.node) all_edges
+    let union = subst (λ n. IsUnion file row n targets c.joined.new.store c.in_ok-union.union.node) all_edges
     c.in_ok-union.ensures.union in
     let low : (k : ℕ) (target : Target) → slice_get targets k ≡ Some target → target.state ≤ file.states = λ k target e.
     let h = union.joined.within k target e in omega (arith, h) in
     let steps = made.within file.states low c.requires.steps in
-    steps_of_row file c.requires.ready.sound row c.requires.ready.row chain c.requires.levels.few targets
-    (leaf_of c.joined.new.store c.in_ok-union.union.node) union.joined new steps made.leaf.0 made.leaf.1
-    q of_state c.node_of_union.new.pairs.store c.in_ok-node_of_union.field-0 made.held made.leaf.2
+    steps_of_row c.requires.ready.sound c.requires.ready.row c.requires.levels.few union.joined steps made.leaf.1
+    q of_state c.node_of_union.new.pairs.store made.held made.leaf.2

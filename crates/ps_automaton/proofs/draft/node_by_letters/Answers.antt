@@ -16,9 +16,7 @@ pub returns-clause-grows : goal.returns-clause-grows
 returns-clause-grows c =
     let file = c.args.guards.now.file.now in
     let row = row_data c.args.guards.now.row.now in
-    let joined =
-    joined_by_letters file row c.requires.ready.row c.requires.by_letters c.in_ok-targets.targets.items
-    c.in_ok-targets.ensures in
+    let joined = joined_by_letters c.requires.ready.row c.requires.by_letters c.in_ok-targets.ensures in
     let low : (k : ℕ) (target : Target) → slice_get c.deref.result.now k ≡ Some target →
     target.state ≤ file.states = λ k target e.
     let h =
@@ -39,8 +37,7 @@ returns-clause-node c = λ q of_state.
     let places = c.in_ok-places.places.items in
     let steps = c.places_of.new.steps.keys in
     let n = length file.names in
-    let joined =
-    joined_by_letters file row c.requires.ready.row c.requires.by_letters targets c.in_ok-targets.ensures in
+    let joined = joined_by_letters c.requires.ready.row c.requires.by_letters c.in_ok-targets.ensures in
     let low : (k : ℕ) (target : Target) → slice_get c.deref.result.now k ≡ Some target →
     target.state ≤ file.states = λ k target e.
     let h =
@@ -48,8 +45,7 @@ returns-clause-node c = λ q of_state.
     omega (arith, h) in
     let all_steps = c.in_ok-places.ensures.within file.states low c.requires.steps in
     let are_places : ArePlaces chain targets steps places =
-    subst (λ (ts : List Target). ArePlaces chain ts steps places) c.deref.ensures.value
-    c.in_ok-places.ensures.places in
+    subst (λ (ts : List Target). ArePlaces chain ts steps places) c.deref.ensures.value c.in_ok-places.ensures.places in
     let within : (letter : ℕ) → letter % 2 ^ n < length places = λ letter.
     let small : letter % 2 ^ n < 2 ^ n = mod-lt letter (pow_pos n) in
     let size = c.requires.by_letters.1 in
@@ -57,11 +53,9 @@ returns-clause-node c = λ q of_state.
     let each = are_places.one_each in
     omega (arith, small, size, more, each) in
     let leaf : (letter : ℕ) → leaf_of c.of_leaves.new.self c.in_ok-node.node letter ≡ Some
-    (get_or places (letter % 2 ^ n) 0) = λ letter.
-    c.in_ok-node.ensures.leaf letter ∙ ap (λ k. slice_get c.deref-2.result.now (letter % 2 ^ k))
-    c.requires.ready.letters
+    (get_or places (letter % 2 ^ n) 0) = λ letter. c.in_ok-node.ensures.leaf letter
+    ∙ ap (λ k. slice_get c.deref-2.result.now (letter % 2 ^ k)) c.requires.ready.letters
     ∙ ap (λ (ps : List ℕ). slice_get ps (letter % 2 ^ n)) c.deref-2.ensures.value
     ∙ slice_get-get_or places (letter % 2 ^ n) 0 (within letter) in
-    steps_of_row file c.requires.ready.sound row c.requires.ready.row chain c.requires.levels.few targets
-    (λ letter. Some (letter % 2 ^ n)) joined steps all_steps places are_places
-    q of_state c.of_leaves.new.self c.in_ok-node.node c.in_ok-node.ensures.held leaf
+    steps_of_row c.requires.ready.sound c.requires.ready.row c.requires.levels.few joined all_steps are_places
+    q of_state c.of_leaves.new.self c.in_ok-node.ensures.held leaf

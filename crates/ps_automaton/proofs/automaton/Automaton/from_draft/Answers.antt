@@ -12,18 +12,16 @@ invariant_of-result c =
     let names : map bytes_of c.in_ok-names.names.items ≡ file.names = c.in_ok-names.ensures ∙ c.names.ensures.value in
     let controllable : c.in_ok-controllable.controllable.items ≡ file.controllable =
     c.in_ok-controllable.ensures.items_if_clones_equal (λ x y e. e) ∙ c.controllable.ensures.value in
-    let a : AutomatonData =
-    record {
+    let a : AutomatonData = record {
       names = map bytes_of c.in_ok-names.names.items;
       controllable = c.in_ok-controllable.controllable.items;
       states = c.states.result;
       start = c.start.result;
-      store =
-          c.args.draft.pairs.store;
+      store = c.args.draft.pairs.store;
       nodes = c.args.draft.nodes.items;
       steps = c.args.draft.pairs.steps.keys;
     } in
-    whole_built file sound chain a c.requires.2 names controllable c.states.ensures.value c.start.ensures.value
+    whole_built sound a c.requires.2 names controllable c.states.ensures.value c.start.ensures.value
     c.as_slice.ensures.unique
 
 pub returns : goal.returns
@@ -34,14 +32,12 @@ returns c =
     let names : map bytes_of c.in_ok-names.names.items ≡ file.names = c.in_ok-names.ensures ∙ c.names.ensures.value in
     let controllable : c.in_ok-controllable.controllable.items ≡ file.controllable =
     c.in_ok-controllable.ensures.items_if_clones_equal (λ x y e. e) ∙ c.controllable.ensures.value in
-    let a : AutomatonData =
-    record {
+    let a : AutomatonData = record {
       names = map bytes_of c.in_ok-names.names.items;
       controllable = c.in_ok-controllable.controllable.items;
       states = c.states.result;
       start = c.start.result;
-      store =
-          c.args.draft.pairs.store;
+      store = c.args.draft.pairs.store;
       nodes = c.args.draft.nodes.items;
       steps = c.args.draft.pairs.steps.keys;
     } in (
@@ -51,7 +47,6 @@ returns c =
         controllable = controllable;
         states = c.states.ensures.value;
         is_chain = c.requires.1;
-        auto =
-            auto_built file sound chain a c.requires.2 names controllable c.states.ensures.value c.start.ensures.value;
+        auto = auto_built sound a c.requires.2 names controllable c.states.ensures.value c.start.ensures.value;
       },
     )
