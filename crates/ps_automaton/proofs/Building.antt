@@ -65,7 +65,8 @@ module _ {file : FileData} (sound : IsSoundFile file) {chain : Chain} (a : Autom
             (named_within draft.all_steps (leaf_of a.store (node_of a q) letter) step h)
 
         by_kind : Moves file chain q letter a.steps (leaf_of a.store (node_of a q) letter) ⊎
-            Stops file q letter a.steps (leaf_of a.store (node_of a q) letter) → (step_of a q letter).state ≤ file.states
+            Stops file q letter a.steps (leaf_of a.store (node_of a q) letter) →
+            (step_of a q letter).state ≤ file.states
         by_kind (inl m) = by_step _ m.named
         by_kind (inr m) = by_step _ m.named
 
