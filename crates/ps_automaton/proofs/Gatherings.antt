@@ -9,7 +9,7 @@ use Rattle.ps_hoa.specs.Values.{condition_of}
 use Rattle.ps_hoa.specs.declared.condition.Cond.{Cond, All, Any}
 use Rattle.ps_hoa.proofs.Reading.CondRows.{condition_of-All, condition_of-Any}
 use Rattle.ps_automaton.specs.Chains as chains
-use Rattle.ps_automaton.specs.Chains.{Chain, chain_of, chain_of_all, link_of, links_of, in_front, base_alone}
+use Rattle.ps_automaton.specs.Chains.{Chain, chain_of, chain_of_all, link_of, links_of, in_front}
 use Rattle.ps_automaton.specs.Gathering.{IsGathered, whole, with_base}
 use Rattle.ps_automaton.specs.Views.{link_data}
 use Rattle.ps_automaton.specs.declared.chain.Link.{Link}
@@ -35,10 +35,6 @@ pub in_front_twice : (a b : List chains.Link) (chain : Option Chain) →
 in_front_twice a b None = refl
 in_front_twice a b (Some chain) = ap (λ (links : List chains.Link). Some (record { links = links; base = chain.base }))
     (sym (append_assoc a b chain.links))
-
-pub in_front_none : (links : Option (List chains.Link)) → in_front links None ≡ None
-in_front_none None = refl
-in_front_none (Some ls) = refl
 
 -- the element at a place and those behind it
 pub from_here : (operands : List Cond) (k : ℕ) {c : Cond} → k < length operands → c ≡ get_or operands k c →
@@ -97,10 +93,6 @@ links_with front accepts c cs {link} chain is =
 map_push : (after : List Link) (link : Link) → map link_data (after ++ link ∷ []) ≡ map link_data after ++
     link_data link ∷ []
 map_push after link = map-append link_data after (link ∷ [])
-
-pub start_gathering : (accepts : Bool) (operands : List Cond) (before : List Link) →
-    IsGathering accepts operands before before 0 None
-start_gathering accepts operands before = refl
 
 pub gather_link : (accepts : Bool) (operands : List Cond) (before after : List Link) (k : ℕ) (remaining : Option ℕ)
     {c : Cond} (link : Link) → drop k operands ≡ c ∷ drop (k + 1) operands →

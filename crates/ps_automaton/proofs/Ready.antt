@@ -1,17 +1,13 @@
 -- What guards need is kept where a store grows.
-use Rattle.std.proofs.Common.{◌≡◌, ℕ, ◌<◌, ◌≤◌, List, length, map, take, get_or, Option, Some, None, ◌∙◌, arith}
-use Rattle.std.specs.List.{slice_get}
+use Rattle.std.proofs.Common.{ℕ, List, Option, Some, None, ◌∙◌}
 use Rattle.std.specs.Prelude.{slice_index}
-use Rattle.std.proofs.lemmas.List.{get_or-take, length-take}
 use Rattle.ps_label.specs.Expression.{Expression}
 use Rattle.ps_diagram.specs.Labels.{AreNodesOf}
 use Rattle.ps_diagram.specs.Table.{Table, Keeps}
 use Rattle.ps_hoa.specs.Files.{FileData}
-use Rattle.ps_hoa.specs.Views.{edge_data, row_data}
-use Rattle.ps_hoa.specs.declared.file.Edge.{Edge}
+use Rattle.ps_hoa.specs.Views.{row_data}
 use Rattle.ps_automaton.specs.Drafts.{IsLabelNode, IsReady}
 use Rattle.ps_automaton.specs.declared.guards.Guards.{Guards}
-use Rattle.ps_automaton.proofs.Fitting.{edge_at}
 use Rattle.ps_automaton.proofs.Meeting.{kept_leaf}
 
 pub kept_nodes : {t u : Table} → Keeps t u → {aliases : List Expression} {nodes : List ℕ} → AreNodesOf t aliases nodes →
@@ -40,9 +36,3 @@ kept_ready {t} {u} keeps {g} r = record {
   aliases = kept_nodes keeps r.aliases;
   label = kept_label keeps g.file.now (row_data g.row.now).label g.label r.label;
 }
-
-pub edge_before : (items : List Edge) (count k : ℕ) {e : Edge} → count ≤ length items → k < length (take count items) →
-    e ≡ get_or (take count items) k e → (k < count) × (slice_get (map edge_data items) k ≡ Some (edge_data e))
-edge_before items count k {e} fits within is =
-    let below : k < count = (let n = length-take count items in omega (arith, n, within)) in
-    (below, edge_at items k (omega (arith, below, fits)) (is ∙ get_or-take count items k e below))

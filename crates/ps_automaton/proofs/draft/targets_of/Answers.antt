@@ -20,7 +20,6 @@ pub loop-edge-preserved : goal.loop-edge-preserved
 loop-edge-preserved c =
     let x = c.edge-item in
     let l = c.loop-edge in
-    let row = row_data c.args.guards.now.row.now in
     let at = edge_at c.args.guards.now.row.now.edges.items l.edge-index
     (let n = c.deref-edge-items.ensures.len in omega (arith, n))
     (x.is ∙ ap (λ (es : List Edge). get_or es l.edge-index x.result) c.deref-edge-items.ensures.value) in

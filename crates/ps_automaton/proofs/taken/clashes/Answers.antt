@@ -24,7 +24,6 @@ taken-requires-clause-fit c = fits c.requires.ready.sound c.requires.ready.row c
 pub returns-then-eq-clause-clashing : goal.returns-then-eq-clause-clashing
 returns-then-eq-clause-clashing c =
     let row = row_data c.args.guards.now.row.now in
-    let one = edge_data c.index-edge.result.now in
     let other = edge_data c.index.result.now in
     let at_one = edge_at c.args.guards.now.row.now.edges.items c.args.first (omega arith) c.index-edge.ensures in
     let at_other = edge_at c.args.guards.now.row.now.edges.items c.args.second (omega arith) c.index.ensures in
