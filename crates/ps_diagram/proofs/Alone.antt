@@ -38,10 +38,6 @@ not_other : (a : Bool) {b : Bool} → (a ≡ b → ⊥) → b ≡ true → a ≡
 not_other true ne e = absurd (ne (sym e))
 not_other false ne e = refl
 
-not_other-false : (a : Bool) {b : Bool} → (a ≡ b → ⊥) → b ≡ false → a ≡ true
-not_other-false true ne e = refl
-not_other-false false ne e = absurd (ne (sym e))
-
 pub alone_true : {n : ℕ} (p : ℕ) {letter : ℕ} (none : Tree) {node : Tree} (made : Tree) →
     ((f : ℕ → Bool) → leaf_at none f ≡ None) → IsAlone n (p + 1) letter node → is_in p letter ≡ true → p < n →
     IsTestOf p none node made → IsAlone n p letter made

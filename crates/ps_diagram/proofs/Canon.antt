@@ -34,11 +34,6 @@ from-blind level n (choice p low high) o f g e =
 pub blind-from : (level n : ℕ) (t : Tree) → IsFrom level n t → IsBlind level t
 blind-from level n t o f g e = from-blind level n t o f g (λ q h b. e q h)
 
-pub from-weaker : (a b n : ℕ) (t : Tree) → a ≤ b → IsFrom b n t → IsFrom a n t
-from-weaker a b n empty le o = tt
-from-weaker a b n (final k) le o = tt
-from-weaker a b n (choice p low high) le o = (omega (arith, le, o.0), o.1, o.2, o.3)
-
 -- the sides of a choice are its leaves at letters with the proposition changed
 pub low_is : (n p : ℕ) (low high : Tree) → IsFrom (p + 1) n low → (f : ℕ → Bool) →
     leaf_at (choice p low high) (changed f p false) ≡ leaf_at low f

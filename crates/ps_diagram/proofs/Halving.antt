@@ -150,13 +150,6 @@ tests_more {t} {u} {v} {p} {none} {half} {nodes} {count} {made} {more} node k a 
   )) h;
 }
 
--- a test between nodes that were held before
-pub test_of_held : {t u : Table} (p : ℕ) {low high : ℕ} (made : Tree) → Keeps t u → IsNode t low → IsNode t high →
-    IsTestOf p (tree_of u low) (tree_of u high) made → IsTestOf p (tree_of t low) (tree_of t high) made
-test_of_held {t} {u} p {low} {high} made k l h e =
-    subst (λ (x : Tree). IsTestOf p x (tree_of t high) made) (k.same low l)
-    (subst (λ (x : Tree). IsTestOf p (tree_of u low) x made) (k.same high h) e)
-
 -- all places are done
 pub all_tests : {t u : Table} {p none half : ℕ} {nodes : List ℕ} {count : ℕ} {made : List ℕ} → half ≡ 2 ^ p →
     count ≡ min (length nodes) (2 ^ p) → AreTests t u p none half nodes count made →

@@ -6,37 +6,19 @@ use Rattle.std.specs.Result.{IsErrAnd}
 use Rattle.std.proofs.lemmas.Result.{err_from_is_err_and}
 use Rattle.ps_diagram.specs.declared.fault.OverlayError.{OverlayError}
 use Rattle.ps_diagram.specs.declared.fault.OverlayError.TheVariants.{Clash, OutOfMemory}
-use Rattle.ps_diagram.specs.Tree.{Tree, empty, leaf_at, IsBlind, IsTestOf}
+use Rattle.ps_diagram.specs.Tree.{Tree, leaf_at, IsBlind, IsTestOf}
 use Rattle.ps_diagram.specs.Leaves.{joined, AreAlike}
-use Rattle.ps_diagram.specs.Split.{IsConstant}
 use Rattle.ps_diagram.specs.Known.{IsOverlay, IsClash}
 use Rattle.ps_diagram.proofs.Cells.{bool_cases}
 use Rattle.ps_diagram.proofs.Canon.{changed, changed-here, changed-other}
-
--- the leaf of a constant tree
-constant_is : (t : Tree) → IsConstant t → {x : Option ℕ} (g : ℕ → Bool) → leaf_at t g ≡ x → (f : ℕ → Bool) →
-    leaf_at t f ≡ x
-constant_is t c g e f = c.1 f ∙ sym (c.1 g) ∙ e
 
 -- how leaves are joined, as a fact of three leaves
 abbrev pub IsJoin : Option ℕ → Option ℕ → Option ℕ → Type 0
 IsJoin x y z = AreAlike x y × (z ≡ joined x y)
 
-alike_none : (x : Option ℕ) → AreAlike x None
-alike_none None = tt
-alike_none (Some k) = tt
-
 joined_none : (x : Option ℕ) → x ≡ joined x None
 joined_none None = refl
 joined_none (Some k) = refl
-
-alike_same : (x : Option ℕ) → AreAlike x x
-alike_same None = tt
-alike_same (Some k) = refl
-
-joined_same : (x : Option ℕ) → x ≡ joined x x
-joined_same None = refl
-joined_same (Some k) = refl
 
 join-by : {x y z u v w : Option ℕ} → x ≡ u → y ≡ v → z ≡ w → IsJoin u v w → IsJoin x y z
 join-by {y} {z} {u} {v} a b c h =
@@ -44,32 +26,6 @@ join-by {y} {z} {u} {v} a b c h =
     let Y : Option ℕ → Type 0 = λ o. IsJoin u o z in
     let Z : Option ℕ → Type 0 = λ o. IsJoin u v o in
     subst X (sym a) (subst Y (sym b) (subst Z (sym c) h))
-
-pub overlay_first_none : (a b : Tree) → ((f : ℕ → Bool) → leaf_at a f ≡ None) → IsOverlay a b b
-overlay_first_none a b e f = join-by (e f) refl refl (tt, refl)
-
-pub overlay_second_none : (a b : Tree) → ((f : ℕ → Bool) → leaf_at b f ≡ None) → IsOverlay a b a
-overlay_second_none a b e f = join-by refl (e f) refl (alike_none (leaf_at a f), joined_none (leaf_at a f))
-
-pub overlay_same : (a : Tree) → IsOverlay a a a
-overlay_same a f = (alike_same (leaf_at a f), joined_same (leaf_at a f))
-
-pub overlay_empty_first : {a : Tree} (b : Tree) → a ≡ empty → IsOverlay a b b
-overlay_empty_first {a} b e = overlay_first_none a b (λ f. ap (λ t. leaf_at t f) e)
-
-pub overlay_empty_second : (a : Tree) {b : Tree} → b ≡ empty → IsOverlay a b a
-overlay_empty_second a {b} e = overlay_second_none a b (λ f. ap (λ t. leaf_at t f) e)
-
-pub leaves_first_none : (a b : Tree) → IsConstant a → (g : ℕ → Bool) → leaf_at a g ≡ None → IsOverlay a b b
-leaves_first_none a b c g e = overlay_first_none a b (constant_is a c g e)
-
-pub leaves_second_none : (a b : Tree) → IsConstant b → (g : ℕ → Bool) → leaf_at b g ≡ None → IsOverlay a b a
-leaves_second_none a b c g e = overlay_second_none a b (constant_is b c g e)
-
-pub leaves_same : (a b : Tree) → IsConstant a → IsConstant b → (g : ℕ → Bool) {k : ℕ} → leaf_at a g ≡ Some k →
-    leaf_at b g ≡ Some k → IsOverlay a b a
-leaves_same a b ca cb g {k} ea eb f =
-    join-by (constant_is a ca g ea f) (constant_is b cb g eb f) (constant_is a ca g ea f) (refl, refl)
 
 -- a test of two overlays is the overlay of the tests
 pub overlay_test : (p : ℕ) (a al ah b bl bh c cl ch : Tree) → IsTestOf p al ah a → IsTestOf p bl bh b →
@@ -82,11 +38,6 @@ overlay_test p a al ah b bl bh c cl ch ta tb tc l h f = elim (bool_cases (f p)) 
       ∙ ap (λ v. cond v (leaf_at th f) (leaf_at tl f)) is in
       join-by (at a al ah ta) (at b bl bh tb) (at c cl ch tc) (l f)
 ]
-
--- overlays heed no more than what they are made of
-pub overlay_blind : (level : ℕ) (a b c : Tree) → IsOverlay a b c → IsBlind level a → IsBlind level b → IsBlind level c
-overlay_blind level a b c o ha hb f g e =
-    (o f).1 ∙ ap (λ x. joined x (leaf_at b f)) (ha f g e) ∙ ap (λ y. joined (leaf_at a g) y) (hb f g e) ∙ sym (o g).1
 
 -- the side of a test is the test's leaf at a letter changed there
 pub side_leaf : (p : ℕ) (v : Bool) (t low high : Tree) → IsTestOf p low high t → IsBlind (p + 1) low →

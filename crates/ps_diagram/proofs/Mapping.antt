@@ -25,10 +25,6 @@ pub mapped_blind : (rule : Option ℕ → Option ℕ) (level : ℕ) (a c : Tree)
     IsBlind level c
 mapped_blind rule level a c m b f g e = m f ∙ ap rule (b f g e) ∙ sym (m g)
 
-pub mapped_leaf : (rule : Option ℕ → Option ℕ) (a c : Tree) (x : Option ℕ) → ((f : ℕ → Bool) → leaf_at a f ≡ x) →
-    ((f : ℕ → Bool) → leaf_at c f ≡ rule x) → IsMapped rule a c
-mapped_leaf rule a c x ea ec f = ec f ∙ ap rule (sym (ea f))
-
 -- what holds of the leaves of a test holds of those of its sides
 pub on_low : (P : Option ℕ → Type 0) {t : Table} {node p low high : ℕ} → IsSides t node p low high →
     ((f : ℕ → Bool) → P (leaf_at (tree_of t node) f)) → (f : ℕ → Bool) → P (leaf_at (tree_of t low) f)

@@ -44,11 +44,6 @@ constant_root n empty o h = (None, (λ f. refl))
 constant_root n (final k) o h = (Some k, (λ f. refl))
 constant_root n (choice p low high) o h = absurd (omega (arith, o.1, h))
 
-pub root_within : (n : ℕ) (t : Tree) → IsFrom 0 n t → root_of n t ≤ n
-root_within n empty o = omega arith
-root_within n (final k) o = omega arith
-root_within n (choice p low high) o = omega (arith, o.1)
-
 pub split_named : (a b n : ℕ) {r : ℕ} → r ≡ min a b → a ≤ n → b ≤ n → (r ≡ n → ⊥) → r < n
 split_named a b n e ha hb ne = omega (arith, e, ha, hb, ne)
 

@@ -83,8 +83,6 @@ pub test-requires-clause-high_later : goal.test-requires-clause-high_later
 test-requires-clause-high_later g t c =
     let s = sides_of_test c.in-Test.ensures.part in
     let other = option_copied c.args.other in
-    let now = c.args.self.now in
-    let then = c.mapped_by.new.self in
     mapped_blind (g.R.LeafRule.rule c.args.rule.now) _ _ _ (back (λ u. IsMapped (g.R.LeafRule.rule c.args.rule.now) u
     (tree_of c.mapped_by-in-Test.new.self c.in_ok-high-in-Test.high)) (read_keeps other c.mapped_by.ensures.keeps)
     s.high_held c.in_ok-high-in-Test.ensures.leaf) s.high_later
@@ -110,7 +108,6 @@ returns-in_ok-insert-in-Test-clause-known g t c =
     let s = sides_of_test c.in-Test.ensures.part in
     let other = option_copied c.args.other in
     let now = c.args.self.now in
-    let then = c.mapped_by.new.self in
     let mid = c.mapped_by-in-Test.new.self in
     let last = c.test.new.self in
     let k : Keeps now last =

@@ -3,7 +3,7 @@ use Rattle.ps_label.specs.Expression.{expression}
 use Rattle.ps_label.specs.Truth.{truth}
 use Rattle.ps_label.proofs.Rows.{expression-Both, expression-Either}
 use Rattle.ps_diagram.specs.Leaves.{opposite}
-use Rattle.ps_diagram.specs.Table.{Keeps, leaf_of}
+use Rattle.ps_diagram.specs.Table.{Keeps}
 use Rattle.ps_diagram.specs.Unions.{IsTruth, first_leaf, leaves_of}
 use Rattle.ps_diagram.proofs.KnownLemmas.{keeps_trans}
 use Rattle.ps_diagram.proofs.Truths.{IsAny, IsNotAll, truths_kept, opposite_of, any_more, all_more, any_rest, all_rest}

@@ -16,11 +16,9 @@ returns-clause-keeps c = keeps_trans c.rests.ensures.keeps c.classes_of_leaves.e
 pub returns-clause-classes : goal.returns-clause-classes
 returns-clause-classes c =
     let v = c.rests.new.self in
-    let u = c.classes_of_leaves.new.self in
     let P : List (ℕ × ℕ) → Type 0 = λ l. AreLeaves v c.in_ok-divided.divided l in
     let of = c.in_ok-classes.ensures.classes in
     classes_of c.classes_of_leaves.ensures.keeps c.allocator.ensures.sound c.in_ok-classes.ensures.sound
     (c.classes_of_leaves.ensures.keeps.propositions ∙ c.rests.ensures.keeps.propositions ∙ c.requires.letters)
-    c.args.split c.requires.held c.in_ok-divided.ensures.held c.in_ok-classes.ensures.held
-    c.in_ok-divided.ensures.leaf (subst P (sym c.deref.ensures.value) c.in_ok-leaves.ensures) of.listed
-    of.found of.mapped
+    c.args.split c.requires.held c.in_ok-divided.ensures.held c.in_ok-classes.ensures.held c.in_ok-divided.ensures.leaf
+    (subst P (sym c.deref.ensures.value) c.in_ok-leaves.ensures) of.listed of.found of.mapped

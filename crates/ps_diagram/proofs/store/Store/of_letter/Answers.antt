@@ -53,7 +53,6 @@ pub returns-clause-leaf : goal.returns-clause-leaf
 returns-clause-leaf c =
     let l = c.loop-proposition in
     let v = l.invariant in
-    let n = c.args.self.now.propositions in
     let done : l.proposition ≡ 0 = omega arith in
     let P : ℕ → Type 0 = λ j. IsAlone l.self.propositions j c.args.letter (tree_of l.self l.node) in
     let N : ℕ → Type 0 = λ m. IsAlone m 0 c.args.letter (tree_of l.self l.node) in

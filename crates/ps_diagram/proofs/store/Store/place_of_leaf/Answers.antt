@@ -1,5 +1,4 @@
 use Rattle.std.proofs.lemmas.Result.{IfOk-weaker}
-use Rattle.ps_diagram.specs.Table.{tree_of}
 use Rattle.ps_diagram.proofs.Dividing.{divided_here}
 use Rattle.ps_diagram.proofs.store.Store.place_of_leaf.Goals as goal
 

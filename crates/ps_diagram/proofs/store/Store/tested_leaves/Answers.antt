@@ -26,7 +26,6 @@ test-requires-clause-high_later c = (place_of _ _ _ c.requires.high_leads _ c.no
 
 pub returns-clause-leaf : goal.returns-clause-leaf
 returns-clause-leaf c =
-    let made = c.in_ok-made.made in
     let named = c.made.view_is in
     IfOk-weaker c.intern.result _ _ (λ node e. tested_between c.test.ensures.keeps c.intern.ensures.keeps
     c.args.proposition (tree_of c.args.self.now c.args.low) (tree_of c.args.self.now c.args.high)
