@@ -1,7 +1,6 @@
 -- What a step reads from its table.
 use Rattle.std.proofs.Common.{◌≡◌, ℕ, suc, ◌<◌, Bool, false, List, [], ◌∷◌, map, length, get_or, refl, sym, ap, ap₂}
 use Rattle.std.proofs.Common.{subst, ◌∙◌, arith, All}
-use Rattle.std.proofs.lemmas.List.{length-map}
 use Rattle.std.proofs.lemmas.List.Elements.{All-from_get_or, All-map}
 use Rattle.ps_circuit.specs.declared.parts.Latch.{Latch}
 use Rattle.ps_circuit.specs.Circuits.{CircuitData, IsCircuit}
@@ -31,12 +30,6 @@ module _ {c : CircuitData} (is : IsCircuit c) {plan : Plan} (p : IsPlan c plan) 
       (All-map (λ w. w.place < length (variables c)) (λ (l : Latch). wire_of c l.next) c.latches
       (All-from_get_or (λ (l : Latch). (wire_of c l.next).place < length (variables c)) c.latches no_latch
       (λ k lt. (place_known is _ (next_known is k no_latch lt)).0)))
-
-  pub length-nexts : length plan.nexts.items ≡ length c.latches
-  length-nexts = ap length p.nexts_are ∙ length-map c.latches _
-
-  pub length-outputs : length plan.outputs.items ≡ length c.outputs
-  length-outputs = ap length p.outputs_are ∙ length-map c.outputs (wire_of c)
 
 -- the bits that a table has for literals
 reads : {A : Type 0} (literal : A → ℕ) (wire : A → Wire) (table values : List Bool) (xs : List A) (d : A)

@@ -1,6 +1,6 @@
 -- A circuit has values, and no others.
 use Rattle.std.proofs.Common.{◌≡◌, ℕ, zero, suc, ◌+◌, ◌-◌, ◌⊎◌, ◌%◌, ◌<◌, ◌≤◌, ◌&&◌, ◌==◌, Bool, false, not, cond, inl}
-use Rattle.std.proofs.Common.{inr, List, ◌++◌, map, length, get_or, refl, sym, ap, ap₂, subst, ◌∙◌, arith, Some}
+use Rattle.std.proofs.Common.{inr, List, ◌++◌, length, get_or, refl, sym, ap, ap₂, subst, ◌∙◌, arith, Some}
 use Rattle.std.proofs.Common.{length-append}
 use Rattle.std.specs.Prelude.{slice_get, replicate}
 use Rattle.std.proofs.lemmas.List.{length-map, length-replicate, get_or-map}
@@ -11,11 +11,11 @@ use Rattle.ps_components.specs.Orders.{IsOrder}
 use Rattle.ps_circuit.specs.Circuits.{CircuitData, IsCircuit, IsKnown, ReadsGate, definitions}
 use Rattle.ps_circuit.specs.Literals.{variable}
 use Rattle.ps_circuit.specs.Values.{AreValues, HasOneValues, value_of, bit_of}
-use Rattle.ps_simulate.specs.Plans.{row_at, no_gate}
+use Rattle.ps_simulate.specs.Plans.{no_gate}
 use Rattle.ps_simulate.proofs.PlacesLemmas.{sides_known}
 use Rattle.ps_simulate.proofs.RowLemmas.{no_latch, length-definitions, length-variables, definitions_input}
 use Rattle.ps_simulate.proofs.RowLemmas.{definitions_latch, definitions_gate}
-use Rattle.ps_simulate.proofs.ValueLemmas.{bit_of-definition, first_table, Holds-first_table, AreValues-work_out}
+use Rattle.ps_simulate.proofs.ValueLemmas.{bit_of-definition, Holds-first_table, AreValues-work_out}
 
 module _ {c : CircuitData} (is : IsCircuit c) {order : List ℕ}
     (is_order : IsOrder (ReadsGate c.gates) (length c.gates) order) {inputs latches values others : List Bool}

@@ -18,10 +18,8 @@ returns-in-Some c = λ old have.
 pub returns : goal.returns
 returns c = λ old have.
     let key = c.in_ok-key.key in
-    let latches = c.args.latches.now in
     let before = c.args.seen.now in
     let none : get bits_cmp before key ≡ None = sym c.get.ensures.value ∙ sym c.copied.ensures ∙ c.in_default.is in
-    let place = c.len-place.result in
     let size = c.len-place.ensures.len ∙ have.each in
     let more = c.in_ok-insert.ensures.len ∙ ap (λ (o : Option ℕ). btree_map_len before + (if is_some o then 0 else 1))
     (c.in_ok-insert.ensures.old ∙ none) in

@@ -3,9 +3,7 @@ use Rattle.std.proofs.Common.{arith}
 use Rattle.std.specs.Prelude.{All}
 use Rattle.std.proofs.lemmas.List.Elements.{All-take, All-drop}
 use Rattle.ps_circuit.specs.Circuits.{CircuitData}
-use Rattle.ps_simulate.specs.Stimuli.{letters_of}
 use Rattle.ps_simulate.specs.LassoRuns.{RepeatsBy}
-use Rattle.ps_simulate.specs.Namings.{names_of}
 use Rattle.ps_simulate.proofs.LassoLemmas.{few_letters, lap_within_items, verdict}
 use Rattle.ps_simulate.proofs.lassos.verdict_of.Goals as goal
 

@@ -16,8 +16,7 @@ returns-clause-variables c =
     (YieldsList-from_copied (YieldsList-from_slice circuit.inputs (cc))))
     (YieldsList-at c.chain.ensures.second (YieldsList-from_map _ (λ l. l.literal)
     (YieldsList-from_slice circuit.latches (cc)) c.map-latches.ensures.closure (λ x r q k. search rules)))
-    c.chain.ensures.first_done c.chain.ensures.second_done))
-    (YieldsList-at c.chain-defined.ensures.second (YieldsList-from_map _ (λ g. g.literal)
-    (YieldsList-from_slice circuit.gates (cc)) c.map-gates.ensures.closure
+    c.chain.ensures.first_done c.chain.ensures.second_done)) (YieldsList-at c.chain-defined.ensures.second
+    (YieldsList-from_map _ (λ g. g.literal) (YieldsList-from_slice circuit.gates (cc)) c.map-gates.ensures.closure
     (λ x r q k. search rules))) c.chain-defined.ensures.first_done c.chain-defined.ensures.second_done))
     c.map.ensures.closure (λ x r q k. search rules))) c.chain-2.ensures.first_done c.chain-2.ensures.second_done)

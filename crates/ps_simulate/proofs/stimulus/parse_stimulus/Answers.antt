@@ -8,7 +8,6 @@ use Rattle.ps_simulate.specs.StimulusTexts.{lines_of, spelled, divider, IsStimul
 use Rattle.ps_simulate.proofs.Stimuli.StimulusSteps.{HasRead-letter, HasRead-divider, HasRead-same, IsFirst-end}
 use Rattle.ps_simulate.proofs.Stimuli.StimulusSteps.{IsStimulusAnswer-line, at_line, letters_of-push}
 use Rattle.ps_simulate.proofs.stimulus.parse_stimulus.Goals as goal
-use Rattle.ps_simulate.proofs.stimulus.parse_stimulus.Goals.{After-line_end-end}
 use Rattle.ps_simulate.proofs.stimulus.parse_stimulus.Goals.{then-split+then-not-in_lap+then-is_divider}
 use Rattle.ps_simulate.proofs.stimulus.parse_stimulus.Goals.{else-split+in_ok-letter+then-in_lap+in_ok-push}
 use Rattle.ps_simulate.proofs.stimulus.parse_stimulus.Goals.{else-split-via-then-split+then-not-in_lap+else-is_divider}

@@ -75,19 +75,16 @@ fill_words-requires-clause-within c =
     size (gates_within c.self.invariant))
 
 pub fill_words-requires-clause-fit : goal.fill_words-requires-clause-fit
-fill_words-requires-clause-fit c =
-    let s = c.self.inside in
-    omega (
-      arith,
-      gates_fit c.self.invariant,
-      ap length c.deref.ensures.value,
-      ap length c.deref_mut.ensures.value,
-      c.self.invariant.values_each,
-    )
+fill_words-requires-clause-fit c = omega (
+  arith,
+  gates_fit c.self.invariant,
+  ap length c.deref.ensures.value,
+  ap length c.deref_mut.ensures.value,
+  c.self.invariant.values_each,
+)
 
 pub fill_words-requires-clause-room : goal.fill_words-requires-clause-room
 fill_words-requires-clause-room c =
-    let s = c.self.inside in
     let t = c.self.invariant in
     omega (
       arith,
@@ -102,38 +99,32 @@ fill_words-requires-clause-room c =
 
 pub fill_words-requires-clause-constant : goal.fill_words-requires-clause-constant
 fill_words-requires-clause-constant c lane lt =
-    let s = c.self.inside in
     ap (λ (v : List (List ℕ)). get_or (lane_of v lane) 0 Rattle.std.proofs.Common.false) c.deref_mut.ensures.value
     ∙ constant_there c.self.invariant lane lt
 
 pub read_words-requires-clause-within : goal.read_words-requires-clause-within
 read_words-requires-clause-within c =
     let a = (goal.at.read_words-requires-clause-within c).After-fill_words in
-    let s = c.self.inside in
     fits c.deref-3.ensures.value (ap length (c.deref-4.ensures.value ∙ table_is a) ∙ table_size a)
     (outputs_in_table c.self.invariant)
 
 pub read_words-requires-clause-fit : goal.read_words-requires-clause-fit
-read_words-requires-clause-fit c =
-    let s = c.self.inside in
-    omega (
-      arith,
-      c.requires.outputs_fit,
-      ap (λ (v : LaneSimulation). length v.circuit.outputs) c.self.view_is,
-      ap length c.deref-3.ensures.value,
-      outputs_many c.self.invariant,
-    )
+read_words-requires-clause-fit c = omega (
+  arith,
+  c.requires.outputs_fit,
+  ap (λ (v : LaneSimulation). length v.circuit.outputs) c.self.view_is,
+  ap length c.deref-3.ensures.value,
+  outputs_many c.self.invariant,
+)
 
 pub read_words-requires-2-clause-within : goal.read_words-requires-2-clause-within
 read_words-requires-2-clause-within c =
     let a = (goal.at.read_words-requires-2-clause-within c).After-fill_words in
-    let s = c.self.inside in
     fits c.deref-5.ensures.value (ap length (c.deref-6.ensures.value ∙ table_is a) ∙ table_size a)
     (nexts_in_table c.self.invariant)
 
 pub read_words-requires-2-clause-fit : goal.read_words-requires-2-clause-fit
 read_words-requires-2-clause-fit c =
-    let s = c.self.inside in
     let t = c.self.invariant in
     omega (
       arith,
@@ -148,9 +139,7 @@ letters_fit : (c : After-read_words-2) → length c.args.inputs.now ≡ length c
 letters_fit c = c.requires.inputs_fit ∙ sym (ap (λ (v : LaneSimulation). length v.circuit.inputs) c.self.view_is)
 
 next_length : (c : After-read_words-2) → length c.read_words-2.new.words ≡ length c.self.inside.circuit.now.latches
-next_length c =
-    let s = c.self.inside in
-    c.read_words-2.auto.words ∙ ap length c.deref_mut-2.ensures.value ∙ latches_many c.self.invariant
+next_length c = c.read_words-2.auto.words ∙ ap length c.deref_mut-2.ensures.value ∙ latches_many c.self.invariant
 
 pub invariant_of-self : goal.invariant_of-self
 invariant_of-self c =

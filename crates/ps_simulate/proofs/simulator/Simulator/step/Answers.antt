@@ -71,14 +71,12 @@ fill-requires-clause-within c =
 pub read_all-requires-clause-within : goal.read_all-requires-clause-within
 read_all-requires-clause-within c =
     let a = (goal.at.read_all-requires-clause-within c).After-fill in
-    let circuit = c.self.inside.circuit.now in
     fits c.deref-3.ensures.value (ap length (c.deref-4.ensures.value ∙ table_is a) ∙ table_size a)
     (outputs_within c.self.invariant.is_circuit c.self.invariant.is_plan)
 
 pub read_all-requires-2-clause-within : goal.read_all-requires-2-clause-within
 read_all-requires-2-clause-within c =
     let a = (goal.at.read_all-requires-2-clause-within c).After-fill in
-    let circuit = c.self.inside.circuit.now in
     fits c.deref-5.ensures.value (ap length (c.deref-6.ensures.value ∙ table_is a) ∙ table_size a)
     (nexts_within c.self.invariant.is_circuit c.self.invariant.is_plan)
 
