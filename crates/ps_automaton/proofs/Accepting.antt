@@ -30,7 +30,7 @@ part_length : (sets : ℕ → ℕ → Bool) (from count : ℕ) → length (part 
 part_length sets from zero = refl
 part_length sets from (suc count) = ap suc (part_length sets (from + 1) count)
 
-module _ (file : FileData) (chain : Chain) (a : Auto) (is_chain : chain_of file.condition ≡ Some chain)
+module _ {file : FileData} {chain : Chain} {a : Auto} (is_chain : chain_of file.condition ≡ Some chain)
     (is_auto : IsAutoOf file chain a) (w : ℕ → ℕ) (letters : (t : ℕ) → w t < 2 ^ length file.names) where
   state_within : (t : ℕ) → state_at a w t ≤ file.states
   state_within zero = is_auto.start_within
@@ -108,36 +108,33 @@ module _ (file : FileData) (chain : Chain) (a : Auto) (is_chain : chain_of file.
       pub met_by_auto : IsTrue (holds (is_met (part sets_at from count)) file.condition)
       unfolding sets_at
       met_by_auto =
-          let levels =
-          levels_are chain (priority_at a w) sets_at from count
+          let levels = levels_are chain (priority_at a w) sets_at from count
           (λ t low high. level_by_edge t high (cases_lt t (from + count))) in
           let long : 0 < length (part sets_at from count) =
           (let is = part_length sets_at from count in omega (arith, is)) in
           sym (greatest_decides file.condition chain (part sets_at from count) is_chain long) ∙ ap is_even levels ∙ even
 
   -- a run of the file goes as the automaton does
-  run_states : (count : ℕ) (states : ℕ → ℕ) (sets : ℕ → ℕ → Bool) → IsRun file w count states sets → (t : ℕ) →
+  run_states : {count : ℕ} {states : ℕ → ℕ} {sets : ℕ → ℕ → Bool} → IsRun file w count states sets → (t : ℕ) →
       t ≤ count → states t ≡ state_at a w t
-  run_states count states sets run zero within = run.begins ∙ sym is_auto.start
-  run_states count states sets run (suc t) within =
-      let before = run_states count states sets run t (omega arith) in
+  run_states run zero within = run.begins ∙ sym is_auto.start
+  run_states {count} {states} {sets} run (suc t) within =
+      let before = run_states run t (omega arith) in
       let goes = is_auto.by_edge (states t) (w t) (sets t) (states (t + 1)) (run.goes t (omega arith)) in
       ap states (sym (add-one t)) ∙ sym goes.0 ∙ ap (λ q. a.next q (w t)) before
 
-  run_levels : (count : ℕ) (states : ℕ → ℕ) (sets : ℕ → ℕ → Bool) → IsRun file w count states sets → (t : ℕ) →
+  run_levels : {count : ℕ} {states : ℕ → ℕ} {sets : ℕ → ℕ → Bool} → IsRun file w count states sets → (t : ℕ) →
       t < count → priority_at a w t ≡ level chain (sets t)
-  run_levels count states sets run t within =
-      let before = run_states count states sets run t (omega arith) in
+  run_levels {count} {states} {sets} run t within =
+      let before = run_states run t (omega arith) in
       let goes = is_auto.by_edge (states t) (w t) (sets t) (states (t + 1)) (run.goes t within) in
       ap (λ q. a.priority q (w t)) (sym before) ∙ goes.1
 
-  pub run_is_even : (from count : ℕ) (states : ℕ → ℕ) (sets : ℕ → ℕ → Bool) → 0 < count →
+  pub run_is_even : (from count : ℕ) {states : ℕ → ℕ} {sets : ℕ → ℕ → Bool} → 0 < count →
       IsRun file w (from + count) states sets → IsTrue (holds (is_met (part sets from count)) file.condition) →
       is_even (greatest_from (priority_at a w) from count) ≡ true
-  run_is_even from count states sets some run met =
-      let levels =
-      levels_are chain (priority_at a w) sets from count (λ t low high.
-      run_levels (from + count) states sets run t high) in
+  run_is_even from count {states} {sets} some run met =
+      let levels = levels_are chain (priority_at a w) sets from count (λ t low high. run_levels run t high) in
       let long : 0 < length (part sets from count) = (let is = part_length sets from count in omega (arith, is)) in
       ap is_even (sym levels) ∙ greatest_decides file.condition chain (part sets from count) is_chain long ∙ met
 
@@ -179,8 +176,7 @@ module _ (file : FileData) (chain : Chain) (a : Auto) (is_chain : chain_of file.
       even_is_accepted even =
           let from = length stem + before * length lap in
           let count = laps * length lap in
-          let run =
-          run_of_auto file chain a is_chain is_auto (word stem lap) letters_are from count
+          let run = run_of_auto is_chain is_auto (word stem lap) letters_are from count
           (some_letters laps some_laps) back_here even in
           record {
             has_letter = some;
@@ -188,17 +184,13 @@ module _ (file : FileData) (chain : Chain) (a : Auto) (is_chain : chain_of file.
             laps = laps;
             some = some_laps;
             states = state_at a (word stem lap);
-            sets =
-                sets_at file chain a is_chain is_auto (word stem lap) letters_are from count
-                (some_letters laps some_laps)
+            sets = sets_at is_chain is_auto (word stem lap) letters_are from count (some_letters laps some_laps)
                 back_here even;
-            run =
-                subst (λ n. IsRun file (word stem lap) n (state_at a (word stem lap))
-                (sets_at file chain a is_chain is_auto (word stem lap) letters_are from count
+            run = subst (λ n. IsRun file (word stem lap) n (state_at a (word stem lap))
+                (sets_at is_chain is_auto (word stem lap) letters_are from count
                 (some_letters laps some_laps) back_here even)) (end_is before laps) run;
             returns = sym back;
-            met =
-                met_by_auto file chain a is_chain is_auto (word stem lap) letters_are from count
+            met = met_by_auto is_chain is_auto (word stem lap) letters_are from count
                 (some_letters laps some_laps) back_here even;
           }
 
@@ -211,19 +203,15 @@ module _ (file : FileData) (chain : Chain) (a : Auto) (is_chain : chain_of file.
           let run : IsRun file w (from + count) accepted.states accepted.sets =
           subst (λ n. IsRun file w n accepted.states accepted.sets) (sym (end_is accepted.before accepted.laps))
           accepted.run in
-          let even =
-          run_is_even file chain a is_chain is_auto w letters_are from count accepted.states accepted.sets
+          let even = run_is_even is_chain is_auto w letters_are from count
           (some_letters accepted.laps accepted.some) run accepted.met in
-          let there =
-          run_states file chain a is_chain is_auto w letters_are (from + count) accepted.states accepted.sets run in
+          let there = run_states is_chain is_auto w letters_are run in
           let returns : state_at a w (from + count) ≡ state_at a w from =
           sym (there (from + count) (omega arith)) ∙ ap accepted.states (end_is accepted.before accepted.laps)
           ∙ sym accepted.returns ∙ there from (omega arith) in
           let same =
-          any_return_decides (priority_at a w) (length stem + before * length lap) (laps * length lap) from count
-          (priorities_repeat a w (length stem + before * length lap) (laps * length lap)
-          (word_repeats stem lap before laps) back_here)
-          (priorities_repeat a w from count (word_repeats stem lap accepted.before accepted.laps) returns)
+          any_return_decides (priorities_repeat a (laps * length lap) (word_repeats stem lap before laps) back_here)
+          (priorities_repeat a count (word_repeats stem lap accepted.before accepted.laps) returns)
           (some_letters laps some_laps) (some_letters accepted.laps accepted.some) in
           ap is_even same ∙ even
 
@@ -231,8 +219,7 @@ module _ (file : FileData) (chain : Chain) (a : Auto) (is_chain : chain_of file.
 pub laps_decide : (file : FileData) (chain : Chain) (a : Auto) (stem lap : List ℕ) (before laps s : ℕ) →
     chain_of file.condition ≡ Some chain → IsAutoOf file chain a → 0 < length lap →
     All (λ letter. letter < 2 ^ length file.names) stem → All (λ letter. letter < 2 ^ length file.names) lap →
-    0 < laps →
-    state_after a (state_behind a a.start stem) lap before ≡ s →
+    0 < laps → state_after a (state_behind a a.start stem) lap before ≡ s →
     state_after a (state_behind a a.start stem) lap (before + laps) ≡ s →
     (is_even (greatest_of_laps a s lap laps) ≡ true) ↔ IsAccepted file stem lap
 laps_decide file chain a stem lap before laps s is_chain is_auto some in_stem in_lap some_laps begins returns =

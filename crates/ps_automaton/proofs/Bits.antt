@@ -36,8 +36,7 @@ or_shuffled false false c = refl
 
 pub one_set_more : (set mask m : ℕ) (rest : List ℕ) → m < 64 →
     (is_in set (bit_or mask (1 * 2 ^ m % 2 ^ 64)) || is_among set rest) ≡ (is_in set mask || is_among set (m ∷ rest))
-one_set_more set mask m rest small =
-    ap (λ n. is_in set (bit_or mask n) || is_among set rest) (one_shl m 64 small)
+one_set_more set mask m rest small = ap (λ n. is_in set (bit_or mask n) || is_among set rest) (one_shl m 64 small)
     ∙ ap (λ (b : Bool). b || is_among set rest) (in_or set mask (2 ^ m)
     ∙ ap (λ (b : Bool). is_in set mask || b) (in_power set m))
     ∙ or_shuffled (is_in set mask) (nat_eq set m) (is_among set rest)
@@ -45,8 +44,7 @@ one_set_more set mask m rest small =
 pub from_place : (sets : List ℕ) (k : ℕ) → k < length sets → drop k sets ≡ get_or sets k 0 ∷ drop (k + 1) sets
 from_place sets k within = drop-cons sets k 0 within ∙ ap (λ n. get_or sets k 0 ∷ drop n sets) (sym (add-one k))
 
-pub both_among : (set a b : ℕ) (xs ys us vs : List ℕ) → is_in set a ≡ is_among set xs → is_in set b ≡ is_among set ys →
+pub both_among : (set a b : ℕ) {xs ys us vs : List ℕ} → is_in set a ≡ is_among set xs → is_in set b ≡ is_among set ys →
     xs ≡ us → ys ≡ vs → (is_in set a || is_in set b) ≡ (is_among set us || is_among set vs)
-both_among set a b xs ys us vs e f same alike =
-    ap (λ (x : Bool). x || is_in set b) (e ∙ ap (is_among set) same)
+both_among set a b {us} e f same alike = ap (λ (x : Bool). x || is_in set b) (e ∙ ap (is_among set) same)
     ∙ ap (λ (y : Bool). is_among set us || y) (f ∙ ap (is_among set) alike)

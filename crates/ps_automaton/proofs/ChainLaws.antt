@@ -114,11 +114,11 @@ record IsInFront (links : Option (List Link)) (behind : Option Chain) (chain : C
   back_is : behind ≡ Some back
   is : chain ≡ record { links = front ++ back.links; base = back.base }
 
-front_of : (links : Option (List Link)) (behind : Option Chain) (chain : Chain) → in_front links behind ≡ Some chain →
+front_of : (links : Option (List Link)) (behind : Option Chain) {chain : Chain} → in_front links behind ≡ Some chain →
     IsInFront links behind chain
-front_of None behind chain e = (let wrong : ◌≡◌ {A = Option (Chain)} None (Some chain) = e in cc)
-front_of (Some ls) None chain e = (let wrong : ◌≡◌ {A = Option (Chain)} None (Some chain) = e in cc)
-front_of (Some ls) (Some c) chain e = record { front = ls; back = c; front_is = refl; back_is = refl; is = (cc) }
+front_of None behind {chain} e = (let wrong : ◌≡◌ {A = Option (Chain)} None (Some chain) = e in cc)
+front_of (Some ls) None {chain} e = (let wrong : ◌≡◌ {A = Option (Chain)} None (Some chain) = e in cc)
+front_of (Some ls) (Some c) e = record { front = ls; back = c; front_is = refl; back_is = refl; is = (cc) }
 
 -- the truth of operands together: of one of them, or of all
 abbrev together : (ℕ → Bool) → Bool → Conditions → Bool
@@ -144,9 +144,9 @@ together_more : (met : ℕ → Bool) (accepts : Bool) (c : Condition) (cs : Cond
 together_more met true c cs = refl
 together_more met false c cs = refl
 
-link_to_is : (accepts : Bool) (set : SetData) (link : Link) → link_to accepts set ≡ Some link →
+link_to_is : (accepts : Bool) (set : SetData) {link : Link} → link_to accepts set ≡ Some link →
     link ≡ record { colour = set.number; accepts = accepts }
-link_to_is accepts set link e = by_complement set.complemented e
+link_to_is accepts set {link} e = by_complement set.complemented e
   where
     by_complement : (b : Bool) → cond b None (Some (record { colour = set.number; accepts = accepts })) ≡ Some link →
         link ≡ record { colour = set.number; accepts = accepts }
@@ -160,28 +160,27 @@ joined_link true false b = refl
 joined_link false true b = refl
 joined_link false false b = refl
 
-link_is : (met : ℕ → Bool) (accepts : Bool) (c : Condition) (link : Link) → link_of accepts c ≡ Some link →
+link_is : (met : ℕ → Bool) (accepts : Bool) (c : Condition) {link : Link} → link_of accepts c ≡ Some link →
     (holds met c ≡ cond accepts (met link.colour) (not (met link.colour))) × (link.accepts ≡ accepts)
-link_is met true (infinitely set) link e =
-    (let is = link_to_is true set link e in (ap (λ (l : Link). met l.colour) (sym is), ap (λ (l : Link). l.accepts) is))
-link_is met false (finitely set) link e =
-    (let is = link_to_is false set link e in (
-      ap (λ (l : Link). not (met l.colour)) (sym is),
-      ap (λ (l : Link). l.accepts) is,
-    ))
-link_is met true (constant b) link e = (let wrong : ◌≡◌ {A = Option (Link)} None (Some link) = e in cc)
-link_is met true (finitely set) link e = (let wrong : ◌≡◌ {A = Option (Link)} None (Some link) = e in cc)
-link_is met true (all_hold cs) link e = (let wrong : ◌≡◌ {A = Option (Link)} None (Some link) = e in cc)
-link_is met true (any_holds cs) link e = (let wrong : ◌≡◌ {A = Option (Link)} None (Some link) = e in cc)
-link_is met false (constant b) link e = (let wrong : ◌≡◌ {A = Option (Link)} None (Some link) = e in cc)
-link_is met false (infinitely set) link e = (let wrong : ◌≡◌ {A = Option (Link)} None (Some link) = e in cc)
-link_is met false (all_hold cs) link e = (let wrong : ◌≡◌ {A = Option (Link)} None (Some link) = e in cc)
-link_is met false (any_holds cs) link e = (let wrong : ◌≡◌ {A = Option (Link)} None (Some link) = e in cc)
+link_is met true (infinitely set) {link} e =
+    (let is = link_to_is true set e in (ap (λ (l : Link). met l.colour) (sym is), ap (λ (l : Link). l.accepts) is))
+link_is met false (finitely set) {link} e = (let is = link_to_is false set e in (
+  ap (λ (l : Link). not (met l.colour)) (sym is),
+  ap (λ (l : Link). l.accepts) is,
+))
+link_is met true (constant b) {link} e = (let wrong : ◌≡◌ {A = Option (Link)} None (Some link) = e in cc)
+link_is met true (finitely set) {link} e = (let wrong : ◌≡◌ {A = Option (Link)} None (Some link) = e in cc)
+link_is met true (all_hold cs) {link} e = (let wrong : ◌≡◌ {A = Option (Link)} None (Some link) = e in cc)
+link_is met true (any_holds cs) {link} e = (let wrong : ◌≡◌ {A = Option (Link)} None (Some link) = e in cc)
+link_is met false (constant b) {link} e = (let wrong : ◌≡◌ {A = Option (Link)} None (Some link) = e in cc)
+link_is met false (infinitely set) {link} e = (let wrong : ◌≡◌ {A = Option (Link)} None (Some link) = e in cc)
+link_is met false (all_hold cs) {link} e = (let wrong : ◌≡◌ {A = Option (Link)} None (Some link) = e in cc)
+link_is met false (any_holds cs) {link} e = (let wrong : ◌≡◌ {A = Option (Link)} None (Some link) = e in cc)
 
-link_decides : (met : ℕ → Bool) (accepts : Bool) (c : Condition) (link : Link) (b : Bool) →
+link_decides : (met : ℕ → Bool) (accepts : Bool) (c : Condition) {link : Link} (b : Bool) →
     link_of accepts c ≡ Some link → joined accepts (holds met c) b ≡ cond (met link.colour) link.accepts b
-link_decides met accepts c link b e =
-    let is = link_is met accepts c link e in
+link_decides met accepts c {link} b e =
+    let is = link_is met accepts c e in
     rw (is.0, is.1) (joined_link accepts (met link.colour) b)
 
 joined_assoc : (accepts : Bool) (a b c : Bool) → joined accepts (joined accepts a b) c ≡ joined accepts a
@@ -192,46 +191,43 @@ joined_assoc false true b c = refl
 joined_assoc false false b c = refl
 
 -- operands that are all links decide before what stands behind them
-more_links : (met : ℕ → Bool) (accepts : Bool) (c : Condition) (cs : Conditions) (base : Bool)
-    (rest links : List Link) →
-    ((ls : List Link) → links_of accepts cs ≡ Some ls → chain_holds base (ls ++ rest) met ≡ joined accepts
-    (together met accepts cs) (chain_holds base rest met)) →
+more_links : (met : ℕ → Bool) (accepts : Bool) (c : Condition) (cs : Conditions) (base : Bool) (rest : List Link)
+    {links : List Link} → ((ls : List Link) → links_of accepts cs ≡ Some ls →
+    chain_holds base (ls ++ rest) met ≡ joined accepts (together met accepts cs) (chain_holds base rest met)) →
     (first : Option Link) → link_of accepts c ≡ first → (others : Option (List Link)) → links_of accepts cs ≡ others →
     (elim first [ None ↦ None | Some link ↦ elim others [ None ↦ None | Some ls ↦ Some (link ∷ ls) ] ]) ≡ Some links →
     chain_holds base (links ++ rest) met ≡ joined accepts (together met accepts (more c cs)) (chain_holds base rest met)
-more_links met accepts c cs base rest links later None is others are e =
+more_links met accepts c cs base rest {links} later None is others are e =
     (let wrong : ◌≡◌ {A = Option (List Link)} None (Some links) = e in cc)
-more_links met accepts c cs base rest links later (Some link) is None are e =
+more_links met accepts c cs base rest {links} later (Some link) is None are e =
     (let wrong : ◌≡◌ {A = Option (List Link)} None (Some links) = e in cc)
-more_links met accepts c cs base rest links later (Some link) is (Some ls) are e =
+more_links met accepts c cs base rest {links} later (Some link) is (Some ls) are e =
     let whole : ◌≡◌ {A = Option (List Link)} (Some (link ∷ ls)) (Some links) = e in
     let same : links ≡ link ∷ ls = cc in
     let behind = later ls are in
     rw (
       same,
       together_more met accepts c cs,
-      joined_assoc accepts (holds met c) (together met accepts cs)
-          (chain_holds base rest met),
+      joined_assoc accepts (holds met c) (together met accepts cs) (chain_holds base rest met),
       ← behind,
-    )
-    (sym (link_decides met accepts c link (chain_holds base (ls ++ rest) met) is))
+    ) (sym (link_decides met accepts c (chain_holds base (ls ++ rest) met) is))
 
-links_decide : (met : ℕ → Bool) (accepts : Bool) (cs : Conditions) (base : Bool) (rest links : List Link) →
-    links_of accepts cs ≡ Some links →
-    chain_holds base (links ++ rest) met ≡ joined accepts (together met accepts cs) (chain_holds base rest met)
-links_decide met true last base rest links e =
+links_decide : (met : ℕ → Bool) (accepts : Bool) (cs : Conditions) (base : Bool) (rest : List Link) {links : List Link}
+    → links_of accepts cs ≡ Some links → chain_holds base (links ++ rest) met ≡ joined accepts (together met accepts cs)
+    (chain_holds base rest met)
+links_decide met true last base rest {links} e =
     (let whole : ◌≡◌ {A = Option (List Link)} (Some []) (Some links) = e in let is : links ≡ [] = cc in rw is refl)
-links_decide met false last base rest links e =
+links_decide met false last base rest {links} e =
     (let whole : ◌≡◌ {A = Option (List Link)} (Some []) (Some links) = e in let is : links ≡ [] = cc in rw is refl)
-links_decide met accepts (more c cs) base rest links e =
-    more_links met accepts c cs base rest links (λ ls are. links_decide met accepts cs base rest ls are)
+links_decide met accepts (more c cs) base rest {links} e =
+    more_links met accepts c cs base rest (λ ls are. links_decide met accepts cs base rest are)
     (link_of accepts c) refl (links_of accepts cs) refl e
 
 abbrev verdict : (ℕ → Bool) → Chain → Bool
 verdict met chain = chain_holds chain.base chain.links met
 
-base_law : (met : ℕ → Bool) (b : Bool) (chain : Chain) → base_alone b ≡ Some chain → b ≡ verdict met chain
-base_law met b chain e =
+base_law : (met : ℕ → Bool) (b : Bool) {chain : Chain} → base_alone b ≡ Some chain → b ≡ verdict met chain
+base_law met b {chain} e =
     let whole : ◌≡◌ {A = Option Chain} (Some (record { links = []; base = b })) (Some chain) = e in
     let is : record { links = []; base = b } ≡ chain = cc in
     ap (verdict met) is
@@ -242,10 +238,10 @@ link_value true false = refl
 link_value false true = refl
 link_value false false = refl
 
-link_law : (met : ℕ → Bool) (accepts : Bool) (set : SetData) (chain : Chain) →
+link_law : (met : ℕ → Bool) (accepts : Bool) (set : SetData) {chain : Chain} →
     in_front (one_link (link_to accepts set)) (base_alone (not accepts)) ≡ Some chain →
     cond accepts (met set.number) (not (met set.number)) ≡ verdict met chain
-link_law met accepts set chain e = by_complement set.complemented e
+link_law met accepts set {chain} e = by_complement set.complemented e
   where
     by_complement : (b : Bool) → in_front (one_link (cond b None
         (Some (record { colour = set.number; accepts = accepts })))) (base_alone (not accepts)) ≡ Some chain →
@@ -253,8 +249,7 @@ link_law met accepts set chain e = by_complement set.complemented e
     by_complement true e = (let wrong : ◌≡◌ {A = Option Chain} None (Some chain) = e in cc)
     by_complement false e =
         let whole : ◌≡◌ {A = Option Chain} (Some (record {
-          links = record { colour = set.number; accepts = accepts } ∷
-              [];
+          links = record { colour = set.number; accepts = accepts } ∷ [];
           base = not accepts;
         })) (Some chain) = e in
         let is : record { links = record { colour = set.number; accepts = accepts } ∷ []; base = not accepts } ≡ chain =
@@ -265,44 +260,42 @@ last_law : (met : ℕ → Bool) (accepts : Bool) → together met accepts last �
 last_law met true = refl
 last_law met false = refl
 
-more_law : (met : ℕ → Bool) (accepts : Bool) (c : Condition) (cs : Conditions) (chain : Chain) →
+more_law : (met : ℕ → Bool) (accepts : Bool) (c : Condition) (cs : Conditions) {chain : Chain} →
     ((back : Chain) → chain_of c ≡ Some back → holds met c ≡ verdict met back) →
     ((back : Chain) → chain_of_all accepts cs ≡ Some back → together met accepts cs ≡ verdict met back) →
-    (first : Option Link) → link_of accepts c ≡ first →
-    (elim first [
+    (first : Option Link) → link_of accepts c ≡ first → (elim first [
       | Some link ↦ in_front (Some (link ∷ [])) (chain_of_all accepts cs)
       | None ↦ in_front (links_of accepts cs) (chain_of c)
     ]) ≡ Some chain →
     together met accepts (more c cs) ≡ verdict met chain
-more_law met accepts c cs chain here later None is e =
-    let f = front_of (links_of accepts cs) (chain_of c) chain e in
-    let decides = links_decide met accepts cs f.back.base f.back.links f.front f.front_is in
+more_law met accepts c cs {chain} here later None is e =
+    let f = front_of (links_of accepts cs) (chain_of c) e in
+    let decides = links_decide met accepts cs f.back.base f.back.links f.front_is in
     together_more met accepts c cs ∙ joined_comm accepts (holds met c) (together met accepts cs)
     ∙ ap (λ (b : Bool). joined accepts (together met accepts cs) b) (here f.back f.back_is) ∙ sym decides
     ∙ sym (ap (verdict met) f.is)
-more_law met accepts c cs chain here later (Some link) is e =
-    let f = front_of (Some (link ∷ [])) (chain_of_all accepts cs) chain e in
+more_law met accepts c cs {chain} here later (Some link) is e =
+    let f = front_of (Some (link ∷ [])) (chain_of_all accepts cs) e in
     let front_is : ◌≡◌ {A = Option (List Link)} (Some (link ∷ [])) (Some f.front) = f.front_is in
     let one : f.front ≡ link ∷ [] = cc in
     let same : chain ≡ record { links = link ∷ f.back.links; base = f.back.base } = f.is
     ∙ ap (λ (ls : List Link). record { links = ls ++ f.back.links; base = f.back.base }) one in
-    together_more met accepts c cs ∙ link_decides met accepts c link (together met accepts cs) is
+    together_more met accepts c cs ∙ link_decides met accepts c (together met accepts cs) is
     ∙ ap (λ (b : Bool). cond (met link.colour) link.accepts b) (later f.back f.back_is) ∙ sym (ap (verdict met) same)
 
 mutual
   pub chain_law : (met : ℕ → Bool) (condition : Condition) (chain : Chain) → chain_of condition ≡ Some chain →
       holds met condition ≡ chain_holds chain.base chain.links met
-  chain_law met (constant b) chain e = base_law met b chain e
-  chain_law met (infinitely set) chain e = link_law met true set chain e
-  chain_law met (finitely set) chain e = link_law met false set chain e
+  chain_law met (constant b) chain e = base_law met b e
+  chain_law met (infinitely set) chain e = link_law met true set e
+  chain_law met (finitely set) chain e = link_law met false set e
   chain_law met (any_holds cs) chain e = chain_law_all met true cs chain e
   chain_law met (all_hold cs) chain e = chain_law_all met false cs chain e
 
   chain_law_all : (met : ℕ → Bool) (accepts : Bool) (cs : Conditions) (chain : Chain) →
       chain_of_all accepts cs ≡ Some chain → together met accepts cs ≡ chain_holds chain.base chain.links met
-  chain_law_all met accepts last chain e = last_law met accepts ∙ base_law met (not accepts) chain e
-  chain_law_all met accepts (more c cs) chain e =
-      more_law met accepts c cs chain (λ back is. chain_law met c back is)
+  chain_law_all met accepts last chain e = last_law met accepts ∙ base_law met (not accepts) e
+  chain_law_all met accepts (more c cs) chain e = more_law met accepts c cs (λ back is. chain_law met c back is)
       (λ back is. chain_law_all met accepts cs back is) (link_of accepts c) refl e
 
 pub greatest_decides : (condition : Condition) (chain : Chain) (edges : List (ℕ → Bool)) →

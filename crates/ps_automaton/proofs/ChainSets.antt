@@ -94,14 +94,12 @@ module _ (n : ℕ) where
         chosen_under (link_of accepts c) (links_of accepts cs) (chain_of_all accepts cs) (chain_of c)
         (link_under accepts c i.0) (links_under accepts cs i.1) (chains_under accepts cs i.1) (chain_under c i.0)
 
-  under_some : (o : Option Chain) (chain : Chain) → o ≡ Some chain → ChainUnder o → AllByRecursion LinkUnder chain.links
-  under_some o chain e h = subst ChainUnder e h
+  under_some : {o : Option Chain} {chain : Chain} → o ≡ Some chain → ChainUnder o → AllByRecursion LinkUnder chain.links
+  under_some e h = subst ChainUnder e h
 
-pub chain_sets_below : (sets : ℕ) (c : Condition) (chain : Chain) → sets ≤ 64 → IsCondition sets c →
+pub chain_sets_below : (sets : ℕ) (c : Condition) {chain : Chain} → sets ≤ 64 → IsCondition sets c →
     chain_of c ≡ Some chain → AreSetsBelow 64 chain.links
-chain_sets_below sets c chain few is e = λ k d within.
-    let all =
-    all_at (λ (l : Link). l.colour < sets) chain.links (under_some sets (chain_of c) chain e
-    (chain_under sets c is)) in
+chain_sets_below sets c {chain} few is e = λ k d within.
+    let all = all_at (λ (l : Link). l.colour < sets) chain.links (under_some sets e (chain_under sets c is)) in
     let low = all k d within in
     omega (arith, low, few)

@@ -17,17 +17,16 @@ use Rattle.ps_automaton.specs.declared.fault.AutomatonFault.TheVariants.{OutOfMe
 pub least_below : (P : ℕ → Type 0) → ((k : ℕ) → P k ⊎ (P k → ⊥)) → (n : ℕ) →
     ((m : ℕ) × P m × ((k : ℕ) → P k → m ≤ k)) ⊎ ((k : ℕ) → k < n → P k → ⊥)
 least_below P tell zero = inr (λ k lt h. absurd (omega arith))
-least_below P tell (suc n) =
-    elim (least_below P tell n) [
-      | inl m ↦ inl m
-      | inr none ↦ elim (tell n) [
-        | inl here ↦ inl (n, here, λ k h. elim (cases_lt k n) [ inl lt ↦ absurd (none k lt h) | inr le ↦ le ])
-        | inr never ↦ inr (λ k lt h. elim (cases_lt k n) [
-          | inl less ↦ none k less h
-          | inr le ↦ (let e : k ≡ n = omega arith in never (subst P e h))
-        ])
-      ]
-    ]
+least_below P tell (suc n) = elim (least_below P tell n) [
+  | inl m ↦ inl m
+  | inr none ↦ elim (tell n) [
+    | inl here ↦ inl (n, here, λ k h. elim (cases_lt k n) [ inl lt ↦ absurd (none k lt h) | inr le ↦ le ])
+    | inr never ↦ inr (λ k lt h. elim (cases_lt k n) [
+      | inl less ↦ none k less h
+      | inr le ↦ (let e : k ≡ n = omega arith in never (subst P e h))
+    ])
+  ]
+]
 
 -- where all that have a property are below a bound, some one has it or none
 pub some_or_none : (P : ℕ → Type 0) → ((k : ℕ) → P k ⊎ (P k → ⊥)) → (n : ℕ) → ((k : ℕ) → P k → k < n) →
@@ -73,30 +72,27 @@ module _ (row : RowData) (one other : EdgeData) where
   bound = above row.marks + above one.marks + above other.marks
 
   differ_or_not : (set : ℕ) → Differ set ⊎ (Differ set → ⊥)
-  differ_or_not set =
-      elim (same_or_not (is_marked row one set) (is_marked row other set))
+  differ_or_not set = elim (same_or_not (is_marked row one set) (is_marked row other set))
       [ inl e ↦ inr (λ ne. ne e) | inr ne ↦ inl ne ]
 
   same_marks : ((set : ℕ) → set < bound → Differ set → ⊥) → (set : ℕ) → is_marked row one set ≡ is_marked row other set
-  same_marks none set =
-      elim (same_or_not (is_marked row one set) (is_marked row other set)) [
-        | inl is ↦ is
-        | inr ne ↦ elim (cases_lt set (bound)) [
-          | inl lt ↦ absurd (none set lt ne)
-          | inr le ↦ absurd (ne (marked-above row one set (omega arith) (omega arith)
-              ∙ sym (marked-above row other set (omega arith) (omega arith))))
-        ]
-      ]
+  same_marks none set = elim (same_or_not (is_marked row one set) (is_marked row other set)) [
+    | inl is ↦ is
+    | inr ne ↦ elim (cases_lt set (bound)) [
+      | inl lt ↦ absurd (none set lt ne)
+      | inr le ↦ absurd (ne (marked-above row one set (omega arith) (omega arith)
+          ∙ sym (marked-above row other set (omega arith) (omega arith))))
+    ]
+  ]
 
   pub alike_or_not : AreAlike row one other ⊎ (AreAlike row one other → ⊥)
-  alike_or_not =
-      elim (cases_eq one.target other.target) [
-        | inr ne ↦ inr (λ a. ne a.0)
-        | inl e ↦ elim (least_below Differ differ_or_not (bound)) [
-          | inl m ↦ inr (λ a. m.1 (a.1 m.0))
-          | inr none ↦ inl (e, same_marks none)
-        ]
-      ]
+  alike_or_not = elim (cases_eq one.target other.target) [
+    | inr ne ↦ inr (λ a. ne a.0)
+    | inl e ↦ elim (least_below Differ differ_or_not (bound)) [
+      | inl m ↦ inr (λ a. m.1 (a.1 m.0))
+      | inr none ↦ inl (e, same_marks none)
+    ]
+  ]
 
 pub open_or_not : (aliases : List Expression) (label : Option Expression) (guard : GuardData) (letter : ℕ) →
     IsOpen aliases label guard letter ⊎ (IsOpen aliases label guard letter → ⊥)
@@ -110,20 +106,19 @@ module _ (file : FileData) (row : RowData) (first second : ℕ) where
   Both one other letter = (letter < 2 ^ length file.names) × IsTaken file row one letter × IsTaken file row other letter
 
   both_or_not : (one other : EdgeData) (letter : ℕ) → Both one other letter ⊎ (Both one other letter → ⊥)
-  both_or_not one other letter =
-      elim (cases_lt letter (2 ^ length file.names)) [
-        | inr le ↦ inr (λ h. omega (arith, h.0))
-        | inl lt ↦ elim (open_or_not file.aliases row.label one.guard letter) [
-          | inr never ↦ inr (λ h. never h.1)
-          | inl a ↦ elim (open_or_not file.aliases row.label other.guard letter)
-              [ inr never ↦ inr (λ h. never h.2) | inl b ↦ inl (lt, a, b) ]
-        ]
-      ]
+  both_or_not one other letter = elim (cases_lt letter (2 ^ length file.names)) [
+    | inr le ↦ inr (λ h. omega (arith, h.0))
+    | inl lt ↦ elim (open_or_not file.aliases row.label one.guard letter) [
+      | inr never ↦ inr (λ h. never h.1)
+      | inl a ↦ elim (open_or_not file.aliases row.label other.guard letter)
+          [ inr never ↦ inr (λ h. never h.2) | inl b ↦ inl (lt, a, b) ]
+    ]
+  ]
 
   -- the edges at these places, as the clash has them
-  of_places : (one other : EdgeData) → slice_get row.edges first ≡ Some one → slice_get row.edges second ≡ Some other →
+  of_places : {one other : EdgeData} → slice_get row.edges first ≡ Some one → slice_get row.edges second ≡ Some other →
       AreClashing file row first second → ((letter : ℕ) × Both one other letter) × (AreAlike row one other → ⊥)
-  of_places one other at_first at_second c =
+  of_places {one} {other} at_first at_second c =
       let same : c.one ≡ one = (let a = c.at_first in cc) in
       let same' : c.other ≡ other = (let a = c.at_second in cc) in (
         (
@@ -138,11 +133,10 @@ module _ (file : FileData) (row : RowData) (first second : ℕ) where
       )
 
   pub clashing_or_not : AreClashing file row first second ⊎ (AreClashing file row first second → ⊥)
-  clashing_or_not =
-      elim (cases_lt first second) [
-        | inr le ↦ inr (λ c. omega (arith, c.earlier))
-        | inl lt ↦ at lt (slice_get row.edges first) (slice_get row.edges second) refl refl
-      ]
+  clashing_or_not = elim (cases_lt first second) [
+    | inr le ↦ inr (λ c. omega (arith, c.earlier))
+    | inl lt ↦ at lt (slice_get row.edges first) (slice_get row.edges second) refl refl
+  ]
     where
       at : first < second → (o o' : Option EdgeData) → slice_get row.edges first ≡ o → slice_get row.edges second ≡ o' →
           AreClashing file row first second ⊎ (AreClashing file row first second → ⊥)
@@ -150,9 +144,9 @@ module _ (file : FileData) (row : RowData) (first second : ℕ) where
       at lt (Some one) None e e' = inr (λ c. (let a = c.at_second in cc))
       at lt (Some one) (Some other) e e' =
           elim (some_or_none (Both one other) (both_or_not one other) (2 ^ length file.names) (λ k h. h.0)) [
-            | inr none ↦ inr (λ c. none (of_places one other e e' c).0)
+            | inr none ↦ inr (λ c. none (of_places e e' c).0)
             | inl l ↦ elim (alike_or_not row one other) [
-              | inl same ↦ inr (λ c. (of_places one other e e' c).1 same)
+              | inl same ↦ inr (λ c. (of_places e e' c).1 same)
               | inr differ ↦ inl (record {
                 earlier = lt;
                 one = one;
@@ -200,26 +194,23 @@ module _ (file : FileData) where
     where
       at : (o : Option RowData) → row_of file q ≡ o → WithSecond q ⊎ (WithSecond q → ⊥)
       at None e = inr (λ w. (let c = w.1.1 in let is = c.of_state in cc))
-      at (Some row) e = some_or_none (WithFirst q) (with_first_or_not q) (length row.edges) (λ second f.
-          (let c = f.1 in
+      at (Some row) e = some_or_none (WithFirst q) (with_first_or_not q) (length row.edges) (λ second f. (let c = f.1 in
           let same : c.row ≡ row = (let is = c.of_state in cc) in
           slice_get_within row.edges second c.clashing.other (subst
           (λ r. slice_get r.edges second ≡ Some c.clashing.other) same c.clashing.at_second)))
 
-  row_within : (rows : List RowData) (q : ℕ) (row : RowData) → row_among rows q ≡ Some row → q < states_bound rows
-  row_within [] q row e = cc
-  row_within (r ∷ rows) q row e =
-      elim (cases_eq q r.state) [
-        | inl same ↦ omega arith
-        | inr ne ↦ (let test : nat_eq q r.state ≡ false = ne_eqb q r.state ne in
-            omega (arith, row_within rows q row (rw test at e)))
-      ]
+  row_within : (rows : List RowData) (q : ℕ) {row : RowData} → row_among rows q ≡ Some row → q < states_bound rows
+  row_within [] q e = cc
+  row_within (r ∷ rows) q {row} e = elim (cases_eq q r.state) [
+    | inl same ↦ omega arith
+    | inr ne ↦ (let test : nat_eq q r.state ≡ false = ne_eqb q r.state ne in
+        omega (arith, row_within rows q (rw test at e)))
+  ]
 
   deterministic_or_first : ((q first second : ℕ) → Clash file q first second → ⊥) ⊎
       ((q : ℕ) × (first : ℕ) × (second : ℕ) × IsFirstClash file q first second)
-  deterministic_or_first =
-      elim (some_or_none WithSecond with_second_or_not (states_bound file.rows)
-      (λ q w. (let c = w.1.1 in row_within file.rows q c.row c.of_state))) [
+  deterministic_or_first = elim (some_or_none WithSecond with_second_or_not (states_bound file.rows)
+      (λ q w. (let c = w.1.1 in row_within file.rows q c.of_state))) [
         | inr none ↦ inl (λ q first second c. none (q, (second, (first, c))))
         | inl some ↦
             let q = least_of WithSecond with_second_or_not some.0 some.1 in

@@ -34,12 +34,11 @@ within_kept old new extends None h = h
 within_kept old new extends (Some k) h = extended_within old new extends k h
 
 -- a state's steps stay where a store and the steps grow
-pub steps_kept : (file : FileData) (chain : Chain) (q : ℕ) (old new : List Step) (t u : Table) (node : ℕ) →
+pub steps_kept : {file : FileData} {chain : Chain} {q : ℕ} {old new : List Step} {t u : Table} {node : ℕ} →
     Extends old new → Keeps t u → IsStepsOf file chain q old t node → IsStepsOf file chain q new u node
-steps_kept file chain q old new t u node extends keeps s = record {
+steps_kept {file} {chain} {q} {old} {new} {t} {u} {node} extends keeps s = record {
   held = keeps.held node s.held;
-  leaves =
-      λ letter. subst (λ o. IsSomeAnd o (λ k. k < length new)) (sym (leaf letter))
+  leaves = λ letter. subst (λ o. IsSomeAnd o (λ k. k < length new)) (sym (leaf letter))
       (within_kept old new extends (leaf_of t node letter) (s.leaves letter));
   steps_of = λ letter small. by_kind letter (s.steps_of letter small);
   by_edge = λ letter sets next g. names letter _ (s.by_edge letter sets next g);
@@ -47,7 +46,7 @@ steps_kept file chain q old new t u node extends keeps s = record {
 }
   where
     leaf : (letter : ℕ) → leaf_of u node letter ≡ leaf_of t node letter
-    leaf letter = kept_leaf t u keeps node letter s.held
+    leaf letter = kept_leaf keeps letter s.held
 
     names : (letter : ℕ) (step : Step) → Names old (leaf_of t node letter) step → Names new (leaf_of u node letter) step
     names letter step h =
@@ -65,10 +64,10 @@ module _ (file : FileData) (chain : Chain) (steps : List Step) (t : Table) (node
   AreStepsOf count = (q : ℕ) → q < count → IsStepsOf file chain q steps t (get_or nodes q 0)
 
   -- one state more
-  pub one_more : (count node : ℕ) (more : List ℕ) → length nodes ≡ count → more ≡ nodes ++ node ∷ [] →
+  pub one_more : {count node : ℕ} {more : List ℕ} → length nodes ≡ count → more ≡ nodes ++ node ∷ [] →
       AreStepsOf count → IsStepsOf file chain count steps t node →
       (q : ℕ) → q < count + 1 → IsStepsOf file chain q steps t (get_or more q 0)
-  one_more count node more size is each last q within = elim (cases_lt q count) [
+  one_more {count} {node} {more} size is each last q within = elim (cases_lt q count) [
     | inl low ↦ (
         let same : get_or more q 0 ≡ get_or nodes q 0 = ap (λ (ns : List ℕ). get_or ns q 0) is
         ∙ get_or_append_left nodes (node ∷ []) 0 q (omega (arith, low, size)) in
@@ -98,10 +97,10 @@ module _ (file : FileData) (chain : Chain) (steps : List Step) (t : Table) (node
       by_size q a b k (inr high) = let same = h.0 in omega (arith, same, high)
   first_fault count each OutOfMemory h = tt
 
-pub steps_stay : (file : FileData) (chain : Chain) (old new : List Step) (t u : Table) (nodes : List ℕ) (count : ℕ) →
+pub steps_stay : (file : FileData) (chain : Chain) {old new : List Step} {t u : Table} (nodes : List ℕ) (count : ℕ) →
     Extends old new → Keeps t u → AreStepsOf file chain old t nodes count → AreStepsOf file chain new u nodes count
-steps_stay file chain old new t u nodes count extends keeps each =
-    λ q low. steps_kept file chain q old new t u (get_or nodes q 0) extends keeps (each q low)
+steps_stay file chain {old} {new} {t} {u} nodes count extends keeps each =
+    λ q low. steps_kept extends keeps (each q low)
 
 pub err_told : {T E : Type 0} (P : E → Type 0) (r : Result T E) (e : E) → IsErrAnd r (λ y. y ≡ e) → P e → IfErr r P
 err_told P (Ok x) e h p = tt

@@ -53,58 +53,54 @@ module _ (file : FileData) (sound : IsSoundFile file) (chain : Chain) (determini
     by_edge : (sets : ℕ → Bool) (to : ℕ) → Goes file q letter sets to → (next ≡ to) × (priority ≡ level chain sets)
 
   -- edges that are taken at one letter are alike
-  all_alike : (q letter : ℕ) (row : RowData) → row_of file q ≡ Some row → letter < 2 ^ length file.names →
-      (a b : ℕ) (s : IsPlaceTaken file row letter a) (t : IsPlaceTaken file row letter b) → AreAlike row s.edge t.edge
-  all_alike q letter row of_state lt a b s t =
-      elim (alike_or_not row s.edge t.edge) [
-        | inl alike ↦ alike
-        | inr differ ↦ elim (cases_order a b) [
-          | inl same ↦ (let one : s.edge ≡ t.edge = (let x = s.at_place in let y = t.at_place in
-              let z : slice_get row.edges b ≡ Some s.edge =
-              subst (λ n. slice_get row.edges n ≡ Some s.edge) same x in cc) in
-              (ap (λ e. e.target) one, λ set. ap (λ e. is_marked row e set) one))
-          | inr (inl less) ↦ absurd (deterministic q a b (record {
-            row = row;
-            of_state = of_state;
-            clashing =
-                record {
-                  earlier = less;
-                  one = s.edge;
-                  other = t.edge;
-                  at_first = s.at_place;
-                  at_second = t.at_place;
-                  letter = letter;
-                  is_letter = lt;
-                  one_taken = s.taken;
-                  other_taken = t.taken;
-                  differ = differ;
-                };
-          }))
-          | inr (inr more) ↦ absurd (deterministic q b a (record {
-            row = row;
-            of_state = of_state;
-            clashing =
-                record {
-                  earlier = more;
-                  one = t.edge;
-                  other = s.edge;
-                  at_first = t.at_place;
-                  at_second = s.at_place;
-                  letter = letter;
-                  is_letter = lt;
-                  one_taken =
-                      t.taken;
-                  other_taken = s.taken;
-                  differ = λ alike. differ (sym alike.0, λ set. sym (alike.1 set));
-                };
-          }))
-        ]
-      ]
+  all_alike : (q : ℕ) {letter : ℕ} {row : RowData} → row_of file q ≡ Some row → letter < 2 ^ length file.names →
+      {a b : ℕ} (s : IsPlaceTaken file row letter a) (t : IsPlaceTaken file row letter b) → AreAlike row s.edge t.edge
+  all_alike q {letter} {row} of_state lt {a} {b} s t = elim (alike_or_not row s.edge t.edge) [
+    | inl alike ↦ alike
+    | inr differ ↦ elim (cases_order a b) [
+      | inl same ↦ (let one : s.edge ≡ t.edge = (let x = s.at_place in let y = t.at_place in
+          let z : slice_get row.edges b ≡ Some s.edge =
+          subst (λ n. slice_get row.edges n ≡ Some s.edge) same x in cc) in
+          (ap (λ e. e.target) one, λ set. ap (λ e. is_marked row e set) one))
+      | inr (inl less) ↦ absurd (deterministic q a b (record {
+        row = row;
+        of_state = of_state;
+        clashing = record {
+          earlier = less;
+          one = s.edge;
+          other = t.edge;
+          at_first = s.at_place;
+          at_second = t.at_place;
+          letter = letter;
+          is_letter = lt;
+          one_taken = s.taken;
+          other_taken = t.taken;
+          differ = differ;
+        };
+      }))
+      | inr (inr more) ↦ absurd (deterministic q b a (record {
+        row = row;
+        of_state = of_state;
+        clashing = record {
+          earlier = more;
+          one = t.edge;
+          other = s.edge;
+          at_first = t.at_place;
+          at_second = s.at_place;
+          letter = letter;
+          is_letter = lt;
+          one_taken = t.taken;
+          other_taken = s.taken;
+          differ = λ alike. differ (sym alike.0, λ set. sym (alike.1 set));
+        };
+      }))
+    ]
+  ]
 
   -- the place of an edge that goes
-  place_of : (q letter : ℕ) (row : RowData) (sets : ℕ → Bool) (to : ℕ) → row_of file q ≡ Some row →
+  place_of : {q letter : ℕ} {row : RowData} {sets : ℕ → Bool} {to : ℕ} → row_of file q ≡ Some row →
       (g : Goes file q letter sets to) → IsPlaceTaken file row letter g.place × (row ≡ g.row)
-  place_of q letter row sets to of_state g =
+  place_of {letter} {row} of_state g =
       let same : g.row ≡ row = (let is = g.of_state in cc) in (
         record {
           edge = g.edge;
@@ -136,28 +132,25 @@ module _ (file : FileData) (sound : IsSoundFile file) (chain : Chain) (determini
         t.edge.target,
         level chain (is_marked row t.edge),
         record {
-          within =
-              (let e = sound_edge file row (row_of_state file sound q row of_state).0 place t.edge t.at_place in
+          within = (let e = sound_edge file row (row_of_state file sound q row of_state).0 place t.edge t.at_place in
               let below = e.target in omega arith);
-          step =
-              λ lt. inl (
-                is_marked row t.edge,
-                record {
-                  is_letter = lt;
-                  row = row;
-                  of_state = of_state;
-                  place = place;
-                  edge = t.edge;
-                  at_place = t.at_place;
-                  taken = t.taken;
-                  marked = λ set. refl;
-                  target = refl;
-                },
-                refl,
-              );
-          by_edge = λ sets to g.
-              (let there = place_of q letter row sets to of_state g in
-              let alike = all_alike q letter row of_state g.is_letter place g.place t there.0 in (
+          step = λ lt. inl (
+            is_marked row t.edge,
+            record {
+              is_letter = lt;
+              row = row;
+              of_state = of_state;
+              place = place;
+              edge = t.edge;
+              at_place = t.at_place;
+              taken = t.taken;
+              marked = λ set. refl;
+              target = refl;
+            },
+            refl,
+          );
+          by_edge = λ sets to g. (let there = place_of of_state g in
+              let alike = all_alike q of_state g.is_letter t there.0 in (
                 alike.0 ∙ g.target,
                 level-same chain (is_marked row t.edge) sets
                     (λ set. alike.1 set ∙ ap (λ r. is_marked r g.edge set) there.1 ∙ sym (g.marked set)),
@@ -171,7 +164,7 @@ module _ (file : FileData) (sound : IsSoundFile file) (chain : Chain) (determini
           elim (some_or_none (IsPlaceTaken file row letter) (taken_or_not file row letter) (length row.edges)
           (λ place t. slice_get_within row.edges place t.edge t.at_place)) [
             | inl t ↦ by_place row e t.0 t.1
-            | inr none ↦ to_sink (λ sets to g. none (g.place, (place_of q letter row sets to e g).0))
+            | inr none ↦ to_sink (λ sets to g. none (g.place, (place_of e g).0))
           ]
 
   auto : Auto
@@ -179,8 +172,8 @@ module _ (file : FileData) (sound : IsSoundFile file) (chain : Chain) (determini
       record { start = file.start; next = λ q letter. (choice q letter).0; priority = λ q letter. (choice q letter).1 }
 
   -- the sink has no row
-  from_sink : (letter : ℕ) (sets : ℕ → Bool) (to : ℕ) → Goes file file.states letter sets to → ⊥
-  from_sink letter sets to g =
+  from_sink : {letter : ℕ} {sets : ℕ → Bool} {to : ℕ} → Goes file file.states letter sets to → ⊥
+  from_sink g =
       let r = row_of_state file sound file.states g.row g.of_state in
       let below = r.0.state in
       omega (arith, below, r.1)
@@ -197,7 +190,7 @@ module _ (file : FileData) (sound : IsSoundFile file) (chain : Chain) (determini
     ];
     by_edge = λ q letter sets to g. (choice q letter).2.by_edge sets to g;
     sink_stays = λ letter lt. elim ((choice file.states letter).2.step lt) [
-      | inl e ↦ absurd (from_sink letter e.0 _ e.1)
+      | inl e ↦ absurd (from_sink e.1)
       | inr n ↦ (n.1, n.2)
     ];
   }

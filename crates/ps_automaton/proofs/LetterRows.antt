@@ -27,16 +27,16 @@ abbrev pub HaveTargets : RowData → ℕ → List Target → Type 0
 HaveTargets row count targets =
     (k : ℕ) (edge : EdgeData) → k < count → slice_get row.edges k ≡ Some edge → IsTargetAt row edge targets k
 
-pub targets_more : (row : RowData) (targets more : List Target) (count : ℕ) (edge : EdgeData) (target : Target) →
-    length targets ≡ count → more ≡ targets ++ target ∷ [] →
-    slice_get row.edges count ≡ Some edge → IsTargetOf row edge target → HaveTargets row count targets →
-    HaveTargets row (count + 1) more
-targets_more row targets more count edge target size is at is_target have k e within there = by_size (cases_lt k count)
+pub targets_more : {row : RowData} (targets : List Target) {more : List Target} {count : ℕ} {edge : EdgeData}
+    {target : Target} → length targets ≡ count → more ≡ targets ++ target ∷ [] → slice_get row.edges count ≡ Some edge →
+    IsTargetOf row edge target → HaveTargets row count targets → HaveTargets row (count + 1) more
+targets_more {row} targets {more} {count} {edge} {target} size is at is_target have k e within there =
+    by_size (cases_lt k count)
   where
     by_size : (k < count) ⊎ (count ≤ k) → IsTargetAt row e more k
     by_size (inl low) =
         let old = have k e low there in
-        (old.0, ap (λ (ts : List Target). slice_get ts k) is ∙ at_left targets (target ∷ []) k old.0 old.1, old.2)
+        (old.0, ap (λ (ts : List Target). slice_get ts k) is ∙ at_left targets (target ∷ []) k old.1, old.2)
     by_size (inr high) =
         let here : count ≡ k = omega (arith, within, high) in
         let same : edge ≡ e = same_some edge e (sym at ∙ ap (slice_get row.edges) here ∙ there) in
@@ -46,20 +46,20 @@ targets_more row targets more count edge target size is at is_target have k e wi
 
 -- ## The row
 
-module _ (file : FileData) (row : RowData) (row_sound : IsSoundRow file row) (by : IsByLetters file row) where
-  letter_of_place : (place letter : ℕ) (edge : EdgeData) → slice_get row.edges place ≡ Some edge →
+module _ {file : FileData} {row : RowData} (row_sound : IsSoundRow file row) (by : IsByLetters file row) where
+  letter_of_place : (place : ℕ) {letter : ℕ} {edge : EdgeData} → slice_get row.edges place ≡ Some edge →
       IsOpen file.aliases row.label edge.guard letter → letter ≡ place
-  letter_of_place place letter edge at open_at =
+  letter_of_place place {letter} {edge} at open_at =
       let n : 0 + place ≡ place = omega arith in
       subst (λ (g : GuardData). IsOpen file.aliases row.label g letter)
-      (by_letter 0 row.edges by.0 place edge at ∙ ap at_letter n) open_at
+      (by_letter 0 row.edges by.0 place at ∙ ap at_letter n) open_at
 
-  open_at_place : (place : ℕ) (edge : EdgeData) → slice_get row.edges place ≡ Some edge →
+  open_at_place : (place : ℕ) {edge : EdgeData} → slice_get row.edges place ≡ Some edge →
       IsOpen file.aliases row.label edge.guard place
-  open_at_place place edge at =
+  open_at_place place {edge} at =
       let n : 0 + place ≡ place = omega arith in
       subst (λ (g : GuardData). IsOpen file.aliases row.label g place)
-      (sym (by_letter 0 row.edges by.0 place edge at ∙ ap at_letter n)) refl
+      (sym (by_letter 0 row.edges by.0 place at ∙ ap at_letter n)) refl
 
   -- the edge at a place
   edge_there : (place : ℕ) → place < length row.edges → (edge : EdgeData) × (slice_get row.edges place ≡ Some edge)
@@ -67,12 +67,12 @@ module _ (file : FileData) (row : RowData) (row_sound : IsSoundRow file row) (by
       let d : EdgeData = record { guard = of_state; target = 0; marks = [] } in
       (get_or row.edges place d, slice_get-get_or row.edges place d within)
 
-  pub joined_by_letters : (targets : List Target) → AreTargets row targets →
+  pub joined_by_letters : {targets : List Target} → AreTargets row targets →
       AreJoined file row (length row.edges) targets (λ letter. Some (letter % 2 ^ length file.names))
-  joined_by_letters targets a = record {
+  joined_by_letters {targets} a = record {
     there = λ letter small e.
         let here : e.place ≡ letter % 2 ^ length file.names =
-        sym (letter_of_place e.place letter e.edge e.at_place e.taken) ∙ sym (mod-eq_of_lt small) in
+        sym (letter_of_place e.place e.at_place e.taken) ∙ sym (mod-eq_of_lt small) in
         subst (IsTargetAt row e.edge targets) here (a.each e.place e.edge e.at_place);
     from = λ letter place small _.
         let size = by.1 in
@@ -82,7 +82,7 @@ module _ (file : FileData) (row : RowData) (row_sound : IsSoundRow file row) (by
           within = omega (arith, small, size);
           edge = edge.0;
           at_place = edge.1;
-          taken = open_at_place letter edge.0 edge.1;
+          taken = open_at_place letter edge.1;
         };
     within = λ place target e.
         let size = a.one_each in

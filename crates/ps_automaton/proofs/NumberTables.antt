@@ -121,9 +121,8 @@ attained base (link ∷ links) has small =
         ap (λ (b : Bool). cond b (first_number base (link ∷ links)) (alone base links set)) other
 
     by_first : (b : Bool) → has link.colour ≡ b → (level_by base links has ≡ base_number base) ⊎
-        Attained base links has →
-        (cond b (first_number base (link ∷ links)) (level_by base links has) ≡ base_number base) ⊎
-        Attained base (link ∷ links) has
+        Attained base links has → (cond b (first_number base (link ∷ links)) (level_by base links has) ≡ base_number
+        base) ⊎ Attained base (link ∷ links) has
     by_first true first before = inr (record {
       set = link.colour;
       small = small 0 link (omega arith);
@@ -141,12 +140,11 @@ attained base (link ∷ links) has small =
           ∙ sym (by_set a.set not_first a.has_it);
     })
 
-pub most_is_level : (chain : Chain) (base : ℕ) (numbers : List ℕ) (has : ℕ → Bool) → AreSetsBelow 64 chain.links →
+pub most_is_level : {chain : Chain} {base : ℕ} {numbers : List ℕ} (has : ℕ → Bool) → AreSetsBelow 64 chain.links →
     IsTable chain base numbers → most base numbers has 64 ≡ level chain has
-most_is_level chain base numbers has small table =
+most_is_level {chain} {base} {numbers} has small table =
     let low : base ≤ level chain has =
-    (let is = table.base_is in let below = base_below_level chain.base chain.links has in omega (arith, is, below))
-    in
+    (let is = table.base_is in let below = base_below_level chain.base chain.links has in omega (arith, is, below)) in
     let above : most base numbers has 64 ≤ level chain has =
     most_below base numbers has 64 (level chain has) low (λ s h is.
     let value = table.by_set_is s h in let below = alone_below_level chain.base chain.links has s is in
@@ -169,10 +167,10 @@ raised_at_most false next =
 pub none_behind : (links : List code.Link) (k : ℕ) → length links ≤ k → drop k (map link_data links) ≡ []
 none_behind links k done = drop_all k (map link_data links) (let len = length-map links link_data in omega (arith, len))
 
-pub link_before : (links : List code.Link) (k : ℕ) (link : code.Link) → 0 < k → k ≤ length links →
+pub link_before : (links : List code.Link) (k : ℕ) {link : code.Link} → 0 < k → k ≤ length links →
     link ≡ get_or links (k - 1) link → drop (k - 1) (map link_data links) ≡ link_data link ∷ drop k
     (map link_data links)
-link_before links k link some within is =
+link_before links k {link} some within is =
     let low : k - 1 < length links = omega arith in
     let next : suc (k - 1) ≡ k = omega arith in
     drop-map link_data (k - 1) links ∙ ap (map link_data) (drop-cons links (k - 1) link low)
@@ -180,18 +178,18 @@ link_before links k link some within is =
     ∙ ap (λ n. link_data link ∷ map link_data (drop n links)) next
     ∙ ap (λ (xs : List Link). link_data link ∷ xs) (sym (drop-map link_data k links))
 
-pub set_of_link : (links : List code.Link) (k : ℕ) (link : code.Link) → AreSetsBelow 64 (map link_data links) →
+pub set_of_link : (links : List code.Link) (k : ℕ) {link : code.Link} → AreSetsBelow 64 (map link_data links) →
     k < length links → link ≡ get_or links k link → link.set < 64
-set_of_link links k link small within is =
+set_of_link links k {link} small within is =
     let there : get_or (map link_data links) k (link_data link) ≡ link_data link = get_or-map link_data links k link
     ∙ ap link_data (sym is) in
     subst (λ (l : Link). l.colour < 64) there (small k (link_data link)
     (let len = length-map links link_data in omega (arith, len)))
 
-pub table_step : (base : Bool) (link : Link) (rest : List Link) (numbers : List ℕ) (number s : ℕ) →
+pub table_step : (base : Bool) (link : Link) (rest : List Link) (numbers : List ℕ) {number : ℕ} (s : ℕ) →
     length numbers ≡ 64 → link.colour < 64 → number ≡ first_number base (link ∷ rest) →
     get_or numbers s 0 ≡ alone base rest s → get_or (set numbers link.colour number) s 0 ≡ alone base (link ∷ rest) s
-table_step base link rest numbers number s size small is before = by_colour (nat_eq link.colour s) refl
+table_step base link rest numbers {number} s size small is before = by_colour (nat_eq link.colour s) refl
   where
     inside : link.colour < length numbers
     inside = omega (arith, size, small)

@@ -50,47 +50,44 @@ greatest_split f from (suc m) n =
 
 -- ## Values that repeat
 
-repeats_often : (f : ℕ → ℕ) (from count : ℕ) → Repeats f from count → (often t : ℕ) → from ≤ t →
+repeats_often : {f : ℕ → ℕ} {from : ℕ} (count : ℕ) → Repeats f from count → (often t : ℕ) → from ≤ t →
     f (t + often * count) ≡ f t
-repeats_often f from count again zero t low = ap f (omega arith)
-repeats_often f from count again (suc often) t low =
+repeats_often {f} count again zero t low = ap f (omega arith)
+repeats_often {f} {from} count again (suc often) t low =
     let place : t + suc often * count ≡ t + often * count + count = omega arith in
-    ap f place ∙ again (t + often * count) (omega arith) ∙ repeats_often f from count again often t low
+    ap f place ∙ again (t + often * count) (omega arith) ∙ repeats_often count again often t low
 
 -- each later value is one of the first
-later_below : (f : ℕ → ℕ) (from count : ℕ) → Repeats f from count → 0 < count → (t : ℕ) → from ≤ t →
+later_below : {f : ℕ → ℕ} {from count : ℕ} → Repeats f from count → 0 < count → (t : ℕ) → from ≤ t →
     f t ≤ greatest_from f from count
-later_below f from count again some t low =
+later_below {f} {from} {count} again some t low =
     let r = (t - from) % count in
     let k = (t - from) / count in
     let parts : count * k + r ≡ t - from = div-add-mod (t - from) count in
     let small : r < count = mod-lt (t - from) some in
     let place : t ≡ (from + r) + k * count = omega (arith, parts) in
-    let is : f t ≡ f (from + r) = ap f place ∙ repeats_often f from count again k (from + r) (omega arith) in
+    let is : f t ≡ f (from + r) = ap f place ∙ repeats_often count again k (from + r) (omega arith) in
     let below : f (from + r) ≤ greatest_from f from count =
     place_below f from count (from + r) (omega arith) (omega (arith, small)) in
     omega (arith, is, below)
 
-one_below_other : (f : ℕ → ℕ) (a p b q : ℕ) → Repeats f a p → Repeats f b q → 0 < p → 0 < q →
+one_below_other : {f : ℕ → ℕ} {a p b q : ℕ} → Repeats f a p → Repeats f b q → 0 < p → 0 < q →
     greatest_from f a p ≤ greatest_from f b q
-one_below_other f a p b q again later some_p some_q = all_below f a p (greatest_from f b q) (λ t low high.
+one_below_other {f} {a} {p} {b} {q} again later some_p some_q = all_below f a p (greatest_from f b q) (λ t low high.
     let many : b * 1 ≤ b * p = mul-le-mul_left b some_p in
-    let is : f (t + b * p) ≡ f t = repeats_often f a p again b t low in
-    let below : f (t + b * p) ≤ greatest_from f b q =
-    later_below f b q later some_q (t + b * p) (omega (arith, many)) in
+    let is : f (t + b * p) ≡ f t = repeats_often p again b t low in
+    let below : f (t + b * p) ≤ greatest_from f b q = later_below later some_q (t + b * p) (omega (arith, many)) in
     omega (arith, is, below))
 
-pub any_return_decides : (f : ℕ → ℕ) (a p b q : ℕ) → Repeats f a p → Repeats f b q → 0 < p → 0 < q →
+pub any_return_decides : {f : ℕ → ℕ} {a p b q : ℕ} → Repeats f a p → Repeats f b q → 0 < p → 0 < q →
     greatest_from f a p ≡ greatest_from f b q
-any_return_decides f a p b q again later some_p some_q =
-    le_antisymm (one_below_other f a p b q again later some_p some_q)
-    (one_below_other f b q a p later again some_q some_p)
+any_return_decides {f} {a} {p} {b} {q} again later some_p some_q =
+    le_antisymm (one_below_other again later some_p some_q) (one_below_other later again some_q some_p)
 
 -- ## Words
 
 pub word_within : (stem lap : List ℕ) (t : ℕ) → t < length stem → word stem lap t ≡ get_or stem t 0
-word_within stem lap t low =
-    ap (λ (b : Bool). cond b (get_or stem t 0) (get_or lap ((t - length stem) % length lap) 0))
+word_within stem lap t low = ap (λ (b : Bool). cond b (get_or stem t 0) (get_or lap ((t - length stem) % length lap) 0))
     (lt-ltb t (length stem) low)
 
 pub word_behind : (stem lap : List ℕ) (t : ℕ) → length stem ≤ t →
@@ -113,8 +110,7 @@ pub word_of_lap : (stem lap : List ℕ) (laps k : ℕ) → k < length lap →
 word_of_lap stem lap laps k within =
     let place : length stem + laps * length lap + k - length stem ≡ laps * length lap + k = omega arith in
     word_behind stem lap (length stem + laps * length lap + k) (omega arith)
-    ∙ ap (λ n. get_or lap (n % length lap) 0) place ∙ ap (λ n. get_or lap n 0)
-    (mod-mul-add laps (length lap) k within)
+    ∙ ap (λ n. get_or lap (n % length lap) 0) place ∙ ap (λ n. get_or lap n 0) (mod-mul-add laps (length lap) k within)
 
 -- ## States
 
@@ -122,30 +118,30 @@ next_same : (a : Auto) (w : ℕ → ℕ) (s t : ℕ) → state_at a w s ≡ stat
     state_at a w (suc s) ≡ state_at a w (suc t)
 next_same a w s t same letter = ap (λ q. a.next q (w s)) same ∙ ap (λ x. a.next (state_at a w t) x) letter
 
-states_repeat_from : (a : Auto) (w : ℕ → ℕ) (from count : ℕ) → Repeats w from count →
+states_repeat_from : (a : Auto) {w : ℕ → ℕ} {from : ℕ} (count : ℕ) → Repeats w from count →
     state_at a w (from + count) ≡ state_at a w from → (n : ℕ) →
     state_at a w (from + n + count) ≡ state_at a w (from + n)
-states_repeat_from a w from count again back zero =
+states_repeat_from a {w} {from} count again back zero =
     let at : from + 0 + count ≡ from + count = omega arith in
     let here : from ≡ from + 0 = omega arith in
     ap (state_at a w) at ∙ back ∙ ap (state_at a w) here
-states_repeat_from a w from count again back (suc n) =
+states_repeat_from a {w} {from} count again back (suc n) =
     let at : from + suc n + count ≡ suc (from + n + count) = omega arith in
     let here : suc (from + n) ≡ from + suc n = omega arith in
-    ap (state_at a w) at ∙ next_same a w (from + n + count) (from + n) (states_repeat_from a w from count again back n)
+    ap (state_at a w) at ∙ next_same a w (from + n + count) (from + n) (states_repeat_from a count again back n)
     (again (from + n) (omega arith)) ∙ ap (state_at a w) here
 
-pub states_repeat : (a : Auto) (w : ℕ → ℕ) (from count : ℕ) → Repeats w from count →
+pub states_repeat : (a : Auto) {w : ℕ → ℕ} {from : ℕ} (count : ℕ) → Repeats w from count →
     state_at a w (from + count) ≡ state_at a w from → Repeats (state_at a w) from count
-states_repeat a w from count again back t low =
+states_repeat a {w} {from} count again back t low =
     let place : t + count ≡ from + (t - from) + count = omega arith in
     let there : from + (t - from) ≡ t = omega arith in
-    ap (state_at a w) place ∙ states_repeat_from a w from count again back (t - from) ∙ ap (state_at a w) there
+    ap (state_at a w) place ∙ states_repeat_from a count again back (t - from) ∙ ap (state_at a w) there
 
-pub priorities_repeat : (a : Auto) (w : ℕ → ℕ) (from count : ℕ) → Repeats w from count →
+pub priorities_repeat : (a : Auto) {w : ℕ → ℕ} {from : ℕ} (count : ℕ) → Repeats w from count →
     state_at a w (from + count) ≡ state_at a w from → Repeats (priority_at a w) from count
-priorities_repeat a w from count again back t low =
-    ap (λ q. a.priority q (w (t + count))) (states_repeat a w from count again back t low)
+priorities_repeat a {w} {from} count again back t low =
+    ap (λ q. a.priority q (w (t + count))) (states_repeat a count again back t low)
     ∙ ap (λ x. a.priority (state_at a w t) x) (again t low)
 
 -- ## Lists of letters
@@ -176,8 +172,7 @@ list_is_read a w from (x ∷ xs) each =
 pub stem_is_read : (a : Auto) (stem lap : List ℕ) → state_at a (word stem lap) (length stem) ≡
     state_behind a a.start stem
 stem_is_read a stem lap =
-    let read =
-    list_is_read a (word stem lap) 0 stem (λ k within. let place : 0 + k ≡ k = omega arith in
+    let read = list_is_read a (word stem lap) 0 stem (λ k within. let place : 0 + k ≡ k = omega arith in
     ap (word stem lap) place ∙ word_within stem lap k within) in
     let place : length stem ≡ 0 + length stem = omega arith in
     ap (state_at a (word stem lap)) place ∙ read.state
@@ -214,8 +209,7 @@ greatest_is_read a stem lap before (suc laps) =
     let q = state_behind a a.start stem in
     let more_letters : suc laps * length lap ≡ laps * length lap + length lap = omega arith in
     let place : from + laps * length lap ≡ length stem + (before + laps) * length lap = omega arith in
-    let read =
-    list_is_read a w (length stem + (before + laps) * length lap) lap
+    let read = list_is_read a w (length stem + (before + laps) * length lap) lap
     (λ k within. word_of_lap stem lap (before + laps) k within) in
     let state : state_at a w (length stem + (before + laps) * length lap) ≡ state_after a (state_after a q lap before)
     lap laps = laps_are_read a stem lap (before + laps) ∙ laps_together a q lap before laps in
@@ -223,8 +217,7 @@ greatest_is_read a stem lap before (suc laps) =
     (state_after a (state_after a q lap before) lap laps) lap =
     ap (λ n. greatest_from (priority_at a w) n (length lap)) place ∙ read.greatest
     ∙ ap (λ s. greatest_along a s lap) state in
-    ap (greatest_from (priority_at a w) from) more_letters ∙ greatest_split (priority_at a w) from
-    (laps * length lap) (length lap)
-    ∙ ap (λ n. max n (greatest_from (priority_at a w) (from + laps * length lap) (length lap)))
-    (greatest_is_read a stem lap before laps)
-    ∙ ap (λ n. max (greatest_of_laps a (state_after a q lap before) lap laps) n) last_lap
+    ap (greatest_from (priority_at a w) from) more_letters ∙ greatest_split (priority_at a w) from (laps * length lap)
+    (length lap) ∙ ap (λ n. max n (greatest_from (priority_at a w) (from + laps * length lap) (length lap)))
+    (greatest_is_read a stem lap before laps) ∙ ap (λ n. max
+    (greatest_of_laps a (state_after a q lap before) lap laps) n) last_lap

@@ -18,12 +18,12 @@ pub at_end : {X : Type 0} (xs : List X) (y : X) → slice_get (xs ++ y ∷ []) (
 at_end [] y = refl
 at_end (x ∷ xs) y = at_end xs y
 
-at_last_place : {X : Type 0} (xs : List X) (y : X) (i : ℕ) (x : X) → slice_get (xs ++ y ∷ []) i ≡ Some x →
+at_last_place : {X : Type 0} (xs : List X) (y : X) (i : ℕ) {x : X} → slice_get (xs ++ y ∷ []) i ≡ Some x →
     (slice_get xs i ≡ Some x) ⊎ ((x ≡ y) × (i ≡ length xs))
-at_last_place [] y zero x e = inr (sym (same_some y x e), refl)
-at_last_place [] y (suc i) x e = absurd (none_is_some x e)
-at_last_place (z ∷ xs) y zero x e = inl e
-at_last_place (z ∷ xs) y (suc i) x e = go (at_last_place xs y i x e)
+at_last_place [] y zero {x} e = inr (sym (same_some y x e), refl)
+at_last_place [] y (suc i) {x} e = absurd (none_is_some x e)
+at_last_place (z ∷ xs) y zero e = inl e
+at_last_place (z ∷ xs) y (suc i) {x} e = go (at_last_place xs y i e)
   where
     go : (slice_get xs i ≡ Some x) ⊎ ((x ≡ y) × (i ≡ length xs)) →
         (slice_get xs i ≡ Some x) ⊎ ((x ≡ y) × (suc i ≡ suc (length xs)))
@@ -56,13 +56,13 @@ target_tied t =
 
 -- ## Places
 
-module _ (old new : List Target) (t : Target) (place : ℕ) (is : IsPlaced old new t place) where
+module _ {old new : List Target} {t : Target} {place : ℕ} (is : IsPlaced old new t place) where
   pub placed_keeps : (i : ℕ) (x : Target) → slice_get old i ≡ Some x → slice_get new i ≡ Some x
   placed_keeps i x e = by_list is.list
     where
       by_list : (new ≡ old) ⊎ (new ≡ old ++ t ∷ []) → slice_get new i ≡ Some x
       by_list (inl same) = ap (λ (ts : List Target). slice_get ts i) same ∙ e
-      by_list (inr more) = ap (λ (ts : List Target). slice_get ts i) more ∙ at_left old (t ∷ []) i x e
+      by_list (inr more) = ap (λ (ts : List Target). slice_get ts i) more ∙ at_left old (t ∷ []) i e
 
   -- a target was there, or is the one that was placed
   pub placed_is : (i : ℕ) (x : Target) → slice_get new i ≡ Some x → (slice_get old i ≡ Some x) ⊎ (x ≡ t)
@@ -70,20 +70,20 @@ module _ (old new : List Target) (t : Target) (place : ℕ) (is : IsPlaced old n
     where
       by_list : (new ≡ old) ⊎ (new ≡ old ++ t ∷ []) → (slice_get old i ≡ Some x) ⊎ (x ≡ t)
       by_list (inl same) = inl (sym (ap (λ (ts : List Target). slice_get ts i) same) ∙ e)
-      by_list (inr more) = at_last old t i x (sym (ap (λ (ts : List Target). slice_get ts i) more) ∙ e)
+      by_list (inr more) = at_last old t i (sym (ap (λ (ts : List Target). slice_get ts i) more) ∙ e)
 
 -- ## Tables
 
-pub distinct_by_table : (targets : List Target) (table : ℕ → ℕ → Option ℕ) → IsTableOf targets table →
+pub distinct_by_table : {targets : List Target} {table : ℕ → ℕ → Option ℕ} → IsTableOf targets table →
     AreDistinct targets
-distinct_by_table targets table is i j t a b = same_some i j (sym (is.whole t i a) ∙ is.whole t j b)
+distinct_by_table is i j t a b = same_some i j (sym (is.whole t i a) ∙ is.whole t j b)
 
-pub table_same : (old new : List Target) (table : ℕ → ℕ → Option ℕ) → new ≡ old → IsTableOf old table →
+pub table_same : {old new : List Target} {table : ℕ → ℕ → Option ℕ} → new ≡ old → IsTableOf old table →
     IsTableOf new table
-table_same old new table e is = subst (λ (ts : List Target). IsTableOf ts table) (sym e) is
+table_same {table} e is = subst (λ (ts : List Target). IsTableOf ts table) (sym e) is
 
-module _ (targets : List Target) (old new : ℕ → ℕ → Option ℕ) (t : Target) (place : ℕ) (is : IsTableOf targets old)
-    (size : place ≡ length targets) (none : old t.state t.sets ≡ None)
+module _ {targets : List Target} {old : ℕ → ℕ → Option ℕ} (new : ℕ → ℕ → Option ℕ) (t : Target) {place : ℕ}
+    (is : IsTableOf targets old) (size : place ≡ length targets) (none : old t.state t.sets ≡ None)
     (puts : (state sets : ℕ) →
     new state sets ≡ cond (is_eq (pair_cmp (t.state, t.sets) (state, sets))) (Some place) (old state sets)) where
   here : new t.state t.sets ≡ Some place
@@ -96,20 +96,19 @@ module _ (targets : List Target) (old new : ℕ → ℕ → Option ℕ) (t : Tar
   pub table_push : IsTableOf (targets ++ t ∷ []) new
   table_push = record {
     sound = λ s p h. sound_by s p h (cases_Bool (is_eq (pair_cmp (t.state, t.sets) (s.state, s.sets))));
-    whole = λ s p h. whole_by s p (at_last_place targets t p s h)
+    whole = λ s p h. whole_by s p (at_last_place targets t p h)
         (cases_Bool (is_eq (pair_cmp (t.state, t.sets) (s.state, s.sets))));
   }
     where
       sound_by : (s : Target) (p : ℕ) → new s.state s.sets ≡ Some p →
-          (is_eq (pair_cmp (t.state, t.sets) (s.state, s.sets)) ≡ true)
-          ⊎ (is_eq (pair_cmp (t.state, t.sets) (s.state, s.sets)) ≡ false) →
-          slice_get (targets ++ t ∷ []) p ≡ Some s
+          (is_eq (pair_cmp (t.state, t.sets) (s.state, s.sets)) ≡ true) ⊎
+          (is_eq (pair_cmp (t.state, t.sets) (s.state, s.sets)) ≡ false) → slice_get (targets ++ t ∷ []) p ≡ Some s
       sound_by s p h (inl one) =
           let same : t ≡ s = same_target t s one in
           let at : p ≡ length targets =
           sym (same_some place p (sym here ∙ ap (λ (x : Target). new x.state x.sets) same ∙ h)) ∙ size in
           ap (slice_get (targets ++ t ∷ [])) at ∙ at_end targets t ∙ ap (λ (x : Target). Some x) same
-      sound_by s p h (inr other) = at_left targets (t ∷ []) p s (is.sound s p (sym (there s other) ∙ h))
+      sound_by s p h (inr other) = at_left targets (t ∷ []) p (is.sound s p (sym (there s other) ∙ h))
 
       whole_by : (s : Target) (p : ℕ) → (slice_get targets p ≡ Some s) ⊎ ((s ≡ t) × (p ≡ length targets)) →
           (is_eq (pair_cmp (t.state, t.sets) (s.state, s.sets)) ≡ true)

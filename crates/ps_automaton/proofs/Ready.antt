@@ -1,49 +1,38 @@
 -- What guards need is kept where a store grows.
-use Rattle.std.proofs.Common.{◌≡◌, ℕ, ◌<◌, ◌≤◌, List, length, map, take, get_or, Option, Some, None, ◌∙◌, arith}
-use Rattle.std.specs.List.{slice_get}
+use Rattle.std.proofs.Common.{ℕ, List, Option, Some, None, ◌∙◌}
 use Rattle.std.specs.Prelude.{slice_index}
-use Rattle.std.proofs.lemmas.List.{get_or-take, length-take}
 use Rattle.ps_label.specs.Expression.{Expression}
 use Rattle.ps_diagram.specs.Labels.{AreNodesOf}
 use Rattle.ps_diagram.specs.Table.{Table, Keeps}
 use Rattle.ps_hoa.specs.Files.{FileData}
-use Rattle.ps_hoa.specs.Views.{edge_data, row_data}
-use Rattle.ps_hoa.specs.declared.file.Edge.{Edge}
+use Rattle.ps_hoa.specs.Views.{row_data}
 use Rattle.ps_automaton.specs.Drafts.{IsLabelNode, IsReady}
 use Rattle.ps_automaton.specs.declared.guards.Guards.{Guards}
-use Rattle.ps_automaton.proofs.Fitting.{edge_at}
 use Rattle.ps_automaton.proofs.Meeting.{kept_leaf}
 
-pub kept_nodes : (t u : Table) → Keeps t u → (aliases : List Expression) (nodes : List ℕ) → AreNodesOf t aliases nodes →
+pub kept_nodes : {t u : Table} → Keeps t u → {aliases : List Expression} {nodes : List ℕ} → AreNodesOf t aliases nodes →
     AreNodesOf u aliases nodes
-kept_nodes t u keeps aliases nodes a = record {
+kept_nodes {t} {u} keeps {nodes} a = record {
   one_each = a.one_each;
   truths = record {
     held = λ k within. keeps.held (slice_index nodes k) (a.truths.held k within);
-    leaf = λ k letter within. kept_leaf t u keeps (slice_index nodes k) letter (a.truths.held k within)
-        ∙ a.truths.leaf k letter within;
+    leaf = λ k letter within. kept_leaf keeps letter (a.truths.held k within) ∙ a.truths.leaf k letter within;
   };
 }
 
-kept_label : (t u : Table) → Keeps t u → (file : FileData) (label : Option Expression) (node : Option ℕ) →
+kept_label : {t u : Table} → Keeps t u → (file : FileData) (label : Option Expression) (node : Option ℕ) →
     IsLabelNode t file label node → IsLabelNode u file label node
-kept_label t u keeps file None None h = tt
-kept_label t u keeps file None (Some node) h = absurd h
-kept_label t u keeps file (Some e) None h = absurd h
-kept_label t u keeps file (Some e) (Some node) h =
-    (keeps.held node h.0, λ letter. kept_leaf t u keeps node letter h.0 ∙ h.1 letter)
+kept_label keeps file None None h = tt
+kept_label keeps file None (Some node) h = absurd h
+kept_label keeps file (Some e) None h = absurd h
+kept_label {t} {u} keeps file (Some e) (Some node) h =
+    (keeps.held node h.0, λ letter. kept_leaf keeps letter h.0 ∙ h.1 letter)
 
-pub kept_ready : (t u : Table) → Keeps t u → (g : Guards) → IsReady t g → IsReady u g
-kept_ready t u keeps g r = record {
+pub kept_ready : {t u : Table} → Keeps t u → {g : Guards} → IsReady t g → IsReady u g
+kept_ready {t} {u} keeps {g} r = record {
   sound = r.sound;
   row = r.row;
   letters = keeps.propositions ∙ r.letters;
-  aliases = kept_nodes t u keeps g.file.now.aliases g.aliases.now r.aliases;
-  label = kept_label t u keeps g.file.now (row_data g.row.now).label g.label r.label;
+  aliases = kept_nodes keeps r.aliases;
+  label = kept_label keeps g.file.now (row_data g.row.now).label g.label r.label;
 }
-
-pub edge_before : (items : List Edge) (count k : ℕ) (e : Edge) → count ≤ length items → k < length (take count items) →
-    e ≡ get_or (take count items) k e → (k < count) × (slice_get (map edge_data items) k ≡ Some (edge_data e))
-edge_before items count k e fits within is =
-    let below : k < count = (let n = length-take count items in omega (arith, n, within)) in
-    (below, edge_at items k e (omega (arith, below, fits)) (is ∙ get_or-take count items k e below))

@@ -34,25 +34,24 @@ level_by_same base (link ∷ links) f g few same =
     ∙ ap (λ n. cond (g link.colour) first n) rest
 
 -- each leaf of joined edges is the place of a target
-pub leaf_within : (file : FileData) (row : RowData) (count : ℕ) (targets : List Target) (t : Table) (node : ℕ) →
+pub leaf_within : {file : FileData} {row : RowData} {count : ℕ} {targets : List Target} {t : Table} {node : ℕ} →
     IsUnion file row count targets t node → (letter : ℕ) → letter < 2 ^ length file.names →
     IfSome (leaf_of t node letter) (λ k. k < length targets)
-leaf_within file row count targets t node union letter small = by_leaf (leaf_of t node letter) refl
+leaf_within {row} {targets} {t} {node} union letter small = by_leaf (leaf_of t node letter) refl
   where
     by_leaf : (o : Option ℕ) → leaf_of t node letter ≡ o → IfSome o (λ k. k < length targets)
     by_leaf None e = tt
     by_leaf (Some k) e =
         let there : IsTargetAt row (union.joined.from letter k small e).edge targets k =
-        at_leaf (IsTargetAt row (union.joined.from letter k small e).edge targets) (leaf_of t node letter) k e
+        at_leaf (IsTargetAt row (union.joined.from letter k small e).edge targets) (leaf_of t node letter) e
         (union.joined.there letter small (union.joined.from letter k small e)) in
         slice_get_within targets k there.0 there.1
 
 -- the leaf of a taken edge, and none where no edge is taken, in a joined row of all edges
-module _ (file : FileData) (sound : IsSoundFile file) (row : RowData) (row_sound : IsSoundRow file row) (chain : Chain)
-    (few : AreSetsBelow 64 chain.links)
-    (targets : List Target) (place_at : ℕ → Option ℕ) (joined : AreJoined file row (length row.edges) targets place_at)
-    (steps : List Step) (all_steps : AreSteps file.states steps) (places : List ℕ)
-    (are_places : ArePlaces chain targets steps places) where
+module _ {file : FileData} (sound : IsSoundFile file) {row : RowData} (row_sound : IsSoundRow file row) {chain : Chain}
+    (few : AreSetsBelow 64 chain.links) {targets : List Target} {place_at : ℕ → Option ℕ}
+    (joined : AreJoined file row (length row.edges) targets place_at) {steps : List Step}
+    (all_steps : AreSteps file.states steps) {places : List ℕ} (are_places : ArePlaces chain targets steps places) where
   -- the leaf that is made of one
   abbrev pub made_of : Option ℕ → ℕ
   made_of o = unwrap_or (option_map (λ k. slice_index places k) o) 0
@@ -79,12 +78,12 @@ module _ (file : FileData) (sound : IsSoundFile file) (row : RowData) (row_sound
   made_within (Some k) = place_within k
 
   -- the step of a taken edge
-  edge_step : (letter : ℕ) (e : TakenEdge file row (length row.edges) letter) (o : Option ℕ) →
+  edge_step : {letter : ℕ} (e : TakenEdge file row (length row.edges) letter) (o : Option ℕ) →
       IsSomeAnd o (IsTargetAt row e.edge targets) → (sets : ℕ → Bool) →
       ((set : ℕ) → sets set ≡ is_marked row e.edge set) →
       slice_get steps (made_of o) ≡ Some (record { state = e.edge.target; priority = level chain sets })
-  edge_step letter e None h sets marked = absurd h
-  edge_step letter e (Some k) h sets marked =
+  edge_step e None h sets marked = absurd h
+  edge_step e (Some k) h sets marked =
       let within : k < length targets = slice_get_within targets k h.0 h.1 in
       let size = are_places.one_each in
       let at : slice_get places k ≡ Some (get_or places k 0) =
@@ -97,17 +96,16 @@ module _ (file : FileData) (sound : IsSoundFile file) (row : RowData) (row_sound
       named ∙ ap (λ n. Some (made n (level chain (λ set. is_in set h.0.sets)))) h.2.state
       ∙ ap (λ m. Some (made e.edge.target m)) levels
 
-  module _ (q : ℕ) (of_state : row_of file q ≡ Some row) (after : Table) (made : ℕ) (held : IsNode after made)
+  module _ (q : ℕ) (of_state : row_of file q ≡ Some row) (after : Table) {made : ℕ} (held : IsNode after made)
       (leaf : (letter : ℕ) → leaf_of after made letter ≡ Some (made_of (place_at letter))) where
-    edge_of : (letter : ℕ) (sets : ℕ → Bool) (next : ℕ) (g : Goes file q letter sets next) →
+    edge_of : {letter : ℕ} {sets : ℕ → Bool} {next : ℕ} (g : Goes file q letter sets next) →
         (e : TakenEdge file row (length row.edges) letter) × ((set : ℕ) → sets set ≡ is_marked row e.edge set) ×
         (e.edge.target ≡ next)
-    edge_of letter sets next g =
+    edge_of {letter} g =
         let same : g.row ≡ row = same_some g.row row (sym g.of_state ∙ of_state) in
         let at : slice_get row.edges g.place ≡ Some g.edge = ap (λ (r : RowData). slice_get r.edges g.place) (sym same)
         ∙ g.at_place in
-        let e : TakenEdge file row (length row.edges) letter =
-        record {
+        let e : TakenEdge file row (length row.edges) letter = record {
           place = g.place;
           within = slice_get_within row.edges g.place g.edge at;
           edge = g.edge;
@@ -116,17 +114,17 @@ module _ (file : FileData) (sound : IsSoundFile file) (row : RowData) (row_sound
         } in
         (e, λ set. g.marked set ∙ ap (λ (r : RowData). is_marked r g.edge set) same, g.target)
 
-    names_at : (letter : ℕ) (step : Step) → slice_get steps (made_of (place_at letter)) ≡ Some step →
+    names_at : (letter : ℕ) {step : Step} → slice_get steps (made_of (place_at letter)) ≡ Some step →
         Names steps (leaf_of after made letter) step
-    names_at letter step e = subst (λ o. Names steps o step) (sym (leaf letter)) e
+    names_at letter {step} e = subst (λ o. Names steps o step) (sym (leaf letter)) e
 
     by_edge_of : (letter : ℕ) (sets : ℕ → Bool) (next : ℕ) → Goes file q letter sets next →
         Names steps (leaf_of after made letter) (record { state = next; priority = level chain sets })
     by_edge_of letter sets next g =
-        let e = edge_of letter sets next g in
-        let step = edge_step letter e.0 (place_at letter) (joined.there letter g.is_letter e.0) sets e.1 in
+        let e = edge_of g in
+        let step = edge_step e.0 (place_at letter) (joined.there letter g.is_letter e.0) sets e.1 in
         subst (λ n. Names steps (leaf_of after made letter) (record { state = n; priority = level chain sets })) e.2
-        (names_at letter (record { state = e.0.edge.target; priority = level chain sets }) step)
+        (names_at letter step)
 
     moves_or_stops : (letter : ℕ) → letter < 2 ^ length file.names →
         Moves file chain q letter steps (leaf_of after made letter) ⊎
@@ -137,16 +135,13 @@ module _ (file : FileData) (sound : IsSoundFile file) (row : RowData) (row_sound
             Stops file q letter steps (leaf_of after made letter)
         by_leaf None e = inr (record {
           none = λ sets next g.
-              let taken = edge_of letter sets next g in
+              let taken = edge_of g in
               subst (λ o. IsSomeAnd o (IsTargetAt row taken.0.edge targets)) e (joined.there letter small taken.0);
-          named =
-              names_at letter (record { state = file.states; priority = 1 })
-              (ap (λ o. slice_get steps (made_of o)) e ∙ all_steps.sink);
+          named = names_at letter (ap (λ o. slice_get steps (made_of o)) e ∙ all_steps.sink);
         })
         by_leaf (Some k) e =
             let taken = joined.from letter k small e in
-            let goes : Goes file q letter (is_marked row taken.edge) taken.edge.target =
-            record {
+            let goes : Goes file q letter (is_marked row taken.edge) taken.edge.target = record {
               is_letter = small;
               row = row;
               of_state = of_state;
@@ -167,14 +162,13 @@ module _ (file : FileData) (sound : IsSoundFile file) (row : RowData) (row_sound
     pub steps_of_row : IsStepsOf file chain q steps after made
     steps_of_row = record {
       held = held;
-      leaves =
-          λ letter. subst (λ o. IsSomeAnd o (λ l. l < length steps)) (sym (leaf letter))
+      leaves = λ letter. subst (λ o. IsSomeAnd o (λ l. l < length steps)) (sym (leaf letter))
           (made_within (place_at letter));
       steps_of = moves_or_stops;
       by_edge = by_edge_of;
       clear = λ first second k.
           let same : k.row ≡ row = same_some k.row row (sym k.of_state ∙ of_state) in
           let clashing = subst (λ r. AreClashing file r first second) same k.clashing in
-          union_clear file sound row row_sound (length row.edges) targets place_at joined first second
+          union_clear sound row_sound joined
           (slice_get_within row.edges second clashing.other clashing.at_second) clashing;
     }

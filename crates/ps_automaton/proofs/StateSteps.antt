@@ -9,19 +9,19 @@ use Rattle.ps_automaton.specs.declared.fault.AutomatonFault.{AutomatonFault}
 use Rattle.ps_automaton.specs.declared.fault.AutomatonFault.TheVariants.{ComplementedSet, NonParity, Nondeterministic}
 use Rattle.ps_automaton.specs.declared.fault.AutomatonFault.TheVariants.{OutOfMemory}
 
-pub clash_in_row : (file : FileData) (q : ℕ) (row : RowData) → row_of file q ≡ Some row → (a b : ℕ) → Clash file q a b →
+pub clash_in_row : {file : FileData} {q : ℕ} {row : RowData} → row_of file q ≡ Some row → {a b : ℕ} → Clash file q a b →
     AreClashing file row a b
-clash_in_row file q row of_state a b k =
+clash_in_row {file} {row} of_state {a} {b} k =
     subst (λ r. AreClashing file r a b) (same_some k.row row (sym k.of_state ∙ of_state)) k.clashing
 
-pub fault_of_state : (file : FileData) (q : ℕ) (row : RowData) → row_of file q ≡ Some row → row.state ≡ q →
+pub fault_of_state : (file : FileData) {q : ℕ} {row : RowData} → row_of file q ≡ Some row → row.state ≡ q →
     (f : AutomatonFault) → IsRowFault file row f → IsStateFault file q f
-fault_of_state file q row of_state state ComplementedSet h = h
-fault_of_state file q row of_state state NonParity h = h
-fault_of_state file q row of_state state (Nondeterministic p first second) h = (
+fault_of_state file of_state state ComplementedSet h = h
+fault_of_state file of_state state NonParity h = h
+fault_of_state file {q} {row} of_state state (Nondeterministic p first second) h = (
   h.0 ∙ state,
   record { row = row; of_state = of_state; clashing = h.1.clashing },
-  (λ a b k. h.1.least_second a b (clash_in_row file q row of_state a b k)),
-  (λ a k. h.1.least_first a (clash_in_row file q row of_state a second k)),
+  (λ a b k. h.1.least_second a b (clash_in_row of_state k)),
+  (λ a k. h.1.least_first a (clash_in_row of_state k)),
 )
-fault_of_state file q row of_state state OutOfMemory h = tt
+fault_of_state file of_state state OutOfMemory h = tt

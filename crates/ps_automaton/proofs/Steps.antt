@@ -41,16 +41,15 @@ pub extends_same : (a : List Step) → Extends a a
 extends_same a = λ place step e. e
 
 -- one step more
-module _ (steps new : List Step) (step : Step) (keys : new ≡ insert_key step_eq steps step) where
+module _ (steps : List Step) {new : List Step} (step : Step) (keys : new ≡ insert_key step_eq steps step) where
   pub step_extends : Extends steps new
   step_extends =
-      λ place s e. subst (λ ks. slice_get ks place ≡ Some s) (sym keys) (inserted_keeps step_eq steps step place s e)
+      λ place s e. subst (λ ks. slice_get ks place ≡ Some s) (sym keys) (inserted_keeps step_eq steps step place e)
 
-  pub step_within : (states : ℕ) → step.state ≤ states → AreSteps states steps → AreSteps states new
-  step_within states low a = record {
+  pub step_within : {states : ℕ} → step.state ≤ states → AreSteps states steps → AreSteps states new
+  step_within {states} low a = record {
     sink = step_extends 0 (record { state = states; priority = 1 }) a.sink;
-    within =
-        λ place s e. by_place place s (inserted_is step_eq steps step place s
+    within = λ place s e. by_place place s (inserted_is step_eq steps step place
         (subst (λ ks. slice_get ks place ≡ Some s) keys e));
   }
     where
@@ -59,12 +58,12 @@ module _ (steps new : List Step) (step : Step) (keys : new ≡ insert_key step_e
       by_place place s (inr e) =
           let same : s.state ≡ step.state = ap (λ (z : Step). z.state) e in omega (arith, same, low)
 
-pub at_end : (xs : List ℕ) (y i x : ℕ) → slice_get (xs ++ y ∷ []) i ≡ Some x →
+pub at_end : (xs : List ℕ) (y i : ℕ) {x : ℕ} → slice_get (xs ++ y ∷ []) i ≡ Some x →
     (slice_get xs i ≡ Some x) ⊎ ((x ≡ y) × (i ≡ length xs))
-at_end [] y zero x e = inr (sym (same_some y x e), refl)
-at_end [] y (suc i) x e = absurd (none_is_some x e)
-at_end (z ∷ xs) y zero x e = inl e
-at_end (z ∷ xs) y (suc i) x e = by_rest (at_end xs y i x e)
+at_end [] y zero {x} e = inr (sym (same_some y x e), refl)
+at_end [] y (suc i) {x} e = absurd (none_is_some x e)
+at_end (z ∷ xs) y zero e = inl e
+at_end (z ∷ xs) y (suc i) {x} e = by_rest (at_end xs y i e)
   where
     by_rest : (slice_get xs i ≡ Some x) ⊎ ((x ≡ y) × (i ≡ length xs)) →
         (slice_get xs i ≡ Some x) ⊎ ((x ≡ y) × (suc i ≡ suc (length xs)))
@@ -75,13 +74,13 @@ abbrev pub AreNamed : Chain → List Target → List Step → List ℕ → Type 
 AreNamed chain targets steps places = (k place : ℕ) (target : Target) → slice_get targets k ≡ Some target →
     slice_get places k ≡ Some place → slice_get steps place ≡ Some (step_of_target chain target)
 
-pub named_more : (chain : Chain) (targets : List Target) (steps new : List Step) (places more : List ℕ) (index p : ℕ)
-    (x : Target) (step : Step) → Extends steps new → slice_get new p ≡ Some step →
+pub named_more : (chain : Chain) (targets : List Target) (steps new : List Step) (places : List ℕ) {more : List ℕ}
+    {index : ℕ} (p : ℕ) {x : Target} {step : Step} → Extends steps new → slice_get new p ≡ Some step →
     step ≡ step_of_target chain x → slice_get targets index ≡ Some x → length places ≡ index → more ≡ places ++ p ∷ [] →
     AreNamed chain targets steps places → AreNamed chain targets new more
-named_more chain targets steps new places more index p x step extends stored is at size pushed each k place target
+named_more chain targets steps new places p {x} extends stored is at size pushed each k place target
     at_k at_place =
-    by_end (at_end places p k place (sym (ap (λ (ns : List ℕ). slice_get ns k) pushed) ∙ at_place))
+    by_end (at_end places p k (sym (ap (λ (ns : List ℕ). slice_get ns k) pushed) ∙ at_place))
   where
     by_end : (slice_get places k ≡ Some place) ⊎ ((place ≡ p) × (k ≡ length places)) →
         slice_get new place ≡ Some (step_of_target chain target)

@@ -26,9 +26,8 @@ where_marked leaf value (inr a) = inr (ap (option_map (λ _. value)) a.0, a.1)
 
 -- a guarded diagram shows its edge by that leaf
 pub marked_shows : (file : FileData) (row : RowData) (edge : EdgeData) (t u : Table) (node marked value : ℕ) →
-    ShowsEdge file row edge t node 1 →
-    ((letter : ℕ) → leaf_of u marked letter ≡ option_map (λ _. value) (leaf_of t node letter)) →
-    ShowsEdge file row edge u marked value
+    ShowsEdge file row edge t node 1 → ((letter : ℕ) → leaf_of u marked letter ≡ option_map (λ _. value)
+    (leaf_of t node letter)) → ShowsEdge file row edge u marked value
 marked_shows file row edge t u node marked value shows is letter small =
     subst (λ leaf. IsWhere leaf value (IsTaken file row edge letter)) (sym (is letter))
     (where_marked (leaf_of t node letter) value (shows letter small))
@@ -42,30 +41,29 @@ joined_second : (Q : ℕ → Type 0) (o : Option ℕ) (p : ℕ) → AgreeingLeav
 joined_second Q None p a q = q
 joined_second Q (Some x) p a q = subst Q (sym a) q
 
-joined_from : (o m : Option ℕ) (x : ℕ) → joined o m ≡ Some x → (o ≡ Some x) ⊎ (m ≡ Some x)
-joined_from None m x e = inr e
-joined_from (Some y) m x e = inl e
+joined_from : (o m : Option ℕ) {x : ℕ} → joined o m ≡ Some x → (o ≡ Some x) ⊎ (m ≡ Some x)
+joined_from None m e = inr e
+joined_from (Some y) m e = inl e
 
-pub at_leaf : (P : ℕ → Type 0) (o : Option ℕ) (x : ℕ) → o ≡ Some x → IsSomeAnd o P → P x
-at_leaf P None x e h = absurd h
-at_leaf P (Some y) x e h = subst P (same_some y x e) h
+pub at_leaf : (P : ℕ → Type 0) (o : Option ℕ) {x : ℕ} → o ≡ Some x → IsSomeAnd o P → P x
+at_leaf P None e h = absurd h
+at_leaf P (Some y) {x} e h = subst P (same_some y x e) h
 
-pub wider : (file : FileData) (row : RowData) (count letter : ℕ) → TakenEdge file row count letter →
+pub wider : {file : FileData} {row : RowData} {count letter : ℕ} → TakenEdge file row count letter →
     TakenEdge file row (count + 1) letter
-wider file row count letter e =
-    record {
-      place = e.place;
-      within = (let h = e.within in omega (arith, h));
-      edge = e.edge;
-      at_place = e.at_place;
-      taken = e.taken;
-    }
+wider e = record {
+  place = e.place;
+  within = (let h = e.within in omega (arith, h));
+  edge = e.edge;
+  at_place = e.at_place;
+  taken = e.taken;
+}
 
-module _ (file : FileData) (sound : IsSoundFile file) (row : RowData) (row_sound : IsSoundRow file row) where
+module _ {file : FileData} (sound : IsSoundFile file) {row : RowData} (row_sound : IsSoundRow file row) where
   -- edges that were joined do not clash
-  pub union_clear : (count : ℕ) (targets : List Target) (place_at : ℕ → Option ℕ) →
-      AreJoined file row count targets place_at → (a b : ℕ) → b < count → AreClashing file row a b → ⊥
-  union_clear count targets place_at u a b within k =
+  pub union_clear : {count : ℕ} {targets : List Target} {place_at : ℕ → Option ℕ} →
+      AreJoined file row count targets place_at → {a b : ℕ} → b < count → AreClashing file row a b → ⊥
+  union_clear {count} {targets} {place_at} u {a} {b} within k =
       let before : a < count = (let e = k.earlier in omega (arith, e, within)) in
       let one : TakenEdge file row count k.letter =
       record { place = a; within = before; edge = k.one; at_place = k.at_first; taken = k.one_taken } in
@@ -78,33 +76,29 @@ module _ (file : FileData) (sound : IsSoundFile file) (row : RowData) (row_sound
       by_leaf None h g = absurd h
       by_leaf (Some p) h g =
           let same : g.0 ≡ h.0 = same_some g.0 h.0 (sym g.1 ∙ h.1) in
-          alike_of_target file sound row row_sound a b k.one k.other h.0 k.at_first k.at_second h.2
-          (subst (IsTargetOf row k.other) same g.2)
+          alike_of_target sound row_sound a b k.at_first k.at_second h.2 (subst (IsTargetOf row k.other) same g.2)
 
   -- one edge more
-  module _ (count : ℕ) (edge : EdgeData) (at : slice_get row.edges count ≡ Some edge) (target : Target)
-      (is : IsTargetOf row edge target) (old new : List Target) (place : ℕ)
+  module _ {count : ℕ} {edge : EdgeData} (at : slice_get row.edges count ≡ Some edge) {target : Target}
+      (is : IsTargetOf row edge target) {old : List Target} (new : List Target) (place : ℕ)
       (grows : (i : ℕ) (x : Target) → slice_get old i ≡ Some x → slice_get new i ≡ Some x)
-      (stored : slice_get new place ≡ Some target)
-      (back : (i : ℕ) (x : Target) → slice_get new i ≡ Some x → (slice_get old i ≡ Some x) ⊎ (x ≡ target))
-      (before t : Table) (keeps : Keeps before t) (node marked : ℕ) (union : IsUnion file row count old before node)
-      (shows : ShowsEdge file row edge t marked place) where
+      (stored : slice_get new place ≡ Some target) (back : (i : ℕ) (x : Target) → slice_get new i ≡ Some x →
+      (slice_get old i ≡ Some x) ⊎ (x ≡ target)) {before t : Table} (keeps : Keeps before t) {node : ℕ} (marked : ℕ)
+      (union : IsUnion file row count old before node) (shows : ShowsEdge file row edge t marked place) where
     node_leaf : (letter : ℕ) → leaf_of t node letter ≡ leaf_of before node letter
-    node_leaf letter = kept_leaf before t keeps node letter union.held
+    node_leaf letter = kept_leaf keeps letter union.held
 
-    pub union_grown : (after : Table) (made : ℕ) → IsNode after made →
+    pub union_grown : {after : Table} {made : ℕ} → IsNode after made →
         ((letter : ℕ) → leaf_of after made letter ≡ joined (leaf_of t node letter) (leaf_of t marked letter)) →
         ((letter : ℕ) → AgreeingLeaves (leaf_of t node letter) (leaf_of t marked letter)) →
         IsUnion file row (count + 1) new after made
-    union_grown after made held leaf agree = record {
+    union_grown held leaf agree = record {
       held = held;
       joined = record {
-        there =
-            λ letter small e. subst (λ o. IsSomeAnd o (IsTargetAt row e.edge new)) (sym (leaf letter))
+        there = λ letter small e. subst (λ o. IsSomeAnd o (IsTargetAt row e.edge new)) (sym (leaf letter))
             (by_place letter small e (cases_lt e.place count));
-        from =
-            λ letter x small is_leaf. by_side letter x small (joined_from (leaf_of t node letter)
-            (leaf_of t marked letter) x (sym (leaf letter) ∙ is_leaf));
+        from = λ letter x small is_leaf. by_side letter x small (joined_from (leaf_of t node letter)
+            (leaf_of t marked letter) (sym (leaf letter) ∙ is_leaf));
         within = λ i x e. by_target i x (back i x e);
       };
     }
@@ -122,8 +116,7 @@ module _ (file : FileData) (sound : IsSoundFile file) (row : RowData) (row_sound
         by_place letter small e (inl low) =
             let first : TakenEdge file row count letter =
             record { place = e.place; within = low; edge = e.edge; at_place = e.at_place; taken = e.taken } in
-            let was =
-            subst (λ o. IsSomeAnd o (IsTargetAt row e.edge old)) (sym (node_leaf letter))
+            let was = subst (λ o. IsSomeAnd o (IsTargetAt row e.edge old)) (sym (node_leaf letter))
             (union.joined.there letter small first) in
             joined_first (IsTargetAt row e.edge old) (IsTargetAt row e.edge new) (leaf_of t node letter)
             (leaf_of t marked letter) was (λ x h. (h.0, grows x h.0 h.1, h.2))
@@ -143,28 +136,25 @@ module _ (file : FileData) (sound : IsSoundFile file) (row : RowData) (row_sound
         by_side : (letter x : ℕ) → letter < 2 ^ length file.names →
             (leaf_of t node letter ≡ Some x) ⊎ (leaf_of t marked letter ≡ Some x) →
             TakenEdge file row (count + 1) letter
-        by_side letter x small (inl e) =
-            wider file row count letter (union.joined.from letter x small (sym (node_leaf letter) ∙ e))
-        by_side letter x small (inr e) =
-            record {
-              place = count;
-              within = omega arith;
-              edge = edge;
-              at_place = at;
-              taken = shown_is_taken (leaf_of t marked letter) place x (shows letter small) e;
-            }
+        by_side letter x small (inl e) = wider (union.joined.from letter x small (sym (node_leaf letter) ∙ e))
+        by_side letter x small (inr e) = record {
+          place = count;
+          within = omega arith;
+          edge = edge;
+          at_place = at;
+          taken = shown_is_taken place (shows letter small) e;
+        }
 
     -- a clash of the diagrams is one of edges
-    pub union_clash : AreDistinct new → (letter x y : ℕ) → letter < 2 ^ length file.names →
+    pub union_clash : AreDistinct new → (letter : ℕ) {x y : ℕ} → letter < 2 ^ length file.names →
         leaf_of t node letter ≡ Some x → leaf_of t marked letter ≡ Some y → x ≢ y →
         (first : ℕ) × AreClashing file row first count
-    union_clash distinct letter x y small first second differ =
+    union_clash distinct letter {x} {y} small first second differ =
         let was : leaf_of before node letter ≡ Some x = sym (node_leaf letter) ∙ first in
         let e = union.joined.from letter x small was in
         let there : IsTargetAt row e.edge old x =
-        at_leaf (IsTargetAt row e.edge old) (leaf_of before node letter) x was
-        (union.joined.there letter small e) in
-        let taken = shown_is_taken (leaf_of t marked letter) place y (shows letter small) second in
+        at_leaf (IsTargetAt row e.edge old) (leaf_of before node letter) was (union.joined.there letter small e) in
+        let taken = shown_is_taken place (shows letter small) second in
         let mark : place ≡ y =
         same_some place y (sym (taken_is_shown (leaf_of t marked letter) place (shows letter small) taken) ∙ second)
         in (
@@ -180,23 +170,22 @@ module _ (file : FileData) (sound : IsSoundFile file) (row : RowData) (row_sound
             one_taken = e.taken;
             other_taken = taken;
             differ = λ alike.
-                let same : there.0 ≡ target = target_of_alike row e.edge edge there.0 target there.2 is alike in
+                let same : there.0 ≡ target = target_of_alike there.2 is alike in
                 let at_x : slice_get new x ≡ Some target = grows x there.0 there.1 ∙ ap (λ (z : Target). Some z) same in
                 differ (distinct x place target at_x stored ∙ mark);
           },
         )
 
   -- the first clash of the row
-  pub first_of_row : (count : ℕ) (targets : List Target) (t : Table) (node : ℕ) →
-      IsUnion file row count targets t node → (first : ℕ) → AreClashing file row first count →
-      ((a : ℕ) → AreClashing file row a count → first ≤ a) →
-      IsFirstOfRow file row first count
-  first_of_row count targets t node u first k least = record {
+  pub first_of_row : {count : ℕ} {targets : List Target} {t : Table} {node : ℕ} →
+      IsUnion file row count targets t node → {first : ℕ} → AreClashing file row first count →
+      ((a : ℕ) → AreClashing file row a count → first ≤ a) → IsFirstOfRow file row first count
+  first_of_row {count} {targets} {t} {node} u k least = record {
     clashing = k;
     least_second = λ a b other. by_size a b other (cases_lt b count);
     least_first = least;
   }
     where
       by_size : (a b : ℕ) → AreClashing file row a b → (b < count) ⊎ (count ≤ b) → count ≤ b
-      by_size a b other (inl low) = absurd (union_clear count targets (leaf_of t node) u.joined a b low other)
+      by_size a b other (inl low) = absurd (union_clear u.joined low other)
       by_size a b other (inr high) = high

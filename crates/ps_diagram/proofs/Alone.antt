@@ -19,9 +19,9 @@ pub record IsAlone (n level letter : ℕ) (t : Tree) : Type 0 where
   pub here : (f : ℕ → Bool) → ((q : ℕ) → level ≤ q → q < n → f q ≡ is_in q letter) → leaf_at t f ≡ Some 1
   pub elsewhere : (f : ℕ → Bool) (q : ℕ) → level ≤ q → q < n → (f q ≡ is_in q letter → ⊥) → leaf_at t f ≡ None
 
-taken : (p : ℕ) (v : Bool) (low high t : Tree) → IsTestOf p low high t → (f : ℕ → Bool) → f p ≡ v →
+taken : (p : ℕ) {v : Bool} (low high t : Tree) → IsTestOf p low high t → (f : ℕ → Bool) → f p ≡ v →
     leaf_at t f ≡ cond v (leaf_at high f) (leaf_at low f)
-taken p v low high t h f e = h f ∙ ap (λ b. cond b (leaf_at high f) (leaf_at low f)) e
+taken p low high t h f e = h f ∙ ap (λ b. cond b (leaf_at high f) (leaf_at low f)) e
 
 pub test_blind : (p : ℕ) (low high t : Tree) → IsTestOf p low high t → IsBlind (p + 1) low →
     IsBlind (p + 1) high → IsBlind p t
@@ -34,39 +34,35 @@ test_blind p low high t h bl bh f g e =
 pub empty_blind : (level : ℕ) (t : Tree) → ((f : ℕ → Bool) → leaf_at t f ≡ None) → IsBlind level t
 empty_blind level t e f g _ = e f ∙ sym (e g)
 
-not_other : (a b : Bool) → (a ≡ b → ⊥) → b ≡ true → a ≡ false
-not_other true b ne e = absurd (ne (sym e))
-not_other false b ne e = refl
+not_other : (a : Bool) {b : Bool} → (a ≡ b → ⊥) → b ≡ true → a ≡ false
+not_other true ne e = absurd (ne (sym e))
+not_other false ne e = refl
 
-not_other-false : (a b : Bool) → (a ≡ b → ⊥) → b ≡ false → a ≡ true
-not_other-false true b ne e = refl
-not_other-false false b ne e = absurd (ne (sym e))
-
-pub alone_true : (n p letter : ℕ) (none node made : Tree) → ((f : ℕ → Bool) → leaf_at none f ≡ None) →
-    IsAlone n (p + 1) letter node → is_in p letter ≡ true → p < n →
+pub alone_true : {n : ℕ} (p : ℕ) {letter : ℕ} (none : Tree) {node : Tree} (made : Tree) →
+    ((f : ℕ → Bool) → leaf_at none f ≡ None) → IsAlone n (p + 1) letter node → is_in p letter ≡ true → p < n →
     IsTestOf p none node made → IsAlone n p letter made
-alone_true n p letter none node made e a is below h = record {
+alone_true p {letter} none {node} made e a is below h = record {
   blind = test_blind p none node made h (empty_blind (p + 1) none e) a.blind;
-  here = λ f same. taken p true none node made h f (same p (omega arith) below ∙ is)
+  here = λ f same. taken p none node made h f (same p (omega arith) below ∙ is)
       ∙ a.here f (λ q le lt. same q (omega (arith, le)) lt);
   elsewhere = λ f q le lt ne. elim (bool_cases (f p)) [
-    | inl high ↦ taken p true none node made h f high ∙ a.elsewhere f q
+    | inl high ↦ taken p none node made h f high ∙ a.elsewhere f q
         (let P : ℕ → Type 0 = λ k. f k ≡ is_in k letter in let not : q ≡ p →
         ⊥ = λ same. ne (subst P (sym same) (high ∙ sym is)) in omega (arith, le, not)) lt ne
-    | inr isnt ↦ taken p false none node made h f isnt ∙ e f
+    | inr isnt ↦ taken p none node made h f isnt ∙ e f
   ];
 }
 
-pub alone_false : (n p letter : ℕ) (none node made : Tree) → ((f : ℕ → Bool) → leaf_at none f ≡ None) →
-    IsAlone n (p + 1) letter node → is_in p letter ≡ false → p < n →
+pub alone_false : {n : ℕ} (p : ℕ) {letter : ℕ} (none : Tree) {node : Tree} (made : Tree) →
+    ((f : ℕ → Bool) → leaf_at none f ≡ None) → IsAlone n (p + 1) letter node → is_in p letter ≡ false → p < n →
     IsTestOf p node none made → IsAlone n p letter made
-alone_false n p letter none node made e a is below h = record {
+alone_false p {letter} none {node} made e a is below h = record {
   blind = test_blind p node none made h a.blind (empty_blind (p + 1) none e);
-  here = λ f same. taken p false node none made h f (same p (omega arith) below ∙ is)
+  here = λ f same. taken p node none made h f (same p (omega arith) below ∙ is)
       ∙ a.here f (λ q le lt. same q (omega (arith, le)) lt);
   elsewhere = λ f q le lt ne. elim (bool_cases (f p)) [
-    | inl taken_high ↦ taken p true node none made h f taken_high ∙ e f
-    | inr isnt ↦ taken p false node none made h f isnt ∙ a.elsewhere f q
+    | inl taken_high ↦ taken p node none made h f taken_high ∙ e f
+    | inr isnt ↦ taken p node none made h f isnt ∙ a.elsewhere f q
         (let P : ℕ → Type 0 = λ k. f k ≡ is_in k letter in let not : q ≡ p →
         ⊥ = λ same. ne (subst P (sym same) (isnt ∙ sym is)) in omega (arith, le, not)) lt ne
   ];
@@ -100,47 +96,41 @@ bit_same a b la lb e = elim (bool_cases (nat_eq b 1)) [
 ]
 
 pub same_letter : (n a b : ℕ) → a < 2 ^ n → b < 2 ^ n → ((q : ℕ) → q < n → is_in q a ≡ is_in q b) → a ≡ b
-same_letter n a b la lb h =
-    same_from_bits_below n a b la lb (λ q lt. bit_same (bit_at a q) (bit_at b q) (bit_at-lt a q)
+same_letter n a b la lb h = same_from_bits_below n a b la lb (λ q lt. bit_same (bit_at a q) (bit_at b q) (bit_at-lt a q)
     (bit_at-lt b q) (h q lt))
 
-pub alone_end : (n letter : ℕ) (t : Tree) → letter < 2 ^ n → IsAlone n 0 letter t → (other : ℕ) → other < 2 ^ n →
+pub alone_end : {n letter : ℕ} {t : Tree} → letter < 2 ^ n → IsAlone n 0 letter t → (other : ℕ) → other < 2 ^ n →
     leaf_at t (assignment other) ≡ one_where (nat_eq other letter)
-alone_end n letter t lt a other olt =
-    elim (alike_or_not n (assignment other) (assignment letter)) [
-      | inl h ↦ a.here (assignment other) (λ q _ below. h q below)
-          ∙ sym (ap one_where (eq-eqb other letter (same_letter n other letter olt lt h)))
-      | inr d ↦ elim (bool_cases (nat_eq other letter)) [
-        | inl is ↦ absurd (d.2 (ap (λ x. is_in d.0 x) (eqb-true other letter is)))
-        | inr isnt ↦ a.elsewhere (assignment other) d.0 (omega arith) d.1 d.2 ∙ sym (ap one_where isnt)
-      ]
-    ]
+alone_end {n} {letter} lt a other olt = elim (alike_or_not n (assignment other) (assignment letter)) [
+  | inl h ↦ a.here (assignment other) (λ q _ below. h q below)
+      ∙ sym (ap one_where (eq-eqb other letter (same_letter n other letter olt lt h)))
+  | inr d ↦ elim (bool_cases (nat_eq other letter)) [
+    | inl is ↦ absurd (d.2 (ap (λ x. is_in d.0 x) (eqb-true other letter is)))
+    | inr isnt ↦ a.elsewhere (assignment other) d.0 (omega arith) d.1 d.2 ∙ sym (ap one_where isnt)
+  ]
+]
 
 counted : (i : ℕ) → 0 < i → i ≡ (i - 1) + 1
 counted i h = omega (arith, h)
 
 -- one step of the loop, which counts down
-pub step_true : (t u : Table) (i letter none node made : ℕ) → Keeps t u → 0 < i → i ≤ t.propositions →
+pub step_true : {t u : Table} {i letter : ℕ} (none node made : ℕ) → Keeps t u → 0 < i → i ≤ t.propositions →
     ((f : ℕ → Bool) → leaf_at (tree_of t none) f ≡ None) → IsAlone t.propositions i letter (tree_of t node) →
-    is_in (i - 1) letter ≡ true →
-    IsTestOf (i - 1) (tree_of t none) (tree_of t node) (tree_of u made) →
+    is_in (i - 1) letter ≡ true → IsTestOf (i - 1) (tree_of t none) (tree_of t node) (tree_of u made) →
     IsAlone u.propositions (i - 1) letter (tree_of u made)
-step_true t u i letter none node made k some le e a is h =
+step_true {t} {u} {i} {letter} none node made k some le e a is h =
     let P : ℕ → Type 0 = λ j. IsAlone t.propositions j letter (tree_of t node) in
     let N : ℕ → Type 0 = λ n. IsAlone n (i - 1) letter (tree_of u made) in
-    subst N (sym k.propositions) (alone_true t.propositions (i - 1) letter _ _ _ e (subst P (counted i some) a) is
-    (omega (arith, some, le)) h)
+    subst N (sym k.propositions) (alone_true (i - 1) _ _ e (subst P (counted i some) a) is (omega (arith, some, le)) h)
 
-pub step_false : (t u : Table) (i letter none node made : ℕ) → Keeps t u → 0 < i → i ≤ t.propositions →
+pub step_false : {t u : Table} {i letter : ℕ} (none node made : ℕ) → Keeps t u → 0 < i → i ≤ t.propositions →
     ((f : ℕ → Bool) → leaf_at (tree_of t none) f ≡ None) → IsAlone t.propositions i letter (tree_of t node) →
-    is_in (i - 1) letter ≡ false →
-    IsTestOf (i - 1) (tree_of t node) (tree_of t none) (tree_of u made) →
+    is_in (i - 1) letter ≡ false → IsTestOf (i - 1) (tree_of t node) (tree_of t none) (tree_of u made) →
     IsAlone u.propositions (i - 1) letter (tree_of u made)
-step_false t u i letter none node made k some le e a is h =
+step_false {t} {u} {i} {letter} none node made k some le e a is h =
     let P : ℕ → Type 0 = λ j. IsAlone t.propositions j letter (tree_of t node) in
     let N : ℕ → Type 0 = λ n. IsAlone n (i - 1) letter (tree_of u made) in
-    subst N (sym k.propositions) (alone_false t.propositions (i - 1) letter _ _ _ e (subst P (counted i some) a) is
-    (omega (arith, some, le)) h)
+    subst N (sym k.propositions) (alone_false (i - 1) _ _ e (subst P (counted i some) a) is (omega (arith, some, le)) h)
 
 -- the test of a bit, as the code makes it
 pub bit_true : (letter p : ℕ) → bit_and (letter / 2 ^ p) 1 ≡ 1 → is_in p letter ≡ true

@@ -43,8 +43,7 @@ tree_at-old cells cell k h =
     ∙ get_or_append_left (trees_of cells) (tree_by (trees_of cells) cell ∷ []) empty k within
 
 pub tree_at-new : (cells : List View) (cell : View) → tree_at (cells ++ cell ∷ []) (length cells) ≡ tree_in cells cell
-tree_at-new cells cell =
-    ap (λ trees. get_or trees (length cells) empty) (trees_push cells cell)
+tree_at-new cells cell = ap (λ trees. get_or trees (length cells) empty) (trees_push cells cell)
     ∙ get_or_push (trees_of cells) (tree_by (trees_of cells) cell) empty (length cells) (length_trees cells)
 
 -- the tree of a cell whose nodes are held stays
@@ -56,10 +55,10 @@ tree_in-old cells cell (Test p low high) h =
     ap (λ t. choice p t (tree_at (cells ++ cell ∷ []) high)) (tree_at-old cells cell low h.0)
     ∙ ap (λ t. choice p (tree_at cells low) t) (tree_at-old cells cell high h.1)
 
-pub within-weaker : (a b : ℕ) (c : View) → a ≤ b → IsWithin a c → IsWithin b c
-within-weaker a b Nothing le h = tt
-within-weaker a b (Leaf k) le h = tt
-within-weaker a b (Test p low high) le h = (omega (arith, le, h.0), omega (arith, le, h.1))
+pub within-weaker : {a : ℕ} (b : ℕ) (c : View) → a ≤ b → IsWithin a c → IsWithin b c
+within-weaker b Nothing le h = tt
+within-weaker b (Leaf k) le h = tt
+within-weaker b (Test p low high) le h = (omega (arith, le, h.0), omega (arith, le, h.1))
 
 -- equal trees are of equal cells, where equal trees are one node
 final-of : Tree → ℕ
@@ -128,20 +127,19 @@ view_in : Option View → View
 view_in None = Nothing
 view_in (Some x) = x
 
-some_one : (x y : View) → Some x ≡ Some y → x ≡ y
+some_one : {x y : View} → Some x ≡ Some y → x ≡ y
 unfolding view_in
-some_one x y e = ap view_in e
+some_one e = ap view_in e
 
-get_or_of_some : (xs : List View) (k : ℕ) (d x : View) → slice_get xs k ≡ Some x → get_or xs k d ≡ x
-get_or_of_some xs k d x e = some_one _ _ (sym (slice_get-get_or xs k d (slice_get_within xs k x e)) ∙ e)
+get_or_of_some : (xs : List View) (k : ℕ) (d : View) {x : View} → slice_get xs k ≡ Some x → get_or xs k d ≡ x
+get_or_of_some xs k d {x} e = some_one (sym (slice_get-get_or xs k d (slice_get_within xs k x e)) ∙ e)
 
 -- a place of the longer list is an old one or the new one
 pub old_or_new : (k n : ℕ) → k < n + 1 → (k < n) ⊎ (k ≡ n)
-old_or_new k n h =
-    elim (bool_cases (ltb k n)) [
-      | inl is ↦ inl (let t = ltb-true k n is in t)
-      | inr is ↦ inr (let f = ltb-false k n is in omega (arith, f, h))
-    ]
+old_or_new k n h = elim (bool_cases (ltb k n)) [
+  | inl is ↦ inl (let t = ltb-true k n is in t)
+  | inr is ↦ inr (let f = ltb-false k n is in omega (arith, f, h))
+]
 
 pub keeps_more : (t : Table) (cell : View) → Keeps t (more t cell)
 unfolding tree_of
@@ -152,11 +150,11 @@ keeps_more t cell = record {
 }
 
 -- every store with one cell more is sound, where the cell is well made and new
-pub sound_more : (t : Table) (cell : View) → IsSoundTable t → IsWithin (length t.cells) cell →
+pub sound_more : {t : Table} {cell : View} → IsSoundTable t → IsWithin (length t.cells) cell →
     IsFrom 0 t.propositions (tree_in t.cells cell) → IsReduced (tree_in t.cells cell) →
     ((k : ℕ) → k < length t.cells → cell ≡ get_or t.cells k Nothing → ⊥) → IsSoundTable (more t cell)
 unfolding tree_of
-sound_more t cell s w o r new =
+sound_more {t} {cell} s w o r new =
     let n = length t.cells in
     let len : length (t.cells ++ cell ∷ []) ≡ n + 1 = length-append t.cells (cell ∷ []) in
     let either : (k : ℕ) → IsNode (more t cell) k → (k < n) ⊎ (k ≡ n) = λ k h. old_or_new k n (omega (arith, len, h)) in
@@ -167,15 +165,14 @@ sound_more t cell s w o r new =
     let made_new : tree_at (t.cells ++ cell ∷ []) n ≡ tree_in t.cells cell = tree_at-new t.cells cell in
     let apart : (k : ℕ) → k < n → tree_in t.cells cell ≡ tree_at t.cells k → ⊥ =
     λ k h e. new k h (same_cell t s cell (get_or t.cells k Nothing) w
-    (within-weaker k n _ (omega (arith, h)) (s.earlier k h)) (e ∙ s.built k h)) in
+    (within-weaker n _ (omega (arith, h)) (s.earlier k h)) (e ∙ s.built k h)) in
     record {
       few = s.few;
       built = λ k h. elim (either k h) [
         | inl old ↦ made_old k old ∙ s.built k old ∙ sym (tree_in-old t.cells cell _
-            (within-weaker k n _ (omega (arith, old)) (s.earlier k old)))
+            (within-weaker n _ (omega (arith, old)) (s.earlier k old)))
             ∙ ap (λ c. tree_in (t.cells ++ cell ∷ []) c) (sym (at_old k old))
-        | inr e ↦ let P : ℕ → Type 0 =
-            λ j. tree_at (t.cells ++ cell ∷ []) j ≡ tree_in (t.cells ++ cell ∷ [])
+        | inr e ↦ let P : ℕ → Type 0 = λ j. tree_at (t.cells ++ cell ∷ []) j ≡ tree_in (t.cells ++ cell ∷ [])
             (get_or (t.cells ++ cell ∷ []) j Nothing) in
             subst P (sym e) (made_new ∙ sym (tree_in-old t.cells cell cell w)
             ∙ ap (λ c. tree_in (t.cells ++ cell ∷ []) c) (sym at_new))
@@ -221,28 +218,27 @@ pub record Interned (t u : Table) (cell : View) (place : ℕ) : Type 0 where
   pub tree : tree_of u place ≡ tree_in t.cells cell
 
 -- a place of the cell in a sound table that keeps all nodes
-at_place : (t u : Table) (cell : View) (place : ℕ) → IsSoundTable u → Keeps t u → IsWithin (length t.cells) cell →
+at_place : {t u : Table} {cell : View} (place : ℕ) → IsSoundTable u → Keeps t u → IsWithin (length t.cells) cell →
     (tree_in u.cells cell ≡ tree_in t.cells cell) → slice_get u.cells place ≡ Some cell → Interned t u cell place
 unfolding tree_of
-at_place t u cell place s keeps w stays e =
+at_place {u} {cell} place s keeps w stays e =
     let held : place < length u.cells = slice_get_within u.cells place cell e in
-    let is : get_or u.cells place Nothing ≡ cell = get_or_of_some u.cells place Nothing cell e in
+    let is : get_or u.cells place Nothing ≡ cell = get_or_of_some u.cells place Nothing e in
     record { sound = s; keeps = keeps; held = held; tree = s.built place held ∙ ap (λ c. tree_in u.cells c) is ∙ stays }
 
-pub interned : (t u : Table) (cell : View) (place : ℕ) (eq : View → View → Bool) →
-    ((a b : View) → eq a b ≡ true → a ≡ b) → ((a : View) → eq a a ≡ true) →
-    IsSoundTable t → IsWithin (length t.cells) cell → IsFrom 0 t.propositions (tree_in t.cells cell) →
-    IsReduced (tree_in t.cells cell) →
+pub interned : {t : Table} (u : Table) {cell : View} (place : ℕ) (eq : View → View → Bool) →
+    ((a b : View) → eq a b ≡ true → a ≡ b) → ((a : View) → eq a a ≡ true) → IsSoundTable t →
+    IsWithin (length t.cells) cell → IsFrom 0 t.propositions (tree_in t.cells cell) → IsReduced (tree_in t.cells cell) →
     u.propositions ≡ t.propositions → u.cells ≡ insert_key eq t.cells cell →
     ((k : View) × (slice_get u.cells place ≡ Some k) × (eq cell k ≡ true)) → Interned t u cell place
-interned t u cell place eq sound_eq refl_eq s w o r props keys stored =
+interned {t} u {cell} place eq sound_eq refl_eq s w o r props keys stored =
     let e : slice_get u.cells place ≡ Some cell = stored.1 ∙ ap (λ k. Some k) (sym (sound_eq cell stored.0 stored.2)) in
     let known = list_any (eq cell) t.cells in
     elim (bool_cases known) [
       | inl is ↦
           let same : u ≡ t = table_eq u t props (keys ∙ ap (λ b. cond b t.cells (t.cells ++ cell ∷ [])) is) in
           let P : Table → Type 0 = λ v. slice_get v.cells place ≡ Some cell → Interned t v cell place in
-          subst P (sym same) (λ at. at_place t t cell place s (keeps_refl t) w refl at) e
+          subst P (sym same) (λ at. at_place place s (keeps_refl t) w refl at) e
       | inr is ↦
           let same : u ≡ more t cell =
           table_eq u (more t cell) props (keys ∙ ap (λ b. cond b t.cells (t.cells ++ cell ∷ [])) is) in
@@ -250,16 +246,16 @@ interned t u cell place eq sound_eq refl_eq s w o r props keys stored =
           λ k h same_cell. true_is_not_false (sym (list_any_at (eq cell) t.cells k Nothing h
           (ap (λ c. eq cell c) (sym same_cell) ∙ refl_eq cell)) ∙ is) in
           let P : Table → Type 0 = λ v. slice_get v.cells place ≡ Some cell → Interned t v cell place in
-          subst P (sym same) (λ at. at_place t (more t cell) cell place (sound_more t cell s w o r new)
+          subst P (sym same) (λ at. at_place place (sound_more s w o r new)
           (keeps_more t cell) w (tree_in-old t.cells cell cell w) at) e
     ]
 
-pub part_of : (t : Table) (node : ℕ) (cell : View) → IsSoundTable t → IsNode t node →
+pub part_of : {t : Table} {node : ℕ} (cell : View) → IsSoundTable t → IsNode t node →
     get_or t.cells node Nothing ≡ cell → IsPart t node cell
 unfolding tree_of
-part_of t node Nothing s h e = s.built node h ∙ ap (λ c. tree_in t.cells c) e
-part_of t node (Leaf k) s h e = s.built node h ∙ ap (λ c. tree_in t.cells c) e
-part_of t node (Test p low high) s h e =
+part_of {t} {node} Nothing s h e = s.built node h ∙ ap (λ c. tree_in t.cells c) e
+part_of {t} {node} (Leaf k) s h e = s.built node h ∙ ap (λ c. tree_in t.cells c) e
+part_of {t} {node} (Test p low high) s h e =
     let tree : tree_of t node ≡ choice p (tree_of t low) (tree_of t high) = s.built node h
     ∙ ap (λ c. tree_in t.cells c) e in
     let E : View → Type 0 = λ c. IsWithin node c in

@@ -11,9 +11,9 @@ use Rattle.ps_diagram.specs.Known.{IsClash}
 use Rattle.ps_diagram.specs.Clashes.{TellsClash}
 use Rattle.ps_diagram.proofs.Letters.{letter_lt, leaf_by_number, same_by_numbers}
 
-pub tells_clash : (t : Table) → IsSoundTable t → (a b : ℕ) → IsNode t a → IsNode t b → (e : OverlayError) →
+pub tells_clash : {t : Table} → IsSoundTable t → {a b : ℕ} → IsNode t a → IsNode t b → (e : OverlayError) →
     IsClash (tree_of t a) (tree_of t b) e → TellsClash t a b e
-tells_clash t s a b ha hb (Clash x y) h =
+tells_clash {t} s {a} {b} ha hb (Clash x y) h =
     let n = t.propositions in (
       letter_of n h.0,
       letter_lt n h.0,
@@ -21,20 +21,20 @@ tells_clash t s a b ha hb (Clash x y) h =
       sym (leaf_by_number n (tree_of t b) (s.ordered b hb) h.0) ∙ h.2,
       h.3,
     )
-tells_clash t s a b ha hb OutOfMemory h = tt
+tells_clash s ha hb OutOfMemory h = tt
 
 -- nodes with the same leaves are one
-pub one_node : (t : Table) → IsSoundTable t → (a b : ℕ) → IsNode t a → IsNode t b →
+pub one_node : {t : Table} → IsSoundTable t → {a b : ℕ} → IsNode t a → IsNode t b →
     HaveSameLeaves (tree_of t a) (tree_of t b) → a ≡ b
-one_node t s a b ha hb e =
+one_node {t} s {a} {b} ha hb e =
     let n = t.propositions in
     s.one a b ha hb (same_tree n (tree_of t a) 0 (s.ordered a ha) (s.reduced a ha) (tree_of t b) 0 (s.ordered b hb)
     (s.reduced b hb) e)
 
-pub same_node : (t : Table) → IsSoundTable t → (a b : ℕ) → IsNode t a → IsNode t b → (r : Bool) → r ≡ eqb a b →
+pub same_node : {t : Table} → IsSoundTable t → {a b : ℕ} → IsNode t a → IsNode t b → {r : Bool} → r ≡ eqb a b →
     IsTrue r ↔ ((letter : ℕ) → letter < 2 ^ t.propositions → leaf_of t a letter ≡ leaf_of t b letter)
-same_node t s a b ha hb r e = (
+same_node {t} s {a} {b} ha hb e = (
   (λ h letter l. let is : a ≡ b = eqb-true a b (sym e ∙ h) in ap (λ node. leaf_of t node letter) is),
-  (λ h. e ∙ eq-eqb a b (one_node t s a b ha hb (same_by_numbers t.propositions (tree_of t a) (tree_of t b)
+  (λ h. e ∙ eq-eqb a b (one_node s ha hb (same_by_numbers t.propositions (tree_of t a) (tree_of t b)
       (s.ordered a ha) (s.ordered b hb) h))),
 )

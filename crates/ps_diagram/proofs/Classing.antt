@@ -38,8 +38,7 @@ listed t node own leaves list h o =
     let n = t.propositions in
     let each = o.each in
     record {
-      least = λ i lt.
-          (let within : i < length leaves = omega (arith, lt, each) in
+      least = λ i lt. (let within : i < length leaves = omega (arith, lt, each) in
           let R : ℕ → Type 0 = λ leaf. IsLeast (LeadsTo t node leaf) (class_at list i).letter in
           let L : ℕ → Type 0 = λ letter. IsLeast (LeadsTo t node (pair_at leaves i).0) letter in
           subst R (sym (o.rest i within)) (subst L (sym (o.letter i within)) (h.least i (0, 0) within)));
@@ -50,8 +49,7 @@ listed t node own leaves list h o =
             o.rest there.0 there.2
                 ∙ ap (λ (p : ℕ × ℕ). p.0) (get_or_default leaves there.0 (0, 0) there.1 there.2 ∙ there.3) ∙ there.4,
           ));
-      rising = λ i j lt below.
-          (let within : j < length leaves = omega (arith, below, each) in
+      rising = λ i j lt below. (let within : j < length leaves = omega (arith, below, each) in
           let before : i < length leaves = omega (arith, lt, within) in
           let A : ℕ → Type 0 = λ x. IsBefore x (class_at list j).letter in
           let B : ℕ → Type 0 = λ x. IsBefore (pair_at leaves i).1 x in
@@ -59,27 +57,26 @@ listed t node own leaves list h o =
     }
 
 -- the leaves of a node stay
-leads_same : (t u : Table) → Keeps t u → (node : ℕ) → IsNode t node → (leaf letter : ℕ) →
+leads_same : {t u : Table} → Keeps t u → {node : ℕ} → IsNode t node → (leaf letter : ℕ) →
     (LeadsTo t node leaf letter → LeadsTo u node leaf letter) ×
     (LeadsTo u node leaf letter → LeadsTo t node leaf letter)
-leads_same t u k node h leaf letter =
+leads_same k {node} h leaf letter =
     let tree = k.same node h in
     let P : ℕ → Type 0 = λ n. letter < 2 ^ n in (
       (λ e. (subst P (sym k.propositions) e.0, ap (λ x. leaf_at x (assignment letter)) tree ∙ e.1)),
       (λ e. (subst P k.propositions e.0, sym (ap (λ x. leaf_at x (assignment letter)) tree) ∙ e.1)),
     )
 
-leaves_kept : (t u : Table) → Keeps t u → (node : ℕ) → IsNode t node → (leaves : List (ℕ × ℕ)) →
+leaves_kept : {t u : Table} → Keeps t u → {node : ℕ} → IsNode t node → {leaves : List (ℕ × ℕ)} →
     AreLeaves t node leaves → AreLeaves u node leaves
-leaves_kept t u k node h leaves all = record {
-  least = λ i d lt.
-      (let x = all.least i d lt in
+leaves_kept {t} {u} k {node} h {leaves} all = record {
+  least = λ i d lt. (let x = all.least i d lt in
       let leaf = (get_or leaves i d).0 in
       record {
-        here = (leads_same t u k node h leaf (get_or leaves i d).1).0 x.here;
-        none_before = λ y e before. x.none_before y ((leads_same t u k node h leaf y).1 e) before;
+        here = (leads_same k h leaf (get_or leaves i d).1).0 x.here;
+        none_before = λ y e before. x.none_before y ((leads_same k h leaf y).1 e) before;
       });
-  each = λ leaf letter e. all.each leaf letter ((leads_same t u k node h leaf letter).1 e);
+  each = λ leaf letter e. all.each leaf letter ((leads_same k h leaf letter).1 e);
   rising = all.rising;
 }
 
@@ -111,8 +108,8 @@ record Place (s u : Table) (m : Made s u) (f : ℕ → Bool) : Type 0 where
   leaf : (g : ℕ → Bool) → leaf_at (tree_of u (class_at m.list place).rest) g ≡ leaf_at (tree_of s m.node)
       (mixed m.mask f g)
 
-place_at : (s u : Table) (m : Made s u) (f : ℕ → Bool) → Place s u m f
-place_at s u m f =
+place_at : {s u : Table} (m : Made s u) (f : ℕ → Bool) → Place s u m f
+place_at {s} {u} m f =
     let x = m.division f in
     let there = m.listed.complete f x.0 x.1 in
     let same : x.0 ≡ (class_at m.list there.0).rest = sym there.2 in
@@ -135,17 +132,17 @@ record Known (s u : Table) (m : Made s u) (f : ℕ → Bool) (k : ℕ) : Type 0 
   rest : leaf_at (tree_of u m.divided) f ≡ Some (class_at m.list k).rest
   leaf : (g : ℕ → Bool) → leaf_at (tree_of u (class_at m.list k).rest) g ≡ leaf_at (tree_of s m.node) (mixed m.mask f g)
 
-known_at : (s u : Table) (m : Made s u) (f : ℕ → Bool) (k : ℕ) → leaf_at (tree_of u m.at) f ≡ Some k → Known s u m f k
-known_at s u m f k e =
-    let x = place_at s u m f in
+known_at : {s u : Table} (m : Made s u) (f : ℕ → Bool) {k : ℕ} → leaf_at (tree_of u m.at) f ≡ Some k → Known s u m f k
+known_at {s} {u} m f {k} e =
+    let x = place_at m f in
     let K : ℕ → Type 0 = λ p. Known s u m f p in
     subst K (some_nat x.place k (sym x.is ∙ e)) (record { within = x.within; rest = x.rest; leaf = x.leaf })
 
 -- letters that are the same at each proposition
 
-same_letters : (u : Table) → IsSoundTable u → (node : ℕ) → IsNode u node → (f g : ℕ → Bool) → ((q : ℕ) → f q ≡ g q) →
+same_letters : {u : Table} → IsSoundTable u → {node : ℕ} → IsNode u node → (f g : ℕ → Bool) → ((q : ℕ) → f q ≡ g q) →
     leaf_at (tree_of u node) f ≡ leaf_at (tree_of u node) g
-same_letters u s node h f g e = blind-from 0 u.propositions (tree_of u node) (s.ordered node h) f g (λ q le. e q)
+same_letters {u} s {node} h f g e = blind-from 0 u.propositions (tree_of u node) (s.ordered node h) f g (λ q le. e q)
 
 mixed_first : (mask x v q : ℕ) → AgreeOn mask x v → mixed mask (assignment x) (assignment v) q ≡ is_in q v
 mixed_first mask x v q on = elim (bool_cases (is_in q mask)) [
@@ -169,36 +166,32 @@ mixed_alike mask f g w on q = elim (bool_cases (is_in q mask)) [
 ]
 
 -- the division heeds the mask alone
-heeds_mask : (s u : Table) (m : Made s u) (f g : ℕ → Bool) → ((q : ℕ) → is_in q m.mask ≡ true → f q ≡ g q) →
+heeds_mask : {s u : Table} (m : Made s u) (f g : ℕ → Bool) → ((q : ℕ) → is_in q m.mask ≡ true → f q ≡ g q) →
     leaf_at (tree_of u m.divided) f ≡ leaf_at (tree_of u m.divided) g
-heeds_mask s u m f g on =
-    divided_alike u m.sound m.mask (tree_of s m.node) (tree_of u m.divided) m.division f g
-    (λ w. same_letters s m.node_sound m.node m.node_held (mixed m.mask f w) (mixed m.mask g w)
-    (mixed_alike m.mask f g w on))
+heeds_mask {s} {u} m f g on = divided_alike m.sound m.mask (tree_of s m.node) (tree_of u m.divided) m.division f g
+    (λ w. same_letters m.node_sound m.node_held (mixed m.mask f w) (mixed m.mask g w) (mixed_alike m.mask f g w on))
 
 -- letters of one place lead alike
 
-together : (s u : Table) (m : Made s u) (x y : ℕ) → leaf_of u m.at x ≡ leaf_of u m.at y → LeadAlike s m.node m.mask x y
-together s u m x y e v w on_x on_y off =
-    let p = place_at s u m (assignment x) in
-    let q = known_at s u m (assignment y) p.place (sym e ∙ p.is) in
+together : {s u : Table} (m : Made s u) (x y : ℕ) → leaf_of u m.at x ≡ leaf_of u m.at y → LeadAlike s m.node m.mask x y
+together {s} {u} m x y e v w on_x on_y off =
+    let p = place_at m (assignment x) in
+    let q = known_at m (assignment y) (sym e ∙ p.is) in
     let same : (f g : ℕ → Bool) → ((i : ℕ) → f i ≡ g i) → leaf_at (tree_of s m.node) f ≡ leaf_at (tree_of s m.node) g
-    = same_letters s m.node_sound m.node m.node_held in
+    = same_letters m.node_sound m.node_held in
     sym (same (mixed m.mask (assignment x) (assignment v)) (assignment v) (λ i. mixed_first m.mask x v i on_x))
     ∙ same (mixed m.mask (assignment x) (assignment v)) (mixed m.mask (assignment x) (assignment w))
-    (λ i. mixed_second m.mask x v w i off)
-    ∙ sym (p.leaf (assignment w)) ∙ q.leaf (assignment w)
+    (λ i. mixed_second m.mask x v w i off) ∙ sym (p.leaf (assignment w)) ∙ q.leaf (assignment w)
     ∙ same (mixed m.mask (assignment y) (assignment w)) (assignment w) (λ i. mixed_first m.mask y w i on_y)
 
 -- and letters that lead alike have one place
 
 joined_letter : (n mask x : ℕ) (w : ℕ → Bool) → x < 2 ^ n → AgreeOn mask x (letter_of n (mixed mask (assignment x) w))
-joined_letter n mask x w h p is =
-    elim (cases_lt p n) [
-      | inl lt ↦ sym (letter_is n (mixed mask (assignment x) w) p lt ∙ ap (λ b. cond b (is_in p x) (w p)) is)
-      | inr ge ↦ no_bit n x p h ge ∙ sym (no_bit n (letter_of n (mixed mask (assignment x) w)) p
-          (letter_lt n (mixed mask (assignment x) w)) ge)
-    ]
+joined_letter n mask x w h p is = elim (cases_lt p n) [
+  | inl lt ↦ sym (letter_is n (mixed mask (assignment x) w) p lt ∙ ap (λ b. cond b (is_in p x) (w p)) is)
+  | inr ge ↦ no_bit n x p h ge ∙ sym (no_bit n (letter_of n (mixed mask (assignment x) w)) p
+      (letter_lt n (mixed mask (assignment x) w)) ge)
+]
 
 others_agree : (n mask x y : ℕ) (w : ℕ → Bool) → AgreeOff mask (letter_of n (mixed mask (assignment x) w))
     (letter_of n (mixed mask (assignment y) w))
@@ -211,9 +204,9 @@ others_agree n mask x y w p isnt =
       | inr ge ↦ no_bit n (letter_of n f) p (letter_lt n f) ge ∙ sym (no_bit n (letter_of n g) p (letter_lt n g) ge)
     ]
 
-apart : (s u : Table) (m : Made s u) (x y : ℕ) → x < 2 ^ u.propositions → y < 2 ^ u.propositions →
+apart : {s u : Table} (m : Made s u) (x y : ℕ) → x < 2 ^ u.propositions → y < 2 ^ u.propositions →
     LeadAlike s m.node m.mask x y → leaf_of u m.at x ≡ leaf_of u m.at y
-apart s u m x y hx hy h =
+apart {s} {u} m x y hx hy h =
     let n = s.propositions in
     let a = tree_of s m.node in
     let own = m.node_sound.ordered m.node m.node_held in
@@ -221,108 +214,101 @@ apart s u m x y hx hy h =
     let sx : x < 2 ^ n = subst (B x) m.letters hx in
     let sy : y < 2 ^ n = subst (B y) m.letters hy in
     let e : (w : ℕ → Bool) → leaf_at a (mixed m.mask (assignment x) w) ≡ leaf_at a (mixed m.mask (assignment y) w) =
-    λ w.
-    leaf_by_number n a own (mixed m.mask (assignment x) w)
+    λ w. leaf_by_number n a own (mixed m.mask (assignment x) w)
     ∙ h (letter_of n (mixed m.mask (assignment x) w)) (letter_of n (mixed m.mask (assignment y) w))
     (joined_letter n m.mask x w sx) (joined_letter n m.mask y w sy) (others_agree n m.mask x y w)
     ∙ sym (leaf_by_number n a own (mixed m.mask (assignment y) w)) in
     m.mapped (assignment x) ∙ ap (λ o. option_and_then m.places o)
-    (divided_alike u m.sound m.mask a (tree_of u m.divided) m.division (assignment x) (assignment y) e)
+    (divided_alike m.sound m.mask a (tree_of u m.divided) m.division (assignment x) (assignment y) e)
     ∙ sym (m.mapped (assignment y))
 
 -- the class at a place
 
 -- a proposition outside the mask that the letter had could be left out
-masked : (s u : Table) (m : Made s u) (c : Class) → IsLeast (LeadsTo u m.divided c.rest) c.letter → (p : ℕ) →
+masked : {s u : Table} (m : Made s u) (c : Class) → IsLeast (LeadsTo u m.divided c.rest) c.letter → (p : ℕ) →
     is_in p m.mask ≡ false → is_in p c.letter ≡ false
-masked s u m c first p off =
-    elim (bool_cases (is_in p c.letter)) [
-      | inr isnt ↦ isnt
-      | inl is ↦
-          let n = u.propositions in
-          let d = tree_of u m.divided in
-          let g = changed (assignment c.letter) p false in
-          let lt : p < n =
-          elim (cases_lt p n) [
-            | inl l ↦ l
-            | inr ge ↦ absurd (true_is_not_false
-                (sym is ∙ no_bit n c.letter p first.here.0 ge))
-          ] in
-          let same : leaf_at d g ≡ leaf_at d (assignment c.letter) = heeds_mask s u m g (assignment c.letter)
-          (λ q on. changed-other (assignment c.letter) p false q
-          (λ e. (let P : ℕ → Type 0 = λ k. is_in k m.mask ≡ true in true_is_not_false
-          (sym (subst P e on) ∙ off)))) in
-          let before : IsBefore (letter_of n g) c.letter = record {
-            first = p;
-            is_false = letter_is n g p lt ∙ changed-here (assignment c.letter) p false;
-            is_true = is;
-            same = λ q below. letter_is n g q (omega (arith, below, lt))
-                ∙ changed-other (assignment c.letter) p false q (λ e. omega (arith, e, below));
-          } in
-          absurd (first.none_before (letter_of n g) (
-            letter_lt n g,
-            sym (leaf_by_number n d (m.sound.ordered m.divided m.divided_held) g) ∙ same ∙ first.here.1,
-          ) before)
-    ]
+masked {s} {u} m c first p off = elim (bool_cases (is_in p c.letter)) [
+  | inr isnt ↦ isnt
+  | inl is ↦
+      let n = u.propositions in
+      let d = tree_of u m.divided in
+      let g = changed (assignment c.letter) p false in
+      let lt : p < n = elim (cases_lt p n) [
+        | inl l ↦ l
+        | inr ge ↦ absurd (true_is_not_false (sym is ∙ no_bit n c.letter p first.here.0 ge))
+      ] in
+      let same : leaf_at d g ≡ leaf_at d (assignment c.letter) = heeds_mask m g (assignment c.letter)
+      (λ q on. changed-other (assignment c.letter) p false q (λ e.
+      (let P : ℕ → Type 0 = λ k. is_in k m.mask ≡ true in true_is_not_false (sym (subst P e on) ∙ off)))) in
+      let before : IsBefore (letter_of n g) c.letter = record {
+        first = p;
+        is_false = letter_is n g p lt ∙ changed-here (assignment c.letter) p false;
+        is_true = is;
+        same = λ q below. letter_is n g q (omega (arith, below, lt))
+            ∙ changed-other (assignment c.letter) p false q (λ e. omega (arith, e, below));
+      } in
+      absurd (first.none_before (letter_of n g) (
+        letter_lt n g,
+        sym (leaf_by_number n d (m.sound.ordered m.divided m.divided_held) g) ∙ same ∙ first.here.1,
+      ) before)
+]
 
-class_is : (s u : Table) (m : Made s u) (k : ℕ) → k < length m.list →
+class_is : {s u : Table} (m : Made s u) (k : ℕ) → k < length m.list →
     IsClass s u m.node m.mask m.at k (class_at m.list k)
-class_is s u m k lt =
+class_is {s} {u} m k lt =
     let c = class_at m.list k in
     let first = m.listed.least k lt in
     let its_own : leaf_of u m.at c.letter ≡ Some k = m.mapped (assignment c.letter)
     ∙ ap (λ o. option_and_then m.places o) first.here.1 ∙ m.placed.placed k lt in
-    let here = known_at s u m (assignment c.letter) k its_own in
+    let here = known_at m (assignment c.letter) its_own in
     let x = m.division (assignment c.letter) in
     let same : (f g : ℕ → Bool) → ((i : ℕ) → f i ≡ g i) → leaf_at (tree_of s m.node) f ≡ leaf_at (tree_of s m.node) g
-    = same_letters s m.node_sound m.node m.node_held in
+    = same_letters m.node_sound m.node_held in
     let H : ℕ → Type 0 = λ r. IsNode u r in
     record {
       least = record {
         here = (first.here.0, its_own);
-        none_before = λ y e before. first.none_before y
-            (e.0, (known_at s u m (assignment y) k e.1).rest) before;
+        none_before = λ y e before. first.none_before y (e.0, (known_at m (assignment y) e.1).rest) before;
       };
-      masked = masked s u m c first;
+      masked = masked m c first;
       held = subst H (some_nat x.0 c.rest (sym x.1 ∙ first.here.1)) x.2;
       others = λ y z off. here.leaf (assignment y) ∙ same _ _ (λ i. mixed_second m.mask c.letter y z i off)
           ∙ sym (here.leaf (assignment z));
-      shared = λ y e. (known_at s u m (assignment y) k e).leaf (assignment y) ∙ same _ _
+      shared = λ y e. (known_at m (assignment y) e).leaf (assignment y) ∙ same _ _
           (λ i. mixed_first m.mask y y i (λ p is. refl));
     }
 
-is_some_and : (o : Option ℕ) (k n : ℕ) → o ≡ Some k → k < n → IsSomeAnd o (λ p. p < n)
-is_some_and o k n e lt = let P : Option ℕ → Type 0 = λ x. IsSomeAnd x (λ p. p < n) in subst P (sym e) lt
+is_some_and : {o : Option ℕ} {k : ℕ} (n : ℕ) → o ≡ Some k → k < n → IsSomeAnd o (λ p. p < n)
+is_some_and n e lt = let P : Option ℕ → Type 0 = λ x. IsSomeAnd x (λ p. p < n) in subst P (sym e) lt
 
-are_classes : (s u : Table) (m : Made s u) → IsNode u m.at → AreClasses s u m.node m.mask m.at m.list
-are_classes s u m held = record {
+are_classes : {s u : Table} (m : Made s u) → IsNode u m.at → AreClasses s u m.node m.mask m.at m.list
+are_classes {s} {u} m held = record {
   held = held;
   read = λ x y on. m.mapped (assignment x) ∙ ap (λ o. option_and_then m.places o)
-      (heeds_mask s u m (assignment x) (assignment y) on) ∙ sym (m.mapped (assignment y));
-  placed = λ x. (let p = place_at s u m (assignment x) in is_some_and _ p.place (length m.list) p.is p.within);
-  alike = λ x y hx hy. (together s u m x y, apart s u m x y hx hy);
+      (heeds_mask m (assignment x) (assignment y) on) ∙ sym (m.mapped (assignment y));
+  placed = λ x. (let p = place_at m (assignment x) in is_some_and (length m.list) p.is p.within);
+  alike = λ x y hx hy. (together m x y, apart m x y hx hy);
   each = λ k c e. (let P : Class → Type 0 = λ x. IsClass s u m.node m.mask m.at k x in subst P
-      (get_or_from_slice_get m.list k c _ e) (class_is s u m k (slice_get_within m.list k c e)));
-  rising = λ i j d lt below.
-      (let P : Class → Type 0 = λ x. IsBefore x.letter (get_or m.list j d).letter in
+      (get_or_from_slice_get m.list k c _ e) (class_is m k (slice_get_within m.list k c e)));
+  rising = λ i j d lt below. (let P : Class → Type 0 = λ x. IsBefore x.letter (get_or m.list j d).letter in
       let Q : Class → Type 0 = λ x. IsBefore (class_at m.list i).letter x.letter in
       subst P (get_or_default m.list i _ d (omega (arith, lt, below)))
       (subst Q (get_or_default m.list j _ d below) (m.listed.rising i j lt below)));
 }
 
 -- the node stands in one table, its division in the next one, and the places in a third, which keeps that
-pub classes_of : (s v u : Table) → Keeps v u → IsSoundTable s → IsSoundTable u → u.propositions ≡ s.propositions →
-    (mask node divided at : ℕ) (places : ℕ → Option ℕ) (leaves : List (ℕ × ℕ)) (list : List Class) → IsNode s node →
-    IsNode v divided → IsNode u at → IsDivided v mask (tree_of s node) (tree_of v divided) →
-    AreLeaves v divided leaves → AreOf leaves (length leaves) list → IsPlaced places list → IsMapped
-    (λ leaf. option_and_then places leaf) (tree_of v divided) (tree_of u at) → AreClasses s u node mask at list
-classes_of s v u m node_sound sound letters mask node divided at places leaves list hn hd ha division all of placed
+pub classes_of : {s v u : Table} → Keeps v u → IsSoundTable s → IsSoundTable u → u.propositions ≡ s.propositions →
+    (mask : ℕ) {node divided at : ℕ} {places : ℕ → Option ℕ} {leaves : List (ℕ × ℕ)} {list : List Class} →
+    IsNode s node → IsNode v divided → IsNode u at → IsDivided v mask (tree_of s node) (tree_of v divided) →
+    AreLeaves v divided leaves → AreOf leaves (length leaves) list → IsPlaced places list →
+    IsMapped (λ leaf. option_and_then places leaf) (tree_of v divided) (tree_of u at) → AreClasses s u node mask at list
+classes_of {s} {v} {u} m node_sound sound letters mask {node} {divided} {at} {places} {leaves} {list} hn hd ha
+    division all of placed
     mapped =
     let d : tree_of u divided ≡ tree_of v divided = m.same divided hd in
     let B : Tree → Type 0 = λ x. IsDivided u mask (tree_of s node) x in
     let M : Tree → Type 0 = λ x. (f : ℕ → Bool) → leaf_at (tree_of u at) f ≡ option_and_then places (leaf_at x f) in
-    are_classes s u
-    (record {
+    are_classes (record {
       mask = mask;
       node = node;
       divided = divided;
@@ -334,36 +320,33 @@ classes_of s v u m node_sound sound letters mask node divided at places leaves l
       node_sound = node_sound;
       node_held = hn;
       divided_held = m.held divided hd;
-      division = subst B (sym d) (divided_kept v u m mask (tree_of s node) (tree_of v divided) division);
-      listed =
-          listed u divided (sound.ordered divided (m.held divided hd)) leaves list
-          (leaves_kept v u m divided hd leaves all) of;
+      division = subst B (sym d) (divided_kept m mask (tree_of s node) (tree_of v divided) division);
+      listed = listed u divided (sound.ordered divided (m.held divided hd)) leaves list (leaves_kept m hd all) of;
       placed = placed;
       mapped = subst M (sym d) mapped;
     }) ha
 
 -- classes stay where their diagrams are kept
-leaf_kept : (t u : Table) → Keeps t u → (node x : ℕ) → IsNode t node → leaf_of u node x ≡ leaf_of t node x
-leaf_kept t u k node x held = ap (λ tree. leaf_at tree (assignment x)) (k.same node held)
+leaf_kept : {t u : Table} → Keeps t u → {node : ℕ} (x : ℕ) → IsNode t node → leaf_of u node x ≡ leaf_of t node x
+leaf_kept k {node} x held = ap (λ tree. leaf_at tree (assignment x)) (k.same node held)
 
-class_kept : (s t u : Table) → Keeps t u → (node mask places k : ℕ) (c : Class) → IsNode t places →
+class_kept : {s t u : Table} → Keeps t u → {node mask places k : ℕ} {c : Class} → IsNode t places →
     IsClass s t node mask places k c → IsClass s u node mask places k c
-class_kept s t u keeps node mask places k c held is = record {
+class_kept {t} {u} keeps {places} {k} {c} held is = record {
   least = record {
-    here = (leads_same t u keeps places held k c.letter).0 is.least.here;
-    none_before = λ x e before. is.least.none_before x ((leads_same t u keeps places held k x).1 e) before;
+    here = (leads_same keeps held k c.letter).0 is.least.here;
+    none_before = λ x e before. is.least.none_before x ((leads_same keeps held k x).1 e) before;
   };
   masked = is.masked;
   held = keeps.held c.rest is.held;
-  others = λ x y off. leaf_kept t u keeps c.rest x is.held ∙ is.others x y off ∙ sym
-      (leaf_kept t u keeps c.rest y is.held);
-  shared = λ x e. leaf_kept t u keeps c.rest x is.held ∙ is.shared x (sym (leaf_kept t u keeps places x held) ∙ e);
+  others = λ x y off. leaf_kept keeps x is.held ∙ is.others x y off ∙ sym (leaf_kept keeps y is.held);
+  shared = λ x e. leaf_kept keeps x is.held ∙ is.shared x (sym (leaf_kept keeps x held) ∙ e);
 }
 
 pub classes_kept : (s t u : Table) → Keeps t u → (node mask places : ℕ) (list : List Class) →
     AreClasses s t node mask places list → AreClasses s u node mask places list
 classes_kept s t u keeps node mask places list are =
-    let same : (x : ℕ) → leaf_of u places x ≡ leaf_of t places x = λ x. leaf_kept t u keeps places x are.held in
+    let same : (x : ℕ) → leaf_of u places x ≡ leaf_of t places x = λ x. leaf_kept keeps x are.held in
     let B : ℕ → ℕ → Type 0 = λ z n. z < 2 ^ n in
     record {
       held = keeps.held places are.held;
@@ -373,6 +356,6 @@ classes_kept s t u keeps node mask places list are =
       alike = λ x y hx hy.
           (let were = are.alike x y (subst (B x) keeps.propositions hx) (subst (B y) keeps.propositions hy) in
           (λ e. were.0 (sym (same x) ∙ e ∙ same y), λ a. same x ∙ were.1 a ∙ sym (same y)));
-      each = λ k c e. class_kept s t u keeps node mask places k c are.held (are.each k c e);
+      each = λ k c e. class_kept keeps are.held (are.each k c e);
       rising = are.rising;
     }

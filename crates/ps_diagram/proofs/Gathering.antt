@@ -25,16 +25,16 @@ use Rattle.ps_diagram.proofs.Letters.{no_bit, top_bit, lower_bit}
 
 -- ## Lists of what was found
 
-front_case : (b : Bool) (a : ℕ) (u v : Option ℕ) (z : ℕ) → (u ≡ Some z → v ≡ Some z) → cond b (Some a) u ≡ Some z →
+front_case : (b : Bool) (a : ℕ) (u v : Option ℕ) {z : ℕ} → (u ≡ Some z → v ≡ Some z) → cond b (Some a) u ≡ Some z →
     cond b (Some a) v ≡ Some z
-front_case true a u v z h e = e
-front_case false a u v z h e = h e
+front_case true a u v h e = e
+front_case false a u v h e = h e
 
-found_front : (test : ℕ → Bool) (xs ys : List (ℕ × ℕ)) (z : ℕ) → lookup test xs ≡ Some z →
+found_front : (test : ℕ → Bool) (xs ys : List (ℕ × ℕ)) {z : ℕ} → lookup test xs ≡ Some z →
     lookup test (xs ++ ys) ≡ Some z
-found_front test [] ys z e = cc
-found_front test (x ∷ xs) ys z e =
-    front_case (test x.0) x.1 (lookup test xs) (lookup test (xs ++ ys)) z (found_front test xs ys z) e
+found_front test [] ys e = cc
+found_front test (x ∷ xs) ys {z} e =
+    front_case (test x.0) x.1 (lookup test xs) (lookup test (xs ++ ys)) (found_front test xs ys) e
 
 none_case : (b : Bool) (a : ℕ) (u v : Option ℕ) → (v ≡ None → u ≡ None) → cond b (Some a) v ≡ None →
     cond b (Some a) u ≡ None
@@ -58,7 +58,7 @@ found_last (x ∷ xs) k z e =
     last_case (nat_eq k x.0) x.1 (lookup (nat_eq k) xs) (lookup (nat_eq k) (xs ++ (k, z) ∷ [])) z (found_last xs k z) e
 
 found_more : (xs ys : List (ℕ × ℕ)) (leaf : ℕ) → IsFound xs leaf → IsFound (xs ++ ys) leaf
-found_more xs ys leaf h = (h.0, found_front (nat_eq leaf) xs ys h.0 h.1)
+found_more xs ys leaf h = (h.0, found_front (nat_eq leaf) xs ys h.1)
 
 all_map : (P Q : ℕ × ℕ → Type 0) (xs : List (ℕ × ℕ)) → ((x : ℕ × ℕ) → P x → Q x) → AllByRecursion P xs →
     AllByRecursion Q xs
@@ -99,16 +99,15 @@ pub gathers_none : (n : ℕ) (t : Tree) (letter : ℕ) (old : List (ℕ × ℕ))
 gathers_none n t letter old h =
     record { added = []; is = sym (append-nil old); first = tt; fresh = tt; rising = tt; whole = h }
 
-pub leaf_found : (t : Tree) (k letter : ℕ) (found : List (ℕ × ℕ)) → t ≡ final k →
+pub leaf_found : {t : Tree} (k : ℕ) {letter : ℕ} (found : List (ℕ × ℕ)) → t ≡ final k →
     lookup (nat_eq k) found ≡ Some letter → (f : ℕ → Bool) (leaf : ℕ) → leaf_at t f ≡ Some leaf → IsFound found leaf
-leaf_found t k letter found e is f leaf at =
+leaf_found k {letter} found e is f leaf at =
     let same : k ≡ leaf = some_nat k leaf (sym (ap (λ u. leaf_at u f) e) ∙ at) in
     subst (IsFound found) same (letter, is)
 
-pub gathers_leaf : (n : ℕ) (t : Tree) (k letter : ℕ) (old new : List (ℕ × ℕ)) → t ≡ final k → letter < 2 ^ root_of n t →
-    lookup (nat_eq k) old ≡ None → new ≡ old ++ (k, letter) ∷ [] →
-    Gathers n t letter old new
-gathers_leaf n t k letter old new e lt none is =
+pub gathers_leaf : (n : ℕ) {t : Tree} (k letter : ℕ) (old : List (ℕ × ℕ)) {new : List (ℕ × ℕ)} → t ≡ final k →
+    letter < 2 ^ root_of n t → lookup (nat_eq k) old ≡ None → new ≡ old ++ (k, letter) ∷ [] → Gathers n t letter old new
+gathers_leaf n {t} k letter old {new} e lt none is =
     let P : Tree → Type 0 = λ u. letter < 2 ^ root_of n u in
     let within : letter < 2 ^ n = subst P e lt in
     record {
@@ -125,7 +124,7 @@ gathers_leaf n t k letter old new e lt none is =
       );
       fresh = (none, tt);
       rising = (tt, tt);
-      whole = leaf_found t k letter new e (ap (lookup (nat_eq k)) is ∙ found_last old k letter none);
+      whole = leaf_found k new e (ap (lookup (nat_eq k)) is ∙ found_last old k letter none);
     }
 
 -- ## Tests
@@ -138,58 +137,56 @@ root_later n p (choice q low high) o lt = omega (arith, o.0)
 one_more : (p letter : ℕ) → letter < 2 ^ p → letter + 2 ^ p < 2 ^ suc p
 one_more p letter lt = omega (arith, pow-suc 2 p)
 
-side : (p : ℕ) (v : Bool) (low high : Tree) (f : ℕ → Bool) → f p ≡ v →
+side : (p : ℕ) {v : Bool} (low high : Tree) (f : ℕ → Bool) → f p ≡ v →
     leaf_at (choice p low high) f ≡ cond v (leaf_at high f) (leaf_at low f)
-side p v low high f e = ap (λ b. cond b (leaf_at high f) (leaf_at low f)) e
+side p low high f e = ap (λ b. cond b (leaf_at high f) (leaf_at low f)) e
 
-apart : (a b : Bool) → a ≡ b → a ≡ true → b ≡ false → ⊥
-apart a b e h g = true_is_not_false (sym h ∙ e ∙ g)
+apart : {a b : Bool} → a ≡ b → a ≡ true → b ≡ false → ⊥
+apart e h g = true_is_not_false (sym h ∙ e ∙ g)
 
-first_low : (n p letter : ℕ) (low high : Tree) → letter < 2 ^ p → p < root_of n low → (leaf place : ℕ) →
-    IsFirst n low letter leaf place → IsFirst n (choice p low high) letter leaf place
-first_low n p letter low high lt root leaf place h =
+first_low : {n : ℕ} (p : ℕ) {letter : ℕ} {low : Tree} (high : Tree) → letter < 2 ^ p → p < root_of n low →
+    {leaf place : ℕ} → IsFirst n low letter leaf place → IsFirst n (choice p low high) letter leaf place
+first_low p {letter} {low} high lt root {place} h =
     let bit : is_in p place ≡ false = h.same p root ∙ no_bit p letter p lt (omega arith) in
     record {
       within = h.within;
-      there = side p false low high (assignment place) bit ∙ h.there;
+      there = side p low high (assignment place) bit ∙ h.there;
       same = λ q less. h.same q (omega (arith, less, root));
       least = λ x e before. elim (bool_cases (is_in p x)) [
         | inl is ↦ elim (order_cases before.first p) [
           | inl less ↦ sym (h.same before.first (omega (arith, less, root))) ∙ before.is_true
-          | inr (inl same) ↦ absurd (apart (is_in p x) (is_in before.first x) (ap (λ q. is_in q x) (sym same)) is
-              before.is_false)
-          | inr (inr less) ↦ absurd (apart (is_in p x) (is_in p place) (before.same p less) is bit)
+          | inr (inl same) ↦ absurd (apart (ap (λ q. is_in q x) (sym same)) is before.is_false)
+          | inr (inr less) ↦ absurd (apart (before.same p less) is bit)
         ]
-        | inr isnt ↦ h.least x (sym (side p false low high (assignment x) isnt) ∙ e) before
+        | inr isnt ↦ h.least x (sym (side p low high (assignment x) isnt) ∙ e) before
       ];
     }
 
-first_high : (n p letter : ℕ) (low high : Tree) → letter < 2 ^ p → p < root_of n high → (leaf place : ℕ) →
-    ((f : ℕ → Bool) → leaf_at low f ≡ Some leaf → ⊥) →
-    IsFirst n high (letter + 2 ^ p) leaf place → IsFirst n (choice p low high) letter leaf place
-first_high n p letter low high lt root leaf place fresh h =
+first_high : {n : ℕ} (p letter : ℕ) (low : Tree) {high : Tree} → letter < 2 ^ p → p < root_of n high →
+    {leaf place : ℕ} → ((f : ℕ → Bool) → leaf_at low f ≡ Some leaf → ⊥) → IsFirst n high (letter + 2 ^ p) leaf place →
+    IsFirst n (choice p low high) letter leaf place
+first_high p letter low {high} lt root {place} fresh h =
     let bit : is_in p place ≡ true = h.same p root ∙ top_bit p letter lt in
     record {
       within = h.within;
-      there = side p true low high (assignment place) bit ∙ h.there;
+      there = side p low high (assignment place) bit ∙ h.there;
       same = λ q less. h.same q (omega (arith, less, root)) ∙ lower_bit p letter q less;
       least = λ x e before. elim (bool_cases (is_in p x)) [
         | inl is ↦
-            let there = h.least x (sym (side p true low high (assignment x) is) ∙ e) before in
+            let there = h.least x (sym (side p low high (assignment x) is) ∙ e) before in
             elim (order_cases before.first p) [
               | inl less ↦ sym (lower_bit p letter before.first less) ∙ there
-              | inr (inl same) ↦ absurd (apart (is_in p x) (is_in before.first x) (ap (λ q. is_in q x) (sym same)) is
-                  before.is_false)
-              | inr (inr less) ↦ absurd (apart _ _ refl there (no_bit (suc p) (letter + 2 ^ p) before.first
+              | inr (inl same) ↦ absurd (apart (ap (λ q. is_in q x) (sym same)) is before.is_false)
+              | inr (inr less) ↦ absurd (apart refl there (no_bit (suc p) (letter + 2 ^ p) before.first
                   (one_more p letter lt) (omega (arith, less))))
             ]
-        | inr isnt ↦ absurd (fresh (assignment x) (sym (side p false low high (assignment x) isnt) ∙ e))
+        | inr isnt ↦ absurd (fresh (assignment x) (sym (side p low high (assignment x) isnt) ∙ e))
       ];
     }
 
-low_before_high : (n p letter : ℕ) (low high : Tree) → letter < 2 ^ p → p < root_of n low → p < root_of n high →
-    (k x m y : ℕ) → IsFirst n low letter k x → IsFirst n high (letter + 2 ^ p) m y → IsBefore x y
-low_before_high n p letter low high lt rl rh k x m y a b = record {
+low_before_high : {n : ℕ} (p : ℕ) {letter : ℕ} {low high : Tree} → letter < 2 ^ p → p < root_of n low →
+    p < root_of n high → {k x m y : ℕ} → IsFirst n low letter k x → IsFirst n high (letter + 2 ^ p) m y → IsBefore x y
+low_before_high p {letter} lt rl rh a b = record {
   first = p;
   is_false = a.same p rl ∙ no_bit p letter p lt (omega arith);
   is_true = b.same p rh ∙ top_bit p letter lt;
@@ -200,11 +197,10 @@ low_before_high n p letter low high lt rl rh k x m y a b = record {
 not_found : (found : List (ℕ × ℕ)) (leaf : ℕ) → lookup (nat_eq leaf) found ≡ None → IsFound found leaf → ⊥
 not_found found leaf none h = let e : Some h.0 ≡ None = sym h.1 ∙ none in cc
 
-gathers_choice : (n p letter : ℕ) (low high : Tree) (old mid new : List (ℕ × ℕ)) → letter < 2 ^ p → p < root_of n low →
-    p < root_of n high →
-    Gathers n low letter old mid → Gathers n high (letter + 2 ^ p) mid new →
+gathers_choice : {n : ℕ} (p : ℕ) {letter : ℕ} {low high : Tree} {old mid new : List (ℕ × ℕ)} → letter < 2 ^ p →
+    p < root_of n low → p < root_of n high → Gathers n low letter old mid → Gathers n high (letter + 2 ^ p) mid new →
     Gathers n (choice p low high) letter old new
-gathers_choice n p letter low high old mid new lt rl rh a b =
+gathers_choice {n} p {letter} {low} {high} {old} {mid} {new} lt rl rh a b =
     let L : ℕ × ℕ → Type 0 = λ pair. IsFirst n low letter pair.0 pair.1 in
     let H : ℕ × ℕ → Type 0 = λ pair. IsFirst n high (letter + 2 ^ p) pair.0 pair.1 in
     let C : ℕ × ℕ → Type 0 = λ pair. IsFirst n (choice p low high) letter pair.0 pair.1 in
@@ -215,133 +211,122 @@ gathers_choice n p letter low high old mid new lt rl rh a b =
     record {
       added = a.added ++ b.added;
       is = b.is ∙ ap (λ (xs : List (ℕ × ℕ)). xs ++ b.added) a.is ∙ append_assoc old a.added b.added;
-      first = all_append C a.added b.added
-          (all_map L C a.added (λ pair h. first_low n p letter low high lt rl pair.0 pair.1 h) a.first)
-          (all_both N H C b.added (λ pair none h. first_high n p letter low high lt rh pair.0 pair.1
+      first = all_append C a.added b.added (all_map L C a.added (λ pair h. first_low p high lt rl h) a.first)
+          (all_both N H C b.added (λ pair none h. first_high p letter low lt rh
           (λ f e. not_found mid pair.0 none (a.whole f pair.0 e)) h) b.fresh b.first);
       fresh = all_append O a.added b.added a.fresh
           (all_map N O b.added (λ pair none. none_front (nat_eq pair.0) old a.added
           (sym (ap (lookup (nat_eq pair.0)) a.is) ∙ none)) b.fresh);
-      rising =
-          rising_append L H a.added b.added (λ x y hx hy. low_before_high n p letter low high lt rl rh x.0 x.1 y.0 y.1
+      rising = rising_append L H a.added b.added (λ x y hx hy. low_before_high p lt rl rh
           hx hy) a.first b.first a.rising b.rising;
       whole = λ f leaf e. elim (bool_cases (f p)) [
-        | inl is ↦ b.whole f leaf (sym (side p true low high f is) ∙ e)
-        | inr isnt ↦ later leaf (a.whole f leaf (sym (side p false low high f isnt) ∙ e))
+        | inl is ↦ b.whole f leaf (sym (side p low high f is) ∙ e)
+        | inr isnt ↦ later leaf (a.whole f leaf (sym (side p low high f isnt) ∙ e))
       ];
     }
 
-pub begun_below : (t : Table) (node p low high letter : ℕ) → IsChoice t node p low high →
+pub begun_below : {t : Table} {node p low high : ℕ} (letter : ℕ) → IsChoice t node p low high →
     letter < 2 ^ root_of t.propositions (tree_of t node) → letter < 2 ^ p
-begun_below t node p low high letter h lt =
+begun_below {t} letter h lt =
     let P : Tree → Type 0 = λ u. letter < 2 ^ root_of t.propositions u in subst P h.tree lt
 
-pub begun_low : (t : Table) (node p low high letter : ℕ) → IsChoice t node p low high →
+pub begun_low : {t : Table} {node p low high : ℕ} (letter : ℕ) → IsChoice t node p low high →
     letter < 2 ^ root_of t.propositions (tree_of t node) → letter < 2 ^ root_of t.propositions (tree_of t low)
-begun_low t node p low high letter h lt =
+begun_low {t} {node} {p} {low} {high} letter h lt =
     let r = root_later t.propositions p (tree_of t low) h.low_from h.below in
     let le : p ≤ root_of t.propositions (tree_of t low) = omega (arith, r) in
-    omega (
-      arith,
-      begun_below t node p low high letter h lt,
-      pow_mono {i = p}
-          {j = root_of t.propositions (tree_of t low)} le,
-    )
+    omega (arith, begun_below letter h lt, pow_mono {i = p} {j = root_of t.propositions (tree_of t low)} le)
 
 -- the bit that is set, as the code makes it
-pub set_bit : (t : Table) (node p low high : ℕ) → IsChoice t node p low high → 1 * 2 ^ p % 2 ^ 64 ≡ 2 ^ p
-set_bit t node p low high h =
+pub set_bit : {t : Table} {node p low high : ℕ} → IsChoice t node p low high → 1 * 2 ^ p % 2 ^ 64 ≡ 2 ^ p
+set_bit {p} h =
     let small : suc p ≤ 64 = omega (arith, h.below, h.few) in
     let one : 1 * 2 ^ p ≡ 2 ^ p = omega arith in
     let below : 2 ^ p < 2 ^ 64 = omega (arith, pow_mono {i = suc p} {j = 64} small, pow-suc 2 p, pow_pos p) in
     ap (λ x. x % 2 ^ 64) one ∙ mod-eq_of_lt below
 
-pub begun_high : (t : Table) (node p low high letter : ℕ) → IsChoice t node p low high →
+pub begun_high : {t : Table} {node p low high : ℕ} (letter : ℕ) → IsChoice t node p low high →
     letter < 2 ^ root_of t.propositions (tree_of t node) → letter + 2 ^ p < 2 ^ root_of t.propositions (tree_of t high)
-begun_high t node p low high letter h lt =
+begun_high {t} {node} {p} {low} {high} letter h lt =
     let r = root_later t.propositions p (tree_of t high) h.high_from h.below in
     let le : suc p ≤ root_of t.propositions (tree_of t high) = omega (arith, r) in
     omega (
       arith,
-      one_more p letter (begun_below t node p low high letter h lt),
+      one_more p letter (begun_below letter h lt),
       pow_mono {i = suc p} {j = root_of t.propositions (tree_of t high)} le,
     )
 
-pub gathers_test : (t : Table) (node p low high letter : ℕ) (old mid new : List (ℕ × ℕ)) → IsChoice t node p low high →
+pub gathers_test : {t : Table} {node p low high letter : ℕ} {old mid new : List (ℕ × ℕ)} → IsChoice t node p low high →
     letter < 2 ^ root_of t.propositions (tree_of t node) →
     Gathers t.propositions (tree_of t low) letter old mid → Gathers t.propositions (tree_of t high) (letter + 2 ^ p) mid
     new → Gathers t.propositions (tree_of t node) letter old new
-gathers_test t node p low high letter old mid new h lt a b =
+gathers_test {t} {node} {p} {low} {high} {letter} {old} {mid} {new} h lt a b =
     let n = t.propositions in
     let P : Tree → Type 0 = λ u. Gathers n u letter old new in
-    subst P (sym h.tree) (gathers_choice n p letter (tree_of t low) (tree_of t high) old mid new
-    (begun_below t node p low high letter h lt)
-    (root_later n p (tree_of t low) h.low_from h.below) (root_later n p (tree_of t high) h.high_from h.below) a b)
+    subst P (sym h.tree) (gathers_choice p (begun_below letter h lt) (root_later n p (tree_of t low) h.low_from h.below)
+    (root_later n p (tree_of t high) h.high_from h.below) a b)
 
 -- one node more was seen
 pub seen_more : (t : Table) (old new : ℕ → Bool) (node : ℕ) (found : List (ℕ × ℕ)) →
     ((q : ℕ) → new q ≡ cond (eqb node q) true (old q)) → HaveFound t old found →
     ((f : ℕ → Bool) (leaf : ℕ) → leaf_at (tree_of t node) f ≡ Some leaf → IsFound found leaf) → HaveFound t new found
-seen_more t old new node found update h own q is f leaf e =
-    elim (bool_cases (eqb node q)) [
-      | inl same ↦ own f leaf (ap (λ x. leaf_at (tree_of t x) f) (eqb-true node q same) ∙ e)
-      | inr isnt ↦ h q (sym (update q ∙ ap (λ b. cond b true (old q)) isnt) ∙ is) f leaf e
-    ]
+seen_more t old new node found update h own q is f leaf e = elim (bool_cases (eqb node q)) [
+  | inl same ↦ own f leaf (ap (λ x. leaf_at (tree_of t x) f) (eqb-true node q same) ∙ e)
+  | inr isnt ↦ h q (sym (update q ∙ ap (λ b. cond b true (old q)) isnt) ∙ is) f leaf e
+]
 
 -- ## What was gathered from the whole node
 
 zero_bit : (q : ℕ) → is_in q 0 ≡ false
 zero_bit q = no_bit 0 0 q (omega arith) (omega arith)
 
-least_of : (t : Table) (node leaf place : ℕ) → IsFirst t.propositions (tree_of t node) 0 leaf place →
+least_of : (t : Table) (node : ℕ) {leaf place : ℕ} → IsFirst t.propositions (tree_of t node) 0 leaf place →
     IsLeast (LeadsTo t node leaf) place
-least_of t node leaf place h = record {
+least_of t node h = record {
   here = (h.within, h.there);
-  none_before = λ x e before. apart _ _ refl (h.least x e.1 before) (zero_bit before.first);
+  none_before = λ x e before. apart refl (h.least x e.1 before) (zero_bit before.first);
 }
 
-entry_case : (P : ℕ → ℕ → Type 0) (k place leaf z : ℕ) (b : Bool) (rest : Option ℕ) → nat_eq leaf k ≡ b → P k place →
-    (rest ≡ Some z → P leaf z) → cond b (Some place) rest ≡ Some z → P leaf z
-entry_case P k place leaf z true rest is h go e =
+entry_case : (P : ℕ → ℕ → Type 0) (k place leaf : ℕ) {z : ℕ} (b : Bool) (rest : Option ℕ) → nat_eq leaf k ≡ b →
+    P k place → (rest ≡ Some z → P leaf z) → cond b (Some place) rest ≡ Some z → P leaf z
+entry_case P k place leaf {z} true rest is h go e =
     let Q : ℕ → Type 0 = λ m. P m z in
     subst Q (sym (eqb-true leaf k is)) (subst (P k) (some_nat place z e) h)
-entry_case P k place leaf z false rest is h go e = go e
+entry_case P k place leaf false rest is h go e = go e
 
-entry_of : (P : ℕ → ℕ → Type 0) (es : List (ℕ × ℕ)) (leaf z : ℕ) → AllByRecursion (λ pair. P pair.0 pair.1) es →
+entry_of : (P : ℕ → ℕ → Type 0) (es : List (ℕ × ℕ)) (leaf : ℕ) {z : ℕ} → AllByRecursion (λ pair. P pair.0 pair.1) es →
     lookup (nat_eq leaf) es ≡ Some z → P leaf z
-entry_of P [] leaf z h e = let x : None ≡ Some z = e in cc
-entry_of P (pair ∷ es) leaf z h e =
-    entry_case P pair.0 pair.1 leaf z (nat_eq leaf pair.0) (lookup (nat_eq leaf) es) refl h.0
-    (entry_of P es leaf z h.1) e
+entry_of P [] leaf {z} h e = let x : None ≡ Some z = e in cc
+entry_of P (pair ∷ es) leaf {z} h e =
+    entry_case P pair.0 pair.1 leaf (nat_eq leaf pair.0) (lookup (nat_eq leaf) es) refl h.0 (entry_of P es leaf h.1) e
 
 -- all that was gathered, once it began with nothing
-firsts : (t : Table) (node : ℕ) (found : List (ℕ × ℕ)) → IsGathered t node found →
+firsts : {t : Table} {node : ℕ} {found : List (ℕ × ℕ)} → IsGathered t node found →
     AllByRecursion (λ pair. IsFirst t.propositions (tree_of t node) 0 pair.0 pair.1) found
-firsts t node found h = let P : List (ℕ × ℕ) → Type 0 =
+firsts {t} {node} h = let P : List (ℕ × ℕ) → Type 0 =
     λ es. AllByRecursion (λ pair. IsFirst t.propositions (tree_of t node) 0 pair.0 pair.1) es in
     subst P (sym h.all.is) h.all.first
 
-pub path_found : (t : Table) (node leaf : ℕ) (found : List (ℕ × ℕ)) → IsGathered t node found → (o : Option ℕ) →
+pub path_found : {t : Table} {node : ℕ} (leaf : ℕ) {found : List (ℕ × ℕ)} → IsGathered t node found → (o : Option ℕ) →
     o ≡ lookup (nat_eq leaf) found →
     MatchOption o ((letter : ℕ) → LeadsTo t node leaf letter → ⊥) (λ letter. IsLeast (LeadsTo t node leaf) letter)
-path_found t node leaf found h None e =
-    λ letter at. not_found found leaf (sym e) (h.all.whole (assignment letter) leaf at.1)
-path_found t node leaf found h (Some z) e =
-    least_of t node leaf z (entry_of (IsFirst t.propositions (tree_of t node) 0) found leaf z
-    (firsts t node found h) (sym e))
+path_found leaf {found} h None e = λ letter at. not_found found leaf (sym e) (h.all.whole (assignment letter) leaf at.1)
+path_found {t} {node} leaf {found} h (Some z) e =
+    least_of t node (entry_of (IsFirst t.propositions (tree_of t node) 0) found leaf (firsts h) (sym e))
 
 any_more : (P : ℕ × ℕ → Type 0) (x : ℕ × ℕ) (xs : List (ℕ × ℕ)) → Any P xs → Any P (x ∷ xs)
 any_more P x xs h = (suc h.0, h.1, omega (arith, h.2), h.3, h.4)
 
-any_case : (k place leaf z : ℕ) (rest : List (ℕ × ℕ)) (b : Bool) → nat_eq leaf k ≡ b →
+any_case : (k place leaf : ℕ) {z : ℕ} (rest : List (ℕ × ℕ)) (b : Bool) → nat_eq leaf k ≡ b →
     (lookup (nat_eq leaf) rest ≡ Some z → Any (λ pair. pair.0 ≡ leaf) rest) →
     cond b (Some place) (lookup (nat_eq leaf) rest) ≡ Some z → Any (λ pair. pair.0 ≡ leaf) ((k, place) ∷ rest)
-any_case k place leaf z rest true is go e = (0, (k, place), omega arith, refl, sym (eqb-true leaf k is))
-any_case k place leaf z rest false is go e = any_more (λ pair. pair.0 ≡ leaf) (k, place) rest (go e)
+any_case k place leaf rest true is go e = (0, (k, place), omega arith, refl, sym (eqb-true leaf k is))
+any_case k place leaf rest false is go e = any_more (λ pair. pair.0 ≡ leaf) (k, place) rest (go e)
 
-any_of_found : (es : List (ℕ × ℕ)) (leaf z : ℕ) → lookup (nat_eq leaf) es ≡ Some z → Any (λ pair. pair.0 ≡ leaf) es
-any_of_found [] leaf z e = let x : None ≡ Some z = e in cc
-any_of_found ((k, place) ∷ es) leaf z e = any_case k place leaf z es (nat_eq leaf k) refl (any_of_found es leaf z) e
+any_of_found : (es : List (ℕ × ℕ)) (leaf : ℕ) {z : ℕ} → lookup (nat_eq leaf) es ≡ Some z →
+    Any (λ pair. pair.0 ≡ leaf) es
+any_of_found [] leaf {z} e = let x : None ≡ Some z = e in cc
+any_of_found ((k, place) ∷ es) leaf {z} e = any_case k place leaf es (nat_eq leaf k) refl (any_of_found es leaf) e
 
 pairs_of : (es : List (ℕ × ℕ)) → AreRising es → AllPairs (λ a b. IsBefore a.1 b.1) es
 pairs_of [] h = λ i j d lt below. absurd (omega (arith, below))
@@ -349,12 +334,12 @@ pairs_of (x ∷ es) h =
     AllPairs-cons (λ a b. IsBefore a.1 b.1) x es (All-from_recursion (λ later. IsBefore x.1 later.1) es h.0)
     (pairs_of es h.1)
 
-pub are_leaves : (t : Table) (node : ℕ) (found : List (ℕ × ℕ)) → IsGathered t node found → AreLeaves t node found
-are_leaves t node found h = record {
+pub are_leaves : {t : Table} {node : ℕ} {found : List (ℕ × ℕ)} → IsGathered t node found → AreLeaves t node found
+are_leaves {t} {node} {found} h = record {
   least = All-from_recursion (λ pair. IsLeast (LeadsTo t node pair.0) pair.1) found
       (all_map (λ pair. IsFirst t.propositions (tree_of t node) 0 pair.0 pair.1)
-      (λ pair. IsLeast (LeadsTo t node pair.0) pair.1) found (λ pair f. least_of t node pair.0 pair.1 f)
-      (firsts t node found h));
-  each = λ leaf letter at. (let w = h.all.whole (assignment letter) leaf at.1 in any_of_found found leaf w.0 w.1);
+      (λ pair. IsLeast (LeadsTo t node pair.0) pair.1) found (λ pair f. least_of t node f)
+      (firsts h));
+  each = λ leaf letter at. (let w = h.all.whole (assignment letter) leaf at.1 in any_of_found found leaf w.1);
   rising = pairs_of found (subst AreRising (sym h.all.is) h.all.rising);
 }

@@ -58,10 +58,10 @@ bits_rise p letter = omega (arith, first_bits p letter)
 
 -- ## One node more
 
-push_each : (P : ℕ → ℕ → Type 0) (xs more : List ℕ) (x count : ℕ) → length xs ≡ count → more ≡ xs ++ x ∷ [] →
-    ((i : ℕ) → i < count → P i (get_or xs i 0)) → P count x →
-    (i : ℕ) → i < count + 1 → P i (get_or more i 0)
-push_each P xs more x count size is each last i lt = elim (old_or_new i count lt) [
+push_each : (P : ℕ → ℕ → Type 0) (xs : List ℕ) {more : List ℕ} (x : ℕ) {count : ℕ} → length xs ≡ count →
+    more ≡ xs ++ x ∷ [] → ((i : ℕ) → i < count → P i (get_or xs i 0)) → P count x → (i : ℕ) → i < count + 1 →
+    P i (get_or more i 0)
+push_each P xs {more} x {count} size is each last i lt = elim (old_or_new i count lt) [
   | inl before ↦ (
       let same : get_or more i 0 ≡ get_or xs i 0 = ap (λ (ys : List ℕ). get_or ys i 0) is
       ∙ get_or_append_left xs (x ∷ []) 0 i (omega (arith, before, size)) in
@@ -71,30 +71,29 @@ push_each P xs more x count size is each last i lt = elim (old_or_new i count lt
       subst (P i) (sym at) (subst (λ (k : ℕ). P k x) (sym here) last))
 ]
 
-push_length : (xs more : List ℕ) (x count : ℕ) → length xs ≡ count → more ≡ xs ++ x ∷ [] → length more ≡ count + 1
-push_length xs more x count size is =
+push_length : (xs : List ℕ) {more : List ℕ} (x : ℕ) {count : ℕ} → length xs ≡ count → more ≡ xs ++ x ∷ [] →
+    length more ≡ count + 1
+push_length xs x size is =
     let len : length (xs ++ x ∷ []) ≡ length xs + 1 = length-append xs (x ∷ []) in
     omega (arith, ap length is, len, size)
 
-pub has_leaf_kept : (t u : Table) → Keeps t u → (node : ℕ) (leaf : Option ℕ) → HasLeaf t node leaf → HasLeaf u node leaf
-has_leaf_kept t u k node leaf h =
-    (k.held node h.0, kept (λ (x : Tree). (f : ℕ → Bool) → leaf_at x f ≡ leaf) t u k node h.0 h.1)
+pub has_leaf_kept : {t u : Table} → Keeps t u → (node : ℕ) (leaf : Option ℕ) → HasLeaf t node leaf → HasLeaf u node leaf
+has_leaf_kept {t} {u} k node leaf h =
+    (k.held node h.0, kept (λ (x : Tree). (f : ℕ → Bool) → leaf_at x f ≡ leaf) k h.0 h.1)
 
-pub leaf_nodes_kept : (t u : Table) (leaves nodes : List ℕ) (count : ℕ) → Keeps t u →
+pub leaf_nodes_kept : {t u : Table} {leaves nodes : List ℕ} {count : ℕ} → Keeps t u →
     AreLeafNodes t leaves count nodes → AreLeafNodes u leaves count nodes
-leaf_nodes_kept t u leaves nodes count k a = record {
+leaf_nodes_kept {t} {u} {leaves} {nodes} k a = record {
   one_each = a.one_each;
-  each = λ i lt. has_leaf_kept t u k (get_or nodes i 0) (slice_get leaves i) (a.each i lt);
+  each = λ i lt. has_leaf_kept k (get_or nodes i 0) (slice_get leaves i) (a.each i lt);
 }
 
-pub leaf_nodes_more : (t u : Table) (leaves nodes more : List ℕ) (count node : ℕ) → Keeps t u →
+pub leaf_nodes_more : {t u : Table} {leaves nodes more : List ℕ} {count : ℕ} (node : ℕ) → Keeps t u →
     AreLeafNodes t leaves count nodes → more ≡ nodes ++ node ∷ [] →
     HasLeaf u node (slice_get leaves count) → AreLeafNodes u leaves (count + 1) more
-leaf_nodes_more t u leaves nodes more count node k a is h = record {
-  one_each = push_length nodes more node count a.one_each is;
-  each =
-      push_each (λ i x. HasLeaf u x (slice_get leaves i)) nodes more node count a.one_each is
-      (leaf_nodes_kept t u leaves nodes count k a).each h;
+leaf_nodes_more {t} {u} {leaves} {nodes} {more} {count} node k a is h = record {
+  one_each = push_length nodes node a.one_each is;
+  each = push_each (λ i x. HasLeaf u x (slice_get leaves i)) nodes node a.one_each is (leaf_nodes_kept k a).each h;
 }
 
 -- ## The first row
@@ -102,7 +101,7 @@ leaf_nodes_more t u leaves nodes more count node k a is h = record {
 same_default : (xs : List ℕ) (i other : ℕ) → i < length xs → get_or xs i other ≡ get_or xs i 0
 same_default xs i other lt = get_or_from_slice_get xs i (get_or xs i 0) other (slice_get-get_or xs i 0 lt)
 
-module _ (t : Table) (leaves nodes : List ℕ) (none : ℕ) (nothing : HasLeaf t none None)
+module _ {t : Table} {leaves nodes : List ℕ} (none : ℕ) (nothing : HasLeaf t none None)
     (a : AreLeafNodes t leaves (length leaves) nodes) where
   leaf_there : (i : ℕ) → HasLeaf t (get_or nodes i none) (slice_get leaves i)
   leaf_there i = elim (cases_lt i (length leaves)) [
@@ -139,35 +138,27 @@ pub record AreTests (t u : Table) (p none half : ℕ) (nodes : List ℕ) (count 
   pub one_each : length made ≡ count
   pub each : (i : ℕ) → i < count → TestsAt t u p none half nodes i (get_or made i 0)
 
-pub tests_more : (t u v : Table) (p none half : ℕ) (nodes : List ℕ) (count : ℕ) (made more : List ℕ) (node : ℕ) →
+pub tests_more : {t u v : Table} {p none half : ℕ} {nodes : List ℕ} {count : ℕ} {made more : List ℕ} (node : ℕ) →
     Keeps u v → AreTests t u p none half nodes count made → more ≡ made ++ node ∷ [] →
     TestsAt t v p none half nodes count node → AreTests t v p none half nodes (count + 1) more
-tests_more t u v p none half nodes count made more node k a is h = record {
-  one_each = push_length made more node count a.one_each is;
-  each = push_each (TestsAt t v p none half nodes) made more node count a.one_each is
-      (λ i lt. (
-        k.held _ (a.each i lt).0,
-        kept (IsTestOf p (tree_of t (get_or nodes i none))
-            (tree_of t (get_or nodes (half + i) none))) u v k _ (a.each i lt).0 (a.each i lt).1,
-      )) h;
+tests_more {t} {u} {v} {p} {none} {half} {nodes} {count} {made} {more} node k a is h = record {
+  one_each = push_length made node a.one_each is;
+  each = push_each (TestsAt t v p none half nodes) made node a.one_each is (λ i lt. (
+    k.held _ (a.each i lt).0,
+    kept (IsTestOf p (tree_of t (get_or nodes i none))
+        (tree_of t (get_or nodes (half + i) none))) k (a.each i lt).0 (a.each i lt).1,
+  )) h;
 }
 
--- a test between nodes that were held before
-pub test_of_held : (t u : Table) (p low high : ℕ) (made : Tree) → Keeps t u → IsNode t low → IsNode t high →
-    IsTestOf p (tree_of u low) (tree_of u high) made → IsTestOf p (tree_of t low) (tree_of t high) made
-test_of_held t u p low high made k l h e =
-    subst (λ (x : Tree). IsTestOf p x (tree_of t high) made) (k.same low l)
-    (subst (λ (x : Tree). IsTestOf p (tree_of u low) x made) (k.same high h) e)
-
 -- all places are done
-pub all_tests : (t u : Table) (p none half : ℕ) (nodes : List ℕ) (count : ℕ) (made : List ℕ) → half ≡ 2 ^ p →
+pub all_tests : {t u : Table} {p none half : ℕ} {nodes : List ℕ} {count : ℕ} {made : List ℕ} → half ≡ 2 ^ p →
     count ≡ min (length nodes) (2 ^ p) → AreTests t u p none half nodes count made →
     AreTests t u p none (2 ^ p) nodes (min (length nodes) (2 ^ p)) made
-all_tests t u p none half nodes count made is done a =
+all_tests {t} {u} {p} {none} {nodes} {count} {made} is done a =
     subst (λ n. AreTests t u p none (2 ^ p) nodes n made) done
     (subst (λ h. AreTests t u p none h nodes count made) is a)
 
-module _ (t u : Table) (p none : ℕ) (nodes made : List ℕ) (row : IsRow t (p + 1) none nodes) (keeps : Keeps t u)
+module _ {t u : Table} {p none : ℕ} {nodes made : List ℕ} (row : IsRow t (p + 1) none nodes) (keeps : Keeps t u)
     (a : AreTests t u p none (2 ^ p) nodes (min (length nodes) (2 ^ p)) made) where
   -- a place with a test, or behind them
   Made : ℕ → Type 0
@@ -187,7 +178,7 @@ module _ (t u : Table) (p none : ℕ) (nodes made : List ℕ) (row : IsRow t (p 
   ]
 
   nothing_now : HasLeaf u none None
-  nothing_now = has_leaf_kept t u keeps none None row.nothing
+  nothing_now = has_leaf_kept keeps none None row.nothing
 
   pub half_row : IsRow u p none made
   unfolding Made
@@ -227,8 +218,7 @@ module _ (t u : Table) (p none : ℕ) (nodes made : List ℕ) (row : IsRow t (p 
   leads_here letter = elim (made_within letter) [
     | inl lt ↦ (
         let size = a.one_each in
-        let test =
-        subst (TestsAt t u p none (2 ^ p) nodes (letter % 2 ^ p))
+        let test = subst (TestsAt t u p none (2 ^ p) nodes (letter % 2 ^ p))
         (sym (same_default made (letter % 2 ^ p) none (omega (arith, lt, size)))) (a.each (letter % 2 ^ p) lt) in
         leads_by letter test.1)
     | inr past ↦ (

@@ -6,90 +6,38 @@ use Rattle.std.specs.Result.{IsErrAnd}
 use Rattle.std.proofs.lemmas.Result.{err_from_is_err_and}
 use Rattle.ps_diagram.specs.declared.fault.OverlayError.{OverlayError}
 use Rattle.ps_diagram.specs.declared.fault.OverlayError.TheVariants.{Clash, OutOfMemory}
-use Rattle.ps_diagram.specs.Tree.{Tree, empty, leaf_at, IsBlind, IsTestOf}
+use Rattle.ps_diagram.specs.Tree.{Tree, leaf_at, IsBlind, IsTestOf}
 use Rattle.ps_diagram.specs.Leaves.{joined, AreAlike}
-use Rattle.ps_diagram.specs.Split.{IsConstant}
 use Rattle.ps_diagram.specs.Known.{IsOverlay, IsClash}
 use Rattle.ps_diagram.proofs.Cells.{bool_cases}
 use Rattle.ps_diagram.proofs.Canon.{changed, changed-here, changed-other}
-
--- the leaf of a constant tree
-constant_is : (t : Tree) → IsConstant t → (x : Option ℕ) (g : ℕ → Bool) → leaf_at t g ≡ x → (f : ℕ → Bool) →
-    leaf_at t f ≡ x
-constant_is t c x g e f = c.1 f ∙ sym (c.1 g) ∙ e
 
 -- how leaves are joined, as a fact of three leaves
 abbrev pub IsJoin : Option ℕ → Option ℕ → Option ℕ → Type 0
 IsJoin x y z = AreAlike x y × (z ≡ joined x y)
 
-alike_none : (x : Option ℕ) → AreAlike x None
-alike_none None = tt
-alike_none (Some k) = tt
-
 joined_none : (x : Option ℕ) → x ≡ joined x None
 joined_none None = refl
 joined_none (Some k) = refl
 
-alike_same : (x : Option ℕ) → AreAlike x x
-alike_same None = tt
-alike_same (Some k) = refl
-
-joined_same : (x : Option ℕ) → x ≡ joined x x
-joined_same None = refl
-joined_same (Some k) = refl
-
-join-by : (x y z u v w : Option ℕ) → x ≡ u → y ≡ v → z ≡ w → IsJoin u v w → IsJoin x y z
-join-by x y z u v w a b c h =
+join-by : {x y z u v w : Option ℕ} → x ≡ u → y ≡ v → z ≡ w → IsJoin u v w → IsJoin x y z
+join-by {y} {z} {u} {v} a b c h =
     let X : Option ℕ → Type 0 = λ o. IsJoin o y z in
     let Y : Option ℕ → Type 0 = λ o. IsJoin u o z in
     let Z : Option ℕ → Type 0 = λ o. IsJoin u v o in
     subst X (sym a) (subst Y (sym b) (subst Z (sym c) h))
 
-pub overlay_first_none : (a b : Tree) → ((f : ℕ → Bool) → leaf_at a f ≡ None) → IsOverlay a b b
-overlay_first_none a b e f = join-by _ _ _ None _ _ (e f) refl refl (tt, refl)
-
-pub overlay_second_none : (a b : Tree) → ((f : ℕ → Bool) → leaf_at b f ≡ None) → IsOverlay a b a
-overlay_second_none a b e f =
-    join-by _ _ _ (leaf_at a f) None (leaf_at a f) refl (e f) refl (alike_none (leaf_at a f), joined_none (leaf_at a f))
-
-pub overlay_same : (a : Tree) → IsOverlay a a a
-overlay_same a f = (alike_same (leaf_at a f), joined_same (leaf_at a f))
-
-pub overlay_empty_first : (a b : Tree) → a ≡ empty → IsOverlay a b b
-overlay_empty_first a b e = overlay_first_none a b (λ f. ap (λ t. leaf_at t f) e)
-
-pub overlay_empty_second : (a b : Tree) → b ≡ empty → IsOverlay a b a
-overlay_empty_second a b e = overlay_second_none a b (λ f. ap (λ t. leaf_at t f) e)
-
-pub leaves_first_none : (a b : Tree) → IsConstant a → (g : ℕ → Bool) → leaf_at a g ≡ None → IsOverlay a b b
-leaves_first_none a b c g e = overlay_first_none a b (constant_is a c None g e)
-
-pub leaves_second_none : (a b : Tree) → IsConstant b → (g : ℕ → Bool) → leaf_at b g ≡ None → IsOverlay a b a
-leaves_second_none a b c g e = overlay_second_none a b (constant_is b c None g e)
-
-pub leaves_same : (a b : Tree) → IsConstant a → IsConstant b → (g : ℕ → Bool) (k : ℕ) → leaf_at a g ≡ Some k →
-    leaf_at b g ≡ Some k → IsOverlay a b a
-leaves_same a b ca cb g k ea eb f =
-    join-by _ _ _ (Some k) (Some k) (Some k) (constant_is a ca (Some k) g ea f) (constant_is b cb (Some k) g eb f)
-    (constant_is a ca (Some k) g ea f) (refl, refl)
-
 -- a test of two overlays is the overlay of the tests
 pub overlay_test : (p : ℕ) (a al ah b bl bh c cl ch : Tree) → IsTestOf p al ah a → IsTestOf p bl bh b →
     IsTestOf p cl ch c → IsOverlay al bl cl → IsOverlay ah bh ch → IsOverlay a b c
-overlay_test p a al ah b bl bh c cl ch ta tb tc l h f =
-    elim (bool_cases (f p)) [
-      | inl is ↦ let at : (t tl th : Tree) → IsTestOf p tl th t → leaf_at t f ≡ leaf_at th f = λ t tl th e. e f
-          ∙ ap (λ v. cond v (leaf_at th f) (leaf_at tl f)) is in
-          join-by _ _ _ _ _ _ (at a al ah ta) (at b bl bh tb) (at c cl ch tc) (h f)
-      | inr is ↦ let at : (t tl th : Tree) → IsTestOf p tl th t → leaf_at t f ≡ leaf_at tl f = λ t tl th e. e f
-          ∙ ap (λ v. cond v (leaf_at th f) (leaf_at tl f)) is in
-          join-by _ _ _ _ _ _ (at a al ah ta) (at b bl bh tb) (at c cl ch tc) (l f)
-    ]
-
--- overlays heed no more than what they are made of
-pub overlay_blind : (level : ℕ) (a b c : Tree) → IsOverlay a b c → IsBlind level a → IsBlind level b → IsBlind level c
-overlay_blind level a b c o ha hb f g e =
-    (o f).1 ∙ ap (λ x. joined x (leaf_at b f)) (ha f g e) ∙ ap (λ y. joined (leaf_at a g) y) (hb f g e) ∙ sym (o g).1
+overlay_test p a al ah b bl bh c cl ch ta tb tc l h f = elim (bool_cases (f p)) [
+  | inl is ↦ let at : (t tl th : Tree) → IsTestOf p tl th t → leaf_at t f ≡ leaf_at th f = λ t tl th e. e f
+      ∙ ap (λ v. cond v (leaf_at th f) (leaf_at tl f)) is in
+      join-by (at a al ah ta) (at b bl bh tb) (at c cl ch tc) (h f)
+  | inr is ↦ let at : (t tl th : Tree) → IsTestOf p tl th t → leaf_at t f ≡ leaf_at tl f = λ t tl th e. e f
+      ∙ ap (λ v. cond v (leaf_at th f) (leaf_at tl f)) is in
+      join-by (at a al ah ta) (at b bl bh tb) (at c cl ch tc) (l f)
+]
 
 -- the side of a test is the test's leaf at a letter changed there
 pub side_leaf : (p : ℕ) (v : Bool) (t low high : Tree) → IsTestOf p low high t → IsBlind (p + 1) low →
@@ -98,13 +46,11 @@ side_leaf p v t low high h bl bh f =
     let stays : (q : ℕ) → p + 1 ≤ q → changed f p v q ≡ f q =
     λ q le. changed-other f p v q (λ is. omega (arith, is, le)) in
     h (changed f p v) ∙ ap (λ b. cond b (leaf_at high (changed f p v)) (leaf_at low (changed f p v)))
-    (changed-here f p v)
-    ∙ ap (λ x. cond v x (leaf_at low (changed f p v))) (bh (changed f p v) f stays)
+    (changed-here f p v) ∙ ap (λ x. cond v x (leaf_at low (changed f p v))) (bh (changed f p v) f stays)
     ∙ ap (λ x. cond v (leaf_at high f) x) (bl (changed f p v) f stays)
 
 pub clash_low : (p : ℕ) (a al ah b bl bh : Tree) → IsTestOf p al ah a → IsBlind (p + 1) al → IsBlind (p + 1) ah →
-    IsTestOf p bl bh b → IsBlind (p + 1) bl → IsBlind (p + 1) bh →
-    (e : OverlayError) → IsClash al bl e → IsClash a b e
+    IsTestOf p bl bh b → IsBlind (p + 1) bl → IsBlind (p + 1) bh → (e : OverlayError) → IsClash al bl e → IsClash a b e
 clash_low p a al ah b bl bh ta bal bah tb bbl bbh (Clash x y) c = (
   changed c.0 p false,
   side_leaf p false a al ah ta bal bah c.0 ∙ c.1,
@@ -114,8 +60,7 @@ clash_low p a al ah b bl bh ta bal bah tb bbl bbh (Clash x y) c = (
 clash_low p a al ah b bl bh ta bal bah tb bbl bbh OutOfMemory c = tt
 
 pub clash_high : (p : ℕ) (a al ah b bl bh : Tree) → IsTestOf p al ah a → IsBlind (p + 1) al → IsBlind (p + 1) ah →
-    IsTestOf p bl bh b → IsBlind (p + 1) bl → IsBlind (p + 1) bh →
-    (e : OverlayError) → IsClash ah bh e → IsClash a b e
+    IsTestOf p bl bh b → IsBlind (p + 1) bl → IsBlind (p + 1) bh → (e : OverlayError) → IsClash ah bh e → IsClash a b e
 clash_high p a al ah b bl bh ta bal bah tb bbl bbh (Clash x y) c = (
   changed c.0 p true,
   side_leaf p true a al ah ta bal bah c.0 ∙ c.1,

@@ -52,14 +52,13 @@ bit_below false n low p h = ap (λ x. is_in p x) (plus_zero low)
 
 pub letter_is : (n : ℕ) (f : ℕ → Bool) (p : ℕ) → p < n → is_in p (letter_of n f) ≡ f p
 letter_is zero f p h = absurd (omega (arith, h))
-letter_is (suc n) f p h =
-    elim (bool_cases (ltb p n)) [
-      | inl is ↦ let lt = ltb-true p n is in bit_below (f n) n (letter_of n f) p lt ∙ letter_is n f p lt
-      | inr isnt ↦
-          let same : n ≡ p = (let ge = ltb-false p n isnt in omega (arith, ge, h)) in
-          let P : ℕ → Type 0 = λ q. is_in q (letter_of n f + cond (f n) (2 ^ n) 0) ≡ f q in
-          subst P same (bit_here (f n) n (letter_of n f) (letter_lt n f))
-    ]
+letter_is (suc n) f p h = elim (bool_cases (ltb p n)) [
+  | inl is ↦ let lt = ltb-true p n is in bit_below (f n) n (letter_of n f) p lt ∙ letter_is n f p lt
+  | inr isnt ↦
+      let same : n ≡ p = (let ge = ltb-false p n isnt in omega (arith, ge, h)) in
+      let P : ℕ → Type 0 = λ q. is_in q (letter_of n f + cond (f n) (2 ^ n) 0) ≡ f q in
+      subst P same (bit_here (f n) n (letter_of n f) (letter_lt n f))
+]
 
 -- a tree's leaf at a letter is that at its number
 pub leaf_by_number : (n : ℕ) (t : Tree) → IsFrom 0 n t → (f : ℕ → Bool) →

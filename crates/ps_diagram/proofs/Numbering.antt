@@ -12,9 +12,9 @@ use Rattle.ps_diagram.proofs.Cells.{bool_cases}
 use Rattle.ps_diagram.proofs.KnownLemmas.{some_nat}
 
 -- leaves with least letters that rise are different
-pub leaves_differ : (t : Table) (node : ℕ) (found : List (ℕ × ℕ)) → AreLeaves t node found →
+pub leaves_differ : {t : Table} {node : ℕ} {found : List (ℕ × ℕ)} → AreLeaves t node found →
     AllPairs (λ a b. a.0 ≢ b.0) found
-leaves_differ t node found h i j d lt below e =
+leaves_differ {t} {node} {found} h i j d lt below e =
     let P : ℕ → Type 0 = λ leaf. LeadsTo t node leaf (get_or found i d).1 in
     (h.least j d below).none_before (get_or found i d).1 (subst P e (h.least i d (omega (arith, lt, below))).here)
     (h.rising i j d lt below)
@@ -22,13 +22,13 @@ leaves_differ t node found h i j d lt below e =
 pushed_old : (list : List Class) (c : Class) (i : ℕ) → i < length list → class_at (list ++ c ∷ []) i ≡ class_at list i
 pushed_old list c i lt = get_or_append_left list (c ∷ []) _ i lt
 
-pushed_new : (list : List Class) (c : Class) (i : ℕ) → length list ≡ i → class_at (list ++ c ∷ []) i ≡ c
-pushed_new list c i e = get_or_push list c _ i e
+pushed_new : (list : List Class) (c : Class) {i : ℕ} → length list ≡ i → class_at (list ++ c ∷ []) i ≡ c
+pushed_new list c {i} e = get_or_push list c _ i e
 
-pub of_push : (leaves : List (ℕ × ℕ)) (n leaf letter : ℕ) (list : List Class) → AreOf leaves n list →
+pub of_push : {leaves : List (ℕ × ℕ)} {n leaf letter : ℕ} {list : List Class} → AreOf leaves n list →
     leaf ≡ (pair_at leaves n).0 → letter ≡ (pair_at leaves n).1 →
     AreOf leaves (n + 1) (list ++ (record { letter = letter; rest = leaf }) ∷ [])
-of_push leaves n leaf letter list h leaf_is letter_is =
+of_push {leaves} {n} {leaf} {letter} {list} h leaf_is letter_is =
     let made : Class = record { letter = letter; rest = leaf } in
     let longer = length_push list made in
     let each = h.each in
@@ -38,12 +38,12 @@ of_push leaves n leaf letter list h leaf_is letter_is =
       rest = λ i lt. elim (cases_lt i n) [
         | inl l ↦ ap (λ (c : Class). c.rest) (pushed_old list made i (omega (arith, l, each))) ∙ h.rest i l
         | inr ge ↦ (let P : ℕ → Type 0 = λ m. (class_at (list ++ made ∷ []) m).rest ≡ (pair_at leaves m).0 in
-            subst P (last i lt ge) (ap (λ (c : Class). c.rest) (pushed_new list made n each) ∙ leaf_is))
+            subst P (last i lt ge) (ap (λ (c : Class). c.rest) (pushed_new list made each) ∙ leaf_is))
       ];
       letter = λ i lt. elim (cases_lt i n) [
         | inl l ↦ ap (λ (c : Class). c.letter) (pushed_old list made i (omega (arith, l, each))) ∙ h.letter i l
         | inr ge ↦ (let P : ℕ → Type 0 = λ m. (class_at (list ++ made ∷ []) m).letter ≡ (pair_at leaves m).1 in
-            subst P (last i lt ge) (ap (λ (c : Class). c.letter) (pushed_new list made n each) ∙ letter_is))
+            subst P (last i lt ge) (ap (λ (c : Class). c.letter) (pushed_new list made each) ∙ letter_is))
       ];
     }
 
@@ -51,21 +51,21 @@ some_in : Option ℕ → ℕ
 some_in None = 0
 some_in (Some k) = 1
 
-no_some : (i : ℕ) → None ≡ Some i → ⊥
+no_some : {i : ℕ} → None ≡ Some i → ⊥
 unfolding some_in
-no_some i e = let n : 0 ≡ 1 = ap some_in e in omega (arith, n)
+no_some e = let n : 0 ≡ 1 = ap some_in e in omega (arith, n)
 
-none_or : (x : Option ℕ) (i : ℕ) → x ≡ None → x ≡ Some i → ⊥
-none_or x i n s = no_some i (sym n ∙ s)
+none_or : {x : Option ℕ} {i : ℕ} → x ≡ None → x ≡ Some i → ⊥
+none_or {i} n s = no_some (sym n ∙ s)
 
-pub placed_push : (places new : ℕ → Option ℕ) (letter k at : ℕ) (list : List Class) → at ≡ length list →
-    places k ≡ None → ((q : ℕ) → new q ≡ cond (eqb k q) (Some at) (places q)) → IsPlaced places list →
-    IsPlaced new (list ++ (record { letter = letter; rest = k }) ∷ [])
-placed_push places new letter k at list at_is none update h =
+pub placed_push : {places : ℕ → Option ℕ} (new : ℕ → Option ℕ) (letter k : ℕ) {at : ℕ} {list : List Class} →
+    at ≡ length list → places k ≡ None → ((q : ℕ) → new q ≡ cond (eqb k q) (Some at) (places q)) →
+    IsPlaced places list → IsPlaced new (list ++ (record { letter = letter; rest = k }) ∷ [])
+placed_push {places} new letter k {at} {list} at_is none update h =
     let made : Class = record { letter = letter; rest = k } in
     let longer = length_push list made in
     let rest_new : (class_at (list ++ made ∷ []) (length list)).rest ≡ k =
-    ap (λ (c : Class). c.rest) (pushed_new list made (length list) refl) in
+    ap (λ (c : Class). c.rest) (pushed_new list made refl) in
     let rest_old : (i : ℕ) → i < length list → (class_at (list ++ made ∷ []) i).rest ≡ (class_at list i).rest =
     λ i lt. ap (λ (c : Class). c.rest) (pushed_old list made i lt) in
     let there : (q : ℕ) → eqb k q ≡ true → new q ≡ Some at = λ q is. update q
@@ -87,7 +87,7 @@ placed_push places new letter k at list at_is none update h =
         | inl l ↦
             let was : places (class_at (list ++ made ∷ []) i).rest ≡ Some i = ap places (rest_old i l) ∙ h.placed i l in
             elim (bool_cases (eqb k (class_at (list ++ made ∷ []) i).rest)) [
-              | inl is ↦ absurd (none_or (places k) i none (ap places (eqb-true k _ is) ∙ was))
+              | inl is ↦ absurd (none_or none (ap places (eqb-true k _ is) ∙ was))
               | inr isnt ↦ other _ isnt ∙ was
             ]
         | inr g ↦
@@ -98,11 +98,11 @@ placed_push places new letter k at list at_is none update h =
     }
 
 -- the next leaf has no place yet
-pub no_place : (leaves : List (ℕ × ℕ)) (n : ℕ) (places : ℕ → Option ℕ) (list : List Class) →
+pub no_place : {leaves : List (ℕ × ℕ)} {n : ℕ} {places : ℕ → Option ℕ} {list : List Class} →
     AllPairs (λ a b. a.0 ≢ b.0) leaves → n < length leaves → AreOf leaves n list → IsPlaced places list →
     (x : Option ℕ) → places (pair_at leaves n).0 ≡ x → x ≡ None
-no_place leaves n places list differ lt h p None e = refl
-no_place leaves n places list differ lt h p (Some i) e =
+no_place differ lt h p None e = refl
+no_place {leaves} {n} differ lt h p (Some i) e =
     let at = p.found (pair_at leaves n).0 i e in
     let within = at.0 in
     let each = h.each in

@@ -10,10 +10,10 @@ use Rattle.ps_diagram.specs.Views.{Sees}
 use Rattle.ps_diagram.proofs.Canon.{blind-from, same_tree}
 use Rattle.ps_diagram.proofs.Letters.{same_by_numbers}
 
-pub sees : (t : Table) → IsSoundTable t → (node : ℕ) (v : View) → IsPart t node v → Sees t node v
-sees t s node Nothing h = λ letter. ap (λ u. leaf_at u (assignment letter)) h
-sees t s node (Leaf k) h = λ letter. ap (λ u. leaf_at u (assignment letter)) h
-sees t s node (Test p low high) h =
+pub sees : {t : Table} → IsSoundTable t → (node : ℕ) (v : View) → IsPart t node v → Sees t node v
+sees s node Nothing h = λ letter. ap (λ u. leaf_at u (assignment letter)) h
+sees s node (Leaf k) h = λ letter. ap (λ u. leaf_at u (assignment letter)) h
+sees {t} s node (Test p low high) h =
     let n = t.propositions in
     record {
       named = h.below;
@@ -21,15 +21,12 @@ sees t s node (Test p low high) h =
       high_held = h.high_held;
       low_earlier = h.low_earlier;
       high_earlier = h.high_earlier;
-      low_behind =
-          λ x y e. blind-from (p + 1) n (tree_of t low) h.low_from (assignment x) (assignment y)
+      low_behind = λ x y e. blind-from (p + 1) n (tree_of t low) h.low_from (assignment x) (assignment y)
           (λ q le. e q (omega (arith, le)));
-      high_behind =
-          λ x y e. blind-from (p + 1) n (tree_of t high) h.high_from (assignment x) (assignment y)
+      high_behind = λ x y e. blind-from (p + 1) n (tree_of t high) h.high_from (assignment x) (assignment y)
           (λ q le. e q (omega (arith, le)));
       leaf = λ letter. ap (λ u. leaf_at u (assignment letter)) h.tree;
-      depends =
-          λ e. h.differ (same_tree n (tree_of t low) 0 (s.ordered low h.low_held) (s.reduced low h.low_held)
+      depends = λ e. h.differ (same_tree n (tree_of t low) 0 (s.ordered low h.low_held) (s.reduced low h.low_held)
           (tree_of t high) 0 (s.ordered high h.high_held) (s.reduced high h.high_held)
           (same_by_numbers n (tree_of t low) (tree_of t high) (s.ordered low h.low_held)
           (s.ordered high h.high_held) e));

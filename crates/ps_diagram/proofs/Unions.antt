@@ -25,10 +25,9 @@ first_leaf-append (x ∷ xs) ys = ap (joined x) (first_leaf-append xs ys)
     ∙ sym (joined_assoc x (first_leaf xs) (first_leaf ys))
 
 -- one node more
-pub first_leaf-push : (t : Table) (nodes more : List ℕ) (node letter : ℕ) → more ≡ nodes ++ node ∷ [] →
+pub first_leaf-push : (t : Table) (nodes : List ℕ) {more : List ℕ} (node letter : ℕ) → more ≡ nodes ++ node ∷ [] →
     first_leaf (leaves_of t more letter) ≡ joined (first_leaf (leaves_of t nodes letter)) (leaf_of t node letter)
-first_leaf-push t nodes more node letter e =
-    ap (λ (ns : List ℕ). first_leaf (leaves_of t ns letter)) e
+first_leaf-push t nodes node letter e = ap (λ (ns : List ℕ). first_leaf (leaves_of t ns letter)) e
     ∙ ap first_leaf (map-append (λ n. leaf_of t n letter) nodes (node ∷ []))
     ∙ first_leaf-append (leaves_of t nodes letter) (leaf_of t node letter ∷ [])
     ∙ ap (joined (first_leaf (leaves_of t nodes letter))) (joined_none (leaf_of t node letter))
@@ -44,24 +43,24 @@ first_leaf-halves t nodes m letter =
 
 -- ## Truths
 
-pub truth_kept : (t u : Table) (node : ℕ) → Keeps t u → IsTruth t node → IsTruth u node
-truth_kept t u node k h = record {
+pub truth_kept : {t u : Table} {node : ℕ} → Keeps t u → IsTruth t node → IsTruth u node
+truth_kept {t} {u} {node} k h = record {
   held = k.held node h.held;
-  leaf = λ letter. let one = h.leaf letter in (one.0, leaf_kept t u node letter k h.held ∙ one.1);
+  leaf = λ letter. let one = h.leaf letter in (one.0, leaf_kept letter k h.held ∙ one.1);
 }
 
-pub all_kept : (t u : Table) (nodes : List ℕ) → Keeps t u → All (IsTruth t) nodes → All (IsTruth u) nodes
-all_kept t u nodes k h = λ i d lt. truth_kept t u _ k (h i d lt)
+pub all_kept : {t u : Table} (nodes : List ℕ) → Keeps t u → All (IsTruth t) nodes → All (IsTruth u) nodes
+all_kept {t} {u} nodes k h = λ i d lt. truth_kept k (h i d lt)
 
 tail_of : (t : Table) (node : ℕ) (nodes : List ℕ) → All (IsTruth t) (node ∷ nodes) → All (IsTruth t) nodes
 tail_of t node nodes h = λ i d lt. h (suc i) d (omega arith)
 
-pub leaves_kept : (t u : Table) (nodes : List ℕ) (letter : ℕ) → Keeps t u → All (IsTruth t) nodes →
+pub leaves_kept : {t u : Table} (nodes : List ℕ) (letter : ℕ) → Keeps t u → All (IsTruth t) nodes →
     leaves_of u nodes letter ≡ leaves_of t nodes letter
-leaves_kept t u [] letter k h = refl
-leaves_kept t u (node ∷ nodes) letter k h =
-    ap (λ x. x ∷ leaves_of u nodes letter) (leaf_kept t u node letter k (h 0 node (omega arith)).held)
-    ∙ ap (λ xs. leaf_of t node letter ∷ xs) (leaves_kept t u nodes letter k (tail_of t node nodes h))
+leaves_kept [] letter k h = refl
+leaves_kept {t} {u} (node ∷ nodes) letter k h =
+    ap (λ x. x ∷ leaves_of u nodes letter) (leaf_kept letter k (h 0 node (omega arith)).held)
+    ∙ ap (λ xs. leaf_of t node letter ∷ xs) (leaves_kept nodes letter k (tail_of t node nodes h))
 
 pub union_truth : (t : Table) (nodes : List ℕ) (letter : ℕ) → All (IsTruth t) nodes →
     IsOneOrNone (first_leaf (leaves_of t nodes letter))
@@ -75,47 +74,45 @@ union_truth t (node ∷ nodes) letter h =
     )
 
 -- one node more, in a table that has grown
-pub truths_more : (t u : Table) (nodes more : List ℕ) (node : ℕ) → Keeps t u → All (IsTruth t) nodes → IsTruth u node →
-    more ≡ nodes ++ node ∷ [] → All (IsTruth u) more
-truths_more t u nodes more node k h is e =
-    subst (All (IsTruth u)) (sym e) (All-push (IsTruth u) nodes node (all_kept t u nodes k h) is)
+pub truths_more : {t u : Table} (nodes : List ℕ) {more : List ℕ} {node : ℕ} → Keeps t u → All (IsTruth t) nodes →
+    IsTruth u node → more ≡ nodes ++ node ∷ [] → All (IsTruth u) more
+truths_more {t} {u} nodes {node} k h is e =
+    subst (All (IsTruth u)) (sym e) (All-push (IsTruth u) nodes node (all_kept nodes k h) is)
 
-pub union_more : (t u : Table) (nodes more : List ℕ) (node letter : ℕ) → Keeps t u → All (IsTruth t) nodes →
+pub union_more : {t u : Table} (nodes : List ℕ) {more : List ℕ} (node letter : ℕ) → Keeps t u → All (IsTruth t) nodes →
     more ≡ nodes ++ node ∷ [] →
     first_leaf (leaves_of u more letter) ≡ joined (first_leaf (leaves_of t nodes letter)) (leaf_of u node letter)
-union_more t u nodes more node letter k h e =
-    first_leaf-push u nodes more node letter e
-    ∙ ap (λ xs. joined (first_leaf xs) (leaf_of u node letter)) (leaves_kept t u nodes letter k h)
+union_more {t} {u} nodes {more} node letter k h e = first_leaf-push u nodes node letter e
+    ∙ ap (λ xs. joined (first_leaf xs) (leaf_of u node letter)) (leaves_kept nodes letter k h)
 
-pub no_nodes : (t : Table) (nodes : List ℕ) → nodes ≡ [] → All (IsTruth t) nodes
-no_nodes t nodes e = subst (All (IsTruth t)) (sym e) (λ i d lt. absurd (omega arith))
+pub no_nodes : (t : Table) {nodes : List ℕ} → nodes ≡ [] → All (IsTruth t) nodes
+no_nodes t e = subst (All (IsTruth t)) (sym e) (λ i d lt. absurd (omega arith))
 
 -- ## The two halves, one made after the other
 
-module _ (s t u : Table) (nodes front back : List ℕ) (m one other : ℕ) (is_front : front ≡ take m nodes)
-    (is_back : back ≡ drop m nodes) (first : Keeps s t) (second : Keeps t u) (held : IsNode t one)
-    (h : All (IsTruth s) nodes)
-    (one_leaf : (letter : ℕ) → leaf_of t one letter ≡ first_leaf (leaves_of s front letter)) where
+module _ {s t u : Table} (nodes : List ℕ) {front back : List ℕ} (m : ℕ) {one : ℕ} (other : ℕ)
+    (is_front : front ≡ take m nodes) (is_back : back ≡ drop m nodes) (first : Keeps s t) (second : Keeps t u)
+    (held : IsNode t one) (h : All (IsTruth s) nodes) (one_leaf : (letter : ℕ) →
+    leaf_of t one letter ≡ first_leaf (leaves_of s front letter)) where
   pub front_truths : All (IsTruth s) front
   front_truths = subst (All (IsTruth s)) (sym is_front) (All-take (IsTruth s) m nodes h)
 
   pub one_truth : (letter : ℕ) → IsOneOrNone (leaf_of u one letter)
   one_truth letter =
       let truth = union_truth s front letter front_truths in
-      (truth.0, leaf_kept t u one letter second held ∙ one_leaf letter ∙ truth.1)
+      (truth.0, leaf_kept letter second held ∙ one_leaf letter ∙ truth.1)
 
   pub union_halves : (letter : ℕ) → leaf_of u other letter ≡ first_leaf (leaves_of t back letter) →
       joined (leaf_of u one letter) (leaf_of u other letter) ≡ first_leaf (leaves_of s nodes letter)
   union_halves letter other_leaf =
       let back_truths = All-drop (IsTruth s) m nodes h in
-      ap (λ x. joined x (leaf_of u other letter)) (leaf_kept t u one letter second held ∙ one_leaf letter
+      ap (λ x. joined x (leaf_of u other letter)) (leaf_kept letter second held ∙ one_leaf letter
       ∙ ap (λ (ns : List ℕ). first_leaf (leaves_of s ns letter)) is_front)
       ∙ ap (joined (first_leaf (leaves_of s (take m nodes) letter)))
       (other_leaf ∙ ap (λ (ns : List ℕ). first_leaf (leaves_of t ns letter)) is_back
-      ∙ ap first_leaf (leaves_kept s t (drop m nodes) letter first back_truths))
-      ∙ first_leaf-halves s nodes m letter
+      ∙ ap first_leaf (leaves_kept (drop m nodes) letter first back_truths)) ∙ first_leaf-halves s nodes m letter
 
-pub back_kept : (s t : Table) (nodes back : List ℕ) (m : ℕ) → back ≡ drop m nodes → Keeps s t → All (IsTruth s) nodes →
-    All (IsTruth t) back
-back_kept s t nodes back m e k h =
-    all_kept s t back k (subst (All (IsTruth s)) (sym e) (All-drop (IsTruth s) m nodes h))
+pub back_kept : {s t : Table} (nodes : List ℕ) {back : List ℕ} (m : ℕ) → back ≡ drop m nodes → Keeps s t →
+    All (IsTruth s) nodes → All (IsTruth t) back
+back_kept {s} {t} nodes {back} m e k h =
+    all_kept back k (subst (All (IsTruth s)) (sym e) (All-drop (IsTruth s) m nodes h))

@@ -62,8 +62,7 @@ below n (x ∷ xs) all q e = go (eqb q x) refl e (λ h. below n xs (λ k lt. all
 -- different numbers below n are no more than n
 pub few_below : (n : ℕ) (xs : List ℕ) → ((k : ℕ) → k < length xs → get_or xs k 0 < n) →
     ((k l d : ℕ) → k < l → l < length xs → get_or xs k d ≢ get_or xs l d) → length xs ≤ n
-few_below n xs all differ =
-    length-le_from_distinct_below xs n (IsDistinct-from_apart eqb xs
+few_below n xs all differ = length-le_from_distinct_below xs n (IsDistinct-from_apart eqb xs
     (λ i j d lt within. ne_eqb (get_or xs i d) (get_or xs j d) (differ i j d lt within))) (below n xs all)
 
 pub few_seen : (n : ℕ) (seen : List (List Bool)) → ((k : ℕ) → k < length seen → length (get_or seen k []) ≡ n)

@@ -60,9 +60,9 @@ module _ (R : ℕ → ℕ → Type 0) (n : ℕ) (to_within : (i j : ℕ) → R i
     keeps : (j : ℕ) → Stands old j → Stands new j
     has : (j : ℕ) → P j → Stands new j
 
-  push : (xs : List ℕ) (i : ℕ) → IsPart xs → i < n → (Stands xs i → ⊥) → ((j : ℕ) → R i j → Stands xs j) →
+  push : {xs : List ℕ} (i : ℕ) → IsPart xs → i < n → (Stands xs i → ⊥) → ((j : ℕ) → R i j → Stands xs j) →
       IsPart (xs ++ i ∷ [])
-  push xs i is lt absent sides = record {
+  push {xs} i is lt absent sides = record {
     below = λ k k_lt. elim (at_push xs i k k_lt) [
       | inl old ↦ subst (λ m. m < n) (sym old.1) (is.below k old.0)
       | inr new ↦ subst (λ m. m < n) (sym new.1) lt
@@ -95,24 +95,22 @@ module _ (R : ℕ → ℕ → Type 0) (n : ℕ) (to_within : (i j : ℕ) → R i
           new = before.new;
           is_part = before.is_part;
           keeps = before.keeps;
-          has =
-              λ j p. before.has j (
-                elim (cases_lt j m) [
-                  | inl less ↦ less
-                  | inr ge ↦ absurd (isnt (let e : j ≡ m = omega (arith, p.0) in subst P e p.1))
-                ],
-                p.1,
-              );
+          has = λ j p. before.has j (
+            elim (cases_lt j m) [
+              | inl less ↦ less
+              | inr ge ↦ absurd (isnt (let e : j ≡ m = omega (arith, p.0) in subst P e p.1))
+            ],
+            p.1,
+          );
         }
         | inl holds ↦ (let more = one m holds before.new before.is_part in record {
           new = more.new;
           is_part = more.is_part;
           keeps = λ j s. more.keeps j (before.keeps j s);
-          has =
-              λ j p. elim (cases_lt j m) [
-                | inl less ↦ more.keeps j (before.has j (less, p.1))
-                | inr ge ↦ more.has j (omega (arith, p.0))
-              ];
+          has = λ j p. elim (cases_lt j m) [
+            | inl less ↦ more.keeps j (before.has j (less, p.1))
+            | inr ge ↦ more.has j (omega (arith, p.0))
+          ];
         })
       ]
 
@@ -122,8 +120,8 @@ module _ (R : ℕ → ℕ → Type 0) (n : ℕ) (to_within : (i j : ℕ) → R i
     differ : (k l d : ℕ) → k < l → l < length path → get_or path k d ≢ get_or path l d
     leads : (k : ℕ) → k < length path → Way R (get_or path k 0) i
 
-  longer : (path : List ℕ) (i j : ℕ) → IsPath path i → i < n → R i j → IsPath (i ∷ path) j
-  longer path i j is lt r = record { below = below; differ = differ; leads = leads }
+  longer : {path : List ℕ} {i : ℕ} (j : ℕ) → IsPath path i → i < n → R i j → IsPath (i ∷ path) j
+  longer {path} {i} j is lt r = record { below = below; differ = differ; leads = leads }
     where
       below : (k : ℕ) → k < length (i ∷ path) → get_or (i ∷ path) k 0 < n
       below zero k_lt = lt
@@ -142,12 +140,11 @@ module _ (R : ℕ → ℕ → Type 0) (n : ℕ) (to_within : (i j : ℕ) → R i
       leads (suc k) k_lt = Way-join (is.leads k (omega (arith, k_lt))) (last r)
 
   -- a number is put behind all those to which it leads
-  visit : (fuel i : ℕ) (path : List ℕ) → IsPath path i → n < fuel + length path → i < n → (xs : List ℕ) → IsPart xs →
-      Grown xs (λ k. i ≡ k)
-  visit zero i path is_path many lt xs is = absurd (omega (arith, many, few_below n path is_path.below is_path.differ))
-  visit (suc fuel) i path is_path many lt xs is =
-      let sides =
-      each_below (R i) (decide i) (λ j r. visit fuel j (i ∷ path) (longer path i j is_path lt r)
+  visit : (fuel : ℕ) {i : ℕ} (path : List ℕ) → IsPath path i → n < fuel + length path → i < n → (xs : List ℕ) →
+      IsPart xs → Grown xs (λ k. i ≡ k)
+  visit zero path is_path many lt xs is = absurd (omega (arith, many, few_below n path is_path.below is_path.differ))
+  visit (suc fuel) {i} path is_path many lt xs is =
+      let sides = each_below (R i) (decide i) (λ j r. visit fuel (i ∷ path) (longer j is_path lt r)
       (omega (arith, many)) (to_within i j r)) n xs is in
       elim (stands_or_not sides.new i) [
         | inl there ↦ record {
@@ -158,34 +155,29 @@ module _ (R : ℕ → ℕ → Type 0) (n : ℕ) (to_within : (i j : ℕ) → R i
         }
         | inr absent ↦ record {
           new = sides.new ++ i ∷ [];
-          is_part = push sides.new i sides.is_part lt absent (λ j r. sides.has j (to_within i j r, r));
-          keeps =
-              λ j s. (let old = sides.keeps j s in (
-                old.0,
-                omega (arith, old.1, length-append sides.new (i ∷ [])),
-                get_or_append_left sides.new (i ∷ []) 0 old.0 old.1 ∙ old.2,
-              ));
-          has =
-              λ k e. (
-                length sides.new,
-                omega (arith, length-append sides.new (i ∷ [])),
-                get_or-append_seam sides.new i [] 0 ∙ e,
-              );
+          is_part = push i sides.is_part lt absent (λ j r. sides.has j (to_within i j r, r));
+          keeps = λ j s. (let old = sides.keeps j s in (
+            old.0,
+            omega (arith, old.1, length-append sides.new (i ∷ [])),
+            get_or_append_left sides.new (i ∷ []) 0 old.0 old.1 ∙ old.2,
+          ));
+          has = λ k e. (
+            length sides.new,
+            omega (arith, length-append sides.new (i ∷ [])),
+            get_or-append_seam sides.new i [] 0 ∙ e,
+          );
         }
       ]
 
   all_placed : Grown [] (λ k. (k < n) × (k < n))
-  all_placed =
-      each_below (λ k. k < n) (λ k. elim (cases_lt k n) [
-        | inl lt ↦ inl lt
-        | inr ge ↦ inr (λ lt. absurd (omega (arith, lt, ge)))
-      ])
-      (λ j lt. visit (suc n) j [] (record {
-        below = λ k k_lt. absurd (omega (arith, k_lt));
-        differ = λ k l d less l_lt. absurd (omega (arith, l_lt));
-        leads =
-            λ k k_lt. absurd (omega (arith, k_lt));
-      }) (omega arith) lt)
+  all_placed = each_below (λ k. k < n) (λ k. elim (cases_lt k n) [
+    | inl lt ↦ inl lt
+    | inr ge ↦ inr (λ lt. absurd (omega (arith, lt, ge)))
+  ]) (λ j lt. visit (suc n) [] (record {
+    below = λ k k_lt. absurd (omega (arith, k_lt));
+    differ = λ k l d less l_lt. absurd (omega (arith, l_lt));
+    leads = λ k k_lt. absurd (omega (arith, k_lt));
+  }) (omega arith) lt)
       n [] (record {
         below = λ k k_lt. absurd (omega (arith, k_lt));
         once = λ k l less l_lt. absurd (omega (arith, l_lt));
@@ -208,12 +200,10 @@ module _ (R : ℕ → ℕ → Type 0) (n : ℕ) (to_within : (i j : ℕ) → R i
         record {
           within = λ k i e. subst (λ m. m < n) (read k i e) (is.below k (slice_get_within xs k i e));
           once = once;
-          each =
-              λ i lt. (let s = all_placed.has i (lt, lt) in (
-                s.0,
-                slice_get-get_or xs s.0 0 s.1
-                    ∙ ap_some (get_or xs s.0 0) i s.2,
-              ));
+          each = λ i lt. (let s = all_placed.has i (lt, lt) in (
+            s.0,
+            slice_get-get_or xs s.0 0 s.1 ∙ ap_some (get_or xs s.0 0) i s.2,
+          ));
           behind = λ k l i j e f r.
               (let b = is.behind k j (slice_get_within xs k i e) (subst (λ m. R m j) (sym (read k i e)) r) in
               let there : slice_get xs b.0 ≡ Some j =
@@ -227,9 +217,9 @@ module _ (R : ℕ → ℕ → Type 0) (n : ℕ) (to_within : (i j : ℕ) → R i
       ap_some a b e = cc
 
 -- the gates at two places, of which the one has a literal of the other, or hasn't
-reads_at : (gates : List Gate) (i j : ℕ) (g h : Gate) → slice_get gates i ≡ Some g → slice_get gates j ≡ Some h →
+reads_at : (gates : List Gate) (i j : ℕ) {g h : Gate} → slice_get gates i ≡ Some g → slice_get gates j ≡ Some h →
     ReadsGate gates i j ⊎ (ReadsGate gates i j → ⊥)
-reads_at gates i j g h at_i at_j =
+reads_at gates i j {g} {h} at_i at_j =
     which (cases_eq (variable g.first) (variable h.literal)) (cases_eq (variable g.second) (variable h.literal))
   where
     which : (variable g.first ≡ variable h.literal) ⊎ (variable g.first ≡ variable h.literal → ⊥) →
@@ -237,8 +227,7 @@ reads_at gates i j g h at_i at_j =
         → ReadsGate gates i j ⊎ (ReadsGate gates i j → ⊥)
     which (inl first) _ = inl (record { reader = g; read = h; at_i = at_i; at_j = at_j; side = inl first })
     which (inr isnt) (inl second) = inl (record { reader = g; read = h; at_i = at_i; at_j = at_j; side = inr second })
-    which (inr isnt) (inr none) = inr (λ r.
-        (let reader : r.reader ≡ g = some_same (sym r.at_i ∙ at_i) in
+    which (inr isnt) (inr none) = inr (λ r. (let reader : r.reader ≡ g = some_same (sym r.at_i ∙ at_i) in
         let read : variable r.read.literal ≡ variable h.literal =
         ap (λ (x : Gate). variable x.literal) (some_same (sym r.at_j ∙ at_j)) in
         elim r.side [
@@ -251,13 +240,12 @@ reads_or_not gates i j = elim (cases_lt i (length gates)) [
   | inr out ↦ inr (λ r. absurd (omega (arith, out, slice_get_within gates i r.reader r.at_i)))
   | inl i_lt ↦ elim (cases_lt j (length gates)) [
     | inr out ↦ inr (λ r. absurd (omega (arith, out, slice_get_within gates j r.read r.at_j)))
-    | inl j_lt ↦ reads_at gates i j (get_or gates i no_gate) (get_or gates j no_gate)
-        (slice_get-get_or gates i no_gate i_lt) (slice_get-get_or gates j no_gate j_lt)
+    | inl j_lt ↦ reads_at gates i j (slice_get-get_or gates i no_gate i_lt) (slice_get-get_or gates j no_gate j_lt)
   ]
 ]
 
-pub gates_in_order : (c : CircuitData) → IsCircuit c → (order : List ℕ) ×
+pub gates_in_order : {c : CircuitData} → IsCircuit c → (order : List ℕ) ×
     IsOrder (ReadsGate c.gates) (length c.gates) order
-gates_in_order c is =
+gates_in_order {c} is =
     order_exists (ReadsGate c.gates) (length c.gates) (λ i j r. slice_get_within c.gates j r.read r.at_j)
     (reads_or_not c.gates) is.acyclic

@@ -30,12 +30,12 @@ both zero (suc (suc y)) hx hy = absurd (omega arith)
 both (suc zero) (suc (suc y)) hx hy = absurd (omega arith)
 both (suc (suc x)) y hx hy = absurd (omega arith)
 
-flipped : (b : Bool) (x m : ℕ) → x < 2 → m ≡ cond b 1 0 → ((x + m) % 2 == 1) ≡ cond b (not (x == 1)) (x == 1)
-flipped true zero m lt e = ap (λ n. (0 + n) % 2 == 1) e
-flipped true (suc zero) m lt e = ap (λ n. (1 + n) % 2 == 1) e
-flipped false zero m lt e = ap (λ n. (0 + n) % 2 == 1) e
-flipped false (suc zero) m lt e = ap (λ n. (1 + n) % 2 == 1) e
-flipped b (suc (suc x)) m lt e = absurd (omega arith)
+flipped : (b : Bool) (x : ℕ) {m : ℕ} → x < 2 → m ≡ cond b 1 0 → ((x + m) % 2 == 1) ≡ cond b (not (x == 1)) (x == 1)
+flipped true zero lt e = ap (λ n. (0 + n) % 2 == 1) e
+flipped true (suc zero) lt e = ap (λ n. (1 + n) % 2 == 1) e
+flipped false zero lt e = ap (λ n. (0 + n) % 2 == 1) e
+flipped false (suc zero) lt e = ap (λ n. (1 + n) % 2 == 1) e
+flipped b (suc (suc x)) lt e = absurd (omega arith)
 
 mask_bit : (b : Bool) (i : ℕ) → i < 64 → bit_at (all_or_none b) i ≡ cond b 1 0
 mask_bit true i lt = bit_at_ones 64 i lt
@@ -73,16 +73,14 @@ bit_in-flipped a b lane lt le =
     let m = all_or_none b in
     let x = get_or a word 0 in
     ap (λ n. bit_at n i == 1) (get_or-zip2 bit_xor a (replicate 4 m) word 0 0 0 (omega (arith, le)) (omega arith)
-    ∙ ap (bit_xor x) (get_or-replicate 4 word m 0 (omega arith)))
-    ∙ ap (λ n. n == 1) (bit_at_xor x m i)
-    ∙ flipped b (bit_at x i) (bit_at m i) (bit_at-lt x i) (mask_bit b i (omega arith))
+    ∙ ap (bit_xor x) (get_or-replicate 4 word m 0 (omega arith))) ∙ ap (λ n. n == 1) (bit_at_xor x m i)
+    ∙ flipped b (bit_at x i) (bit_at-lt x i) (mask_bit b i (omega arith))
 
 -- the words of a literal
-pub bit_in-read : (values : List (List ℕ)) (wire : Wire) (m lane : ℕ) → lane < 256 → wire.place < length values →
-    length (get_or values wire.place []) ≡ 4
-    → m ≡ all_or_none wire.is_negated
-    → bit_in (zip2 bit_xor (get_or values wire.place []) (replicate 4 m)) lane ≡ read (lane_of values lane) wire
-bit_in-read values wire m lane lt place four e =
+pub bit_in-read : (values : List (List ℕ)) (wire : Wire) {m : ℕ} (lane : ℕ) → lane < 256 → wire.place < length values →
+    length (get_or values wire.place []) ≡ 4 → m ≡ all_or_none wire.is_negated →
+    bit_in (zip2 bit_xor (get_or values wire.place []) (replicate 4 m)) lane ≡ read (lane_of values lane) wire
+bit_in-read values wire lane lt place four e =
     let a = get_or values wire.place [] in
     ap (λ n. bit_in (zip2 bit_xor a (replicate 4 n)) lane) e ∙ bit_in-flipped a wire.is_negated lane lt four
     ∙ sym (ap (λ (bit : Bool). cond wire.is_negated (not bit) bit)
@@ -90,11 +88,10 @@ bit_in-read values wire m lane lt place four e =
 
 -- a row that is worked out in all lanes
 pub worked_on : (rows : List Row) (values initial : List (List ℕ)) (a b : List ℕ) (k lane : ℕ) → lane < 256 →
-    k < length rows → length a ≡ 4 → length b ≡ 4
-    → bit_in a lane ≡ read (lane_of values lane) (get_or rows k no_row).first →
-    bit_in b lane ≡ read (lane_of values lane) (get_or rows k no_row).second
-    → work_out (drop k rows) (lane_of values lane) ≡ work_out rows (lane_of initial lane)
-    → work_out (drop (k + 1) rows) (lane_of (slice_set values (get_or rows k no_row).target (zip2 bit_and a b)) lane) ≡
+    k < length rows → length a ≡ 4 → length b ≡ 4 → bit_in a lane ≡ read (lane_of values lane)
+    (get_or rows k no_row).first → bit_in b lane ≡ read (lane_of values lane) (get_or rows k no_row).second →
+    work_out (drop k rows) (lane_of values lane) ≡ work_out rows (lane_of initial lane) →
+    work_out (drop (k + 1) rows) (lane_of (slice_set values (get_or rows k no_row).target (zip2 bit_and a b)) lane) ≡
     work_out rows (lane_of initial lane)
 worked_on rows values initial a b k lane less lt la lb first second before =
     let row = get_or rows k no_row in
@@ -110,25 +107,23 @@ worked_on rows values initial a b k lane less lt la lb first second before =
 
 -- the literals in front of a place, and one more
 pub read_on : (literals : List ℕ) (values table : List (List ℕ)) (words : List ℕ) (k lane : ℕ) → k < length literals →
-    k < length table
-    → bit_in words lane ≡ read (lane_of values lane) (wire_in (get_or literals k 0))
-    → take k (lane_of table lane) ≡ map (λ l. read (lane_of values lane) (wire_in l)) (take k literals)
-    → take (k + 1) (lane_of (slice_set table k words) lane) ≡ map (λ l. read (lane_of values lane) (wire_in l))
+    k < length table → bit_in words lane ≡ read (lane_of values lane) (wire_in (get_or literals k 0)) →
+    take k (lane_of table lane) ≡ map (λ l. read (lane_of values lane) (wire_in l)) (take k literals) →
+    take (k + 1) (lane_of (slice_set table k words) lane) ≡ map (λ l. read (lane_of values lane) (wire_in l))
     (take (k + 1) literals)
 read_on literals values table words k lane lt room here before =
     let f : List ℕ → Bool = λ ws. bit_in ws lane in
     let bit : ℕ → Bool = λ l. read (lane_of values lane) (wire_in l) in
     ap (take (k + 1)) (map-set f table k words) ∙ take_more_set (lane_of table lane) k (f words)
-    (omega (arith, length-map table f))
-    ∙ ap₂ (λ (xs : List Bool) (x : Bool). xs ++ x ∷ []) before here
+    (omega (arith, length-map table f)) ∙ ap₂ (λ (xs : List Bool) (x : Bool). xs ++ x ∷ []) before here
     ∙ sym (ap (map bit) (take_more literals k 0 lt) ∙ map-append bit (take k literals) (get_or literals k 0 ∷ []))
 
 -- the words of a latch's reset behind those of the latches in front of it
-pub reset_on : (latches : List Latch) (words more : List (List ℕ)) (m k lane : ℕ) → lane < 256 → k < length latches
-    → m ≡ all_or_none (get_or latches k no_latch).reset → more ≡ words ++ replicate 4 m ∷ []
-    → lane_of words lane ≡ map (λ (l : Latch). l.reset) (take k latches)
-    → lane_of more lane ≡ map (λ (l : Latch). l.reset) (take (k + 1) latches)
-reset_on latches words more m k lane lt room is grown before =
+pub reset_on : (latches : List Latch) (words : List (List ℕ)) {more : List (List ℕ)} {m : ℕ} (k lane : ℕ) → lane < 256 →
+    k < length latches → m ≡ all_or_none (get_or latches k no_latch).reset → more ≡ words ++ replicate 4 m ∷ [] →
+    lane_of words lane ≡ map (λ (l : Latch). l.reset) (take k latches) →
+    lane_of more lane ≡ map (λ (l : Latch). l.reset) (take (k + 1) latches)
+reset_on latches words {m} k lane lt room is grown before =
     let f : List ℕ → Bool = λ ws. bit_in ws lane in
     let reset : Latch → Bool = λ l. l.reset in
     ap (map f) grown ∙ map-append f words (replicate 4 m ∷ [])
@@ -148,10 +143,10 @@ pub length-lane : (xs : List (List ℕ)) (lane : ℕ) → length (lane_of xs lan
 length-lane xs lane = let f : List ℕ → Bool = λ ws. bit_in ws lane in length-map xs f
 
 -- a bit that a shift leaves in front
-pub latch_is : (rows : List (List ℕ)) (words : List ℕ) (number lane : ℕ) → number < length rows →
+pub latch_is : (rows : List (List ℕ)) {words : List ℕ} (number lane : ℕ) → number < length rows →
     words ≡ get_or rows number words
     → slice_get (lane_of rows lane) number ≡ Some (bit_and (get_or words (lane / 64) 0 / 2 ^ (lane % 64)) 1 == 1)
-latch_is rows words number lane lt e =
+latch_is rows {words} number lane lt e =
     let f : List ℕ → Bool = λ ws. bit_in ws lane in
     slice_get-map f rows number ∙ ap (option_map f) (slice_get_read rows (length rows) number words refl lt e)
     ∙ ap (λ n. Some (n == 1)) (sym (shr_and_one (get_or words (lane / 64) 0) (lane % 64)))

@@ -25,20 +25,19 @@ use Rattle.ps_simulate.proofs.RowLemmas.{length-variables, gate_within, length-r
 use Rattle.ps_simulate.proofs.RowLemmas.{IsScheduled-rows}
 use Rattle.ps_simulate.proofs.WorkLemmas.{row, no_row}
 
-module _ (c : CircuitData) (is : IsCircuit c) where
+module _ {c : CircuitData} (is : IsCircuit c) where
   -- a circuit has no more variables than literals have room for
   variables_below : (k : ℕ) → k < length (variables c) → get_or (variables c) k 0 < c.most + 1
   variables_below zero lt = omega arith
   variables_below (suc k) lt =
       let within : k < length (definitions c) = omega (arith, length-map (definitions c) variable) in
       let is_definition : IsDefinition c.most (get_or (definitions c) k 0) = is.draft.defined k 0 within in
-      omega (arith, variables_at c is k 0 within, is_definition.2)
+      omega (arith, variables_at is k 0 within, is_definition.2)
 
   pub few_variables : length (variables c) ≤ 2 ^ 31
   few_variables =
       let le : length (variables c) ≤ c.most + 1 =
-      few_below (c.most + 1) (variables c) variables_below (λ k l d lt within. variables_once c is k l d lt within)
-      in
+      few_below (c.most + 1) (variables c) variables_below (λ k l d lt within. variables_once is k l d lt within) in
       omega (arith, is.draft.limit)
 
   module _ (rows : List Row) (are : AreRows c rows) where
@@ -53,20 +52,19 @@ module _ (c : CircuitData) (is : IsCircuit c) where
         (λ k l d lt within e. absurd (let same : k ≡ l = are.is_order.once k l (get_or are.order l d)
         (slice_get-get_or are.order k d (omega arith) ∙ ap Some e) (slice_get-get_or are.order l d within) in
         omega arith)) in
-        omega (arith, length-rows c is rows are)
+        omega (arith, length-rows is are)
 
     pub gate_row : (k : ℕ) → k < length rows → IsGateRow front (length (variables c)) (row rows k)
     gate_row k lt =
-        let there = target_is c is rows are k lt in
-        let within = gate_within c is rows are k lt in
+        let there = target_is is are k lt in
+        let within = gate_within is are k lt in
         record { behind = omega (arith, there); within = omega (arith, there, within, length-variables c) }
 
     pub gate_rows : All (IsGateRow front (length (variables c))) rows
     gate_rows = All-from_get_or (IsGateRow front (length (variables c))) rows no_row gate_row
 
     pub rows_once : AreOnce rows
-    rows_once k l d lt within e =
-        absurd (let same = (IsScheduled-rows c is rows are).once k l (omega arith) within
+    rows_once k l d lt within e = absurd (let same = (IsScheduled-rows is are).once k l (omega arith) within
         (at k (omega arith) ∙ e ∙ sym (at l within)) in omega arith)
       where
         at : (k : ℕ) → k < length rows → (row rows k).target ≡ (get_or rows k d).target
@@ -78,15 +76,14 @@ module _ (c : CircuitData) (is : IsCircuit c) where
       where
         go : (p < front) ⊎ (front ≤ p) → (p < front) ⊎ ((k : ℕ) × (k < length rows) × (p ≡ (row rows k).target))
         go (inl less) = inl less
-        go (inr behind) =
-            (let i = p - front in
-            let there = row_of_gate c is rows are i (omega (arith, length-variables c)) in
-            inr (there.0, there.1, omega (arith, target_is c is rows are there.0 there.1, there.2)))
+        go (inr behind) = (let i = p - front in
+            let there = row_of_gate is are i (omega (arith, length-variables c)) in
+            inr (there.0, there.1, omega (arith, target_is is are there.0 there.1, there.2)))
 
     module _ (places : List ℕ) (each : length places ≡ length (variables c)) (kept : AreKept front places)
         (in_order : AreInOrder front places rows) where
-      goes : (p k : ℕ) → k < length rows → p ≡ (row rows k).target → moved places p ≡ front + k
-      goes p k lt e = ap (moved places) e ∙ in_order k no_row lt
+      goes : {p : ℕ} (k : ℕ) → k < length rows → p ≡ (row rows k).target → moved places p ≡ front + k
+      goes k lt e = ap (moved places) e ∙ in_order k no_row lt
 
       within_table : (p : ℕ) → p < length (variables c) → moved places p < length (variables c)
       within_table p lt = go (whose p lt)
@@ -94,7 +91,7 @@ module _ (c : CircuitData) (is : IsCircuit c) where
           go : (p < front) ⊎ ((k : ℕ) × (k < length rows) × (p ≡ (row rows k).target)) →
               moved places p < length (variables c)
           go (inl less) = omega (arith, kept p less)
-          go (inr (k, less, e)) = omega (arith, goes p k less e, few_rows, length-variables c)
+          go (inr (k, less, e)) = omega (arith, goes k less e, few_rows, length-variables c)
 
       one_each : (p q : ℕ) → p < length (variables c) → q < length (variables c) →
           moved places p ≡ moved places q → p ≡ q
@@ -103,39 +100,38 @@ module _ (c : CircuitData) (is : IsCircuit c) where
           go : (p < front) ⊎ ((k : ℕ) × (k < length rows) × (p ≡ (row rows k).target)) →
               (q < front) ⊎ ((k : ℕ) × (k < length rows) × (q ≡ (row rows k).target)) → p ≡ q
           go (inl lp) (inl lq) = sym (kept p lp) ∙ same ∙ kept q lq
-          go (inl lp) (inr (l, less, e)) = absurd (omega (arith, kept p lp, goes q l less e, same))
-          go (inr (k, less, e)) (inl lq) = absurd (omega (arith, kept q lq, goes p k less e, same))
+          go (inl lp) (inr (l, less, e)) = absurd (omega (arith, kept p lp, goes l less e, same))
+          go (inr (k, less, e)) (inl lq) = absurd (omega (arith, kept q lq, goes k less e, same))
           go (inr (k, hk, ek)) (inr (l, hl, el)) =
-              (let h : k ≡ l = omega (arith, goes p k hk ek, goes q l hl el, same) in ek
+              (let h : k ≡ l = omega (arith, goes k hk ek, goes l hl el, same) in ek
               ∙ ap (λ n. (row rows n).target) h ∙ sym el)
 
       pub AreMoved-rows : AreMoved (length (variables c)) front places
       AreMoved-rows = record { each = each; within = within_table; once = one_each; kept = kept }
 
     -- the same for what stands for the circuit's
-    pub gate_rows_at : (size f : ℕ) (given : List Row) → size ≡ length (variables c) → f ≡ front → given ≡ rows →
+    pub gate_rows_at : {size f : ℕ} {given : List Row} → size ≡ length (variables c) → f ≡ front → given ≡ rows →
         All (IsGateRow f size) given
-    gate_rows_at size f given size_is front_is e k d lt =
+    gate_rows_at size_is front_is e k d lt =
         let r = gate_rows k d (omega (arith, ap length e)) in
         let same = ap (λ (rs : List Row). (get_or rs k d).target) e in
         record { behind = omega (arith, r.behind, same, front_is); within = omega (arith, r.within, same, size_is) }
 
-    pub rows_once_at : (given : List Row) → given ≡ rows → AreOnce given
-    rows_once_at given e = subst (λ (rs : List Row). AreOnce rs) (sym e) rows_once
+    pub rows_once_at : {given : List Row} → given ≡ rows → AreOnce given
+    rows_once_at e = subst (λ (rs : List Row). AreOnce rs) (sym e) rows_once
 
-    pub AreMoved_at : (size f : ℕ) (given : List Row) (places : List ℕ) → size ≡ length (variables c) → f ≡ front →
-        given ≡ rows → length places ≡ size → AreKept f places → AreInOrder f places given
-        → AreMoved size f places
-    AreMoved_at size f given places size_is front_is e each kept in_order =
+    pub AreMoved_at : {size f : ℕ} {given : List Row} {places : List ℕ} → size ≡ length (variables c) → f ≡ front →
+        given ≡ rows → length places ≡ size → AreKept f places → AreInOrder f places given → AreMoved size f places
+    AreMoved_at {f} {given} {places} size_is front_is e each kept in_order =
         subst (λ (n : ℕ). AreMoved n f places) (sym size_is) (subst
         (λ (n : ℕ). AreMoved (length (variables c)) n places) (sym front_is)
         (AreMoved-rows places (each ∙ size_is) (subst (λ (n : ℕ). AreKept n places) front_is kept)
         (subst (λ (rs : List Row). AreInOrder front places rs) e
         (subst (λ (n : ℕ). AreInOrder n places given) front_is in_order))))
 
-pub moved_small : (size front : ℕ) (places : List ℕ) → AreMoved size front places → size ≤ 2 ^ 31 →
+pub moved_small : {size front : ℕ} {places : List ℕ} → AreMoved size front places → size ≤ 2 ^ 31 →
     All (λ p. p < 2 ^ 31) places
-moved_small size front places are few k d lt =
+moved_small {places} are few k d lt =
     omega (arith, are.within k (omega (arith, are.each)), get_or_default places k d 0 lt)
 
 -- gates that stand one behind another
@@ -163,20 +159,19 @@ row_of_wires place a b = record { target = place; first = a; second = b }
 rows_from-append : (place : ℕ) (gates : List Operands) (g : Operands) →
     rows_from place (gates ++ g ∷ []) ≡ rows_from place gates ++ row_of_operands (place + length gates) g ∷ []
 rows_from-append place [] g = ap (λ n. row_of_operands n g ∷ []) (let e : place ≡ place + 0 = omega arith in e)
-rows_from-append place (h ∷ gates) g =
-    ap (λ rs. row_of_operands place h ∷ rs) (rows_from-append (place + 1) gates g
+rows_from-append place (h ∷ gates) g = ap (λ rs. row_of_operands place h ∷ rs) (rows_from-append (place + 1) gates g
     ∙ ap (λ n. rows_from (place + 1) gates ++ row_of_operands n g ∷ [])
     (let e : place + 1 + length gates ≡ place + length (h ∷ gates) = omega arith in e))
 
 -- one more row that is moved
-pub rows_more : (rows : List Row) (places : List ℕ) (gates more : List Operands) (first second front k : ℕ) →
-    k < length rows → AreInOrder front places rows
-    → wire_in first ≡ move_wire places (get_or rows k no_row).first →
-    wire_in second ≡ move_wire places (get_or rows k no_row).second
-    → more ≡ gates ++ record { first = first; second = second } ∷ [] →
-    rows_from front gates ≡ map (move_row places) (take k rows)
-    → rows_from front more ≡ map (move_row places) (take (k + 1) rows)
-rows_more rows places gates more first second front k lt in_order at_first at_second grown before =
+pub rows_more : (rows : List Row) (places : List ℕ) (gates : List Operands) {more : List Operands}
+    (first second front k : ℕ) → k < length rows → AreInOrder front places rows →
+    wire_in first ≡ move_wire places (get_or rows k no_row).first →
+    wire_in second ≡ move_wire places (get_or rows k no_row).second →
+    more ≡ gates ++ record { first = first; second = second } ∷ [] →
+    rows_from front gates ≡ map (move_row places) (take k rows) →
+    rows_from front more ≡ map (move_row places) (take (k + 1) rows)
+rows_more rows places gates first second front k lt in_order at_first at_second grown before =
     let r = get_or rows k no_row in
     let g : Operands = record { first = first; second = second } in
     let many : length gates ≡ k = sym (length-rows_from front gates) ∙ ap length before
@@ -190,33 +185,33 @@ rows_more rows places gates more first second front k lt in_order at_first at_se
     ∙ map-append (move_row places) (take k rows) (r ∷ []))
 
 -- one more place that is moved
-module _ (rows : List Row) (places : List ℕ) (front size n target : ℕ) (lt : n < length rows)
-    (e : target ≡ (get_or rows n no_row).target) (gates : All (IsGateRow front size) rows)
-    (many : length places ≡ size) where
-  this_row : IsGateRow front size (get_or rows n no_row)
-  this_row = gates n no_row lt
+module _ (rows : List Row) (places : List ℕ) (front : ℕ) {size : ℕ} (n : ℕ) {target : ℕ} (lt : n < length rows)
+    (e : target ≡ (get_or rows n no_row).target) (gates : All (IsGateRow front size) rows) (many : length places ≡ size)
+  where
+    this_row : IsGateRow front size (get_or rows n no_row)
+    this_row = gates n no_row lt
 
-  pub kept_more : AreKept front places → AreKept front (slice_set places target (front + n))
-  kept_more kept p less =
-      get_or-set_other places target p (front + n) 0 (λ same. omega (arith, this_row.behind, e, same)) ∙ kept p less
+    pub kept_more : AreKept front places → AreKept front (slice_set places target (front + n))
+    kept_more kept p less =
+        get_or-set_other places target p (front + n) 0 (λ same. omega (arith, this_row.behind, e, same)) ∙ kept p less
 
-  pub order_more : AreOnce rows → ((k : ℕ) (d : Row) → k < n → moved places (get_or rows k d).target ≡ front + k)
-      → (k : ℕ) (d : Row) → k < n + 1 → moved (slice_set places target (front + n)) (get_or rows k d).target ≡ front + k
-  order_more once before k d less = go (cases_lt k n)
-    where
-      default : (m : ℕ) → m < length rows → (get_or rows m d).target ≡ (get_or rows m no_row).target
-      default m lm = ap (λ (r : Row). r.target) (get_or_default rows m d no_row lm)
+    pub order_more : AreOnce rows → ((k : ℕ) (d : Row) → k < n → moved places (get_or rows k d).target ≡ front + k)
+        → (k : ℕ) (d : Row) → k < n + 1 → moved (slice_set places target (front + n))
+        (get_or rows k d).target ≡ front + k
+    order_more once before k d less = go (cases_lt k n)
+      where
+        default : (m : ℕ) → m < length rows → (get_or rows m d).target ≡ (get_or rows m no_row).target
+        default m lm = ap (λ (r : Row). r.target) (get_or_default rows m d no_row lm)
 
-      go : (k < n) ⊎ (n ≤ k) → moved (slice_set places target (front + n)) (get_or rows k d).target ≡ front + k
-      go (inl first) =
-          get_or-set_other places target _ (front + n) 0 (λ same. once k n d first lt (same ∙ e ∙ sym (default n lt)))
-          ∙ before k d first
-      go (inr last) =
-          (let here : k ≡ n = omega arith in
-          ap (λ m. moved (slice_set places target (front + n)) (get_or rows m d).target) here
-          ∙ ap (moved (slice_set places target (front + n))) (default n lt ∙ sym e)
-          ∙ get_or-set_same places target (front + n) 0 (omega (arith, this_row.within, e, many))
-          ∙ ap (λ m. front + m) (sym here))
+        go : (k < n) ⊎ (n ≤ k) → moved (slice_set places target (front + n)) (get_or rows k d).target ≡ front + k
+        go (inl first) =
+            get_or-set_other places target _ (front + n) 0 (λ same. once k n d first lt (same ∙ e ∙ sym (default n lt)))
+            ∙ before k d first
+        go (inr last) = (let here : k ≡ n = omega arith in
+            ap (λ m. moved (slice_set places target (front + n)) (get_or rows m d).target) here
+            ∙ ap (moved (slice_set places target (front + n))) (default n lt ∙ sym e)
+            ∙ get_or-set_same places target (front + n) 0 (omega (arith, this_row.within, e, many))
+            ∙ ap (λ m. front + m) (sym here))
 
 -- a gate that is worked out in all lanes
 pub gate_on : (front : ℕ) (gates : List Operands) (values initial : List (List ℕ)) (a b : List ℕ) (k lane : ℕ) →
@@ -251,8 +246,7 @@ gate_fits front size gates k lt within =
 
 -- the gates have their places in the table
 pub gates_end : (front size : ℕ) (gates : List Operands) (rows : List Row) (places : List ℕ) →
-    rows_from front gates ≡ map (move_row places) rows → front + length rows ≤ size
-    → front + length gates ≤ size
+    rows_from front gates ≡ map (move_row places) rows → front + length rows ≤ size → front + length gates ≤ size
 gates_end front size gates rows places e fit =
     omega (arith, ap length e, length-rows_from front gates, length-map rows (move_row places))
 

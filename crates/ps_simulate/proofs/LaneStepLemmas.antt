@@ -24,20 +24,19 @@ use Rattle.ps_simulate.proofs.StepLemmas.{IsTable-worked_out}
 use Rattle.ps_simulate.proofs.WorkLemmas.{no_wire}
 
 -- literals that name wires of the table that were moved
-literals_within : (size front : ℕ) (places literals : List ℕ) (wires : List Wire) → AreMoved size front places →
-    map wire_in literals ≡ map (move_wire places) wires
-    → All (λ w. w.place < size) wires → All (λ literal. literal / 2 < size) literals
-literals_within size front places literals wires are e within k d lt =
+literals_within : {size front : ℕ} {places : List ℕ} (literals : List ℕ) (wires : List Wire) →
+    AreMoved size front places → map wire_in literals ≡ map (move_wire places) wires → All (λ w. w.place < size) wires →
+    All (λ literal. literal / 2 < size) literals
+literals_within {size} {places} literals wires are e within k d lt =
     let many : length literals ≡ length wires = sym (length-map literals wire_in) ∙ ap length e
     ∙ length-map wires (move_wire places) in
     let w = get_or wires k no_wire in
     let here : w.place < size = within k no_wire (omega arith) in
-    let same : wire_in (get_or literals k d) ≡ move_wire places w =
-    sym (get_or-map wire_in literals k d no_wire lt) ∙ ap (λ ws. get_or ws k no_wire) e
-    ∙ get_or-map (move_wire places) wires k no_wire no_wire (omega arith) in
+    let same : wire_in (get_or literals k d) ≡ move_wire places w = sym (get_or-map wire_in literals k d no_wire lt)
+    ∙ ap (λ ws. get_or ws k no_wire) e ∙ get_or-map (move_wire places) wires k no_wire no_wire (omega arith) in
     omega (arith, are.within w.place here, ap (λ (v : Wire). v.place) same)
 
-module _ (c : CircuitData) (p : LanePlan) (values latches : List (List ℕ)) (t : AreTables c p values latches) where
+module _ {c : CircuitData} {p : LanePlan} {values latches : List (List ℕ)} (t : AreTables c p values latches) where
   first_table : IsTable c t.plan (unmoved t.places (lane_of values 0)) (lane_of latches 0)
   first_table = t.tables 0 (omega arith)
 
@@ -52,64 +51,53 @@ module _ (c : CircuitData) (p : LanePlan) (values latches : List (List ℕ)) (t 
   latches_many = sym (length-lane latches 0) ∙ first_table.latches_each
 
   plan_rows : All (IsWithin p.size) t.plan.rows.items
-  plan_rows =
-      subst (λ (n : ℕ). All (IsWithin n) t.plan.rows.items) (sym size_is)
-      (rows_within c first_table.is_circuit t.plan t.is_lane_plan.is_plan)
+  plan_rows = subst (λ (n : ℕ). All (IsWithin n) t.plan.rows.items) (sym size_is)
+      (rows_within first_table.is_circuit t.is_lane_plan.is_plan)
 
   plan_outputs : All (λ w. w.place < p.size) t.plan.outputs.items
-  plan_outputs =
-      subst (λ (n : ℕ). All (λ w. w.place < n) t.plan.outputs.items) (sym size_is)
-      (outputs_within c first_table.is_circuit t.plan t.is_lane_plan.is_plan)
+  plan_outputs = subst (λ (n : ℕ). All (λ w. w.place < n) t.plan.outputs.items) (sym size_is)
+      (outputs_within first_table.is_circuit t.is_lane_plan.is_plan)
 
   plan_nexts : All (λ w. w.place < p.size) t.plan.nexts.items
-  plan_nexts =
-      subst (λ (n : ℕ). All (λ w. w.place < n) t.plan.nexts.items) (sym size_is)
-      (nexts_within c first_table.is_circuit t.plan t.is_lane_plan.is_plan)
+  plan_nexts = subst (λ (n : ℕ). All (λ w. w.place < n) t.plan.nexts.items) (sym size_is)
+      (nexts_within first_table.is_circuit t.is_lane_plan.is_plan)
 
   pub gates_within : All (IsWithin p.size) (rows_from p.front p.gates.items)
   gates_within =
       let are = t.is_lane_plan.are_moved in
       subst (λ (rows : List Row). All (IsWithin p.size) rows) (sym t.is_lane_plan.gates_are)
-      (All-map (IsWithin p.size) (move_row t.places) t.plan.rows.items
-      (λ k d lt. let r = plan_rows k d lt in record {
+      (All-map (IsWithin p.size) (move_row t.places) t.plan.rows.items (λ k d lt. let r = plan_rows k d lt in record {
         target = are.within _ r.target;
         first = are.within _ r.first;
         second = are.within _ r.second;
       }))
 
   pub outputs_in_table : All (λ literal. literal / 2 < p.size) p.outputs.items
-  outputs_in_table =
-      literals_within p.size p.front t.places p.outputs.items t.plan.outputs.items t.is_lane_plan.are_moved
+  outputs_in_table = literals_within p.outputs.items t.plan.outputs.items t.is_lane_plan.are_moved
       t.is_lane_plan.outputs_are plan_outputs
 
   pub nexts_in_table : All (λ literal. literal / 2 < p.size) p.nexts.items
   nexts_in_table =
-      literals_within p.size p.front t.places p.nexts.items t.plan.nexts.items t.is_lane_plan.are_moved
-      t.is_lane_plan.nexts_are plan_nexts
+      literals_within p.nexts.items t.plan.nexts.items t.is_lane_plan.are_moved t.is_lane_plan.nexts_are plan_nexts
 
   pub outputs_many : length p.outputs.items ≡ length c.outputs
-  outputs_many =
-      sym (length-map p.outputs.items wire_in) ∙ ap length t.is_lane_plan.outputs_are
-      ∙ length-map t.plan.outputs.items (move_wire t.places)
-      ∙ ap length t.is_lane_plan.is_plan.outputs_are ∙ length-map c.outputs _
+  outputs_many = sym (length-map p.outputs.items wire_in) ∙ ap length t.is_lane_plan.outputs_are
+      ∙ length-map t.plan.outputs.items (move_wire t.places) ∙ ap length t.is_lane_plan.is_plan.outputs_are
+      ∙ length-map c.outputs _
 
   pub nexts_many : length p.nexts.items ≡ length c.latches
-  nexts_many =
-      sym (length-map p.nexts.items wire_in) ∙ ap length t.is_lane_plan.nexts_are
-      ∙ length-map t.plan.nexts.items (move_wire t.places)
-      ∙ ap length t.is_lane_plan.is_plan.nexts_are ∙ length-map c.latches _
+  nexts_many = sym (length-map p.nexts.items wire_in) ∙ ap length t.is_lane_plan.nexts_are
+      ∙ length-map t.plan.nexts.items (move_wire t.places) ∙ ap length t.is_lane_plan.is_plan.nexts_are
+      ∙ length-map c.latches _
 
   -- the gates stand in the table
   pub gates_fit : p.front + length p.gates.items ≤ p.size
-  gates_fit =
-      gates_end p.front p.size p.gates.items t.plan.rows.items t.places t.is_lane_plan.gates_are
-      (omega (
-        arith,
-        t.is_lane_plan.front_is,
-        few_rows c first_table.is_circuit t.plan.rows.items
-            t.is_lane_plan.is_plan.rows_are,
-        room,
-      ))
+  gates_fit = gates_end p.front p.size p.gates.items t.plan.rows.items t.places t.is_lane_plan.gates_are (omega (
+    arith,
+    t.is_lane_plan.front_is,
+    few_rows first_table.is_circuit t.plan.rows.items t.is_lane_plan.is_plan.rows_are,
+    room,
+  ))
 
   -- the constant stands in the table
   pub constant_there : (lane : ℕ) → lane < 256 → get_or (lane_of values lane) 0 false ≡ false
@@ -127,27 +115,22 @@ module _ (c : CircuitData) (p : LanePlan) (values latches : List (List ℕ)) (t 
     in_plan : IsWorkedOut t.plan.rows.items (lane_of inputs lane) (lane_of latches lane) (length (variables c)) table
     in_plan =
         subst (λ (n : ℕ). IsWorkedOut t.plan.rows.items (lane_of inputs lane) (lane_of latches lane) n table) size_is
-        (IsWorkedOut-unmoved p.size p.front t.places t.is_lane_plan.are_moved t.plan.rows.items
-        (rows_from p.front p.gates.items) (lane_of inputs lane) (lane_of latches lane) (lane_of after lane)
-        t.is_lane_plan.gates_are plan_rows
+        (IsWorkedOut-unmoved t.is_lane_plan.are_moved t.plan.rows.items t.is_lane_plan.gates_are plan_rows
         (omega (arith, t.is_lane_plan.front_is, length-lane inputs lane, length-lane latches lane, latches_many, many))
         (omega (arith, t.is_lane_plan.front_is, room)) worked)
 
     reads : (literals : List ℕ) (wires : List Wire) → map wire_in literals ≡ map (move_wire t.places) wires →
         All (λ w. w.place < p.size) wires
         → map (λ l. read (lane_of after lane) (wire_in l)) literals ≡ map (read table) wires
-    reads literals wires e within =
-        sym (map-map (read (lane_of after lane)) wire_in literals) ∙ ap (map (read (lane_of after lane))) e
-        ∙ reads-unmoved t.places (lane_of after lane) wires (λ k d less.
-        omega (arith, within k d less, t.is_lane_plan.are_moved.each))
+    reads literals wires e within = sym (map-map (read (lane_of after lane)) wire_in literals)
+        ∙ ap (map (read (lane_of after lane))) e ∙ reads-unmoved t.places (lane_of after lane) wires
+        (λ k d less. omega (arith, within k d less, t.is_lane_plan.are_moved.each))
 
     pub Steps-lane : (outputs next : List (List ℕ)) → lane_of outputs lane ≡ map
         (λ l. read (lane_of after lane) (wire_in l)) p.outputs.items
         → lane_of next lane ≡ map (λ l. read (lane_of after lane) (wire_in l)) p.nexts.items →
         Steps c (lane_of latches lane) (lane_of inputs lane) (lane_of outputs lane) (lane_of next lane)
-    Steps-lane outputs next outputs_are next_are =
-        Steps-worked_out c first_table.is_circuit t.plan t.is_lane_plan.is_plan (lane_of inputs lane)
-        (lane_of latches lane) table (lane_of outputs lane) (lane_of next lane)
+    Steps-lane outputs next outputs_are next_are = Steps-worked_out first_table.is_circuit t.is_lane_plan.is_plan
         (length-lane inputs lane ∙ many) (length-lane latches lane ∙ latches_many) in_plan
         (outputs_are ∙ reads p.outputs.items t.plan.outputs.items t.is_lane_plan.outputs_are plan_outputs)
         (next_are ∙ reads p.nexts.items t.plan.nexts.items t.is_lane_plan.nexts_are plan_nexts)
@@ -155,16 +138,14 @@ module _ (c : CircuitData) (p : LanePlan) (values latches : List (List ℕ)) (t 
     pub IsTable-lane : (next : List (List ℕ)) → length next ≡ length c.latches →
         IsTable c t.plan table (lane_of next lane)
     IsTable-lane next each =
-        IsTable-worked_out c t.plan (unmoved t.places (lane_of values lane)) (lane_of latches lane)
-        (lane_of inputs lane) table (lane_of next lane) (t.tables lane lt) in_plan
-        (length-lane next lane ∙ each)
+        IsTable-worked_out (lane_of next lane) (t.tables lane lt) in_plan (length-lane next lane ∙ each)
 
 -- tables of zeros
-pub AreTables-zeros : (c : CircuitData) → IsCircuit c → (p : LanePlan) (plan : Plan) (places : List ℕ) →
-    IsLanePlan c plan places p → (values latches : List (List ℕ))
+pub AreTables-zeros : {c : CircuitData} → IsCircuit c → {p : LanePlan} {plan : Plan} {places : List ℕ} →
+    IsLanePlan c plan places p → {values : List (List ℕ)} (latches : List (List ℕ))
     → values ≡ replicate p.size (replicate 4 0) → ((lane : ℕ) → lane < 256 → lane_of latches lane ≡ resets c) →
     AreTables c p values latches
-AreTables-zeros c is p plan places is_lane_plan values latches zeros first = record {
+AreTables-zeros {c} is {p} {plan} {places} is_lane_plan {values} latches zeros first = record {
   plan = plan;
   places = places;
   is_lane_plan = is_lane_plan;
@@ -176,9 +157,8 @@ AreTables-zeros c is p plan places is_lane_plan values latches zeros first = rec
         length-map places _ ∙ is_lane_plan.are_moved.each ∙ is_lane_plan.size_is ∙ is_lane_plan.is_plan.size_is;
     constant = unmoved_at places (lane_of values lane) 0 (omega (arith, some, is_lane_plan.are_moved.each))
         ∙ ap (λ q. get_or (lane_of values lane) q false) (is_lane_plan.are_moved.kept 0
-        (omega (arith, is_lane_plan.front_is)))
-        ∙ get_or-map (λ ws. bit_in ws lane) values 0 [] false (omega (arith, some, each))
-        ∙ ap (λ ws. bit_in ws lane) (ap (λ vs. get_or vs 0 []) zeros
+        (omega (arith, is_lane_plan.front_is))) ∙ get_or-map (λ ws. bit_in ws lane) values 0 [] false
+        (omega (arith, some, each)) ∙ ap (λ ws. bit_in ws lane) (ap (λ vs. get_or vs 0 []) zeros
         ∙ get_or-replicate p.size 0 (replicate 4 0) [] some) ∙ bit_in-mask false lane lt;
     latches_each = ap length (first lane lt) ∙ length-map c.latches _;
   };

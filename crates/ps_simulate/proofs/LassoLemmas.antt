@@ -61,12 +61,11 @@ or_false : (b : Bool) → (b || false) ≡ b
 or_false true = refl
 or_false false = refl
 
-pub letter_is : (c : CircuitData) (naming : Naming) (m : Moment) (letter : ℕ) → IsNaming c naming →
-    letter < 2 ^ length naming.names.now
-    → ((p : ℕ) → is_in p letter ≡ (bit_at_place m.inputs (get_or naming.inputs.items p None) || bit_at_place m.outputs
-    (get_or naming.outputs.items p None)))
-    → IsLetterOf (names_of naming) c m letter
-letter_is c naming m letter h few bits = record {
+pub letter_is : {c : CircuitData} {naming : Naming} (m : Moment) (letter : ℕ) → IsNaming c naming →
+    letter < 2 ^ length naming.names.now → ((p : ℕ) → is_in p letter ≡
+    (bit_at_place m.inputs (get_or naming.inputs.items p None) || bit_at_place m.outputs
+    (get_or naming.outputs.items p None))) → IsLetterOf (names_of naming) c m letter
+letter_is {naming} m letter h few bits = record {
   few = subst (λ n. letter < 2 ^ n) (sym (length-map naming.names.now _)) few;
   inputs = λ k p s. bits p
       ∙ ap (λ (o : Option ℕ). bit_at_place m.inputs o || bit_at_place m.outputs (get_or naming.outputs.items p None))
@@ -79,29 +78,26 @@ letter_is c naming m letter h few bits = record {
       ∙ ap (λ (o : Option ℕ). bit_at_place m.outputs o) (h.outputs_placed p k s);
 }
 
-pub letter_fits : (items : List (Vec Bool Global)) (i width : ℕ) (item : Vec Bool Global) →
+pub letter_fits : (items : List (Vec Bool Global)) (i width : ℕ) {item : Vec Bool Global} →
     All (λ letter. length letter ≡ width) (letters_of items) → i < length items → item ≡ get_or items i item
     → length item.items ≡ width
-letter_fits items i width item fits lt is =
-    ap (λ (l : Vec Bool Global). length l.items) is ∙ ap length
-    (sym (get_or-map (λ (l : Vec Bool Global). l.items) items i item [] lt))
+letter_fits items i width {item} fits lt is = ap (λ (l : Vec Bool Global). length l.items) is
+    ∙ ap length (sym (get_or-map (λ (l : Vec Bool Global). l.items) items i item [] lt))
     ∙ fits i [] (omega (arith, length-map items (λ (l : Vec Bool Global). l.items)))
 
-letters_more : (items : List (Vec Bool Global)) (i : ℕ) (item : Vec Bool Global) (letter : List Bool) →
+letters_more : (items : List (Vec Bool Global)) (i : ℕ) {item : Vec Bool Global} {letter : List Bool} →
     i < length items → item ≡ get_or items i item → letter ≡ item.items
     → letters_of (take i items) ++ letter ∷ [] ≡ letters_of (take (i + 1) items)
-letters_more items i item letter lt is same =
-    ap (λ (l : List Bool). letters_of (take i items) ++ l ∷ []) same
+letters_more items i {item} lt is same = ap (λ (l : List Bool). letters_of (take i items) ++ l ∷ []) same
     ∙ sym (map_push (λ (l : Vec Bool Global). l.items) (take i items) item)
     ∙ ap (λ (l : Vec Bool Global). letters_of (take i items ++ l ∷ [])) is
     ∙ ap letters_of (sym (take_more items i item lt))
 
-ReadsWord-more : (names : List (List ℕ)) (c : CircuitData) (from between last : List Bool) (word : List (List Bool))
-    (old new : List ℕ) (m : Moment) (letter : ℕ)
-    → ReadsWord names c from word old new between → m.latches ≡ between → Steps c m.latches m.inputs m.outputs last →
-    IsLetterOf names c m letter
-    → ReadsWord names c from (word ++ m.inputs ∷ []) old (new ++ letter ∷ []) last
-ReadsWord-more names c from between last word old new m letter h at step is = record {
+ReadsWord-more : {names : List (List ℕ)} {c : CircuitData} {from between last : List Bool} {word : List (List Bool)}
+    {old new : List ℕ} {m : Moment} {letter : ℕ} → ReadsWord names c from word old new between → m.latches ≡ between →
+    Steps c m.latches m.inputs m.outputs last → IsLetterOf names c m letter →
+    ReadsWord names c from (word ++ m.inputs ∷ []) old (new ++ letter ∷ []) last
+ReadsWord-more {names} {c} {from} {between} {last} {old} {m} {letter} h at step is = record {
   trace = h.trace ++ m ∷ [];
   goes_on = GoesOn-append c from between last h.trace (m ∷ []) h.goes_on
       (last, at, subst (λ (latches : List Bool). Steps c latches m.inputs m.outputs last) at step, refl);
@@ -111,39 +107,37 @@ ReadsWord-more names c from between last word old new m letter h at step is = re
   new_is = ap (λ (ls : List ℕ). ls ++ letter ∷ []) h.new_is ∙ append_assoc old h.letters (letter ∷ []);
 }
 
-pub ReadsWord-letter : (names : List (List ℕ)) (c : CircuitData) (from between last : List Bool)
-    (items : List (Vec Bool Global)) (i : ℕ) (item : Vec Bool Global) (old new : List ℕ) (m : Moment) (letter : ℕ)
-    → i < length items → item ≡ get_or items i item → m.inputs ≡ item.items → m.latches ≡ between
-    → ReadsWord names c from (letters_of (take i items)) old new between → Steps c m.latches m.inputs m.outputs last →
-    IsLetterOf names c m letter
-    → ReadsWord names c from (letters_of (take (i + 1) items)) old (new ++ letter ∷ []) last
-ReadsWord-letter names c from between last items i item old new m letter lt is same at h step letters =
+pub ReadsWord-letter : {names : List (List ℕ)} {c : CircuitData} {from between last : List Bool}
+    (items : List (Vec Bool Global)) (i : ℕ) {item : Vec Bool Global} {old new : List ℕ} {m : Moment} {letter : ℕ} →
+    i < length items → item ≡ get_or items i item → m.inputs ≡ item.items → m.latches ≡ between →
+    ReadsWord names c from (letters_of (take i items)) old new between → Steps c m.latches m.inputs m.outputs last →
+    IsLetterOf names c m letter → ReadsWord names c from (letters_of (take (i + 1) items)) old (new ++ letter ∷ []) last
+ReadsWord-letter {names} {c} {from} {between} {last} items i {item} {old} {new} {m} {letter} lt is same at
+    h step letters =
     subst (λ (w : List (List Bool)). ReadsWord names c from w old (new ++ letter ∷ []) last)
-    (letters_more items i item m.inputs lt is same)
-    (ReadsWord-more names c from between last (letters_of (take i items)) old new m letter h at step letters)
+    (letters_more items i lt is same)
+    (ReadsWord-more h at step letters)
 
 -- ## Laps
 
-seam : {X : Type 0} (xs : List X) (x y : X) (ys : List X) (d : X) (t : ℕ) → t ≤ length xs → y ≡ x →
+seam : {X : Type 0} (xs : List X) {x y : X} (ys : List X) (d : X) (t : ℕ) → t ≤ length xs → y ≡ x →
     get_or (xs ++ y ∷ ys) t d ≡ get_or (xs ++ x ∷ []) t d
-seam [] x y ys d zero le e = e
-seam [] x y ys d (suc t) le e = absurd (omega arith)
-seam (z ∷ zs) x y ys d zero le e = refl
-seam (z ∷ zs) x y ys d (suc t) le e = seam zs x y ys d t (omega arith) e
+seam [] ys d zero le e = e
+seam [] ys d (suc t) le e = absurd (omega arith)
+seam (z ∷ zs) ys d zero le e = refl
+seam (z ∷ zs) {x} {y} ys d (suc t) le e = seam zs ys d t (omega arith) e
 
 -- what comes behind a trace leaves the latches before its steps as they are
 pub along_more : (c : CircuitData) (trace ms : List Moment) (last to : List Bool) (t : ℕ) → GoesOn c last ms to →
-    t ≤ length trace
-    → get_or (latches_along (trace ++ ms) to) t [] ≡ get_or (latches_along trace last) t []
-along_more c trace [] last to t on le =
-    ap (λ (ms : List Moment). get_or (latches_along ms to) t []) (append-nil trace)
+    t ≤ length trace → get_or (latches_along (trace ++ ms) to) t [] ≡ get_or (latches_along trace last) t []
+along_more c trace [] last to t on le = ap (λ (ms : List Moment). get_or (latches_along ms to) t []) (append-nil trace)
     ∙ ap (λ (latches : List Bool). get_or (latches_along trace latches) t []) (sym on)
 along_more c trace (m ∷ ms) last to t (next, at, step, on) le =
     let front = map (λ (n : Moment). n.latches) trace in
     ap (λ (ls : List (List Bool)). get_or (ls ++ to ∷ []) t []) (map-append (λ (n : Moment). n.latches) trace (m ∷ ms))
     ∙ ap (λ (ls : List (List Bool)). get_or ls t []) (append_assoc front
     (m.latches ∷ map (λ (n : Moment). n.latches) ms) (to ∷ []))
-    ∙ seam front last m.latches (map (λ (n : Moment). n.latches) ms ++ to ∷ []) [] t
+    ∙ seam front (map (λ (n : Moment). n.latches) ms ++ to ∷ []) [] t
     (omega (arith, length-map trace (λ (n : Moment). n.latches))) at
 
 pub at_end : (trace : List Moment) (last : List Bool) → get_or (latches_along trace last) (length trace) [] ≡ last
@@ -157,9 +151,8 @@ length_laps lap (suc k) = grind (arith, length-append (laps_of lap k) lap, lengt
 
 pub length_trace : (stem lap : List (List Bool)) (trace : List Moment) (k : ℕ) →
     map (λ (m : Moment). m.inputs) trace ≡ stem ++ laps_of lap k → length trace ≡ length stem + k * length lap
-length_trace stem lap trace k e =
-    sym (length-map trace (λ (m : Moment). m.inputs)) ∙ ap length e ∙ length-append stem (laps_of lap k)
-    ∙ ap (λ n. length stem + n) (length_laps lap k)
+length_trace stem lap trace k e = sym (length-map trace (λ (m : Moment). m.inputs)) ∙ ap length e
+    ∙ length-append stem (laps_of lap k) ∙ ap (λ n. length stem + n) (length_laps lap k)
 
 -- ## The latches seen
 
@@ -170,8 +163,7 @@ HasRead-start names c stem lap old letters from last none same h = record {
   trace = h.trace;
   goes_on = subst (λ (latches : List Bool). GoesOn c latches h.trace last) same h.goes_on;
   reads = h.reads ∙ sym (append-nil stem);
-  are_letters =
-      subst (λ (ls : List ℕ). AreLetters names c h.trace ls) (sym
+  are_letters = subst (λ (ls : List ℕ). AreLetters names c h.trace ls) (sym
       (h.new_is ∙ ap (λ (ls : List ℕ). ls ++ h.letters) none)) h.are_letters;
   seen_is = λ k lt. absurd (omega arith);
   wide = λ k lt. absurd (omega arith);
@@ -194,8 +186,7 @@ HasRead-lap names c stem lap seen old new from last h r wide fresh =
           ∙ ap (λ (w : List (List Bool)). w ++ map (λ (m : Moment). m.inputs) r.trace) h.reads
           ∙ ap (λ (w : List (List Bool)). (stem ++ laps_of lap n) ++ w) r.reads ∙ append_assoc stem (laps_of lap n) lap
           ∙ ap (λ k. stem ++ laps_of lap k) (sym (more ∙ add-one n));
-      are_letters =
-          subst (λ (ls : List ℕ). AreLetters names c (h.trace ++ r.trace) ls) (sym r.new_is)
+      are_letters = subst (λ (ls : List ℕ). AreLetters names c (h.trace ++ r.trace) ls) (sym r.new_is)
           (AreLetters-append names c h.trace r.trace old r.letters h.are_letters r.are_letters);
       seen_is = λ k lt. elim (cases_lt k n) [
         | inl old_one ↦ get_or-append seen (from ∷ []) [] k old_one ∙ h.seen_is k old_one
@@ -203,9 +194,8 @@ HasRead-lap names c stem lap seen old new from last h r wide fresh =
             (let le = mul-le-mul_right {m = k} {n = n} (length lap) (omega arith) in omega (arith, le, size)))
         | inr new_one ↦ let same : k ≡ n = omega arith in
             ap (λ i. get_or (seen ++ from ∷ []) i []) same ∙ get_or-append_seam seen from [] []
-            ∙ sym (at_end h.trace from)
-            ∙ sym (along_more c h.trace r.trace from last (length h.trace) r.goes_on (omega arith))
-            ∙ ap (λ i. get_or (latches_along (h.trace ++ r.trace) last) i [])
+            ∙ sym (at_end h.trace from) ∙ sym (along_more c h.trace r.trace from last (length h.trace) r.goes_on
+            (omega arith)) ∙ ap (λ i. get_or (latches_along (h.trace ++ r.trace) last) i [])
             (size ∙ ap (λ i. length stem + i * length lap) (sym same))
       ];
       wide = λ k lt. elim (cases_lt k n) [
@@ -223,21 +213,18 @@ HasRead-lap names c stem lap seen old new from last h r wide fresh =
     }
 
 pub HasRead-next : (names : List (List ℕ)) (c d : CircuitData) (stem lap seen seen' : List (List Bool))
-    (old new : List ℕ) (from latches last : List Bool) → d ≡ c → latches ≡ from
-    → HasRead names c stem lap seen old from → IsSeen seen seen' latches None →
-    ReadsWord names d from lap old new last → length from ≡ length c.latches
-    → HasRead names c stem lap seen' new last
+    (old new : List ℕ) (from latches last : List Bool) → d ≡ c → latches ≡ from →
+    HasRead names c stem lap seen old from → IsSeen seen seen' latches None → ReadsWord names d from lap old new last →
+    length from ≡ length c.latches → HasRead names c stem lap seen' new last
 HasRead-next names c d stem lap seen seen' old new from latches last same at h s r wide =
     subst (λ (ls : List (List Bool)). HasRead names c stem lap ls new last)
-    (sym (s.1 ∙ ap (λ (l : List Bool). seen ++ l ∷ []) at))
-    (HasRead-lap names c stem lap seen old new from last h (subst
-    (λ (e : CircuitData). ReadsWord names e from lap old new last) same r) wide
+    (sym (s.1 ∙ ap (λ (l : List Bool). seen ++ l ∷ []) at)) (HasRead-lap names c stem lap seen old new from last h
+    (subst (λ (e : CircuitData). ReadsWord names e from lap old new last) same r) wide
     (λ k lt e. s.0 k lt (e ∙ sym at)))
 
 -- the lists of bits that are left grow fewer
 pub fewer : (names : List (List ℕ)) (c : CircuitData) (stem lap seen seen' : List (List Bool)) (new : List ℕ)
-    (latches last : List Bool)
-    → HasRead names c stem lap seen' new last → IsSeen seen seen' latches None →
+    (latches last : List Bool) → HasRead names c stem lap seen' new last → IsSeen seen seen' latches None →
     2 ^ length c.latches - length seen' < 2 ^ length c.latches - length seen
 fewer names c stem lap seen seen' new latches last h s =
     let le = few_seen (length c.latches) seen' h.wide h.differ in
@@ -247,9 +234,8 @@ fewer names c stem lap seen seen' new latches last h s =
 -- ## The first repetition
 
 pub repeats : (names : List (List ℕ)) (c : CircuitData) (stem lap seen : List (List Bool)) (letters : List ℕ)
-    (last : List Bool) (i : ℕ)
-    → 0 < length lap → HasRead names c stem lap seen letters last → i < length seen → get_or seen i [] ≡ last →
-    RepeatsBy names c stem lap i letters
+    (last : List Bool) (i : ℕ) → 0 < length lap → HasRead names c stem lap seen letters last → i < length seen →
+    get_or seen i [] ≡ last → RepeatsBy names c stem lap i letters
 repeats names c stem lap seen letters last i some h lt same = record {
   j = length seen;
   trace = h.trace;
@@ -265,17 +251,16 @@ repeats names c stem lap seen letters last i some h lt same = record {
   are_letters = h.are_letters;
 }
 
-pub length_of_letters : (names : List (List ℕ)) (c : CircuitData) (stem lap : List (List Bool)) (i : ℕ)
-    (letters : List ℕ) (h : RepeatsBy names c stem lap i letters)
-    → length letters ≡ length stem + h.j * length lap
-length_of_letters names c stem lap i letters h =
+pub length_of_letters : {names : List (List ℕ)} {c : CircuitData} {stem lap : List (List Bool)} {i : ℕ}
+    {letters : List ℕ} (h : RepeatsBy names c stem lap i letters) → length letters ≡ length stem + h.j * length lap
+length_of_letters {names} {c} {stem} {lap} {letters} h =
     length_letters names c h.trace letters h.are_letters ∙ length_trace stem lap h.trace h.j h.repeats.reads
 
 -- ## Places of the verdict
 
-pub letter_at : (items : List (Vec Bool Global)) (i : ℕ) (item : Vec Bool Global) (d : List Bool) → i < length items →
+pub letter_at : (items : List (Vec Bool Global)) (i : ℕ) {item : Vec Bool Global} (d : List Bool) → i < length items →
     item ≡ get_or items i item → get_or (letters_of items) i d ≡ item.items
-letter_at items i item d lt is =
+letter_at items i {item} d lt is =
     get_or-map (λ (l : Vec Bool Global). l.items) items i item d lt ∙ ap (λ (l : Vec Bool Global). l.items) (sym is)
 
 times_more : (i l : ℕ) → suc i * l ≡ i * l + l
@@ -283,40 +268,38 @@ times_more i l = grind arith
 
 -- the first of the two laps ends behind its begin, and no later than the second begins
 pub lap_within : (names : List (List ℕ)) (c : CircuitData) (stem lap : List (List Bool)) (i : ℕ) (letters : List ℕ)
-    (h : RepeatsBy names c stem lap i letters)
-    → length stem + i * length lap + length lap ≤ length letters
+    (h : RepeatsBy names c stem lap i letters) → length stem + i * length lap + length lap ≤ length letters
 lap_within names c stem lap i letters h =
     let le = mul-le-mul_right {m = suc i} {n = h.j} (length lap) h.repeats.earlier in
-    omega (arith, le, times_more i (length lap), length_of_letters names c stem lap i letters h)
+    omega (arith, le, times_more i (length lap), length_of_letters h)
 
-pub lap_length : (names : List (List ℕ)) (c : CircuitData) (stem lap : List (List Bool)) (i count : ℕ)
-    (letters : List ℕ) (h : RepeatsBy names c stem lap i letters)
+pub lap_length : {names : List (List ℕ)} {c : CircuitData} {stem lap : List (List Bool)} {i : ℕ} (count : ℕ)
+    {letters : List ℕ} (h : RepeatsBy names c stem lap i letters)
     → count + (length stem + i * length lap) ≡ length letters → count ≡ (h.j - i) * length lap
-lap_length names c stem lap i count letters h e =
-    let size = length_of_letters names c stem lap i letters h in
+lap_length {names} {c} {stem} {lap} {i} count {letters} h e =
+    let size = length_of_letters h in
     let back : count ≡ length lap * h.j - length lap * i =
     omega (arith, e, size, mul_comm (length lap) h.j, mul_comm (length lap) i) in
     back ∙ sym (mul-sub (length lap) h.j i) ∙ mul_comm (length lap) (h.j - i)
 
 -- the same of letters that the code keeps
-pub lap_within_items : (names : List (List ℕ)) (c : CircuitData) (stem lap : List (Vec Bool Global)) (i : ℕ)
-    (letters : List ℕ) (h : RepeatsBy names c (letters_of stem) (letters_of lap) i letters)
+pub lap_within_items : {names : List (List ℕ)} {c : CircuitData} (stem lap : List (Vec Bool Global)) {i : ℕ}
+    {letters : List ℕ} (h : RepeatsBy names c (letters_of stem) (letters_of lap) i letters)
     → length stem + i * length lap + length lap ≤ length letters
-lap_within_items names c stem lap i letters h =
+lap_within_items {names} {c} stem lap {i} {letters} h =
     subst (λ n. n + i * length lap + length lap ≤ length letters) (length-map stem (λ (l : Vec Bool Global). l.items))
     (subst (λ n. length (letters_of stem) + i * n + n ≤ length letters)
     (length-map lap (λ (l : Vec Bool Global). l.items))
     (lap_within names c (letters_of stem) (letters_of lap) i letters h))
 
-pub verdict : (file : FileData) (names all : List (List ℕ)) (c : CircuitData) (stem lap : List (Vec Bool Global))
-    (letters before behind : List ℕ) (i : ℕ) (accepted : Bool)
-    → names ≡ all → all ≡ file.names → RepeatsBy names c (letters_of stem) (letters_of lap) i letters
-    → before ≡ take (length stem + i * length lap) letters → behind ≡ drop (length stem + i * length lap) letters →
-    length behind + (length stem + i * length lap) ≡ length letters
-    → (IsTrue accepted ↔ IsAccepted file before behind)
-    → IsVerdictOf file c (letters_of stem) (letters_of lap) (record
-    { accepted = accepted; stem = length stem + i * length lap; lap = length behind })
-verdict file names all c stem lap letters before behind i accepted same of_file h front back size asked =
+pub verdict : (file : FileData) {names all : List (List ℕ)} {c : CircuitData} (stem lap : List (Vec Bool Global))
+    {letters before behind : List ℕ} {i : ℕ} (accepted : Bool) → names ≡ all → all ≡ file.names →
+    RepeatsBy names c (letters_of stem) (letters_of lap) i letters →
+    before ≡ take (length stem + i * length lap) letters → behind ≡ drop (length stem + i * length lap) letters →
+    length behind + (length stem + i * length lap) ≡ length letters →
+    (IsTrue accepted ↔ IsAccepted file before behind) → IsVerdictOf file c (letters_of stem) (letters_of lap)
+    (record { accepted = accepted; stem = length stem + i * length lap; lap = length behind })
+verdict file {names} {c} stem lap {letters} {before} {behind} {i} accepted same of_file h front back size asked =
     let e_stem = length-map stem (λ (l : Vec Bool Global). l.items) in
     let e_lap = length-map lap (λ (l : Vec Bool Global). l.items) in
     let start : length stem + i * length lap ≡ length (letters_of stem) + i * length (letters_of lap) =
@@ -329,13 +312,10 @@ verdict file names all c stem lap letters before behind i accepted same of_file 
       repeats = h.repeats;
       are_letters = subst (λ (ns : List (List ℕ)). AreLetters ns c h.trace letters) (same ∙ of_file) h.are_letters;
       stem_is = start;
-      lap_is =
-          lap_length names c (letters_of stem) (letters_of lap) i (length behind) letters h
-          (ap (λ n. length behind + n) (sym start) ∙ size);
+      lap_is = lap_length (length behind) h (ap (λ n. length behind + n) (sym start) ∙ size);
       accepted =
           subst (λ (ls : List ℕ). IsTrue accepted ↔ IsAccepted file ls (drop (length stem + i * length lap) letters))
-          front
-          (subst (λ (ls : List ℕ). IsTrue accepted ↔ IsAccepted file before ls) back asked);
+          front (subst (λ (ls : List ℕ). IsTrue accepted ↔ IsAccepted file before ls) back asked);
     }
 
 pub not_empty : (n : ℕ) → (n == 0) ≡ false → 0 < n

@@ -26,22 +26,21 @@ rest_length width count bits whole =
     (omega (arith, mul_suc count width, length-drop width bits), omega (arith, mul_suc count width))
 
 -- the bits of one more letter
-pub whole-push : (width count : ℕ) (bits letter : List Bool) → length bits ≡ count * width → length letter ≡ width →
-    length (bits ++ letter) ≡ suc count * width
-whole-push width count bits letter whole fits = omega (arith, length-append bits letter, mul_suc count width)
+pub whole-push : {width : ℕ} (count : ℕ) (bits letter : List Bool) → length bits ≡ count * width →
+    length letter ≡ width → length (bits ++ letter) ≡ suc count * width
+whole-push {width} count bits letter whole fits = omega (arith, length-append bits letter, mul_suc count width)
 
 -- one more letter
-pub letters_in-push : (width count : ℕ) (bits letter : List Bool) → length bits ≡ count * width → length letter ≡ width
-    → letters_in width (suc count) (bits ++ letter) ≡ letters_in width count bits ++ letter ∷ []
-letters_in-push width zero bits letter whole fits =
+pub letters_in-push : {width : ℕ} (count : ℕ) (bits letter : List Bool) → length bits ≡ count * width →
+    length letter ≡ width → letters_in width (suc count) (bits ++ letter) ≡ letters_in width count bits ++ letter ∷ []
+letters_in-push {width} zero bits letter whole fits =
     let none : bits ≡ [] = nil_from_length bits (whole ∙ zero-mul width) in
     ap (λ (front : List Bool). take width (front ++ letter) ∷ []) none
     ∙ ap (λ (l : List Bool). l ∷ []) (take_all width letter (omega arith))
-letters_in-push width (suc count) bits letter whole fits =
+letters_in-push {width} (suc count) bits letter whole fits =
     let rest = rest_length width count bits whole in
-    ap₂ ◌∷◌ (take-append-le width bits letter rest.1)
-    (ap (letters_in width (suc count)) (drop-append-le width bits letter rest.1)
-    ∙ letters_in-push width count (drop width bits) letter rest.0 fits)
+    ap₂ ◌∷◌ (take-append-le width bits letter rest.1) (ap (letters_in width (suc count))
+    (drop-append-le width bits letter rest.1) ∙ letters_in-push count (drop width bits) letter rest.0 fits)
 
 -- a letter of them
 pub slice_get-letters_in : (width count : ℕ) (bits : List Bool) (i : ℕ) → i < count →
@@ -57,28 +56,26 @@ slice_get-letters_in width (suc count) bits (suc i) lt =
 -- a text has no fewer bytes than lines
 pub few : (letters : List (List Bool)) → length letters ≤ extent (map digits_of letters)
 few [] = omega arith
-few (letter ∷ letters) =
-    omega (
-      arith,
-      few letters,
-      sum_by-cons (λ (bytes : List ℕ). length bytes + 1) (digits_of letter)
-          (map digits_of letters),
-    )
+few (letter ∷ letters) = omega (
+  arith,
+  few letters,
+  sum_by-cons (λ (bytes : List ℕ). length bytes + 1) (digits_of letter) (map digits_of letters),
+)
 
 -- a letter's bits stand within those of all
-pub letter_within : (place count width size : ℕ) → place < count → size ≡ count * width → place * width + width ≤ size
-letter_within place count width size lt is =
+pub letter_within : (place count width : ℕ) {size : ℕ} → place < count → size ≡ count * width →
+    place * width + width ≤ size
+letter_within place count width lt is =
     let next : place * width + width ≡ suc place * width = grind arith in
     let below : suc place * width ≤ count * width = mul-le-mul_right width (omega arith) in
     omega arith
 
 -- the fault of a line is the answer to the text
-pub IsLettersAnswer-line : (text : List ℕ) (width start end : ℕ) (s : StimulusData) →
-    HasRead text width false false start s → (line : List ℕ)
+pub IsLettersAnswer-line : {text : List ℕ} {width start end : ℕ} {s : StimulusData} →
+    HasRead text width false false start s → {line : List ℕ}
     → lines_of (drop start text) ≡ line ∷ lines_of (drop (end + 1) text) → start + length line ≡ end →
     start < length text → end ≤ length text
     → (fault : StimulusFault) → ReadsLine line start width (Err fault) → IsLettersAnswer text width (Err fault)
-IsLettersAnswer-line text width start end s h line next length_is some within (Text cause offset) first =
-    IsStimulusAnswer-line text width false false start end s h line next length_is some within (inr (inr refl))
-    (Text cause offset) first
-IsLettersAnswer-line text width start end s h line next length_is some within OutOfMemory first = tt
+IsLettersAnswer-line {text} {width} {start} {end} {s} h {line} next length_is some within (Text cause offset) first =
+    IsStimulusAnswer-line h next length_is some within (inr (inr refl)) (Text cause offset) first
+IsLettersAnswer-line h next length_is some within OutOfMemory first = tt

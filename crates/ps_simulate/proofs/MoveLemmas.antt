@@ -26,16 +26,14 @@ pub reads-unmoved : (places : List ℕ) (values : List Bool) (wires : List Wire)
     All (λ w. w.place < length places) wires
     → map (read values) (map (move_wire places) wires) ≡ map (read (unmoved places values)) wires
 reads-unmoved places values [] within = refl
-reads-unmoved places values (w ∷ ws) within =
-    ap₂ ◌∷◌ (sym (read-unmoved places values w (within 0 w (omega arith))))
+reads-unmoved places values (w ∷ ws) within = ap₂ ◌∷◌ (sym (read-unmoved places values w (within 0 w (omega arith))))
     (reads-unmoved places values ws (λ k d lt. within (suc k) d (omega arith)))
 
-module _ (size front : ℕ) (places : List ℕ) (are : AreMoved size front places) where
+module _ {size front : ℕ} {places : List ℕ} (are : AreMoved size front places) where
   -- a value that is put at the place to which a place is moved
   unmoved-set : (values : List Bool) (t : ℕ) (x : Bool) → t < size → length values ≡ size
       → unmoved places (slice_set values (moved places t) x) ≡ slice_set (unmoved places values) t x
-  unmoved-set values t x lt many =
-      ext_get_or false _ _ (length-unmoved places (slice_set values (moved places t) x)
+  unmoved-set values t x lt many = ext_get_or false _ _ (length-unmoved places (slice_set values (moved places t) x)
       ∙ sym (length-set (unmoved places values) t x ∙ length-unmoved places values))
       (λ k less. at k (omega (arith, are.each, length-unmoved places (slice_set values (moved places t) x))))
     where
@@ -49,16 +47,13 @@ module _ (size front : ℕ) (places : List ℕ) (are : AreMoved size front place
 
           go : (k ≡ t) ⊎ (k ≢ t) → get_or (unmoved places (slice_set values (moved places t) x)) k false ≡ get_or
               (slice_set (unmoved places values) t x) k false
-          go (inl e) =
-              there ∙ ap (λ n. get_or (slice_set values (moved places t) x) (moved places n) false) e
+          go (inl e) = there ∙ ap (λ n. get_or (slice_set values (moved places t) x) (moved places n) false) e
               ∙ get_or-set_same values (moved places t) x false (omega (arith, are.within t lt))
               ∙ sym (ap (λ n. get_or (slice_set (unmoved places values) t x) n false) e
-              ∙ get_or-set_same (unmoved places values) t x false
-              (omega (arith, are.each, length-unmoved places values)))
-          go (inr differ) =
-              there ∙ get_or-set_other values (moved places t) (moved places k) x false
-              (λ e. differ (are.once k t less lt e))
-              ∙ sym (get_or-set_other (unmoved places values) t k x false differ
+              ∙ get_or-set_same (unmoved places values) t x false (omega
+              (arith, are.each, length-unmoved places values)))
+          go (inr differ) = there ∙ get_or-set_other values (moved places t) (moved places k) x false
+              (λ e. differ (are.once k t less lt e)) ∙ sym (get_or-set_other (unmoved places values) t k x false differ
               ∙ unmoved_at places values k (omega (arith, are.each)))
 
   pub work_out-unmoved : (rows : List Row) (values : List Bool) → length values ≡ size → All (IsWithin size) rows
@@ -68,19 +63,17 @@ module _ (size front : ℕ) (places : List ℕ) (are : AreMoved size front place
       let here : IsWithin size r = within 0 r (omega arith) in
       let next = work_row values (move_row places r) in
       work_out-unmoved rows next (length-set values (moved places r.target) _ ∙ many)
-      (λ k d lt. within (suc k) d (omega arith))
-      ∙ ap (work_out rows)
-      (unmoved-set values r.target _ here.target many
-      ∙ ap (slice_set (unmoved places values) r.target)
+      (λ k d lt. within (suc k) d (omega arith)) ∙ ap (work_out rows)
+      (unmoved-set values r.target _ here.target many ∙ ap (slice_set (unmoved places values) r.target)
       (sym (ap₂ ◌&&◌ (read-unmoved places values r.first (omega (arith, here.first, are.each)))
       (read-unmoved places values r.second (omega (arith, here.second, are.each))))))
 
   -- a table in its moved form is worked out where it is in its first form
-  pub IsWorkedOut-unmoved : (rows moved_rows : List Row) (inputs latches values : List Bool) →
+  pub IsWorkedOut-unmoved : (rows : List Row) {moved_rows : List Row} {inputs latches values : List Bool} →
       moved_rows ≡ map (move_row places) rows → All (IsWithin size) rows
       → 1 + length inputs + length latches ≤ front → front ≤ size → IsWorkedOut moved_rows inputs latches size values →
       IsWorkedOut rows inputs latches size (unmoved places values)
-  IsWorkedOut-unmoved rows moved_rows inputs latches values e within room fit worked = record {
+  IsWorkedOut-unmoved rows {inputs} e within room fit worked = record {
     table = unmoved places worked.table;
     each = length-unmoved places worked.table ∙ are.each;
     holds = record {

@@ -44,22 +44,22 @@ names_differ (x ∷ xs) all (suc p) (suc q) lp lq e = ap suc (names_differ xs al
 pub some_same : {X : Type 0} (x y : X) → Some x ≡ Some y → x ≡ y
 some_same x y e = cc
 
-none_some : {X : Type 0} (x : X) → None ≡ Some x → ⊥
-none_some x e = cc
+none_some : {X : Type 0} {x : X} → None ≡ Some x → ⊥
+none_some e = cc
 
 -- what is there stands within
 pub within : {X : Type 0} (xs : List (Option X)) (k : ℕ) (x : X) → get_or xs k None ≡ Some x → k < length xs
 within xs k x e = elim (cases_lt k (length xs)) [
   | inl lt ↦ lt
-  | inr le ↦ absurd (none_some x (sym (get_or_past xs k None le) ∙ e))
+  | inr le ↦ absurd (none_some (sym (get_or_past xs k None le) ∙ e))
 ]
 
 module _ (names : List (List ℕ)) (controllable : List ℕ) (wanted : Bool) (symbols : List (Option (List ℕ))) where
   -- ## One symbol more
 
-  set_cases : (places : List (Option ℕ)) (p k q j : ℕ) → p < length places →
+  set_cases : (places : List (Option ℕ)) (p k q : ℕ) {j : ℕ} → p < length places →
       get_or (set places p (Some k)) q None ≡ Some j → ((q ≡ p) × (j ≡ k)) ⊎ (get_or places q None ≡ Some j)
-  set_cases places p k q j lt e = elim (cases_eq q p) [
+  set_cases places p k q {j} lt e = elim (cases_eq q p) [
     | inl same ↦ inl (
       same,
       some_same j k (sym e ∙ ap (λ n. get_or (set places p (Some k)) n None) same
@@ -68,11 +68,11 @@ module _ (names : List (List ℕ)) (controllable : List ℕ) (wanted : Bool) (sy
     | inr other ↦ inr (sym (get_or-set_other places p q (Some k) None other) ∙ e)
   ]
 
-  pub put_step : (k p : ℕ) (name : List ℕ) (places : List (Option ℕ)) →
+  pub put_step : {k : ℕ} (p : ℕ) {name : List ℕ} {places : List (Option ℕ)} →
       ArePut names controllable wanted symbols k places → get_or symbols k None ≡ Some name
       → p < length names → get_or names p [] ≡ name → is_among p controllable ≡ wanted → get_or places p None ≡ None
       → ArePut names controllable wanted symbols (k + 1) (set places p (Some k))
-  put_step k p name places h there lp named sides free =
+  put_step {k} p {places} h there lp named sides free =
       let lt : p < length places = omega (arith, h.size) in
       let sym_k : IsSymbol names symbols k p =
       record { within = lp; is = there ∙ ap (λ (n : List ℕ). Some n) (sym named) } in
@@ -88,19 +88,19 @@ module _ (names : List (List ℕ)) (controllable : List ℕ) (wanted : Bool) (sy
             old.0,
             old.1,
             get_or-set_other places p old.0 (Some k) None
-                (λ e. none_some j (sym free ∙ sym (ap (λ n. get_or places n None) e) ∙ old.2)) ∙ old.2,
+                (λ e. none_some (sym free ∙ sym (ap (λ n. get_or places n None) e) ∙ old.2)) ∙ old.2,
           )
         ];
-        before = λ q j e. elim (set_cases places p k q j lt e) [
+        before = λ q j e. elim (set_cases places p k q lt e) [
           | inl same ↦ omega (arith, same.1)
           | inr old ↦ let l = h.before q j old in omega (arith, l)
         ];
-        is = λ q j e. elim (set_cases places p k q j lt e) [
+        is = λ q j e. elim (set_cases places p k q lt e) [
           | inl same ↦ subst (λ n. IsSymbol names symbols n q) (sym same.1)
               (subst (λ n. IsSymbol names symbols k n) (sym same.0) sym_k)
           | inr old ↦ h.is q j old
         ];
-        side = λ q j e. elim (set_cases places p k q j lt e) [
+        side = λ q j e. elim (set_cases places p k q lt e) [
           | inl same ↦ ap (λ n. is_among n controllable) same.0 ∙ sides
           | inr old ↦ h.side q j old
         ];
@@ -110,34 +110,31 @@ module _ (names : List (List ℕ)) (controllable : List ℕ) (wanted : Bool) (sy
 
   pub nameless : (k : ℕ) → k < length symbols → get_or symbols k None ≡ None →
       ¬ AreNamesOnce names controllable wanted symbols
-  nameless k lt e once = let s = once.some k lt in none_some (get_or names s.0 []) (sym e ∙ s.1.is)
+  nameless k lt e once = let s = once.some k lt in none_some (sym e ∙ s.1.is)
 
-  pub unknown : (k : ℕ) (name : List ℕ) → k < length symbols → get_or symbols k None ≡ Some name →
+  pub unknown : (k : ℕ) {name : List ℕ} → k < length symbols → get_or symbols k None ≡ Some name →
       IsPropositionOf names controllable wanted name None → ¬ AreNamesOnce names controllable wanted symbols
-  unknown k name lt e no_one once = let s = once.some k lt in
+  unknown k {name} lt e no_one once = let s = once.some k lt in
       no_one s.0 s.1.within s.2 (some_same (get_or names s.0 []) name (sym s.1.is ∙ e))
 
-  pub taken : (k p : ℕ) (name : List ℕ) (places : List (Option ℕ)) → ArePut names controllable wanted symbols k places →
-      get_or symbols k None ≡ Some name
-      → p < length names → get_or names p [] ≡ name → get_or places p None ≢ None →
-      ¬ AreNamesOnce names controllable wanted symbols
-  taken k p name places h there lp named full once = go (get_or places p None) refl
+  pub taken : {k : ℕ} (p : ℕ) {name : List ℕ} {places : List (Option ℕ)} →
+      ArePut names controllable wanted symbols k places → get_or symbols k None ≡ Some name → p < length names →
+      get_or names p [] ≡ name → get_or places p None ≢ None → ¬ AreNamesOnce names controllable wanted symbols
+  taken {k} p {places} h there lp named full once = go (get_or places p None) refl
     where
       go : (o : Option ℕ) → get_or places p None ≡ o → ⊥
       go None e = full e
       go (Some j) e =
           let lt = h.before p j e in
-          let same : j ≡ k =
-          once.once j k p (h.is p j e) (record {
+          let same : j ≡ k = once.once j k p (h.is p j e) (record {
             within = lp;
-            is = there
-                ∙ ap (λ (n : List ℕ). Some n) (sym named);
+            is = there ∙ ap (λ (n : List ℕ). Some n) (sym named);
           }) in
           absurd (omega (arith, lt, same))
 
   -- ## All symbols
 
-  module _ (differ : AreNames names) (places : List (Option ℕ))
+  module _ (differ : AreNames names) {places : List (Option ℕ)}
       (h : ArePut names controllable wanted symbols (length symbols) places) where
     placed : (p k : ℕ) → IsSymbol names symbols k p → get_or places p None ≡ Some k
     placed p k s =
@@ -154,7 +151,7 @@ module _ (names : List (List ℕ)) (controllable : List ℕ) (wanted : Bool) (sy
         ¬ AreNamesOnce names controllable wanted symbols
     missing p lt sides e once =
         let s = once.each p (omega (arith, h.size)) sides in
-        none_some s.0 (sym e ∙ placed p s.0 s.1)
+        none_some (sym e ∙ placed p s.0 s.1)
 
     pub all_once : ((p : ℕ) → p < length places → is_among p controllable ≡ wanted → get_or places p None ≢ None) →
         AreNamesOnce names controllable wanted symbols
@@ -183,34 +180,34 @@ beq_other false false e same = absurd (cc)
 beq_other true false e same = absurd (cc)
 beq_other false true e same = absurd (cc)
 
-pub is_free : (places : List (Option ℕ)) (p : ℕ) (there : Option ℕ) (b : Bool) → p < length places →
+pub is_free : (places : List (Option ℕ)) (p : ℕ) (there : Option ℕ) {b : Bool} → p < length places →
     there ≡ get_or places p there → is_some there ≡ not b → b ≡ true → get_or places p None ≡ None
-is_free places p None b lt at e free = sym at
-is_free places p (Some k) b lt at e free = absurd (cc)
+is_free places p None lt at e free = sym at
+is_free places p (Some k) lt at e free = absurd (cc)
 
-pub is_full : (places : List (Option ℕ)) (p : ℕ) (there : Option ℕ) (b : Bool) → p < length places →
+pub is_full : (places : List (Option ℕ)) (p : ℕ) (there : Option ℕ) {b : Bool} → p < length places →
     there ≡ get_or places p there → is_some there ≡ not b → b ≡ false → get_or places p None ≢ None
-is_full places p None b lt at e no_one free = absurd (cc)
-is_full places p (Some k) b lt at e no_one free = let same : get_or places p None ≡ get_or places p (Some k) =
+is_full places p None lt at e no_one free = absurd (cc)
+is_full places p (Some k) lt at e no_one free = let same : get_or places p None ≡ get_or places p (Some k) =
     get_or_default places p None (Some k) lt in absurd (cc)
 
-pub name_at : (names : List (Vec ℕ Global)) (p : ℕ) (name : Vec ℕ Global) → p < length names →
+pub name_at : (names : List (Vec ℕ Global)) (p : ℕ) {name : Vec ℕ Global} → p < length names →
     name ≡ get_or names p name → get_or (map bytes_of names) p [] ≡ name.items
-name_at names p name lt at = get_or-map bytes_of names p name [] lt ∙ ap bytes_of (sym at)
+name_at names p {name} lt at = get_or-map bytes_of names p name [] lt ∙ ap bytes_of (sym at)
 
-pub symbol_at : (symbols : List (Option (Bor (List ℕ)))) (k : ℕ) (symbol : Option (Bor (List ℕ))) → k < length symbols →
+pub symbol_at : (symbols : List (Option (Bor (List ℕ)))) (k : ℕ) {symbol : Option (Bor (List ℕ))} → k < length symbols →
     get_or symbols k None ≡ symbol
     → get_or (map (option_copied {T = List ℕ}) symbols) k None ≡ option_copied {T = List ℕ} symbol
-symbol_at symbols k symbol lt at =
+symbol_at symbols k lt at =
     get_or-map (option_copied {T = List ℕ}) symbols k None None lt ∙ ap (option_copied {T = List ℕ}) at
 
 -- ## Both sides
 
-pub apart : (names : List (List ℕ)) (controllable : List ℕ) (one other : Bool) (symbols others : List (Option (List ℕ)))
-    (places rest : List (Option ℕ)) → one ≢ other
-    → ArePlacesOf names controllable one symbols places → ArePlacesOf names controllable other others rest → (p k : ℕ) →
+pub apart : {names : List (List ℕ)} {controllable : List ℕ} {one other : Bool} {symbols others : List (Option (List ℕ))}
+    {places rest : List (Option ℕ)} → one ≢ other
+    → ArePlacesOf names controllable one symbols places → ArePlacesOf names controllable other others rest → {p k : ℕ} →
     IsSymbol names symbols k p → get_or rest p None ≡ None
-apart names controllable one other symbols others places rest differ a b p k s = go (get_or rest p None) refl
+apart {rest} differ a b {p} {k} s = go (get_or rest p None) refl
   where
     go : (o : Option ℕ) → get_or rest p None ≡ o → o ≡ None
     go None e = refl

@@ -12,7 +12,7 @@ use Rattle.ps_circuit.specs.Circuits.{CircuitData, IsCircuit, IsDefinition, IsKn
 use Rattle.ps_circuit.specs.Literals.{variable}
 use Rattle.ps_simulate.specs.Plans.{variables, place_of}
 
-module _ (c : CircuitData) (is : IsCircuit c) where
+module _ {c : CircuitData} (is : IsCircuit c) where
   defined : (k d : ℕ) → k < length (definitions c) → IsDefinition c.most (get_or (definitions c) k d)
   defined k d lt = is.draft.defined k d lt
 
@@ -37,8 +37,7 @@ module _ (c : CircuitData) (is : IsCircuit c) where
       is.draft.once i j d (omega arith) within (sym (variables_at i d first) ∙ e ∙ variables_at j d within)
 
   pub place_of-at : (k : ℕ) → k < length (variables c) → place_of c (get_or (variables c) k 0) ≡ k
-  place_of-at k lt =
-      position_or_len_is (λ w. nat_eq w (get_or (variables c) k 0)) (variables c) k 0 (omega arith)
+  place_of-at k lt = position_or_len_is (λ w. nat_eq w (get_or (variables c) k 0)) (variables c) k 0 (omega arith)
       (λ j less. ne_eqb _ _ (λ e. variables_once j k 0 less lt e)) (λ _. eq-eqb _ _ refl)
 
   known_at : (literal k : ℕ) → k < length (variables c) → get_or (variables c) k 0 ≡ variable literal
@@ -68,8 +67,7 @@ module _ (c : CircuitData) (is : IsCircuit c) where
 
   -- the literals of a gate are known
   pub gate_known : (i : ℕ) (d : Gate) → i < length c.gates → IsKnown (definitions c) (get_or c.gates i d).literal
-  gate_known i d lt =
-      contains_variable _ (Contains-append_right (c.inputs ++ map (λ l. l.literal) c.latches) _ _
+  gate_known i d lt = contains_variable _ (Contains-append_right (c.inputs ++ map (λ l. l.literal) c.latches) _ _
       (contains_mapped (λ g. g.literal) c.gates i d lt))
 
   reads_contain : (gates : List Gate) (i : ℕ) (d : Gate) → i < length gates
@@ -93,13 +91,11 @@ module _ (c : CircuitData) (is : IsCircuit c) where
       )
 
   pub output_known : (i d : ℕ) → i < length c.outputs → IsKnown (definitions c) (get_or c.outputs i d)
-  output_known i d lt =
-      All-contains (IsKnown (definitions c)) (readings c) _ is.draft.known
+  output_known i d lt = All-contains (IsKnown (definitions c)) (readings c) _ is.draft.known
       (Contains-append_left (map (λ l. l.next) c.latches ++ c.outputs) _ _
       (Contains-append_right (map (λ l. l.next) c.latches) _ _ (Contains-get_or c.outputs i d lt)))
 
   pub next_known : (i : ℕ) (d : Latch) → i < length c.latches → IsKnown (definitions c) (get_or c.latches i d).next
-  next_known i d lt =
-      All-contains (IsKnown (definitions c)) (readings c) _ is.draft.known
+  next_known i d lt = All-contains (IsKnown (definitions c)) (readings c) _ is.draft.known
       (Contains-append_left (map (λ l. l.next) c.latches ++ c.outputs) _ _
       (Contains-append_left (map (λ l. l.next) c.latches) _ _ (contains_mapped (λ l. l.next) c.latches i d lt)))

@@ -1,6 +1,6 @@
 -- The rows of a circuit.
-use Rattle.std.proofs.Common.{◌≡◌, ◌≢◌, ℕ, zero, suc, ◌+◌, ◌/◌, ◌<◌, ◌≤◌, inl, inr, List, [], ◌∷◌, ◌++◌, map, length}
-use Rattle.std.proofs.Common.{get_or, refl, sym, ap, subst, ◌∙◌, arith, Some, length-append}
+use Rattle.std.proofs.Common.{◌≡◌, ℕ, suc, ◌+◌, ◌<◌, inl, inr, List, [], ◌++◌, map, length}
+use Rattle.std.proofs.Common.{get_or, sym, ap, subst, ◌∙◌, arith, Some, length-append}
 use Rattle.std.proofs.lemmas.List.{length-map, get_or-map, get_or_append_left, get_or-append-add}
 use Rattle.std.proofs.lemmas.Option.{slice_get-get_or, get_or_from_slice_get, slice_get_within}
 use Rattle.ps_circuit.specs.declared.parts.Latch.{Latch}
@@ -19,8 +19,7 @@ module _ (c : CircuitData) where
   definitions_input k lt =
       let latches = map (λ l. l.literal) c.latches in
       get_or_append_left (c.inputs ++ latches) (map (λ g. g.literal) c.gates) 0 k
-      (omega (arith, length-append c.inputs latches))
-      ∙ get_or_append_left c.inputs latches 0 k lt
+      (omega (arith, length-append c.inputs latches)) ∙ get_or_append_left c.inputs latches 0 k lt
 
   pub definitions_latch : (k : ℕ) → k < length c.latches → get_or (definitions c) (length c.inputs + k) 0 ≡
       (get_or c.latches k no_latch).literal
@@ -36,8 +35,7 @@ module _ (c : CircuitData) where
       let front = c.inputs ++ map (λ l. l.literal) c.latches in
       let many : length front ≡ length c.inputs + length c.latches =
       omega (arith, length-append c.inputs (map (λ l. l.literal) c.latches), length-map c.latches (λ l. l.literal))
-      in
-      ap (λ n. get_or (definitions c) (n + i) 0) (sym many)
+      in ap (λ n. get_or (definitions c) (n + i) 0) (sym many)
       ∙ get_or-append-add front (map (λ g. g.literal) c.gates) i 0 ∙ get_or-map (λ g. g.literal) c.gates i no_gate 0 lt
 
   pub length-definitions : length (definitions c) ≡ length c.inputs + length c.latches + length c.gates
@@ -54,24 +52,23 @@ module _ (c : CircuitData) where
   pub length-variables : length (variables c) ≡ length c.inputs + length c.latches + length c.gates + 1
   length-variables = omega (arith, length-definitions, length-map (definitions c) variable)
 
-module _ (c : CircuitData) (is : IsCircuit c) where
-  pub place_of-definition : (k literal : ℕ) → k < length (definitions c) → get_or (definitions c) k 0 ≡ literal →
+module _ {c : CircuitData} (is : IsCircuit c) where
+  pub place_of-definition : (k : ℕ) {literal : ℕ} → k < length (definitions c) → get_or (definitions c) k 0 ≡ literal →
       place_of c (variable literal) ≡ suc k
-  place_of-definition k literal lt e =
-      ap (place_of c) (ap variable (sym e) ∙ sym (variables_at c is k 0 lt))
-      ∙ place_of-at c is (suc k) (omega (arith, length-map (definitions c) variable))
+  place_of-definition k lt e = ap (place_of c) (ap variable (sym e) ∙ sym (variables_at is k 0 lt))
+      ∙ place_of-at is (suc k) (omega (arith, length-map (definitions c) variable))
 
   pub place_of-gate : (i : ℕ) → i < length c.gates → place_of c (variable (get_or c.gates i no_gate).literal) ≡ suc
       (length c.inputs + length c.latches + i)
-  place_of-gate i lt = place_of-definition _ _ (omega (arith, length-definitions c)) (definitions_gate c i lt)
+  place_of-gate i lt = place_of-definition _ (omega (arith, length-definitions c)) (definitions_gate c i lt)
 
   -- two literals at one place have one variable
   pub place_of-same : (l m : ℕ) → IsKnown (definitions c) l → IsKnown (definitions c) m →
       place_of c (variable l) ≡ place_of c (variable m) → variable l ≡ variable m
   place_of-same l m kl km e =
-      sym (place_known c is l kl).1 ∙ ap (λ p. get_or (variables c) p 0) e ∙ (place_known c is m km).1
+      sym (place_known is l kl).1 ∙ ap (λ p. get_or (variables c) p 0) e ∙ (place_known is m km).1
 
-  module _ (rows : List Row) (are : AreRows c rows) where
+  module _ {rows : List Row} (are : AreRows c rows) where
     -- the place of the gate of a row
     abbrev pub gate_place : ℕ → ℕ
     gate_place k = get_or are.order k 0
@@ -103,7 +100,7 @@ module _ (c : CircuitData) (is : IsCircuit c) where
         → place_of c (variable literal) ≡ (row rows l).target → variable literal ≡ variable
         (get_or c.gates (gate_place l) no_gate).literal
     reads k l literal hk hl known e =
-        place_of-same literal _ known (gate_known c is (gate_place l) no_gate (gate_within l hl))
+        place_of-same literal _ known (gate_known is (gate_place l) no_gate (gate_within l hl))
         (e ∙ ap (λ (r : Row). r.target) (row_is l hl))
 
     at : (k : ℕ) → k < length rows → Rattle.std.specs.Prelude.slice_get are.order k ≡ Some (gate_place k)
@@ -117,34 +114,30 @@ module _ (c : CircuitData) (is : IsCircuit c) where
     IsScheduled-rows = record {
       once = λ k l hk hl e. (let same : gate_place k ≡ gate_place l = omega (arith, target_is k hk, target_is l hl) in
           are.is_order.once k l (gate_place l) (at k hk ∙ ap Some same) (at l hl));
-      first_behind = λ k l hk hl e. are.is_order.behind k l (gate_place k) (gate_place l) (at k hk) (at l hl)
-          (record {
-            reader = _;
-            read = _;
-            at_i = gate_at k hk;
-            at_j = gate_at l hl;
-            side =
-                inl (reads k l _ hk hl (sides_known c is (gate_place k) no_gate (gate_within k hk)).0
-                (sym (ap (λ (r : Row). r.first.place) (row_is k hk)) ∙ e));
-          });
-      second_behind = λ k l hk hl e. are.is_order.behind k l (gate_place k) (gate_place l) (at k hk) (at l hl)
-          (record {
-            reader = _;
-            read = _;
-            at_i = gate_at k hk;
-            at_j = gate_at l hl;
-            side =
-                inr (reads k l _ hk hl (sides_known c is (gate_place k) no_gate (gate_within k hk)).1
-                (sym (ap (λ (r : Row). r.second.place) (row_is k hk)) ∙ e));
-          });
+      first_behind = λ k l hk hl e. are.is_order.behind k l (gate_place k) (gate_place l) (at k hk) (at l hl) (record {
+        reader = _;
+        read = _;
+        at_i = gate_at k hk;
+        at_j = gate_at l hl;
+        side = inl (reads k l _ hk hl (sides_known is (gate_place k) no_gate (gate_within k hk)).0
+            (sym (ap (λ (r : Row). r.first.place) (row_is k hk)) ∙ e));
+      });
+      second_behind = λ k l hk hl e. are.is_order.behind k l (gate_place k) (gate_place l) (at k hk) (at l hl) (record {
+        reader = _;
+        read = _;
+        at_i = gate_at k hk;
+        at_j = gate_at l hl;
+        side = inr (reads k l _ hk hl (sides_known is (gate_place k) no_gate (gate_within k hk)).1
+            (sym (ap (λ (r : Row). r.second.place) (row_is k hk)) ∙ e));
+      });
     }
 
     -- rows stay within the table
     pub IsWithin-row : (k : ℕ) → k < length rows → IsWithin (length (variables c)) (row rows k)
     IsWithin-row k lt =
-        let sides = sides_known c is (gate_place k) no_gate (gate_within k lt) in
+        let sides = sides_known is (gate_place k) no_gate (gate_within k lt) in
         subst (λ (r : Row). IsWithin (length (variables c)) r) (sym (row_is k lt)) (record {
-          target = (place_known c is _ (gate_known c is (gate_place k) no_gate (gate_within k lt))).0;
-          first = (place_known c is _ sides.0).0;
-          second = (place_known c is _ sides.1).0;
+          target = (place_known is _ (gate_known is (gate_place k) no_gate (gate_within k lt))).0;
+          first = (place_known is _ sides.0).0;
+          second = (place_known is _ sides.1).0;
         })

@@ -7,11 +7,10 @@ use Rattle.ps_simulate.specs.Lanes.{lane_of}
 use Rattle.ps_simulate.specs.LaneRuns.{LaneMoment, moment_in, GoOnInLanes, AreLanesPlain}
 use Rattle.ps_simulate.proofs.Uniqueness.OneTrace.{runs_agree}
 
-module _ (c : CircuitData) (is : IsCircuit c) (one : HasOneValues c) where
+module _ {c : CircuitData} (is : IsCircuit c) (one : HasOneValues c) where
   -- each lane goes on
   lane_goes_on : (lane : ℕ) → lane < 256 → (latches last : List (List ℕ)) (ms : List LaneMoment) →
-      GoOnInLanes c latches ms last
-      → GoesOn c (lane_of latches lane) (map (moment_in lane) ms) (lane_of last lane)
+      GoOnInLanes c latches ms last → GoesOn c (lane_of latches lane) (map (moment_in lane) ms) (lane_of last lane)
   lane_goes_on lane lt latches last [] on = ap (λ (ws : List (List ℕ)). lane_of ws lane) on
   lane_goes_on lane lt latches last (m ∷ ms) (next, at, steps, rest) = (
     lane_of next lane,

@@ -17,21 +17,21 @@ use Rattle.ps_simulate.specs.LassoRuns.{IsSeen, HavePlaces, bits_cmp}
 
 -- ## Lists
 
-at_left : {X : Type 0} (xs ys : List X) (i : ℕ) (x : X) → slice_get xs i ≡ Some x → slice_get (xs ++ ys) i ≡ Some x
-at_left [] ys i x e = absurd (none_is_some x e)
-at_left (y ∷ xs) ys zero x e = e
-at_left (y ∷ xs) ys (suc i) x e = at_left xs ys i x e
+at_left : {X : Type 0} (xs ys : List X) (i : ℕ) {x : X} → slice_get xs i ≡ Some x → slice_get (xs ++ ys) i ≡ Some x
+at_left [] ys i {x} e = absurd (none_is_some x e)
+at_left (y ∷ xs) ys zero e = e
+at_left (y ∷ xs) ys (suc i) {x} e = at_left xs ys i e
 
 at_end : {X : Type 0} (xs : List X) (y : X) → slice_get (xs ++ y ∷ []) (length xs) ≡ Some y
 at_end [] y = refl
 at_end (x ∷ xs) y = at_end xs y
 
-at_last : {X : Type 0} (xs : List X) (y : X) (i : ℕ) (x : X) → slice_get (xs ++ y ∷ []) i ≡ Some x →
+at_last : {X : Type 0} (xs : List X) (y : X) (i : ℕ) {x : X} → slice_get (xs ++ y ∷ []) i ≡ Some x →
     (slice_get xs i ≡ Some x) ⊎ ((x ≡ y) × (i ≡ length xs))
-at_last [] y zero x e = inr (sym (same_some y x e), refl)
-at_last [] y (suc i) x e = absurd (none_is_some x e)
-at_last (z ∷ xs) y zero x e = inl e
-at_last (z ∷ xs) y (suc i) x e = go (at_last xs y i x e)
+at_last [] y zero {x} e = inr (sym (same_some y x e), refl)
+at_last [] y (suc i) {x} e = absurd (none_is_some x e)
+at_last (z ∷ xs) y zero e = inl e
+at_last (z ∷ xs) y (suc i) {x} e = go (at_last xs y i e)
   where
     go : (slice_get xs i ≡ Some x) ⊎ ((x ≡ y) × (i ≡ length xs)) →
         (slice_get xs i ≡ Some x) ⊎ ((x ≡ y) × (suc i ≡ suc (length xs)))
@@ -70,16 +70,16 @@ places_start places empty = record {
   whole = λ key place e. absurd (none_is_some key.items e);
 }
 
-pub seen_before : (seen : List (List Bool)) (places : BTreeMap (Vec Bool Global) ℕ) → HavePlaces seen places →
-    (key : Vec Bool Global) (latches : List Bool) → key.items ≡ latches →
-    (place : ℕ) → get bits_cmp places key ≡ Some place → IsSeen seen seen latches (Some place)
-seen_before seen places have key latches same place e =
+pub seen_before : {seen : List (List Bool)} {places : BTreeMap (Vec Bool Global) ℕ} → HavePlaces seen places →
+    (key : Vec Bool Global) {latches : List Bool} → key.items ≡ latches →
+    {place : ℕ} → get bits_cmp places key ≡ Some place → IsSeen seen seen latches (Some place)
+seen_before {seen} have key same {place} e =
     let at = have.sound key place e in
     (slice_get_within seen place key.items at, get_or_from_slice_get seen place key.items [] at ∙ same, refl)
 
 -- latches that were not seen go behind the others
-module _ (seen : List (List Bool)) (old new : BTreeMap (Vec Bool Global) ℕ) (have : HavePlaces seen old)
-    (key : Vec Bool Global) (place : ℕ) (size : place ≡ length seen)
+module _ {seen : List (List Bool)} {old : BTreeMap (Vec Bool Global) ℕ} (new : BTreeMap (Vec Bool Global) ℕ)
+    (have : HavePlaces seen old) (key : Vec Bool Global) {place : ℕ} (size : place ≡ length seen)
     (none : get bits_cmp old key ≡ None) (more : btree_map_len new ≡ btree_map_len old + 1)
     (puts : (q : Vec Bool Global) →
     get bits_cmp new q ≡ cond (is_eq (bits_cmp key q)) (Some place) (get bits_cmp old q)) where
@@ -88,8 +88,7 @@ module _ (seen : List (List Bool)) (old new : BTreeMap (Vec Bool Global) ℕ) (h
       (sym none ∙ have.whole key k (slice_get-get_or seen k [] lt ∙ ap (λ (l : List Bool). Some l) e))
 
   here : (q : Vec Bool Global) → key.items ≡ q.items → get bits_cmp new q ≡ Some place
-  here q e = puts q
-      ∙ ap (λ b. cond b (Some place) (get bits_cmp old q))
+  here q e = puts q ∙ ap (λ b. cond b (Some place) (get bits_cmp old q))
       (ap (λ (l : List Bool). is_eq (slice_cmp bool_cmp key.items l)) (sym e) ∙ bits_own key.items)
 
   there : (q : Vec Bool Global) → is_eq (bits_cmp key q) ≡ false → get bits_cmp new q ≡ get bits_cmp old q
@@ -99,7 +98,7 @@ module _ (seen : List (List Bool)) (old new : BTreeMap (Vec Bool Global) ℕ) (h
   places_push = record {
     each = more ∙ ap (λ n. n + 1) have.each ∙ sym (length-append seen (key.items ∷ []));
     sound = λ q p h. sound_by q p h (cases_Bool (is_eq (bits_cmp key q)));
-    whole = λ q p h. whole_by q p (at_last seen key.items p q.items h) (cases_Bool (is_eq (bits_cmp key q)));
+    whole = λ q p h. whole_by q p (at_last seen key.items p h) (cases_Bool (is_eq (bits_cmp key q)));
   }
     where
       sound_by : (q : Vec Bool Global) (p : ℕ) → get bits_cmp new q ≡ Some p →
@@ -109,7 +108,7 @@ module _ (seen : List (List Bool)) (old new : BTreeMap (Vec Bool Global) ℕ) (h
           let same : key.items ≡ q.items = bits_tied key.items q.items one in
           let at : p ≡ length seen = sym (same_some place p (sym (here q same) ∙ h)) ∙ size in
           ap (slice_get (seen ++ key.items ∷ [])) at ∙ at_end seen key.items ∙ ap (λ (l : List Bool). Some l) same
-      sound_by q p h (inr other) = at_left seen (key.items ∷ []) p q.items (have.sound q p (sym (there q other) ∙ h))
+      sound_by q p h (inr other) = at_left seen (key.items ∷ []) p (have.sound q p (sym (there q other) ∙ h))
 
       whole_by : (q : Vec Bool Global) (p : ℕ) →
           (slice_get seen p ≡ Some q.items) ⊎ ((q.items ≡ key.items) × (p ≡ length seen)) →

@@ -1,7 +1,6 @@
 -- What a step reads from its table.
 use Rattle.std.proofs.Common.{◌≡◌, ℕ, suc, ◌<◌, Bool, false, List, [], ◌∷◌, map, length, get_or, refl, sym, ap, ap₂}
 use Rattle.std.proofs.Common.{subst, ◌∙◌, arith, All}
-use Rattle.std.proofs.lemmas.List.{length-map}
 use Rattle.std.proofs.lemmas.List.Elements.{All-from_get_or, All-map}
 use Rattle.ps_circuit.specs.declared.parts.Latch.{Latch}
 use Rattle.ps_circuit.specs.Circuits.{CircuitData, IsCircuit}
@@ -15,31 +14,22 @@ use Rattle.ps_simulate.proofs.RowLemmas.{no_latch, target_is, IsWithin-row}
 use Rattle.ps_simulate.proofs.WorkLemmas.{no_row, length-work_out, work_out-other}
 use Rattle.ps_simulate.proofs.ValueLemmas.{values_by, bit_of-values_by, AreValues-work_out}
 
-module _ (c : CircuitData) (is : IsCircuit c) (plan : Plan) (p : IsPlan c plan) where
+module _ {c : CircuitData} (is : IsCircuit c) {plan : Plan} (p : IsPlan c plan) where
   pub rows_within : All (IsWithin (length (variables c))) plan.rows.items
   rows_within =
-      All-from_get_or (IsWithin (length (variables c))) plan.rows.items no_row
-      (λ k lt. IsWithin-row c is plan.rows.items p.rows_are k lt)
+      All-from_get_or (IsWithin (length (variables c))) plan.rows.items no_row (λ k lt. IsWithin-row is p.rows_are k lt)
 
   pub outputs_within : All (λ w. w.place < length (variables c)) plan.outputs.items
-  outputs_within =
-      subst (λ (ws : List Wire). All (λ w. w.place < length (variables c)) ws) (sym p.outputs_are)
+  outputs_within = subst (λ (ws : List Wire). All (λ w. w.place < length (variables c)) ws) (sym p.outputs_are)
       (All-map (λ w. w.place < length (variables c)) (wire_of c) c.outputs
       (All-from_get_or (λ l. (wire_of c l).place < length (variables c)) c.outputs 0
-      (λ k lt. (place_known c is _ (output_known c is k 0 lt)).0)))
+      (λ k lt. (place_known is _ (output_known is k 0 lt)).0)))
 
   pub nexts_within : All (λ w. w.place < length (variables c)) plan.nexts.items
-  nexts_within =
-      subst (λ (ws : List Wire). All (λ w. w.place < length (variables c)) ws) (sym p.nexts_are)
+  nexts_within = subst (λ (ws : List Wire). All (λ w. w.place < length (variables c)) ws) (sym p.nexts_are)
       (All-map (λ w. w.place < length (variables c)) (λ (l : Latch). wire_of c l.next) c.latches
       (All-from_get_or (λ (l : Latch). (wire_of c l.next).place < length (variables c)) c.latches no_latch
-      (λ k lt. (place_known c is _ (next_known c is k no_latch lt)).0)))
-
-  pub length-nexts : length plan.nexts.items ≡ length c.latches
-  length-nexts = ap length p.nexts_are ∙ length-map c.latches _
-
-  pub length-outputs : length plan.outputs.items ≡ length c.outputs
-  length-outputs = ap length p.outputs_are ∙ length-map c.outputs (wire_of c)
+      (λ k lt. (place_known is _ (next_known is k no_latch lt)).0)))
 
 -- the bits that a table has for literals
 reads : {A : Type 0} (literal : A → ℕ) (wire : A → Wire) (table values : List Bool) (xs : List A) (d : A)
@@ -50,39 +40,34 @@ reads literal wire table values (x ∷ xs) d same =
     ap₂ ◌∷◌ (same 0 (omega arith)) (reads literal wire table values xs d (λ k lt. same (suc k) (omega arith)))
 
 -- the rest of a step behind the rows
-pub Steps-worked_out : (c : CircuitData) → IsCircuit c → (plan : Plan) → IsPlan c plan →
-    (inputs latches values outputs next : List Bool)
-    → length inputs ≡ length c.inputs → length latches ≡ length c.latches
-    → IsWorkedOut plan.rows.items inputs latches (length (variables c)) values →
-    outputs ≡ map (read values) plan.outputs.items
-    → next ≡ map (read values) plan.nexts.items → Steps c latches inputs outputs next
-Steps-worked_out c is plan p inputs latches values outputs next many_inputs many_latches worked outputs_are next_are =
+pub Steps-worked_out : {c : CircuitData} → IsCircuit c → {plan : Plan} → IsPlan c plan →
+    {inputs latches values outputs next : List Bool} → length inputs ≡ length c.inputs →
+    length latches ≡ length c.latches → IsWorkedOut plan.rows.items inputs latches (length (variables c)) values →
+    outputs ≡ map (read values) plan.outputs.items → next ≡ map (read values) plan.nexts.items →
+    Steps c latches inputs outputs next
+Steps-worked_out {c} is {plan} p {inputs} {latches} {values} many_inputs many_latches worked outputs_are next_are =
     record {
       values = values_by c values;
       are_values = subst (λ (done : List Bool). AreValues c inputs latches (values_by c done)) (sym worked.done)
-          (AreValues-work_out c is plan.rows.items p.rows_are inputs latches worked.table worked.each many_inputs
-          many_latches worked.holds);
+          (AreValues-work_out is p.rows_are worked.each many_inputs many_latches worked.holds);
       outputs_are = outputs_are ∙ ap (map (read values)) p.outputs_are
           ∙ reads (λ l. l) (wire_of c) values (values_by c values) c.outputs 0
-          (λ k lt. sym (bit_of-values_by c is values _ (output_known c is k 0 lt)));
+          (λ k lt. sym (bit_of-values_by is values _ (output_known is k 0 lt)));
       next_are = next_are ∙ ap (map (read values)) p.nexts_are
-          ∙ reads (λ (l : Latch). l.next) (λ (l : Latch). wire_of c l.next) values (values_by c values)
-          c.latches no_latch
-          (λ k lt. sym (bit_of-values_by c is values _ (next_known c is k no_latch lt)));
+          ∙ reads (λ (l : Latch). l.next) (λ (l : Latch). wire_of c l.next) values (values_by c values) c.latches
+          no_latch (λ k lt. sym (bit_of-values_by is values _ (next_known is k no_latch lt)));
     }
 
 -- a step keeps the table's form
-pub IsTable-worked_out : (c : CircuitData) (plan : Plan) (old latches inputs values next : List Bool) →
-    IsTable c plan old latches
-    → IsWorkedOut plan.rows.items inputs latches (length (variables c)) values → length next ≡ length c.latches →
-    IsTable c plan values next
-IsTable-worked_out c plan old latches inputs values next t worked each = record {
+pub IsTable-worked_out : {c : CircuitData} {plan : Plan} {old latches inputs values : List Bool} (next : List Bool) →
+    IsTable c plan old latches → IsWorkedOut plan.rows.items inputs latches (length (variables c)) values →
+    length next ≡ length c.latches → IsTable c plan values next
+IsTable-worked_out {c} {plan} next t worked each = record {
   is_circuit = t.is_circuit;
   is_plan = t.is_plan;
   values_each = ap length worked.done ∙ length-work_out plan.rows.items worked.table ∙ worked.each;
   constant = ap (λ (all : List Bool). get_or all 0 false) worked.done
       ∙ work_out-other plan.rows.items worked.table 0 (λ k lt e.
-      (let h = target_is c t.is_circuit plan.rows.items t.is_plan.rows_are k lt in omega arith))
-      ∙ worked.holds.constant;
+      (let h = target_is t.is_circuit t.is_plan.rows_are k lt in omega arith)) ∙ worked.holds.constant;
   latches_each = each;
 }

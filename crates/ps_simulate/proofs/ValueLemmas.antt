@@ -23,7 +23,7 @@ use Rattle.ps_simulate.proofs.WorkLemmas.{row, work_out-other, work_out-row}
 abbrev pub values_by : CircuitData → List Bool → List Bool
 values_by c table = map (λ v. get_or table (place_of c v) false) (range_with_len 0 (c.most + 1))
 
-module _ (c : CircuitData) (is : IsCircuit c) where
+module _ {c : CircuitData} (is : IsCircuit c) where
   defined : (k : ℕ) → k < length (definitions c) → IsDefinition c.most (get_or (definitions c) k 0)
   defined k lt = is.draft.defined k 0 lt
 
@@ -39,93 +39,80 @@ module _ (c : CircuitData) (is : IsCircuit c) where
   -- a literal reads the table as it reads the values
   pub bit_of-values_by : (table : List Bool) (literal : ℕ) → IsKnown (definitions c) literal
       → bit_of (values_by c table) literal ≡ read table (wire_of c literal)
-  bit_of-values_by table literal known =
-      ap (λ (b : Bool). cond (literal % 2 == 1) (not b) b)
+  bit_of-values_by table literal known = ap (λ (b : Bool). cond (literal % 2 == 1) (not b) b)
       (get_or-map-range_with_len (λ v. get_or table (place_of c v) false) 0 (c.most + 1) (variable literal)
       (variable literal) false (variable-le_most literal known) (omega arith))
 
   -- a literal that defines a variable is not negated
-  pub bit_of-definition : (values : List Bool) (k literal : ℕ) → k < length (definitions c) →
-      get_or (definitions c) k 0 ≡ literal
-      → bit_of values literal ≡ value_of values (variable literal)
-  bit_of-definition values k literal lt e =
+  pub bit_of-definition : (values : List Bool) (k : ℕ) {literal : ℕ} → k < length (definitions c) →
+      get_or (definitions c) k 0 ≡ literal → bit_of values literal ≡ value_of values (variable literal)
+  bit_of-definition values k {literal} lt e =
       let is_definition = defined k lt in
       let even : literal % 2 ≡ 0 = ap (λ n. n % 2) (sym e) ∙ is_definition.0 in
       ap (λ (t : Bool). cond t (not (value_of values (variable literal))) (value_of values (variable literal)))
       (ne_eqb (literal % 2) 1 (λ one. omega arith))
 
-  value_at : (table : List Bool) (k literal : ℕ) → k < length (definitions c) → get_or (definitions c) k 0 ≡ literal
-      → bit_of (values_by c table) literal ≡ get_or table (suc k) false
-  value_at table k literal lt e =
+  value_at : (table : List Bool) (k : ℕ) {literal : ℕ} → k < length (definitions c) →
+      get_or (definitions c) k 0 ≡ literal → bit_of (values_by c table) literal ≡ get_or table (suc k) false
+  value_at table k {literal} lt e =
       let is_definition = defined k lt in
       let small : variable literal < c.most + 1 = omega (arith, is_definition.2, ap variable e) in
-      bit_of-definition (values_by c table) k literal lt e
-      ∙ get_or-map-range_with_len (λ v. get_or table (place_of c v) false) 0 (c.most + 1) (variable literal)
-      (variable literal) false small (omega arith)
-      ∙ ap (λ p. get_or table p false) (place_of-definition c is k literal lt e)
+      bit_of-definition (values_by c table) k lt e ∙ get_or-map-range_with_len (λ v. get_or table (place_of c v) false)
+      0 (c.most + 1) (variable literal) (variable literal) false small (omega arith)
+      ∙ ap (λ p. get_or table p false) (place_of-definition is k lt e)
 
-  module _ (rows : List Row) (are : AreRows c rows) (inputs latches table : List Bool)
-      (each : length table ≡ length (variables c))
-      (many_inputs : length inputs ≡ length c.inputs) (many_latches : length latches ≡ length c.latches)
-      (holds : Holds inputs latches table) where
+  module _ {rows : List Row} (are : AreRows c rows) {inputs latches table : List Bool}
+      (each : length table ≡ length (variables c)) (many_inputs : length inputs ≡ length c.inputs)
+      (many_latches : length latches ≡ length c.latches) (holds : Holds inputs latches table) where
     -- the places in front of the gates' stay
     kept : (p : ℕ) → p < suc (length c.inputs + length c.latches) →
         get_or (work_out rows table) p false ≡ get_or table p false
-    kept p lt = work_out-other rows table p (λ k less e. omega (arith, target_is c is rows are k less))
+    kept p lt = work_out-other rows table p (λ k less e. omega (arith, target_is is are k less))
 
     inputs_hold : map (bit_of (values_by c (work_out rows table))) c.inputs ≡ inputs
-    inputs_hold =
-        ext_get_or false _ inputs (length-map c.inputs _ ∙ sym many_inputs)
+    inputs_hold = ext_get_or false _ inputs (length-map c.inputs _ ∙ sym many_inputs)
         (λ k lt. at k (omega (arith, length-map c.inputs (bit_of (values_by c (work_out rows table))))))
       where
         at : (k : ℕ) → k < length c.inputs → get_or (map (bit_of (values_by c (work_out rows table))) c.inputs) k false
             ≡ get_or inputs k false
-        at k lt =
-            get_or-map (bit_of (values_by c (work_out rows table))) c.inputs k 0 false lt
-            ∙ value_at (work_out rows table) k (get_or c.inputs k 0) (omega (arith, length-definitions c))
-            (definitions_input c k lt)
+        at k lt = get_or-map (bit_of (values_by c (work_out rows table))) c.inputs k 0 false lt
+            ∙ value_at (work_out rows table) k (omega (arith, length-definitions c)) (definitions_input c k lt)
             ∙ kept (suc k) (omega arith) ∙ ap (λ p. get_or table p false) (let e : suc k ≡ 1 + k = omega arith in e)
             ∙ holds.inputs_there k (omega arith)
 
     latches_hold : map (λ l. bit_of (values_by c (work_out rows table)) l.literal) c.latches ≡ latches
-    latches_hold =
-        ext_get_or false _ latches (length-map c.latches _ ∙ sym many_latches)
-        (λ k lt. at k (omega (
-          arith,
-          length-map c.latches (λ (l : Latch).
-              bit_of (values_by c (work_out rows table)) l.literal),
-        )))
+    latches_hold = ext_get_or false _ latches (length-map c.latches _ ∙ sym many_latches) (λ k lt. at k (omega (
+      arith,
+      length-map c.latches (λ (l : Latch). bit_of (values_by c (work_out rows table)) l.literal),
+    )))
       where
         at : (k : ℕ) → k < length c.latches → get_or (map (λ l. bit_of (values_by c (work_out rows table)) l.literal)
             c.latches) k false ≡ get_or latches k false
         at k lt =
-            get_or-map (λ (l : Latch). bit_of (values_by c (work_out rows table)) l.literal) c.latches k
-            no_latch false lt
-            ∙ value_at (work_out rows table) (length c.inputs + k) _ (omega (arith, length-definitions c))
-            (definitions_latch c k lt)
-            ∙ kept (suc (length c.inputs + k)) (omega arith) ∙ ap (λ p. get_or table p false)
-            (let e : suc (length c.inputs + k) ≡ 1 + length inputs + k = omega arith in e)
-            ∙ holds.latches_there k (omega arith)
+            get_or-map (λ (l : Latch). bit_of (values_by c (work_out rows table)) l.literal) c.latches k no_latch false
+            lt ∙ value_at (work_out rows table) (length c.inputs + k) (omega (arith, length-definitions c))
+            (definitions_latch c k lt) ∙ kept (suc (length c.inputs + k)) (omega arith)
+            ∙ ap (λ p. get_or table p false) (let e : suc (length c.inputs + k) ≡ 1 + length inputs + k = omega arith in
+            e) ∙ holds.latches_there k (omega arith)
 
     gate_holds : (i : ℕ) → i < length c.gates → MeetsGate (values_by c (work_out rows table)) (get_or c.gates i no_gate)
     gate_holds i lt =
-        let there = row_of_gate c is rows are i lt in
+        let there = row_of_gate is are i lt in
         let g = get_or c.gates i no_gate in
         let all = work_out rows table in
-        let is_row : row rows there.0 ≡ row_at c i = row_is c is rows are there.0 there.1 ∙ ap (row_at c) there.2 in
+        let is_row : row rows there.0 ≡ row_at c i = row_is is are there.0 there.1 ∙ ap (row_at c) there.2 in
         let work : get_or all (row rows there.0).target false ≡ (read all (row rows there.0).first &&
         read all (row rows there.0).second) =
-        work_out-row rows table there.0 (IsScheduled-rows c is rows are)
-        (λ l less. omega (arith, each, (IsWithin-row c is rows are l less).target)) there.1 in
+        work_out-row rows table there.0 (IsScheduled-rows is are)
+        (λ l less. omega (arith, each, (IsWithin-row is are l less).target)) there.1 in
         let P : Row → Type 0 = λ r. get_or all r.target false ≡ (read all r.first && read all r.second) in
         let work_there : get_or all (place_of c (variable g.literal)) false ≡
         (read all (wire_of c g.first) && read all (wire_of c g.second)) = subst P is_row work in
-        let sides = sides_known c is i no_gate lt in
+        let sides = sides_known is i no_gate lt in
         let here = length c.inputs + length c.latches + i in
         let many : here < length (definitions c) = omega (arith, length-definitions c) in
-        value_at all here g.literal many (definitions_gate c i lt)
-        ∙ ap (λ p. get_or all p false) (sym (place_of-definition c is here g.literal many (definitions_gate c i lt)))
-        ∙ work_there
+        value_at all here many (definitions_gate c i lt) ∙ ap (λ p. get_or all p false)
+        (sym (place_of-definition is here many (definitions_gate c i lt))) ∙ work_there
         ∙ ap₂ ◌&&◌ (sym (bit_of-values_by all g.first sides.0)) (sym (bit_of-values_by all g.second sides.1))
 
     -- what the rows make of the table are the circuit's values
@@ -134,9 +121,8 @@ module _ (c : CircuitData) (is : IsCircuit c) where
       each = length-map-range_with_len (λ v. get_or (work_out rows table) (place_of c v) false) 0 (c.most + 1);
       constant =
           get_or-map-range_with_len (λ v. get_or (work_out rows table) (place_of c v) false) 0 (c.most + 1) 0 0 false
-          (omega arith) refl
-          ∙ ap (λ p. get_or (work_out rows table) p false) (place_of-at c is 0 (omega (arith, length-variables c)))
-          ∙ kept 0 (omega arith) ∙ holds.constant;
+          (omega arith) refl ∙ ap (λ p. get_or (work_out rows table) p false)
+          (place_of-at is 0 (omega (arith, length-variables c))) ∙ kept 0 (omega arith) ∙ holds.constant;
       inputs_are = inputs_hold;
       latches_are = latches_hold;
       gates_are = All-from_get_or (MeetsGate (values_by c (work_out rows table))) c.gates no_gate gate_holds;
@@ -154,8 +140,7 @@ Holds-first_table c inputs latches = record {
       λ k lt. ap (λ p. get_or (first_table c inputs latches) p false) (let e : 1 + k ≡ suc k = omega arith in e)
       ∙ get_or_append_left (inputs ++ latches) (replicate (length c.gates) false) false k
       (omega (arith, length-append inputs latches)) ∙ get_or_append_left inputs latches false k lt;
-  latches_there =
-      λ k lt. ap (λ p. get_or (first_table c inputs latches) p false)
+  latches_there = λ k lt. ap (λ p. get_or (first_table c inputs latches) p false)
       (let e : 1 + length inputs + k ≡ suc (length inputs + k) = omega arith in e)
       ∙ get_or_append_left (inputs ++ latches) (replicate (length c.gates) false) false (length inputs + k)
       (omega (arith, length-append inputs latches)) ∙ get_or-append-add inputs latches k false;

@@ -22,11 +22,10 @@ pub record IsScheduled (rows : List Row) : Type 0 where
   pub second_behind : (k l : ℕ) → k < length rows → l < length rows →
       (row rows k).second.place ≡ (row rows l).target → l < k
 
-IsScheduled-tail : (r : Row) (rows : List Row) → IsScheduled (r ∷ rows) → IsScheduled rows
-IsScheduled-tail r rows s = record {
+IsScheduled-tail : {r : Row} {rows : List Row} → IsScheduled (r ∷ rows) → IsScheduled rows
+IsScheduled-tail s = record {
   once = λ k l hk hl e. (let h : suc k ≡ suc l = s.once (suc k) (suc l) (omega arith) (omega arith) e in omega arith);
-  first_behind =
-      λ k l hk hl e. (let h : suc l < suc k = s.first_behind (suc k) (suc l) (omega arith) (omega arith) e in
+  first_behind = λ k l hk hl e. (let h : suc l < suc k = s.first_behind (suc k) (suc l) (omega arith) (omega arith) e in
       omega arith);
   second_behind =
       λ k l hk hl e. (let h : suc l < suc k = s.second_behind (suc k) (suc l) (omega arith) (omega arith) e in
@@ -42,8 +41,7 @@ pub work_out-other : (rows : List Row) (values : List Bool) (p : ℕ) →
     ((k : ℕ) → k < length rows → (row rows k).target ≢ p)
     → get_or (work_out rows values) p false ≡ get_or values p false
 work_out-other [] values p none = refl
-work_out-other (r ∷ rows) values p none =
-    work_out-other rows (work_row values r) p (λ k lt. none (suc k) (omega arith))
+work_out-other (r ∷ rows) values p none = work_out-other rows (work_row values r) p (λ k lt. none (suc k) (omega arith))
     ∙ get_or-set_other values r.target p _ false (λ e. none 0 (omega arith) (sym e))
 
 pub read-same : (values others : List Bool) (w : Wire) → get_or values w.place false ≡ get_or others w.place false →
@@ -68,7 +66,6 @@ work_out-row (r ∷ rows) values zero s within lt =
     work_out-other rows (work_row values r) r.target (λ l less e.
     absurd (let h : suc l ≡ 0 = s.once (suc l) 0 (omega arith) lt e in omega arith)) in
     kept ∙ get_or-set_same values r.target _ false (within 0 lt) ∙ ap₂ ◌&&◌ (sym first) (sym second)
-work_out-row (r ∷ rows) values (suc k) s within lt =
-    work_out-row rows (work_row values r) k (IsScheduled-tail r rows s)
+work_out-row (r ∷ rows) values (suc k) s within lt = work_out-row rows (work_row values r) k (IsScheduled-tail s)
     (λ l less. let h : (row rows l).target < length values = within (suc l) (omega arith) in
     omega (arith, length-set values r.target (read values r.first && read values r.second))) (omega arith)

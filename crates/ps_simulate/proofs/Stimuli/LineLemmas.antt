@@ -27,8 +27,7 @@ lines_of-ended (b ∷ front) rest none =
 
 lines_of-last : (b : ℕ) (front : List ℕ) → All NoNewline (b ∷ front) → lines_of (b ∷ front) ≡ (b ∷ front) ∷ []
 lines_of-last b [] none = ap (λ t. cond t ([] ∷ []) (put_byte b [])) (ne_eqb b 10 (All-head NoNewline b [] none))
-lines_of-last b (c ∷ front) none =
-    ap (λ t. cond t ([] ∷ lines_of (c ∷ front)) (put_byte b (lines_of (c ∷ front))))
+lines_of-last b (c ∷ front) none = ap (λ t. cond t ([] ∷ lines_of (c ∷ front)) (put_byte b (lines_of (c ∷ front))))
     (ne_eqb b 10 (All-head NoNewline b (c ∷ front) none))
     ∙ ap (put_byte b) (lines_of-last c front (All-tail NoNewline b (c ∷ front) none))
 
@@ -41,11 +40,9 @@ module _ (text : List ℕ) (start end : ℕ) (from : start ≤ end) (within : en
       ∙ sym (get_or-take (end - start) (drop start text) k 0 less) ∙ e)))
 
   split_here : take (end - start) (drop start text) ++ drop end text ≡ drop start text
-  split_here =
-      ap (λ rest. take (end - start) (drop start text) ++ rest)
+  split_here = ap (λ rest. take (end - start) (drop start text) ++ rest)
       (let e : start + (end - start) ≡ end = omega arith in ap (λ n. drop n text) (sym e)
-      ∙ sym (drop-drop (end - start) start text))
-      ∙ take-append-drop (end - start) (drop start text)
+      ∙ sym (drop-drop (end - start) start text)) ∙ take-append-drop (end - start) (drop start text)
 
   -- a line that a newline ends
   pub lines_of-drop_ended : end < length text → get_or text end 0 ≡ 10
@@ -65,26 +62,24 @@ lines_of-drop_last text start lt none =
     let past : drop (length text + 1) text ≡ [] = drop_all (length text + 1) text (omega arith) in
     last (drop start text) (omega (arith, length-drop start text))
     (subst (λ (bytes : List ℕ). All NoNewline bytes) whole (front_has_none text start (length text) (omega arith)
-    (omega arith) none))
-    ∙ ap (λ line. line ∷ []) (sym whole) ∙ ap (λ rest. take (length text - start) (drop start text) ∷ lines_of rest)
-    (sym past)
+    (omega arith) none)) ∙ ap (λ line. line ∷ []) (sym whole)
+    ∙ ap (λ rest. take (length text - start) (drop start text) ∷ lines_of rest) (sym past)
   where
     last : (bytes : List ℕ) → 0 < length bytes → All NoNewline bytes → lines_of bytes ≡ bytes ∷ []
     last [] some none = absurd (omega arith)
     last (b ∷ bytes) some none = lines_of-last b bytes none
 
 -- a line ends before each later one begins
-pub start_of-later : (lines : List (List ℕ)) (k m : ℕ) (line : List ℕ) → slice_get lines k ≡ Some line → k < m →
-    m ≤ length lines
-    → start_of lines k + length line + 1 ≤ start_of lines m
-start_of-later [] k m line there less within = absurd (omega arith)
-start_of-later (l ∷ lines) k zero line there less within = absurd (omega arith)
-start_of-later (l ∷ lines) zero (suc m) line there less within =
+pub start_of-later : (lines : List (List ℕ)) (k m : ℕ) {line : List ℕ} → slice_get lines k ≡ Some line → k < m →
+    m ≤ length lines → start_of lines k + length line + 1 ≤ start_of lines m
+start_of-later [] k m there less within = absurd (omega arith)
+start_of-later (l ∷ lines) k zero there less within = absurd (omega arith)
+start_of-later (l ∷ lines) zero (suc m) {line} there less within =
     let same : l ≡ line = cc in
     let more = sum_by-cons (λ (bytes : List ℕ). length bytes + 1) l (take m lines) in
     omega (arith, more, ap length same)
-start_of-later (l ∷ lines) (suc k) (suc m) line there less within =
-    let rest = start_of-later lines k m line there (omega arith) (omega arith) in
+start_of-later (l ∷ lines) (suc k) (suc m) {line} there less within =
+    let rest = start_of-later lines k m there (omega arith) (omega arith) in
     let here = sum_by-cons (λ (bytes : List ℕ). length bytes + 1) l (take k lines) in
     let later = sum_by-cons (λ (bytes : List ℕ). length bytes + 1) l (take m lines) in
     omega (arith, rest, here, later)
@@ -106,10 +101,10 @@ digits_of-divider (true ∷ letter) e = omega (arith, ap (λ (l : List ℕ). get
 digits_of-divider (false ∷ letter) e = omega (arith, ap (λ (l : List ℕ). get_or l 0 0) e)
 
 -- nothing is wrong with the line of a letter
-pub letter_none : (letter : List Bool) (line : List ℕ) (start width : ℕ) (cause : StimulusCause) (offset : ℕ)
+pub letter_none : (letter : List Bool) {line : List ℕ} (start : ℕ) {width : ℕ} (cause : StimulusCause) (offset : ℕ)
     → line ≡ digits_of letter → length letter ≡ width → StandsInLine line start width cause offset → ⊥
-letter_none letter line start width Width offset is each h = h.0 (ap length is ∙ length-map letter digit_of ∙ each)
-letter_none letter line start width Stimulus offset is each (j, byte, there, wrong, at) =
+letter_none letter start Width offset is each h = h.0 (ap length is ∙ length-map letter digit_of ∙ each)
+letter_none letter start Stimulus offset is each (j, byte, there, wrong, at) =
     found (slice_get letter j) (sym (slice_get-map digit_of letter j)
     ∙ ap (λ (l : List ℕ). slice_get l j) (sym is) ∙ there)
   where
@@ -124,7 +119,6 @@ in_line_from line start width Width offset h = omega (arith, h.1)
 in_line_from line start width Stimulus offset h = omega (arith, h.4)
 
 pub in_line_within : (line : List ℕ) (start width : ℕ) (cause : StimulusCause) (offset : ℕ) →
-    StandsInLine line start width cause offset
-    → (offset ≡ start) ⊎ (offset < start + length line)
+    StandsInLine line start width cause offset → (offset ≡ start) ⊎ (offset < start + length line)
 in_line_within line start width Width offset h = inl h.1
 in_line_within line start width Stimulus offset h = inr (omega (arith, h.4, slice_get_within line h.0 h.1 h.2))

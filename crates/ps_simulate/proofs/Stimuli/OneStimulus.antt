@@ -53,11 +53,11 @@ stimulus_same s t stem lap =
     let made : List (List Bool) → List (List Bool) → StimulusData = λ a b. record { stem = a; lap = b } in
     ap₂ made stem lap
 
-one_stimulus : (text : List ℕ) (width : ℕ) (split : Bool) (s t : StimulusData) → IsStimulus text width split s →
+one_stimulus : {text : List ℕ} {width : ℕ} (split : Bool) {s t : StimulusData} → IsStimulus text width split s →
     IsStimulus text width split t → s ≡ t
-one_stimulus text width false s t a b =
+one_stimulus false {s} {t} a b =
     stimulus_same s t (letters_same s.stem t.stem (sym a.lines ∙ b.lines)) (a.no_lap refl ∙ sym (b.no_lap refl))
-one_stimulus text width true s t a b =
+one_stimulus true {s} {t} a b =
     let parts = parts_same s.stem t.stem s.lap t.lap (sym a.lines ∙ b.lines) in stimulus_same s t parts.0 parts.1
 
 rank-injective : (c d : StimulusCause) → rank c ≡ rank d → c ≡ d
@@ -81,20 +81,21 @@ one_first S a b first other =
     which (inr (e, le)) (inl more) = absurd (omega arith)
     which (inr (e, le)) (inr (e', ge)) = ap₂ made (rank-injective a.cause b.cause (omega arith)) e
 
-none_stands : (text : List ℕ) (width : ℕ) (split : Bool) (s : StimulusData) → IsStimulus text width split s →
-    (cause : StimulusCause) (offset : ℕ) → Stands text width split cause offset → ⊥
-none_stands text width split s is cause offset (inl l) =
-    no_cause split split s [] (lines_of text) width (is.lines ∙ sym (append-nil (spelled split s))) is.stem_widths
-    is.lap_widths (λ e. e) l.k l.line _ cause offset
-    (omega (arith, slice_get_within (lines_of text) l.k l.line l.is_letter.there, ap length is.lines))
-    l.is_letter l.in_line
-none_stands text width false s is cause offset (inr m) = (let e = m.wanted in cc)
-none_stands text width true s is cause offset (inr m) =
-    m.none (length s.stem) (divides_at true s [] (lines_of text)
-    (is.lines ∙ sym (append-nil (spelled true s))) refl).there
+none_stands : {text : List ℕ} {width : ℕ} (split : Bool) {s : StimulusData} → IsStimulus text width split s →
+    {cause : StimulusCause} {offset : ℕ} → Stands text width split cause offset → ⊥
+none_stands {text} {width} split {s} is {cause} {offset} (inl l) =
+    no_cause split s [] (lines_of text) width (is.lines ∙ sym (append-nil (spelled split s))) is.stem_widths
+    is.lap_widths (λ e. e) l.k l.line _ cause offset (omega (
+      arith,
+      slice_get_within (lines_of text) l.k l.line l.is_letter.there,
+      ap length is.lines,
+    )) l.is_letter l.in_line
+none_stands false is (inr m) = (let e = m.wanted in cc)
+none_stands {text} true {s} is (inr m) =
+    m.none (length s.stem) (divides_at s [] (lines_of text) (is.lines ∙ sym (append-nil (spelled true s))) refl).there
 
 pub one_answer : (text : List ℕ) (width : ℕ) (split : Bool) → HasOneAnswer text width split
-one_answer text width split (Ok s) (Ok t) a b = ap Ok (one_stimulus text width split s t a b)
-one_answer text width split (Ok s) (Err f) a b = absurd (none_stands text width split s a f.cause f.offset b.stands)
-one_answer text width split (Err f) (Ok s) a b = absurd (none_stands text width split s b f.cause f.offset a.stands)
+one_answer text width split (Ok s) (Ok t) a b = ap Ok (one_stimulus split a b)
+one_answer text width split (Ok s) (Err f) a b = absurd (none_stands split a b.stands)
+one_answer text width split (Err f) (Ok s) a b = absurd (none_stands split b a.stands)
 one_answer text width split (Err f) (Err g) a b = ap Err (one_first (Stands text width split) f g a b)

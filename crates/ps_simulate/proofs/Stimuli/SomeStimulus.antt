@@ -66,10 +66,7 @@ module _ (line : List ℕ) (start width : ℕ) where
   wrong_byte w fits = (
     Stimulus,
     start + w.place,
-    record {
-      stands = (w.place, w.byte, w.there, w.wrong, refl);
-      least = least fits;
-    },
+    record { stands = (w.place, w.byte, w.there, w.wrong, refl); least = least fits },
   )
     where
       least : (length line ≡ width) ⊎ (w.place ≡ 0) → (cause : StimulusCause) (there : ℕ) →
@@ -96,7 +93,7 @@ module _ (line : List ℕ) (start width : ℕ) where
       go (inl e) (inl (letter, is)) = inl (letter, is, e)
       go (inl e) (inr w) = inr (wrong_byte w (inl e))
       go (inr other) (inl (letter, is)) = inr (wrong_width other (λ there h.
-          absurd (letter_none letter line start (length letter) Stimulus there is refl h)))
+          absurd (letter_none letter start Stimulus there is refl h)))
       go (inr other) (inr w) = inr (by_place other w (cases_eq w.place 0))
 
 is_divider : (line : List ℕ) → Decided (line ≡ divider)
@@ -139,13 +136,9 @@ module _ (text : List ℕ) (width : ℕ) (split : Bool) where
   -- no line is left
   at_end : (in_lap wanted : Bool) (start : ℕ) (s : StimulusData) → HasRead text width split in_lap start s →
       length text ≤ start → split ≡ wanted → Answer
-  at_end false true start s h past e = (
-    Err (record { cause = Stimulus; offset = length text }),
-    IsFirst-end text width split start s h past e,
-  )
-  at_end false false start s h past e = (Ok s, IsStimulus-end text width split false start s h past (sym e))
-  at_end true wanted start s h past e =
-      (Ok s, IsStimulus-end text width split true start s h past (sym (h.wanted refl)))
+  at_end false true start s h past e = (Err (record { cause = Stimulus; offset = length text }), IsFirst-end h past e)
+  at_end false false start s h past e = (Ok s, IsStimulus-end h past (sym e))
+  at_end true wanted start s h past e = (Ok s, IsStimulus-end h past (sym (h.wanted refl)))
 
   -- a line, where there is an answer from what is behind it
   module _ (in_lap : Bool) (start size : ℕ) (s : StimulusData) (h : HasRead text width split in_lap start s)
@@ -167,28 +160,27 @@ module _ (text : List ℕ) (width : ℕ) (split : Bool) where
     as_letter : (in_lap ≡ true) ⊎ (¬ (slice_get (lines_of text) (length (spelled in_lap s)) ≡ Some divider) ⊎
         (split ≡ false)) → LineAnswer line start width → Answer
     as_letter plain (inl (letter, is, fits)) = later in_lap (with_letter in_lap s letter)
-        (HasRead-letter text width split in_lap start (start + size) s h line next ends letter is fits)
+        (HasRead-letter h next ends letter is fits)
     as_letter plain (inr (cause, offset, least)) = (
       Err (record { cause = cause; offset = offset }),
-      IsFirst-in_line text width split in_lap start (start + size) s h line next ends some within
-          (not_divides text width split in_lap start s h plain) cause offset least,
+      IsFirst-in_line h next ends some within (not_divides in_lap h plain) least,
     )
 
     by_line : (b wanted : Bool) → in_lap ≡ b → split ≡ wanted → Decided (line ≡ divider) → Answer
     by_line true wanted e x d = as_letter (inl e) (line_answer line start width)
     by_line false false e x d = as_letter (inr (inr x)) (line_answer line start width)
     by_line false true e x (inr other) = as_letter (inr (inl (λ there.
-        let here = at_line text width split in_lap start (start + size) s h line next ends in
+        let here = at_line h next ends in
         other (let same : line ≡ divider = cc in same)))) (line_answer line start width)
-    by_line false true e x (inl is) = later true s (HasRead-divider text width split start (start + size) s
-        (subst (λ b. HasRead text width split b start s) e h) line next ends is x)
+    by_line false true e x (inl is) = later true s (HasRead-divider
+        (subst (λ b. HasRead text width split b start s) e h) next ends is x)
 
   -- by recursion over how many bytes are left
-  from_line : (n : ℕ) (in_lap : Bool) (start : ℕ) (s : StimulusData) → HasRead text width split in_lap start s →
+  from_line : (n : ℕ) {in_lap : Bool} {start : ℕ} {s : StimulusData} → HasRead text width split in_lap start s →
       length text ≤ start + n → Answer
-  from_line zero in_lap start s h left = at_end in_lap split start s h (omega (arith, left)) refl
-  from_line (suc n) in_lap start s h left =
-      go (λ b size t k. from_line n b (start + size + 1) t k (omega (arith, left))) (cases_lt start (length text))
+  from_line zero {in_lap} {start} {s} h left = at_end in_lap split start s h (omega (arith, left)) refl
+  from_line (suc n) {in_lap} {start} {s} h left =
+      go (λ b size t k. from_line n k (omega (arith, left))) (cases_lt start (length text))
     where
       go : ((b : Bool) (size : ℕ) (t : StimulusData) → HasRead text width split b (start + size + 1) t → Answer) →
           (suc start ≤ length text) ⊎ (length text ≤ start) → Answer
@@ -199,5 +191,4 @@ module _ (text : List ℕ) (width : ℕ) (split : Bool) where
           (is_divider (take l.0 (drop start text)))
 
 pub some_stimulus : (text : List ℕ) (width : ℕ) (split : Bool) → HasSomeAnswer text width split
-some_stimulus text width split = from_line text width split (length text) false 0 (record { stem = []; lap = [] })
-    (HasRead-start text width split) (omega arith)
+some_stimulus text width split = from_line text width split (length text) (HasRead-start text width split) (omega arith)

@@ -23,79 +23,70 @@ slice_get-right [] ys k m e = ap (slice_get ys) (let same : k ≡ m = omega arit
 slice_get-right (x ∷ xs) ys zero m e = absurd (omega arith)
 slice_get-right (x ∷ xs) ys (suc k) m e = slice_get-right xs ys k m (omega arith)
 
-All-slice_get : {X : Type 0} (P : X → Type 0) (xs : List X) (k : ℕ) (x : X) → All P xs → slice_get xs k ≡ Some x → P x
-All-slice_get P xs k x all there =
+All-slice_get : {X : Type 0} (P : X → Type 0) (xs : List X) (k : ℕ) {x : X} → All P xs → slice_get xs k ≡ Some x → P x
+All-slice_get P xs k {x} all there =
     subst P (get_or_from_slice_get xs k x x there) (all k x (slice_get_within xs k x there))
 
 -- a line of letters is the line of one of them
-pub mapped : (letters : List (List Bool)) (k : ℕ) (line : List ℕ) → slice_get (map digits_of letters) k ≡ Some line
+pub mapped : (letters : List (List Bool)) (k : ℕ) {line : List ℕ} → slice_get (map digits_of letters) k ≡ Some line
     → (letter : List Bool) × (slice_get letters k ≡ Some letter) × (line ≡ digits_of letter)
-mapped letters k line there = found (slice_get letters k) refl (sym (slice_get-map digits_of letters k) ∙ there)
+mapped letters k {line} there = found (slice_get letters k) refl (sym (slice_get-map digits_of letters k) ∙ there)
   where
     found : (o : Option (List Bool)) → slice_get letters k ≡ o → option_map digits_of o ≡ Some line
         → (letter : List Bool) × (slice_get letters k ≡ Some letter) × (line ≡ digits_of letter)
     found None is e = cc
     found (Some letter) is e = (letter, is, (let same : digits_of letter ≡ line = cc in sym same))
 
-mapped_none : (letters : List (List Bool)) (width k start : ℕ) (line : List ℕ) (cause : StimulusCause) (offset : ℕ) →
+mapped_none : (letters : List (List Bool)) (width k start : ℕ) {line : List ℕ} (cause : StimulusCause) (offset : ℕ) →
     All (λ letter. length letter ≡ width) letters
     → slice_get (map digits_of letters) k ≡ Some line → StandsInLine line start width cause offset → ⊥
-mapped_none letters width k start line cause offset widths there stands =
-    let m = mapped letters k line there in
-    letter_none m.0 line start width cause offset m.2 (All-slice_get (λ letter. length letter ≡ width) letters k m.0
-    widths m.1) stands
+mapped_none letters width k start {line} cause offset widths there stands =
+    let m = mapped letters k there in
+    letter_none m.0 start cause offset m.2 (All-slice_get (λ letter. length letter ≡ width) letters k widths m.1) stands
 
 pub no_divider : (letters : List (List Bool)) (k : ℕ) → slice_get (map digits_of letters) k ≡ Some divider → ⊥
-no_divider letters k there = (let m = mapped letters k divider there in digits_of-divider m.0 (sym m.2))
+no_divider letters k there = (let m = mapped letters k there in digits_of-divider m.0 (sym m.2))
 
 -- ## Lines that spell letters
 
 -- the divider stands behind the stem
-pub divides_at : (split : Bool) (s : StimulusData) (rest lines : List (List ℕ)) → lines ≡ spelled true s ++ rest →
+pub divides_at : {split : Bool} (s : StimulusData) (rest lines : List (List ℕ)) → lines ≡ spelled true s ++ rest →
     split ≡ true → Divides split lines (length s.stem)
-divides_at split s rest lines is wanted = record {
+divides_at s rest lines is wanted = record {
   wanted = wanted;
-  there =
-      ap (λ (ls : List (List ℕ)). slice_get ls (length s.stem))
+  there = ap (λ (ls : List (List ℕ)). slice_get ls (length s.stem))
       (is ∙ append_assoc (map digits_of s.stem) (divider ∷ map digits_of s.lap) rest)
       ∙ slice_get-right (map digits_of s.stem) (divider ∷ map digits_of s.lap ++ rest) (length s.stem) 0
       (omega (arith, length-map s.stem digits_of));
   first = λ j less there. no_divider s.stem j
       (sym (slice_get-left (map digits_of s.stem) (divider ∷ map digits_of s.lap ++ rest) j
-      (omega (arith, length-map s.stem digits_of)))
-      ∙ ap (λ (ls : List (List ℕ)). slice_get ls j) (sym (is ∙ append_assoc (map digits_of s.stem)
-      (divider ∷ map digits_of s.lap) rest)) ∙ there);
+      (omega (arith, length-map s.stem digits_of))) ∙ ap (λ (ls : List (List ℕ)). slice_get ls j)
+      (sym (is ∙ append_assoc (map digits_of s.stem) (divider ∷ map digits_of s.lap) rest)) ∙ there);
 }
 
 -- nothing is wrong with the lines of the letters
-pub no_cause : (split in_lap : Bool) (s : StimulusData) (rest lines : List (List ℕ)) (width : ℕ) →
-    lines ≡ spelled in_lap s ++ rest
-    → All (λ letter. length letter ≡ width) s.stem → All (λ letter. length letter ≡ width) s.lap →
-    (in_lap ≡ true → split ≡ true)
-    → (k : ℕ) (line : List ℕ) (start : ℕ) (cause : StimulusCause) (offset : ℕ) → k < length (spelled in_lap s)
-    → IsLetterLine split lines k line → StandsInLine line start width cause offset → ⊥
-no_cause split false s rest lines width is stem lap wanted k line start cause offset lt letter stands =
-    mapped_none s.stem width k start line cause offset stem
-    (sym (slice_get-left (map digits_of s.stem) rest k lt) ∙ ap (λ (ls : List (List ℕ)). slice_get ls k) (sym is)
-    ∙ letter.there) stands
-no_cause split true s rest lines width is stem lap wanted k line start cause offset lt letter stands =
+pub no_cause : {split : Bool} (in_lap : Bool) (s : StimulusData) (rest lines : List (List ℕ)) (width : ℕ) →
+    lines ≡ spelled in_lap s ++ rest → All (λ letter. length letter ≡ width) s.stem →
+    All (λ letter. length letter ≡ width) s.lap → (in_lap ≡ true → split ≡ true) →
+    (k : ℕ) (line : List ℕ) (start : ℕ) (cause : StimulusCause) (offset : ℕ) → k < length (spelled in_lap s) →
+    IsLetterLine split lines k line → StandsInLine line start width cause offset → ⊥
+no_cause false s rest lines width is stem lap wanted k line start cause offset lt letter stands =
+    mapped_none s.stem width k start cause offset stem (sym (slice_get-left (map digits_of s.stem) rest k lt)
+    ∙ ap (λ (ls : List (List ℕ)). slice_get ls k) (sym is) ∙ letter.there) stands
+no_cause {split} true s rest lines width is stem lap wanted k line start cause offset lt letter stands =
     which (cases_order k (length s.stem))
   where
     there : slice_get (map digits_of s.stem ++ divider ∷ map digits_of s.lap) k ≡ Some line
-    there =
-        sym (slice_get-left (spelled true s) rest k lt) ∙ ap (λ (ls : List (List ℕ)). slice_get ls k) (sym is)
+    there = sym (slice_get-left (spelled true s) rest k lt) ∙ ap (λ (ls : List (List ℕ)). slice_get ls k) (sym is)
         ∙ letter.there
 
     which : (k ≡ length s.stem) ⊎ ((k < length s.stem) ⊎ (length s.stem < k)) → ⊥
     which (inl e) =
-        letter.letter (subst (λ (n : ℕ). Divides split lines n) (sym e)
-        (divides_at split s rest lines is (wanted refl)))
+        letter.letter (subst (λ (n : ℕ). Divides split lines n) (sym e) (divides_at s rest lines is (wanted refl)))
     which (inr (inl less)) =
-        mapped_none s.stem width k start line cause offset stem
-        (sym (slice_get-left (map digits_of s.stem) (divider ∷ map digits_of s.lap) k
-        (omega (arith, less, length-map s.stem digits_of))) ∙ there) stands
-    which (inr (inr more)) =
-        (let m = k - suc (length s.stem) in
-        mapped_none s.lap width m start line cause offset lap
+        mapped_none s.stem width k start cause offset stem (sym (slice_get-left (map digits_of s.stem)
+        (divider ∷ map digits_of s.lap) k (omega (arith, less, length-map s.stem digits_of))) ∙ there) stands
+    which (inr (inr more)) = (let m = k - suc (length s.stem) in
+        mapped_none s.lap width m start cause offset lap
         (sym (slice_get-right (map digits_of s.stem) (divider ∷ map digits_of s.lap) k (suc m)
         (omega (arith, more, length-map s.stem digits_of))) ∙ there) stands)

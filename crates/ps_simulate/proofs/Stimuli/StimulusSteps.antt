@@ -33,12 +33,12 @@ spelled-with_letter true s letter =
     ap (λ (lap : List (List ℕ)). map digits_of s.stem ++ divider ∷ lap) (map_push digits_of s.lap letter)
     ∙ sym (append_assoc (map digits_of s.stem) (divider ∷ map digits_of s.lap) (digits_of letter ∷ []))
 
-widths_with : (in_lap : Bool) (s : StimulusData) (letter : List Bool) (width : ℕ) → All (λ l. length l ≡ width) s.stem →
+widths_with : (in_lap : Bool) (s : StimulusData) (letter : List Bool) {width : ℕ} → All (λ l. length l ≡ width) s.stem →
     All (λ l. length l ≡ width) s.lap → length letter ≡ width
     → All (λ l. length l ≡ width) (with_letter in_lap s letter).stem ×
     All (λ l. length l ≡ width) (with_letter in_lap s letter).lap
-widths_with false s letter width stem lap each = (All-push (λ l. length l ≡ width) s.stem letter stem each, lap)
-widths_with true s letter width stem lap each = (stem, All-push (λ l. length l ≡ width) s.lap letter lap each)
+widths_with false s letter {width} stem lap each = (All-push (λ l. length l ≡ width) s.stem letter stem each, lap)
+widths_with true s letter {width} stem lap each = (stem, All-push (λ l. length l ≡ width) s.lap letter lap each)
 
 no_lap_with : (in_lap : Bool) (s : StimulusData) (letter : List Bool) → (in_lap ≡ false → s.lap ≡ []) → in_lap ≡ false →
     (with_letter in_lap s letter).lap ≡ []
@@ -56,114 +56,111 @@ HasRead-start text width split = record {
   no_lap = λ e. refl;
 }
 
-module _ (text : List ℕ) (width : ℕ) (split in_lap : Bool) (start end : ℕ) (s : StimulusData)
-    (h : HasRead text width split in_lap start s)
-    (line : List ℕ) (next : lines_of (drop start text) ≡ line ∷ lines_of (drop (end + 1) text))
-    (length_is : start + length line ≡ end) where
-  behind : lines_of text ≡ spelled in_lap s ++ line ∷ lines_of (drop (end + 1) text)
-  behind = h.lines ∙ ap (λ (rest : List (List ℕ)). spelled in_lap s ++ rest) next
+module _ {text : List ℕ} {width : ℕ} {split in_lap : Bool} {start end : ℕ} {s : StimulusData}
+    (h : HasRead text width split in_lap start s) {line : List ℕ}
+    (next : lines_of (drop start text) ≡ line ∷ lines_of (drop (end + 1) text)) (length_is : start + length line ≡ end)
+  where
+    behind : lines_of text ≡ spelled in_lap s ++ line ∷ lines_of (drop (end + 1) text)
+    behind = h.lines ∙ ap (λ (rest : List (List ℕ)). spelled in_lap s ++ rest) next
 
-  pushed : lines_of text ≡ (spelled in_lap s ++ line ∷ []) ++ lines_of (drop (end + 1) text)
-  pushed = behind ∙ sym (append_assoc (spelled in_lap s) (line ∷ []) (lines_of (drop (end + 1) text)))
+    pushed : lines_of text ≡ (spelled in_lap s ++ line ∷ []) ++ lines_of (drop (end + 1) text)
+    pushed = behind ∙ sym (append_assoc (spelled in_lap s) (line ∷ []) (lines_of (drop (end + 1) text)))
 
-  end_is : end + 1 ≡ extent (spelled in_lap s ++ line ∷ [])
-  end_is =
-      omega (arith, h.start_is, length_is, sum_by_push (λ (bytes : List ℕ). length bytes + 1) (spelled in_lap s) line)
+    end_is : end + 1 ≡ extent (spelled in_lap s ++ line ∷ [])
+    end_is =
+        omega (arith, h.start_is, length_is, sum_by_push (λ (bytes : List ℕ). length bytes + 1) (spelled in_lap s) line)
 
-  -- a letter's line
-  pub HasRead-letter : (letter : List Bool) → line ≡ digits_of letter → length line ≡ width →
-      HasRead text width split in_lap (end + 1) (with_letter in_lap s letter)
-  HasRead-letter letter is each =
-      let spells : spelled in_lap s ++ line ∷ [] ≡ spelled in_lap (with_letter in_lap s letter) =
-      ap (λ (l : List ℕ). spelled in_lap s ++ l ∷ []) is ∙ sym (spelled-with_letter in_lap s letter) in
-      let widths =
-      widths_with in_lap s letter width h.stem_widths h.lap_widths
-      (sym (length-map letter _) ∙ ap length (sym is) ∙ each) in
-      record {
-        lines = pushed ∙ ap (λ (front : List (List ℕ)). front ++ lines_of (drop (end + 1) text)) spells;
-        start_is = end_is ∙ ap extent spells;
-        stem_widths = widths.0;
-        lap_widths = widths.1;
-        wanted = h.wanted;
-        no_lap = no_lap_with in_lap s letter h.no_lap;
-      }
+    -- a letter's line
+    pub HasRead-letter : (letter : List Bool) → line ≡ digits_of letter → length line ≡ width →
+        HasRead text width split in_lap (end + 1) (with_letter in_lap s letter)
+    HasRead-letter letter is each =
+        let spells : spelled in_lap s ++ line ∷ [] ≡ spelled in_lap (with_letter in_lap s letter) =
+        ap (λ (l : List ℕ). spelled in_lap s ++ l ∷ []) is ∙ sym (spelled-with_letter in_lap s letter) in
+        let widths = widths_with in_lap s letter h.stem_widths h.lap_widths
+        (sym (length-map letter _) ∙ ap length (sym is) ∙ each) in
+        record {
+          lines = pushed ∙ ap (λ (front : List (List ℕ)). front ++ lines_of (drop (end + 1) text)) spells;
+          start_is = end_is ∙ ap extent spells;
+          stem_widths = widths.0;
+          lap_widths = widths.1;
+          wanted = h.wanted;
+          no_lap = no_lap_with in_lap s letter h.no_lap;
+        }
 
-  -- where line `length (spelled in_lap s)` begins
-  pub at_line : slice_get (lines_of text) (length (spelled in_lap s)) ≡ Some line
-  at_line = ap (λ (ls : List (List ℕ)). slice_get ls (length (spelled in_lap s))) behind
-      ∙ slice_get-right (spelled in_lap s) (line ∷ lines_of (drop (end + 1) text)) (length (spelled in_lap s))
-      0 (omega arith)
+    -- where line `length (spelled in_lap s)` begins
+    pub at_line : slice_get (lines_of text) (length (spelled in_lap s)) ≡ Some line
+    at_line = ap (λ (ls : List (List ℕ)). slice_get ls (length (spelled in_lap s))) behind
+        ∙ slice_get-right (spelled in_lap s) (line ∷ lines_of (drop (end + 1) text)) (length (spelled in_lap s))
+        0 (omega arith)
 
-  start_here : start_of (lines_of text) (length (spelled in_lap s)) ≡ start
-  start_here = ap (λ (ls : List (List ℕ)). start_of ls (length (spelled in_lap s))) behind
-      ∙ ap extent (take_at (spelled in_lap s) (line ∷ lines_of (drop (end + 1) text)) (length (spelled in_lap s)) refl)
-      ∙ sym h.start_is
+    start_here : start_of (lines_of text) (length (spelled in_lap s)) ≡ start
+    start_here = ap (λ (ls : List (List ℕ)). start_of ls (length (spelled in_lap s))) behind
+        ∙ ap extent (take_at (spelled in_lap s) (line ∷ lines_of (drop (end + 1) text))
+        (length (spelled in_lap s)) refl)
+        ∙ sym h.start_is
 
-  -- the first cause in a line is the first in the text
-  pub IsFirst-in_line : start < length text → end ≤ length text →
-      ¬ Divides split (lines_of text) (length (spelled in_lap s))
-      → (cause : StimulusCause) (offset : ℕ) → IsFirst (StandsInLine line start width) cause offset →
-      IsFirst (Stands text width split) cause offset
-  IsFirst-in_line some within letter cause offset first = record {
-    stands = inl (record {
-      k = here;
-      line = line;
-      is_letter = record { there = at_line; letter = letter };
-      in_line = subst (λ (n : ℕ). StandsInLine line n width cause offset) (sym start_here) first.stands;
-    });
-    least = λ other there stands. elim stands [ inl l ↦ in_letter other there l | inr m ↦ inl (missing other there m) ];
-  }
-    where
-      here : ℕ
-      here = length (spelled in_lap s)
+    -- the first cause in a line is the first in the text
+    pub IsFirst-in_line : start < length text → end ≤ length text →
+        ¬ Divides split (lines_of text) (length (spelled in_lap s)) → {cause : StimulusCause} {offset : ℕ} →
+        IsFirst (StandsInLine line start width) cause offset → IsFirst (Stands text width split) cause offset
+    IsFirst-in_line some within letter {cause} {offset} first = record {
+      stands = inl (record {
+        k = here;
+        line = line;
+        is_letter = record { there = at_line; letter = letter };
+        in_line = subst (λ (n : ℕ). StandsInLine line n width cause offset) (sym start_here) first.stands;
+      });
+      least =
+          λ other there stands. elim stands [ inl l ↦ in_letter other there l | inr m ↦ inl (missing other there m) ];
+    }
+      where
+        here : ℕ
+        here = length (spelled in_lap s)
 
-      bound : (offset ≡ start) ⊎ (offset < start + length line)
-      bound = in_line_within line start width cause offset first.stands
+        bound : (offset ≡ start) ⊎ (offset < start + length line)
+        bound = in_line_within line start width cause offset first.stands
 
-      missing : (other : StimulusCause) (there : ℕ) → MissesDivider text split other there → offset < there
-      missing other there m =
-          elim bound [
-            | inl e ↦ omega (arith, some, e, m.offset_is)
-            | inr less ↦ omega (arith, less, within, length_is, m.offset_is)
-          ]
+        missing : (other : StimulusCause) (there : ℕ) → MissesDivider text split other there → offset < there
+        missing other there m = elim bound [
+          | inl e ↦ omega (arith, some, e, m.offset_is)
+          | inr less ↦ omega (arith, less, within, length_is, m.offset_is)
+        ]
 
-      in_letter : (other : StimulusCause) (there : ℕ) → StandsInLetter text width split other there →
-          (offset < there) ⊎ ((offset ≡ there) × (rank cause ≤ rank other))
-      in_letter other there l = which (cases_order l.k (length (spelled in_lap s)))
-        where
-          which : (l.k ≡ length (spelled in_lap s)) ⊎ ((l.k < length (spelled in_lap s)) ⊎
-              (length (spelled in_lap s) < l.k)) → (offset < there) ⊎ ((offset ≡ there) × (rank cause ≤ rank other))
-          which (inl e) =
-              (let same : l.line ≡ line = (let a = l.is_letter.there in let b = ap (slice_get (lines_of text)) e in
-              let c = at_line in cc) in
-              first.least other there (subst (λ (bytes : List ℕ). StandsInLine bytes start width other there) same
-              (subst (λ (n : ℕ). StandsInLine l.line n width other there)
-              (ap (start_of (lines_of text)) e ∙ start_here) l.in_line)))
-          which (inr (inl less)) =
-              absurd (no_cause split in_lap s (line ∷ lines_of (drop (end + 1) text)) (lines_of text) width behind
-              h.stem_widths h.lap_widths h.wanted l.k l.line _ other there less l.is_letter l.in_line)
-          which (inr (inr more)) =
-              (let later = start_of-later (lines_of text) (length (spelled in_lap s)) l.k line at_line more
-              (let w = slice_get_within (lines_of text) l.k l.line l.is_letter.there in omega arith) in
-              let from = in_line_from l.line _ width other there l.in_line in
-              inl (elim bound [
-                | inl e ↦ omega (arith, later, from, e, start_here)
-                | inr less ↦ omega (arith, later, from, less, start_here)
-              ]))
+        in_letter : (other : StimulusCause) (there : ℕ) → StandsInLetter text width split other there →
+            (offset < there) ⊎ ((offset ≡ there) × (rank cause ≤ rank other))
+        in_letter other there l = which (cases_order l.k (length (spelled in_lap s)))
+          where
+            which : (l.k ≡ length (spelled in_lap s)) ⊎ ((l.k < length (spelled in_lap s)) ⊎
+                (length (spelled in_lap s) < l.k)) → (offset < there) ⊎ ((offset ≡ there) × (rank cause ≤ rank other))
+            which (inl e) =
+                (let same : l.line ≡ line = (let a = l.is_letter.there in let b = ap (slice_get (lines_of text)) e in
+                let c = at_line in cc) in
+                first.least other there (subst (λ (bytes : List ℕ). StandsInLine bytes start width other there) same
+                (subst (λ (n : ℕ). StandsInLine l.line n width other there)
+                (ap (start_of (lines_of text)) e ∙ start_here) l.in_line)))
+            which (inr (inl less)) =
+                absurd (no_cause in_lap s (line ∷ lines_of (drop (end + 1) text)) (lines_of text) width behind
+                h.stem_widths h.lap_widths h.wanted l.k l.line _ other there less l.is_letter l.in_line)
+            which (inr (inr more)) =
+                (let later = start_of-later (lines_of text) (length (spelled in_lap s)) l.k at_line more
+                (let w = slice_get_within (lines_of text) l.k l.line l.is_letter.there in omega arith) in
+                let from = in_line_from l.line _ width other there l.in_line in
+                inl (elim bound [
+                  | inl e ↦ omega (arith, later, from, e, start_here)
+                  | inr less ↦ omega (arith, later, from, less, start_here)
+                ]))
 
 -- the divider's line
-pub HasRead-divider : (text : List ℕ) (width : ℕ) (split : Bool) (start end : ℕ) (s : StimulusData) →
-    HasRead text width split false start s → (line : List ℕ)
+pub HasRead-divider : {text : List ℕ} {width : ℕ} {split : Bool} {start end : ℕ} {s : StimulusData} →
+    HasRead text width split false start s → {line : List ℕ}
     → lines_of (drop start text) ≡ line ∷ lines_of (drop (end + 1) text) → start + length line ≡ end → line ≡ divider →
     split ≡ true → HasRead text width split true (end + 1) s
-HasRead-divider text width split start end s h line next length_is is wanted =
-    let spells : spelled false s ++ line ∷ [] ≡ spelled true s =
-    ap (λ (l : List ℕ). map digits_of s.stem ++ l ∷ []) is ∙ ap
-    (λ (lap : List (List Bool)). map digits_of s.stem ++ divider ∷ map digits_of lap) (sym (h.no_lap refl)) in
+HasRead-divider {text} {width} {split} {start} {end} {s} h {line} next length_is is wanted =
+    let spells : spelled false s ++ line ∷ [] ≡ spelled true s = ap (λ (l : List ℕ). map digits_of s.stem ++ l ∷ []) is
+    ∙ ap (λ (lap : List (List Bool)). map digits_of s.stem ++ divider ∷ map digits_of lap) (sym (h.no_lap refl)) in
     record {
-      lines = pushed text width split false start end s h line next length_is
-          ∙ ap (λ (front : List (List ℕ)). front ++ lines_of (drop (end + 1) text)) spells;
-      start_is = end_is text width split false start end s h line next length_is ∙ ap extent spells;
+      lines = pushed h next length_is ∙ ap (λ (front : List (List ℕ)). front ++ lines_of (drop (end + 1) text)) spells;
+      start_is = end_is h next length_is ∙ ap extent spells;
       stem_widths = h.stem_widths;
       lap_widths = h.lap_widths;
       wanted = λ e. wanted;
@@ -171,24 +168,24 @@ HasRead-divider text width split start end s h line next length_is is wanted =
     }
 
 -- a letter's line is no divider that is wanted
-pub not_divides : (text : List ℕ) (width : ℕ) (split in_lap : Bool) (start : ℕ) (s : StimulusData) →
+pub not_divides : {text : List ℕ} {width : ℕ} {split : Bool} (in_lap : Bool) {start : ℕ} {s : StimulusData} →
     HasRead text width split in_lap start s
     → (in_lap ≡ true) ⊎ (¬ (slice_get (lines_of text) (length (spelled in_lap s)) ≡ Some divider) ⊎ (split ≡ false)) →
     ¬ Divides split (lines_of text) (length (spelled in_lap s))
-not_divides text width split true start s h (inl e) d =
-    let at = divides_at split s (lines_of (drop start text)) (lines_of text) h.lines (h.wanted refl) in
+not_divides {text} {split} true {start} {s} h (inl e) d =
+    let at = divides_at s (lines_of (drop start text)) (lines_of text) h.lines (h.wanted refl) in
     d.first (length s.stem) (omega (
       arith,
       length-map s.stem digits_of,
       length-append (map digits_of s.stem) (divider ∷ map digits_of s.lap),
     )) at.there
-not_divides text width split false start s h (inl e) d = cc
-not_divides text width split in_lap start s h (inr (inl other)) d = other d.there
-not_divides text width split in_lap start s h (inr (inr plain)) d = (let e = d.wanted in cc)
+not_divides false h (inl e) d = cc
+not_divides in_lap h (inr (inl other)) d = other d.there
+not_divides in_lap h (inr (inr plain)) d = (let e = d.wanted in cc)
 
 -- ## The end
 
-module _ (text : List ℕ) (width : ℕ) (split in_lap : Bool) (start : ℕ) (s : StimulusData)
+module _ {text : List ℕ} {width : ℕ} {split in_lap : Bool} {start : ℕ} {s : StimulusData}
     (h : HasRead text width split in_lap start s) (past : length text ≤ start) where
   all_lines : lines_of text ≡ spelled in_lap s
   all_lines = h.lines ∙ ap (λ (bytes : List ℕ). spelled in_lap s ++ lines_of bytes) (drop_all start text past)
@@ -202,26 +199,24 @@ module _ (text : List ℕ) (width : ℕ) (split in_lap : Bool) (start : ℕ) (s 
     no_lap = λ plain. h.no_lap (e ∙ plain);
   }
 
-pub IsFirst-end : (text : List ℕ) (width : ℕ) (split : Bool) (start : ℕ) (s : StimulusData) →
+pub IsFirst-end : {text : List ℕ} {width : ℕ} {split : Bool} {start : ℕ} {s : StimulusData} →
     HasRead text width split false start s → length text ≤ start → split ≡ true
     → IsFirst (Stands text width split) Stimulus (length text)
-IsFirst-end text width split start s h past wanted = record {
+IsFirst-end {text} {width} {split} {start} {s} h past wanted = record {
   stands = inr (record {
     wanted = wanted;
     none =
-        λ k there. no_divider s.stem k (ap (λ (ls : List (List ℕ)). slice_get ls k)
-        (sym (all_lines text width split false start s h past)) ∙ there);
+        λ k there. no_divider s.stem k (ap (λ (ls : List (List ℕ)). slice_get ls k) (sym (all_lines h past)) ∙ there);
     cause_is = refl;
     offset_is = refl;
   });
   least = λ other there stands. elim stands [
-    | inl l ↦ absurd (no_cause split false s [] (lines_of text) width
-        (all_lines text width split false start s h past ∙ sym (append-nil (map digits_of s.stem))) h.stem_widths
-        h.lap_widths h.wanted
-        l.k l.line _ other there (omega (
+    | inl l ↦ absurd (no_cause false s [] (lines_of text) width
+        (all_lines h past ∙ sym (append-nil (map digits_of s.stem))) h.stem_widths h.lap_widths h.wanted l.k l.line _
+        other there (omega (
           arith,
           slice_get_within (lines_of text) l.k l.line l.is_letter.there,
-          ap length (all_lines text width split false start s h past),
+          ap length (all_lines h past),
         )) l.is_letter l.in_line)
     | inr m ↦ inr (sym m.offset_is, omega arith)
   ];
@@ -245,14 +240,14 @@ pub letters_of-push : (letters : List (Vec Bool Global)) (letter : Vec Bool Glob
 letters_of-push letters letter = map_push (λ (l : Vec Bool Global). l.items) letters letter
 
 -- the fault of a line is the answer to the text
-pub IsStimulusAnswer-line : (text : List ℕ) (width : ℕ) (split in_lap : Bool) (start end : ℕ) (s : StimulusData) →
-    HasRead text width split in_lap start s → (line : List ℕ)
+pub IsStimulusAnswer-line : {text : List ℕ} {width : ℕ} {split in_lap : Bool} {start end : ℕ} {s : StimulusData} →
+    HasRead text width split in_lap start s → {line : List ℕ}
     → lines_of (drop start text) ≡ line ∷ lines_of (drop (end + 1) text) → start + length line ≡ end →
     start < length text → end ≤ length text
     → (in_lap ≡ true) ⊎ (¬ (slice_get (lines_of text) (length (spelled in_lap s)) ≡ Some divider) ⊎ (split ≡ false))
     → (fault : StimulusFault) → ReadsLine line start width (Err fault) → IsStimulusAnswer text width split (Err fault)
-IsStimulusAnswer-line text width split in_lap start end s h line next length_is some within plain
+IsStimulusAnswer-line {text} {width} {split} {in_lap} {start} {end} {s} h {line} next length_is some within plain
     (Text cause offset) first =
-    IsFirst-in_line text width split in_lap start end s h line next length_is some within
-    (not_divides text width split in_lap start s h plain) cause offset first
-IsStimulusAnswer-line text width split in_lap start end s h line next length_is some within plain OutOfMemory first = tt
+    IsFirst-in_line h next length_is some within
+    (not_divides in_lap h plain) first
+IsStimulusAnswer-line h next length_is some within plain OutOfMemory first = tt

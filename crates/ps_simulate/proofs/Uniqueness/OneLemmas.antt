@@ -1,6 +1,6 @@
 -- A circuit has values, and no others.
 use Rattle.std.proofs.Common.{◌≡◌, ℕ, zero, suc, ◌+◌, ◌-◌, ◌⊎◌, ◌%◌, ◌<◌, ◌≤◌, ◌&&◌, ◌==◌, Bool, false, not, cond, inl}
-use Rattle.std.proofs.Common.{inr, List, ◌++◌, map, length, get_or, refl, sym, ap, ap₂, subst, ◌∙◌, arith, Some}
+use Rattle.std.proofs.Common.{inr, List, ◌++◌, length, get_or, refl, sym, ap, ap₂, subst, ◌∙◌, arith, Some}
 use Rattle.std.proofs.Common.{length-append}
 use Rattle.std.specs.Prelude.{slice_get, replicate}
 use Rattle.std.proofs.lemmas.List.{length-map, length-replicate, get_or-map}
@@ -11,16 +11,15 @@ use Rattle.ps_components.specs.Orders.{IsOrder}
 use Rattle.ps_circuit.specs.Circuits.{CircuitData, IsCircuit, IsKnown, ReadsGate, definitions}
 use Rattle.ps_circuit.specs.Literals.{variable}
 use Rattle.ps_circuit.specs.Values.{AreValues, HasOneValues, value_of, bit_of}
-use Rattle.ps_simulate.specs.Plans.{row_at, no_gate}
+use Rattle.ps_simulate.specs.Plans.{no_gate}
 use Rattle.ps_simulate.proofs.PlacesLemmas.{sides_known}
 use Rattle.ps_simulate.proofs.RowLemmas.{no_latch, length-definitions, length-variables, definitions_input}
 use Rattle.ps_simulate.proofs.RowLemmas.{definitions_latch, definitions_gate}
-use Rattle.ps_simulate.proofs.ValueLemmas.{bit_of-definition, first_table, Holds-first_table, AreValues-work_out}
+use Rattle.ps_simulate.proofs.ValueLemmas.{bit_of-definition, Holds-first_table, AreValues-work_out}
 
-module _ (c : CircuitData) (is : IsCircuit c) (order : List ℕ)
-    (is_order : IsOrder (ReadsGate c.gates) (length c.gates) order)
-    (inputs latches values others : List Bool) (a : AreValues c inputs latches values)
-    (b : AreValues c inputs latches others) where
+module _ {c : CircuitData} (is : IsCircuit c) {order : List ℕ}
+    (is_order : IsOrder (ReadsGate c.gates) (length c.gates) order) {inputs latches values others : List Bool}
+    (a : AreValues c inputs latches values) (b : AreValues c inputs latches others) where
   abbrev Same : ℕ → Type 0
   Same v = value_of values v ≡ value_of others v
 
@@ -28,20 +27,18 @@ module _ (c : CircuitData) (is : IsCircuit c) (order : List ℕ)
   bit_same literal e = ap (λ (x : Bool). cond (literal % 2 == 1) (not x) x) e
 
   -- literals that define variables agree where their bits do
-  at_definition : (k literal : ℕ) → k < length (definitions c) → get_or (definitions c) k 0 ≡ literal →
+  at_definition : (k : ℕ) {literal : ℕ} → k < length (definitions c) → get_or (definitions c) k 0 ≡ literal →
       bit_of values literal ≡ bit_of others literal → Same (variable literal)
-  at_definition k literal lt e same =
-      sym (bit_of-definition c is values k literal lt e) ∙ same ∙ bit_of-definition c is others k literal lt e
+  at_definition k {literal} lt e same =
+      sym (bit_of-definition is values k lt e) ∙ same ∙ bit_of-definition is others k lt e
 
   input_same : (k : ℕ) → k < length c.inputs → Same (variable (get_or c.inputs k 0))
-  input_same k lt =
-      at_definition k _ (omega (arith, length-definitions c)) (definitions_input c k lt)
+  input_same k lt = at_definition k (omega (arith, length-definitions c)) (definitions_input c k lt)
       (sym (get_or-map (bit_of values) c.inputs k 0 false lt) ∙ ap (λ bits. get_or bits k false)
       (a.inputs_are ∙ sym b.inputs_are) ∙ get_or-map (bit_of others) c.inputs k 0 false lt)
 
   latch_same : (k : ℕ) → k < length c.latches → Same (variable (get_or c.latches k no_latch).literal)
-  latch_same k lt =
-      at_definition (length c.inputs + k) _ (omega (arith, length-definitions c)) (definitions_latch c k lt)
+  latch_same k lt = at_definition (length c.inputs + k) (omega (arith, length-definitions c)) (definitions_latch c k lt)
       (sym (get_or-map (λ (l : Latch). bit_of values l.literal) c.latches k no_latch false lt)
       ∙ ap (λ bits. get_or bits k false) (a.latches_are ∙ sym b.latches_are)
       ∙ get_or-map (λ (l : Latch). bit_of others l.literal) c.latches k no_latch false lt)
@@ -63,14 +60,12 @@ module _ (c : CircuitData) (is : IsCircuit c) (order : List ℕ)
       which : (k < length c.inputs) ⊎ (length c.inputs ≤ k) → (k < length c.inputs + length c.latches) ⊎
           (length c.inputs + length c.latches ≤ k) → Same (variable literal)
       which (inl first) _ = subst Same (ap variable (sym (definitions_input c k first)) ∙ same) (input_same k first)
-      which (inr behind) (inl second) =
-          (let j = k - length c.inputs in
+      which (inr behind) (inl second) = (let j = k - length c.inputs in
           let less : j < length c.latches = omega arith in
           let there : length c.inputs + j ≡ k = omega arith in
           subst Same (ap variable (sym (definitions_latch c j less) ∙ ap (λ n. get_or (definitions c) n 0) there)
           ∙ same) (latch_same j less))
-      which (inr behind) (inr third) =
-          (let i = k - (length c.inputs + length c.latches) in
+      which (inr behind) (inr third) = (let i = k - (length c.inputs + length c.latches) in
           let less : i < length c.gates = omega (arith, within, length-definitions c) in
           let there : length c.inputs + length c.latches + i ≡ k = omega arith in
           gate i less (sym (ap variable (sym (definitions_gate c i less) ∙ ap (λ n. get_or (definitions c) n 0) there)
@@ -90,23 +85,20 @@ module _ (c : CircuitData) (is : IsCircuit c) (order : List ℕ)
 
       meets : ((l : ℕ) → l < n → l < length order → Same (variable (get_or c.gates (get_or order l 0) no_gate).literal))
           → Same (variable (get_or c.gates (get_or order k 0) no_gate).literal)
-      meets before =
-          (let i = get_or order k 0 in
+      meets before = (let i = get_or order k 0 in
           let g = get_or c.gates i no_gate in
-          let sides = sides_known c is i no_gate g_within in
+          let sides = sides_known is i no_gate g_within in
           let earlier : (literal j : ℕ) → j < length c.gates → (variable g.first ≡ variable literal) ⊎
           (variable g.second ≡ variable literal) → variable literal ≡ variable (get_or c.gates j no_gate).literal →
           Same (variable literal) =
           (λ literal j less side e.
           let there = is_order.each j less in
-          let lower : there.0 < k =
-          is_order.behind k there.0 i j (at k within) there.1 (record {
+          let lower : there.0 < k = is_order.behind k there.0 i j (at k within) there.1 (record {
             reader = g;
             read = get_or c.gates j no_gate;
             at_i = slice_get-get_or c.gates i no_gate g_within;
             at_j = slice_get-get_or c.gates j no_gate less;
-            side =
-                elim side [ inl x ↦ inl (x ∙ e) | inr x ↦ inr (x ∙ e) ];
+            side = elim side [ inl x ↦ inl (x ∙ e) | inr x ↦ inr (x ∙ e) ];
           }) in
           let found : get_or order there.0 0 ≡ j = get_or_from_slice_get order there.0 j 0 there.1 in
           subst Same (ap (λ m. variable (get_or c.gates m no_gate).literal) found ∙ sym e)
@@ -116,7 +108,7 @@ module _ (c : CircuitData) (is : IsCircuit c) (order : List ℕ)
           let second : bit_of values g.second ≡ bit_of others g.second =
           bit_same g.second (side_same g.second sides.1 (λ j less e. earlier g.second j less (inr refl) e)) in
           let here = length c.inputs + length c.latches + i in
-          at_definition here g.literal (omega (arith, g_within, length-definitions c)) (definitions_gate c i g_within)
+          at_definition here (omega (arith, g_within, length-definitions c)) (definitions_gate c i g_within)
           (a.gates_are i no_gate g_within ∙ ap₂ ◌&&◌ first second ∙ sym (b.gates_are i no_gate g_within)))
 
   pub bit_of-one : (literal : ℕ) → IsKnown (definitions c) literal → bit_of values literal ≡ bit_of others literal
@@ -124,27 +116,24 @@ module _ (c : CircuitData) (is : IsCircuit c) (order : List ℕ)
     where
       gate : (i : ℕ) → i < length c.gates → variable literal ≡ variable (get_or c.gates i no_gate).literal →
           Same (variable literal)
-      gate i less e =
-          (let there = is_order.each i less in
+      gate i less e = (let there = is_order.each i less in
           let found : get_or order there.0 0 ≡ i = get_or_from_slice_get order there.0 i 0 there.1 in
           subst Same (ap (λ m. variable (get_or c.gates m no_gate).literal) found ∙ sym e)
           (gates_same (suc there.0) there.0 (omega arith) (slice_get_within order there.0 i there.1)))
 
-pub HasOneValues-circuit : (c : CircuitData) → IsCircuit c → (order : List ℕ) →
+pub HasOneValues-circuit : {c : CircuitData} → IsCircuit c → {order : List ℕ} →
     IsOrder (ReadsGate c.gates) (length c.gates) order → HasOneValues c
-HasOneValues-circuit c is order is_order = record {
+HasOneValues-circuit {c} is {order} is_order = record {
   some = λ inputs latches many_inputs many_latches. (
     _,
-    AreValues-work_out c is (map (row_at c) order) (record { order = order; is_order = is_order; each = refl }) inputs
-        latches (first_table c inputs latches)
-        (omega (
-          arith,
-          length-variables c,
-          length-append (inputs ++ latches) (replicate (length c.gates) false),
-          length-append inputs latches,
-          length-replicate (length c.gates) false,
-        )) many_inputs many_latches
+    AreValues-work_out is (record { order = order; is_order = is_order; each = refl }) (omega (
+      arith,
+      length-variables c,
+      length-append (inputs ++ latches) (replicate (length c.gates) false),
+      length-append inputs latches,
+      length-replicate (length c.gates) false,
+    )) many_inputs many_latches
         (Holds-first_table c inputs latches),
   );
-  one = λ inputs latches values others a b. bit_of-one c is order is_order inputs latches values others a b;
+  one = λ inputs latches values others a b. bit_of-one is is_order a b;
 }

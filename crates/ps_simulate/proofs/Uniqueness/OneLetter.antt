@@ -29,8 +29,8 @@ side Environment false = inr refl
 
 module _ (role : Role) (names : List (List ℕ)) (controllable : List ℕ) (c : CircuitData)
     (has : HasSymbols role names controllable c) where
-  one_letter : (m : Moment) (a b : ℕ) → IsLetterOf names c m a → IsLetterOf names c m b → a ≡ b
-  one_letter m a b h k = same_from_bits_below (length names) a b h.few k.few
+  one_letter : {m : Moment} {a b : ℕ} → IsLetterOf names c m a → IsLetterOf names c m b → a ≡ b
+  one_letter {a} {b} h k = same_from_bits_below (length names) a b h.few k.few
       (λ p lt. one_bit (bit_at a p) (bit_at b p) (bit_at-lt a p) (bit_at-lt b p)
       (elim (side role (is_among p controllable)) [
         | inl input ↦ let s = has.inputs.each p lt input in h.inputs s.0 p s.1 ∙ sym (k.inputs s.0 p s.1)
@@ -41,5 +41,4 @@ module _ (role : Role) (names : List (List ℕ)) (controllable : List ℕ) (c : 
   one_letters [] us vs a b = a ∙ sym b
   one_letters (m ∷ ms) [] vs a b = absurd a
   one_letters (m ∷ ms) (u ∷ us) [] a b = absurd b
-  one_letters (m ∷ ms) (u ∷ us) (v ∷ vs) a b =
-      ap₂ (λ x xs. x ∷ xs) (one_letter m u v a.0 b.0) (one_letters ms us vs a.1 b.1)
+  one_letters (m ∷ ms) (u ∷ us) (v ∷ vs) a b = ap₂ (λ x xs. x ∷ xs) (one_letter a.0 b.0) (one_letters ms us vs a.1 b.1)

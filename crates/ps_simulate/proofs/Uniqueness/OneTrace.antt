@@ -9,18 +9,18 @@ use Rattle.ps_simulate.proofs.RowLemmas.{no_latch}
 
 -- ---- lists
 
-pub heads_same : {X : Type 0} (x y : X) (xs ys : List X) → x ∷ xs ≡ y ∷ ys → x ≡ y
-heads_same x y xs ys e = ap (λ l. get_or l 0 x) e
+pub heads_same : {X : Type 0} {x y : X} {xs ys : List X} → x ∷ xs ≡ y ∷ ys → x ≡ y
+heads_same {x} e = ap (λ l. get_or l 0 x) e
 
-pub tails_same : {X : Type 0} (x y : X) (xs ys : List X) → x ∷ xs ≡ y ∷ ys → xs ≡ ys
-tails_same x y xs ys e = ap (drop 1) e
+pub tails_same : {X : Type 0} {x y : X} {xs ys : List X} → x ∷ xs ≡ y ∷ ys → xs ≡ ys
+tails_same e = ap (drop 1) e
 
 abbrev has_some : {X : Type 0} → List X → Bool
 has_some [] = false
 has_some (x ∷ xs) = true
 
-empty_is_not_more : {X : Type 0} (x : X) (xs : List X) → [] ≡ x ∷ xs → ⊥
-empty_is_not_more x xs e = let bad : false ≡ true = ap (λ l. has_some l) e in cc
+empty_is_not_more : {X : Type 0} {x : X} {xs : List X} → [] ≡ x ∷ xs → ⊥
+empty_is_not_more e = let bad : false ≡ true = ap (λ l. has_some l) e in cc
 
 maps_agree : {A : Type 0} (f g : A → Bool) (xs : List A) (d : A) →
     ((k : ℕ) → k < length xs → f (get_or xs k d) ≡ g (get_or xs k d)) → map f xs ≡ map g xs
@@ -40,9 +40,9 @@ module _ (c : CircuitData) (is : IsCircuit c) (one : HasOneValues c) where
   steps_agree latches inputs outputs next outputs' next' a b =
       let agree = one.one inputs latches a.values b.values a.are_values b.are_values in
       let outputs_agree = maps_agree (bit_of a.values) (bit_of b.values) c.outputs 0
-      (λ k lt. agree _ (output_known c is k 0 lt)) in
+      (λ k lt. agree _ (output_known is k 0 lt)) in
       let next_agree = maps_agree (λ (l : Latch). bit_of a.values l.next) (λ (l : Latch). bit_of b.values l.next)
-      c.latches no_latch (λ k lt. agree _ (next_known c is k no_latch lt)) in
+      c.latches no_latch (λ k lt. agree _ (next_known is k no_latch lt)) in
       (a.outputs_are ∙ outputs_agree ∙ sym b.outputs_are, a.next_are ∙ next_agree ∙ sym b.next_are)
 
   -- two first moments with the same inputs, and the latches behind them
@@ -59,10 +59,10 @@ module _ (c : CircuitData) (is : IsCircuit c) (one : HasOneValues c) where
   pub runs_agree : (latches last last' : List Bool) (ms ns : List Moment) → GoesOn c latches ms last →
       GoesOn c latches ns last' → map (λ m. m.inputs) ms ≡ map (λ m. m.inputs) ns → (ms ≡ ns) × (last ≡ last')
   runs_agree latches last last' [] [] a b same = (refl, sym a ∙ b)
-  runs_agree latches last last' [] (n ∷ ns) a b same = absurd (empty_is_not_more _ _ same)
-  runs_agree latches last last' (m ∷ ms) [] a b same = absurd (empty_is_not_more _ _ (sym same))
+  runs_agree latches last last' [] (n ∷ ns) a b same = absurd (empty_is_not_more same)
+  runs_agree latches last last' (m ∷ ms) [] a b same = absurd (empty_is_not_more (sym same))
   runs_agree latches last last' (m ∷ ms) (n ∷ ns) (next, at, steps, rest) (next', at', steps', rest') same =
-      let first = firsts_agree latches next next' m n at at' steps steps' (heads_same _ _ _ _ same) in
+      let first = firsts_agree latches next next' m n at at' steps steps' (heads_same same) in
       let there = subst (λ (from : List Bool). GoesOn c from ns last') (sym first.1) rest' in
-      let others = runs_agree next last last' ms ns rest there (tails_same _ _ _ _ same) in
+      let others = runs_agree next last last' ms ns rest there (tails_same same) in
       (ap₂ (λ x xs. x ∷ xs) first.0 others.0, others.1)

@@ -29,7 +29,7 @@ laps_front lap j (suc n) le = elim (cases_eq j (suc n)) [
       (rest.0 ++ lap, ap (λ ls. ls ++ lap) rest.1 ∙ append_assoc (laps_of lap j) rest.0 lap)
 ]
 
-module _ (c : CircuitData) (is_circuit : IsCircuit c) (one : HasOneValues c) where
+module _ {c : CircuitData} (is_circuit : IsCircuit c) (one : HasOneValues c) where
   abbrev Behind : List Moment → List Bool → List Moment → List Bool → List (List Bool) → Type 0
   Behind ms last ns last' more =
       (rest : List Moment) × (ns ≡ ms ++ rest) × GoesOn c last rest last' × (map (λ m. m.inputs) rest ≡ more)
@@ -42,11 +42,10 @@ module _ (c : CircuitData) (is_circuit : IsCircuit c) (one : HasOneValues c) whe
       (ns, refl, subst (λ (from : List Bool). GoesOn c from ns last') a b, same)
   goes_behind latches last last' (m ∷ ms) [] more a b same = absurd (cc)
   goes_behind latches last last' (m ∷ ms) (n ∷ ns) more (next, at, steps, rest) (next', at', steps', rest') same =
-      let inputs_same : m.inputs ≡ n.inputs = sym (heads_same _ _ _ _ same) in
+      let inputs_same : m.inputs ≡ n.inputs = sym (heads_same same) in
       let first = firsts_agree c is_circuit one latches next next' m n at at' steps steps' inputs_same in
       let there = subst (λ (from : List Bool). GoesOn c from ns last') (sym first.1) rest' in
-      let others : Behind ms last ns last' more =
-      goes_behind next last last' ms ns more rest there (tails_same _ _ _ _ same) in
+      let others : Behind ms last ns last' more = goes_behind next last last' ms ns more rest there (tails_same same) in
       (others.0, ap₂ (λ x xs. x ∷ xs) (sym first.0) others.1, others.2, others.3)
 
   no_letters : (ms : List Moment) → map (λ m. m.inputs) ms ≡ [] → ms ≡ []
@@ -70,15 +69,13 @@ module _ (c : CircuitData) (is_circuit : IsCircuit c) (one : HasOneValues c) whe
         (latches_along ms a.last) t [] =
         λ t within. ap (λ (ls : List Moment). get_or (latches_along ls b.last) t []) behind.1
         ∙ along_more c ms behind.0 a.last b.last t behind.2 within in
-        b.first i j a.earlier lt
-        (at (length stem + i * length lap) (omega (arith, size, le)) ∙ a.returns ∙ sym (at_end ms a.last)
-        ∙ sym (at (length ms) (omega arith))
+        b.first i j a.earlier lt (at (length stem + i * length lap) (omega (arith, size, le)) ∙ a.returns
+        ∙ sym (at_end ms a.last) ∙ sym (at (length ms) (omega arith))
         ∙ ap (λ t. get_or (latches_along ns b.last) t []) size)
 
     one_first : (i i' j : ℕ) (ms : List Moment) → (a : Repeats c stem lap i j ms) (b : Repeats c stem lap i' j ms) →
         a.last ≡ b.last → i < i' → ⊥
-    one_first i i' j ms a b same lt =
-        a.first i i' lt b.earlier (a.returns ∙ same ∙ sym b.returns
+    one_first i i' j ms a b same lt = a.first i i' lt b.earlier (a.returns ∙ same ∙ sym b.returns
         ∙ ap (λ (ls : List Bool). latches_before stem lap ms ls i') (sym same))
 
     one_repetition : (i j i' j' : ℕ) (ms ns : List Moment) → Repeats c stem lap i j ms → Repeats c stem lap i' j' ns →
@@ -115,12 +112,11 @@ one_truth true b P h k = sym (k.1 (h.0 refl))
 one_truth false true P h k = h.1 (k.0 refl)
 one_truth false false P h k = refl
 
-pub one_verdict : (role : Role) (file : FileData) (c : CircuitData) (stem lap : List (List Bool)) (v w : Verdict) →
-    IsCircuit c → HasOneValues c
-    → HasSymbols role file.names file.controllable c → IsVerdictOf file c stem lap v →
+pub one_verdict : {role : Role} {file : FileData} {c : CircuitData} {stem lap : List (List Bool)} {v w : Verdict} →
+    IsCircuit c → HasOneValues c → HasSymbols role file.names file.controllable c → IsVerdictOf file c stem lap v →
     IsVerdictOf file c stem lap w → v ≡ w
-one_verdict role file c stem lap v w is one has a b =
-    let same = one_repetition c is one stem lap a.i a.j b.i b.j a.trace b.trace a.repeats b.repeats in
+one_verdict {role} {file} {c} {stem} {lap} {v} {w} is one has a b =
+    let same = one_repetition is one stem lap a.i a.j b.i b.j a.trace b.trace a.repeats b.repeats in
     let letters : a.letters ≡ b.letters =
     one_letters role file.names file.controllable c has b.trace a.letters b.letters
     (subst (λ (ms : List Moment). AreLetters file.names c ms a.letters) same.2 a.are_letters) b.are_letters in

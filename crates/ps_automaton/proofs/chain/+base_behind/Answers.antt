@@ -7,57 +7,42 @@ use Rattle.ps_automaton.proofs.chain.+base_behind.Goals as goal
 
 pub returns-in-All-2 : goal.returns-in-All-2
 returns-in-All-2 t c =
-    let whole =
-    behind_any c.args.condition.now c.in-Any.operands c.deref.result.now c.args.links.now.items c.in-Any.is
-    c.deref.ensures.value in
-    sym (whole ∙ all_gathered true c.deref.result.now c.args.links.now.items c.gather.new.links.items
-    c.in_ok-gather-in-Any.field-0 c.in-All-2.is (c.in_ok-gather-in-Any.ensures))
+    let whole = behind_any c.in-Any.operands c.args.links.now.items c.in-Any.is c.deref.ensures.value in
+    sym (whole ∙ all_gathered true c.deref.result.now c.args.links.now.items c.gather.new.links.items c.in-All-2.is
+    (c.in_ok-gather-in-Any.ensures))
 
 pub returns-in-AllBut : goal.returns-in-AllBut
 returns-in-AllBut t c =
-    let whole =
-    behind_any c.args.condition.now c.in-Any.operands c.deref.result.now c.args.links.now.items c.in-Any.is
-    c.deref.ensures.value in
+    let whole = behind_any c.in-Any.operands c.args.links.now.items c.in-Any.is c.deref.ensures.value in
     let is =
-    but_gathered true c.deref.result.now c.in-Any.operands.items c.args.links.now.items c.gather.new.links.items
-    c.in_ok-gather-in-Any.field-0 c.in-AllBut.k c.index.result.now c.in-AllBut.is c.deref.ensures.value
+    but_gathered true c.args.links.now.items c.gather.new.links.items c.in-AllBut.k c.in-AllBut.is c.deref.ensures.value
     c.index.ensures (c.in_ok-gather-in-Any.ensures) in
     subst (λ (chain : Option Chain). IfOk c.base_behind.result
     (λ base. with_base c.base_behind.new.links.items base ≡ chain)) (is ∙ sym whole) c.base_behind.ensures
 
 pub returns-in-TooFew : goal.returns-in-TooFew
 returns-in-TooFew t c =
-    let whole =
-    behind_any c.args.condition.now c.in-Any.operands c.deref.result.now c.args.links.now.items c.in-Any.is
-    c.deref.ensures.value in
-    sym (whole ∙ too_few_gathered true c.deref.result.now c.args.links.now.items c.gather.new.links.items
-    c.in_ok-gather-in-Any.field-0 c.in-TooFew.is (c.in_ok-gather-in-Any.ensures))
+    let whole = behind_any c.in-Any.operands c.args.links.now.items c.in-Any.is c.deref.ensures.value in
+    sym (whole ∙ too_few_gathered true c.deref.result.now c.args.links.now.items c.gather.new.links.items c.in-TooFew.is
+    (c.in_ok-gather-in-Any.ensures))
 
 pub returns-in-All-3 : goal.returns-in-All-3
 returns-in-All-3 t c =
-    let whole =
-    behind_all c.args.condition.now c.in-All.operands c.deref-in-All.result.now c.args.links.now.items c.in-All.is
-    c.deref-in-All.ensures.value in
+    let whole = behind_all c.in-All.operands c.args.links.now.items c.in-All.is c.deref-in-All.ensures.value in
     sym (whole ∙ all_gathered false c.deref-in-All.result.now c.args.links.now.items c.gather-in-All.new.links.items
-    c.in_ok-gather-in-All.field-0 c.in-All-3.is (c.in_ok-gather-in-All.ensures))
+    c.in-All-3.is (c.in_ok-gather-in-All.ensures))
 
 pub returns-in-AllBut-2 : goal.returns-in-AllBut-2
 returns-in-AllBut-2 t c =
-    let whole =
-    behind_all c.args.condition.now c.in-All.operands c.deref-in-All.result.now c.args.links.now.items c.in-All.is
-    c.deref-in-All.ensures.value in
-    let is =
-    but_gathered false c.deref-in-All.result.now c.in-All.operands.items c.args.links.now.items
-    c.gather-in-All.new.links.items c.in_ok-gather-in-All.field-0 c.in-AllBut-2.k c.index-in-AllBut-2.result.now
-    c.in-AllBut-2.is c.deref-in-All.ensures.value c.index-in-AllBut-2.ensures (c.in_ok-gather-in-All.ensures) in
+    let whole = behind_all c.in-All.operands c.args.links.now.items c.in-All.is c.deref-in-All.ensures.value in
+    let is = but_gathered false c.args.links.now.items c.gather-in-All.new.links.items c.in-AllBut-2.k c.in-AllBut-2.is
+    c.deref-in-All.ensures.value c.index-in-AllBut-2.ensures (c.in_ok-gather-in-All.ensures) in
     subst (λ (chain : Option Chain). IfOk c.base_behind-in-AllBut-2.result
     (λ base. with_base c.base_behind-in-AllBut-2.new.links.items base ≡ chain)) (is ∙ sym whole)
     c.base_behind-in-AllBut-2.ensures
 
 pub returns-in-TooFew-2 : goal.returns-in-TooFew-2
 returns-in-TooFew-2 t c =
-    let whole =
-    behind_all c.args.condition.now c.in-All.operands c.deref-in-All.result.now c.args.links.now.items c.in-All.is
-    c.deref-in-All.ensures.value in
+    let whole = behind_all c.in-All.operands c.args.links.now.items c.in-All.is c.deref-in-All.ensures.value in
     sym (whole ∙ too_few_gathered false c.deref-in-All.result.now c.args.links.now.items c.gather-in-All.new.links.items
-    c.in_ok-gather-in-All.field-0 c.in-TooFew-2.is (c.in_ok-gather-in-All.ensures))
+    c.in-TooFew-2.is (c.in_ok-gather-in-All.ensures))

@@ -2,7 +2,7 @@ use Rattle.std.proofs.Common.{◌≡◌, List, Some, map, sym, ap, ◌∙◌}
 use Rattle.std.specs.List.{slice_get}
 use Rattle.std.specs.Option.{option_map}
 use Rattle.std.proofs.lemmas.Option.{slice_get-map}
-use Rattle.ps_hoa.specs.Views.{edge_data, guard_data, row_data}
+use Rattle.ps_hoa.specs.Views.{edge_data, guard_data}
 use Rattle.ps_hoa.specs.declared.file.Edge.{Edge}
 use Rattle.ps_automaton.proofs.Fitting.{by_letters_of}
 use Rattle.ps_automaton.proofs.draft.is_by_letters.Goals as goal
@@ -15,4 +15,4 @@ returns-in-Letter c = λ _ file sound.
     ap (λ (es : List Edge). slice_get es 0) (sym c.deref.ensures.value) ∙ sym c.in-Some.ensures.value in
     let at : slice_get (map edge_data row.edges.items) 0 ≡ Some (edge_data e) =
     slice_get-map edge_data row.edges.items 0 ∙ ap (option_map edge_data) first in
-    by_letters_of file (row_data row) sound (edge_data e) _ at (ap guard_data c.in-Letter.is)
+    by_letters_of sound _ at (ap guard_data c.in-Letter.is)

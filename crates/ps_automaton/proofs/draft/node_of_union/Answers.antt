@@ -19,12 +19,10 @@ relabel-requires-clause-within c = λ letter small.
     (c.requires.within letter small)
 
 pub returns-clause-keeps : goal.returns-clause-keeps
-returns-clause-keeps c =
-    keeps_both c.args.pairs.now.store c.relabel.new.self c.fill.new.self c.relabel.ensures.keeps c.fill.ensures.keeps
+returns-clause-keeps c = keeps_both c.relabel.ensures.keeps c.fill.ensures.keeps
 
 pub returns-clause-within : goal.returns-clause-within
-returns-clause-within c =
-    λ states low. c.in_ok-places.ensures.within states (λ k target e.
+returns-clause-within c = λ states low. c.in_ok-places.ensures.within states (λ k target e.
     low k target (subst (λ (ts : List Target). slice_get ts k ≡ Some target) c.list.ensures e))
 
 pub returns-clause-leaf : goal.returns-clause-leaf

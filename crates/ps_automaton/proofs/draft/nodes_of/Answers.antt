@@ -13,8 +13,7 @@ pub of_aliases-requires : goal.of_aliases-requires
 of_aliases-requires c =
     let file = c.args.file.now in
     record {
-      aliases =
-          subst (AreOverFrom 0 c.args.pairs.now.store.propositions) (sym c.aliases.ensures.value)
+      aliases = subst (AreOverFrom 0 c.args.pairs.now.store.propositions) (sym c.aliases.ensures.value)
           (subst (λ n. AreOverFrom 0 n file.aliases) (sym c.requires.letters)
           (aliases_over 0 (length file.names) file.aliases c.aliases.ensures.well_formed.aliases));
     }
@@ -27,9 +26,6 @@ returns-clause-draft c =
     let steps = c.nodes_of_states.new.pairs.steps.keys in
     let keeps = c.leaf.ensures.keeps in
     let nodes = c.in_ok-nodes.nodes.items in
-    let kept =
-    steps_stay file chain steps steps c.nodes_of_states.new.pairs.store c.leaf.new.self nodes file.states
-    (extends_same steps) keeps made.states in
     let is = c.in_ok-push.ensures.items in
     let size = made.one_each in
     let sink : get_or c.push.new.self.items file.states 0 ≡ c.in_ok-leaf.field-0 =
@@ -41,7 +37,8 @@ returns-clause-draft c =
       states = λ q within.
           let same =
           ap (λ (ns : List ℕ). get_or ns q 0) is ∙ get_or_append_left nodes _ 0 q (omega (arith, within, size)) in
-          subst (IsStepsOf file chain q steps c.leaf.new.self) (sym same) (kept q within);
+          subst (IsStepsOf file chain q steps c.leaf.new.self) (sym same)
+          (steps_stay file chain nodes file.states (extends_same steps) keeps made.states q within);
       sink_held = subst (IsNode c.leaf.new.self) (sym sink) c.in_ok-leaf.ensures.held;
       sink = λ letter. ap (λ node. leaf_of c.leaf.new.self node letter) sink ∙ c.in_ok-leaf.ensures.leaf letter;
     }

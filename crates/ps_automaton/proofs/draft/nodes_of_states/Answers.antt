@@ -7,8 +7,7 @@ use Rattle.ps_automaton.proofs.draft.nodes_of_states.Goals as goal
 
 pub returns-in_err-state_node-clause-refused : goal.returns-in_err-state_node-clause-refused
 returns-in_err-state_node-clause-refused c =
-    let fault =
-    first_fault c.args.source.now.file.now (chain_data c.args.source.now.levels.now.chain)
+    let fault = first_fault c.args.source.now.file.now (chain_data c.args.source.now.levels.now.chain)
     c.loop-state.pairs.steps.keys c.loop-state.pairs.store c.loop-state.nodes.items c.loop-state.state
     c.loop-state.invariant.each in
     let h : IsStateFault c.args.source.now.file.now c.loop-state.state c.in_err-state_node.field-0.0 =
@@ -23,17 +22,12 @@ loop-state-preserved c =
     let g = c.in_ok-state_node.ensures.grows in
     let inv = c.loop-state.invariant in
     let new = c.state_node.new.pairs in
-    let kept =
-    steps_stay file chain c.loop-state.pairs.steps.keys new.steps.keys c.loop-state.pairs.store new.store
-    c.loop-state.nodes.items c.loop-state.state g.extends g.keeps inv.each in
+    let kept = steps_stay file chain c.loop-state.nodes.items c.loop-state.state g.extends g.keeps inv.each in
     record {
       letters = g.keeps.propositions ∙ inv.letters;
-      nodes_of =
-          kept_nodes c.loop-state.pairs.store new.store g.keeps file.aliases c.args.source.now.aliases.now inv.nodes_of;
+      nodes_of = kept_nodes g.keeps inv.nodes_of;
       all_steps = g.steps;
       count = (let n = c.in_ok-push.ensures.len in let m = inv.count in omega (arith, n, m));
-      each =
-          one_more file chain new.steps.keys new.store c.loop-state.nodes.items c.loop-state.state
-          c.in_ok-state_node.field-0 c.push.new.self.items inv.count c.in_ok-push.ensures.items kept
-          c.in_ok-state_node.ensures.node;
+      each = one_more file chain new.steps.keys new.store c.loop-state.nodes.items inv.count c.in_ok-push.ensures.items
+          kept c.in_ok-state_node.ensures.node;
     }

@@ -11,18 +11,16 @@ loop-target-preserved c =
     let old = c.loop-target.steps.keys in
     let new = c.insert_full.new.self.keys in
     let step = c.step_to.result in
-    let more : Extends old new = step_extends old new step c.in_ok-place.ensures.keys in
+    let more : Extends old new = step_extends old step c.in_ok-place.ensures.keys in
     let inv = c.loop-target.invariant in
     let at = slice_get-get_or c.args.targets.now c.loop-target.target-index _ c.loop-target-test.true in
     record {
       extends = extends_both c.args.steps.now.keys old new inv.extends more;
-      within = λ states low a. step_within old new step c.in_ok-place.ensures.keys states
+      within = λ states low a. step_within old step c.in_ok-place.ensures.keys
           (let h = low c.loop-target.target-index _ at in let is : step.state ≡ _ = ap (λ s. s.state) c.step_to.ensures
           in omega (arith, h, is)) (inv.within states low a);
       so_far = (let n = c.in_ok-push.ensures.len in let m = inv.so_far in omega (arith, n, m));
-      each =
-          named_more (chain_data c.args.levels.now.chain) c.args.targets.now old new c.loop-target.places.items
-          c.push.new.self.items c.loop-target.target-index c.in_ok-place.place _ step
-          more (stored_is step_eq step_decides new c.in_ok-place.place step c.in_ok-place.ensures.stored)
-          c.step_to.ensures at inv.so_far c.in_ok-push.ensures.items inv.each;
+      each = named_more (chain_data c.args.levels.now.chain) c.args.targets.now old new c.loop-target.places.items
+          c.in_ok-place.place more (stored_is step_eq step_decides new c.in_ok-place.place step
+          c.in_ok-place.ensures.stored) c.step_to.ensures at inv.so_far c.in_ok-push.ensures.items inv.each;
     }

@@ -15,21 +15,16 @@ label_node-requires-clause-row c =
 pub row_node-requires-clause-ready : goal.row_node-requires-clause-ready
 row_node-requires-clause-ready c = record {
   sound = c.row.ensures.well_formed;
-  row =
-      (row_of_state c.args.source.now.file.now c.row.ensures.well_formed c.args.state (row_data c.in-Some.row.now)
+  row = (row_of_state c.args.source.now.file.now c.row.ensures.well_formed c.args.state (row_data c.in-Some.row.now)
       (sym c.in-Some.ensures.value)).0;
   letters = c.in_ok-label.ensures.keeps.propositions ∙ c.requires.letters;
-  aliases =
-      kept_nodes c.args.pairs.now.store c.label_node.new.store c.in_ok-label.ensures.keeps
-      c.args.source.now.file.now.aliases c.args.source.now.aliases.now c.requires.aliases;
+  aliases = kept_nodes c.in_ok-label.ensures.keeps c.requires.aliases;
   label = c.in_ok-label.ensures.label;
 }
 
 pub returns-clause-grows : goal.returns-clause-grows
 returns-clause-grows c = on_ok_weaker c.row_node.result (λ g. record {
-  keeps =
-      keeps_both c.args.pairs.now.store c.label_node.new.store c.row_node.new.pairs.store
-      c.in_ok-label.ensures.keeps g.keeps;
+  keeps = keeps_both c.in_ok-label.ensures.keeps g.keeps;
   extends = g.extends;
   steps = g.steps;
 }) c.row_node.ensures.grows
@@ -38,6 +33,6 @@ pub returns-clause-refused : goal.returns-clause-refused
 returns-clause-refused c =
     let file = c.args.source.now.file.now in
     let row = row_data c.in-Some.row.now in
-    IfErr-weaker c.row_node.result _ _ (λ f h. fault_of_state file c.args.state row (sym c.in-Some.ensures.value)
+    IfErr-weaker c.row_node.result _ _ (λ f h. fault_of_state file (sym c.in-Some.ensures.value)
     (row_of_state file c.row.ensures.well_formed c.args.state row (sym c.in-Some.ensures.value)).1 f h)
     c.row_node.ensures.refused

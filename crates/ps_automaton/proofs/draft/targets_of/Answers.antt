@@ -11,9 +11,8 @@ pub target_of-requires-clause-edge : goal.target_of-requires-clause-edge
 target_of-requires-clause-edge c =
     let x = c.edge-item in
     let l = c.loop-edge in
-    edge_marks_few c.args.guards.now.file.now c.requires.file (row_data c.args.guards.now.row.now) c.requires.row
-    l.edge-index (edge_data x.result)
-    (edge_at c.args.guards.now.row.now.edges.items l.edge-index x.result
+    edge_marks_few c.requires.file c.requires.row l.edge-index
+    (edge_at c.args.guards.now.row.now.edges.items l.edge-index
     (let n = c.deref-edge-items.ensures.len in omega (arith, n))
     (x.is ∙ ap (λ (es : List Edge). get_or es l.edge-index x.result) c.deref-edge-items.ensures.value))
 
@@ -21,15 +20,12 @@ pub loop-edge-preserved : goal.loop-edge-preserved
 loop-edge-preserved c =
     let x = c.edge-item in
     let l = c.loop-edge in
-    let row = row_data c.args.guards.now.row.now in
-    let at =
-    edge_at c.args.guards.now.row.now.edges.items l.edge-index x.result
+    let at = edge_at c.args.guards.now.row.now.edges.items l.edge-index
     (let n = c.deref-edge-items.ensures.len in omega (arith, n))
     (x.is ∙ ap (λ (es : List Edge). get_or es l.edge-index x.result) c.deref-edge-items.ensures.value) in
     record {
       so_far = (let n = c.in_ok-push.ensures.len in let m = l.invariant.so_far in omega (arith, n, m));
-      each =
-          targets_more row l.targets.items c.push.new.self.items l.edge-index (edge_data x.result) c.target_of.result
+      each = targets_more l.targets.items
           l.invariant.so_far c.in_ok-push.ensures.items at c.target_of.ensures l.invariant.each;
     }
 
@@ -43,7 +39,6 @@ returns c =
     let size = l.invariant.so_far in
     record {
       one_each = size ∙ all;
-      each =
-          λ k edge at. l.invariant.each k edge (let within = slice_get_within row.edges k edge at in
+      each = λ k edge at. l.invariant.each k edge (let within = slice_get_within row.edges k edge at in
           omega (arith, within, all)) at;
     }

@@ -22,8 +22,7 @@ loop-k-init c =
     }
 
 pub bounds-by_set-link : goal.bounds-by_set-link
-bounds-by_set-link c =
-    set_of_link c.args.chain.now.links.items (c.loop-k.k - 1) c.index-link.result.now c.requires
+bounds-by_set-link c = set_of_link c.args.chain.now.links.items (c.loop-k.k - 1) c.requires
     (let w = c.loop-k.invariant.within in let t = c.loop-k-test.true in omega (arith, w, t)) c.index-link.ensures
 
 pub loop-k-preserved : goal.loop-k-preserved
@@ -32,7 +31,7 @@ loop-k-preserved c =
     let base = c.args.chain.now.base in
     let k = c.loop-k.k in
     let link = c.index-link.result.now in
-    let here = link_before links k link c.loop-k-test.true c.loop-k.invariant.within c.index-link.ensures in
+    let here = link_before links k c.loop-k-test.true c.loop-k.invariant.within c.index-link.ensures in
     let small = bounds-by_set-link c in
     let number = c.raised_number-number.ensures ∙ ap (raised link.accepts) c.loop-k.invariant.number in
     let at_most = raised_at_most link.accepts c.loop-k.number in
@@ -40,12 +39,10 @@ loop-k-preserved c =
       within = (let w = c.loop-k.invariant.within in omega (arith, w));
       size = length-set c.loop-k.by_set link.set c.raised_number-number.result ∙ c.loop-k.invariant.size;
       base = c.loop-k.invariant.base;
-      room =
-          (let r = c.loop-k.invariant.room in let e = c.raised_number-number.ensures in let t = c.loop-k-test.true in
+      room = (let r = c.loop-k.invariant.room in let e = c.raised_number-number.ensures in let t = c.loop-k-test.true in
           omega (arith, r, e, at_most, t));
       number = number ∙ ap (first_number base) (sym here);
-      by_set =
-          λ set below. table_step base (link_data link) (drop k (map link_data links)) c.loop-k.by_set
-          c.raised_number-number.result set c.loop-k.invariant.size small number (c.loop-k.invariant.by_set set below)
+      by_set = λ set below. table_step base (link_data link) (drop k (map link_data links)) c.loop-k.by_set set
+          c.loop-k.invariant.size small number (c.loop-k.invariant.by_set set below)
           ∙ ap (λ (ls : List Link). level_by base ls (λ s. nat_eq s set)) (sym here);
     }

@@ -10,50 +10,35 @@ use Rattle.ps_automaton.proofs.Meeting.{clash_differs, clash_meets, meets_clash,
 use Rattle.ps_automaton.proofs.taken.clashes.Goals as goal
 
 pub target_of-requires-clause-edge : goal.target_of-requires-clause-edge
-target_of-requires-clause-edge c =
-    edge_marks_few c.args.guards.now.file.now c.requires.ready.sound (row_data c.args.guards.now.row.now)
-    c.requires.ready.row c.args.first (edge_data c.index-edge.result.now)
-    (edge_at c.args.guards.now.row.now.edges.items c.args.first c.index-edge.result.now (omega arith)
-    c.index-edge.ensures)
+target_of-requires-clause-edge c = edge_marks_few c.requires.ready.sound c.requires.ready.row c.args.first
+    (edge_at c.args.guards.now.row.now.edges.items c.args.first (omega arith) c.index-edge.ensures)
 
 pub target_of-requires-2-clause-edge : goal.target_of-requires-2-clause-edge
-target_of-requires-2-clause-edge c =
-    edge_marks_few c.args.guards.now.file.now c.requires.ready.sound (row_data c.args.guards.now.row.now)
-    c.requires.ready.row c.args.second (edge_data c.index.result.now)
-    (edge_at c.args.guards.now.row.now.edges.items c.args.second c.index.result.now (omega arith) c.index.ensures)
+target_of-requires-2-clause-edge c = edge_marks_few c.requires.ready.sound c.requires.ready.row c.args.second
+    (edge_at c.args.guards.now.row.now.edges.items c.args.second (omega arith) c.index.ensures)
 
 pub taken-requires-clause-fit : goal.taken-requires-clause-fit
-taken-requires-clause-fit c =
-    fits c.args.guards.now.file.now c.requires.ready.sound (row_data c.args.guards.now.row.now) c.requires.ready.row
-    c.args.first (edge_data c.index-edge.result.now)
-    (edge_at c.args.guards.now.row.now.edges.items c.args.first c.index-edge.result.now (omega arith)
-    c.index-edge.ensures)
+taken-requires-clause-fit c = fits c.requires.ready.sound c.requires.ready.row c.args.first
+    (edge_at c.args.guards.now.row.now.edges.items c.args.first (omega arith) c.index-edge.ensures)
 
 pub returns-then-eq-clause-clashing : goal.returns-then-eq-clause-clashing
 returns-then-eq-clause-clashing c =
     let row = row_data c.args.guards.now.row.now in
-    let one = edge_data c.index-edge.result.now in
     let other = edge_data c.index.result.now in
-    let at_one =
-    edge_at c.args.guards.now.row.now.edges.items c.args.first c.index-edge.result.now (omega arith)
-    c.index-edge.ensures in
-    let at_other =
-    edge_at c.args.guards.now.row.now.edges.items c.args.second c.index.result.now (omega arith) c.index.ensures in
+    let at_one = edge_at c.args.guards.now.row.now.edges.items c.args.first (omega arith) c.index-edge.ensures in
+    let at_other = edge_at c.args.guards.now.row.now.edges.items c.args.second (omega arith) c.index.ensures in
     let same : c.target_of-2.result ≡ c.target_of.result =
     sym (target_from_test c.target_of.result c.target_of-2.result (sym c.if-eq.ensures)) in
     let other_is = subst (IsTargetOf row other) same c.target_of-2.ensures in
-    let alike =
-    alike_of_target c.args.guards.now.file.now c.requires.ready.sound row c.requires.ready.row c.args.first
-    c.args.second one other c.target_of.result at_one at_other c.target_of.ensures other_is in (
+    let alike = alike_of_target c.requires.ready.sound c.requires.ready.row c.args.first
+    c.args.second at_one at_other c.target_of.ensures other_is in (
       (λ h. let never : ⊥ = cc in absurd never),
-      (λ k. absurd (clash_differs c.args.guards.now.file.now row c.args.first c.args.second one other at_one
-          at_other k alike)),
+      (λ k. absurd (clash_differs c.args.guards.now.file.now row c.args.first c.args.second at_one at_other k alike)),
     )
 
 pub returns-clause-keeps : goal.returns-clause-keeps
 returns-clause-keeps c =
-    on_ok_weaker c.meet.result (λ k. keeps_both c.args.store.now c.taken.new.store c.meet.new.store
-    c.in_ok-earlier.ensures.keeps k) c.meet.ensures.keeps
+    on_ok_weaker c.meet.result (λ k. keeps_both c.in_ok-earlier.ensures.keeps k) c.meet.ensures.keeps
 
 pub returns-clause-clashing : goal.returns-clause-clashing
 returns-clause-clashing c =
@@ -62,20 +47,13 @@ returns-clause-clashing c =
     let one = edge_data c.index-edge.result.now in
     let other = edge_data c.index.result.now in
     let t = c.taken.new.store in
-    let at_one =
-    edge_at c.args.guards.now.row.now.edges.items c.args.first c.index-edge.result.now (omega arith)
-    c.index-edge.ensures in
-    let at_other =
-    edge_at c.args.guards.now.row.now.edges.items c.args.second c.index.result.now (omega arith) c.index.ensures in
+    let at_one = edge_at c.args.guards.now.row.now.edges.items c.args.first (omega arith) c.index-edge.ensures in
+    let at_other = edge_at c.args.guards.now.row.now.edges.items c.args.second (omega arith) c.index.ensures in
     let keeps = c.in_ok-earlier.ensures.keeps in
     let letters : t.propositions ≡ length file.names = keeps.propositions ∙ c.requires.ready.letters in
-    let shows_other =
-    kept_shows file row other c.args.store.now t c.args.later 1 keeps c.requires.held
-    (c.requires.shows other at_other) in
+    let shows_other = kept_shows file row other 1 keeps c.requires.held (c.requires.shows other at_other) in
     let differ : AreAlike row one other → ⊥ = λ alike.
-    let same =
-    target_of_alike row one other c.target_of.result c.target_of-2.result c.target_of.ensures
-    c.target_of-2.ensures alike in
+    let same = target_of_alike c.target_of.ensures c.target_of-2.ensures alike in
     let test : (eqb c.target_of.result.state c.target_of-2.result.state &&
     eqb c.target_of.result.sets c.target_of-2.result.sets) ≡ true =
     subst (λ (u : Target). (eqb c.target_of.result.state u.state && eqb c.target_of.result.sets u.sets) ≡ true) same
@@ -84,8 +62,8 @@ returns-clause-clashing c =
     eqb c.target_of.result.sets c.target_of-2.result.sets) = c.if-eq.ensures in
     cc in
     IfOk-weaker c.meet.result _ _ (λ both h. (
-      (λ is. meets_clash file row c.args.first c.args.second one other at_one at_other t c.in_ok-earlier.earlier
+      (λ is. meets_clash file row c.args.first c.args.second at_one at_other t c.in_ok-earlier.earlier
           c.args.later c.requires.earlier letters c.in_ok-earlier.ensures.shows shows_other differ (h.0 is)),
-      (λ k. h.1 (clash_meets file row c.args.first c.args.second one other at_one at_other t c.in_ok-earlier.earlier
+      (λ k. h.1 (clash_meets file row c.args.first c.args.second at_one at_other t c.in_ok-earlier.earlier
           c.args.later letters c.in_ok-earlier.ensures.shows shows_other k)),
     )) c.meet.ensures.meet

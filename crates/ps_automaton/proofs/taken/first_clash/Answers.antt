@@ -10,15 +10,12 @@ use Rattle.ps_automaton.proofs.Ready.{kept_ready}
 use Rattle.ps_automaton.proofs.taken.first_clash.Goals as goal
 
 pub taken-requires-clause-fit : goal.taken-requires-clause-fit
-taken-requires-clause-fit c =
-    fits c.args.guards.now.file.now c.requires.ready.sound (row_data c.args.guards.now.row.now) c.requires.ready.row
-    c.args.second (edge_data c.index.result.now)
-    (edge_at c.args.guards.now.row.now.edges.items c.args.second c.index.result.now (omega arith) c.index.ensures)
+taken-requires-clause-fit c = fits c.requires.ready.sound c.requires.ready.row c.args.second
+    (edge_at c.args.guards.now.row.now.edges.items c.args.second (omega arith) c.index.ensures)
 
 pub clashes-requires-clause-ready : goal.clashes-requires-clause-ready
 clashes-requires-clause-ready c =
-    kept_ready c.args.store.now c.loop-first.store (keeps_both c.args.store.now c.taken.new.store c.loop-first.store
-    c.in_ok-later.ensures.keeps c.loop-first.invariant.keeps) c.args.guards.now c.requires.ready
+    kept_ready (keeps_both c.in_ok-later.ensures.keeps c.loop-first.invariant.keeps) c.requires.ready
 
 pub clashes-requires-clause-held : goal.clashes-requires-clause-held
 clashes-requires-clause-held c = c.loop-first.invariant.keeps.held c.in_ok-later.later c.in_ok-later.ensures.held
@@ -27,11 +24,9 @@ pub clashes-requires-clause-shows : goal.clashes-requires-clause-shows
 clashes-requires-clause-shows c = λ edge at.
     let file = c.args.guards.now.file.now in
     let row = row_data c.args.guards.now.row.now in
-    let here =
-    edge_at c.args.guards.now.row.now.edges.items c.args.second c.index.result.now (omega arith) c.index.ensures in
+    let here = edge_at c.args.guards.now.row.now.edges.items c.args.second (omega arith) c.index.ensures in
     let same : edge_data c.index.result.now ≡ edge = same_some (edge_data c.index.result.now) edge (sym here ∙ at) in
-    kept_shows file row edge c.taken.new.store c.loop-first.store c.in_ok-later.later 1 c.loop-first.invariant.keeps
-    c.in_ok-later.ensures.held
+    kept_shows file row edge 1 c.loop-first.invariant.keeps c.in_ok-later.ensures.held
     (subst (λ (e : EdgeData). ShowsEdge file row e c.taken.new.store c.in_ok-later.later 1) same
     c.in_ok-later.ensures.shows)
 
@@ -46,11 +41,8 @@ returns-then-branch-clause-least c = λ a k. elim (cases_lt a c.loop-first.first
 
 pub loop-first-preserved : goal.loop-first-preserved
 loop-first-preserved c = record {
-  keeps =
-      keeps_both c.taken.new.store c.loop-first.store c.clashes.new.store c.loop-first.invariant.keeps
-      c.in_ok-clashes.ensures.keeps;
-  none =
-      below_more _ _ c.loop-first.invariant.none (λ k. let is = c.in_ok-clashes.ensures.clashing.1 k in
+  keeps = keeps_both c.loop-first.invariant.keeps c.in_ok-clashes.ensures.keeps;
+  none = below_more _ _ c.loop-first.invariant.none (λ k. let is = c.in_ok-clashes.ensures.clashing.1 k in
       let not = c.if-branch.false in cc);
 }
 

@@ -5,12 +5,10 @@ use Rattle.ps_automaton.proofs.taken.meet.Goals as goal
 
 pub returns-in-Err-Clash-clause-meet : goal.returns-in-Err-Clash-clause-meet
 returns-in-Err-Clash-clause-meet c =
-    let told =
-    subst (TellsClash c.guard-2.new.self c.in_ok-zero.zero c.in_ok-one.one) c.in-Err-Clash.field-0-is
+    let told = subst (TellsClash c.guard-2.new.self c.in_ok-zero.zero c.in_ok-one.one) c.in-Err-Clash.field-0-is
     c.in-Err-Clash.ensures.clash in (
-      (λ _. guarded_meet c.args.store.now c.guard.new.self c.guard-2.new.self c.args.one c.args.other c.in_ok-zero.zero
-          c.in_ok-one.one c.in-Err-Clash.field-0-0 c.in-Err-Clash.field-0-1 told.0
-          c.guard.ensures.keeps c.guard-2.ensures.keeps c.requires.one c.requires.other c.in_ok-zero.ensures.held
-          c.in_ok-zero.ensures.leaf c.in_ok-one.ensures.leaf told.1 told.2 told.3),
+      (λ _. guarded_meet c.in_ok-one.one told.0 c.guard.ensures.keeps c.guard-2.ensures.keeps c.requires.one
+          c.requires.other c.in_ok-zero.ensures.held c.in_ok-zero.ensures.leaf c.in_ok-one.ensures.leaf told.1
+          told.2 told.3),
       (λ _. refl),
     )

@@ -7,8 +7,6 @@ pub returns : goal.returns
 returns c = record {
   state = refl;
   few = or_lt 64 c.mask_of.result c.mask_of-2.result c.mask_of.type_inv c.mask_of-2.type_inv;
-  sets = λ set small. in_or set c.mask_of.result c.mask_of-2.result
-      ∙ both_among set c.mask_of.result c.mask_of-2.result c.as_slice.result.now c.as_slice-2.result.now
-      c.args.row.now.marks.items c.args.edge.now.marks.items
+  sets = λ set small. in_or set c.mask_of.result c.mask_of-2.result ∙ both_among set c.mask_of.result c.mask_of-2.result
       (c.mask_of.ensures set small) (c.mask_of-2.ensures set small) c.as_slice.ensures c.as_slice-2.ensures;
 }

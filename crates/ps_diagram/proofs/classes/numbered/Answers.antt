@@ -10,15 +10,12 @@ loop-pair-preserved c =
     let i = c.loop-pair.pair-index in
     let leaves = c.args.leaves.now in
     let was = c.loop-pair.invariant in
-    let none =
-    no_place leaves i (get nat_eq c.loop-pair.places) c.loop-pair.list.items c.requires.differ (search rules)
-    was.list was.places _ refl in
+    let none = no_place c.requires.differ (search rules) was.list was.places _ refl in
     let L : List Class → Type 0 = λ l. AreOf leaves (i + 1) l in
     let P : List Class → Type 0 = λ l. IsPlaced (get nat_eq c.insert.new.self) l in
     record {
-      list = subst L (sym c.in_ok-push.ensures.items) (of_push leaves i _ _ c.loop-pair.list.items was.list refl refl);
+      list = subst L (sym c.in_ok-push.ensures.items) (of_push was.list refl refl);
       places =
-          subst P (sym c.in_ok-push.ensures.items) (placed_push (get nat_eq c.loop-pair.places)
-          (get nat_eq c.insert.new.self) _ _ c.len.result c.loop-pair.list.items (search rules) none
+          subst P (sym c.in_ok-push.ensures.items) (placed_push (get nat_eq c.insert.new.self) _ _ (search rules) none
           c.in_ok-insert.ensures.updates.0 was.places);
     }

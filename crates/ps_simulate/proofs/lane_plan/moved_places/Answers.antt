@@ -12,10 +12,7 @@ loop-number-preserved c =
     let before = c.loop-number.invariant in
     record {
       size = length-set old target _ ∙ before.size;
-      kept =
-          kept_more rows old c.args.front c.args.size n target c.loop-number-test.true refl c.requires.gates
-          before.size before.kept;
-      in_order =
-          order_more rows old c.args.front c.args.size n target c.loop-number-test.true refl c.requires.gates
+      kept = kept_more rows old c.args.front n c.loop-number-test.true refl c.requires.gates before.size before.kept;
+      in_order = order_more rows old c.args.front n c.loop-number-test.true refl c.requires.gates
           before.size c.requires.once before.in_order;
     }

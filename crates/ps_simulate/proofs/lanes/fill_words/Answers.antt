@@ -20,14 +20,12 @@ returns c lane lt =
             ∙ c.requires.constant lane lt;
         inputs_there = λ k less. let many = length-lane inputs lane in
             same_lane table inputs (1 + k) k lane (omega (arith, each, c.requires.room, less, many))
-            (omega (arith, less, many))
-            (c.put_words-2.ensures.others (1 + k) (inl (omega (arith, less, many)))
+            (omega (arith, less, many)) (c.put_words-2.ensures.others (1 + k) (inl (omega (arith, less, many)))
             ∙ c.put_words.ensures.put k (omega (arith, less, many)));
         latches_there = λ k less. let many = length-lane latches lane in
             ap (λ n. get_or (lane_of table lane) (1 + n + k) false) (length-lane inputs lane)
             ∙ same_lane table latches (1 + length inputs + k) k lane (omega (arith, each, c.requires.room, less, many))
-            (omega (arith, less, many))
-            (c.put_words-2.ensures.put k (omega (arith, less, many)));
+            (omega (arith, less, many)) (c.put_words-2.ensures.put k (omega (arith, less, many)));
       };
       done = c.work_words.ensures lane lt;
     }

@@ -8,8 +8,7 @@ use Rattle.ps_simulate.proofs.lanes.work_words.Goals as goal
 
 pub loop-number-preserved : goal.loop-number-preserved
 loop-number-preserved c lane lt =
-    let is =
-    c.index-gates-number.is ∙ get_or_default c.args.gates.now c.loop-number.number _ no_operands
+    let is = c.index-gates-number.is ∙ get_or_default c.args.gates.now c.loop-number.number _ no_operands
     c.loop-number-test.true in
     gate_on c.args.front c.args.gates.now c.loop-number.values c.args.values.now c.bits.result
     c.bits-in-loop-number.result c.loop-number.number lane lt c.loop-number-test.true
@@ -21,8 +20,7 @@ bits-requires c =
     let fits =
     gate_fits c.args.front (length c.args.values.now) c.args.gates.now c.loop-number.number c.loop-number-test.true
     c.requires.within in
-    let is =
-    c.index-gates-number.is ∙ get_or_default c.args.gates.now c.loop-number.number _ no_operands
+    let is = c.index-gates-number.is ∙ get_or_default c.args.gates.now c.loop-number.number _ no_operands
     c.loop-number-test.true in
     omega (arith, fits.0, c.loop-number.auto.values, ap (λ (g : Operands). variable g.first) is)
 
@@ -31,8 +29,7 @@ bits-requires-in-loop-number c =
     let fits =
     gate_fits c.args.front (length c.args.values.now) c.args.gates.now c.loop-number.number c.loop-number-test.true
     c.requires.within in
-    let is =
-    c.index-gates-number.is ∙ get_or_default c.args.gates.now c.loop-number.number _ no_operands
+    let is = c.index-gates-number.is ∙ get_or_default c.args.gates.now c.loop-number.number _ no_operands
     c.loop-number-test.true in
     omega (arith, fits.1, c.loop-number.auto.values, ap (λ (g : Operands). variable g.second) is)
 

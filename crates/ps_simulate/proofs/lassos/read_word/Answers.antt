@@ -11,21 +11,19 @@ use Rattle.ps_simulate.proofs.LassoLemmas.{letter_is, letter_fits, ReadsWord-let
 use Rattle.ps_simulate.proofs.lassos.read_word.Goals as goal
 
 pub step-requires-clause-inputs_fit : goal.step-requires-clause-inputs_fit
-step-requires-clause-inputs_fit c =
-    ap length c.deref.ensures.value
+step-requires-clause-inputs_fit c = ap length c.deref.ensures.value
     ∙ letter_fits c.args.word.now c.loop-letter.letter-index (length c.args.simulator.now.circuit.inputs)
-    c.letter-item.result c.requires.wide c.loop-letter-test.true c.letter-item.is
-    ∙ ap (λ (d : CircuitData). length d.inputs) (sym c.loop-letter.invariant.same)
+    c.requires.wide c.loop-letter-test.true c.letter-item.is ∙ ap (λ (d : CircuitData). length d.inputs)
+    (sym c.loop-letter.invariant.same)
 
 pub loop-letter-preserved : goal.loop-letter-preserved
 loop-letter-preserved c =
     let d = c.args.simulator.now.circuit in
     let naming = c.args.naming.now in
     let m : Moment =
-    record { latches = c.loop-letter.simulator.latches; inputs = c.deref.result.now; outputs = c.step.new.outputs }
-    in
+    record { latches = c.loop-letter.simulator.latches; inputs = c.deref.result.now; outputs = c.step.new.outputs } in
     let letter : IsLetterOf (names_of naming) d m c.letter.result =
-    letter_is d naming m c.letter.result c.requires.naming c.letter.ensures.few
+    letter_is m c.letter.result c.requires.naming c.letter.ensures.few
     (λ p. c.letter.ensures.bits p ∙ ap (λ (bits : List Bool). bit_at_place bits (get_or naming.inputs.items p None) ||
     bit_at_place m.outputs (get_or naming.outputs.items p None))
     (c.deref-in-loop-letter.ensures.value ∙ sym c.deref.ensures.value)) in
@@ -33,15 +31,11 @@ loop-letter-preserved c =
     subst (λ (e : CircuitData). Steps e m.latches m.inputs m.outputs c.step.new.self.latches)
     c.loop-letter.invariant.same c.step.ensures.steps in
     record {
-      reads =
-          subst (λ (ls : List ℕ). ReadsWord (names_of naming) d c.args.simulator.now.latches
+      reads = subst (λ (ls : List ℕ). ReadsWord (names_of naming) d c.args.simulator.now.latches
           (letters_of (take (c.loop-letter.letter-index + 1) c.args.word.now)) c.args.letters.now.items ls
-          c.step.new.self.latches)
-          (sym c.in_ok-push.ensures.items)
-          (ReadsWord-letter (names_of naming) d c.args.simulator.now.latches c.loop-letter.simulator.latches
-          c.step.new.self.latches c.args.word.now c.loop-letter.letter-index c.letter-item.result
-          c.args.letters.now.items c.loop-letter.letters.items m c.letter.result c.loop-letter-test.true
-          c.letter-item.is c.deref.ensures.value refl c.loop-letter.invariant.reads step letter);
+          c.step.new.self.latches) (sym c.in_ok-push.ensures.items)
+          (ReadsWord-letter c.args.word.now c.loop-letter.letter-index c.loop-letter-test.true c.letter-item.is
+          c.deref.ensures.value refl c.loop-letter.invariant.reads step letter);
       same = c.step.ensures.circuit ∙ c.loop-letter.invariant.same;
       outputs_fit = ap length step.outputs_are ∙ length-map d.outputs _;
     }

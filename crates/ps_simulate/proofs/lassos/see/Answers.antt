@@ -11,27 +11,24 @@ returns-in-Some c = λ old have.
     let key = c.in_ok-key.key in
     let there = sym c.get.ensures.value ∙ sym c.copied.ensures ∙ c.in-Some.is in (
       old,
-      seen_before old c.args.seen.now have key c.args.latches.now c.in_ok-key.ensures.items c.in-Some.place there,
+      seen_before have key c.in_ok-key.ensures.items there,
       have,
     )
 
 pub returns : goal.returns
 returns c = λ old have.
     let key = c.in_ok-key.key in
-    let latches = c.args.latches.now in
     let before = c.args.seen.now in
     let none : get bits_cmp before key ≡ None = sym c.get.ensures.value ∙ sym c.copied.ensures ∙ c.in_default.is in
-    let place = c.len-place.result in
     let size = c.len-place.ensures.len ∙ have.each in
-    let more = c.in_ok-insert.ensures.len
-    ∙ ap (λ (o : Option ℕ). btree_map_len before + (if is_some o then 0 else 1))
+    let more = c.in_ok-insert.ensures.len ∙ ap (λ (o : Option ℕ). btree_map_len before + (if is_some o then 0 else 1))
     (c.in_ok-insert.ensures.old ∙ none) in
     let puts = c.in_ok-insert.ensures.updates.0 in (
       old ++ key.items ∷ [],
       (
         subst (λ (l : List Bool). (k : ℕ) → k < length old → get_or old k [] ≢ l) c.in_ok-key.ensures.items
-            (not_seen old before c.insert.new.self have key place size none more puts),
+            (not_seen c.insert.new.self have key size none more puts),
         ap (λ (l : List Bool). old ++ l ∷ []) c.in_ok-key.ensures.items,
       ),
-      places_push old before c.insert.new.self have key place size none more puts,
+      places_push c.insert.new.self have key size none more puts,
     )

@@ -3,17 +3,14 @@ use Rattle.std.proofs.Common.{arith}
 use Rattle.std.specs.Prelude.{All}
 use Rattle.std.proofs.lemmas.List.Elements.{All-take, All-drop}
 use Rattle.ps_circuit.specs.Circuits.{CircuitData}
-use Rattle.ps_simulate.specs.Stimuli.{letters_of}
 use Rattle.ps_simulate.specs.LassoRuns.{RepeatsBy}
-use Rattle.ps_simulate.specs.Namings.{names_of}
 use Rattle.ps_simulate.proofs.LassoLemmas.{few_letters, lap_within_items, verdict}
 use Rattle.ps_simulate.proofs.lassos.verdict_of.Goals as goal
 
 -- the letters of which the automaton is asked
-few : (names all : List (List ℕ)) (c : CircuitData) (stem lap : List (List Bool)) (i : ℕ) (letters : List ℕ) →
+few : {names all : List (List ℕ)} {c : CircuitData} {stem lap : List (List Bool)} {i : ℕ} {letters : List ℕ} →
     names ≡ all → RepeatsBy names c stem lap i letters → All (λ letter. letter < 2 ^ length all) letters
-few names all c stem lap i letters same h =
-    λ k d lt. subst (λ (ns : List (List ℕ)). get_or letters k d < 2 ^ length ns) same
+few {names} {c} {letters} same h = λ k d lt. subst (λ (ns : List (List ℕ)). get_or letters k d < 2 ^ length ns) same
     (few_letters names c h.trace letters h.are_letters k d lt)
 
 pub overflow_mul-start : goal.overflow_mul-start
@@ -23,8 +20,7 @@ overflow_mul-start c =
       arith,
       small,
       ap length c.as_slice-letters.ensures.value,
-      lap_within_items (names_of c.args.naming.now) c.args.circuit.now c.args.stem.now c.args.lap.now
-          c.in_ok-repetition.repetition.first c.in_ok-repetition.repetition.letters.items c.in_ok-repetition.ensures,
+      lap_within_items c.args.stem.now c.args.lap.now c.in_ok-repetition.ensures,
     )
 
 pub overflow_add-start : goal.overflow_add-start
@@ -34,18 +30,15 @@ overflow_add-start c =
       arith,
       small,
       ap length c.as_slice-letters.ensures.value,
-      lap_within_items (names_of c.args.naming.now) c.args.circuit.now c.args.stem.now c.args.lap.now
-          c.in_ok-repetition.repetition.first c.in_ok-repetition.repetition.letters.items c.in_ok-repetition.ensures,
+      lap_within_items c.args.stem.now c.args.lap.now c.in_ok-repetition.ensures,
     )
 
 pub split_at-requires : goal.split_at-requires
-split_at-requires c =
-    omega (
-      arith,
-      ap length c.as_slice-letters.ensures.value,
-      lap_within_items (names_of c.args.naming.now) c.args.circuit.now c.args.stem.now c.args.lap.now
-          c.in_ok-repetition.repetition.first c.in_ok-repetition.repetition.letters.items c.in_ok-repetition.ensures,
-    )
+split_at-requires c = omega (
+  arith,
+  ap length c.as_slice-letters.ensures.value,
+  lap_within_items c.args.stem.now c.args.lap.now c.in_ok-repetition.ensures,
+)
 
 pub accepts-requires-clause-some : goal.accepts-requires-clause-some
 accepts-requires-clause-some c =
@@ -55,18 +48,14 @@ accepts-requires-clause-some c =
       some,
       ap length c.as_slice-letters.ensures.value,
       c.split_at.ensures.back_len,
-      lap_within_items (names_of c.args.naming.now) c.args.circuit.now c.args.stem.now c.args.lap.now
-          c.in_ok-repetition.repetition.first c.in_ok-repetition.repetition.letters.items c.in_ok-repetition.ensures,
+      lap_within_items c.args.stem.now c.args.lap.now c.in_ok-repetition.ensures,
     )
 
 pub accepts-requires-clause-stem : goal.accepts-requires-clause-stem
 accepts-requires-clause-stem c =
     let n = length c.args.stem.now + c.in_ok-repetition.repetition.first * length c.args.lap.now in
     let names = c.requires.names in
-    let all =
-    few (names_of c.args.naming.now) c.args.automaton.now.names c.args.circuit.now (letters_of c.args.stem.now)
-    (letters_of c.args.lap.now) c.in_ok-repetition.repetition.first
-    c.in_ok-repetition.repetition.letters.items names c.in_ok-repetition.ensures in
+    let all = few names c.in_ok-repetition.ensures in
     subst (λ (ls : List ℕ). All (λ letter. letter < 2 ^ length c.args.automaton.now.names) ls)
     (sym (c.split_at.ensures.front ∙ ap (take n) c.as_slice-letters.ensures.value))
     (All-take (λ letter. letter < 2 ^ length c.args.automaton.now.names) n
@@ -76,10 +65,7 @@ pub accepts-requires-clause-lap : goal.accepts-requires-clause-lap
 accepts-requires-clause-lap c =
     let n = length c.args.stem.now + c.in_ok-repetition.repetition.first * length c.args.lap.now in
     let names = c.requires.names in
-    let all =
-    few (names_of c.args.naming.now) c.args.automaton.now.names c.args.circuit.now (letters_of c.args.stem.now)
-    (letters_of c.args.lap.now) c.in_ok-repetition.repetition.first
-    c.in_ok-repetition.repetition.letters.items names c.in_ok-repetition.ensures in
+    let all = few names c.in_ok-repetition.ensures in
     subst (λ (ls : List ℕ). All (λ letter. letter < 2 ^ length c.args.automaton.now.names) ls)
     (sym (c.split_at.ensures.back ∙ ap (drop n) c.as_slice-letters.ensures.value))
     (All-drop (λ letter. letter < 2 ^ length c.args.automaton.now.names) n
@@ -89,9 +75,7 @@ pub returns : goal.returns
 returns c = λ file chain built.
     let n = length c.args.stem.now + c.in_ok-repetition.repetition.first * length c.args.lap.now in
     let names = c.requires.names in
-    verdict file (names_of c.args.naming.now) c.args.automaton.now.names c.args.circuit.now c.args.stem.now
-    c.args.lap.now c.in_ok-repetition.repetition.letters.items c.split_at.result.0.now c.split_at.result.1.now
-    c.in_ok-repetition.repetition.first c.in_ok-accepts.field-0 names built.names c.in_ok-repetition.ensures
+    verdict file c.args.stem.now c.args.lap.now c.in_ok-accepts.field-0 names built.names c.in_ok-repetition.ensures
     (c.split_at.ensures.front ∙ ap (take n) c.as_slice-letters.ensures.value)
     (c.split_at.ensures.back ∙ ap (drop n) c.as_slice-letters.ensures.value)
     (c.split_at.ensures.back_len ∙ ap length c.as_slice-letters.ensures.value)

@@ -3,4 +3,4 @@ use Rattle.ps_simulate.proofs.Uniqueness.OneLemmas.{HasOneValues-circuit}
 use Rattle.ps_simulate.proofs.laws.circuit_has_one_values.Goals as goal
 
 pub returns : goal.returns
-returns c = λ d is. let order = gates_in_order d is in HasOneValues-circuit d is order.0 order.1
+returns c = λ d is. let order = gates_in_order is in HasOneValues-circuit is order.1

@@ -2,6 +2,4 @@ use Rattle.ps_simulate.proofs.Uniqueness.OneVerdict.{one_verdict}
 use Rattle.ps_simulate.proofs.laws.verdict_is_one.Goals as goal
 
 pub returns : goal.returns
-returns c =
-    λ role file d stem lap is has v w a b. one_verdict role file d stem lap v w is
-    (c.circuit_has_one_values.ensures d is) has a b
+returns c = λ role file d stem lap is has v w a b. one_verdict is (c.circuit_has_one_values.ensures d is) has a b

@@ -22,10 +22,8 @@ returns-in_err-letter c =
     let end = c.line_end-end.result in
     let ends = length_is text start end c.line_end-end.ensures.from c.line_end-end.ensures.within in
     let p = err_from_is_err_and c.from_residual.result c.from_residual.ensures.1 in
-    rw (p.1, p.2)
-    (IsLettersAnswer-line text c.args.width start end _ c.loop-start.invariant.read _ c.line_end-end.ensures.lines ends
-    c.loop-start-test.true c.line_end-end.ensures.within
-    c.in_err-letter.field-0.0 c.in_err-letter.ensures)
+    rw (p.1, p.2) (IsLettersAnswer-line c.loop-start.invariant.read c.line_end-end.ensures.lines ends
+    c.loop-start-test.true c.line_end-end.ensures.within c.in_err-letter.field-0.0 c.in_err-letter.ensures)
 
 pub loop-start-preserved : goal.loop-start-preserved
 loop-start-preserved c =
@@ -44,16 +42,14 @@ loop-start-preserved c =
     ∙ ap (λ (l : List Bool). bits ++ l) c.deref.ensures.value in
     let next : count + 1 ≡ suc count = omega arith in
     let more : letters_in width (count + 1) c.extend_from_slice.new.self.items ≡ letters_in width count bits ++
-    letter ∷ [] =
-    ap (letters_in width (count + 1)) now ∙ ap (λ (n : ℕ). letters_in width n (bits ++ letter)) next
-    ∙ letters_in-push width count bits letter c.loop-start.invariant.whole fits in
+    letter ∷ [] = ap (letters_in width (count + 1)) now ∙ ap (λ (n : ℕ). letters_in width n (bits ++ letter)) next
+    ∙ letters_in-push count bits letter c.loop-start.invariant.whole fits in
     record {
       read =
           subst (λ (letters : List (List Bool)). HasRead text width false false (end + 1) (stem_of letters)) (sym more)
-          (HasRead-letter text width false false start end (stem_of (letters_in width count bits))
-          c.loop-start.invariant.read line c.line_end-end.ensures.lines ends letter
-          c.in_ok-letter.ensures.0 c.in_ok-letter.ensures.1);
-      whole = ap length now ∙ whole-push width count bits letter c.loop-start.invariant.whole fits
+          (HasRead-letter c.loop-start.invariant.read c.line_end-end.ensures.lines ends letter c.in_ok-letter.ensures.0
+          c.in_ok-letter.ensures.1);
+      whole = ap length now ∙ whole-push count bits letter c.loop-start.invariant.whole fits
           ∙ ap (λ (n : ℕ). n * width) (sym next);
       few = omega (arith, c.line_end-end.ensures.from);
     }

@@ -8,40 +8,33 @@ use Rattle.ps_simulate.proofs.NamingLemmas.{all_placed, all_once, missing}
 use Rattle.ps_simulate.proofs.naming.places_of.Goals as goal
 use Rattle.ps_simulate.proofs.naming.places_of.Goals.{in_default-via-in-Some+else-is_full, in_default-via-in_default}
 
-put : (names : List (List ℕ)) (set : List ℕ) (wanted : Bool) (symbols : List (Option (Bor (List ℕ))))
-    (places : List (Option ℕ))
-    → ArePut names set wanted (map (option_copied {T = List ℕ}) symbols) (length symbols) places
-    → ArePut names set wanted (map (option_copied {T = List ℕ}) symbols)
+put : {names : List (List ℕ)} {set : List ℕ} {wanted : Bool} (symbols : List (Option (Bor (List ℕ))))
+    {places : List (Option ℕ)} → ArePut names set wanted (map (option_copied {T = List ℕ}) symbols) (length symbols)
+    places → ArePut names set wanted (map (option_copied {T = List ℕ}) symbols)
     (length (map (option_copied {T = List ℕ}) symbols)) places
-put names set wanted symbols places h =
+put {names} {set} {wanted} symbols {places} h =
     subst (λ n. ArePut names set wanted (map (option_copied {T = List ℕ}) symbols) n places)
     (sym (length-map symbols (option_copied {T = List ℕ}))) h
 
 pub returns-in-Some-clause-places : goal.returns-in-Some-clause-places
-returns-in-Some-clause-places c =
-    all_placed (map bytes_of c.args.names.now) c.args.controllable.now c.args.wanted
-    (map (option_copied {T = List ℕ}) c.args.symbols.now) c.requires c.in-Some.places.items
-    (put (map bytes_of c.args.names.now) c.args.controllable.now c.args.wanted c.args.symbols.now c.in-Some.places.items
-    (rw c.in-Some.is at c.in_ok-places.ensures.put))
+returns-in-Some-clause-places c = all_placed (map bytes_of c.args.names.now) c.args.controllable.now c.args.wanted
+    (map (option_copied {T = List ℕ}) c.args.symbols.now) c.requires
+    (put c.args.symbols.now (rw c.in-Some.is at c.in_ok-places.ensures.put))
 
 pub returns-in-Some-clause-names : goal.returns-in-Some-clause-names
-returns-in-Some-clause-names c =
-    all_once (map bytes_of c.args.names.now) c.args.controllable.now c.args.wanted
-    (map (option_copied {T = List ℕ}) c.args.symbols.now) c.requires c.in-Some.places.items
-    (put (map bytes_of c.args.names.now) c.args.controllable.now c.args.wanted c.args.symbols.now c.in-Some.places.items
-    (rw c.in-Some.is at c.in_ok-places.ensures.put))
+returns-in-Some-clause-names c = all_once (map bytes_of c.args.names.now) c.args.controllable.now c.args.wanted
+    (map (option_copied {T = List ℕ}) c.args.symbols.now) c.requires
+    (put c.args.symbols.now (rw c.in-Some.is at c.in_ok-places.ensures.put))
     (subst (λ (ps : List (Option ℕ)). (p : ℕ) → p < length ps → is_among p c.args.controllable.now ≡ c.args.wanted →
-    get_or ps p None ≢ None) c.deref.ensures.value
-    (c.is_full.ensures.full c.if-is_full.true))
+    get_or ps p None ≢ None) c.deref.ensures.value (c.is_full.ensures.full c.if-is_full.true))
 
 pub returns-in_default-clause-none : goal.returns-in_default-clause-none
 returns-in_default-clause-none c = elim c.in_default.branch [
   | in_default-via-in-Some+else-is_full w ↦
       let g = w.is_full.ensures.missing w.if-is_full.false in
       missing (map bytes_of c.args.names.now) c.args.controllable.now c.args.wanted
-      (map (option_copied {T = List ℕ}) c.args.symbols.now) c.requires w.in-Some.places.items
-      (put (map bytes_of c.args.names.now) c.args.controllable.now c.args.wanted c.args.symbols.now
-      w.in-Some.places.items (rw w.in-Some.is at c.in_ok-places.ensures.put))
+      (map (option_copied {T = List ℕ}) c.args.symbols.now) c.requires
+      (put c.args.symbols.now (rw w.in-Some.is at c.in_ok-places.ensures.put))
       g.0 (subst (λ (ps : List (Option ℕ)). g.0 < length ps) w.deref.ensures.value g.1) g.2
       (subst (λ (ps : List (Option ℕ)). get_or ps g.0 None ≡ None) w.deref.ensures.value g.3)
   | in_default-via-in_default w ↦ let h = w.in_default.is in rw h at c.in_ok-places.ensures.none

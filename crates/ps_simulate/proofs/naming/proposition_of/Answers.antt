@@ -13,7 +13,7 @@ pub returns-then-is_controllable-wanted : goal.returns-then-is_controllable-want
 returns-then-is_controllable-wanted c =
     let lt = c.loop-p-test.true in (
       omega (arith, lt, length-map c.args.names.now bytes_of),
-      name_at c.args.names.now c.loop-p.p c.index-names-p.result lt c.index-names-p.is ∙ sym c.as_slice.ensures.value
+      name_at c.args.names.now c.loop-p.p lt c.index-names-p.is ∙ sym c.as_slice.ensures.value
           ∙ (bytes_eq-Decides c.as_slice.result.now c.args.symbol.now).0 (sym c.eq.ensures ∙ c.if-eq.true),
       sym c.is_controllable.ensures ∙ beq_same c.is_controllable.result c.args.wanted c.if-is_controllable-wanted.true,
     )
@@ -27,7 +27,7 @@ loop-p-preserved c = λ p lt sides named. elim (cases_eq p c.loop-p.p) [
         (w.is_controllable.ensures ∙ ap (λ n. is_among n c.args.controllable.now) (sym same) ∙ sides)
     | else-eq-via-else-eq w ↦
         let at : c.as_slice.result.now ≡ c.args.symbol.now = c.as_slice.ensures.value
-        ∙ sym (name_at c.args.names.now c.loop-p.p c.index-names-p.result c.loop-p-test.true c.index-names-p.is)
+        ∙ sym (name_at c.args.names.now c.loop-p.p c.loop-p-test.true c.index-names-p.is)
         ∙ ap (λ n. get_or (map bytes_of c.args.names.now) n []) (sym same) ∙ named in
         true≢false (sym ((bytes_eq-Decides c.as_slice.result.now c.args.symbol.now).1 at) ∙ sym c.eq.ensures
         ∙ w.if-eq.false)

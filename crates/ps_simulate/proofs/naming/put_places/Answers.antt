@@ -9,11 +9,10 @@ use Rattle.ps_simulate.proofs.naming.put_places.Goals.{in_default-proposition_of
 use Rattle.ps_simulate.proofs.naming.put_places.Goals.{in_default-proposition_of-via-in_default-proposition_of}
 
 pub returns-in_default-clause-none : goal.returns-in_default-clause-none
-returns-in_default-clause-none c =
-    nameless (map bytes_of c.args.names.now) c.args.controllable.now c.args.wanted
+returns-in_default-clause-none c = nameless (map bytes_of c.args.names.now) c.args.controllable.now c.args.wanted
     (map (option_copied {T = List ℕ}) c.args.symbols.now) c.loop-k.k
     (omega (arith, c.loop-k-test.true, length-map c.args.symbols.now (option_copied {T = List ℕ})))
-    (symbol_at c.args.symbols.now c.loop-k.k None c.loop-k-test.true c.in_default.is)
+    (symbol_at c.args.symbols.now c.loop-k.k c.loop-k-test.true c.in_default.is)
 
 pub returns-in_default-proposition_of-clause-none : goal.returns-in_default-proposition_of-clause-none
 returns-in_default-proposition_of-clause-none c =
@@ -22,17 +21,16 @@ returns-in_default-proposition_of-clause-none c =
     let lt : c.loop-k.k < length symbols =
     omega (arith, c.loop-k-test.true, length-map c.args.symbols.now (option_copied {T = List ℕ})) in
     let there : get_or symbols c.loop-k.k None ≡ Some c.in-Some.name.now =
-    symbol_at c.args.symbols.now c.loop-k.k (Some c.in-Some.name) c.loop-k-test.true c.in-Some.is in
+    symbol_at c.args.symbols.now c.loop-k.k c.loop-k-test.true c.in-Some.is in
     elim c.in_default-proposition_of.branch [
       | in_default-proposition_of-via-in-Some-proposition_of+else-is_none w ↦
           let p = w.in-Some-proposition_of.p in
           let e = w.in-Some-proposition_of.ensures in
-          taken names c.args.controllable.now c.args.wanted symbols c.loop-k.k p c.in-Some.name.now
-          c.loop-k.places.items c.loop-k.invariant there e.0 e.1
-          (is_full c.loop-k.places.items p w.index.result.now w.is_none.result
+          taken names c.args.controllable.now c.args.wanted symbols p c.loop-k.invariant there e.0 e.1
+          (is_full c.loop-k.places.items p w.index.result.now
           (omega (arith, c.loop-k.invariant.size, e.0)) w.index.ensures w.is_none.ensures w.if-is_none.false)
       | in_default-proposition_of-via-in_default-proposition_of w ↦
-          unknown names c.args.controllable.now c.args.wanted symbols c.loop-k.k c.in-Some.name.now lt there
+          unknown names c.args.controllable.now c.args.wanted symbols c.loop-k.k lt there
           (subst (λ (o : Option ℕ). IsPropositionOf names c.args.controllable.now c.args.wanted c.in-Some.name.now o)
           w.in_default-proposition_of.is c.proposition_of.ensures)
     ]
@@ -42,10 +40,9 @@ loop-k-preserved c =
     let names = map bytes_of c.args.names.now in
     let symbols = map (option_copied {T = List ℕ}) c.args.symbols.now in
     let there : get_or symbols c.loop-k.k None ≡ Some c.in-Some.name.now =
-    symbol_at c.args.symbols.now c.loop-k.k (Some c.in-Some.name) c.loop-k-test.true c.in-Some.is in
+    symbol_at c.args.symbols.now c.loop-k.k c.loop-k-test.true c.in-Some.is in
     let p = c.in-Some-proposition_of.p in
     let e = c.in-Some-proposition_of.ensures in
-    put_step names c.args.controllable.now c.args.wanted symbols c.loop-k.k p c.in-Some.name.now c.loop-k.places.items
-    c.loop-k.invariant there e.0 e.1 e.2
-    (is_free c.loop-k.places.items p c.index.result.now c.is_none.result (omega (arith, c.loop-k.invariant.size, e.0))
+    put_step names c.args.controllable.now c.args.wanted symbols p c.loop-k.invariant there e.0 e.1 e.2
+    (is_free c.loop-k.places.items p c.index.result.now (omega (arith, c.loop-k.invariant.size, e.0))
     c.index.ensures c.is_none.ensures c.if-is_none.true)

@@ -16,22 +16,19 @@ within : (c : After-order-order) (k : ℕ) → k < length c.order-order.result.n
 within c k lt = c.order-order.ensures.within k _ (slice_get-get_or c.order-order.result.now k 0 lt)
 
 pub wire-requires : goal.wire-requires
-wire-requires c =
-    rw (c.requires, c.index-gates-place.is, c.gates-gates.ensures.gates)
-    (gate_known c.args.circuit.now c.gates-gates.ensures.well_formed _ c.index-gates-place.result
+wire-requires c = rw (c.requires, c.index-gates-place.is, c.gates-gates.ensures.gates)
+    (gate_known c.gates-gates.ensures.well_formed _ c.index-gates-place.result
     (within (goal.at.wire-requires c).After-order-order c.loop-place.place-index c.loop-place-test.true))
 
 pub wire-requires-in-loop-place : goal.wire-requires-in-loop-place
-wire-requires-in-loop-place c =
-    rw (c.requires, c.index-gates-place.is, c.gates-gates.ensures.gates)
-    (sides_known c.args.circuit.now c.gates-gates.ensures.well_formed _ c.index-gates-place.result
+wire-requires-in-loop-place c = rw (c.requires, c.index-gates-place.is, c.gates-gates.ensures.gates)
+    (sides_known c.gates-gates.ensures.well_formed _ c.index-gates-place.result
     (within (goal.at.wire-requires-in-loop-place c).After-order-order c.loop-place.place-index
     c.loop-place-test.true)).0
 
 pub wire-requires-in-loop-place-2 : goal.wire-requires-in-loop-place-2
-wire-requires-in-loop-place-2 c =
-    rw (c.requires, c.index-gates-place.is, c.gates-gates.ensures.gates)
-    (sides_known c.args.circuit.now c.gates-gates.ensures.well_formed _ c.index-gates-place.result
+wire-requires-in-loop-place-2 c = rw (c.requires, c.index-gates-place.is, c.gates-gates.ensures.gates)
+    (sides_known c.gates-gates.ensures.well_formed _ c.index-gates-place.result
     (within (goal.at.wire-requires-in-loop-place-2 c).After-order-order c.loop-place.place-index
     c.loop-place-test.true)).1
 

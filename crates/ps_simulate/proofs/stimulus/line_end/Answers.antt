@@ -9,5 +9,4 @@ returns-then-text-end-eq10-clause-lines c =
 
 pub returns-clause-lines : goal.returns-clause-lines
 returns-clause-lines c =
-    lines_of-drop_last c.args.text.now c.args.start c.requires
-    (λ k low high. c.loop-end.invariant k low (omega arith))
+    lines_of-drop_last c.args.text.now c.args.start c.requires (λ k low high. c.loop-end.invariant k low (omega arith))

@@ -8,7 +8,6 @@ use Rattle.ps_simulate.specs.StimulusTexts.{lines_of, spelled, divider, IsStimul
 use Rattle.ps_simulate.proofs.Stimuli.StimulusSteps.{HasRead-letter, HasRead-divider, HasRead-same, IsFirst-end}
 use Rattle.ps_simulate.proofs.Stimuli.StimulusSteps.{IsStimulusAnswer-line, at_line, letters_of-push}
 use Rattle.ps_simulate.proofs.stimulus.parse_stimulus.Goals as goal
-use Rattle.ps_simulate.proofs.stimulus.parse_stimulus.Goals.{After-line_end-end}
 use Rattle.ps_simulate.proofs.stimulus.parse_stimulus.Goals.{then-split+then-not-in_lap+then-is_divider}
 use Rattle.ps_simulate.proofs.stimulus.parse_stimulus.Goals.{else-split+in_ok-letter+then-in_lap+in_ok-push}
 use Rattle.ps_simulate.proofs.stimulus.parse_stimulus.Goals.{else-split-via-then-split+then-not-in_lap+else-is_divider}
@@ -25,11 +24,8 @@ length_is text start end from within =
 pub returns-then-not-in_lap-2 : goal.returns-then-not-in_lap-2
 returns-then-not-in_lap-2 c =
     subst (λ (fault : StimulusFault). IsStimulusAnswer c.args.text.now c.args.width c.args.split (Err fault))
-    (sym c.at.ensures)
-    (IsFirst-end c.args.text.now c.args.width c.args.split c.loop-start.start _
-    (HasRead-same c.args.text.now c.args.width c.args.split c.loop-start.in_lap false c.loop-start.start _ _ _ _
-    c.if-not-in_lap-2.true refl refl c.loop-start.invariant)
-    (omega arith) c.if-split-2.true)
+    (sym c.at.ensures) (IsFirst-end (HasRead-same c.args.text.now c.args.width c.args.split c.loop-start.in_lap false
+    c.loop-start.start _ _ _ _ c.if-not-in_lap-2.true refl refl c.loop-start.invariant) (omega arith) c.if-split-2.true)
 
 pub loop-start-preserved : goal.loop-start-preserved
 loop-start-preserved c =
@@ -41,38 +37,31 @@ loop-start-preserved c =
     let lap = letters_of c.loop-start.lap.items in
     let ends = length_is text start end c.line_end-end.ensures.from c.line_end-end.ensures.within in
     elim c.if-split.branch [
-      | then-split+then-not-in_lap+then-is_divider w ↦
-          HasRead-same text c.args.width c.args.split true c.if-split.in_lap (end + 1) stem _ lap _ (sym w.in_lap-is)
+      | then-split+then-not-in_lap+then-is_divider w ↦ HasRead-same text c.args.width c.args.split true
+          c.if-split.in_lap (end + 1) stem _ lap _ (sym w.in_lap-is)
           (ap (λ (v : Vec (Vec Bool Global) Global). letters_of v.items) (sym w.stem-is))
           (ap (λ (v : Vec (Vec Bool Global) Global). letters_of v.items) (sym w.lap-is))
-          (HasRead-divider text c.args.width c.args.split start end (record { stem = stem; lap = lap })
-          (HasRead-same text c.args.width c.args.split c.loop-start.in_lap false start stem stem lap lap
-          w.if-not-in_lap.true refl refl c.loop-start.invariant)
-          line c.line_end-end.ensures.lines ends (w.is_divider.ensures.0 w.if-is_divider.true) w.if-split.true)
-      | else-split+in_ok-letter+then-in_lap+in_ok-push w ↦
-          HasRead-same text c.args.width c.args.split true c.if-split.in_lap (end + 1) stem _ _ _
-          (sym w.if-in_lap.true ∙ sym w.in_lap-is)
+          (HasRead-divider (HasRead-same text c.args.width c.args.split c.loop-start.in_lap false start stem stem lap
+          lap w.if-not-in_lap.true refl refl c.loop-start.invariant) c.line_end-end.ensures.lines ends
+          (w.is_divider.ensures.0 w.if-is_divider.true) w.if-split.true)
+      | else-split+in_ok-letter+then-in_lap+in_ok-push w ↦ HasRead-same text c.args.width c.args.split true
+          c.if-split.in_lap (end + 1) stem _ _ _ (sym w.if-in_lap.true ∙ sym w.in_lap-is)
           (ap (λ (v : Vec (Vec Bool Global) Global). letters_of v.items) (sym w.stem-is))
           (sym (letters_of-push c.loop-start.lap.items w.in_ok-letter.letter)
-          ∙ ap letters_of (sym w.in_ok-push.ensures.items) ∙ ap
-          (λ (v : Vec (Vec Bool Global) Global). letters_of v.items) (sym w.lap-is))
-          (HasRead-letter text c.args.width c.args.split true start end (record { stem = stem; lap = lap })
+          ∙ ap letters_of (sym w.in_ok-push.ensures.items) ∙ ap (λ (v : Vec (Vec Bool Global) Global).
+          letters_of v.items) (sym w.lap-is)) (HasRead-letter
           (HasRead-same text c.args.width c.args.split c.loop-start.in_lap true start stem stem lap lap w.if-in_lap.true
-          refl refl c.loop-start.invariant)
-          line c.line_end-end.ensures.lines ends w.in_ok-letter.letter.items w.in_ok-letter.ensures.0
-          w.in_ok-letter.ensures.1)
-      | else-split+in_ok-letter+else-in_lap+in_ok-push-2 w ↦
-          HasRead-same text c.args.width c.args.split false c.if-split.in_lap (end + 1) _ _ lap _
-          (sym w.if-in_lap.false ∙ sym w.in_lap-is)
+          refl refl c.loop-start.invariant) c.line_end-end.ensures.lines ends w.in_ok-letter.letter.items
+          w.in_ok-letter.ensures.0 w.in_ok-letter.ensures.1)
+      | else-split+in_ok-letter+else-in_lap+in_ok-push-2 w ↦ HasRead-same text c.args.width c.args.split false
+          c.if-split.in_lap (end + 1) _ _ lap _ (sym w.if-in_lap.false ∙ sym w.in_lap-is)
           (sym (letters_of-push c.loop-start.stem.items w.in_ok-letter.letter)
           ∙ ap letters_of (sym w.in_ok-push-2.ensures.items) ∙ ap
           (λ (v : Vec (Vec Bool Global) Global). letters_of v.items) (sym w.stem-is))
-          (ap (λ (v : Vec (Vec Bool Global) Global). letters_of v.items) (sym w.lap-is))
-          (HasRead-letter text c.args.width c.args.split false start end (record { stem = stem; lap = lap })
+          (ap (λ (v : Vec (Vec Bool Global) Global). letters_of v.items) (sym w.lap-is)) (HasRead-letter
           (HasRead-same text c.args.width c.args.split c.loop-start.in_lap false start stem stem lap lap
-          w.if-in_lap.false refl refl c.loop-start.invariant)
-          line c.line_end-end.ensures.lines ends w.in_ok-letter.letter.items w.in_ok-letter.ensures.0
-          w.in_ok-letter.ensures.1)
+          w.if-in_lap.false refl refl c.loop-start.invariant) c.line_end-end.ensures.lines ends
+          w.in_ok-letter.letter.items w.in_ok-letter.ensures.0 w.in_ok-letter.ensures.1)
     ]
 
 pub returns-in_err-letter : goal.returns-in_err-letter
@@ -84,9 +73,7 @@ returns-in_err-letter c =
     let s : StimulusData =
     record { stem = letters_of c.loop-start.stem.items; lap = letters_of c.loop-start.lap.items } in
     let ends = length_is text start end c.line_end-end.ensures.from c.line_end-end.ensures.within in
-    let here =
-    at_line text c.args.width c.args.split c.loop-start.in_lap start end s c.loop-start.invariant line
-    c.line_end-end.ensures.lines ends in
+    let here = at_line c.loop-start.invariant c.line_end-end.ensures.lines ends in
     let plain : (c.loop-start.in_lap ≡ true) ⊎ (¬ (slice_get (lines_of text) (length (spelled c.loop-start.in_lap s)) ≡
     Some divider) ⊎ (c.args.split ≡ false)) =
     elim c.else-split.branch [
@@ -97,7 +84,5 @@ returns-in_err-letter c =
       | else-split-via-else-split w ↦ inr (inr w.if-split.false)
     ] in
     let p = err_from_is_err_and c.from_residual.result c.from_residual.ensures.1 in
-    rw (p.1, p.2)
-    (IsStimulusAnswer-line text c.args.width c.args.split c.loop-start.in_lap start end s c.loop-start.invariant line
-    c.line_end-end.ensures.lines ends c.loop-start-test.true c.line_end-end.ensures.within plain
-    c.in_err-letter.field-0.0 c.in_err-letter.ensures)
+    rw (p.1, p.2) (IsStimulusAnswer-line c.loop-start.invariant c.line_end-end.ensures.lines ends c.loop-start-test.true
+    c.line_end-end.ensures.within plain c.in_err-letter.field-0.0 c.in_err-letter.ensures)

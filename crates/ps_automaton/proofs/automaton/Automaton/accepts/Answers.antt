@@ -21,8 +21,7 @@ returns c = λ file chain built.
     subst (λ q. Returns a q c.args.lap.now c.in_ok-orbit.orbit.state c.in_ok-orbit.orbit.laps) first
     c.in_ok-orbit.ensures.returns in
     subst (λ n. (IsTrue (nat_eq (n % 2) 0)) ↔ IsAccepted file c.args.stem.now c.args.lap.now)
-    (sym c.greatest_of_laps.ensures)
-    (laps_decide file chain a c.args.stem.now c.args.lap.now orbit.before c.in_ok-orbit.orbit.laps
-    c.in_ok-orbit.orbit.state built.is_chain built.auto c.requires.some
+    (sym c.greatest_of_laps.ensures) (laps_decide file chain a c.args.stem.now c.args.lap.now orbit.before
+    c.in_ok-orbit.orbit.laps c.in_ok-orbit.orbit.state built.is_chain built.auto c.requires.some
     (letters c.args.stem.now c.requires.stem) (letters c.args.lap.now c.requires.lap) orbit.some
     orbit.begins orbit.returns)

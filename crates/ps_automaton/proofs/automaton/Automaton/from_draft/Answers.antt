@@ -1,57 +1,31 @@
 use Rattle.std.proofs.Common.{◌≡◌, map, ◌∙◌}
 use Rattle.ps_hoa.specs.Memory.{bytes_of}
-use Rattle.ps_automaton.specs.Automata.{AutomatonData}
 use Rattle.ps_automaton.proofs.Building.{auto_built, whole_built}
 use Rattle.ps_automaton.proofs.automaton.Automaton.from_draft.Goals as goal
+use Rattle.ps_automaton.proofs.automaton.Automaton.from_draft.Goals.{In_ok-controllable}
+
+names_are : (c : In_ok-controllable) → map bytes_of c.in_ok-names.names.items ≡ c.args.file.now.names
+names_are c = c.in_ok-names.ensures ∙ c.names.ensures.value
+
+controllable_are : (c : In_ok-controllable) → c.in_ok-controllable.controllable.items ≡ c.args.file.now.controllable
+controllable_are c = c.in_ok-controllable.ensures.items_if_clones_equal (λ x y e. e) ∙ c.controllable.ensures.value
 
 pub invariant_of-result : goal.invariant_of-result
 invariant_of-result c =
-    let file = c.args.file.now in
-    let sound = c.names.ensures.well_formed in
-    let chain = c.requires.0 in
-    let names : map bytes_of c.in_ok-names.names.items ≡ file.names = c.in_ok-names.ensures ∙ c.names.ensures.value in
-    let controllable : c.in_ok-controllable.controllable.items ≡ file.controllable =
-    c.in_ok-controllable.ensures.items_if_clones_equal (λ x y e. e) ∙ c.controllable.ensures.value in
-    let a : AutomatonData =
-    record {
-      names = map bytes_of c.in_ok-names.names.items;
-      controllable = c.in_ok-controllable.controllable.items;
-      states = c.states.result;
-      start = c.start.result;
-      store =
-          c.args.draft.pairs.store;
-      nodes = c.args.draft.nodes.items;
-      steps = c.args.draft.pairs.steps.keys;
-    } in
-    whole_built file sound chain a c.requires.2 names controllable c.states.ensures.value c.start.ensures.value
-    c.as_slice.ensures.unique
+    let a = (goal.at.invariant_of-result c).In_ok-controllable in
+    whole_built c.names.ensures.well_formed _ c.requires.2 (names_are a) (controllable_are a) c.states.ensures.value
+    c.start.ensures.value c.as_slice.ensures.unique
 
 pub returns : goal.returns
 returns c =
-    let file = c.args.file.now in
-    let sound = c.names.ensures.well_formed in
-    let chain = c.requires.0 in
-    let names : map bytes_of c.in_ok-names.names.items ≡ file.names = c.in_ok-names.ensures ∙ c.names.ensures.value in
-    let controllable : c.in_ok-controllable.controllable.items ≡ file.controllable =
-    c.in_ok-controllable.ensures.items_if_clones_equal (λ x y e. e) ∙ c.controllable.ensures.value in
-    let a : AutomatonData =
-    record {
-      names = map bytes_of c.in_ok-names.names.items;
-      controllable = c.in_ok-controllable.controllable.items;
-      states = c.states.result;
-      start = c.start.result;
-      store =
-          c.args.draft.pairs.store;
-      nodes = c.args.draft.nodes.items;
-      steps = c.args.draft.pairs.steps.keys;
-    } in (
-      chain,
+    let a = (goal.at.returns c).In_ok-controllable in (
+      c.requires.0,
       record {
-        names = names;
-        controllable = controllable;
+        names = names_are a;
+        controllable = controllable_are a;
         states = c.states.ensures.value;
         is_chain = c.requires.1;
-        auto =
-            auto_built file sound chain a c.requires.2 names controllable c.states.ensures.value c.start.ensures.value;
+        auto = auto_built c.names.ensures.well_formed _ c.requires.2 (names_are a) (controllable_are a)
+            c.states.ensures.value c.start.ensures.value;
       },
     )

@@ -7,4 +7,4 @@ pub returns : goal.returns
 returns c = λ chain small table.
     let all : c.loop-set.set ≡ 64 = omega arith in
     c.loop-set.invariant ∙ ap (most c.args.self.now.base c.args.self.now.by_set (λ set. is_in set c.args.sets)) all
-    ∙ most_is_level chain c.args.self.now.base c.args.self.now.by_set (λ set. is_in set c.args.sets) small table
+    ∙ most_is_level (λ set. is_in set c.args.sets) small table

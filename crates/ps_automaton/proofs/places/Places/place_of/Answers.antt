@@ -15,29 +15,24 @@ returns-in-Some-clause-placed c = record {
 }
 
 pub returns-in-Some-clause-distinct : goal.returns-in-Some-clause-distinct
-returns-in-Some-clause-distinct c =
-    subst AreDistinct c.self.view_is (distinct_by_table c.self.inside.list.items _ c.self.invariant)
+returns-in-Some-clause-distinct c = subst AreDistinct c.self.view_is (distinct_by_table c.self.invariant)
 
 pub invariant_of-self-2 : goal.invariant_of-self-2
 invariant_of-self-2 c =
     let t = c.args.target in
     let old = c.self.inside.list.items in
-    let pushed : c.push.new.self.items ≡ old ++ t ∷ [] =
-    c.push.ensures.items
+    let pushed : c.push.new.self.items ≡ old ++ t ∷ [] = c.push.ensures.items
     ∙ ap (λ r. cond (is_ok r) (c.reserve.new.self.items ++ t ∷ []) c.reserve.new.self.items) c.unwrap.ensures
     ∙ ap (λ (ts : List Target). ts ++ t ∷ []) c.reserve.ensures.items in
     let puts = c.in_ok-insert.ensures.updates.0 in
-    table_same (old ++ t ∷ []) c.push.new.self.items _ pushed
-    (table_push old _ _ t c.len-place.result c.self.invariant
-    (omega (arith, c.len-place.ensures, c.self.inside.list.ok.0))
+    table_same pushed (table_push _ t c.self.invariant (omega (arith, c.len-place.ensures, c.self.inside.list.ok.0))
     (sym c.get.ensures.value ∙ sym c.copied.ensures ∙ c.in_default.is) (λ state sets. puts (state, sets)))
 
 pub returns-clause-placed : goal.returns-clause-placed
 returns-clause-placed c =
     let t = c.args.target in
     let old = c.self.inside.list.items in
-    let pushed : c.push.new.self.items ≡ old ++ t ∷ [] =
-    c.push.ensures.items
+    let pushed : c.push.new.self.items ≡ old ++ t ∷ [] = c.push.ensures.items
     ∙ ap (λ r. cond (is_ok r) (c.reserve.new.self.items ++ t ∷ []) c.reserve.new.self.items) c.unwrap.ensures
     ∙ ap (λ (ts : List Target). ts ++ t ∷ []) c.reserve.ensures.items in
     let size : c.len-place.result ≡ length old = omega (arith, c.len-place.ensures, c.self.inside.list.ok.0) in
@@ -48,4 +43,4 @@ returns-clause-placed c =
     }
 
 pub returns-clause-distinct : goal.returns-clause-distinct
-returns-clause-distinct c = distinct_by_table c.push.new.self.items _ (invariant_of-self-2 c)
+returns-clause-distinct c = distinct_by_table (invariant_of-self-2 c)

@@ -19,98 +19,92 @@ returns-in-Some-clause-leaf t c = (c.requires.known c.args.node c.in-Some.made.n
 
 pub divided_test-requires-clause-low_later : goal.divided_test-requires-clause-low_later
 divided_test-requires-clause-low_later t c =
-    let s = sides_of_test _ _ _ _ _ c.in-Test.ensures.part in
-    let both = are_divided c.divided.new.self c.divided-in-Test.new.self c.divided-in-Test.ensures.keeps c.args.split
-    (tree_of c.args.other.now c.in-Test.low) (tree_of c.args.other.now c.in-Test.high) _ _
+    let s = sides_of_test c.in-Test.ensures.part in
+    let both = are_divided c.divided-in-Test.ensures.keeps c.args.split
+    (tree_of c.args.other.now c.in-Test.low) (tree_of c.args.other.now c.in-Test.high) _
     c.in_ok-low-in-Test.ensures.held c.in_ok-low-in-Test.ensures.leaf c.in_ok-high-in-Test.ensures.leaf in
-    divided_blind c.divided-in-Test.new.self c.allocator.ensures.sound c.args.split _ _ _ both.low s.low_later
+    divided_blind c.allocator.ensures.sound c.args.split _ _ _ both.low s.low_later
 
 pub divided_test-requires-clause-high_later : goal.divided_test-requires-clause-high_later
 divided_test-requires-clause-high_later t c =
-    let s = sides_of_test _ _ _ _ _ c.in-Test.ensures.part in
-    let both = are_divided c.divided.new.self c.divided-in-Test.new.self c.divided-in-Test.ensures.keeps c.args.split
-    (tree_of c.args.other.now c.in-Test.low) (tree_of c.args.other.now c.in-Test.high) _ _
+    let s = sides_of_test c.in-Test.ensures.part in
+    let both = are_divided c.divided-in-Test.ensures.keeps c.args.split
+    (tree_of c.args.other.now c.in-Test.low) (tree_of c.args.other.now c.in-Test.high) _
     c.in_ok-low-in-Test.ensures.held c.in_ok-low-in-Test.ensures.leaf c.in_ok-high-in-Test.ensures.leaf in
-    divided_blind c.divided-in-Test.new.self c.allocator.ensures.sound c.args.split _ _ _ both.high s.high_later
+    divided_blind c.allocator.ensures.sound c.args.split _ _ _ both.high s.high_later
 
 pub divided_test-requires-clause-low_leads : goal.divided_test-requires-clause-low_leads
 divided_test-requires-clause-low_leads t c =
-    let s = sides_of_test _ _ _ _ _ c.in-Test.ensures.part in
-    let both = are_divided c.divided.new.self c.divided-in-Test.new.self c.divided-in-Test.ensures.keeps c.args.split
-    (tree_of c.args.other.now c.in-Test.low) (tree_of c.args.other.now c.in-Test.high) _ _
+    let s = sides_of_test c.in-Test.ensures.part in
+    let both = are_divided c.divided-in-Test.ensures.keeps c.args.split
+    (tree_of c.args.other.now c.in-Test.low) (tree_of c.args.other.now c.in-Test.high) _
     c.in_ok-low-in-Test.ensures.held c.in_ok-low-in-Test.ensures.leaf c.in_ok-high-in-Test.ensures.leaf in
     divided_leads c.divided-in-Test.new.self c.args.split _ _ _ both.low s.low_later
 
 pub divided_test-requires-clause-high_leads : goal.divided_test-requires-clause-high_leads
 divided_test-requires-clause-high_leads t c =
-    let s = sides_of_test _ _ _ _ _ c.in-Test.ensures.part in
-    let both = are_divided c.divided.new.self c.divided-in-Test.new.self c.divided-in-Test.ensures.keeps c.args.split
-    (tree_of c.args.other.now c.in-Test.low) (tree_of c.args.other.now c.in-Test.high) _ _
+    let s = sides_of_test c.in-Test.ensures.part in
+    let both = are_divided c.divided-in-Test.ensures.keeps c.args.split
+    (tree_of c.args.other.now c.in-Test.low) (tree_of c.args.other.now c.in-Test.high) _
     c.in_ok-low-in-Test.ensures.held c.in_ok-low-in-Test.ensures.leaf c.in_ok-high-in-Test.ensures.leaf in
     divided_leads c.divided-in-Test.new.self c.args.split _ _ _ both.high s.high_later
 
 pub returns-in_err-made-in-Test-clause-known : goal.returns-in_err-made-in-Test-clause-known
-returns-in_err-made-in-Test-clause-known t c = known_divided_kept c.args.other.now c.divided-in-Test.new.self
-    c.divided_test.new.self c.args.split (get nat_eq c.divided-in-Test.new.known) c.divided_test.ensures.keeps
-    c.divided-in-Test.ensures.known
+returns-in_err-made-in-Test-clause-known t c =
+    known_divided_kept c.args.other.now c.args.split (get nat_eq c.divided-in-Test.new.known)
+    c.divided_test.ensures.keeps c.divided-in-Test.ensures.known
 
 pub returns-in_err-insert-in-Test-clause-keeps : goal.returns-in_err-insert-in-Test-clause-keeps
 returns-in_err-insert-in-Test-clause-keeps t c =
-    keeps_trans _ _ _ (keeps_trans _ _ _ c.divided.ensures.keeps c.divided-in-Test.ensures.keeps)
-    c.divided_test.ensures.keeps
+    keeps_trans (keeps_trans c.divided.ensures.keeps c.divided-in-Test.ensures.keeps) c.divided_test.ensures.keeps
 
 pub returns-in_err-insert-in-Test-clause-known : goal.returns-in_err-insert-in-Test-clause-known
 returns-in_err-insert-in-Test-clause-known t c =
     knows_same (IsDivided c.divided_test.new.self c.args.split) c.args.other.now c.divided_test.new.self
     (get nat_eq c.divided-in-Test.new.known) (get nat_eq c.insert.new.self)
     (λ q. ap (λ es. lookup (nat_eq q) es) c.in_err-insert-in-Test.ensures.err)
-    (known_divided_kept c.args.other.now c.divided-in-Test.new.self c.divided_test.new.self c.args.split
+    (known_divided_kept c.args.other.now c.args.split
     (get nat_eq c.divided-in-Test.new.known) c.divided_test.ensures.keeps c.divided-in-Test.ensures.known)
 
 pub returns-in-Nothing-clause-known : goal.returns-in-Nothing-clause-known
-returns-in-Nothing-clause-known t c = known_divided_kept c.args.other.now c.args.self.now c.place_of_leaf.new.self
+returns-in-Nothing-clause-known t c = known_divided_kept c.args.other.now
     c.args.split (get nat_eq c.args.known.now) c.place_of_leaf.ensures.keeps c.requires.known
 
 pub returns-in-Nothing-clause-tests : goal.returns-in-Nothing-clause-tests
-returns-in-Nothing-clause-tests t c = tests_kept c.args.self.now c.place_of_leaf.new.self
+returns-in-Nothing-clause-tests t c = tests_kept
     (get test_eq c.args.tests.now) c.place_of_leaf.ensures.keeps c.requires.tests
 
 pub returns-in-Nothing-clause-leaf : goal.returns-in-Nothing-clause-leaf
 returns-in-Nothing-clause-leaf t c =
-    IfOk-weaker c.place_of_leaf.result _ _
-    (λ made of. of c.args.split (tree_of c.args.other.now c.args.node)
+    IfOk-weaker c.place_of_leaf.result _ _ (λ made of. of c.args.split (tree_of c.args.other.now c.args.node)
     (λ f. ap (λ x. leaf_at x f) c.in-Nothing.ensures.part)) c.place_of_leaf.ensures.leaf
 
 pub returns-in-Leaf-clause-known : goal.returns-in-Leaf-clause-known
-returns-in-Leaf-clause-known t c = known_divided_kept c.args.other.now c.args.self.now
-    c.place_of_leaf-in-Leaf.new.self c.args.split (get nat_eq c.args.known.now) c.place_of_leaf-in-Leaf.ensures.keeps
+returns-in-Leaf-clause-known t c =
+    known_divided_kept c.args.other.now c.args.split (get nat_eq c.args.known.now) c.place_of_leaf-in-Leaf.ensures.keeps
     c.requires.known
 
 pub returns-in-Leaf-clause-tests : goal.returns-in-Leaf-clause-tests
-returns-in-Leaf-clause-tests t c = tests_kept c.args.self.now c.place_of_leaf-in-Leaf.new.self
+returns-in-Leaf-clause-tests t c = tests_kept
     (get test_eq c.args.tests.now) c.place_of_leaf-in-Leaf.ensures.keeps c.requires.tests
 
 pub returns-in-Leaf-clause-leaf : goal.returns-in-Leaf-clause-leaf
 returns-in-Leaf-clause-leaf t c =
-    IfOk-weaker c.place_of_leaf-in-Leaf.result _ _
-    (λ made of. of c.args.split (tree_of c.args.other.now c.args.node)
+    IfOk-weaker c.place_of_leaf-in-Leaf.result _ _ (λ made of. of c.args.split (tree_of c.args.other.now c.args.node)
     (λ f. ap (λ x. leaf_at x f) c.in-Leaf.ensures.part)) c.place_of_leaf-in-Leaf.ensures.leaf
 
 pub returns-in_ok-insert-in-Test-clause-keeps : goal.returns-in_ok-insert-in-Test-clause-keeps
 returns-in_ok-insert-in-Test-clause-keeps t c =
-    keeps_trans _ _ _ (keeps_trans _ _ _ c.divided.ensures.keeps c.divided-in-Test.ensures.keeps)
-    c.divided_test.ensures.keeps
+    keeps_trans (keeps_trans c.divided.ensures.keeps c.divided-in-Test.ensures.keeps) c.divided_test.ensures.keeps
 
-made : (t : ℕ) (c : goal.In_ok-insert-in-Test t) →
-    IsDivided c.divided_test.new.self c.args.split (tree_of c.args.other.now c.args.node)
-    (tree_of c.divided_test.new.self c.in_ok-made-in-Test.made)
+made : (t : ℕ) (c : goal.In_ok-insert-in-Test t) → IsDivided c.divided_test.new.self c.args.split
+    (tree_of c.args.other.now c.args.node) (tree_of c.divided_test.new.self c.in_ok-made-in-Test.made)
 made t c =
-    let s = sides_of_test _ _ _ _ _ c.in-Test.ensures.part in
-    let both = are_divided c.divided.new.self c.divided-in-Test.new.self c.divided-in-Test.ensures.keeps c.args.split
-    (tree_of c.args.other.now c.in-Test.low) (tree_of c.args.other.now c.in-Test.high) _ _
+    let s = sides_of_test c.in-Test.ensures.part in
+    let both = are_divided c.divided-in-Test.ensures.keeps c.args.split
+    (tree_of c.args.other.now c.in-Test.low) (tree_of c.args.other.now c.in-Test.high) _
     c.in_ok-low-in-Test.ensures.held c.in_ok-low-in-Test.ensures.leaf c.in_ok-high-in-Test.ensures.leaf in
-    sides_divided c.divided-in-Test.new.self c.divided_test.new.self c.divided_test.ensures.keeps c.args.split
-    c.in-Test.proposition _ _ _ _ _ _ s.leaf c.in_ok-made-in-Test.ensures.leaf both
+    sides_divided c.divided_test.ensures.keeps c.in-Test.proposition _ _ s.leaf c.in_ok-made-in-Test.ensures.leaf both
 
 pub returns-in_ok-insert-in-Test-clause-leaf : goal.returns-in_ok-insert-in-Test-clause-leaf
 returns-in_ok-insert-in-Test-clause-leaf t c = made t c
@@ -120,7 +114,6 @@ returns-in_ok-insert-in-Test-clause-known t c =
     let s = c.args.other.now in
     let last = c.divided_test.new.self in
     knows_more (IsDivided last c.args.split) s last (get nat_eq c.divided-in-Test.new.known)
-    (get nat_eq c.insert.new.self) c.args.node c.in_ok-made-in-Test.made c.in_ok-insert-in-Test.ensures.updates.0
-    (known_divided_kept s c.divided-in-Test.new.self last c.args.split (get nat_eq c.divided-in-Test.new.known)
-    c.divided_test.ensures.keeps c.divided-in-Test.ensures.known)
-    c.requires.held c.in_ok-made-in-Test.ensures.held (made t c)
+    (get nat_eq c.insert.new.self) c.in_ok-insert-in-Test.ensures.updates.0
+    (known_divided_kept s c.args.split (get nat_eq c.divided-in-Test.new.known) c.divided_test.ensures.keeps
+    c.divided-in-Test.ensures.known) c.requires.held c.in_ok-made-in-Test.ensures.held (made t c)

@@ -26,9 +26,8 @@ changed-requires-in-Leaf g t c =
     subst P (ap (λ u. leaf_at u (λ _. false)) c.in-Leaf.ensures.part) (c.requires.fits (λ _. false))
 
 pub mapped_by-requires : goal.mapped_by-requires
-mapped_by-requires g t c =
-    λ κs b.
-    let s = sides_of_test _ _ _ _ _ c.in-Test.ensures.part in (
+mapped_by-requires g t c = λ κs b.
+    let s = sides_of_test c.in-Test.ensures.part in (
       search rules,
       (
         search rules,
@@ -37,7 +36,7 @@ mapped_by-requires g t c =
           (
             c.requires.few,
             (
-              on_low (λ x. g.R.LeafRule.fits c.args.rule.now x) _ _ _ _ _ s c.requires.fits,
+              on_low (λ x. g.R.LeafRule.fits c.args.rule.now x) s c.requires.fits,
               c.requires.known,
             ),
           ),
@@ -46,14 +45,13 @@ mapped_by-requires g t c =
     )
 
 pub mapped_by-requires-in-Test : goal.mapped_by-requires-in-Test
-mapped_by-requires-in-Test g t c =
-    λ κs b.
-    let s = sides_of_test _ _ _ _ _ c.in-Test.ensures.part in
+mapped_by-requires-in-Test g t c = λ κs b.
+    let s = sides_of_test c.in-Test.ensures.part in
     let now = c.args.self.now in
     let then = c.mapped_by.new.self in
     let other = option_copied c.args.other in
     let k = c.mapped_by.ensures.keeps in
-    let j : Keeps (unwrap_or other now) (unwrap_or other then) = read_keeps other now then k in
+    let j : Keeps (unwrap_or other now) (unwrap_or other then) = read_keeps other k in
     let few : (unwrap_or other then).propositions ≤ then.propositions = omega
     (arith, j.propositions, k.propositions, c.requires.few) in (
       search rules,
@@ -64,9 +62,8 @@ mapped_by-requires-in-Test g t c =
           (
             few,
             (
-              kept (λ u. (f : ℕ → Bool) → g.R.LeafRule.fits c.args.rule.now (leaf_at u f)) (unwrap_or other now)
-                  (unwrap_or other then) j c.in-Test.high s.high_held
-                  (on_high (λ x. g.R.LeafRule.fits c.args.rule.now x) _ _ _ _ _ s c.requires.fits),
+              kept (λ u. (f : ℕ → Bool) → g.R.LeafRule.fits c.args.rule.now (leaf_at u f)) j s.high_held
+                  (on_high (λ x. g.R.LeafRule.fits c.args.rule.now x) s c.requires.fits),
               c.mapped_by.ensures.known,
             ),
           ),
@@ -76,23 +73,18 @@ mapped_by-requires-in-Test g t c =
 
 pub test-requires-clause-low_later : goal.test-requires-clause-low_later
 test-requires-clause-low_later g t c =
-    let s = sides_of_test _ _ _ _ _ c.in-Test.ensures.part in
+    let s = sides_of_test c.in-Test.ensures.part in
     let read = unwrap_or (option_copied c.args.other) c.args.self.now in
-    mapped_blind (g.R.LeafRule.rule c.args.rule.now) _ _ _
-    (kept (λ u. IsMapped (g.R.LeafRule.rule c.args.rule.now) (tree_of read c.in-Test.low) u) c.mapped_by.new.self
-    c.mapped_by-in-Test.new.self c.mapped_by-in-Test.ensures.keeps c.in_ok-low-in-Test.low
-    c.in_ok-low-in-Test.ensures.held c.in_ok-low-in-Test.ensures.leaf) s.low_later
+    mapped_blind (g.R.LeafRule.rule c.args.rule.now) _ _ _ (kept
+    (λ u. IsMapped (g.R.LeafRule.rule c.args.rule.now) (tree_of read c.in-Test.low) u)
+    c.mapped_by-in-Test.ensures.keeps c.in_ok-low-in-Test.ensures.held c.in_ok-low-in-Test.ensures.leaf) s.low_later
 
 pub test-requires-clause-high_later : goal.test-requires-clause-high_later
 test-requires-clause-high_later g t c =
-    let s = sides_of_test _ _ _ _ _ c.in-Test.ensures.part in
+    let s = sides_of_test c.in-Test.ensures.part in
     let other = option_copied c.args.other in
-    let now = c.args.self.now in
-    let then = c.mapped_by.new.self in
-    mapped_blind (g.R.LeafRule.rule c.args.rule.now) _ _ _
-    (back (λ u. IsMapped (g.R.LeafRule.rule c.args.rule.now) u
-    (tree_of c.mapped_by-in-Test.new.self c.in_ok-high-in-Test.high)) (unwrap_or other now)
-    (unwrap_or other then) (read_keeps other now then c.mapped_by.ensures.keeps) c.in-Test.high
+    mapped_blind (g.R.LeafRule.rule c.args.rule.now) _ _ _ (back (λ u. IsMapped (g.R.LeafRule.rule c.args.rule.now) u
+    (tree_of c.mapped_by-in-Test.new.self c.in_ok-high-in-Test.high)) (read_keeps other c.mapped_by.ensures.keeps)
     s.high_held c.in_ok-high-in-Test.ensures.leaf) s.high_later
 
 pub test-requires-clause-named : goal.test-requires-clause-named
@@ -103,41 +95,35 @@ test-requires-clause-named g t c =
     omega (arith, below, one, two, c.requires.few)
 
 pub returns-in_err-changed-in-Test-clause-keeps : goal.returns-in_err-changed-in-Test-clause-keeps
-returns-in_err-changed-in-Test-clause-keeps g t c = keeps_trans _ _ _
-    (keeps_trans _ _ _ c.mapped_by.ensures.keeps c.mapped_by-in-Test.ensures.keeps) c.test.ensures.keeps
+returns-in_err-changed-in-Test-clause-keeps g t c = keeps_trans
+    (keeps_trans c.mapped_by.ensures.keeps c.mapped_by-in-Test.ensures.keeps) c.test.ensures.keeps
 
 pub returns-in_err-insert-in-Test-clause-keeps : goal.returns-in_err-insert-in-Test-clause-keeps
-returns-in_err-insert-in-Test-clause-keeps g t c = keeps_trans _ _ _
-    (keeps_trans _ _ _ c.mapped_by.ensures.keeps c.mapped_by-in-Test.ensures.keeps) c.test.ensures.keeps
+returns-in_err-insert-in-Test-clause-keeps g t c = keeps_trans
+    (keeps_trans c.mapped_by.ensures.keeps c.mapped_by-in-Test.ensures.keeps) c.test.ensures.keeps
 
 pub returns-in_ok-insert-in-Test-clause-known : goal.returns-in_ok-insert-in-Test-clause-known
 returns-in_ok-insert-in-Test-clause-known g t c =
     let rule = g.R.LeafRule.rule c.args.rule.now in
-    let s = sides_of_test _ _ _ _ _ c.in-Test.ensures.part in
+    let s = sides_of_test c.in-Test.ensures.part in
     let other = option_copied c.args.other in
     let now = c.args.self.now in
-    let then = c.mapped_by.new.self in
     let mid = c.mapped_by-in-Test.new.self in
     let last = c.test.new.self in
     let k : Keeps now last =
-    keeps_trans _ _ _ (keeps_trans _ _ _ c.mapped_by.ensures.keeps c.mapped_by-in-Test.ensures.keeps)
-    c.test.ensures.keeps in
-    let j = read_keeps other now last k in
+    keeps_trans (keeps_trans c.mapped_by.ensures.keeps c.mapped_by-in-Test.ensures.keeps) c.test.ensures.keeps in
+    let j = read_keeps other k in
     let read = unwrap_or other now in
-    let low = kept (λ u. IsMapped rule (tree_of read c.in-Test.low) u) then mid c.mapped_by-in-Test.ensures.keeps
-    c.in_ok-low-in-Test.low c.in_ok-low-in-Test.ensures.held c.in_ok-low-in-Test.ensures.leaf in
-    let high = back (λ u. IsMapped rule u (tree_of mid c.in_ok-high-in-Test.high)) read (unwrap_or other then)
-    (read_keeps other now then c.mapped_by.ensures.keeps) c.in-Test.high s.high_held
-    c.in_ok-high-in-Test.ensures.leaf in
+    let low = kept (λ u. IsMapped rule (tree_of read c.in-Test.low) u) c.mapped_by-in-Test.ensures.keeps
+    c.in_ok-low-in-Test.ensures.held c.in_ok-low-in-Test.ensures.leaf in
+    let high = back (λ u. IsMapped rule u (tree_of mid c.in_ok-high-in-Test.high))
+    (read_keeps other c.mapped_by.ensures.keeps) s.high_held c.in_ok-high-in-Test.ensures.leaf in
     let made = mapped_test rule c.in-Test.proposition (tree_of read c.args.node) (tree_of read c.in-Test.low)
     (tree_of read c.in-Test.high) (tree_of last c.in_ok-changed-in-Test.changed) _ _ s.leaf
     c.in_ok-changed-in-Test.ensures.leaf low high in
     knows_more (IsMapped rule) (unwrap_or other last) last (get nat_eq c.mapped_by-in-Test.new.known)
-    (get nat_eq c.insert.new.self) c.args.node c.in_ok-changed-in-Test.changed
-    c.in_ok-insert-in-Test.ensures.updates.0
+    (get nat_eq c.insert.new.self) c.in_ok-insert-in-Test.ensures.updates.0
     (knows_kept (IsMapped rule) (unwrap_or other mid) (unwrap_or other last) mid last
-    (get nat_eq c.mapped_by-in-Test.new.known) (read_keeps other mid last c.test.ensures.keeps)
-    c.test.ensures.keeps c.mapped_by-in-Test.ensures.known)
-    (j.held c.args.node c.requires.held) c.in_ok-changed-in-Test.ensures.held
-    (kept (λ u. IsMapped rule u (tree_of last c.in_ok-changed-in-Test.changed)) read (unwrap_or other last) j
-    c.args.node c.requires.held made)
+    (get nat_eq c.mapped_by-in-Test.new.known) (read_keeps other c.test.ensures.keeps) c.test.ensures.keeps
+    c.mapped_by-in-Test.ensures.known) (j.held c.args.node c.requires.held) c.in_ok-changed-in-Test.ensures.held
+    (kept (λ u. IsMapped rule u (tree_of last c.in_ok-changed-in-Test.changed)) j c.requires.held made)

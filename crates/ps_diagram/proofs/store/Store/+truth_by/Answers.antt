@@ -3,7 +3,7 @@ use Rattle.ps_label.specs.Expression.{expression}
 use Rattle.ps_label.specs.Truth.{truth}
 use Rattle.ps_label.proofs.Rows.{expression-Both, expression-Either}
 use Rattle.ps_diagram.specs.Leaves.{opposite}
-use Rattle.ps_diagram.specs.Table.{Keeps, leaf_of}
+use Rattle.ps_diagram.specs.Table.{Keeps}
 use Rattle.ps_diagram.specs.Unions.{IsTruth, first_leaf, leaves_of}
 use Rattle.ps_diagram.proofs.KnownLemmas.{keeps_trans}
 use Rattle.ps_diagram.proofs.Truths.{IsAny, IsNotAll, truths_kept, opposite_of, any_more, all_more, any_rest, all_rest}
@@ -17,7 +17,7 @@ loop-operand-init t c =
     let within = rw is at c.requires.within in
     rw (c.deref-operand-items.ensures.value, is) (record {
       keeps = search rules;
-      nodes = no_nodes c.args.self.now c.new-nodes.result.items c.new-nodes.ensures.items;
+      nodes = no_nodes c.args.self.now c.new-nodes.ensures.items;
       aliases = c.requires.aliases;
       within = within;
       leaf = λ known h letter. record {
@@ -33,13 +33,12 @@ loop-operand-2-init t c =
     let within = rw is at c.requires.within in
     rw (c.deref-operand-items-in-Either.ensures.value, is) (record {
       keeps = search rules;
-      nodes = no_nodes c.args.self.now c.new-nodes-in-Either.result.items c.new-nodes-in-Either.ensures.items;
+      nodes = no_nodes c.args.self.now c.new-nodes-in-Either.ensures.items;
       aliases = c.requires.aliases;
       within = within;
       leaf = λ known h letter. record {
         so_far = false;
-        is = ap (λ (ns : List ℕ). first_leaf (leaves_of c.args.self.now ns letter))
-            c.new-nodes-in-Either.ensures.items;
+        is = ap (λ (ns : List ℕ). first_leaf (leaves_of c.args.self.now ns letter)) c.new-nodes-in-Either.ensures.items;
         decides = refl;
       };
     })
@@ -52,11 +51,11 @@ loop-operand-preserved t c =
     let items = c.deref-operand-items.result.now in
     let here : l.operand-index < length items = omega arith in
     let u = c.negated-in-loop-operand.new.self in
-    let k : Keeps l.self u = keeps_trans _ _ _ c.truth_by-in-loop-operand.ensures.keeps
+    let k : Keeps l.self u = keeps_trans c.truth_by-in-loop-operand.ensures.keeps
     c.negated-in-loop-operand.ensures.keeps in
     let not = c.in_ok-negated-in-Both.field-0 in
     let a = c.requires.aliases in
-    let kept = λ (known : ℕ → List Bool). truths_kept c.args.self.now l.self c.args.aliases.now known v.keeps in
+    let kept = λ (known : ℕ → List Bool). truths_kept v.keeps in
     let is_truth : IsTruth u not = record {
       held = c.in_ok-negated-in-Both.ensures.held;
       leaf = λ letter.
@@ -67,23 +66,19 @@ loop-operand-preserved t c =
           );
     } in
     record {
-      keeps = keeps_trans _ _ _ v.keeps k;
-      nodes = truths_more l.self u l.nodes.items c.push.new.self.items not k v.nodes is_truth
-          c.in_ok-push-in-Both.ensures.items;
-      aliases = some_kept l.self u c.args.aliases.now k v.aliases;
-      within = row_kept l.self u _ _ k (over_rest _ _ items l.operand-index x.result here x.is v.within).1;
+      keeps = keeps_trans v.keeps k;
+      nodes = truths_more l.nodes.items k v.nodes is_truth c.in_ok-push-in-Both.ensures.items;
+      aliases = some_kept k v.aliases;
+      within = row_kept _ _ k (over_rest _ _ items l.operand-index here x.is v.within).1;
       leaf = λ known h letter.
           let whole = truth (known letter) letter (expression c.args.label.now) in
           let b = truth (known letter) letter (expression x.result) in
           let old = first_leaf (leaves_of l.self l.nodes.items letter) in
           let R : Bool → Type 0 = λ r. IsNotAll old r whole in
-          let before = subst R (all_rest (known letter) letter items l.operand-index x.result here x.is)
+          let before = subst R (all_rest (known letter) letter items l.operand-index here x.is)
           (v.leaf known h letter) in
-          all_more old _ (leaf_of c.truth_by-in-loop-operand.new.self c.in_ok-node-in-Both.node letter)
-          (leaf_of u not letter) b _ whole before
-          (c.in_ok-node-in-Both.ensures.leaf known (kept known h) letter)
-          (c.in_ok-negated-in-Both.ensures.leaf letter)
-          (union_more l.self u l.nodes.items c.push.new.self.items not letter k v.nodes
+          all_more b _ before (c.in_ok-node-in-Both.ensures.leaf known (kept known h) letter)
+          (c.in_ok-negated-in-Both.ensures.leaf letter) (union_more l.nodes.items not letter k v.nodes
           c.in_ok-push-in-Both.ensures.items);
     }
 
@@ -98,7 +93,7 @@ loop-operand-2-preserved t c =
     let k = c.truth_by-in-loop-operand-2.ensures.keeps in
     let node = c.in_ok-truth_by-in-Either.field-0 in
     let a = c.requires.aliases in
-    let kept = λ (known : ℕ → List Bool). truths_kept c.args.self.now l.self c.args.aliases.now known v.keeps in
+    let kept = λ (known : ℕ → List Bool). truths_kept v.keeps in
     let is_truth : IsTruth u node = record {
       held = c.in_ok-truth_by-in-Either.ensures.held;
       leaf = λ letter. (
@@ -107,20 +102,17 @@ loop-operand-2-preserved t c =
       );
     } in
     record {
-      keeps = keeps_trans _ _ _ v.keeps k;
-      nodes = truths_more l.self u l.nodes.items c.push-in-loop-operand-2.new.self.items node k v.nodes is_truth
-          c.in_ok-push-in-Either.ensures.items;
-      aliases = some_kept l.self u c.args.aliases.now k v.aliases;
-      within = row_kept l.self u _ _ k (over_rest _ _ items l.operand-index x.result here x.is v.within).1;
+      keeps = keeps_trans v.keeps k;
+      nodes = truths_more l.nodes.items k v.nodes is_truth c.in_ok-push-in-Either.ensures.items;
+      aliases = some_kept k v.aliases;
+      within = row_kept _ _ k (over_rest _ _ items l.operand-index here x.is v.within).1;
       leaf = λ known h letter.
           let whole = truth (known letter) letter (expression c.args.label.now) in
           let b = truth (known letter) letter (expression x.result) in
           let old = first_leaf (leaves_of l.self l.nodes.items letter) in
           let R : Bool → Type 0 = λ r. IsAny old r whole in
-          let before = subst R (any_rest (known letter) letter items l.operand-index x.result here x.is)
+          let before = subst R (any_rest (known letter) letter items l.operand-index here x.is)
           (v.leaf known h letter) in
-          any_more old _ (leaf_of u node letter) b _ whole before
-          (c.in_ok-truth_by-in-Either.ensures.leaf known (kept known h) letter)
-          (union_more l.self u l.nodes.items c.push-in-loop-operand-2.new.self.items node letter k v.nodes
-          c.in_ok-push-in-Either.ensures.items);
+          any_more b _ before (c.in_ok-truth_by-in-Either.ensures.leaf known (kept known h) letter)
+          (union_more l.nodes.items node letter k v.nodes c.in_ok-push-in-Either.ensures.items);
     }

@@ -6,29 +6,22 @@ use Rattle.ps_diagram.proofs.store.Store.+union_of.Goals as goal
 pub union_of-requires-2 : goal.union_of-requires-2
 union_of-requires-2 t c = (
   search rules,
-  back_kept c.args.self.now c.union_of.new.self c.args.nodes.now c.split_at.result.1.now _ c.split_at.ensures.back
-      c.in_ok-one.ensures.keeps c.requires.truths,
+  back_kept c.args.nodes.now _ c.split_at.ensures.back c.in_ok-one.ensures.keeps c.requires.truths,
 )
 
 pub either-requires-clause-first_truth : goal.either-requires-clause-first_truth
-either-requires-clause-first_truth t c =
-    one_truth c.args.self.now c.union_of.new.self c.union_of-2.new.self c.args.nodes.now c.split_at.result.0.now
-    c.split_at.result.1.now _ c.in_ok-one.one c.in_ok-other.other
+either-requires-clause-first_truth t c = one_truth c.args.nodes.now _ c.in_ok-other.other
     c.split_at.ensures.front c.split_at.ensures.back c.in_ok-one.ensures.keeps c.in_ok-other.ensures.keeps
     c.in_ok-one.ensures.held c.requires.truths c.in_ok-one.ensures.leaf
 
 pub either-requires-clause-second_truth : goal.either-requires-clause-second_truth
 either-requires-clause-second_truth t c = λ letter.
     let truth = union_truth c.union_of.new.self c.split_at.result.1.now letter
-    (back_kept c.args.self.now c.union_of.new.self c.args.nodes.now c.split_at.result.1.now _ c.split_at.ensures.back
-    c.in_ok-one.ensures.keeps c.requires.truths) in
+    (back_kept c.args.nodes.now _ c.split_at.ensures.back c.in_ok-one.ensures.keeps c.requires.truths) in
     (truth.0, c.in_ok-other.ensures.leaf letter ∙ truth.1)
 
 pub returns-clause-leaf : goal.returns-clause-leaf
-returns-clause-leaf t c = IfOk-weaker c.either.result _ _
-    (λ node h letter. h letter
-    ∙ union_halves c.args.self.now c.union_of.new.self c.union_of-2.new.self c.args.nodes.now
-    c.split_at.result.0.now c.split_at.result.1.now _ c.in_ok-one.one c.in_ok-other.other
-    c.split_at.ensures.front c.split_at.ensures.back c.in_ok-one.ensures.keeps c.in_ok-other.ensures.keeps
-    c.in_ok-one.ensures.held c.requires.truths c.in_ok-one.ensures.leaf letter (c.in_ok-other.ensures.leaf letter))
-    c.either.ensures.leaf
+returns-clause-leaf t c = IfOk-weaker c.either.result _ _ (λ node h letter. h letter
+    ∙ union_halves c.args.nodes.now _ c.in_ok-other.other c.split_at.ensures.front c.split_at.ensures.back
+    c.in_ok-one.ensures.keeps c.in_ok-other.ensures.keeps c.in_ok-one.ensures.held c.requires.truths
+    c.in_ok-one.ensures.leaf letter (c.in_ok-other.ensures.leaf letter)) c.either.ensures.leaf

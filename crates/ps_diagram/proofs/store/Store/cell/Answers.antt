@@ -16,4 +16,4 @@ returns-clause-part c =
     get_or_default t.cells c.args.node Nothing r held ∙ ap (λ k. get_or t.cells k r) (sym c.node.view_is)
     ∙ ap (λ xs. get_or xs c.node.inside.place r) (sym c.as_slice.ensures.keys) ∙ sym c.index-as_slice-node.is in
     let P : Table → Type 0 = λ u. IsPart u c.args.node r in
-    subst P c.self.view_is (part_of t c.args.node r c.self.invariant held is)
+    subst P c.self.view_is (part_of r c.self.invariant held is)

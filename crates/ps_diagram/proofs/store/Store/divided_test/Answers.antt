@@ -19,8 +19,7 @@ returns-then-split-proposition-eq1-clause-leaf c =
     eq-eqb _ 1 (sym (shr_and_one c.args.split c.args.proposition) ∙ c.if-split-proposition-eq1.true) in
     IfOk-weaker c.test.result _ _ (λ made e. divided_in then c.args.split c.args.proposition (c.args.proposition + 1)
     (tree_of now c.args.low) (tree_of now c.args.high) (tree_of then made) is
-    (leads_kept now then k _ _ c.requires.low_leads) (leads_kept now then k _ _ c.requires.high_leads) e)
-    c.test.ensures.leaf
+    (leads_kept k _ _ c.requires.low_leads) (leads_kept k _ _ c.requires.high_leads) e) c.test.ensures.leaf
 
 pub returns-clause-leaf : goal.returns-clause-leaf
 returns-clause-leaf c =

@@ -26,7 +26,7 @@ test-requires-clause-low_later c =
     let later : IsBlind (c.args.proposition + 1) (tree_of t node) =
     subst (λ (x : ℕ). IsBlind (c.args.proposition + 1) (tree_of t x)) (sym c.node_or-low.ensures)
     (c.requires.row.later c.loop-place.place) in
-    kept (IsBlind (c.args.proposition + 1)) t c.loop-place.self c.loop-place.invariant.keeps node held later
+    kept (IsBlind (c.args.proposition + 1)) c.loop-place.invariant.keeps held later
 
 pub test-requires-clause-high_later : goal.test-requires-clause-high_later
 test-requires-clause-high_later c =
@@ -37,7 +37,7 @@ test-requires-clause-high_later c =
     let later : IsBlind (c.args.proposition + 1) (tree_of t node) =
     subst (λ (x : ℕ). IsBlind (c.args.proposition + 1) (tree_of t x)) (sym c.node_or-high.ensures)
     (c.requires.row.later place) in
-    kept (IsBlind (c.args.proposition + 1)) t c.loop-place.self c.loop-place.invariant.keeps node held later
+    kept (IsBlind (c.args.proposition + 1)) c.loop-place.invariant.keeps held later
 
 pub returns-clause-row : goal.returns-clause-row
 returns-clause-row c =
@@ -45,10 +45,7 @@ returns-clause-row c =
     let nodes = c.args.nodes.now in
     let half : c.power-half.result ≡ 2 ^ p = c.power-half.ensures.value in
     let done : c.loop-place.place ≡ min (length nodes) (2 ^ p) = omega (arith, half) in
-    half_row c.args.self.now c.loop-place.self p c.args.none nodes c.loop-place.made.items c.requires.row
-    c.loop-place.invariant.keeps
-    (all_tests c.args.self.now c.loop-place.self p c.args.none c.power-half.result nodes c.loop-place.place
-    c.loop-place.made.items half done c.loop-place.invariant.tests)
+    half_row c.requires.row c.loop-place.invariant.keeps (all_tests half done c.loop-place.invariant.tests)
 
 pub returns-clause-leads : goal.returns-clause-leads
 returns-clause-leads c =
@@ -56,7 +53,4 @@ returns-clause-leads c =
     let nodes = c.args.nodes.now in
     let half : c.power-half.result ≡ 2 ^ p = c.power-half.ensures.value in
     let done : c.loop-place.place ≡ min (length nodes) (2 ^ p) = omega (arith, half) in
-    half_leads c.args.self.now c.loop-place.self p c.args.none nodes c.loop-place.made.items c.requires.row
-    c.loop-place.invariant.keeps
-    (all_tests c.args.self.now c.loop-place.self p c.args.none c.power-half.result nodes c.loop-place.place
-    c.loop-place.made.items half done c.loop-place.invariant.tests)
+    half_leads c.requires.row c.loop-place.invariant.keeps (all_tests half done c.loop-place.invariant.tests)

@@ -18,7 +18,7 @@ done c =
     let W : Table → Type 0 = λ t. IsWithin (length t.cells) c.args.cell in
     let O : Table → Type 0 = λ t. IsFrom 0 t.propositions (tree_in t.cells c.args.cell) in
     let R : Table → Type 0 = λ t. IsReduced (tree_in t.cells c.args.cell) in
-    interned (old c) (new c) c.args.cell c.in_ok-place.place _ same_view view_same c.self.invariant
+    interned (new c) c.in_ok-place.place _ same_view view_same c.self.invariant
     (subst W was c.requires.within) (subst O was c.requires.ordered) (subst R was c.requires.reduced) refl
     c.in_ok-place.ensures.keys c.in_ok-place.ensures.stored
 

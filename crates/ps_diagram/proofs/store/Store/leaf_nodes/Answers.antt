@@ -7,10 +7,10 @@ use Rattle.ps_diagram.proofs.KnownLemmas.{keeps_trans}
 use Rattle.ps_diagram.proofs.store.Store.leaf_nodes.Goals as goal
 
 pub returns-in_err-constant-clause-keeps : goal.returns-in_err-constant-clause-keeps
-returns-in_err-constant-clause-keeps c = keeps_trans _ _ _ c.loop-leaf.invariant.keeps c.constant.ensures.keeps
+returns-in_err-constant-clause-keeps c = keeps_trans c.loop-leaf.invariant.keeps c.constant.ensures.keeps
 
 pub returns-in_err-push-clause-keeps : goal.returns-in_err-push-clause-keeps
-returns-in_err-push-clause-keeps c = keeps_trans _ _ _ c.loop-leaf.invariant.keeps c.constant.ensures.keeps
+returns-in_err-push-clause-keeps c = keeps_trans c.loop-leaf.invariant.keeps c.constant.ensures.keeps
 
 pub loop-leaf-preserved : goal.loop-leaf-preserved
 loop-leaf-preserved c =
@@ -23,8 +23,6 @@ loop-leaf-preserved c =
     let has : HasLeaf c.constant.new.self node (slice_get leaves l.leaf-index) =
     subst (HasLeaf c.constant.new.self node) (sym at) (c.in_ok-constant.ensures.held, c.in_ok-constant.ensures.leaf) in
     record {
-      keeps = keeps_trans _ _ _ v.keeps k;
-      nodes_of =
-          leaf_nodes_more l.self c.constant.new.self leaves l.nodes.items c.push.new.self.items l.leaf-index node k
-          v.nodes_of c.in_ok-push.ensures.items has;
+      keeps = keeps_trans v.keeps k;
+      nodes_of = leaf_nodes_more node k v.nodes_of c.in_ok-push.ensures.items has;
     }

@@ -7,6 +7,5 @@ use Rattle.ps_diagram.proofs.store.Store.leaves.Goals as goal
 pub returns : goal.returns
 returns c =
     let P : List (ℕ × ℕ) → Type 0 = λ found. AreLeaves c.args.self.now c.args.node found in
-    IfOk-weaker c.listed.result _ _ (λ pairs e. subst P (sym e)
-    (are_leaves c.args.self.now c.args.node c.in_ok-found_below.field-0.entries c.in_ok-found_below.ensures))
+    IfOk-weaker c.listed.result _ _ (λ pairs e. subst P (sym e) (are_leaves c.in_ok-found_below.ensures))
     c.listed.ensures

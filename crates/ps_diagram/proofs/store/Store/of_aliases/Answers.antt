@@ -8,10 +8,10 @@ use Rattle.ps_diagram.proofs.Truths.{truths_push, alias_truth, aliases_rest, ali
 use Rattle.ps_diagram.proofs.store.Store.of_aliases.Goals as goal
 
 pub returns-in_err-node-clause-keeps : goal.returns-in_err-node-clause-keeps
-returns-in_err-node-clause-keeps c = keeps_trans _ _ _ c.loop-alias.invariant.keeps c.truth_by.ensures.keeps
+returns-in_err-node-clause-keeps c = keeps_trans c.loop-alias.invariant.keeps c.truth_by.ensures.keeps
 
 pub returns-in_err-push-clause-keeps : goal.returns-in_err-push-clause-keeps
-returns-in_err-push-clause-keeps c = keeps_trans _ _ _ c.loop-alias.invariant.keeps c.truth_by.ensures.keeps
+returns-in_err-push-clause-keeps c = keeps_trans c.loop-alias.invariant.keeps c.truth_by.ensures.keeps
 
 pub loop-alias-preserved : goal.loop-alias-preserved
 loop-alias-preserved c =
@@ -33,16 +33,14 @@ loop-alias-preserved c =
     let given = subst H (sym c.deref.ensures.value) v.truths in
     let leaf : (letter : ℕ) → leaf_of u node letter ≡ one_where (get_or (known letter) (length l.nodes.items) false) =
     λ letter. c.in_ok-node.ensures.leaf known given letter ∙ ap one_where
-    (sym (alias_truth labels letter l.alias-index x.result c.as_slice-alias-items.ensures.ordered within at)
+    (sym (alias_truth labels letter l.alias-index c.as_slice-alias-items.ensures.ordered within at)
     ∙ ap (λ j. get_or (known letter) j false) (sym v.count)) in
     let made : HaveTruths u (l.nodes.items ++ node ∷ []) known =
-    truths_push l.self u l.nodes.items node known k v.truths c.in_ok-node.ensures.held leaf in
+    truths_push k v.truths c.in_ok-node.ensures.held leaf in
     let N : List ℕ → Type 0 = λ ns. HaveTruths u ns known in
     record {
-      keeps = keeps_trans _ _ _ v.keeps k;
+      keeps = keeps_trans v.keeps k;
       count = omega (arith, c.in_ok-push.ensures.len);
-      within =
-          aliases_kept l.self u _ _ k (aliases_rest l.self.propositions l.alias-index items x.result here
-          x.is v.within).1;
+      within = aliases_kept _ _ k (aliases_rest l.self.propositions l.alias-index items here x.is v.within).1;
       truths = subst N (sym c.in_ok-push.ensures.items) made;
     }

@@ -11,21 +11,17 @@ loop-proposition-init c =
     let none = c.in_ok-none.none in
     let nodes = c.in_ok-nodes.nodes.items in
     let nothing : HasLeaf t none None =
-    has_leaf_kept c.constant.new.self t c.leaf_nodes.ensures.keeps none None
-    (c.in_ok-none.ensures.held, c.in_ok-none.ensures.leaf) in
+    has_leaf_kept c.leaf_nodes.ensures.keeps none None (c.in_ok-none.ensures.held, c.in_ok-none.ensures.leaf) in
     let n = c.propositions-proposition.ensures.value in
     record {
-      keeps = keeps_trans _ _ _ c.constant.ensures.keeps c.leaf_nodes.ensures.keeps;
-      row =
-          subst (λ (k : ℕ). IsRow t k none nodes) (sym n) (first_row t leaves nodes none nothing
-          c.in_ok-nodes.ensures.nodes);
-      leads =
-          subst (λ (k : ℕ). LeadsOn t leaves k none nodes) (sym n)
-          (first_leads t leaves nodes none nothing c.in_ok-nodes.ensures.nodes);
+      keeps = keeps_trans c.constant.ensures.keeps c.leaf_nodes.ensures.keeps;
+      row = subst (λ (k : ℕ). IsRow t k none nodes) (sym n) (first_row none nothing c.in_ok-nodes.ensures.nodes);
+      leads = subst (λ (k : ℕ). LeadsOn t leaves k none nodes) (sym n)
+          (first_leads none nothing c.in_ok-nodes.ensures.nodes);
     }
 
 pub returns-in_err-nodes-2-clause-keeps : goal.returns-in_err-nodes-2-clause-keeps
-returns-in_err-nodes-2-clause-keeps c = keeps_trans _ _ _ c.loop-proposition.invariant.keeps c.halved.ensures.keeps
+returns-in_err-nodes-2-clause-keeps c = keeps_trans c.loop-proposition.invariant.keeps c.halved.ensures.keeps
 
 pub loop-proposition-preserved : goal.loop-proposition-preserved
 loop-proposition-preserved c =
@@ -39,7 +35,7 @@ loop-proposition-preserved c =
     let given : LeadsOn l.self leaves (l.proposition - 1 + 1) none c.deref.result.now =
     subst (λ (ns : List ℕ). LeadsOn l.self leaves (l.proposition - 1 + 1) none ns) (sym c.deref.ensures.value) leads in
     record {
-      keeps = keeps_trans _ _ _ l.invariant.keeps c.halved.ensures.keeps;
+      keeps = keeps_trans l.invariant.keeps c.halved.ensures.keeps;
       row = c.in_ok-nodes-2.ensures.row;
       leads = c.in_ok-nodes-2.ensures.leads leaves given;
     }

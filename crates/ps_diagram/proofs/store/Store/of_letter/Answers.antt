@@ -11,8 +11,7 @@ loop-proposition-preserved-in_ok-node-2 c =
     let v = l.invariant in
     let k = c.test.ensures.keeps in
     let some : 0 < l.proposition = omega arith in
-    let within : l.proposition ≤ l.self.propositions =
-    omega (
+    let within : l.proposition ≤ l.self.propositions = omega (
       arith,
       v.keeps.propositions,
       c.propositions-proposition.ensures.value,
@@ -20,14 +19,11 @@ loop-proposition-preserved-in_ok-node-2 c =
       c.in_ok-node.ensures.keeps.propositions,
     ) in
     record {
-      keeps = keeps_trans _ _ _ v.keeps k;
+      keeps = keeps_trans v.keeps k;
       none_held = k.held _ v.none_held;
       held = c.in_ok-node-2.ensures.held;
-      nothing =
-          kept (λ u. (f : ℕ → Bool) → leaf_at u f ≡ None) l.self c.test.new.self k c.in_ok-none.none
-          v.none_held v.nothing;
-      alone =
-          step_true l.self c.test.new.self l.proposition c.args.letter c.in_ok-none.none l.node c.in_ok-node-2.node k
+      nothing = kept (λ u. (f : ℕ → Bool) → leaf_at u f ≡ None) k v.none_held v.nothing;
+      alone = step_true c.in_ok-none.none l.node c.in_ok-node-2.node k
           some within v.nothing v.alone (bit_true _ _ c.if-letter-proposition-eq1.true) c.in_ok-node-2.ensures.leaf;
     }
 
@@ -37,8 +33,7 @@ loop-proposition-preserved c =
     let v = l.invariant in
     let k = c.test-else-letter-proposition-eq1.ensures.keeps in
     let some : 0 < l.proposition = omega arith in
-    let within : l.proposition ≤ l.self.propositions =
-    omega (
+    let within : l.proposition ≤ l.self.propositions = omega (
       arith,
       v.keeps.propositions,
       c.propositions-proposition.ensures.value,
@@ -46,25 +41,19 @@ loop-proposition-preserved c =
       c.in_ok-node.ensures.keeps.propositions,
     ) in
     record {
-      keeps = keeps_trans _ _ _ v.keeps k;
+      keeps = keeps_trans v.keeps k;
       none_held = k.held _ v.none_held;
       held = c.in_ok-node-3.ensures.held;
-      nothing =
-          kept (λ u. (f : ℕ → Bool) → leaf_at u f ≡ None) l.self c.test-else-letter-proposition-eq1.new.self k
-          c.in_ok-none.none v.none_held v.nothing;
-      alone =
-          step_false l.self c.test-else-letter-proposition-eq1.new.self l.proposition c.args.letter c.in_ok-none.none
-          l.node c.in_ok-node-3.node k some within v.nothing v.alone (bit_false _ _ c.if-letter-proposition-eq1.false)
-          c.in_ok-node-3.ensures.leaf;
+      nothing = kept (λ u. (f : ℕ → Bool) → leaf_at u f ≡ None) k v.none_held v.nothing;
+      alone = step_false c.in_ok-none.none l.node c.in_ok-node-3.node k some within v.nothing v.alone
+          (bit_false _ _ c.if-letter-proposition-eq1.false) c.in_ok-node-3.ensures.leaf;
     }
 
 pub returns-clause-leaf : goal.returns-clause-leaf
 returns-clause-leaf c =
     let l = c.loop-proposition in
     let v = l.invariant in
-    let n = c.args.self.now.propositions in
     let done : l.proposition ≡ 0 = omega arith in
     let P : ℕ → Type 0 = λ j. IsAlone l.self.propositions j c.args.letter (tree_of l.self l.node) in
     let N : ℕ → Type 0 = λ m. IsAlone m 0 c.args.letter (tree_of l.self l.node) in
-    alone_end n c.args.letter (tree_of l.self l.node) c.requires.within
-    (subst N v.keeps.propositions (subst P done v.alone))
+    alone_end c.requires.within (subst N v.keeps.propositions (subst P done v.alone))

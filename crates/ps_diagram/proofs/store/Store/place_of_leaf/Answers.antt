@@ -1,11 +1,8 @@
 use Rattle.std.proofs.lemmas.Result.{IfOk-weaker}
-use Rattle.ps_diagram.specs.Table.{tree_of}
 use Rattle.ps_diagram.proofs.Dividing.{divided_here}
 use Rattle.ps_diagram.proofs.store.Store.place_of_leaf.Goals as goal
 
 pub returns-clause-leaf : goal.returns-clause-leaf
 returns-clause-leaf c =
-    IfOk-weaker c.intern.result _ _
-    (λ made e mask tree all. divided_here c.constant.new.self c.intern.new.self c.intern.ensures.keeps mask
-    c.in_ok-node.node _ tree (tree_of c.intern.new.self made) c.args.leaf all c.in_ok-node.ensures.held
-    c.in_ok-node.ensures.leaf c.node.view_is e) c.intern.ensures.tree
+    IfOk-weaker c.intern.result _ _ (λ made e mask tree all. divided_here c.intern.ensures.keeps mask tree c.args.leaf
+    all c.in_ok-node.ensures.held c.in_ok-node.ensures.leaf c.node.view_is e) c.intern.ensures.tree

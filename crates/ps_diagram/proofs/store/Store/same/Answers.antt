@@ -6,5 +6,4 @@ use Rattle.ps_diagram.proofs.store.Store.same.Goals as goal
 pub returns : goal.returns
 returns c =
     let P : Table → Type 0 = λ t. IsSoundTable t in
-    same_node c.args.self.now (subst P c.self.view_is c.self.invariant) c.args.first c.args.second c.requires.first
-    c.requires.second _ c.eq.ensures
+    same_node (subst P c.self.view_is c.self.invariant) c.requires.first c.requires.second c.eq.ensures

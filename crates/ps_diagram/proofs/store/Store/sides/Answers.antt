@@ -7,7 +7,7 @@ use Rattle.ps_diagram.proofs.store.Store.sides.Goals as goal
 pub returns-then-own-proposition-clause-sides : goal.returns-then-own-proposition-clause-sides
 returns-then-own-proposition-clause-sides c =
     let P : ℕ → Type 0 = λ p. IsSides c.args.self.now c.args.node p c.in-Test.low c.in-Test.high in
-    subst P c.if-own-proposition.true (sides_of_test _ _ _ _ _ c.in-Test.ensures.part)
+    subst P c.if-own-proposition.true (sides_of_test c.in-Test.ensures.part)
 
 pub returns-else-own-proposition-clause-sides : goal.returns-else-own-proposition-clause-sides
 returns-else-own-proposition-clause-sides c =
@@ -15,5 +15,4 @@ returns-else-own-proposition-clause-sides c =
     ap (λ t. root_of c.args.self.now.propositions t) c.in-Test.ensures.part.tree in
     let later = c.requires.later in
     let other = c.if-own-proposition.false in
-    sides_of_later c.args.self.now c.args.node c.args.proposition c.cell.ensures.sound c.requires.held
-    (omega (arith, root, later, other))
+    sides_of_later c.args.proposition c.cell.ensures.sound c.requires.held (omega (arith, root, later, other))

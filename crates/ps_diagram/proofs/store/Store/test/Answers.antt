@@ -7,23 +7,21 @@ use Rattle.ps_diagram.proofs.store.Store.test.Goals as goal
 made_ready : (c : goal.After-intern-arg-1) → Ready c.args.self.now c.args.proposition c.args.low c.args.high
 made_ready c =
     let P : Table → Type 0 = λ t. IsSoundTable t in
-    ready c.args.self.now (subst P c.self.view_is c.self.invariant) c.args.proposition c.args.low c.args.high
-    c.requires.named c.requires.low_held c.requires.high_held c.requires.low_later c.requires.high_later
-    (sym c.eq.ensures ∙ c.if-eq.false)
+    ready (subst P c.self.view_is c.self.invariant) c.args.proposition c.requires.named c.requires.low_held
+    c.requires.high_held c.requires.low_later c.requires.high_later (sym c.eq.ensures ∙ c.if-eq.false)
 
 pub intern-requires : goal.intern-requires
 unfolding tree_of
-intern-requires c =
-    record {
-      within = (c.requires.low_held, c.requires.high_held);
-      ordered = (made_ready c).ordered;
-      reduced = (made_ready c).reduced;
-    }
+intern-requires c = record {
+  within = (c.requires.low_held, c.requires.high_held);
+  ordered = (made_ready c).ordered;
+  reduced = (made_ready c).reduced;
+}
 
 pub returns : goal.returns
 unfolding tree_of
 returns c = record {
   keeps = c.intern.ensures.keeps;
   held = c.intern.ensures.held;
-  leaf = IfOk-weaker c.intern.result _ _ (λ node e. test_from c.args.proposition _ _ _ e) c.intern.ensures.tree;
+  leaf = IfOk-weaker c.intern.result _ _ (λ node e. test_from c.args.proposition _ _ e) c.intern.ensures.tree;
 }

@@ -26,12 +26,10 @@ test-requires-clause-high_later c = (place_of _ _ _ c.requires.high_leads _ c.no
 
 pub returns-clause-leaf : goal.returns-clause-leaf
 returns-clause-leaf c =
-    let made = c.in_ok-made.made in
     let named = c.made.view_is in
-    IfOk-weaker c.intern.result _ _ (λ node e. tested_between c.args.self.now c.test.new.self c.intern.new.self
-    c.test.ensures.keeps c.intern.ensures.keeps c.args.proposition (tree_of c.args.self.now c.args.low)
-    (tree_of c.args.self.now c.args.high) (tree_of c.intern.new.self node)
-    _ _ made c.node_at-one.ensures c.node_at-other.ensures (λ f. ap (λ x. leaf_at x f) e ∙ ap (λ k. Some k) named)
-    (place_of _ _ _ c.requires.low_leads _ c.node_at-one.ensures).0
-    (place_of _ _ _ c.requires.high_leads _ c.node_at-other.ensures).0 c.in_ok-made.ensures.held
-    c.in_ok-made.ensures.leaf) c.intern.ensures.tree
+    IfOk-weaker c.intern.result _ _ (λ node e. tested_between c.test.ensures.keeps c.intern.ensures.keeps
+    c.args.proposition (tree_of c.args.self.now c.args.low) (tree_of c.args.self.now c.args.high)
+    (tree_of c.intern.new.self node) c.node_at-one.ensures c.node_at-other.ensures
+    (λ f. ap (λ x. leaf_at x f) e ∙ ap (λ k. Some k) named) (place_of _ _ _ c.requires.low_leads _
+    c.node_at-one.ensures).0 (place_of _ _ _ c.requires.high_leads _ c.node_at-other.ensures).0
+    c.in_ok-made.ensures.held c.in_ok-made.ensures.leaf) c.intern.ensures.tree

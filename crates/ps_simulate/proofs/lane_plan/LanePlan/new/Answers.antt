@@ -22,22 +22,19 @@ are_moved : (c : After-deref-2) → AreMoved c.in_ok-plan.plan.size
     (c.in_ok-plan.plan.size - length c.gates-gates.result.now) c.in_ok-places.places.items
 are_moved c =
     let p = c.in_ok-plan.plan in
-    AreMoved_at c.args.circuit.now c.gates-gates.ensures.well_formed p.rows.items c.in_ok-plan.ensures.rows_are p.size _
-    c.deref.result.now c.in_ok-places.places.items c.in_ok-plan.ensures.size_is
-    (omega (
+    AreMoved_at c.gates-gates.ensures.well_formed p.rows.items c.in_ok-plan.ensures.rows_are
+    c.in_ok-plan.ensures.size_is (omega (
       arith,
       ap length c.gates-gates.ensures.gates,
       c.in_ok-plan.ensures.size_is,
       length-variables c.args.circuit.now,
-    ))
-    c.deref.ensures.value c.in_ok-places.ensures.size c.in_ok-places.ensures.kept c.in_ok-places.ensures.in_order
+    )) c.deref.ensures.value c.in_ok-places.ensures.size c.in_ok-places.ensures.kept c.in_ok-places.ensures.in_order
 
 -- the places of the table have room in literals
 small : (c : After-deref-2) (given : List ℕ) → given ≡ c.in_ok-places.places.items → All (λ p. p < 2 ^ 31) given
 small c given e =
-    let few : length (variables c.args.circuit.now) ≤ 2 ^ 31 =
-    few_variables c.args.circuit.now c.gates-gates.ensures.well_formed in
-    subst (λ (ps : List ℕ). All (λ p. p < 2 ^ 31) ps) (sym e) (moved_small _ _ c.in_ok-places.places.items (are_moved c)
+    let few : length (variables c.args.circuit.now) ≤ 2 ^ 31 = few_variables c.gates-gates.ensures.well_formed in
+    subst (λ (ps : List ℕ). All (λ p. p < 2 ^ 31) ps) (sym e) (moved_small (are_moved c)
     (omega (arith, few, c.in_ok-plan.ensures.size_is)))
 
 many : (c : After-deref-2) (given : List ℕ) → given ≡ c.in_ok-places.places.items →
@@ -45,14 +42,13 @@ many : (c : After-deref-2) (given : List ℕ) → given ≡ c.in_ok-places.place
 many c given e = sym (ap length e ∙ c.in_ok-places.ensures.size ∙ c.in_ok-plan.ensures.size_is)
 
 -- wires and rows within the table, as the calls have them
-wires_fit : (wires given : List Wire) (m n : ℕ) → given ≡ wires → m ≡ n → All (λ w. w.place < m) wires →
+wires_fit : {wires given : List Wire} {m n : ℕ} → given ≡ wires → m ≡ n → All (λ w. w.place < m) wires →
     All (λ w. w.place < n) given
-wires_fit wires given m n e same within =
-    subst (λ (ws : List Wire). All (λ w. w.place < n) ws) (sym e)
+wires_fit {wires} {n} e same within = subst (λ (ws : List Wire). All (λ w. w.place < n) ws) (sym e)
     (subst (λ (k : ℕ). All (λ w. w.place < k) wires) same within)
 
-rows_fit : (rows given : List Row) (m n : ℕ) → given ≡ rows → m ≡ n → All (IsWithin m) rows → All (IsWithin n) given
-rows_fit rows given m n e same within =
+rows_fit : {rows given : List Row} {m n : ℕ} → given ≡ rows → m ≡ n → All (IsWithin m) rows → All (IsWithin n) given
+rows_fit {rows} {n} e same within =
     subst (λ (rs : List Row). All (IsWithin n) rs) (sym e) (subst (λ (k : ℕ). All (IsWithin k) rows) same within)
 
 pub moved_places-requires-clause-fit : goal.moved_places-requires-clause-fit
@@ -63,7 +59,7 @@ moved_places-requires-clause-fit c =
       arith,
       front_is a,
       size_is a,
-      few_rows c.args.circuit.now c.gates-gates.ensures.well_formed p.rows.items c.in_ok-plan.ensures.rows_are,
+      few_rows c.gates-gates.ensures.well_formed p.rows.items c.in_ok-plan.ensures.rows_are,
       ap length c.deref.ensures.value,
       length-variables c.args.circuit.now,
     )
@@ -72,13 +68,12 @@ pub moved_places-requires-clause-gates : goal.moved_places-requires-clause-gates
 moved_places-requires-clause-gates c =
     let a = (goal.at.moved_places-requires-clause-gates c).After-deref in
     let p = c.in_ok-plan.plan in
-    gate_rows_at c.args.circuit.now c.gates-gates.ensures.well_formed p.rows.items c.in_ok-plan.ensures.rows_are p.size
-    _ c.deref.result.now (size_is a) (front_is a) c.deref.ensures.value
+    gate_rows_at c.gates-gates.ensures.well_formed p.rows.items c.in_ok-plan.ensures.rows_are (size_is a) (front_is a)
+    c.deref.ensures.value
 
 pub moved_places-requires-clause-once : goal.moved_places-requires-clause-once
-moved_places-requires-clause-once c =
-    rows_once_at c.args.circuit.now c.gates-gates.ensures.well_formed c.in_ok-plan.plan.rows.items
-    c.in_ok-plan.ensures.rows_are c.deref.result.now c.deref.ensures.value
+moved_places-requires-clause-once c = rows_once_at c.gates-gates.ensures.well_formed c.in_ok-plan.plan.rows.items
+    c.in_ok-plan.ensures.rows_are c.deref.ensures.value
 
 pub gates_of-requires-clause-places : goal.gates_of-requires-clause-places
 gates_of-requires-clause-places c =
@@ -86,9 +81,8 @@ gates_of-requires-clause-places c =
 
 pub gates_of-requires-clause-within : goal.gates_of-requires-clause-within
 gates_of-requires-clause-within c =
-    rows_fit c.in_ok-plan.plan.rows.items c.deref-3.result.now _ (length c.deref-2.result.now) c.deref-3.ensures.value
-    (many (goal.at.gates_of-requires-clause-within c).After-deref-2 c.deref-2.result.now c.deref-2.ensures.value)
-    (rows_within c.args.circuit.now c.gates-gates.ensures.well_formed c.in_ok-plan.plan c.in_ok-plan.ensures)
+    rows_fit c.deref-3.ensures.value (many (goal.at.gates_of-requires-clause-within c).After-deref-2
+    c.deref-2.result.now c.deref-2.ensures.value) (rows_within c.gates-gates.ensures.well_formed c.in_ok-plan.ensures)
 
 pub literals-requires-clause-places : goal.literals-requires-clause-places
 literals-requires-clause-places c =
@@ -96,10 +90,9 @@ literals-requires-clause-places c =
 
 pub literals-requires-clause-within : goal.literals-requires-clause-within
 literals-requires-clause-within c =
-    wires_fit c.in_ok-plan.plan.outputs.items c.deref-5.result.now _ (length c.deref-4.result.now)
-    c.deref-5.ensures.value
-    (many (goal.at.literals-requires-clause-within c).After-deref-2 c.deref-4.result.now c.deref-4.ensures.value)
-    (outputs_within c.args.circuit.now c.gates-gates.ensures.well_formed c.in_ok-plan.plan c.in_ok-plan.ensures)
+    wires_fit c.deref-5.ensures.value (many (goal.at.literals-requires-clause-within c).After-deref-2
+    c.deref-4.result.now c.deref-4.ensures.value) (outputs_within c.gates-gates.ensures.well_formed
+    c.in_ok-plan.ensures)
 
 pub literals-requires-2-clause-places : goal.literals-requires-2-clause-places
 literals-requires-2-clause-places c =
@@ -107,15 +100,13 @@ literals-requires-2-clause-places c =
 
 pub literals-requires-2-clause-within : goal.literals-requires-2-clause-within
 literals-requires-2-clause-within c =
-    wires_fit c.in_ok-plan.plan.nexts.items c.deref-7.result.now _ (length c.deref-6.result.now) c.deref-7.ensures.value
-    (many (goal.at.literals-requires-2-clause-within c).After-deref-2 c.deref-6.result.now c.deref-6.ensures.value)
-    (nexts_within c.args.circuit.now c.gates-gates.ensures.well_formed c.in_ok-plan.plan c.in_ok-plan.ensures)
+    wires_fit c.deref-7.ensures.value (many (goal.at.literals-requires-2-clause-within c).After-deref-2
+    c.deref-6.result.now c.deref-6.ensures.value) (nexts_within c.gates-gates.ensures.well_formed c.in_ok-plan.ensures)
 
 -- what a call wrote for the wires that it was given
-written : (places given : List ℕ) (wires taken : List Wire) (found : List Wire) → found ≡ map (move_wire given) taken →
+written : {places given : List ℕ} {wires taken found : List Wire} → found ≡ map (move_wire given) taken →
     given ≡ places → taken ≡ wires → found ≡ map (move_wire places) wires
-written places given wires taken found e same same_wires =
-    e ∙ ap₂ (λ (ps : List ℕ) (ws : List Wire). map (move_wire ps) ws) same same_wires
+written e same same_wires = e ∙ ap₂ (λ (ps : List ℕ) (ws : List Wire). map (move_wire ps) ws) same same_wires
 
 pub returns-clause-plan : goal.returns-clause-plan
 returns-clause-plan c =
@@ -135,14 +126,9 @@ returns-clause-plan c =
         are_moved = are_moved b;
         size_is = refl;
         front_is = front_is a;
-        gates_are =
-            c.in_ok-gates_of.ensures f order ∙ ap₂ (λ (ps : List ℕ) (rs : List Row). map (move_row ps) rs)
+        gates_are = c.in_ok-gates_of.ensures f order ∙ ap₂ (λ (ps : List ℕ) (rs : List Row). map (move_row ps) rs)
             c.deref-2.ensures.value c.deref-3.ensures.value;
-        outputs_are =
-            written places _ p.outputs.items _ _ c.in_ok-literals.ensures c.deref-4.ensures.value
-            c.deref-5.ensures.value;
-        nexts_are =
-            written places _ p.nexts.items _ _ c.in_ok-literals-2.ensures c.deref-6.ensures.value
-            c.deref-7.ensures.value;
+        outputs_are = written c.in_ok-literals.ensures c.deref-4.ensures.value c.deref-5.ensures.value;
+        nexts_are = written c.in_ok-literals-2.ensures c.deref-6.ensures.value c.deref-7.ensures.value;
       },
     )

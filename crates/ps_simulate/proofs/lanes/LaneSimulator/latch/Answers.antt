@@ -7,8 +7,7 @@ use Rattle.ps_simulate.proofs.lanes.LaneSimulator.latch.Goals as goal
 pub returns : goal.returns
 returns c =
     let t = c.self.invariant.tables 0 (omega arith) in
-    let many : c.args.number < length c.self.inside.latches.items =
-    omega (
+    let many : c.args.number < length c.self.inside.latches.items = omega (
       arith,
       c.requires.number,
       t.latches_each,
@@ -16,4 +15,4 @@ returns c =
       ap (λ (s : LaneSimulation). length s.circuit.latches) c.self.view_is,
     ) in
     ap (λ (s : LaneSimulation). slice_get (lane_of s.latches c.args.lane) c.args.number) (sym c.self.view_is)
-    ∙ latch_is c.self.inside.latches.items c.index.result.now c.args.number c.args.lane many c.index.ensures
+    ∙ latch_is c.self.inside.latches.items c.args.number c.args.lane many c.index.ensures

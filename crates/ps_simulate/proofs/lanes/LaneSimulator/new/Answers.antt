@@ -5,6 +5,5 @@ use Rattle.ps_simulate.proofs.lanes.LaneSimulator.new.Goals as goal
 pub invariant_of-result : goal.invariant_of-result
 invariant_of-result c =
     let found = c.in_ok-plan.ensures.plan in
-    AreTables-zeros c.args.circuit.now c.in_ok-plan.ensures.well_formed c.in_ok-plan.plan found.0 found.1 found.2
-    c.in_ok-values.values.items c.in_ok-latches.latches.items
+    AreTables-zeros c.in_ok-plan.ensures.well_formed found.2 c.in_ok-latches.latches.items
     (c.in_ok-values.ensures.items_if_clones_equal (λ y h. search rules)) c.in_ok-latches.ensures.latches

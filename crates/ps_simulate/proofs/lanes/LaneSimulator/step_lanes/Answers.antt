@@ -13,15 +13,14 @@ use Rattle.ps_simulate.proofs.lanes.LaneSimulator.step_lanes.Goals as goal
 use Rattle.ps_simulate.proofs.lanes.LaneSimulator.step_lanes.Goals.{After-fill_words, After-read_words-2}
 
 -- a list that takes a vector's place in full
-replaced : (new old : List (List ℕ)) (n : ℕ) → length new ≡ n → take n (new ++ drop (length new) old) ≡ new
-replaced new old n each = take_at new _ n each
+replaced : (new old : List (List ℕ)) {n : ℕ} → length new ≡ n → take n (new ++ drop (length new) old) ≡ new
+replaced new old {n} each = take_at new _ n each
 
 -- the table behind the gates
 table_is : (c : After-fill_words) → take c.self.inside.values.len
     (c.fill_words.new.values ++ drop (length c.fill_words.new.values) c.self.inside.values.items) ≡
     c.fill_words.new.values
-table_is c =
-    replaced c.fill_words.new.values c.self.inside.values.items c.self.inside.values.len
+table_is c = replaced c.fill_words.new.values c.self.inside.values.items
     (omega (arith, c.fill_words.auto.values, c.deref_mut.ensures.len))
 
 size_is : (c : After-fill_words) → length c.deref_mut.result.now ≡ c.self.inside.plan.size
@@ -30,10 +29,9 @@ size_is c = ap length c.deref_mut.ensures.value ∙ c.self.invariant.values_each
 table_size : (c : After-fill_words) → length c.fill_words.new.values ≡ c.self.inside.plan.size
 table_size c = c.fill_words.auto.values ∙ size_is c
 
-worked : (c : After-fill_words) (lane : ℕ) → lane < 256
-    → IsWorkedOut (rows_from c.self.inside.plan.front c.self.inside.plan.gates.items) (lane_of c.args.inputs.now lane)
-    (lane_of c.self.inside.latches.items lane) c.self.inside.plan.size
-    (lane_of c.fill_words.new.values lane)
+worked : (c : After-fill_words) (lane : ℕ) → lane < 256 → IsWorkedOut
+    (rows_from c.self.inside.plan.front c.self.inside.plan.gates.items) (lane_of c.args.inputs.now lane)
+    (lane_of c.self.inside.latches.items lane) c.self.inside.plan.size (lane_of c.fill_words.new.values lane)
 worked c lane lt =
     let P : List Operands → List (List ℕ) → ℕ → Type 0 = λ gates latches size.
     IsWorkedOut (rows_from c.self.inside.plan.front gates) (lane_of c.args.inputs.now lane) (lane_of latches lane) size
@@ -47,24 +45,23 @@ worked c lane lt =
     subst (λ (size : ℕ). P c.self.inside.plan.gates.items c.self.inside.latches.items size) (size_is c) by_latches
 
 -- literals within the table, as the calls have them
-fits : (literals given : List ℕ) (m n : ℕ) → given ≡ literals → m ≡ n → All (λ l. l / 2 < n) literals →
+fits : {literals given : List ℕ} {m n : ℕ} → given ≡ literals → m ≡ n → All (λ l. l / 2 < n) literals →
     All (λ l. l / 2 < m) given
-fits literals given m n same size within k d lt =
+fits {literals} same size within k d lt =
     let there : k < length literals = omega (arith, lt, ap length same) in
     omega (arith, within k d there, size, ap (λ (ls : List ℕ). get_or ls k d / 2) same)
 
 next_is : (c : After-read_words-2) → take c.self.inside.latches.len
     (c.read_words-2.new.words ++ drop (length c.read_words-2.new.words) c.self.inside.latches.items) ≡
     c.read_words-2.new.words
-next_is c =
-    replaced c.read_words-2.new.words c.self.inside.latches.items c.self.inside.latches.len
+next_is c = replaced c.read_words-2.new.words c.self.inside.latches.items
     (omega (arith, c.read_words-2.auto.words, c.deref_mut-2.ensures.len))
 
 -- the bits that a call read
-bits_are : (lane : ℕ) (bits : List Bool) (values given : List (List ℕ)) (literals taken : List ℕ) →
+bits_are : (lane : ℕ) {bits : List Bool} {values given : List (List ℕ)} {literals taken : List ℕ} →
     bits ≡ map (λ l. read (lane_of given lane) (wire_in l)) taken → given ≡ values → taken ≡ literals
     → bits ≡ map (λ l. read (lane_of values lane) (wire_in l)) literals
-bits_are lane bits values given literals taken is same same_literals =
+bits_are lane is same same_literals =
     is ∙ ap₂ (λ (v : List (List ℕ)) (ls : List ℕ). map (λ l. read (lane_of v lane) (wire_in l)) ls) same same_literals
 
 pub fill_words-requires-clause-within : goal.fill_words-requires-clause-within
@@ -74,79 +71,67 @@ fill_words-requires-clause-within c =
     sym (ap length c.deref_mut.ensures.value ∙ c.self.invariant.values_each) in
     let P : List Operands → Type 0 =
     λ gates. All (IsWithin (length c.deref_mut.result.now)) (rows_from s.plan.front gates) in
-    subst P (sym c.deref.ensures.value)
-    (subst (λ (n : ℕ). All (IsWithin n) (rows_from s.plan.front s.plan.gates.items)) size
-    (gates_within s.circuit.now s.plan s.values.items s.latches.items c.self.invariant))
+    subst P (sym c.deref.ensures.value) (subst (λ (n : ℕ). All (IsWithin n) (rows_from s.plan.front s.plan.gates.items))
+    size (gates_within c.self.invariant))
 
 pub fill_words-requires-clause-fit : goal.fill_words-requires-clause-fit
-fill_words-requires-clause-fit c =
-    let s = c.self.inside in
-    omega (
-      arith,
-      gates_fit s.circuit.now s.plan s.values.items s.latches.items c.self.invariant,
-      ap length c.deref.ensures.value,
-      ap length c.deref_mut.ensures.value,
-      c.self.invariant.values_each,
-    )
+fill_words-requires-clause-fit c = omega (
+  arith,
+  gates_fit c.self.invariant,
+  ap length c.deref.ensures.value,
+  ap length c.deref_mut.ensures.value,
+  c.self.invariant.values_each,
+)
 
 pub fill_words-requires-clause-room : goal.fill_words-requires-clause-room
 fill_words-requires-clause-room c =
-    let s = c.self.inside in
     let t = c.self.invariant in
     omega (
       arith,
       c.requires.inputs_fit,
       ap (λ (v : LaneSimulation). length v.circuit.inputs) c.self.view_is,
       ap length c.deref-2.ensures.value,
-      latches_many s.circuit.now s.plan s.values.items s.latches.items t,
+      latches_many t,
       ap length c.deref_mut.ensures.value,
       t.values_each,
-      room s.circuit.now s.plan s.values.items s.latches.items t,
+      room t,
     )
 
 pub fill_words-requires-clause-constant : goal.fill_words-requires-clause-constant
 fill_words-requires-clause-constant c lane lt =
-    let s = c.self.inside in
     ap (λ (v : List (List ℕ)). get_or (lane_of v lane) 0 Rattle.std.proofs.Common.false) c.deref_mut.ensures.value
-    ∙ constant_there s.circuit.now s.plan s.values.items s.latches.items c.self.invariant lane lt
+    ∙ constant_there c.self.invariant lane lt
 
 pub read_words-requires-clause-within : goal.read_words-requires-clause-within
 read_words-requires-clause-within c =
     let a = (goal.at.read_words-requires-clause-within c).After-fill_words in
-    let s = c.self.inside in
-    fits s.plan.outputs.items c.deref-3.result.now (length c.deref-4.result.now) s.plan.size c.deref-3.ensures.value
-    (ap length (c.deref-4.ensures.value ∙ table_is a) ∙ table_size a)
-    (outputs_in_table s.circuit.now s.plan s.values.items s.latches.items c.self.invariant)
+    fits c.deref-3.ensures.value (ap length (c.deref-4.ensures.value ∙ table_is a) ∙ table_size a)
+    (outputs_in_table c.self.invariant)
 
 pub read_words-requires-clause-fit : goal.read_words-requires-clause-fit
-read_words-requires-clause-fit c =
-    let s = c.self.inside in
-    omega (
-      arith,
-      c.requires.outputs_fit,
-      ap (λ (v : LaneSimulation). length v.circuit.outputs) c.self.view_is,
-      ap length c.deref-3.ensures.value,
-      outputs_many s.circuit.now s.plan s.values.items s.latches.items c.self.invariant,
-    )
+read_words-requires-clause-fit c = omega (
+  arith,
+  c.requires.outputs_fit,
+  ap (λ (v : LaneSimulation). length v.circuit.outputs) c.self.view_is,
+  ap length c.deref-3.ensures.value,
+  outputs_many c.self.invariant,
+)
 
 pub read_words-requires-2-clause-within : goal.read_words-requires-2-clause-within
 read_words-requires-2-clause-within c =
     let a = (goal.at.read_words-requires-2-clause-within c).After-fill_words in
-    let s = c.self.inside in
-    fits s.plan.nexts.items c.deref-5.result.now (length c.deref-6.result.now) s.plan.size c.deref-5.ensures.value
-    (ap length (c.deref-6.ensures.value ∙ table_is a) ∙ table_size a)
-    (nexts_in_table s.circuit.now s.plan s.values.items s.latches.items c.self.invariant)
+    fits c.deref-5.ensures.value (ap length (c.deref-6.ensures.value ∙ table_is a) ∙ table_size a)
+    (nexts_in_table c.self.invariant)
 
 pub read_words-requires-2-clause-fit : goal.read_words-requires-2-clause-fit
 read_words-requires-2-clause-fit c =
-    let s = c.self.inside in
     let t = c.self.invariant in
     omega (
       arith,
       ap length c.deref_mut-2.ensures.value,
-      latches_many s.circuit.now s.plan s.values.items s.latches.items t,
+      latches_many t,
       ap length c.deref-5.ensures.value,
-      nexts_many s.circuit.now s.plan s.values.items s.latches.items t,
+      nexts_many t,
     )
 
 -- the letters fit the circuit
@@ -154,10 +139,7 @@ letters_fit : (c : After-read_words-2) → length c.args.inputs.now ≡ length c
 letters_fit c = c.requires.inputs_fit ∙ sym (ap (λ (v : LaneSimulation). length v.circuit.inputs) c.self.view_is)
 
 next_length : (c : After-read_words-2) → length c.read_words-2.new.words ≡ length c.self.inside.circuit.now.latches
-next_length c =
-    let s = c.self.inside in
-    c.read_words-2.auto.words ∙ ap length c.deref_mut-2.ensures.value
-    ∙ latches_many s.circuit.now s.plan s.values.items s.latches.items c.self.invariant
+next_length c = c.read_words-2.auto.words ∙ ap length c.deref_mut-2.ensures.value ∙ latches_many c.self.invariant
 
 pub invariant_of-self : goal.invariant_of-self
 invariant_of-self c =
@@ -174,9 +156,8 @@ invariant_of-self c =
       is_lane_plan = t.is_lane_plan;
       values_each = table_size a;
       tables =
-          λ lane lt. IsTable-lane s.circuit.now s.plan s.values.items s.latches.items t c.args.inputs.now
-          c.fill_words.new.values lane lt (letters_fit b) (worked a lane lt) c.read_words-2.new.words
-          (next_length b);
+          λ lane lt. IsTable-lane t c.args.inputs.now c.fill_words.new.values lane lt (letters_fit b) (worked a lane lt)
+          c.read_words-2.new.words (next_length b);
     }))
 
 pub returns-clause-steps : goal.returns-clause-steps
@@ -188,9 +169,8 @@ returns-clause-steps c lane lt =
     take s.latches.len (c.read_words-2.new.words ++ drop (length c.read_words-2.new.words) s.latches.items) in
     subst (λ (v : LaneSimulation). Steps v.circuit (lane_of v.latches lane) (lane_of c.args.inputs.now lane)
     (lane_of c.read_words.new.words lane) (lane_of next lane)) c.self.view_is
-    (Steps-lane s.circuit.now s.plan s.values.items s.latches.items c.self.invariant c.args.inputs.now
-    c.fill_words.new.values lane lt (letters_fit b) (worked a lane lt) c.read_words.new.words next
-    (bits_are lane _ _ _ _ _ (c.read_words.ensures lane lt) (c.deref-4.ensures.value ∙ table_is a)
-    c.deref-3.ensures.value)
-    (ap (λ (ws : List (List ℕ)). lane_of ws lane) (next_is b) ∙ bits_are lane _ _ _ _ _ (c.read_words-2.ensures lane lt)
+    (Steps-lane c.self.invariant c.args.inputs.now c.fill_words.new.values lane lt (letters_fit b)
+    (worked a lane lt) c.read_words.new.words next (bits_are lane (c.read_words.ensures lane lt)
+    (c.deref-4.ensures.value ∙ table_is a) c.deref-3.ensures.value)
+    (ap (λ (ws : List (List ℕ)). lane_of ws lane) (next_is b) ∙ bits_are lane (c.read_words-2.ensures lane lt)
     (c.deref-6.ensures.value ∙ table_is a) c.deref-5.ensures.value))

@@ -27,8 +27,7 @@ laps-init c =
       read = ([], places_start c.new-seen.result c.new-seen.ensures.empty, read);
       same = c.in_ok-read_word.ensures.circuit;
       outputs_fit = c.requires.outputs;
-      wide =
-          goes_wide circuit from last reads.trace reads.goes_on (ap length c.requires.latches
+      wide = goes_wide circuit from last reads.trace reads.goes_on (ap length c.requires.latches
           ∙ length-map circuit.latches (λ l. l.reset));
     }
 
@@ -51,9 +50,8 @@ laps-smaller c =
     c.laps.self.letters.items c.read_word-in-laps.new.letters.items from c.latches.result.now last c.laps.invariant.same
     c.latches.ensures before.2 seen reads c.laps.invariant.wide in
     let falls =
-    fewer (names_of c.args.naming.now) circuit (letters_of c.args.stem.now) (letters_of c.args.lap.now)
-    before.0 after.0
-    c.read_word-in-laps.new.letters.items c.latches.result.now last read seen in
+    fewer (names_of c.args.naming.now) circuit (letters_of c.args.stem.now) (letters_of c.args.lap.now) before.0
+    after.0 c.read_word-in-laps.new.letters.items c.latches.result.now last read seen in
     omega (arith, falls, before.1.each, after.2.each)
 
 pub laps-preserved : goal.laps-preserved
@@ -78,8 +76,7 @@ laps-preserved c =
       read = (after.0, after.2, read);
       same = c.in_ok-read_word-2.ensures.circuit ∙ c.laps.invariant.same;
       outputs_fit = c.laps.invariant.outputs_fit;
-      wide =
-          goes_wide circuit from last reads.trace (subst (λ (d : CircuitData). GoesOn d from reads.trace last)
+      wide = goes_wide circuit from last reads.trace (subst (λ (d : CircuitData). GoesOn d from reads.trace last)
           c.laps.invariant.same reads.goes_on) c.laps.invariant.wide;
     }
 

@@ -6,19 +6,16 @@ use Rattle.ps_simulate.proofs.letters.Letters.letter.Goals.{After-self}
 
 -- it is one of the letters
 is_there : (c : After-self) → c.args.place < c.self.inside.count
-is_there c =
-    omega (
-      arith,
-      c.requires,
-      length-letters_in c.self.inside.width c.self.inside.count c.self.inside.bits.items,
-      ap length c.self.view_is,
-    )
+is_there c = omega (
+  arith,
+  c.requires,
+  length-letters_in c.self.inside.width c.self.inside.count c.self.inside.bits.items,
+  ap length c.self.view_is,
+)
 
 -- its bits are there
 within : (c : After-self) → c.args.place * c.self.inside.width + c.self.inside.width ≤ length c.self.inside.bits.items
-within c =
-    letter_within c.args.place c.self.inside.count c.self.inside.width (length c.self.inside.bits.items) (is_there c)
-    c.self.invariant
+within c = letter_within c.args.place c.self.inside.count c.self.inside.width (is_there c) c.self.invariant
 
 pub overflow_mul-start : goal.overflow_mul-start
 overflow_mul-start c = omega (arith, within c, c.self.inside.bits.small, c.self.inside.bits.ok)

@@ -9,15 +9,13 @@ use Rattle.ps_simulate.proofs.naming.Naming.letter.Goals as goal
 pub returns-clause-few : goal.returns-clause-few
 returns-clause-few c =
     let n = length c.args.self.now.names.now in
-    or_lt n c.part_of.result c.part_of-2.result
-    (subst (λ k. c.part_of.result < 2 ^ k) (ap length c.deref.ensures.value ∙ c.requires.inputs_size)
-    c.part_of.ensures.few)
+    or_lt n c.part_of.result c.part_of-2.result (subst (λ k. c.part_of.result < 2 ^ k)
+    (ap length c.deref.ensures.value ∙ c.requires.inputs_size) c.part_of.ensures.few)
     (subst (λ k. c.part_of-2.result < 2 ^ k) (ap length c.deref-2.ensures.value ∙ c.requires.outputs_size)
     c.part_of-2.ensures.few)
 
 pub returns-clause-bits : goal.returns-clause-bits
-returns-clause-bits c = λ p.
-    in_or p c.part_of.result c.part_of-2.result
+returns-clause-bits c = λ p. in_or p c.part_of.result c.part_of-2.result
     ∙ ap (λ (b : Bool). b || is_in p c.part_of-2.result) (c.part_of.ensures.bits p
     ∙ ap (λ (ps : List (Option ℕ)). bit_at_place c.args.inputs.now (get_or ps p None)) c.deref.ensures.value)
     ∙ ap (λ (b : Bool). bit_at_place c.args.inputs.now (get_or c.args.self.now.inputs.items p None) || b)

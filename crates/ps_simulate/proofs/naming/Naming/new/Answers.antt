@@ -34,10 +34,6 @@ returns-clause-some c =
       outputs_within = λ p k e. let h = b.within p k e in omega (arith, h, c.in_ok-symbols-2.ensures.each);
       inputs_placed = λ p k s. a.placed p k s;
       outputs_placed = λ p k s. b.placed p k s;
-      inputs_alone =
-          λ p k s. apart names set reads sets c.args.circuit.now.input_names c.args.circuit.now.output_names
-          c.in-Some.inputs.items c.in-Some-2.outputs.items differ a b p k s;
-      outputs_alone =
-          λ p k s. apart names set sets reads c.args.circuit.now.output_names c.args.circuit.now.input_names
-          c.in-Some-2.outputs.items c.in-Some.inputs.items back b a p k s;
+      inputs_alone = λ p k s. apart differ a b s;
+      outputs_alone = λ p k s. apart back b a s;
     }

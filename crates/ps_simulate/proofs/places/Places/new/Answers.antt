@@ -3,10 +3,8 @@ use Rattle.ps_simulate.proofs.PlacesLemmas.{variables_once}
 use Rattle.ps_simulate.proofs.places.Places.new.Goals as goal
 
 pub ids_of-requires : goal.ids_of-requires
-ids_of-requires c =
-    subst (λ (vs : List ℕ). AllPairs (λ v w. v ≢ w) vs) (sym (c.deref.ensures.value
-    ∙ c.in_ok-variables.ensures.variables))
-    (variables_once c.args.circuit.now c.in_ok-variables.ensures.well_formed)
+ids_of-requires c = subst (λ (vs : List ℕ). AllPairs (λ v w. v ≢ w) vs) (sym (c.deref.ensures.value
+    ∙ c.in_ok-variables.ensures.variables)) (variables_once c.in_ok-variables.ensures.well_formed)
 
 pub invariant_of-result : goal.invariant_of-result
 invariant_of-result c = (

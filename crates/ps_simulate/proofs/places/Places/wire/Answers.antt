@@ -17,12 +17,11 @@ found c =
     let same : circuit ≡ c.args.self.now = c.self.view_is in
     let known : IsKnown (definitions circuit) c.args.literal =
     subst (λ (d : CircuitData). IsKnown (definitions d) c.args.literal) (sym same) c.requires in
-    let at = place_known circuit c.self.invariant.1 c.args.literal known in
+    let at = place_known c.self.invariant.1 c.args.literal known in
     c.place.ensures.place ∙ ap (λ (id : ℕ). position (λ other. id == other) c.self.inside.ids)
-    (c.from.ensures ∙ c.variable.ensures)
-    ∙ ap (λ (vs : List ℕ). position (λ other. v == other) vs) c.self.invariant.0
-    ∙ position_here (variables circuit) v (place_of circuit v) (variables_once circuit c.self.invariant.1) at.0 at.1
-    ∙ ap (λ (d : CircuitData). Some (place_of d v)) same
+    (c.from.ensures ∙ c.variable.ensures) ∙ ap (λ (vs : List ℕ). position (λ other. v == other) vs)
+    c.self.invariant.0 ∙ position_here (variables circuit) v (place_of circuit v)
+    (variables_once c.self.invariant.1) at.0 at.1 ∙ ap (λ (d : CircuitData). Some (place_of d v)) same
 
 pub unwrap-place-requires : goal.unwrap-place-requires
 unwrap-place-requires c =
