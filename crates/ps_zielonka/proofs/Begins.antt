@@ -24,67 +24,64 @@ use Rattle.ps_zielonka.proofs.Measure.{falls_begun}
 
 -- ## What is placed in two parts
 
-later_placed : (aim : Aim) (old mid new : TablesData) (v : ℕ) → aim.mark ≢ aim.free → IsGrown aim mid new →
+later_placed : {aim : Aim} {old mid new : TablesData} {v : ℕ} → aim.mark ≢ aim.free → IsGrown aim mid new →
     IsPlaced aim old mid v → IsPlaced aim old new v
-later_placed aim old mid new v differ grown placed = elim (grown.each v) [
+later_placed {mid} {new} {v} differ grown placed = elim (grown.each v) [
   | inl same ↦ (
       let within : placed.stands.place < length mid.trail = placed.stands.within in
       let longer : length mid.trail ≤ length new.trail = grown.longer in
       record {
         was_free = placed.was_free;
         level = same.level ∙ placed.level;
-        stands =
-            record {
-              place = placed.stands.place;
-              after = placed.stands.after;
-              within = omega arith;
-              is = grown.front placed.stands.place within ∙ placed.stands.is;
-            };
+        stands = record {
+          place = placed.stands.place;
+          after = placed.stands.after;
+          within = omega arith;
+          is = grown.front placed.stands.place within ∙ placed.stands.is;
+        };
       })
   | inr again ↦ absurd (differ (sym placed.level ∙ again.was_free))
 ]
 
-sooner_placed : (aim : Aim) (old mid new : TablesData) (v : ℕ) → aim.mark ≢ aim.free → IsGrown aim old mid →
+sooner_placed : {aim : Aim} {old mid new : TablesData} {v : ℕ} → aim.mark ≢ aim.free → IsGrown aim old mid →
     IsPlaced aim mid new v → IsPlaced aim old new v
-sooner_placed aim old mid new v differ grown placed = elim (grown.each v) [
+sooner_placed {old} {mid} {v} differ grown placed = elim (grown.each v) [
   | inl same ↦ (
       let longer : length old.trail ≤ length mid.trail = grown.longer in
       let after : length mid.trail ≤ placed.stands.place = placed.stands.after in
       record {
         was_free = sym same.level ∙ placed.was_free;
         level = placed.level;
-        stands =
-            record {
-              place = placed.stands.place;
-              after = omega arith;
-              within = placed.stands.within;
-              is = placed.stands.is;
-            };
+        stands = record {
+          place = placed.stands.place;
+          after = omega arith;
+          within = placed.stands.within;
+          is = placed.stands.is;
+        };
       })
   | inr before ↦ absurd (differ (sym before.level ∙ placed.was_free))
 ]
 
-pub IsGrown-both : (aim : Aim) (old mid new : TablesData) → aim.mark ≢ aim.free → IsGrown aim old mid →
+pub IsGrown-both : {aim : Aim} {old mid new : TablesData} → aim.mark ≢ aim.free → IsGrown aim old mid →
     IsGrown aim mid new → IsGrown aim old new
-IsGrown-both aim old mid new differ first second =
+IsGrown-both {aim} {old} {mid} {new} differ first second =
     let longer : length old.trail ≤ length mid.trail = first.longer in
     let longer_still : length mid.trail ≤ length new.trail = second.longer in
     record {
       longer = omega arith;
       front = λ j before. second.front j (omega arith) ∙ first.front j before;
       each = λ v. elim (first.each v) [
-        | inr placed ↦ inr (later_placed aim old mid new v differ second placed)
+        | inr placed ↦ inr (later_placed differ second placed)
         | inl same ↦ elim (second.each v) [
-          | inr placed ↦ inr (sooner_placed aim old mid new v differ first placed)
+          | inr placed ↦ inr (sooner_placed differ first placed)
           | inl still ↦ inl (record { level = still.level ∙ same.level; move = still.move ∙ same.move })
         ]
       ];
       behind = λ j after within. elim (cases_lt j (length mid.trail)) [
         | inl less ↦ (
             let Placed : ℕ → Type 0 = IsPlaced aim old new in
-            subst Placed (sym (second.front j less)) (later_placed aim old mid new (get_or mid.trail j 0) differ second
-            (first.behind j after less)))
-        | inr more ↦ sooner_placed aim old mid new (get_or new.trail j 0) differ first (second.behind j more within)
+            subst Placed (sym (second.front j less)) (later_placed differ second (first.behind j after less)))
+        | inr more ↦ sooner_placed differ first (second.behind j more within)
       ];
     }
 
@@ -150,11 +147,11 @@ differ b same =
     omega arith
 
 grown_all : (b : Begun) → IsGrown b.aim b.old b.new
-grown_all b = IsGrown-both b.aim b.old b.mid b.new (differ b) b.placed.grown b.grown
+grown_all b = IsGrown-both (differ b) b.placed.grown b.grown
 
 -- what stands behind the old trail was placed
-placed_there : (b : Begun) (v : ℕ) → StandsFrom b.new b.aim.begin v → IsPlaced b.aim b.old b.new v
-placed_there b v stands =
+placed_there : (b : Begun) {v : ℕ} → StandsFrom b.new b.aim.begin v → IsPlaced b.aim b.old b.new v
+placed_there b stands =
     let grown = grown_all b in
     let Placed : ℕ → Type 0 = IsPlaced b.aim b.old b.new in
     let begin : b.aim.begin ≡ length b.old.trail = b.begin in
@@ -178,7 +175,7 @@ agrees b =
         | inr placed ↦ inr (changed v placed)
         | inl same ↦ elim (b.given.kept v) [
           | inl wins ↦ inl (record { level = same.level; move = same.move; wins = wins })
-          | inr stands ↦ inr (changed v (placed_there b v stands))
+          | inr stands ↦ inr (changed v (placed_there b stands))
         ]
       ];
     }
@@ -186,13 +183,13 @@ agrees b =
 was_open : (b : Begun) (v : ℕ) → IsTrue (undecided b v) → level_of b.old v ≡ UNPLACED
 was_open b v inside =
     let at : AgreesAt b.old.level b.new.level (2 * b.depth + 2) v =
-    agrees_at (2 * b.depth + 2) (2 * b.depth + 2) b.old b.new b.winner b.winner_now (agrees b) (omega arith) v in
+    agrees_at (2 * b.depth + 2) (agrees b) (omega arith) v in
     b.searches.unplaced v (at.back (from_at b.new.level (2 * b.depth + 2) v inside))
 
 is_open : (b : Begun) (v : ℕ) → level_of b.old v ≡ UNPLACED → IsTrue (undecided b v)
 is_open b v was =
     let at : AgreesAt b.old.level b.new.level (2 * b.depth + 2) v =
-    agrees_at (2 * b.depth + 2) (2 * b.depth + 2) b.old b.new b.winner b.winner_now (agrees b) (omega arith) v in
+    agrees_at (2 * b.depth + 2) (agrees b) (omega arith) v in
     let far : 2 * b.depth + 4 ≤ UNPLACED = low b in
     to_from b.new.level (2 * b.depth + 2) v (at.up (omega arith))
 
@@ -201,10 +198,7 @@ still_or_placed : (b : Begun) (v : ℕ) → IsTrue (undecided b v) →
     (level_of b.new v ≡ UNPLACED) ⊎ IsPlaced b.aim b.old b.new v
 still_or_placed b v inside =
     let grown = grown_all b in
-    elim (grown.each v) [
-      | inl same ↦ inl (same.level ∙ was_open b v inside)
-      | inr placed ↦ inr placed
-    ]
+    elim (grown.each v) [ inl same ↦ inl (same.level ∙ was_open b v inside) | inr placed ↦ inr placed ]
 
 -- ## The tops
 
@@ -221,8 +215,7 @@ placed_from b tables v there =
 
 to_placed : (b : Begun) (tables : TablesData) (v : ℕ) → IsTrue (undecided b v) → level_of tables v ≢ UNPLACED →
     IsTrue (undecided b v && not (level_of tables v == UNPLACED))
-to_placed b tables v inside placed =
-    and_from (undecided b v) (not (level_of tables v == UNPLACED)) inside
+to_placed b tables v inside placed = and_from (undecided b v) (not (level_of tables v == UNPLACED)) inside
     (not_from_false (level_of tables v == UNPLACED) (ne_eqb (level_of tables v) UNPLACED placed))
 
 tops_placed : (b : Begun) (v : ℕ) → IsTrue (tops b v) → IsPlaced b.aim b.old b.mid v
@@ -233,8 +226,8 @@ tops_placed b v top =
       | inr placed ↦ placed
     ]
 
-placed_tops : (b : Begun) (v : ℕ) → IsPlaced b.aim b.old b.mid v → IsTrue (tops b v)
-placed_tops b v placed =
+placed_tops : (b : Begun) {v : ℕ} → IsPlaced b.aim b.old b.mid v → IsTrue (tops b v)
+placed_tops b {v} placed =
     let far : 2 * b.depth + 4 ≤ UNPLACED = low b in
     let mark : b.aim.mark ≡ 2 * b.depth + 2 = b.mark in
     let level : level_of b.mid v ≡ b.aim.mark = placed.level in
@@ -269,9 +262,9 @@ most b v inside =
     omega arith
 
 -- a free vertex that stands in the order before the place where the tops end was placed
-placed_before : (b : Begun) (v : ℕ) (inside : IsTrue (undecided b v)) (there : InOrder b v) → there.place < b.behind →
+placed_before : {b : Begun} {v : ℕ} (inside : IsTrue (undecided b v)) (there : InOrder b v) → there.place < b.behind →
     IsPlaced b.aim b.old b.mid v
-placed_before b v inside there before =
+placed_before {b} {v} inside there before =
     let taken : level_of b.mid (get_or b.order there.place 0) ≢ UNPLACED =
     λ is. b.placed.all there.place there.after before (is ∙ sym b.free) in
     elim (b.placed.grown.each v) [
@@ -284,7 +277,7 @@ greatest_top b v inside is =
     let there = in_order b v inside in
     let same : priority_of b.game (get_or b.order there.place 0) ≡ priority_of b.game v =
     ap (priority_of b.game) there.is in
-    placed_tops b v (placed_before b v inside there (elim (cases_lt there.place b.behind) [
+    placed_tops b (placed_before inside there (elim (cases_lt there.place b.behind) [
       | inl less ↦ less
       | inr more ↦ (
           let room : there.place < length b.order = there.before in
@@ -298,8 +291,8 @@ greatest_top b v inside is =
 first_top : (b : Begun) → IsTrue (tops b (get_or b.order b.cursor 0))
 first_top b = greatest_top b (get_or b.order b.cursor 0) (is_open b (get_or b.order b.cursor 0) b.unplaced) refl
 
-tops_parity : (b : Begun) (v : ℕ) → IsPlaced b.aim b.old b.mid v → priority_of b.game v % 2 ≡ b.aim.player
-tops_parity b v placed = let top = b.placed.tops v placed in top.parity ∙ sym b.player
+tops_parity : (b : Begun) {v : ℕ} → IsPlaced b.aim b.old b.mid v → priority_of b.game v % 2 ≡ b.aim.player
+tops_parity b {v} placed = let top = b.placed.tops v placed in top.parity ∙ sym b.player
 
 -- a top has a greater priority than an undecided vertex of the other parity, which stands behind it in the order
 tops_above : (b : Begun) (v w : ℕ) → IsTrue (tops b v) → IsTrue (undecided b w) →
@@ -313,14 +306,14 @@ tops_above b v w top inside other =
     let second : priority_of b.game (get_or b.order there.place 0) ≡ priority_of b.game w =
     ap (priority_of b.game) there.is in
     elim (cases_lt there.place b.behind) [
-      | inl less ↦ absurd (other (tops_parity b w (placed_before b w inside there less)))
+      | inl less ↦ absurd (other (tops_parity b (placed_before inside there less)))
       | inr more ↦ (
           let before : is_top.stands.place < b.behind = is_top.stands.before in
           let falls : priority_of b.game (get_or b.order there.place 0) ≤ priority_of b.game
           (get_or b.order is_top.stands.place 0) =
           b.sound.is_order.falls is_top.stands.place there.place (omega arith) there.before in
           let differ : priority_of b.game w ≢ priority_of b.game v =
-          λ same. other (ap (λ n. n % 2) same ∙ tops_parity b v placed) in
+          λ same. other (ap (λ n. n % 2) same ∙ tops_parity b placed) in
           omega arith)
     ]
 
@@ -330,12 +323,10 @@ posed : (b : Begun) → IsPosed b.game b.aim b.mid (undecided b) (tops b)
 posed b =
     let begin : b.aim.begin ≡ length b.old.trail = b.begin in
     record {
-      is_subgame =
-          subgame_below b.game (2 * b.depth + 2) (2 * b.depth + 2) b.old b.new b.winner b.winner_now (agrees b)
-          (omega arith) b.searches.alive;
+      is_subgame = subgame_below (2 * b.depth + 2) (agrees b) (omega arith) b.searches.alive;
       split = λ v inside. elim (b.placed.grown.each v) [
         | inl same ↦ inl (same.level ∙ was_open b v inside ∙ sym b.free)
-        | inr placed ↦ inr (placed_tops b v placed)
+        | inr placed ↦ inr (placed_tops b placed)
       ];
       frees = λ v is_vertex is_free. elim (b.placed.grown.each v) [
         | inl same ↦ is_open b v (sym same.level ∙ is_free ∙ b.free)
@@ -352,8 +343,7 @@ posed b =
             within = placed.stands.within;
             is = placed.stands.is;
           });
-      only_target =
-          λ j after within. placed_tops b (get_or b.mid.trail j 0) (b.placed.grown.behind j (omega arith) within);
+      only_target = λ j after within. placed_tops b (b.placed.grown.behind j (omega arith) within);
     }
 
 taken : (b : Begun) → IsTaken b.aim b.new (undecided b) (pulled b)
@@ -412,7 +402,7 @@ waits_here b =
     let sizes : length b.new.level ≡ length b.old.level = b.fits.levels ∙ sym b.sound.fits.levels in
     let size : size_from (2 * b.depth + 1) b.new.level ≡ size_from (2 * b.depth + 1) b.old.level =
     size_from-same (2 * b.depth + 1) b.old.level b.new.level sizes
-    (agrees_at (2 * b.depth + 2) (2 * b.depth + 1) b.old b.new b.winner b.winner_now (agrees b) (omega arith)) in
+    (agrees_at (2 * b.depth + 1) (agrees b) (omega arith)) in
     let room : 2 * b.depth + 2 * size_from (2 * b.depth + 1) b.old.level ≤ 2 * length b.old.level = b.searches.room in
     let prepared : IsTurned b.game (undecided b) (from b.new.level (2 * b.depth + 3)) b.aim.player
     (winner_of b.winner_now) (moves_of b.new) = record {
@@ -422,7 +412,7 @@ waits_here b =
       rank = rank_of b.aim b.new;
       parity = sym b.player;
       most = most b;
-      top = λ v top. tops_parity b v (tops_placed b v top);
+      top = λ v top. tops_parity b (tops_placed b v top);
       above = tops_above b;
       all_top = greatest_top b;
       some_top = (get_or b.order b.cursor 0, first_top b, refl);
@@ -441,18 +431,14 @@ waits_here b =
           }));
     } in
     record {
-      alive =
-          subgame_below b.game (2 * b.depth + 2) (2 * b.depth + 2) b.old b.new b.winner b.winner_now (agrees b)
-          (omega arith) b.searches.alive;
-      progress =
-          progress_below b.game (2 * b.depth + 2) (2 * b.depth + 1) (2 * b.depth + 2) b.old b.new b.winner b.winner_now
+      alive = subgame_below (2 * b.depth + 2) (agrees b) (omega arith) b.searches.alive;
+      progress = progress_below (2 * b.depth + 1) (2 * b.depth + 2)
           (agrees b) (omega arith) (omega arith) b.searches.progress;
       prepared = prepared;
       room = omega arith;
       segment = record {
         within = omega arith;
-        above =
-            λ j after within. (let placed = grown.behind j after within in
+        above = λ j after within. (let placed = grown.behind j after within in
             let level : level_of b.new (get_or b.new.trail j 0) ≡ b.aim.mark = placed.level in omega arith);
         stands = λ v high below. elim (still_or_placed b v (to_from b.new.level (2 * b.depth + 2) v high)) [
           | inl still ↦ absurd (omega arith)
@@ -473,7 +459,7 @@ waits_here b =
       only_tops = λ v stands. (
           let Top : ℕ → Type 0 = λ v. IsTrue (tops b v) in
           subst Top (sym (b.grown.front stands.place stands.before) ∙ stands.is)
-          (placed_tops b (get_or b.mid.trail stands.place 0) (b.placed.grown.behind stands.place stands.after
+          (placed_tops b (b.placed.grown.behind stands.place stands.after
           stands.before)));
       front = record {
         within = (let within : b.cursor < length b.order = b.within in omega arith);
@@ -509,12 +495,11 @@ fewer b c d less more =
     let far : 2 * b.depth + 4 ≤ UNPLACED = low b in
     let was : level_of b.old u ≡ UNPLACED = b.unplaced in
     let mark : b.aim.mark ≡ 2 * b.depth + 2 = b.mark in
-    let placed = later_placed b.aim b.old b.mid b.new u (differ b) b.grown (tops_placed b u (first_top b)) in
+    let placed = later_placed (differ b) b.grown (tops_placed b u (first_top b)) in
     let level : level_of b.new u ≡ b.aim.mark = placed.level in
     size_from-lt c d b.old.level b.new.level u (b.fits.levels ∙ sym b.sound.fits.levels)
     (λ v within high. (
-    let at : AgreesAt b.old.level b.new.level c v =
-    agrees_at (2 * b.depth + 2) c b.old b.new b.winner b.winner_now (agrees b) less v in
+    let at : AgreesAt b.old.level b.new.level c v = agrees_at c (agrees b) less v in
     at.back (omega arith)))
     (first_vertex b) (omega arith) (omega arith)
 
@@ -527,18 +512,11 @@ searches_next b a next =
     let less : size_from (a + 1) b.new.level < size_from (2 * b.depth + 1) b.old.level =
     fewer b (2 * b.depth + 1) (a + 1) (omega arith) (omega arith) in
     record {
-      alive =
-          subgame_left b.game (undecided b) (tops b) (pulled b) (from b.new.level (a + 2)) b.aim.player (moves_of b.new)
-          (rank_of b.aim b.new)
-          (subgame_below b.game (2 * b.depth + 2) (2 * b.depth + 2) b.old b.new b.winner b.winner_now (agrees b)
-          (omega arith) b.searches.alive) (turn b)
+      alive = subgame_left (subgame_below (2 * b.depth + 2) (agrees b) (omega arith) b.searches.alive) (turn b)
           (rest_of_turn b (a + 2) (omega arith) (omega arith));
-      progress =
-          progress_start b.game (from b.new.level (a + 1)) (from b.new.level (a + 2)) (winner_of b.winner_now)
-          (moves_of b.new)
-          (λ v inside. (let high : a + 2 ≤ level_of b.new v = from_at b.new.level (a + 2) v inside in
-          to_from b.new.level (a + 1) v (omega arith)))
-          (λ v inside. (
+      progress = progress_start b.game (from b.new.level (a + 1)) (from b.new.level (a + 2)) (winner_of b.winner_now)
+          (moves_of b.new) (λ v inside. (let high : a + 2 ≤ level_of b.new v = from_at b.new.level (a + 2) v inside in
+          to_from b.new.level (a + 1) v (omega arith))) (λ v inside. (
           let high : a + 1 ≤ level_of b.new v = from_at b.new.level (a + 1) v inside in
           let still : level_of b.new v ≡ UNPLACED = still_high b v (omega arith) in
           to_from b.new.level (a + 2) v (omega arith)));
@@ -566,9 +544,9 @@ searches_next b a next =
     }
 
 -- what a call that waits has in the trail
-segment_later : (b : Begun) (a : ℕ) (frame : Frame) → a + 3 ≤ 2 * b.depth + 2 →
+segment_later : (b : Begun) {a : ℕ} {frame : Frame} → a + 3 ≤ 2 * b.depth + 2 →
     Waits b.game b.old b.winner b.order a frame → IsSegment b.new frame.turn (a + 2)
-segment_later b a frame below waits =
+segment_later b {a} {frame} below waits =
     let grown = grown_all b in
     let mark : b.aim.mark ≡ 2 * b.depth + 2 = b.mark in
     let some : frame.turn ≤ frame.top = waits.some in
@@ -579,8 +557,7 @@ segment_later b a frame below waits =
       above = λ j after within. elim (cases_lt j (length b.old.trail)) [
         | inl less ↦ (
             let at : AgreesAt b.old.level b.new.level (a + 2) (get_or b.old.trail j 0) =
-            agrees_at (2 * b.depth + 2) (a + 2) b.old b.new b.winner b.winner_now (agrees b) (omega arith)
-            (get_or b.old.trail j 0) in
+            agrees_at (a + 2) (agrees b) (omega arith) (get_or b.old.trail j 0) in
             let High : ℕ → Type 0 = λ v. a + 2 ≤ level_of b.new v in
             subst High (sym (grown.front j less)) (at.up (waits.segment.above j after less)))
         | inr more ↦ (let placed = grown.behind j more within in
@@ -608,12 +585,12 @@ segment_later b a frame below waits =
       ];
     }
 
-waits_later : (b : Begun) (a : ℕ) (frame : Frame) → a + 3 ≤ 2 * b.depth + 2 →
+waits_later : (b : Begun) {a : ℕ} {frame : Frame} → a + 3 ≤ 2 * b.depth + 2 →
     Waits b.game b.old b.winner b.order a frame → Waits b.game b.new b.winner_now b.order a frame
-waits_later b a frame below waits =
+waits_later b {a} {frame} below waits =
     let grown = grown_all b in
-    waits_below b.game (2 * b.depth + 2) a (length b.old.trail) b.old b.new b.winner b.winner_now b.order frame
-    (agrees b) below grown.front grown.longer waits.end (segment_later b a frame below waits) waits
+    waits_below (length b.old.trail)
+    (agrees b) below grown.front grown.longer waits.end (segment_later b below waits) waits
 
 sound_now : (b : Begun) → IsSoundBoard b.game b.new b.winner_now b.order
 sound_now b =
@@ -653,7 +630,7 @@ begun_nest b frames solved is_depth unsolved waits rises =
       waits = λ i within. elim (cases_lt i (length frames)) [
         | inl less ↦ (
             let At : Frame → Type 0 = Waits b.game b.new b.winner_now b.order (2 * i) in
-            subst At (sym (at_front i less)) (waits_later b (2 * i) (frame_at frames i) (omega arith) (waits i less)))
+            subst At (sym (at_front i less)) (waits_later b (omega arith) (waits i less)))
         | inr not_less ↦ (
             let last : i ≡ length frames = omega arith in
             let same : 2 * b.depth ≡ 2 * i = omega arith in
@@ -687,27 +664,23 @@ begun_falls b frames more is_depth size =
     let sizes : length b.new.level ≡ length b.old.level = b.fits.levels ∙ sym b.sound.fits.levels in
     falls_begun b.old.level b.new.level (length frames) (length more) size
     (λ i less. size_from-same (2 * i + 2) b.old.level b.new.level sizes
-    (agrees_at (2 * b.depth + 2) (2 * i + 2) b.old b.new b.winner b.winner_now (agrees b) (omega arith)))
+    (agrees_at (2 * i + 2) (agrees b) (omega arith)))
     (fewer b (2 * length frames + 2) (2 * length more + 2) (omega arith) (omega arith))
 
 -- what a set that is closed to the greatest priority leaves out, the first turn leaves to the next call
-pub begun_left : (b : Begun) (set : ℕ → Bool) (v : ℕ) → b.depth ≡ 0 → ((u : ℕ) → u < vertex_count b.game →
-    level_of b.old u ≡ UNPLACED) → IsClosedToTops b.game set → v < vertex_count b.game → ¬ IsTrue (set v) →
-    level_of b.new v ≡ UNPLACED
-begun_left b set v first unplaced closed is_vertex outside =
+pub begun_left : (b : Begun) {set : ℕ → Bool} (v : ℕ) → b.depth ≡ 0 →
+    ((u : ℕ) → u < vertex_count b.game → level_of b.old u ≡ UNPLACED) → IsClosedToTops b.game set →
+    v < vertex_count b.game → ¬ IsTrue (set v) → level_of b.new v ≡ UNPLACED
+begun_left b {set} v first unplaced closed is_vertex outside =
     let waits = waits_here b in
     let is_subgame = posed b in
-    let is_greatest =
-    λ (u : ℕ) (top : IsTrue (waits.prepared.tops u)).
-    (let stands = waits.tops u top in
+    let is_greatest = λ (u : ℕ) (top : IsTrue (waits.prepared.tops u)). (let stands = waits.tops u top in
     let placed = b.placed.grown.behind stands.place stands.after stands.before in
     let there = b.placed.tops (get_or b.mid.trail stands.place 0) placed in
-    let same : get_or b.mid.trail stands.place 0 ≡ u =
-    sym (b.grown.front stands.place stands.before) ∙ stands.is in
+    let same : get_or b.mid.trail stands.place 0 ≡ u = sym (b.grown.front stands.place stands.before) ∙ stands.is in
     let is : priority_of b.game u ≡ greatest b =
     sym (ap (priority_of b.game) same) ∙ there.just (b.just first) in is) in
     let (some, is_top, is) = waits.prepared.some_top in
-    still_high b v (from_at b.new.level (2 * b.depth + 3) v (left_out b.game (undecided b)
-    (from b.new.level (2 * b.depth + 3)) set b.aim.player (winner_of b.winner_now) (moves_of b.new) v
+    still_high b v (from_at b.new.level (2 * b.depth + 3) v (left_out v
     (λ u below. is_open b u (unplaced u below)) (λ u inside. is_subgame.is_subgame.vertices u inside) waits.prepared
     (λ u top. is_greatest u top ∙ sym (is_greatest some is_top) ∙ is) closed is_vertex outside))

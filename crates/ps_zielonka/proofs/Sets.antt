@@ -23,11 +23,9 @@ pub from-same : (old new : List ℕ) (c : ℕ) → ((v : ℕ) → AgreesAt old n
 unfolding from
 from-same old new c agrees = fun_ext (λ v. elim (cases_lt (get_or old v 0) c) [
   | inl less ↦ (
-      let below : get_or new v 0 < c =
-      elim (cases_lt (get_or new v 0) c) [
+      let below : get_or new v 0 < c = elim (cases_lt (get_or new v 0) c) [
         | inl low ↦ low
-        | inr high ↦
-            (let back : c ≤ get_or old v 0 = (agrees v).back high in absurd (omega arith))
+        | inr high ↦ (let back : c ≤ get_or old v 0 = (agrees v).back high in absurd (omega arith))
       ] in
       lt-leb c (get_or new v 0) below ∙ sym (lt-leb c (get_or old v 0) less))
   | inr more ↦ le-leb c (get_or new v 0) ((agrees v).up more) ∙ sym (le-leb c (get_or old v 0) more)

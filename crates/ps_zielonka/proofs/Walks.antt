@@ -27,8 +27,7 @@ level y k closes steps t within =
 pub no_descent : (rank : ℕ → ℕ) (walk : ℕ → ℕ) (k : ℕ) → 0 < k → walk k ≡ walk 0 →
     ((t : ℕ) → t < k → rank (walk (t + 1)) < rank (walk t)) → ⊥
 no_descent rank walk k some closes falls =
-    let same : rank (walk 1) ≡ rank (walk 0) =
-    level (λ t. rank (walk t)) k (ap rank closes) (λ t less.
+    let same : rank (walk 1) ≡ rank (walk 0) = level (λ t. rank (walk t)) k (ap rank closes) (λ t less.
     let step : rank (walk (t + 1)) < rank (walk t) = falls t less in omega arith) 1 some in
     let first : rank (walk 1) < rank (walk 0) = falls 0 some in
     omega arith
@@ -53,8 +52,7 @@ pub all_or_none : (set : ℕ → Bool) (walk : ℕ → ℕ) (k : ℕ) → walk k
     ((t : ℕ) → t < k → IsTrue (set (walk t)) → IsTrue (set (walk (t + 1))))
     → ((t : ℕ) → t < k → IsTrue (set (walk t))) ⊎ ((t : ℕ) → t < k → set (walk t) ≡ false)
 all_or_none set walk k closes steps =
-    let same =
-    λ (t : ℕ) (less : t < k). distance-same (set (walk t)) (set (walk 0))
+    let same = λ (t : ℕ) (less : t < k). distance-same (set (walk t)) (set (walk 0))
     (level (λ t. distance (set (walk t))) k (ap (λ v. distance (set v)) closes)
     (λ t less. distance-le (set (walk t)) (set (walk (t + 1))) (steps t less)) t (omega arith)) in
     elim (cases_Bool (set (walk 0))) [

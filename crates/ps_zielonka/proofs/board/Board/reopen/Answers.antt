@@ -38,18 +38,15 @@ loop-place-preserved g c =
       | then-eq w ↦ record {
         spare = ap (λ (b : Board g.row.W.Denot). b.spare) w.self-is ∙ so_far.spare;
         winner = ap (λ (b : Board g.row.W.Denot). b.winner.items) w.self-is ∙ so_far.winner;
-        reopened = subst Put (sym w.self-is) (reopened_free winner c.args.frame.now.player (mark_of c.args.level) turn
-            spare
-            place u cut mid w.set_level.new.self at within (who ∙ eqb-true _ _ (sym c.eq.ensures ∙ w.if-eq.true))
+        reopened = subst Put (sym w.self-is) (reopened_free spare
+            place u w.set_level.new.self at within (who ∙ eqb-true _ _ (sym c.eq.ensures ∙ w.if-eq.true))
             (w.set_level.ensures.level ∙ ap (slice_set mid.level u) w.mark.ensures) w.set_level.ensures.moves
             w.set_level.ensures.trail so_far.reopened);
       }
       | else-eq+in_ok-place w ↦ record {
         spare = ap (λ (b : Board g.row.W.Denot). b.spare) w.self-is ∙ so_far.spare;
         winner = ap (λ (b : Board g.row.W.Denot). b.winner.items) w.self-is ∙ so_far.winner;
-        reopened = subst Put (sym w.self-is) (reopened_lost winner c.args.frame.now.player (mark_of c.args.level) turn
-            spare
-            place u cut mid w.place.new.self at within (λ won. false≢true
+        reopened = subst Put (sym w.self-is) (reopened_lost spare place u w.place.new.self at within (λ won. false≢true
             (sym w.if-eq.false ∙ c.eq.ensures ∙ eq-eqb _ _ (sym who ∙ won)))
             (w.in_ok-place.ensures.ok ∙ ap (with_placed mid u) w.mark-else-eq.ensures) so_far.reopened);
       }
@@ -63,7 +60,7 @@ returns-clause-reopened g c =
     let Reopened : List ℕ → Type 0 = λ ws. IsReopened ws c.args.frame.now.player (mark_of c.args.level)
     c.args.frame.now.turn
     (StandsBefore spare c.loop-place.place) c.take_off.new.self.tables c.loop-place.self.tables in
-    reopened_end c.args.self.now.winner.items c.args.frame.now.player (mark_of c.args.level) c.args.frame.now.turn
-    c.loop-place.place spare c.args.self.now.tables c.take_off.new.self.tables c.loop-place.self.tables
+    reopened_end
+    c.loop-place.place c.args.self.now.tables
     c.requires.turn c.take_off.ensures.level c.take_off.ensures.moves c.in_ok-take_off.ensures.trail
     c.in_ok-take_off.ensures.spare at_end (subst Reopened c.take_off.ensures.winner c.loop-place.invariant.reopened)

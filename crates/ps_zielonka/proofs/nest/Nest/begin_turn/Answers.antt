@@ -64,13 +64,11 @@ returns g c =
     let Nest : List Frame → Type 0 =
     λ more. IsNest game c.attract.new.self.tables c.attract.new.self.winner.items order more c.in_ok-behind.behind
     c.args.self.now.solved in
-    let nest =
-    subst Nest (sym pushed) (begun_nest b frames c.args.self.now.solved refl c.requires.searches
+    let nest = subst Nest (sym pushed) (begun_nest b frames c.args.self.now.solved refl c.requires.searches
     c.requires.stack.waits c.requires.stack.rises) in
     record {
       stack = nest;
       falls = subst Falls (sym c.requires.searches) (begun_falls b frames c.push.new.self.items refl size);
-      deep = depth_begun b c.push.new.self.items c.in_ok-behind.behind c.args.self.now.solved c.args.self.now.depth
-          c.max-self.result size c.requires.searches
+      deep = depth_begun b c.max-self.result size c.requires.searches
           (omega (arith, c.max-self.ensures, c.len.ensures, c.push.new.self.ok.0)) nest;
     }
