@@ -107,6 +107,5 @@ left_out {game} {whole} {set} {player} {table} v all only turned just tops below
           (λ owns. others (owns ∙ sym parity)) (λ w on. leads w (to_whole u w on));
     } in
     let least : IsWithin turned.attracted set =
-    falls_least game whole player turned.tops turned.attracted table turned.rank turned.within
-    turned.falls set closed in
+    falls_least turned.within turned.falls set closed in
     turned.left.all v (all v below) (λ pulled. outside (least v pulled))
