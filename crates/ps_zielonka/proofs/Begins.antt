@@ -29,7 +29,6 @@ later_placed : {aim : Aim} {old mid new : TablesData} {v : ℕ} → aim.mark ≢
 later_placed {mid} {new} {v} differ grown placed = elim (grown.each v) [
   | inl same ↦ (
       let within : placed.stands.place < length mid.trail = placed.stands.within in
-      let longer : length mid.trail ≤ length new.trail = grown.longer in
       record {
         was_free = placed.was_free;
         level = same.level ∙ placed.level;
@@ -47,7 +46,6 @@ sooner_placed : {aim : Aim} {old mid new : TablesData} {v : ℕ} → aim.mark �
     IsPlaced aim mid new v → IsPlaced aim old new v
 sooner_placed {old} {mid} {v} differ grown placed = elim (grown.each v) [
   | inl same ↦ (
-      let longer : length old.trail ≤ length mid.trail = grown.longer in
       let after : length mid.trail ≤ placed.stands.place = placed.stands.after in
       record {
         was_free = sym same.level ∙ placed.was_free;
@@ -66,7 +64,6 @@ pub IsGrown-both : {aim : Aim} {old mid new : TablesData} → aim.mark ≢ aim.f
     IsGrown aim mid new → IsGrown aim old new
 IsGrown-both {aim} {old} {mid} {new} differ first second =
     let longer : length old.trail ≤ length mid.trail = first.longer in
-    let longer_still : length mid.trail ≤ length new.trail = second.longer in
     record {
       longer = omega arith;
       front = λ j before. second.front j (omega arith) ∙ first.front j before;
@@ -134,16 +131,10 @@ pulled b v = undecided b v && not (level_of b.new v == UNPLACED)
 
 low : (b : Begun) → 2 * b.depth + 4 ≤ UNPLACED
 low b =
-    let room : 2 * b.depth + 2 * size_from (2 * b.depth + 1) b.old.level ≤ 2 * length b.old.level = b.searches.room in
-    let levels : length b.old.level ≡ vertex_count b.game = b.sound.fits.levels in
-    let high : 2 * vertex_count b.game + 4 ≤ UNPLACED = b.sound.high in
     omega arith
 
 differ : (b : Begun) → b.aim.mark ≢ b.aim.free
 differ b same =
-    let mark : b.aim.mark ≡ 2 * b.depth + 2 = b.mark in
-    let free : b.aim.free ≡ UNPLACED = b.free in
-    let far : 2 * b.depth + 4 ≤ UNPLACED = low b in
     omega arith
 
 grown_all : (b : Begun) → IsGrown b.aim b.old b.new
@@ -154,19 +145,12 @@ placed_there : (b : Begun) {v : ℕ} → StandsFrom b.new b.aim.begin v → IsPl
 placed_there b stands =
     let grown = grown_all b in
     let Placed : ℕ → Type 0 = IsPlaced b.aim b.old b.new in
-    let begin : b.aim.begin ≡ length b.old.trail = b.begin in
-    let after : b.aim.begin ≤ stands.place = stands.after in
     subst Placed stands.is (grown.behind stands.place (omega arith) stands.within)
 
 agrees : (b : Begun) → Agrees (2 * b.depth + 2) b.old b.new b.winner b.winner_now
 agrees b =
     let grown = grown_all b in
-    let mark : b.aim.mark ≡ 2 * b.depth + 2 = b.mark in
-    let free : b.aim.free ≡ UNPLACED = b.free in
-    let far : 2 * b.depth + 4 ≤ UNPLACED = low b in
     let changed = λ (v : ℕ) (placed : IsPlaced b.aim b.old b.new v). (
-    let was : level_of b.old v ≡ b.aim.free = placed.was_free in
-    let is : level_of b.new v ≡ b.aim.mark = placed.level in
     let both : (2 * b.depth + 2 ≤ level_of b.old v) × (2 * b.depth + 2 ≤ level_of b.new v) =
     (omega arith, omega arith) in both) in
     record {
@@ -190,7 +174,6 @@ is_open : (b : Begun) (v : ℕ) → level_of b.old v ≡ UNPLACED → IsTrue (un
 is_open b v was =
     let at : AgreesAt b.old.level b.new.level (2 * b.depth + 2) v =
     agrees_at (2 * b.depth + 2) (agrees b) (omega arith) v in
-    let far : 2 * b.depth + 4 ≤ UNPLACED = low b in
     to_from b.new.level (2 * b.depth + 2) v (at.up (omega arith))
 
 -- an undecided vertex is not placed still, or is attracted now
@@ -228,9 +211,6 @@ tops_placed b v top =
 
 placed_tops : (b : Begun) {v : ℕ} → IsPlaced b.aim b.old b.mid v → IsTrue (tops b v)
 placed_tops b {v} placed =
-    let far : 2 * b.depth + 4 ≤ UNPLACED = low b in
-    let mark : b.aim.mark ≡ 2 * b.depth + 2 = b.mark in
-    let level : level_of b.mid v ≡ b.aim.mark = placed.level in
     to_placed b b.mid v (is_open b v (placed.was_free ∙ b.free)) (λ same. omega arith)
 
 -- an undecided vertex stands in the order behind the cursor
@@ -243,7 +223,6 @@ pub record InOrder (b : Begun) (v : ℕ) : Type 0 where
 in_order : (b : Begun) (v : ℕ) → IsTrue (undecided b v) → InOrder b v
 in_order b v inside =
     let was : level_of b.old v ≡ UNPLACED = was_open b v inside in
-    let far : 2 * b.depth + 4 ≤ UNPLACED = low b in
     let is_vertex : v < vertex_count b.game =
     b.searches.alive.vertices v (to_from b.old.level (2 * b.depth + 2) v (omega arith)) in
     let (j, before, is) = b.sound.is_order.all v is_vertex in
@@ -280,7 +259,6 @@ greatest_top b v inside is =
     placed_tops b (placed_before inside there (elim (cases_lt there.place b.behind) [
       | inl less ↦ less
       | inr more ↦ (
-          let room : there.place < length b.order = there.before in
           let falls : priority_of b.game (get_or b.order there.place 0) ≤ priority_of b.game (get_or b.order b.behind 0)
           = b.sound.is_order.falls b.behind there.place more there.before in
           let first : priority_of b.game (get_or b.order b.behind 0) ≤ greatest b =
@@ -308,7 +286,6 @@ tops_above b v w top inside other =
     elim (cases_lt there.place b.behind) [
       | inl less ↦ absurd (other (tops_parity b (placed_before inside there less)))
       | inr more ↦ (
-          let before : is_top.stands.place < b.behind = is_top.stands.before in
           let falls : priority_of b.game (get_or b.order there.place 0) ≤ priority_of b.game
           (get_or b.order is_top.stands.place 0) =
           b.sound.is_order.falls is_top.stands.place there.place (omega arith) there.before in
@@ -321,7 +298,6 @@ tops_above b v w top inside other =
 
 posed : (b : Begun) → IsPosed b.game b.aim b.mid (undecided b) (tops b)
 posed b =
-    let begin : b.aim.begin ≡ length b.old.trail = b.begin in
     record {
       is_subgame = subgame_below (2 * b.depth + 2) (agrees b) (omega arith) b.searches.alive;
       split = λ v inside. elim (b.placed.grown.each v) [
@@ -370,7 +346,6 @@ rest_of_turn b c above within =
     let into = λ (v : ℕ) (inside : IsTrue (from b.new.level c v)). (
     let high : c ≤ level_of b.new v = from_at b.new.level c v inside in
     let there : IsTrue (undecided b v) = to_from b.new.level (2 * b.depth + 2) v (omega arith) in there) in
-    let mark : b.aim.mark ≡ 2 * b.depth + 2 = b.mark in
     record {
       within = into;
       outside = λ v inside there. (
@@ -392,9 +367,6 @@ frame_of b = record { cursor = b.cursor; player = b.aim.player; turn = length b.
 -- the last call waits
 waits_here : (b : Begun) → Waits b.game b.new b.winner_now b.order (2 * b.depth) (frame_of b)
 waits_here b =
-    let mark : b.aim.mark ≡ 2 * b.depth + 2 = b.mark in
-    let begin : b.aim.begin ≡ length b.old.trail = b.begin in
-    let far : 2 * b.depth + 4 ≤ UNPLACED = low b in
     let attracted = turn b in
     let grown = grown_all b in
     let longer : length b.old.trail ≤ length b.mid.trail = b.placed.grown.longer in
@@ -439,7 +411,7 @@ waits_here b =
       segment = record {
         within = omega arith;
         above = λ j after within. (let placed = grown.behind j after within in
-            let level : level_of b.new (get_or b.new.trail j 0) ≡ b.aim.mark = placed.level in omega arith);
+            omega arith);
         stands = λ v high below. elim (still_or_placed b v (to_from b.new.level (2 * b.depth + 2) v high)) [
           | inl still ↦ absurd (omega arith)
           | inr placed ↦ placed.stands
@@ -476,7 +448,6 @@ still_high : (b : Begun) (v : ℕ) → 2 * b.depth + 3 ≤ level_of b.new v → 
 still_high b v high = elim (still_or_placed b v (to_from b.new.level (2 * b.depth + 2) v (omega arith))) [
   | inl still ↦ still
   | inr placed ↦ (
-      let mark : b.aim.mark ≡ 2 * b.depth + 2 = b.mark in
       let level : level_of b.new v ≡ b.aim.mark = placed.level in
       absurd (omega arith))
 ]
@@ -484,7 +455,6 @@ still_high b v high = elim (still_or_placed b v (to_from b.new.level (2 * b.dept
 first_vertex : (b : Begun) → get_or b.order b.cursor 0 < length b.old.level
 first_vertex b =
     let below : get_or b.order b.cursor 0 < vertex_count b.game = b.sound.is_order.vertices b.cursor b.within in
-    let levels : length b.old.level ≡ vertex_count b.game = b.sound.fits.levels in
     omega arith
 
 -- fewer vertices are left to the next call
@@ -492,11 +462,7 @@ fewer : (b : Begun) (c d : ℕ) → c ≤ 2 * b.depth + 2 → 2 * b.depth + 3 �
     size_from d b.new.level < size_from c b.old.level
 fewer b c d less more =
     let u : ℕ = get_or b.order b.cursor 0 in
-    let far : 2 * b.depth + 4 ≤ UNPLACED = low b in
-    let was : level_of b.old u ≡ UNPLACED = b.unplaced in
-    let mark : b.aim.mark ≡ 2 * b.depth + 2 = b.mark in
     let placed = later_placed (differ b) b.grown (tops_placed b u (first_top b)) in
-    let level : level_of b.new u ≡ b.aim.mark = placed.level in
     size_from-lt c d b.old.level b.new.level u (b.fits.levels ∙ sym b.sound.fits.levels)
     (λ v within high. (
     let at : AgreesAt b.old.level b.new.level c v = agrees_at c (agrees b) less v in
@@ -506,7 +472,6 @@ fewer b c d less more =
 -- the next call looks for its turn
 searches_next : (b : Begun) (a : ℕ) → a ≡ 2 * b.depth + 2 → Searches b.game b.new b.winner_now b.order a b.behind
 searches_next b a next =
-    let far : 2 * b.depth + 4 ≤ UNPLACED = low b in
     let room : 2 * b.depth + 2 * size_from (2 * b.depth + 1) b.old.level ≤ 2 * length b.old.level = b.searches.room in
     let sizes : length b.new.level ≡ length b.old.level = b.fits.levels ∙ sym b.sound.fits.levels in
     let less : size_from (a + 1) b.new.level < size_from (2 * b.depth + 1) b.old.level =
@@ -548,10 +513,6 @@ segment_later : (b : Begun) {a : ℕ} {frame : Frame} → a + 3 ≤ 2 * b.depth 
     Waits b.game b.old b.winner b.order a frame → IsSegment b.new frame.turn (a + 2)
 segment_later b {a} {frame} below waits =
     let grown = grown_all b in
-    let mark : b.aim.mark ≡ 2 * b.depth + 2 = b.mark in
-    let some : frame.turn ≤ frame.top = waits.some in
-    let end : frame.top ≤ length b.old.trail = waits.end in
-    let longer : length b.old.trail ≤ length b.new.trail = grown.longer in
     record {
       within = omega arith;
       above = λ j after within. elim (cases_lt j (length b.old.trail)) [
@@ -595,8 +556,6 @@ waits_later b {a} {frame} below waits =
 sound_now : (b : Begun) → IsSoundBoard b.game b.new b.winner_now b.order
 sound_now b =
     let grown = grown_all b in
-    let mark : b.aim.mark ≡ 2 * b.depth + 2 = b.mark in
-    let far : 2 * b.depth + 4 ≤ UNPLACED = low b in
     record {
       is_game = b.sound.is_game;
       fits = b.fits;

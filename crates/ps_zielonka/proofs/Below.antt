@@ -29,7 +29,6 @@ pub agrees_at : {c : ℕ} (b : ℕ) {old new : TablesData} {winner winner_now : 
     Agrees c old new winner winner_now → b ≤ c → (v : ℕ) → AgreesAt old.level new.level b v
 agrees_at b {old} {new} agrees less v = elim (agrees.each v) [
   | inl still ↦ (
-      let same : level_of new v ≡ level_of old v = still.level in
       record { up = λ high. omega arith; back = λ high. omega arith })
   | inr both ↦ record { up = λ high. omega (arith, both.1); back = λ high. omega (arith, both.0) }
 ]
@@ -179,7 +178,6 @@ waits_below {game} {c} {a} m {old} {new} {winner} {winner_now} {order} {frame} a
     let size : size_from (a + 1) new.level ≡ size_from (a + 1) old.level =
     size_from-same (a + 1) old.level new.level agrees.sizes (agrees_at (a + 1) agrees
     (omega arith)) in
-    let sizes : length new.level ≡ length old.level = agrees.sizes in
     let room : a + 2 * size_from (a + 1) old.level ≤ 2 * length old.level = waits.room in
     record {
       alive = subgame_below (a + 2) agrees (omega arith) waits.alive;

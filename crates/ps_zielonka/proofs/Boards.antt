@@ -46,7 +46,6 @@ kept_on {game} {mid} {new} {winner} {level} {player} u {v} moved differ kept =
           let Edge : ℕ → Type 0 = HasEdge game v in
           let Above : ℕ → Type 0 = λ w. level < level_of new w in
           let Won : ℕ → Type 0 = λ w. get_or winner w 0 ≡ player in
-          let low : level < level_of mid (get_or mid.moves v 0) = step.above in
           let high : level < level_of new (get_or mid.moves v 0) = omega (arith, levels (get_or mid.moves v 0)) in
           record {
             edge = subst Edge (sym move) step.edge;
@@ -128,8 +127,7 @@ reopened_free {winner} {player} {turn} spare k u {mid} new at_k within won level
       lost = λ v off not_won. elim (one_more k u at_k off) [
         | inr same ↦ absurd (not_won (ap (λ x. get_or winner x 0) same ∙ won))
         | inl earlier ↦ (
-            let lost = so_far.lost v earlier not_won in
-            let low : lost.1.place < length mid.trail = lost.1.within in (
+            let lost = so_far.lost v earlier not_won in (
               there v (λ same. not_won (ap (λ x. get_or winner x 0) same ∙ won)) ∙ lost.0,
               record {
                 place = lost.1.place;
@@ -234,7 +232,6 @@ pub reopened_end : {winner : List ℕ} {player level turn : ℕ} (k : ℕ) {spar
     IsReopened winner player level turn (StandsBefore spare k) cut new →
     IsReopened winner player level turn (StandsFrom old turn) old new
 reopened_end {turn} k {spare} old {new} within levels moves trail off all reopened =
-    let size : length spare + turn ≡ length old.trail = off.all in
     let to_old = λ (v : ℕ) (stands : StandsBefore spare k v). (
     let low : stands.place < k = stands.before in
     let found : StandsFrom old turn v = record {

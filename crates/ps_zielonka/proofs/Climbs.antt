@@ -93,7 +93,7 @@ module _ {game : ParityGame} {a : ℕ} {frame : Frame} {old mid new : TablesData
           move = same.move ∙ ap (λ xs. get_or xs v 0) going.reopened.moves;
           wins = wins;
         }
-        | inr placed ↦ (let was_free : level_of mid v ≡ UNPLACED = placed.was_free in absurd (omega arith))
+        | inr placed ↦ absurd (omega arith)
       ]
 
   -- a vertex that the other player won is decided
@@ -103,16 +103,14 @@ module _ {game : ParityGame} {a : ℕ} {frame : Frame} {old mid new : TablesData
 
   lost_new : (v : ℕ) → level_of mid v ≡ a + 1 → (level_of new v ≡ a + 1) × (get_or new.moves v 0 ≡ get_or mid.moves v 0)
   lost_new v there =
-      let low : a + 2 < UNPLACED = going.low in
       elim (going.grown.each v) [
         | inl same ↦ (same.level ∙ there, same.move)
-        | inr placed ↦ (let was_free : level_of mid v ≡ UNPLACED = placed.was_free in absurd (omega arith))
+        | inr placed ↦ absurd (omega arith)
       ]
 
   stands_on : {v : ℕ} → StandsFrom mid frame.turn v → StandsFrom new frame.turn v
   stands_on stands =
       let low : stands.place < length mid.trail = stands.within in
-      let longer : length mid.trail ≤ length new.trail = going.grown.longer in
       record {
         place = stands.place;
         after = stands.after;
@@ -136,7 +134,6 @@ module _ {game : ParityGame} {a : ℕ} {frame : Frame} {old mid new : TablesData
           | inl same ↦ inr (same.level ∙ free)
           | inr placed ↦ (
               let after : length mid.trail ≤ placed.stands.place = placed.stands.after in
-              let longer : frame.turn ≤ length mid.trail = going.reopened.longer in
               inl (
                 placed.level,
                 record {
@@ -157,7 +154,7 @@ module _ {game : ParityGame} {a : ℕ} {frame : Frame} {old mid new : TablesData
       | inr high ↦ (
           let low : a + 2 < UNPLACED = going.low in
           elim (going_open v high) [
-            | inl decided ↦ (let level : level_of new v ≡ a + 1 = decided.0 in inr (omega arith, omega arith))
+            | inl decided ↦ (inr (omega arith, omega arith))
             | inr free ↦ inr (omega arith, omega arith)
           ])
     ];
@@ -221,8 +218,7 @@ module _ {game : ParityGame} {a : ℕ} {frame : Frame} {old mid new : TablesData
   gone_is : (v : ℕ) → IsTrue (the_gone v) →
       (a + 2 ≤ level_of old v) × ((level_of new v ≡ a + 1) × StandsFrom new frame.turn v)
   gone_is v gone =
-      let high : a + 2 ≤ level_of old v = from_at old.level (a + 2) v (goes.within v gone) in
-      let low : a + 2 < UNPLACED = going.low in (
+      let high : a + 2 ≤ level_of old v = from_at old.level (a + 2) v (goes.within v gone) in (
         high,
         elim (going_open v high) [
           | inl decided ↦ decided
@@ -261,7 +257,6 @@ module _ {game : ParityGame} {a : ℕ} {frame : Frame} {old mid new : TablesData
 
   going_taken : IsTaken (on_aim a frame) new open_then the_gone
   going_taken =
-      let low : a + 2 < UNPLACED = going.low in
       record {
         within = goes.within;
         placed = λ v gone free. (let level : level_of new v ≡ a + 1 = (gone_is v gone).1.0 in absurd (omega arith));
@@ -309,7 +304,7 @@ module _ {game : ParityGame} {a : ℕ} {frame : Frame} {old mid new : TablesData
         unplaced = λ v high. elim (cases_lt (level_of old v) (a + 2)) [
           | inl low ↦ (let same : level_of new v ≡ level_of old v = (going_still v low).level in absurd (omega arith))
           | inr more ↦ elim (going_open v more) [
-            | inl decided ↦ (let level : level_of new v ≡ a + 1 = decided.0 in absurd (omega arith))
+            | inl decided ↦ absurd (omega arith)
             | inr free ↦ free
           ]
         ];
@@ -332,7 +327,6 @@ module _ {game : ParityGame} {a : ℕ} {frame : Frame} {old mid new : TablesData
   some_lost v stands lost =
       let waits = going.waits in
       let is_open = waits.prepared.within v (waits.prepared.closed.holds v (waits.only_tops v stands)) in
-      let parity : waits.prepared.greatest % 2 ≡ frame.player = waits.prepared.parity in
       elim (cases_eq (owner_of game v) frame.player) [
         | inl owns ↦ (
             let next = waits.alive.goes_on v is_open in
@@ -340,7 +334,6 @@ module _ {game : ParityGame} {a : ℕ} {frame : Frame} {old mid new : TablesData
             (next.0, waits.alive.vertices next.0 next.1.inside, high, lost.own owns next.0 next.1.edge (omega arith)))
         | inr others ↦ (
             let step = lost.foreign others in
-            let above : a + 1 < level_of old step.0 = step.1.above in
             let won : get_or winner step.0 0 ≡ 1 - frame.player = step.1.won in
             (step.0, going.is_game.within v step.0 step.1.edge, omega arith, λ same. omega arith))
       ]

@@ -44,7 +44,6 @@ nest_priorities {game} {tables} {winner} {order} {frames} k calls nest =
     (wait.prepared.within top (wait.prepared.closed.holds top is_top))) in
     let Count : ℕ → Type 0 = HasPriorities game (is_vertex game) in
     let same : 1 + k ≡ k + 1 = omega arith in
-    let levels : length tables.level ≡ vertex_count game = nest.sound.fits.levels in
     subst Count same (HasPriorities-larger (is_vertex game)
     (λ v inside. lt-ltb v (vertex_count game) (elim (cases_lt v (length tables.level)) [
       | inl less ↦ omega arith
@@ -161,7 +160,7 @@ depth_begun b {frames} {cursor} {solved} {depth} deeper calls unsolved greater n
               unsolved = unsolved;
               unplaced = begun_left b v fresh.none fresh.unplaced closed is_vertex outside;
             }))
-            | inr second ↦ (let again : b.depth ≡ 1 = second.one in absurd (omega arith))
+            | inr second ↦ absurd (omega arith)
           ]
         ]
       ];

@@ -32,9 +32,6 @@ done_nest {game} {tables} {winner} {order} {frames} {cursor} {solved} unsolved n
     let a : ℕ = 2 * length frames in
     let searches = nest.searches unsolved in
     let none = none_left nest.sound searches placed in
-    let room : a + 2 * size_from (a + 1) tables.level ≤ 2 * length tables.level = searches.room in
-    let levels : length tables.level ≡ vertex_count game = nest.sound.fits.levels in
-    let high : 2 * vertex_count game + 4 ≤ UNPLACED = nest.sound.high in
     record {
       sound = nest.sound;
       waits = nest.waits;

@@ -88,7 +88,7 @@ IsSolved-tables : {game : ParityGame} {tables : TablesData} {winner : List ℕ} 
 IsSolved-tables {game} {tables} solved_by = record {
   all = λ v is_vertex. to_from tables.level 1 v (solved_by.all v is_vertex);
   only = λ v inside. elim (cases_lt v (length tables.level)) [
-    | inl less ↦ (let levels : length tables.level ≡ vertex_count game = solved_by.levels in omega arith)
+    | inl less ↦ omega arith
     | inr past ↦ (
         let high : 1 ≤ get_or tables.level v 0 = from_at tables.level 1 v inside in
         let none : get_or tables.level v 0 ≡ 0 = get_or_past tables.level v 0 past in
@@ -175,7 +175,6 @@ moves_second {game} {tables} {winner} {read} {again} {region} {strategy} same sa
     record {
       within = λ v some. (
           let (below, is) = at v some in
-          let wins : get_or winner v 0 ≡ 1 = is.wins in
           not_from_false (has region v) (false_from_ne_true (has region v)
           (λ in_region. (let loses : get_or winner v 0 ≡ 0 = whole.won v below in_region in omega arith))));
       owns = λ v some. (let (below, is) = at v some in is.owns);

@@ -42,7 +42,6 @@ pub frame_kept : {game : ParityGame} {subgame open_part rest : ℕ → Bool} {pl
     ((v w : ℕ) → IsTrue (turned.tops v) → owner_of game v ≢ player → HasEdge game v w → IsTrue (open_part w) →
     win w ≡ player) → Solved game subgame win table
 frame_kept {game} {subgame} {open_part} {rest} {player} {win} {table} is_game alive progress turned solved own edges =
-    let parity : turned.greatest % 2 ≡ player = turned.parity in
     let is_player : player < 2 = omega arith in
     let lost : ℕ → Bool = won_by rest win (1 - player) in
     let is_won : IsWon rest nothing win (1 - player) lost = IsWon-won_by rest win (1 - player) in
@@ -71,7 +70,6 @@ pub frame_goes_on : {game : ParityGame} {subgame open_part rest lost gone left :
     table_now v ≡ table v) → Progress game subgame left win_now table_now
 frame_goes_on {rest} {lost} {left} {player} {win} win_now {table_now} is_game alive progress turned solved lost_is
     is_lost attracted within parted given same_win same_lost same_table =
-    let parity : turned.greatest % 2 ≡ player = turned.parity in
     let is_player : player < 2 = omega arith in
     let is_other : 1 - player < 2 = omega arith in
     let differ : 1 - player ≢ player = λ same. omega arith in

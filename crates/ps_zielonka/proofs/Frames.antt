@@ -69,9 +69,6 @@ pub last_low : {game : ParityGame} {tables : TablesData} {winner order : List �
     2 * length frames + 2 < UNPLACED
 last_low {game} {tables} {winner} {order} frames frame {cursor} {solved} nest =
     let waits = last_waits frames frame nest in
-    let room : 2 * length frames + 2 * size_from (2 * length frames + 1) tables.level ≤ 2 * length tables.level =
-    waits.room in
-    let high : 2 * vertex_count game + 4 ≤ UNPLACED = nest.sound.high in
     omega (arith, nest.sound.fits.levels)
 
 pub last_rises : {game : ParityGame} {tables : TablesData} {winner order : List ℕ} (frames : List Frame) (frame : Frame)
@@ -146,7 +143,6 @@ segment_moved {b} {t} {old} new level trail segment =
           omega (arith, levels (get_or new.trail j 0), ap (λ x. level_of old x) (at j)));
       stands = λ v high low. (
           let stands = segment.stands v (omega (arith, levels v)) (omega (arith, levels v)) in
-          let there : stands.place < length old.trail = stands.within in
           record {
             place = stands.place;
             after = stands.after;
@@ -167,7 +163,6 @@ below_wait {game} {old} {winner} {order} frames frame {cursor} {solved} nest agr
     let waits =
     subst Waiting (frame_before frames frame i below) (nest.waits i (omega (arith, frames_size frames frame))) in
     let rises : (frame_at frames i).top ≤ frame.turn = last_rises frames frame i nest below in
-    let some : (frame_at frames i).turn ≤ (frame_at frames i).top = waits.some in
     waits_below frame.turn
     agrees (omega arith) front within rises (segments (2 * i + 2) (frame_at frames i).turn (omega arith)
     (omega arith) waits.segment) waits
@@ -259,7 +254,6 @@ kept_nest {game} {old} {new} {winner} {order} frames frame {cursor} nest moved f
     let waits = last_waits frames frame nest in
     let solved = last_solved frames frame nest in
     let turned = waits.prepared in
-    let parity : turned.greatest % 2 ≡ frame.player = turned.parity in
     let done = nest.done refl in
     let at_level = λ (v : ℕ). ap (λ xs. get_or xs v 0) moved.level in
     -- the vertices whose move changed are of the greatest priority
@@ -286,8 +280,7 @@ kept_nest {game} {old} {new} {winner} {order} frames frame {cursor} nest moved f
     let answer : Solved game (from old.level (a + 1)) (winner_of winner) (moves_of new) =
     frame_kept nest.sound.is_game waits.alive progress_now turned_now solved_now
     (λ v top owns. (
-    let step = (kept v (waits.tops v top)).own owns in
-    let above : a + 1 < level_of new (get_or new.moves v 0) = step.above in (
+    let step = (kept v (waits.tops v top)).own owns in (
       step.edge,
       to_from old.level (a + 2) (get_or new.moves v 0) (omega (arith, at_level (get_or new.moves v 0))),
       step.won,
@@ -311,7 +304,6 @@ kept_nest {game} {old} {new} {winner} {order} frames frame {cursor} nest moved f
       ];
     } in
     let Set : List ℕ → Type 0 = λ levels. Solved game (from levels (a + 1)) (winner_of winner) (moves_of new) in
-    let longer : frame.turn ≤ length old.trail = waits.segment.within in
     record {
       sound = record {
         is_game = nest.sound.is_game;
@@ -453,9 +445,6 @@ pub on_nest : {game : ParityGame} {old mid new : TablesData} {winner winner_now 
 on_nest {game} {old} {mid} {new} {winner} {winner_now} {order} frames {frame} {cursor} nest going fits winners =
     let a : ℕ = 2 * length frames in
     let agrees = going_agrees going in
-    let low : a + 2 < UNPLACED = going.low in
-    let longer : frame.turn ≤ length mid.trail = going.reopened.longer in
-    let longest : length mid.trail ≤ length new.trail = going.grown.longer in
     let front = λ (j : ℕ) (before : j < frame.turn). going.grown.front j (omega arith)
     ∙ going.reopened.front j before in
     let level_at = λ (v : ℕ). (

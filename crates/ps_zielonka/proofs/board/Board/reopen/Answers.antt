@@ -24,7 +24,6 @@ loop-place-preserved g c =
     let taken = c.in_ok-take_off.ensures.spare in
     let below : place < length spare = omega (arith, c.loop-place-test.true, c.len-place-end.ensures) in
     let size : length c.loop-place.self.spare ≡ length spare = ap length so_far.spare in
-    let all : length spare + turn ≡ length old.trail = taken.all in
     let at : get_or spare place 0 ≡ u = ap (λ xs. get_or xs place 0) (sym so_far.spare) ∙ sym c.at-vertex.ensures in
     let is_vertex : get_or old.trail (turn + place) 0 < length old.level =
     c.requires.vertices (turn + place) (omega arith) in
