@@ -234,11 +234,12 @@ in_order b v inside =
 most : (b : Begun) (v : ℕ) → IsTrue (undecided b v) → priority_of b.game v ≤ greatest b
 most b v inside =
     let there = in_order b v inside in
-    let falls : priority_of b.game (get_or b.order there.place 0) ≤ greatest b =
-    b.sound.is_order.falls b.cursor there.place there.after there.before in
-    let same : priority_of b.game (get_or b.order there.place 0) ≡ priority_of b.game v =
-    ap (priority_of b.game) there.is in
-    omega arith
+    omega (
+      arith,
+      ap (priority_of b.game) there.is,
+      b.sound.is_order.falls b.cursor there.place
+          there.after there.before,
+    )
 
 -- a free vertex that stands in the order before the place where the tops end was placed
 placed_before : {b : Begun} {v : ℕ} (inside : IsTrue (undecided b v)) (there : InOrder b v) → there.place < b.behind →
@@ -286,12 +287,9 @@ tops_above b v w top inside other =
     elim (cases_lt there.place b.behind) [
       | inl less ↦ absurd (other (tops_parity b (placed_before inside there less)))
       | inr more ↦ (
-          let falls : priority_of b.game (get_or b.order there.place 0) ≤ priority_of b.game
-          (get_or b.order is_top.stands.place 0) =
-          b.sound.is_order.falls is_top.stands.place there.place (omega arith) there.before in
           let differ : priority_of b.game w ≢ priority_of b.game v =
           λ same. other (ap (λ n. n % 2) same ∙ tops_parity b placed) in
-          omega arith)
+          omega (arith, b.sound.is_order.falls is_top.stands.place there.place (omega arith) there.before))
     ]
 
 -- ## The attractor
@@ -454,8 +452,7 @@ still_high b v high = elim (still_or_placed b v (to_from b.new.level (2 * b.dept
 
 first_vertex : (b : Begun) → get_or b.order b.cursor 0 < length b.old.level
 first_vertex b =
-    let below : get_or b.order b.cursor 0 < vertex_count b.game = b.sound.is_order.vertices b.cursor b.within in
-    omega arith
+    omega (arith, b.sound.is_order.vertices b.cursor b.within)
 
 -- fewer vertices are left to the next call
 fewer : (b : Begun) (c d : ℕ) → c ≤ 2 * b.depth + 2 → 2 * b.depth + 3 ≤ d →
@@ -605,13 +602,11 @@ begun_nest b frames solved is_depth unsolved waits rises =
             | inl less ↦ (
                 let turn : (frame_at more j).turn ≡ (frame_at frames j).turn =
                 ap (λ (frame : Frame). frame.turn) (at_front j less) in
-                let old_rises : (frame_at frames i).top ≤ (frame_at frames j).turn = rises i j before less in
-                omega arith)
+                omega (arith, rises i j before less))
             | inr not_less ↦ (
                 let turn : (frame_at more j).turn ≡ length b.old.trail =
                 ap (λ (frame : Frame). frame.turn) (at_end j (omega arith)) in
-                let end : (frame_at frames i).top ≤ length b.old.trail = (waits i left).end in
-                omega arith)
+                omega (arith, (waits i left).end))
           ]);
       searches = λ is. searches_next b (2 * length more) (omega arith);
       done = λ is. absurd (false≢true (sym unsolved ∙ is));

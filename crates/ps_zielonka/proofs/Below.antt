@@ -57,7 +57,7 @@ progress_below {game} {c} a b {old} {new} {winner} {winner_now} agrees low high 
     λ set. Progress game (from new.level a) set (winner_of winner_now) (moves_of new) in
     let below = λ (v : ℕ) (decided : ¬ IsTrue (from old.level b v)). (
     let still : IsStill old new winner winner_now v = still_below agrees v (λ inside.
-    decided (to_from old.level b v (let far : c ≤ level_of old v = from_at old.level c v inside in omega arith))) in
+    decided (to_from old.level b v (omega (arith, from_at old.level c v inside)))) in
     still) in
     subst Inner (sym (agrees_from b agrees high))
     (subst Outer (sym (agrees_from a agrees low))
@@ -155,10 +155,8 @@ cursor_below {c} {b} {old} {new} {winner} {winner_now} {order} agrees less front
   below = λ j before. elim (cases_lt (get_or new.level (get_or order j 0) 0) b) [
     | inl low ↦ low
     | inr high ↦ (
-        let was : get_or old.level (get_or order j 0) 0 < b = front.below j before in
         let at : AgreesAt old.level new.level b (get_or order j 0) = agrees_at b agrees less (get_or order j 0) in
-        let back : b ≤ get_or old.level (get_or order j 0) 0 = at.back high in
-        absurd (omega arith))
+        absurd (omega (arith, at.back high, front.below j before)))
   ];
 }
 
@@ -173,8 +171,8 @@ waits_below {game} {c} {a} m {old} {new} {winner} {winner_now} {order} {frame} a
     let prepared = waits.prepared in
     let still = λ (v : ℕ) (pulled : IsTrue (prepared.attracted v)). (
     let there : IsStill old new winner winner_now v = still_below agrees v (λ inside.
-    prepared.left.outside v (to_from old.level (a + 3) v (let far : c ≤ level_of old v = from_at old.level c v inside in
-    omega arith)) pulled) in there) in
+    prepared.left.outside v (to_from old.level (a + 3) v (omega (arith, from_at old.level c v inside))) pulled) in
+    there) in
     let size : size_from (a + 1) new.level ≡ size_from (a + 1) old.level =
     size_from-same (a + 1) old.level new.level agrees.sizes (agrees_at (a + 1) agrees
     (omega arith)) in

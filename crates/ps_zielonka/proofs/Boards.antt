@@ -65,7 +65,8 @@ kept_more {game} {old} {mid} {new} {winner} {level} {player} {other} place {u} a
       | inl same ↦ (let Kept : ℕ → Type 0 = λ x. IsKeptAt game new winner level player other x in
           subst Kept (sym same) here)
       | inr differ ↦ (
-          let not_last : stands.place ≢ place = λ same. differ (sym stands.is ∙ ap (λ j. get_or old.trail j 0) same ∙ at) in
+          let not_last : stands.place ≢ place =
+          λ same. differ (sym stands.is ∙ ap (λ j. get_or old.trail j 0) same ∙ at) in
           let before : stands.place < place + 1 = stands.before in
           kept_on u moved differ
           (so_far v (record { place = stands.place; after = stands.after; before = omega arith; is = stands.is })))

@@ -43,9 +43,11 @@ module _ {game : ParityGame} {a : ℕ} {frame : Frame} {old mid new : TablesData
   -- what stood in the trail from the turn on was open, and what was open stood there
   pub was_open : {v : ℕ} → StandsFrom old frame.turn v → a + 2 ≤ level_of old v
   was_open stands =
-      let high : a + 2 ≤ level_of old (get_or old.trail stands.place 0) =
-      going.waits.segment.above stands.place stands.after stands.within in
-      omega (arith, ap (λ x. level_of old x) stands.is)
+      omega (
+        arith,
+        going.waits.segment.above stands.place stands.after stands.within,
+        ap (λ x. level_of old x) stands.is,
+      )
 
   stood : (v : ℕ) → a + 2 ≤ level_of old v → StandsFrom old frame.turn v
   stood v high = going.waits.segment.stands v high (going.placed v)
@@ -71,8 +73,7 @@ module _ {game : ParityGame} {a : ℕ} {frame : Frame} {old mid new : TablesData
         elim (cases_lt (level_of old v) (a + 2)) [
           | inl low ↦ (
               let same = mid_still v low in
-              let below : level_of old v < UNPLACED = going.placed v in
-              absurd (omega arith))
+              absurd (omega (arith, going.placed v)))
           | inr high ↦ high
         ])
   ]
@@ -202,8 +203,7 @@ module _ {game : ParityGame} {a : ℕ} {frame : Frame} {old mid new : TablesData
     within = λ v inside. (
         let high : a + 2 ≤ level_of new v = from_at new.level (a + 2) v inside in
         elim (cases_lt (level_of old v) (a + 2)) [
-          | inl low ↦ (let same : level_of new v ≡ level_of old v = (going_still v low).level in
-              absurd (omega arith))
+          | inl low ↦ (absurd (omega (arith, (going_still v low).level)))
           | inr more ↦ to_from old.level (a + 2) v more
         ]);
     outside = λ v inside gone. goes.outside v gone inside;
@@ -237,17 +237,14 @@ module _ {game : ParityGame} {a : ℕ} {frame : Frame} {old mid new : TablesData
         ]);
     frees = λ v is_vertex free. elim (cases_lt (level_of old v) (a + 2)) [
       | inl low ↦ (
-          let same : level_of mid v ≡ level_of old v = mid_still v low in
-          let below : level_of old v < UNPLACED = going.placed v in
-          absurd (omega arith))
+          absurd (omega (arith, going.placed v, mid_still v low)))
       | inr high ↦ to_from old.level (a + 2) v high
     ];
     target_within = λ v there. to_from old.level (a + 2) v (lost_is v there).0;
     target_placed = λ v there free. (
         let is = lost_is v there in
-        let level : level_of mid v ≡ a + 1 = (going_lost v is.0 is.1).0 in
         let low : a + 2 < UNPLACED = going.low in
-        absurd (omega arith));
+        absurd (omega (arith, (going_lost v is.0 is.1).0)));
     target_stands = λ v there. (let is = lost_is v there in
         (going_lost v is.0 is.1).1);
     only_target = λ j after within. (
@@ -261,9 +258,8 @@ module _ {game : ParityGame} {a : ℕ} {frame : Frame} {old mid new : TablesData
         within = goes.within;
         placed = λ v gone free. (let level : level_of new v ≡ a + 1 = (gone_is v gone).1.0 in absurd (omega arith));
         all = λ v inside placed. elim (going_open v (from_at old.level (a + 2) v inside)) [
-          | inl decided ↦ goes.all v inside (λ there. let high : a + 2 ≤ level_of new v = from_at
-              new.level (a + 2) v
-              there in let level : level_of new v ≡ a + 1 = decided.0 in absurd (omega arith))
+          | inl decided ↦ goes.all v inside (λ there. let level : level_of new v ≡ a + 1 = decided.0 in
+              absurd (omega (arith, from_at new.level (a + 2) v there)))
           | inr free ↦ absurd (placed free)
         ];
       }
@@ -349,6 +345,6 @@ module _ {game : ParityGame} {a : ℕ} {frame : Frame} {old mid new : TablesData
       let level : level_of new u ≡ a + 1 = (lost_new u there.0).0 in
       size_from-lt (a + 2) (a + 2) old.level new.level u agrees.sizes
       (λ w below high. elim (cases_lt (level_of old w) (a + 2)) [
-        | inl low ↦ (let same : level_of new w ≡ level_of old w = (going_still w low).level in absurd (omega arith))
+        | inl low ↦ (absurd (omega (arith, (going_still w low).level)))
         | inr more ↦ more
       ]) (omega (arith, found.1)) found.2 (omega arith)

@@ -48,9 +48,7 @@ nest_priorities {game} {tables} {winner} {order} {frames} k calls nest =
     (λ v inside. lt-ltb v (vertex_count game) (elim (cases_lt v (length tables.level)) [
       | inl less ↦ omega arith
       | inr past ↦ (
-          let high : 1 ≤ get_or tables.level v 0 = from_at tables.level 1 v inside in
-          let none : get_or tables.level v 0 ≡ 0 = get_or_past tables.level v 0 past in
-          absurd (omega arith))
+          absurd (omega (arith, get_or_past tables.level v 0 past, from_at tables.level 1 v inside)))
     ]))
     (chain tables winner order frames k (λ i less. nest.waits i (omega arith)) one))
 
@@ -118,8 +116,7 @@ pub depth_done : {game : ParityGame} {tables : TablesData} {winner order : List 
 depth_done {game} {tables} {frames} {depth} nest so_far =
     let answer = nest.done refl in
     let placed =
-    λ (v : ℕ) (unplaced : level_of tables v ≡ UNPLACED). (let below : level_of tables v < UNPLACED = answer.placed v
-    in let h : ⊥ = omega arith in h) in
+    λ (v : ℕ) (unplaced : level_of tables v ≡ UNPLACED). (let h : ⊥ = omega (arith, answer.placed v) in h) in
     depth_stays tables.level (length frames) true (record {
       most = so_far.most;
       some = λ v is_vertex. elim (so_far.some v is_vertex) [

@@ -23,7 +23,7 @@ unfolding drop_at
 length-drop_at [] k within = absurd (omega arith)
 length-drop_at (x ∷ xs) zero within = omega arith
 length-drop_at (x ∷ xs) (suc k) within =
-    let shorter : length (drop_at xs k) + 1 ≡ length xs = length-drop_at xs k (omega arith) in omega arith
+    omega (arith, length-drop_at xs k (omega arith))
 
 Contains-drop_at : (xs : List ℕ) (k x j : ℕ) → j < length xs → get_or xs j x ≡ x → (get_or xs k x ≡ x → ⊥) →
     Contains (drop_at xs k) x
@@ -58,13 +58,12 @@ HasPriorities-more {game} larger {n} top within inside differ has_n = record {
       let found = all top inside in
       let d : ℕ = priority_of game top in
       let is_there : found.0 < length list = found.1 in
-      let shorter : length (drop_at list found.0) + 1 ≡ length list = length-drop_at list found.0 is_there in
       let fewer : n ≤ length (drop_at list found.0) = has_n.many (drop_at list found.0) (λ v in_smaller.
       let here = all v (within v in_smaller) in
       Contains-drop_at list found.0 (priority_of game v) here.0 here.1 here.2
       (λ same. differ v in_smaller (sym same ∙ get_or_default list found.0 (priority_of game v) d is_there ∙ found.2)))
       in
-      omega arith);
+      omega (arith, length-drop_at list found.0 is_there));
 }
 
 -- the rest of a turn has fewer priorities
@@ -86,10 +85,9 @@ pub left_out : {game : ParityGame} {whole rest set : ℕ → Bool} {player : ℕ
 left_out {game} {whole} {set} {player} {table} v all only turned just tops below outside =
     let (top, is_top, top_is) = turned.some_top in
     let top_inside : IsTrue (whole top) = turned.within top (turned.closed.holds top is_top) in
-    let top_below : priority_of game top ≤ tops.greatest = tops.is_greatest.bounds top (only top top_inside) in
     let (great, great_vertex, great_is) = tops.is_greatest.stands in
-    let great_below : priority_of game great ≤ turned.greatest = turned.most great (all great great_vertex) in
-    let same : turned.greatest ≡ tops.greatest = omega arith in
+    let same : turned.greatest ≡ tops.greatest =
+    omega (arith, turned.most great (all great great_vertex), tops.is_greatest.bounds top (only top top_inside)) in
     let parity : player ≡ tops.greatest % 2 = sym turned.parity ∙ ap (λ n. n % 2) same in
     let to_vertex = λ (u w : ℕ) (leads : LeadsInto game whole u w). (
     let there : LeadsInto game (is_vertex game) u w =

@@ -72,9 +72,8 @@ holds_second {game} {winner} {moves} {whole} {region} {strategy} is_solved is_re
     let won = IsWon-won_by whole win 1 in
     Holds-same (others region)
     (λ v is_vertex inside.
-    let wins : win v ≡ 1 = won.won v inside in
     not_from_false (has region v) (false_from_ne_true (has region v)
-    (λ in_region. (let loses : win v ≡ 0 = is_region.won v is_vertex in_region in omega arith))))
+    (λ in_region. omega (arith, is_region.won v is_vertex in_region, won.won v inside))))
     (λ v is_vertex inside.
     let winner_below : win v < 2 = is_solved.solved.winners v (is_solved.all v is_vertex) (λ h. false≢true h) in
     let not_first : win v ≢ 0 =
@@ -90,9 +89,7 @@ IsSolved-tables {game} {tables} solved_by = record {
   only = λ v inside. elim (cases_lt v (length tables.level)) [
     | inl less ↦ omega arith
     | inr past ↦ (
-        let high : 1 ≤ get_or tables.level v 0 = from_at tables.level 1 v inside in
-        let none : get_or tables.level v 0 ≡ 0 = get_or_past tables.level v 0 past in
-        absurd (omega arith))
+        absurd (omega (arith, get_or_past tables.level v 0 past, from_at tables.level 1 v inside)))
   ];
   solved = solved_by.solved;
 }
@@ -176,6 +173,6 @@ moves_second {game} {tables} {winner} {read} {again} {region} {strategy} same sa
       within = λ v some. (
           let (below, is) = at v some in
           not_from_false (has region v) (false_from_ne_true (has region v)
-          (λ in_region. (let loses : get_or winner v 0 ≡ 0 = whole.won v below in_region in omega arith))));
+          (λ in_region. omega (arith, whole.won v below in_region))));
       owns = λ v some. (let (below, is) = at v some in is.owns);
     }

@@ -47,7 +47,7 @@ frame_kept {game} {subgame} {open_part} {rest} {player} {win} {table} is_game al
     let is_won : IsWon rest nothing win (1 - player) lost = IsWon-won_by rest win (1 - player) in
     let parted : IsWithout open_part lost (without open_part lost) = IsWithout-without open_part lost in
     let not_lost = λ (w : ℕ) (wins : win w ≡ player) (there : IsTrue (lost w)).
-    (let loses : win w ≡ 1 - player = is_won.won w there in let h : ⊥ = omega arith in h) in
+    (let h : ⊥ = omega (arith, is_won.won w there) in h) in
     Solved-kept is_game
     is_player (omega arith) (λ same. omega arith) turned is_won solved parted
     (λ v top owns. some_more (λ w. HasEdge game v w × IsTrue (open_part w) × (win w ≡ player))

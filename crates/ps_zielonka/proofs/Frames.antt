@@ -100,7 +100,11 @@ segment_below {b} c m {old} new less before inside within front behind each segm
         let same : level_of new (get_or new.trail j 0) ≡ level_of new v = ap (λ x. level_of new x) (front j small) in
         elim (each v) [
           | inr high ↦ omega (arith, high.0)
-          | inl still ↦ (let was : b ≤ level_of old v = segment.above j after (omega arith) in omega (arith, still.0))
+          | inl still ↦ (omega (
+            arith,
+            segment.above j after (omega (arith, segment.above j after (omega arith))),
+            still.0,
+          ))
         ])
   ];
   stands = λ v high low. elim (each v) [
@@ -139,8 +143,12 @@ segment_moved {b} {t} {old} new level trail segment =
     record {
       within = omega arith;
       above = λ j after below. (
-          let was : b ≤ level_of old (get_or old.trail j 0) = segment.above j after (omega arith) in
-          omega (arith, levels (get_or new.trail j 0), ap (λ x. level_of old x) (at j)));
+          omega (
+            arith,
+            segment.above j after (omega (arith, segment.above j after (omega arith))),
+            levels (get_or new.trail j 0),
+            ap (λ x. level_of old x) (at j),
+          ));
       stands = λ v high low. (
           let stands = segment.stands v (omega (arith, levels v)) (omega (arith, levels v)) in
           record {
@@ -273,7 +281,7 @@ kept_nest {game} {old} {new} {winner} {order} frames frame {cursor} nest moved f
     (λ v inside decided. still v (λ top. decided (tops_open v top))) waits.progress in
     let wins = λ (w : ℕ) (inside : IsTrue (from old.level (a + 2) w)). (
     let below : get_or winner w 0 < 2 = elim (in_part_or_rest turned.left w inside) [
-      | inl pulled ↦ (let given : get_or winner w 0 ≡ frame.player = turned.given w pulled in omega arith)
+      | inl pulled ↦ omega (arith, turned.given w pulled)
       | inr left ↦ solved.winners w left (λ h. false≢true h)
     ] in
     below) in
@@ -312,7 +320,7 @@ kept_nest {game} {old} {new} {winner} {order} frames frame {cursor} nest moved f
         is_order = nest.sound.is_order;
         high = nest.sound.high;
         levels =
-            λ v is_vertex. (let some : 1 ≤ level_of old v = nest.sound.levels v is_vertex in omega (arith, at_level v));
+            λ v is_vertex. omega (arith, nest.sound.levels v is_vertex, at_level v);
         most = λ v. (let most : level_of old v ≤ UNPLACED = nest.sound.most v in omega (arith, at_level v));
       };
       waits = below_wait frames frame nest agrees

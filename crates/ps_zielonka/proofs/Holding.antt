@@ -222,7 +222,6 @@ HoldsWithin-all {game} {subgame} {player} {tops} {set} {rest} {table} {rank} abo
       stays = λ v w inside others leads. leads.inside;
       wins = λ walk k found round is_top. elim (some_or_none tops walk k) [
         | inl met ↦ (
-            let bounds : priority_of game (walk met.0) ≤ found = is_top.bounds met.0 met.1 in
             let (place, before, stands) = is_top.stands in
             elim (cases_eq (found % 2) player) [
               | inl same ↦ same
@@ -230,7 +229,7 @@ HoldsWithin-all {game} {subgame} {player} {tops} {set} {rest} {table} {rank} abo
                   let below : priority_of game (walk place) < priority_of game (walk met.0) =
                   above (walk met.0) (walk place) met.2 (round.inside place before)
                   (λ same. other (ap (λ n. n % 2) (sym stands) ∙ same)) in
-                  absurd (omega arith))
+                  absurd (omega (arith, is_top.bounds met.0 met.1)))
             ])
         | inr none ↦ elim (all_or_none set walk k round.closes (λ t less from.
             let step : IsTrue (subgame (walk (t + 1))) = round_inside round (t + 1) (omega arith) in

@@ -45,8 +45,8 @@ pub Progress-same : {game : ParityGame} {subgame open_part : ℕ → Bool} {win 
     Progress game subgame open_part win table → Progress game subgame open_part other_win other_table
 Progress-same {win} other_win other_table same_win same_move progress = record {
   within = progress.within;
-  winners = λ v inside decided. let same : other_win v ≡ win v = same_win v inside decided in let below : win v < 2 =
-      progress.winners v inside decided in omega arith;
+  winners = λ v inside decided. let same : other_win v ≡ win v = same_win v inside decided in
+      omega (arith, progress.winners v inside decided);
   away = λ v w from edge inside decided same. progress.away v w from edge inside decided
       (same ∙ same_win w inside decided);
   held = λ player set is_player is_won. HoldsWithin-same set other_table (λ v inside. inside) (λ v inside. inside)
@@ -130,9 +130,8 @@ Progress-taken {game} {subgame} {open_part} {part} {left} {win} {table} {player}
               let decided : ¬ IsTrue (open_part w) = not_in open_part w outside in
               let away : owner_of game v ≢ win w =
               progress.away v w (part_within v inside) leads.edge leads.inside decided in
-              let owner : owner_of game v < 2 = is_game.owners v leads.edge.0 in
-              let winner : win w < 2 = progress.winners w leads.inside decided in
-              let same : win w ≡ player = omega arith in
+              let same : win w ≡ player =
+              omega (arith, progress.winners w leads.inside decided, is_game.owners v leads.edge.0) in
               to_before w (is_won.all w leads.inside (λ still. decided (without.within w still)) same) outside)
         ])
         before_held holds
@@ -149,8 +148,7 @@ lost_held {game} {open_part} {rest} {lost} {player} {other} is_game is_player is
     (λ v w inside others leads. elim (in_part_or_rest turned.left w leads.inside) [
       | inr near ↦ near
       | inl there ↦ (
-          let owner : owner_of game v < 2 = is_game.owners v leads.edge.0 in
-          let owns : owner_of game v ≡ player = omega arith in
+          let owns : owner_of game v ≡ player = omega (arith, is_game.owners v leads.edge.0) in
           let from : IsTrue (rest v) = is_won.within v inside in
           absurd (turned.left.outside v from (turned.closed.own v w (turned.left.within v from) owns leads there)))
     ])

@@ -12,16 +12,14 @@ falling y k steps t (suc j) after within = elim (cases_eq t (suc j)) [
   | inr other ↦ (
       let next : y (j + 1) ≡ y (suc j) = ap y (omega arith) in
       let step : y (j + 1) ≤ y j = steps j (omega arith) in
-      let before : y j ≤ y t = falling y k steps t j (omega arith) (omega arith) in
-      omega arith)
+      omega (arith, falling y k steps t j (omega arith) (omega arith)))
 ]
 
 -- a number that never rises along the steps is the same at each place
 pub level : (y : ℕ → ℕ) (k : ℕ) → y k ≡ y 0 → ((t : ℕ) → t < k → y (t + 1) ≤ y t) → (t : ℕ) → t ≤ k → y t ≡ y 0
 level y k closes steps t within =
     let down : y t ≤ y 0 = falling y k steps 0 t (omega arith) within in
-    let up : y k ≤ y t = falling y k steps t k within (omega arith) in
-    omega arith
+    omega (arith, falling y k steps t k within (omega arith))
 
 -- no number falls at each step
 pub no_descent : (rank : ℕ → ℕ) (walk : ℕ → ℕ) (k : ℕ) → 0 < k → walk k ≡ walk 0 →
@@ -29,8 +27,7 @@ pub no_descent : (rank : ℕ → ℕ) (walk : ℕ → ℕ) (k : ℕ) → 0 < k �
 no_descent rank walk k some closes falls =
     let same : rank (walk 1) ≡ rank (walk 0) = level (λ t. rank (walk t)) k (ap rank closes) (λ t less.
     let step : rank (walk (t + 1)) < rank (walk t) = falls t less in omega arith) 1 some in
-    let first : rank (walk 1) < rank (walk 0) = falls 0 some in
-    omega arith
+    omega (arith, falls 0 some)
 
 -- 0 for true, 1 for false
 abbrev distance : Bool → ℕ

@@ -25,10 +25,17 @@ loop-place-preserved g c =
     let below : place < length spare = omega (arith, c.loop-place-test.true, c.len-place-end.ensures) in
     let size : length c.loop-place.self.spare ≡ length spare = ap length so_far.spare in
     let at : get_or spare place 0 ≡ u = ap (λ xs. get_or xs place 0) (sym so_far.spare) ∙ sym c.at-vertex.ensures in
-    let is_vertex : get_or old.trail (turn + place) 0 < length old.level =
-    c.requires.vertices (turn + place) (omega arith) in
     let same_level : length mid.level ≡ length old.level = so_far.reopened.sizes ∙ ap length c.take_off.ensures.level in
-    let within : u < length mid.level = omega (arith, at, taken.same place below) in
+    let within : u < length mid.level =
+    omega (
+      arith,
+      c.requires.vertices (turn + place) (omega (
+        arith,
+        c.requires.vertices (turn + place) (omega arith),
+      )),
+      at,
+      taken.same place below,
+    ) in
     let who : get_or winner u 0 ≡ c.index.result.now = ap (λ xs. get_or xs u 0) (sym so_far.winner)
     ∙ sym (get_or_read c.loop-place.self.winner.items u c.index.result.now (search rules) c.index.ensures 0) in
     let Put : Board g.row.W.Denot → Type 0 = λ b. IsReopened winner c.args.frame.now.player (mark_of c.args.level) turn
