@@ -11,7 +11,8 @@ use Rattle.ps_zielonka.specs.Depths.{is_vertex, HasPriorities, IsDepth, IsFresh,
 use Rattle.ps_zielonka.specs.Nests.{from, winner_of, frame_at, Waits, IsNest}
 use Rattle.ps_zielonka.proofs.Depths.{one_priority, HasPriorities-larger, HasPriorities-turned}
 use Rattle.ps_zielonka.proofs.Sets.{from_at}
-use Rattle.ps_zielonka.proofs.Begins.{Begun, begun_left}
+use Rattle.ps_zielonka.proofs.Begun.{Begun}
+use Rattle.ps_zielonka.proofs.Begins.{begun_left}
 
 -- what the call of a depth has, and one for each call before it
 chain : {game : ParityGame} (tables : TablesData) (winner order : List ℕ) (frames : List Frame) (j : ℕ) {m : ℕ} →

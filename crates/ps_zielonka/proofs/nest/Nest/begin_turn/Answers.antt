@@ -8,7 +8,8 @@ use Rattle.ps_zielonka.specs.declared.frame.Frame.{Frame}
 use Rattle.ps_zielonka.specs.Nests.{IsNest, steps_left}
 use Rattle.ps_zielonka.specs.Levels.{aim_of}
 use Rattle.ps_zielonka.specs.declared.level.Level.TheVariants.{Attracted}
-use Rattle.ps_zielonka.proofs.Begins.{Begun, frame_of, begun_nest, begun_falls}
+use Rattle.ps_zielonka.proofs.Begun.{Begun}
+use Rattle.ps_zielonka.proofs.Begins.{frame_of, begun_nest, begun_falls}
 use Rattle.ps_zielonka.proofs.Deep.{depth_begun}
 use Rattle.ps_zielonka.proofs.nest.Nest.begin_turn.Goals as goal
 

@@ -5,7 +5,7 @@ use Rattle.ps_zielonka.specs.declared.frame.Frame.{Frame}
 use Rattle.std.proofs.lemmas.List.{length_push}
 use Rattle.ps_zielonka.specs.Nests.{IsNest, StandsBetween, IsKeptAt, steps_left}
 use Rattle.ps_zielonka.proofs.Measure.{falls_kept}
-use Rattle.ps_zielonka.proofs.Frames.{kept_nest, moved_nest}
+use Rattle.ps_zielonka.proofs.Answered.{kept_nest, moved_nest}
 use Rattle.ps_zielonka.proofs.Deep.{depth_climbs, depth_kept}
 use Rattle.ps_zielonka.proofs.nest.Nest.climb.Goals as goal
 

@@ -4,7 +4,8 @@ use Rattle.ps_attractor.specs.Tables.{FitsGame}
 use Rattle.ps_zielonka.specs.Levels.{mark_of, aim_of}
 use Rattle.ps_zielonka.specs.Nests.{IsGiven}
 use Rattle.ps_zielonka.proofs.Climbs.{on_aim}
-use Rattle.ps_zielonka.proofs.Frames.{Reached, going_on, fits_reopened, last_waits, on_nest, on_falls}
+use Rattle.ps_zielonka.proofs.GoesOn.{Reached, going_on, fits_reopened, on_nest, on_falls}
+use Rattle.ps_zielonka.proofs.Frames.{last_waits}
 use Rattle.ps_zielonka.proofs.nest.Nest.go_on.Goals as goal
 
 pub attract-requires-clause-fits : goal.attract-requires-clause-fits
