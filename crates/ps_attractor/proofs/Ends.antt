@@ -70,10 +70,8 @@ own_in {game} {aim} {old} {new} {subgame} {target} v w ended owns edge inside is
     let stands = stands_now w ended.begins ended.reached.grown (ended.taken.placed w inside)
     (was_there w ended.posed (ended.taken.within w inside)) in
     let Edge : ℕ → Type 0 = HasEdge game v in
-    let past : length new.trail ≤ stands.place =
-    ended.reached.own v stands.place is_free owns stands.after stands.within (subst Edge (sym stands.is) edge) in
-    let within : stands.place < length new.trail = stands.within in
-    omega arith
+    omega (arith, ended.reached.own v stands.place is_free owns stands.after stands.within
+        (subst Edge (sym stands.is) edge))
 
 -- a vertex of the other player that is free has a free successor
 other_out : {game : ParityGame} {aim : Aim} {old new : TablesData} {subgame target set : ℕ → Bool} (v : ℕ) →
@@ -96,8 +94,6 @@ other_out {game} {aim} {old} {new} {subgame} {target} {set} v ended others insid
         outside = λ in_set. ended.taken.placed can.to in_set free;
       }
       | inr there ↦ (
-          let past : length new.trail ≤ there.place = there.pending in
-          let within : there.place < length new.trail = there.within in
           absurd (omega arith))
     ]
 
@@ -130,7 +126,6 @@ rank_before : (aim : Aim) (new : TablesData) (end w : ℕ) → end ≤ length ne
     aim.begin + rank_of aim new w < end
 rank_before aim new end w within stands =
     let before : stands.place < end = stands.before in
-    let after : aim.begin ≤ stands.place = stands.after in
     let there : aim.begin + (stands.place - aim.begin) ≡ stands.place = omega arith in
     let low : place_in (drop aim.begin new.trail) w ≤ stands.place - aim.begin =
     place_in-le (drop aim.begin new.trail) w (stands.place - aim.begin)
@@ -142,16 +137,12 @@ rank_before aim new end w within stands =
 rank_at : (aim : Aim) {new : TablesData} {v : ℕ} → StandsFrom new aim.begin v →
     (aim.begin + rank_of aim new v < length new.trail) × (get_or new.trail (aim.begin + rank_of aim new v) 0 ≡ v)
 rank_at aim {new} {v} stands =
-    let within : stands.place < length new.trail = stands.within in
-    let after : aim.begin ≤ stands.place = stands.after in
     let there : aim.begin + (stands.place - aim.begin) ≡ stands.place = omega arith in
     let inside : stands.place - aim.begin < length (drop aim.begin new.trail) =
     omega (arith, length-drop aim.begin new.trail) in
     let at : get_or (drop aim.begin new.trail) (stands.place - aim.begin) 0 ≡ v =
-    get_or-drop aim.begin new.trail (stands.place - aim.begin) 0 ∙ ap (λ i. get_or new.trail i 0) there ∙ stands.is in
-    let low : place_in (drop aim.begin new.trail) v ≤ stands.place - aim.begin =
-    place_in-le (drop aim.begin new.trail) v (stands.place - aim.begin) inside at in (
-      omega arith,
+    get_or-drop aim.begin new.trail (stands.place - aim.begin) 0 ∙ ap (λ i. get_or new.trail i 0) there ∙ stands.is in (
+      omega (arith, place_in-le (drop aim.begin new.trail) v (stands.place - aim.begin) inside at),
       sym (get_or-drop aim.begin new.trail (place_in (drop aim.begin new.trail) v) 0)
           ∙ place_in-at (drop aim.begin new.trail) v (stands.place - aim.begin) inside at,
     )
@@ -183,12 +174,10 @@ leads_down {game} {aim} {old} {new} {subgame} {target} {set} v w ended within ed
     let before : stands.place < aim.begin + rank_of aim new v = stands.before in
     let in_set = trail_in ended (ended.is_game.within v w edge)
     (record { place = stands.place; after = stands.after; within = omega arith; is = stands.is }) in
-    let low : aim.begin + rank_of aim new w < aim.begin + rank_of aim new v =
-    rank_before aim new (aim.begin + rank_of aim new v) w (omega arith) stands in
     record {
       leads = record { edge = edge; inside = ended.taken.within w in_set };
       inside = in_set;
-      falls = omega arith;
+      falls = omega (arith, rank_before aim new (aim.begin + rank_of aim new v) w (omega arith) stands);
     }
 
 falls_in : {game : ParityGame} {aim : Aim} {old new : TablesData} {subgame target set : ℕ → Bool} →

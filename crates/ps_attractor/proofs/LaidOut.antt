@@ -61,8 +61,7 @@ laid_placed {target} {n} {old} within there laid =
         | inr more ↦ ap (has target) (get_or_push old.trail n 0 j (omega arith)) ∙ there
       ];
       before = λ j low. elim (cases_lt j (length old.trail)) [
-        | inl less ↦ (let small : get_or old.trail j 0 < n = laid.before j less in
-            omega (arith, get_or_append_left old.trail (n ∷ []) 0 j less))
+        | inl less ↦ (omega (arith, laid.before j less, get_or_append_left old.trail (n ∷ []) 0 j less))
         | inr more ↦ omega (arith, get_or_push old.trail n 0 j (omega arith))
       ];
     }
@@ -99,8 +98,7 @@ laid_kept {subgame} {target} {n} {old} new not_there trail kept free outside lai
         })
   ];
   only = λ j low. ap (λ xs. has target (get_or xs j 0)) trail ∙ laid.only j (omega (arith, ap length trail));
-  before = λ j low. (let small : get_or old.trail j 0 < n = laid.before j (omega (arith, ap length trail)) in
-      omega (arith, ap (λ xs. get_or xs j 0) trail));
+  before = λ j low. (omega (arith, laid.before j (omega (arith, ap length trail)), ap (λ xs. get_or xs j 0) trail));
 }
 
 -- the first place, one place further to the front
@@ -121,11 +119,10 @@ first_place_more trail places count k within size low so_far v i after inside is
           ∙ omega arith)
       | inr differ ↦ (
           let not_here : i ≢ k = λ same. differ (sym (ap (λ j. get_or trail j 0) same) ∙ is) in
-          let found : get_or places v 0 ≡ k + 1 + place_in (drop (k + 1) trail) v =
-          so_far v i (omega arith) inside is in
           let skipped : cond (eqb u v) 0 (place_in (drop (k + 1) trail) v + 1) ≡ place_in (drop (k + 1) trail) v + 1 =
           grind (arith, nat_tests) in
-          get_or-set_other places u v k 0 (λ same. differ (sym same)) ∙ omega arith)
+          get_or-set_other places u v k 0 (λ same. differ (sym same))
+              ∙ omega (arith, so_far v i (omega arith) inside is))
     ]
 
 -- ## The whole
@@ -181,8 +178,7 @@ laid_posed {game} player {subgame} {target} {old} is_subgame target_within laid 
   target_within = target_within;
   target_placed = λ v there free. (
       let is_vertex : v < vertex_count game = is_subgame.vertices v (target_within v there) in
-      let level : level_of old v ≡ PLACED = laid.targets v is_vertex there in
-      absurd (omega arith));
+      absurd (omega (arith, laid.targets v is_vertex there)));
   target_stands = λ v there. laid.stands v (is_subgame.vertices v (target_within v there)) there;
   only_target = λ j after within. laid.only j within;
 }
@@ -242,7 +238,6 @@ pub answer_stands : (game : ParityGame) (player : ℕ) (subgame target : List Bo
 answer_stands game player subgame target old new region v answer inside =
     let is_vertex = region_vertex game player subgame target old new region v answer inside in
     let level : level_of new v ≡ PLACED = answer.placed.placed v is_vertex inside in
-    let longer : length old.trail ≤ length new.trail = answer.grown.longer in
     elim (answer.grown.each v) [
       | inl same ↦ (
           let stands = answer.laid.stands v is_vertex (placed_target game v answer.laid is_vertex
@@ -275,7 +270,6 @@ answer_falls {game} {player} subgame {target} old {new} region {moves} rank answ
     answer inside) in
     let down = λ (v w : ℕ) (inside : IsTrue (has region v)) (leads : LeadsDown game (has subgame) (has region)
     (rank_of (aim_of player) new) v w). (
-    let low : place_in new.trail w < place_in new.trail v = leads.falls in
     let down : LeadsDown game (has subgame) (has region) (rank_at rank) v w = record {
       leads = leads.leads;
       inside = leads.inside;

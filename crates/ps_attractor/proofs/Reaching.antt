@@ -87,7 +87,8 @@ pub reaching_enter : {game : ParityGame} {aim : Aim} {old new : TablesData} {sou
     IsSourcesOf game sources → Reaching game aim old new (From k) →
     Reaching game aim old new (FromSource k (sources_of sources (get_or new.trail k 0)) 0)
 reaching_enter {game} {aim} {old} {new} {sources} k is_sources so_far =
-    reaching_map {game = game} {aim = aim} {new = new} (From k) (FromSource k (sources_of sources (get_or new.trail k 0)) 0)
+    reaching_map {game = game} {aim = aim} {new = new} (From k)
+        (FromSource k (sources_of sources (get_or new.trail k 0)) 0)
     (λ v j after within edge pending. elim (cases_lt k j) [
       | inl less ↦ inl less
       | inr more ↦ (
@@ -101,8 +102,7 @@ pub reaching_leave : {game : ParityGame} {aim : Aim} {old new : TablesData} (lis
 reaching_leave {game} {aim} {old} {new} list k n all so_far =
     reaching_map (FromSource k list n) (From (k + 1)) (λ v j after within edge pending. elim pending [
       | inl less ↦ omega arith
-      | inr here ↦ (let past : n ≤ here.1.number = here.1.after in
-          let inside : here.1.number < length list = here.1.within in absurd (omega arith))
+      | inr here ↦ absurd (omega arith)
     ]) so_far
 
 -- what is pending for another vertex than the source that was looked at stays so
@@ -113,7 +113,6 @@ pending_on list k n u v j at differ pending = elim pending [
   | inr here ↦ elim (cases_eq here.1.number n) [
     | inl same ↦ absurd (differ (sym here.1.is ∙ ap (λ i. get_or list i 0) same ∙ at))
     | inr other ↦ (
-        let past : n ≤ here.1.number = here.1.after in
         inr (here.0, record { number = here.1.number; after = omega arith; within = here.1.within; is = here.1.is }))
   ]
 ]
@@ -348,7 +347,6 @@ look_places {game} {aim} {old} {mid} {new} list k n {u} marks at begins here pla
 pub stands_now : {aim : Aim} {old new : TablesData} (w : ℕ) → aim.begin ≤ length old.trail → IsGrown aim old new →
     level_of new w ≢ aim.free → (level_of old w ≡ aim.free) ⊎ StandsFrom old aim.begin w → StandsFrom new aim.begin w
 stands_now {old} {new} w begins grown not_free there =
-    let longer : length old.trail ≤ length new.trail = grown.longer in
     elim there [
       | inl free ↦ elim (grown.each w) [
         | inl same ↦ absurd (not_free (same.level ∙ free))

@@ -34,7 +34,6 @@ pub look_on : {game : ParityGame} {aim : Aim} {start mid : TablesData} (new : Ta
 look_on {game} {aim} {mid} new {sources} list place reached n source is_sources same within is marks begins after here
     fits at look so_far =
     let edge = source_edge list reached n source is_sources same within is in
-    let is_vertex : source < vertex_count game = edge.0 in
     let Edge : ℕ → Type 0 = HasEdge game source in
     let Looked : ℕ → Type 0 = Look game aim mid new source in
     reaching_look new (sources_of sources reached) place n source marks

@@ -53,7 +53,6 @@ loop-source-preserved g c =
     let within : n < length list = omega (arith, length-map kept value) in
     let edge = source_edge list c.vertex_at-reached.result n source c.requires.sources
     c.at-source-items.ensures within is in
-    let is_vertex : source < vertex_count game = edge.0 in
     let keeps = keeps_look game c.args.aim c.loop-source.self c.look.new.self source c.vertex_at-reached.result
     c.requires.differ (omega (arith, so_far.fits.levels)) c.in_ok-look.ensures.looked in
     record {
