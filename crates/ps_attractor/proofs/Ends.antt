@@ -70,8 +70,11 @@ own_in {game} {aim} {old} {new} {subgame} {target} v w ended owns edge inside is
     let stands = stands_now w ended.begins ended.reached.grown (ended.taken.placed w inside)
     (was_there w ended.posed (ended.taken.within w inside)) in
     let Edge : ℕ → Type 0 = HasEdge game v in
-    omega (arith, ended.reached.own v stands.place is_free owns stands.after stands.within
-        (subst Edge (sym stands.is) edge))
+    omega (
+      arith,
+      ended.reached.own v stands.place is_free owns stands.after stands.within
+          (subst Edge (sym stands.is) edge),
+    )
 
 -- a vertex of the other player that is free has a free successor
 other_out : {game : ParityGame} {aim : Aim} {old new : TablesData} {subgame target set : ℕ → Bool} (v : ℕ) →

@@ -122,7 +122,7 @@ first_place_more trail places count k within size low so_far v i after inside is
           let skipped : cond (eqb u v) 0 (place_in (drop (k + 1) trail) v + 1) ≡ place_in (drop (k + 1) trail) v + 1 =
           grind (arith, nat_tests) in
           get_or-set_other places u v k 0 (λ same. differ (sym same))
-              ∙ omega (arith, so_far v i (omega arith) inside is))
+          ∙ omega (arith, so_far v i (omega arith) inside is))
     ]
 
 -- ## The whole
