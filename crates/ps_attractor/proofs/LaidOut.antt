@@ -17,10 +17,10 @@ use Rattle.ps_attractor.specs.Aims.{StandsFrom, IsPosed, IsTaken, IsGrown, rank_
 use Rattle.ps_attractor.specs.Steps.{with_placed}
 use Rattle.ps_attractor.specs.Results.{AreLaidOut, IsRegionTo, AreMovesTo, aim_of, rank_at}
 
-pub laid_placed : (subgame target : List Bool) (n : ℕ) (old : TablesData) → n < length old.level →
+pub laid_placed : {subgame target : List Bool} {n : ℕ} {old : TablesData} → n < length old.level →
     IsTrue (has target n) → AreLaidOut subgame target n old → AreLaidOut subgame target (n + 1)
     (with_placed old n PLACED)
-laid_placed subgame target n old within there laid =
+laid_placed {target} {n} {old} within there laid =
     let new : TablesData = with_placed old n PLACED in
     let size : length (old.trail ++ n ∷ []) ≡ length old.trail + 1 = length_push old.trail n in
     let here : level_of new n ≡ PLACED = get_or-set_same old.level n PLACED 0 within in
@@ -61,18 +61,17 @@ laid_placed subgame target n old within there laid =
         | inr more ↦ ap (has target) (get_or_push old.trail n 0 j (omega arith)) ∙ there
       ];
       before = λ j low. elim (cases_lt j (length old.trail)) [
-        | inl less ↦ (let small : get_or old.trail j 0 < n = laid.before j less in
-            omega (arith, get_or_append_left old.trail (n ∷ []) 0 j less))
+        | inl less ↦ (omega (arith, laid.before j less, get_or_append_left old.trail (n ∷ []) 0 j less))
         | inr more ↦ omega (arith, get_or_push old.trail n 0 j (omega arith))
       ];
     }
 
 -- the vertex is not of the target, and gets its level or keeps it
-pub laid_kept : (subgame target : List Bool) (n : ℕ) (old new : TablesData) → has target n ≡ false →
+pub laid_kept : {subgame target : List Bool} {n : ℕ} {old : TablesData} (new : TablesData) → has target n ≡ false →
     new.trail ≡ old.trail → ((v : ℕ) → v ≢ n → level_of new v ≡ level_of old v) →
     (IsTrue (has subgame n) → level_of new n ≡ FREE) → (has subgame n ≡ false → level_of new n ≡ OUTSIDE) →
     AreLaidOut subgame target n old → AreLaidOut subgame target (n + 1) new
-laid_kept subgame target n old new not_there trail kept free outside laid = record {
+laid_kept {subgame} {target} {n} {old} new not_there trail kept free outside laid = record {
   targets = λ v below inside. elim (cases_eq v n) [
     | inl same ↦ absurd (false≢true (sym not_there ∙ ap (has target) (sym same) ∙ inside))
     | inr differ ↦ kept v differ ∙ laid.targets v (omega arith) inside
@@ -99,9 +98,7 @@ laid_kept subgame target n old new not_there trail kept free outside laid = reco
         })
   ];
   only = λ j low. ap (λ xs. has target (get_or xs j 0)) trail ∙ laid.only j (omega (arith, ap length trail));
-  before =
-      λ j low. (let small : get_or old.trail j 0 < n = laid.before j (omega (arith, ap length trail)) in
-      omega (arith, ap (λ xs. get_or xs j 0) trail));
+  before = λ j low. (omega (arith, laid.before j (omega (arith, ap length trail)), ap (λ xs. get_or xs j 0) trail));
 }
 
 -- the first place, one place further to the front
@@ -122,11 +119,10 @@ first_place_more trail places count k within size low so_far v i after inside is
           ∙ omega arith)
       | inr differ ↦ (
           let not_here : i ≢ k = λ same. differ (sym (ap (λ j. get_or trail j 0) same) ∙ is) in
-          let found : get_or places v 0 ≡ k + 1 + place_in (drop (k + 1) trail) v =
-          so_far v i (omega arith) inside is in
           let skipped : cond (eqb u v) 0 (place_in (drop (k + 1) trail) v + 1) ≡ place_in (drop (k + 1) trail) v + 1 =
           grind (arith, nat_tests) in
-          get_or-set_other places u v k 0 (λ same. differ (sym same)) ∙ omega arith)
+          get_or-set_other places u v k 0 (λ same. differ (sym same))
+          ∙ omega (arith, so_far v i (omega arith) inside is))
     ]
 
 -- ## The whole
@@ -157,10 +153,10 @@ pub record Answer (game : ParityGame) (player : ℕ) (subgame target : List Bool
   pub placed : IsRegionTo new (vertex_count game) region
 
 -- a vertex that is free at first is in the subgame, and not of the target
-free_inside : (game : ParityGame) (subgame target : List Bool) (old : TablesData) (v : ℕ) →
+free_inside : (game : ParityGame) {subgame target : List Bool} {old : TablesData} (v : ℕ) →
     AreLaidOut subgame target (vertex_count game) old → v < vertex_count game → level_of old v ≡ FREE →
     IsTrue (has subgame v)
-free_inside game subgame target old v laid is_vertex free = elim (in_or_not target v) [
+free_inside game {subgame} {target} {old} v laid is_vertex free = elim (in_or_not target v) [
   | inl there ↦ (let level : level_of old v ≡ PLACED = laid.targets v is_vertex there in absurd (omega arith))
   | inr not_there ↦ elim (in_or_not subgame v) [
     | inl inside ↦ inside
@@ -169,30 +165,29 @@ free_inside game subgame target old v laid is_vertex free = elim (in_or_not targ
   ]
 ]
 
-pub laid_posed : (game : ParityGame) (player : ℕ) (subgame target : List Bool) (old : TablesData) →
+pub laid_posed : {game : ParityGame} (player : ℕ) {subgame target : List Bool} {old : TablesData} →
     IsSubgame game (has subgame) → IsWithin (has target) (has subgame) →
     AreLaidOut subgame target (vertex_count game) old → IsPosed game (aim_of player) old (has subgame) (has target)
-laid_posed game player subgame target old is_subgame target_within laid = record {
+laid_posed {game} player {subgame} {target} {old} is_subgame target_within laid = record {
   is_subgame = is_subgame;
   split = λ v inside. elim (in_or_not target v) [
     | inl there ↦ inr there
     | inr not_there ↦ inl (laid.frees v (is_subgame.vertices v inside) not_there inside)
   ];
-  frees = λ v is_vertex free. free_inside game subgame target old v laid is_vertex free;
+  frees = λ v is_vertex free. free_inside game v laid is_vertex free;
   target_within = target_within;
   target_placed = λ v there free. (
       let is_vertex : v < vertex_count game = is_subgame.vertices v (target_within v there) in
-      let level : level_of old v ≡ PLACED = laid.targets v is_vertex there in
-      absurd (omega arith));
+      absurd (omega (arith, laid.targets v is_vertex there)));
   target_stands = λ v there. laid.stands v (is_subgame.vertices v (target_within v there)) there;
   only_target = λ j after within. laid.only j within;
 }
 
 -- a vertex that is placed at first is of the target
-placed_target : (game : ParityGame) (subgame target : List Bool) (old : TablesData) (v : ℕ) →
+placed_target : (game : ParityGame) {subgame target : List Bool} {old : TablesData} (v : ℕ) →
     AreLaidOut subgame target (vertex_count game) old → v < vertex_count game → level_of old v ≡ PLACED →
     IsTrue (has target v)
-placed_target game subgame target old v laid is_vertex placed = elim (in_or_not target v) [
+placed_target game {subgame} {target} {old} v laid is_vertex placed = elim (in_or_not target v) [
   | inl there ↦ there
   | inr not_there ↦ elim (in_or_not subgame v) [
     | inl inside ↦ (let level : level_of old v ≡ FREE = laid.frees v is_vertex not_there inside in absurd (omega arith))
@@ -218,9 +213,8 @@ answer_taken game player subgame target old new region answer = record {
       let is_vertex = region_vertex game player subgame target old new region v answer inside in
       let level : level_of new v ≡ PLACED = answer.placed.placed v is_vertex inside in
       elim (answer.grown.each v) [
-        | inl same ↦ answer.target_within v (placed_target game subgame target old v answer.laid is_vertex
-            (sym same.level ∙ level))
-        | inr placed ↦ free_inside game subgame target old v answer.laid is_vertex placed.was_free
+        | inl same ↦ answer.target_within v (placed_target game v answer.laid is_vertex (sym same.level ∙ level))
+        | inr placed ↦ free_inside game v answer.laid is_vertex placed.was_free
       ]);
   placed = λ v inside free. (
       let is_vertex = region_vertex game player subgame target old new region v answer inside in
@@ -244,11 +238,9 @@ pub answer_stands : (game : ParityGame) (player : ℕ) (subgame target : List Bo
 answer_stands game player subgame target old new region v answer inside =
     let is_vertex = region_vertex game player subgame target old new region v answer inside in
     let level : level_of new v ≡ PLACED = answer.placed.placed v is_vertex inside in
-    let longer : length old.trail ≤ length new.trail = answer.grown.longer in
     elim (answer.grown.each v) [
       | inl same ↦ (
-          let stands =
-          answer.laid.stands v is_vertex (placed_target game subgame target old v answer.laid is_vertex
+          let stands = answer.laid.stands v is_vertex (placed_target game v answer.laid is_vertex
           (sym same.level ∙ level)) in
           let low : stands.place < length old.trail = stands.within in
           record {
@@ -266,26 +258,22 @@ answer_stands game player subgame target old new region v answer inside =
     ]
 
 -- the fall in the tables is that by the moves and the ranks that are read off
-pub answer_falls : (game : ParityGame) (player : ℕ) (subgame target : List Bool) (old new : TablesData)
-    (region : List Bool) (moves : List (Option ℕ)) (rank : List ℕ) → Answer game player subgame target old new region →
-    AreMovesTo game new player target (vertex_count game) moves →
+pub answer_falls : {game : ParityGame} {player : ℕ} (subgame : List Bool) {target : List Bool} (old : TablesData)
+    {new : TablesData} (region : List Bool) {moves : List (Option ℕ)} (rank : List ℕ) →
+    Answer game player subgame target old new region → AreMovesTo game new player target (vertex_count game) moves →
     ((v : ℕ) → StandsFrom new 0 v → get_or rank v 0 ≡ place_in new.trail v) →
     Falls game (has subgame) player (has target) (has region) (moves_of new) (rank_of (aim_of player) new) →
     Falls game (has subgame) player (has target) (has region) (move_at moves) (rank_at rank)
-answer_falls game player subgame target old new region moves rank answer given places falls =
+answer_falls {game} {player} subgame {target} old {new} region {moves} rank answer given places falls =
     let same_rank =
     λ (v : ℕ) (inside : IsTrue (has region v)). places v (answer_stands game player subgame target old new region v
     answer inside) in
-    let down =
-    λ (v w : ℕ) (inside : IsTrue (has region v)) (leads : LeadsDown game (has subgame) (has region)
+    let down = λ (v w : ℕ) (inside : IsTrue (has region v)) (leads : LeadsDown game (has subgame) (has region)
     (rank_of (aim_of player) new) v w). (
-    let low : place_in new.trail w < place_in new.trail v = leads.falls in
-    let down : LeadsDown game (has subgame) (has region) (rank_at rank) v w =
-    record {
+    let down : LeadsDown game (has subgame) (has region) (rank_at rank) v w = record {
       leads = leads.leads;
       inside = leads.inside;
-      falls = omega
-          (arith, same_rank v inside, same_rank w leads.inside);
+      falls = omega (arith, same_rank v inside, same_rank w leads.inside);
     } in
     down) in
     record {
@@ -293,8 +281,7 @@ answer_falls game player subgame target old new region moves rank answer given p
           let is_vertex = region_vertex game player subgame target old new region v answer inside in
           let not_there : has target v ≡ false =
           elim (in_or_not target v) [ inl there ↦ absurd (outside there) | inr not_there ↦ not_there ] in
-          let move : move_at moves v ≡ Some (get_or new.moves v 0) =
-          given.given v is_vertex (record {
+          let move : move_at moves v ≡ Some (get_or new.moves v 0) = given.given v is_vertex (record {
             placed = answer.placed.placed v is_vertex inside;
             owns = owns;
             outside = not_there;
@@ -306,23 +293,24 @@ answer_falls game player subgame target old new region moves rank answer given p
     }
 
 -- only the player's vertices of the region outside the target have a move
-pub only_moves : (game : ParityGame) (player : ℕ) (subgame target : List Bool) (old new : TablesData)
-    (region : List Bool) (moves : List (Option ℕ)) → Answer game player subgame target old new region →
-    AreMovesTo game new player target (vertex_count game) moves → (v : ℕ) → IsSome (move_at moves v) →
-    IsTrue (has region v) × (owner_of game v ≡ player) × (has target v ≡ false)
-only_moves game player subgame target old new region moves answer given v some = elim (cases_lt v (vertex_count game)) [
-  | inr past ↦ absurd (none_some (given.later v past))
-  | inl is_vertex ↦ elim (cases_eq (level_of new v) PLACED) [
-    | inr not_placed ↦ absurd (none_some (given.only v is_vertex (λ is. not_placed is.placed)))
-    | inl placed ↦ elim (cases_eq (owner_of game v) player) [
-      | inr others ↦ absurd (none_some (given.only v is_vertex (λ is. others is.owns)))
-      | inl owns ↦ elim (in_or_not target v) [
-        | inl there ↦ absurd (none_some (given.only v is_vertex (λ is. false≢true (sym is.outside ∙ there))))
-        | inr outside ↦ (answer.placed.all v is_vertex placed, owns, outside)
+pub only_moves : {game : ParityGame} {player : ℕ} (subgame : List Bool) {target : List Bool} (old : TablesData)
+    {new : TablesData} (region : List Bool) {moves : List (Option ℕ)} →
+    Answer game player subgame target old new region → AreMovesTo game new player target (vertex_count game) moves →
+    (v : ℕ) → IsSome (move_at moves v) → IsTrue (has region v) × (owner_of game v ≡ player) × (has target v ≡ false)
+only_moves {game} {player} subgame {target} old {new} region {moves} answer given v some =
+    elim (cases_lt v (vertex_count game)) [
+      | inr past ↦ absurd (none_some (given.later v past))
+      | inl is_vertex ↦ elim (cases_eq (level_of new v) PLACED) [
+        | inr not_placed ↦ absurd (none_some (given.only v is_vertex (λ is. not_placed is.placed)))
+        | inl placed ↦ elim (cases_eq (owner_of game v) player) [
+          | inr others ↦ absurd (none_some (given.only v is_vertex (λ is. others is.owns)))
+          | inl owns ↦ elim (in_or_not target v) [
+            | inl there ↦ absurd (none_some (given.only v is_vertex (λ is. false≢true (sym is.outside ∙ there))))
+            | inr outside ↦ (answer.placed.all v is_vertex placed, owns, outside)
+          ]
+        ]
       ]
     ]
-  ]
-]
   where
     none_some : move_at moves v ≡ None → ⊥
     none_some none = (let There : Option ℕ → Type 0 = λ o. IsSome o in false≢true (subst There none some))

@@ -11,12 +11,12 @@ some_move : (P : ℕ → Type 0) (o : Option ℕ) → IsSomeAnd o P → (w : ℕ
 some_move P (Some w) there = (w, there)
 some_move P None there = absurd there
 
-below : (game : ParityGame) (subgame : ℕ → Bool) (player : ℕ) (target set : ℕ → Bool) (table : ℕ → Option ℕ)
-    (rank : ℕ → ℕ) → IsWithin set subgame → Falls game subgame player target set table rank → (closed : ℕ → Bool) →
+below : {game : ParityGame} {subgame : ℕ → Bool} {player : ℕ} {target set : ℕ → Bool} {table : ℕ → Option ℕ}
+    {rank : ℕ → ℕ} → IsWithin set subgame → Falls game subgame player target set table rank → {closed : ℕ → Bool} →
     IsClosed game subgame player target closed → (n v : ℕ) → rank v < n → IsTrue (set v) → IsTrue (closed v)
-below game subgame player target set table rank within falls closed is_closed zero v low inside = absurd (omega arith)
-below game subgame player target set table rank within falls closed is_closed (suc n) v low inside =
-    by_target (λ w leads. below game subgame player target set table rank within falls closed is_closed n w
+below within falls is_closed zero v low inside = absurd (omega arith)
+below {game} {subgame} {player} {target} {set} {table} {rank} within falls {closed} is_closed (suc n) v low inside =
+    by_target (λ w leads. below within falls is_closed n w
     (omega (arith, leads.falls)) leads.inside) (target v) refl
   where
     by_target : ((w : ℕ) → LeadsDown game subgame set rank v w → IsTrue (closed w)) → (b : Bool) → target v ≡ b →
@@ -32,8 +32,8 @@ below game subgame player target set table rank within falls closed is_closed (s
               (λ w leads. deeper w (falls.other v w inside outside other leads))
         ]
 
-pub falls_least : (game : ParityGame) (subgame : ℕ → Bool) (player : ℕ) (target set : ℕ → Bool) (table : ℕ → Option ℕ)
-    (rank : ℕ → ℕ) → IsWithin set subgame → Falls game subgame player target set table rank →
+pub falls_least : {game : ParityGame} {subgame : ℕ → Bool} {player : ℕ} {target set : ℕ → Bool} {table : ℕ → Option ℕ}
+    {rank : ℕ → ℕ} → IsWithin set subgame → Falls game subgame player target set table rank →
     IsLeast game subgame player target set
-falls_least game subgame player target set table rank within falls closed is_closed v inside =
-    below game subgame player target set table rank within falls closed is_closed (suc (rank v)) v (omega arith) inside
+falls_least {game} {subgame} {player} {target} {set} {table} {rank} within falls closed is_closed v inside =
+    below within falls is_closed (suc (rank v)) v (omega arith) inside

@@ -9,6 +9,7 @@ pub mod Least
 pub mod NumberPlaces
 pub mod Parts
 pub mod PlaceIn
+pub mod Placing
 pub mod Putting
 pub mod Reaching
 pub mod Spread

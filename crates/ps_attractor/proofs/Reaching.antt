@@ -1,17 +1,18 @@
 -- The walk along the trail: how it starts, how a place is entered and left, and one look.
-use Rattle.std.proofs.Common.{◌≡◌, ◌≢◌, ℕ, ◌+◌, ◌<◌, ◌≤◌, ◌⊎◌, inl, inr, List, [], ◌∷◌, ◌++◌, length, get_or, refl}
-use Rattle.std.proofs.Common.{subst, sym, ap, ◌∙◌, arith}
+use Rattle.std.proofs.Common.{◌≡◌, ◌≢◌, ℕ, ◌+◌, ◌<◌, ◌≤◌, ◌⊎◌, inl, inr, List, length, get_or, refl, subst, sym, ap}
+use Rattle.std.proofs.Common.{◌∙◌, arith}
 use Rattle.std.proofs.Math.Nat.{le_refl}
 use Rattle.std.proofs.lemmas.Bool.{cases_eq, cases_lt}
-use Rattle.std.proofs.lemmas.List.{get_or_append_left, get_or_push, length_push, get_or-set_same, get_or-set_other}
-use Rattle.std.proofs.lemmas.List.{get_or_default}
+use Rattle.std.proofs.lemmas.List.{get_or-set_same, get_or-set_other, get_or_default}
 use Rattle.ps_game.specs.Games.{ParityGame, owner_of, HasEdge}
 use Rattle.ps_attractor.specs.Sources.{sources_of, IsSourcesOf}
 use Rattle.ps_attractor.specs.declared.aim.Aim.{Aim}
 use Rattle.ps_attractor.specs.Tables.{TablesData, level_of}
-use Rattle.ps_attractor.specs.Aims.{StandsFrom, IsPlaced, IsGrown}
+use Rattle.ps_attractor.specs.Aims.{StandsFrom, IsGrown}
 use Rattle.ps_attractor.specs.Steps.{HasFree, Look, NotFree, Escapes, Own, Others, CanGoOn, StandsBefore, LeadsBack}
 use Rattle.ps_attractor.specs.Steps.{Reaching, From, FromSource, StandsAmong, with_placed, with_move}
+use Rattle.ps_attractor.proofs.Placing.{Places, trail_before, trail_last, trail_length, not_it, still_free, grown_on}
+use Rattle.ps_attractor.proofs.Placing.{leads_back_on}
 
 pub grown_start : (aim : Aim) (tables : TablesData) → IsGrown aim tables tables
 grown_start aim tables = record {
@@ -44,10 +45,10 @@ reaching_start game aim tables = record {
 }
 
 -- what is pending for P is pending for Q
-reaching_map : (game : ParityGame) (aim : Aim) (old new : TablesData) (P Q : ℕ → ℕ → Type 0) →
+reaching_map : {game : ParityGame} {aim : Aim} {old new : TablesData} (P Q : ℕ → ℕ → Type 0) →
     ((v j : ℕ) → aim.begin ≤ j → j < length new.trail → HasEdge game v (get_or new.trail j 0) → P v j → Q v j) →
     Reaching game aim old new P → Reaching game aim old new Q
-reaching_map game aim old new P Q map so_far = record {
+reaching_map {game} P Q map so_far = record {
   grown = so_far.grown;
   own = λ v j is_free owns after within edge. map v j after within edge (so_far.own v j is_free owns after within edge);
   other = λ v is_free other goes. (
@@ -64,8 +65,7 @@ reaching_map game aim old new P Q map so_far = record {
                 after = there.after;
                 within = there.within;
                 is = there.is;
-                pending =
-                    map v there.place there.after there.within (subst Edge (sym there.is) can.edge) there.pending;
+                pending = map v there.place there.after there.within (subst Edge (sym there.is) can.edge) there.pending;
               }))
         ];
       });
@@ -73,9 +73,9 @@ reaching_map game aim old new P Q map so_far = record {
 }
 
 -- a source of the vertex at the place stands among its sources
-source_stands : (game : ParityGame) (sources : List (List ℕ)) (v w : ℕ) → IsSourcesOf game sources → HasEdge game v w →
+source_stands : {game : ParityGame} {sources : List (List ℕ)} (v w : ℕ) → IsSourcesOf game sources → HasEdge game v w →
     StandsAmong (sources_of sources w) 0 v
-source_stands game sources v w is_sources edge =
+source_stands {sources} v w is_sources edge =
     let found = is_sources.complete v w edge in
     record {
       number = found.0;
@@ -84,26 +84,26 @@ source_stands game sources v w is_sources edge =
       is = get_or_default (sources_of sources w) found.0 0 v found.1 ∙ found.2;
     }
 
-pub reaching_enter : (game : ParityGame) (aim : Aim) (old new : TablesData) (sources : List (List ℕ)) (k : ℕ) →
+pub reaching_enter : {game : ParityGame} {aim : Aim} {old new : TablesData} {sources : List (List ℕ)} (k : ℕ) →
     IsSourcesOf game sources → Reaching game aim old new (From k) →
     Reaching game aim old new (FromSource k (sources_of sources (get_or new.trail k 0)) 0)
-reaching_enter game aim old new sources k is_sources so_far =
-    reaching_map game aim old new (From k) (FromSource k (sources_of sources (get_or new.trail k 0)) 0)
+reaching_enter {game} {aim} {old} {new} {sources} k is_sources so_far =
+    reaching_map {game = game} {aim = aim} {new = new} (From k)
+    (FromSource k (sources_of sources (get_or new.trail k 0)) 0)
     (λ v j after within edge pending. elim (cases_lt k j) [
       | inl less ↦ inl less
       | inr more ↦ (
           let same : j ≡ k = omega arith in
           let Edge : ℕ → Type 0 = λ n. HasEdge game v (get_or new.trail n 0) in
-          inr (same, source_stands game sources v (get_or new.trail k 0) is_sources (subst Edge same edge)))
+          inr (same, source_stands v (get_or new.trail k 0) is_sources (subst Edge same edge)))
     ]) so_far
 
-pub reaching_leave : (game : ParityGame) (aim : Aim) (old new : TablesData) (list : List ℕ) (k n : ℕ) →
+pub reaching_leave : {game : ParityGame} {aim : Aim} {old new : TablesData} (list : List ℕ) (k n : ℕ) →
     length list ≤ n → Reaching game aim old new (FromSource k list n) → Reaching game aim old new (From (k + 1))
-reaching_leave game aim old new list k n all so_far =
-    reaching_map game aim old new (FromSource k list n) (From (k + 1)) (λ v j after within edge pending. elim pending [
+reaching_leave {game} {aim} {old} {new} list k n all so_far =
+    reaching_map (FromSource k list n) (From (k + 1)) (λ v j after within edge pending. elim pending [
       | inl less ↦ omega arith
-      | inr here ↦ (let past : n ≤ here.1.number = here.1.after in
-          let inside : here.1.number < length list = here.1.within in absurd (omega arith))
+      | inr here ↦ absurd (omega arith)
     ]) so_far
 
 -- what is pending for another vertex than the source that was looked at stays so
@@ -114,15 +114,15 @@ pending_on list k n u v j at differ pending = elim pending [
   | inr here ↦ elim (cases_eq here.1.number n) [
     | inl same ↦ absurd (differ (sym here.1.is ∙ ap (λ i. get_or list i 0) same ∙ at))
     | inr other ↦ (
-        let past : n ≤ here.1.number = here.1.after in
         inr (here.0, record { number = here.1.number; after = omega arith; within = here.1.within; is = here.1.is }))
   ]
 ]
 
 -- the same, for a vertex that can go on
-can_go_on : (game : ParityGame) (aim : Aim) (new : TablesData) (list : List ℕ) (k n u v : ℕ) → get_or list n 0 ≡ u →
-    v ≢ u → CanGoOn game aim new (FromSource k list n) v → CanGoOn game aim new (FromSource k list (n + 1)) v
-can_go_on game aim new list k n u v at differ can = record {
+can_go_on : {game : ParityGame} {aim : Aim} {new : TablesData} (list : List ℕ) (k n u : ℕ) {v : ℕ} →
+    get_or list n 0 ≡ u → v ≢ u → CanGoOn game aim new (FromSource k list n) v →
+    CanGoOn game aim new (FromSource k list (n + 1)) v
+can_go_on list k n u {v} at differ can = record {
   to = can.to;
   edge = can.edge;
   there = elim can.there [
@@ -138,178 +138,53 @@ can_go_on game aim new list k n u v at differ can = record {
 }
 
 -- a look that changes nothing, at a vertex that is not free
-look_not_free : (game : ParityGame) (aim : Aim) (old new : TablesData) (list : List ℕ) (k n u : ℕ) →
+look_not_free : {game : ParityGame} {aim : Aim} {old new : TablesData} (list : List ℕ) (k n u : ℕ) →
     get_or list n 0 ≡ u → level_of new u ≢ aim.free → Reaching game aim old new (FromSource k list n) →
     Reaching game aim old new (FromSource k list (n + 1))
-look_not_free game aim old new list k n u at not_free so_far =
-    let differ =
-    λ (v : ℕ) (is_free : level_of new v ≡ aim.free) (same : v ≡ u).
+look_not_free {game} {aim} {new} list k n u at not_free so_far =
+    let differ = λ (v : ℕ) (is_free : level_of new v ≡ aim.free) (same : v ≡ u).
     not_free (ap (λ x. level_of new x) (sym same) ∙ is_free) in
     record {
       grown = so_far.grown;
-      own =
-          λ v j is_free owns after within edge. pending_on list k n u v j at (differ v is_free)
+      own = λ v j is_free owns after within edge. pending_on list k n u v j at (differ v is_free)
           (so_far.own v j is_free owns after within edge);
-      other =
-          λ v is_free other goes. can_go_on game aim new list k n u v at (differ v is_free)
-          (so_far.other v is_free other goes);
+      other = λ v is_free other goes. can_go_on list k n u at (differ v is_free) (so_far.other v is_free other goes);
       back = so_far.back;
     }
 
 -- a look that changes nothing, at a vertex of the other player with a free successor
-look_escapes : (game : ParityGame) (aim : Aim) (old new : TablesData) (list : List ℕ) (k n u : ℕ) →
+look_escapes : {game : ParityGame} {aim : Aim} {old new : TablesData} (list : List ℕ) (k n : ℕ) {u : ℕ} →
     get_or list n 0 ≡ u → owner_of game u ≢ aim.player → HasFree game aim.free new u →
     Reaching game aim old new (FromSource k list n) → Reaching game aim old new (FromSource k list (n + 1))
-look_escapes game aim old new list k n u at others has_free so_far = record {
+look_escapes {game} {aim} {new} list k n {u} at others has_free so_far = record {
   grown = so_far.grown;
-  own =
-      λ v j is_free owns after within edge. pending_on list k n u v j at
+  own = λ v j is_free owns after within edge. pending_on list k n u v j at
       (λ same. others (ap (owner_of game) (sym same) ∙ owns)) (so_far.own v j is_free owns after within edge);
   other = λ v is_free other goes. elim (cases_eq v u) [
     | inl same ↦ (
         let Edge : ℕ → Type 0 = λ x. HasEdge game x has_free.to in
         record { to = has_free.to; edge = subst Edge (sym same) has_free.edge; there = inl has_free.is_free })
-    | inr differ ↦ can_go_on game aim new list k n u v at differ (so_far.other v is_free other goes)
+    | inr differ ↦ can_go_on list k n u at differ (so_far.other v is_free other goes)
   ];
   back = so_far.back;
 }
 
--- one more vertex is placed
-pub record Places (aim : Aim) (mid new : TablesData) (u : ℕ) : Type 0 where
-  pub was_free : level_of mid u ≡ aim.free
-  pub level : level_of new u ≡ aim.mark
-  pub levels : (v : ℕ) → v ≢ u → level_of new v ≡ level_of mid v
-  pub moves : (v : ℕ) → v ≢ u → get_or new.moves v 0 ≡ get_or mid.moves v 0
-  pub trail : new.trail ≡ mid.trail ++ u ∷ []
-
-trail_before : (aim : Aim) (mid new : TablesData) (u j : ℕ) → Places aim mid new u → j < length mid.trail →
-    get_or new.trail j 0 ≡ get_or mid.trail j 0
-trail_before aim mid new u j places within =
-    ap (λ xs. get_or xs j 0) places.trail ∙ get_or_append_left mid.trail (u ∷ []) 0 j within
-
-trail_last : (aim : Aim) (mid new : TablesData) (u : ℕ) → Places aim mid new u →
-    get_or new.trail (length mid.trail) 0 ≡ u
-trail_last aim mid new u places =
-    ap (λ xs. get_or xs (length mid.trail) 0) places.trail ∙ get_or_push mid.trail u 0 (length mid.trail) refl
-
-trail_length : (aim : Aim) (mid new : TablesData) (u : ℕ) → Places aim mid new u →
-    length new.trail ≡ length mid.trail + 1
-trail_length aim mid new u places = ap length places.trail ∙ length_push mid.trail u
-
--- a vertex that is not free is another one than that which is placed
-not_it : (aim : Aim) (mid new : TablesData) (u v : ℕ) → Places aim mid new u → level_of mid v ≢ aim.free → v ≢ u
-not_it aim mid new u v places not_free same = not_free (ap (λ x. level_of mid x) same ∙ places.was_free)
-
--- nor is one that is free afterwards
-still_free : (aim : Aim) (mid new : TablesData) (u v : ℕ) → aim.mark ≢ aim.free → Places aim mid new u →
-    level_of new v ≡ aim.free → v ≢ u
-still_free aim mid new u v marks places is_free same =
-    marks (sym places.level ∙ ap (λ x. level_of new x) (sym same) ∙ is_free)
-
-placed_on : (aim : Aim) (old mid new : TablesData) (u v : ℕ) → aim.mark ≢ aim.free → Places aim mid new u →
-    IsPlaced aim old mid v → IsPlaced aim old new v
-placed_on aim old mid new u v marks places placed =
-    let within : placed.stands.place < length mid.trail = placed.stands.within in
-    record {
-      was_free = placed.was_free;
-      level = places.levels v (not_it aim mid new u v places (λ is_free. marks (sym placed.level ∙ is_free)))
-          ∙ placed.level;
-      stands = record {
-        place = placed.stands.place;
-        after = placed.stands.after;
-        within = omega (arith, trail_length aim mid new u places);
-        is = trail_before aim mid new u placed.stands.place places within ∙ placed.stands.is;
-      };
-    }
-
-placed_new : (aim : Aim) (old mid new : TablesData) (u : ℕ) → aim.mark ≢ aim.free → Places aim mid new u →
-    IsGrown aim old mid → IsPlaced aim old new u
-placed_new aim old mid new u marks places grown = record {
-  was_free = elim (grown.each u) [
-    | inl same ↦ sym same.level ∙ places.was_free
-    | inr placed ↦ absurd (marks (sym placed.level ∙ places.was_free))
-  ];
-  level = places.level;
-  stands = record {
-    place = length mid.trail;
-    after = grown.longer;
-    within = omega (arith, trail_length aim mid new u places);
-    is = trail_last aim mid new u places;
-  };
-}
-
-pub grown_on : (aim : Aim) (old mid new : TablesData) (u : ℕ) → aim.mark ≢ aim.free → Places aim mid new u →
-    IsGrown aim old mid → IsGrown aim old new
-grown_on aim old mid new u marks places grown =
-    let longer : length old.trail ≤ length mid.trail = grown.longer in
-    let size : length new.trail ≡ length mid.trail + 1 = trail_length aim mid new u places in
-    let Placed : ℕ → Type 0 = IsPlaced aim old new in
-    record {
-      longer = omega arith;
-      front = λ j within. trail_before aim mid new u j places (omega arith) ∙ grown.front j within;
-      each = λ v. elim (cases_eq v u) [
-        | inl same ↦ inr (subst Placed (sym same) (placed_new aim old mid new u marks places grown))
-        | inr differ ↦ elim (grown.each v) [
-          | inl kept ↦ inl (record {
-            level = places.levels v differ ∙ kept.level;
-            move = places.moves v differ ∙ kept.move;
-          })
-          | inr placed ↦ inr (placed_on aim old mid new u v marks places placed)
-        ]
-      ];
-      behind = λ j after within. elim (cases_lt j (length mid.trail)) [
-        | inl less ↦ subst Placed (sym (trail_before aim mid new u j places less))
-            (placed_on aim old mid new u (get_or mid.trail j 0) marks places (grown.behind j after less))
-        | inr more ↦ (
-            let last : length mid.trail ≡ j = omega arith in
-            subst Placed (sym (trail_last aim mid new u places) ∙ ap (λ i. get_or new.trail i 0) last)
-            (placed_new aim old mid new u marks places grown))
-      ];
-    }
-
-stands_before_on : (aim : Aim) (mid new : TablesData) (u j w : ℕ) → Places aim mid new u → j ≤ length mid.trail →
-    StandsBefore aim mid j w → StandsBefore aim new j w
-stands_before_on aim mid new u j w places within stands =
-    let before : stands.place < j = stands.before in
-    record {
-      place = stands.place;
-      after = stands.after;
-      before = stands.before;
-      is = trail_before aim mid new u stands.place places (omega arith) ∙ stands.is;
-    }
-
-leads_back_on : (game : ParityGame) (aim : Aim) (old mid new : TablesData) (u j v : ℕ) → Places aim mid new u → v ≢ u →
-    j ≤ length mid.trail → LeadsBack game aim old mid j v → LeadsBack game aim old new j v
-leads_back_on game aim old mid new u j v places differ within leads =
-    let Back : ℕ → Type 0 = λ w. HasEdge game v w × StandsBefore aim new j w in
-    record {
-      own = λ owns. let there = leads.own owns in
-          subst Back (sym (places.moves v differ)) (
-            there.0,
-            stands_before_on aim mid new u j (get_or mid.moves v 0)
-                places within there.1,
-          );
-      other = λ others w edge there. stands_before_on aim mid new u j w places within (leads.other others w edge there);
-    }
-
 -- a look that places the vertex, which then leads back
-look_places : (game : ParityGame) (aim : Aim) (old mid new : TablesData) (list : List ℕ) (k n u : ℕ) →
+look_places : {game : ParityGame} {aim : Aim} {old mid new : TablesData} (list : List ℕ) (k n : ℕ) {u : ℕ} →
     aim.mark ≢ aim.free → get_or list n 0 ≡ u → aim.begin ≤ length mid.trail → k < length mid.trail →
     Places aim mid new u → LeadsBack game aim old new (length mid.trail) u →
     Reaching game aim old mid (FromSource k list n) → Reaching game aim old new (FromSource k list (n + 1))
-look_places game aim old mid new list k n u marks at begins here places back so_far =
-    let size : length new.trail ≡ length mid.trail + 1 = trail_length aim mid new u places in
-    let was_free =
-    λ (v : ℕ) (is_free : level_of new v ≡ aim.free). sym (places.levels v
-    (still_free aim mid new u v marks places is_free)) ∙ is_free in
+look_places {game} {aim} {old} {mid} {new} list k n {u} marks at begins here places back so_far =
+    let size : length new.trail ≡ length mid.trail + 1 = trail_length places in
+    let was_free = λ (v : ℕ) (is_free : level_of new v ≡ aim.free). sym (places.levels v
+    (still_free v marks places is_free)) ∙ is_free in
     record {
-      grown = grown_on aim old mid new u marks places so_far.grown;
+      grown = grown_on marks places so_far.grown;
       own = λ v j is_free owns after within edge. elim (cases_lt j (length mid.trail)) [
         | inl less ↦ (
             let Edge : ℕ → Type 0 = HasEdge game v in
-            pending_on list k n u v j at (still_free aim mid new u v marks places is_free)
-            (so_far.own v j (was_free v is_free) owns after less
-            (subst Edge (trail_before aim mid new u j places less) edge)))
+            pending_on list k n u v j at (still_free v marks places is_free)
+            (so_far.own v j (was_free v is_free) owns after less (subst Edge (trail_before j places less) edge)))
         | inr more ↦ inl (omega arith)
       ];
       other = λ v is_free other goes. (
@@ -323,7 +198,7 @@ look_places game aim old mid new list k n u marks at begins here places back so_
                   place = length mid.trail;
                   after = begins;
                   within = omega arith;
-                  is = trail_last aim mid new u places ∙ sym same;
+                  is = trail_last places ∙ sym same;
                   pending = inl here;
                 })
                 | inr differ ↦ inl (places.levels can.to differ ∙ free)
@@ -334,35 +209,30 @@ look_places game aim old mid new list k n u marks at begins here places back so_
                     place = there.place;
                     after = there.after;
                     within = omega arith;
-                    is = trail_before aim mid new u there.place places there.within ∙ there.is;
-                    pending =
-                        pending_on list k n u v there.place at (still_free aim mid new u v marks places is_free)
-                        there.pending;
+                    is = trail_before there.place places there.within ∙ there.is;
+                    pending = pending_on list k n u v there.place at (still_free v marks places is_free) there.pending;
                   }))
             ];
           });
       back = λ j after within. elim (cases_lt j (length mid.trail)) [
         | inl less ↦ (
             let placed = so_far.grown.behind j after less in
-            let differ =
-            not_it aim mid new u (get_or mid.trail j 0) places (λ is_free. marks (sym placed.level ∙ is_free)) in
+            let differ = not_it (get_or mid.trail j 0) places (λ is_free. marks (sym placed.level ∙ is_free)) in
             let Back : ℕ → Type 0 = LeadsBack game aim old new j in
-            subst Back (sym (trail_before aim mid new u j places less))
-            (leads_back_on game aim old mid new u j (get_or mid.trail j 0) places differ (omega arith)
+            subst Back (sym (trail_before j places less)) (leads_back_on places differ (omega arith)
             (so_far.back j after less)))
         | inr more ↦ (
             let last : length mid.trail ≡ j = omega arith in
             let Back : ℕ → Type 0 = λ i. LeadsBack game aim old new i (get_or new.trail i 0) in
             let At : ℕ → Type 0 = LeadsBack game aim old new (length mid.trail) in
-            subst Back last (subst At (sym (trail_last aim mid new u places)) back))
+            subst Back last (subst At (sym (trail_last places)) back))
       ];
     }
 
 -- each vertex that was free or stood in the trail, and is not free, stands in the trail
-pub stands_now : (aim : Aim) (old new : TablesData) (w : ℕ) → aim.begin ≤ length old.trail → IsGrown aim old new →
+pub stands_now : {aim : Aim} {old new : TablesData} (w : ℕ) → aim.begin ≤ length old.trail → IsGrown aim old new →
     level_of new w ≢ aim.free → (level_of old w ≡ aim.free) ⊎ StandsFrom old aim.begin w → StandsFrom new aim.begin w
-stands_now aim old new w begins grown not_free there =
-    let longer : length old.trail ≤ length new.trail = grown.longer in
+stands_now {old} {new} w begins grown not_free there =
     elim there [
       | inl free ↦ elim (grown.each w) [
         | inl same ↦ absurd (not_free (same.level ∙ free))
@@ -406,54 +276,45 @@ places_other game aim mid u levels is_free = record {
 }
 
 -- one look, whatever comes of it
-pub reaching_look : (game : ParityGame) (aim : Aim) (old mid new : TablesData) (list : List ℕ) (k n u : ℕ) →
-    aim.mark ≢ aim.free → get_or list n 0 ≡ u → aim.begin ≤ length old.trail → aim.begin ≤ k → k < length mid.trail →
-    u < length mid.level → u < length mid.moves → HasEdge game u (get_or mid.trail k 0) →
+pub reaching_look : {game : ParityGame} {aim : Aim} {old mid : TablesData} (new : TablesData) (list : List ℕ)
+    (k n u : ℕ) → aim.mark ≢ aim.free → get_or list n 0 ≡ u → aim.begin ≤ length old.trail → aim.begin ≤ k →
+    k < length mid.trail → u < length mid.level → u < length mid.moves → HasEdge game u (get_or mid.trail k 0) →
     Look game aim mid new u (get_or mid.trail k 0) → Reaching game aim old mid (FromSource k list n) →
     Reaching game aim old new (FromSource k list (n + 1))
-reaching_look game aim old mid new list k n u marks at begins after here levels choices edge look so_far = by_look look
+reaching_look {game} {aim} {old} {mid} new list k n u marks at begins after here levels choices edge look so_far =
+    by_look look
   where
     goal : TablesData → Type 0
     goal t = Reaching game aim old t (FromSource k list (n + 1))
 
     by_look : Look game aim mid new u (get_or mid.trail k 0) → Reaching game aim old new (FromSource k list (n + 1))
-    by_look (NotFree not_free same) =
-        subst goal (sym same) (look_not_free game aim old mid list k n u at not_free so_far)
-    by_look (Escapes others has_free same) =
-        subst goal (sym same) (look_escapes game aim old mid list k n u at others has_free so_far)
+    by_look (NotFree not_free same) = subst goal (sym same) (look_not_free list k n u at not_free so_far)
+    by_look (Escapes others has_free same) = subst goal (sym same) (look_escapes list k n at others has_free so_far)
     by_look (Own is_free owns same) =
         let w : ℕ = get_or mid.trail k 0 in
         let next : TablesData = with_placed (with_move mid u w) u aim.mark in
         let places : Places aim mid next u = places_own game aim mid u w levels choices is_free in
         let Back : ℕ → Type 0 = λ x. HasEdge game u x × StandsBefore aim next (length mid.trail) x in
-        subst goal (sym same) (look_places game aim old mid next list k n u marks at (omega arith) here places
-        (record {
-          own =
-              λ owns. subst Back (sym (get_or-set_same mid.moves u w 0 choices)) (
-                edge,
-                record {
-                  place = k;
-                  after = after;
-                  before = here;
-                  is = trail_before aim mid next u k places here;
-                },
-              );
+        subst goal (sym same) (look_places list k n marks at (omega arith) here places (record {
+          own = λ owns. subst Back (sym (get_or-set_same mid.moves u w 0 choices)) (
+            edge,
+            record { place = k; after = after; before = here; is = trail_before k places here },
+          );
           other = λ others. absurd (others owns);
         })
         so_far)
     by_look (Others is_free others none same) =
         let next : TablesData = with_placed mid u aim.mark in
         let places : Places aim mid next u = places_other game aim mid u levels is_free in
-        subst goal (sym same) (look_places game aim old mid next list k n u marks at (omega arith) here places
-        (record {
+        subst goal (sym same) (look_places list k n marks at (omega arith) here places (record {
           own = λ owns. absurd (others owns);
           other = λ _ x leads there. (
-              let stands = stands_now aim old mid x begins so_far.grown (none x leads) there in
+              let stands = stands_now x begins so_far.grown (none x leads) there in
               record {
                 place = stands.place;
                 after = stands.after;
                 before = stands.within;
-                is = trail_before aim mid next u stands.place places stands.within ∙ stands.is;
+                is = trail_before stands.place places stands.within ∙ stands.is;
               });
         })
         so_far)

@@ -25,81 +25,74 @@ pub record Agrees (c : ℕ) (old new : TablesData) (winner winner_now : List ℕ
   pub sizes : length new.level ≡ length old.level
   pub each : (v : ℕ) → IsStill old new winner winner_now v ⊎ ((c ≤ level_of old v) × (c ≤ level_of new v))
 
-pub agrees_at : (c b : ℕ) (old new : TablesData) (winner winner_now : List ℕ) → Agrees c old new winner winner_now →
-    b ≤ c → (v : ℕ) → AgreesAt old.level new.level b v
-agrees_at c b old new winner winner_now agrees less v = elim (agrees.each v) [
+pub agrees_at : {c : ℕ} (b : ℕ) {old new : TablesData} {winner winner_now : List ℕ} →
+    Agrees c old new winner winner_now → b ≤ c → (v : ℕ) → AgreesAt old.level new.level b v
+agrees_at b {old} {new} agrees less v = elim (agrees.each v) [
   | inl still ↦ (
-      let same : level_of new v ≡ level_of old v = still.level in
       record { up = λ high. omega arith; back = λ high. omega arith })
   | inr both ↦ record { up = λ high. omega (arith, both.1); back = λ high. omega (arith, both.0) }
 ]
 
-pub agrees_from : (c b : ℕ) (old new : TablesData) (winner winner_now : List ℕ) → Agrees c old new winner winner_now →
-    b ≤ c → from new.level b ≡ from old.level b
-agrees_from c b old new winner winner_now agrees less =
-    from-same old.level new.level b (agrees_at c b old new winner winner_now agrees less)
+pub agrees_from : {c : ℕ} (b : ℕ) {old new : TablesData} {winner winner_now : List ℕ} →
+    Agrees c old new winner winner_now → b ≤ c → from new.level b ≡ from old.level b
+agrees_from {c} b {old} {new} {winner} {winner_now} agrees less =
+    from-same old.level new.level b (agrees_at b agrees less)
 
 -- below the level nothing changes
-pub still_below : (c : ℕ) (old new : TablesData) (winner winner_now : List ℕ) → Agrees c old new winner winner_now →
+pub still_below : {c : ℕ} {old new : TablesData} {winner winner_now : List ℕ} → Agrees c old new winner winner_now →
     (v : ℕ) → ¬ IsTrue (from old.level c v) → IsStill old new winner winner_now v
-still_below c old new winner winner_now agrees v below = elim (agrees.each v) [
+still_below {c} {old} agrees v below = elim (agrees.each v) [
   | inl still ↦ still
   | inr both ↦ absurd (below (to_from old.level c v both.0))
 ]
 
-pub progress_below : (game : ParityGame) (c a b : ℕ) (old new : TablesData) (winner winner_now : List ℕ) →
-    Agrees c old new winner winner_now → a ≤ c → b ≤ c
-    → Progress game (from old.level a) (from old.level b) (winner_of winner) (moves_of old) →
-    Progress game (from new.level a) (from new.level b) (winner_of winner_now) (moves_of new)
-progress_below game c a b old new winner winner_now agrees low high progress =
+pub progress_below : {game : ParityGame} {c : ℕ} (a b : ℕ) {old new : TablesData} {winner winner_now : List ℕ} →
+    Agrees c old new winner winner_now → a ≤ c → b ≤ c → Progress game (from old.level a) (from old.level b)
+    (winner_of winner) (moves_of old) → Progress game (from new.level a) (from new.level b)
+    (winner_of winner_now) (moves_of new)
+progress_below {game} {c} a b {old} {new} {winner} {winner_now} agrees low high progress =
     let Outer : (ℕ → Bool) → Type 0 =
     λ set. Progress game set (from old.level b) (winner_of winner_now) (moves_of new) in
     let Inner : (ℕ → Bool) → Type 0 =
     λ set. Progress game (from new.level a) set (winner_of winner_now) (moves_of new) in
     let below = λ (v : ℕ) (decided : ¬ IsTrue (from old.level b v)). (
-    let still : IsStill old new winner winner_now v =
-    still_below c old new winner winner_now agrees v (λ inside.
-    decided (to_from old.level b v (let far : c ≤ level_of old v = from_at old.level c v inside in omega arith))) in
+    let still : IsStill old new winner winner_now v = still_below agrees v (λ inside.
+    decided (to_from old.level b v (omega (arith, from_at old.level c v inside)))) in
     still) in
-    subst Inner (sym (agrees_from c b old new winner winner_now agrees high))
-    (subst Outer (sym (agrees_from c a old new winner winner_now agrees low))
-    (Progress-same game (from old.level a) (from old.level b) (winner_of winner) (winner_of winner_now)
-    (moves_of old) (moves_of new)
+    subst Inner (sym (agrees_from b agrees high))
+    (subst Outer (sym (agrees_from a agrees low))
+    (Progress-same (winner_of winner_now) (moves_of new)
     (λ v inside decided. (below v decided).wins) (λ v inside decided. ap Some (below v decided).move) progress))
 
-pub subgame_below : (game : ParityGame) (c b : ℕ) (old new : TablesData) (winner winner_now : List ℕ) →
+pub subgame_below : {game : ParityGame} {c : ℕ} (b : ℕ) {old new : TablesData} {winner winner_now : List ℕ} →
     Agrees c old new winner winner_now → b ≤ c → IsSubgame game (from old.level b) → IsSubgame game (from new.level b)
-subgame_below game c b old new winner winner_now agrees less alive =
+subgame_below {game} {c} b {old} {new} {winner} {winner_now} agrees less alive =
     let Alive : (ℕ → Bool) → Type 0 = IsSubgame game in
-    subst Alive (sym (agrees_from c b old new winner winner_now agrees less)) alive
+    subst Alive (sym (agrees_from b agrees less)) alive
 
 -- a turn, with the same sets, and the same winners and moves in the attractor
-unfoldable pub IsTurned-on : (game : ParityGame) (open_part rest open_now rest_now : ℕ → Bool) (player : ℕ)
-    (win win_now : ℕ → ℕ) (table table_now : ℕ → Option ℕ) (turned : IsTurned game open_part rest player win table)
-    → open_now ≡ open_part → rest_now ≡ rest
-    → ((v : ℕ) → IsTrue (turned.attracted v) → win_now v ≡ win v) →
-    ((v : ℕ) → IsTrue (turned.attracted v) → ¬ IsTrue (turned.tops v) → table_now v ≡ table v)
-    → IsTurned game open_now rest_now player win_now table_now
-IsTurned-on game open_part rest open_now rest_now player win win_now table table_now turned same_open same_rest
+unfoldable pub IsTurned-on : {game : ParityGame} {open_part rest : ℕ → Bool} (open_now rest_now : ℕ → Bool) {player : ℕ}
+    {win : ℕ → ℕ} (win_now : ℕ → ℕ) {table : ℕ → Option ℕ} (table_now : ℕ → Option ℕ)
+    (turned : IsTurned game open_part rest player win table) → open_now ≡ open_part → rest_now ≡ rest →
+    ((v : ℕ) → IsTrue (turned.attracted v) → win_now v ≡ win v) →
+    ((v : ℕ) → IsTrue (turned.attracted v) → ¬ IsTrue (turned.tops v) → table_now v ≡ table v) →
+    IsTurned game open_now rest_now player win_now table_now
+IsTurned-on {game} {open_part} {rest} open_now rest_now win_now {table} table_now turned same_open same_rest
     same_win same_move =
     let was_open =
     λ (v : ℕ) (inside : IsTrue (open_now v)). (let was : IsTrue (open_part v) = sym (ap (λ set. set v) same_open)
     ∙ inside in was) in
-    let is_open =
-    λ (v : ℕ) (inside : IsTrue (open_part v)). (let is : IsTrue (open_now v) = ap (λ set. set v) same_open
+    let is_open = λ (v : ℕ) (inside : IsTrue (open_part v)). (let is : IsTrue (open_now v) = ap (λ set. set v) same_open
     ∙ inside in is) in
     let was_rest =
     λ (v : ℕ) (inside : IsTrue (rest_now v)). (let was : IsTrue (rest v) = sym (ap (λ set. set v) same_rest)
     ∙ inside in was) in
-    let is_rest =
-    λ (v : ℕ) (inside : IsTrue (rest v)). (let is : IsTrue (rest_now v) = ap (λ set. set v) same_rest
+    let is_rest = λ (v : ℕ) (inside : IsTrue (rest v)). (let is : IsTrue (rest_now v) = ap (λ set. set v) same_rest
     ∙ inside in is) in
-    let leads_back =
-    λ (v w : ℕ) (leads : LeadsInto game open_now v w). (let was : LeadsInto game open_part v w = record
+    let leads_back = λ (v w : ℕ) (leads : LeadsInto game open_now v w). (let was : LeadsInto game open_part v w = record
     { edge = leads.edge; inside = was_open w leads.inside } in was) in
     let down_now = λ (v w : ℕ) (down : LeadsDown game open_part turned.attracted turned.rank v w). (
-    let now : LeadsDown game open_now turned.attracted turned.rank v w =
-    record {
+    let now : LeadsDown game open_now turned.attracted turned.rank v w = record {
       leads = record { edge = down.leads.edge; inside = is_open w down.leads.inside };
       inside = down.inside;
       falls = down.falls;
@@ -125,8 +118,7 @@ IsTurned-on game open_part rest open_now rest_now player win win_now table table
         holds = turned.closed.holds;
         own =
             λ v w inside owns leads there. turned.closed.own v w (was_open v inside) owns (leads_back v w leads) there;
-        other =
-            λ v inside others all. turned.closed.other v (was_open v inside) others
+        other = λ v inside others all. turned.closed.other v (was_open v inside) others
             (λ w leads. all w (record { edge = leads.edge; inside = is_open w leads.inside }));
       };
       falls = record {
@@ -137,18 +129,17 @@ IsTurned-on game open_part rest open_now rest_now player win win_now table table
             (some_more (LeadsDown game open_part turned.attracted turned.rank v)
             (LeadsDown game open_now turned.attracted turned.rank v) (table v) (down_now v)
             (turned.falls.own v inside outside owns)));
-        other =
-            λ v w inside outside others leads. down_now v w (turned.falls.other v w inside outside others
+        other = λ v w inside outside others leads. down_now v w (turned.falls.other v w inside outside others
             (leads_back v w leads));
       };
       given = λ v inside. same_win v inside ∙ turned.given v inside;
     }
 
 -- a part of the trail that stays
-between_front : (old new : TablesData) (m from_place to_place v : ℕ) →
+between_front : {old : TablesData} (new : TablesData) (m : ℕ) {from_place to_place v : ℕ} →
     ((j : ℕ) → j < m → get_or new.trail j 0 ≡ get_or old.trail j 0) → to_place ≤ m →
     StandsBetween old from_place to_place v → StandsBetween new from_place to_place v
-between_front old new m from_place to_place v front end stands =
+between_front new m {to_place} front end stands =
     let before : stands.place < to_place = stands.before in
     record {
       place = stands.place;
@@ -157,58 +148,46 @@ between_front old new m from_place to_place v front end stands =
       is = front stands.place (omega arith) ∙ stands.is;
     }
 
-cursor_below : (c b : ℕ) (old new : TablesData) (winner winner_now order : List ℕ) (cursor : ℕ) →
+cursor_below : {c b : ℕ} {old new : TablesData} {winner winner_now order : List ℕ} {cursor : ℕ} →
     Agrees c old new winner winner_now → b ≤ c → IsCursor order old.level cursor b → IsCursor order new.level cursor b
-cursor_below c b old new winner winner_now order cursor agrees less front = record {
+cursor_below {c} {b} {old} {new} {winner} {winner_now} {order} agrees less front = record {
   within = front.within;
   below = λ j before. elim (cases_lt (get_or new.level (get_or order j 0) 0) b) [
     | inl low ↦ low
     | inr high ↦ (
-        let was : get_or old.level (get_or order j 0) 0 < b = front.below j before in
-        let at : AgreesAt old.level new.level b (get_or order j 0) =
-        agrees_at c b old new winner winner_now agrees less (get_or order j 0) in
-        let back : b ≤ get_or old.level (get_or order j 0) 0 = at.back high in
-        absurd (omega arith))
+        let at : AgreesAt old.level new.level b (get_or order j 0) = agrees_at b agrees less (get_or order j 0) in
+        absurd (omega (arith, at.back high, front.below j before)))
   ];
 }
 
 -- a call that waits below the level waits still
-pub waits_below : (game : ParityGame) (c a m : ℕ) (old new : TablesData) (winner winner_now order : List ℕ)
-    (frame : Frame) → Agrees c old new winner winner_now → a + 3 ≤ c
-    → ((j : ℕ) → j < m → get_or new.trail j 0 ≡ get_or old.trail j 0) → m ≤ length new.trail → frame.top ≤ m →
-    IsSegment new frame.turn (a + 2)
-    → Waits game old winner order a frame → Waits game new winner_now order a frame
+pub waits_below : {game : ParityGame} {c a : ℕ} (m : ℕ) {old new : TablesData} {winner winner_now order : List ℕ}
+    {frame : Frame} → Agrees c old new winner winner_now → a + 3 ≤ c →
+    ((j : ℕ) → j < m → get_or new.trail j 0 ≡ get_or old.trail j 0) → m ≤ length new.trail → frame.top ≤ m →
+    IsSegment new frame.turn (a + 2) → Waits game old winner order a frame → Waits game new winner_now order a frame
 unfolding IsTurned-on
-waits_below game c a m old new winner winner_now order frame agrees low front longer end segment waits =
+waits_below {game} {c} {a} m {old} {new} {winner} {winner_now} {order} {frame} agrees low front longer end
+    segment waits =
     let prepared = waits.prepared in
     let still = λ (v : ℕ) (pulled : IsTrue (prepared.attracted v)). (
-    let there : IsStill old new winner winner_now v = still_below c old new winner winner_now agrees v (λ inside.
-    prepared.left.outside v (to_from old.level (a + 3) v (let far : c ≤ level_of old v = from_at old.level c v inside in
-    omega arith)) pulled) in there) in
+    let there : IsStill old new winner winner_now v = still_below agrees v (λ inside.
+    prepared.left.outside v (to_from old.level (a + 3) v (omega (arith, from_at old.level c v inside))) pulled) in
+    there) in
     let size : size_from (a + 1) new.level ≡ size_from (a + 1) old.level =
-    size_from-same (a + 1) old.level new.level agrees.sizes (agrees_at c (a + 1) old new winner winner_now agrees
+    size_from-same (a + 1) old.level new.level agrees.sizes (agrees_at (a + 1) agrees
     (omega arith)) in
-    let sizes : length new.level ≡ length old.level = agrees.sizes in
     let room : a + 2 * size_from (a + 1) old.level ≤ 2 * length old.level = waits.room in
     record {
-      alive = subgame_below game c (a + 2) old new winner winner_now agrees (omega arith) waits.alive;
-      progress =
-          progress_below game c (a + 1) (a + 2) old new winner winner_now agrees (omega arith) (omega arith)
-          waits.progress;
-      prepared =
-          IsTurned-on game (from old.level (a + 2)) (from old.level (a + 3)) (from new.level (a + 2))
-          (from new.level (a + 3)) frame.player (winner_of winner) (winner_of winner_now) (moves_of old)
-          (moves_of new) prepared
-          (agrees_from c (a + 2) old new winner winner_now agrees (omega arith))
-          (agrees_from c (a + 3) old new winner winner_now agrees low)
+      alive = subgame_below (a + 2) agrees (omega arith) waits.alive;
+      progress = progress_below (a + 1) (a + 2) agrees (omega arith) (omega arith) waits.progress;
+      prepared = IsTurned-on (from new.level (a + 2)) (from new.level (a + 3)) (winner_of winner_now)
+          (moves_of new) prepared (agrees_from (a + 2) agrees (omega arith)) (agrees_from (a + 3) agrees low)
           (λ v pulled. (still v pulled).wins) (λ v pulled outside. ap Some (still v pulled).move);
       room = omega arith;
       segment = segment;
       some = waits.some;
       end = omega arith;
-      tops = λ v top. between_front old new m frame.turn frame.top v front end (waits.tops v top);
-      only_tops =
-          λ v stands. waits.only_tops v (between_front new old m frame.turn frame.top v
-          (λ j before. sym (front j before)) end stands);
-      front = cursor_below c (a + 2) old new winner winner_now order frame.cursor agrees (omega arith) waits.front;
+      tops = λ v top. between_front new m front end (waits.tops v top);
+      only_tops = λ v stands. waits.only_tops v (between_front old m (λ j before. sym (front j before)) end stands);
+      front = cursor_below agrees (omega arith) waits.front;
     }

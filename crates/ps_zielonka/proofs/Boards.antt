@@ -16,10 +16,10 @@ use Rattle.ps_zielonka.specs.Nests.{StandsBetween, StandsBefore, IsKeptAt, IsMov
 -- ## What is kept
 
 -- the move at u alone changes
-pub moved_more : (old mid new : TablesData) (turn top place u : ℕ) → turn ≤ place → place < top →
+pub moved_more : {old mid new : TablesData} (turn top place u : ℕ) → turn ≤ place → place < top →
     get_or old.trail place 0 ≡ u → IsMoved old mid (StandsBetween old turn top) → IsMoved mid new (λ v. v ≡ u) →
     IsMoved old new (StandsBetween old turn top)
-moved_more old mid new turn top place u after before at first second = record {
+moved_more turn top place u after before at first second = record {
   level = second.level ∙ first.level;
   trail = second.trail ∙ first.trail;
   choices = second.choices ∙ first.choices;
@@ -33,10 +33,10 @@ moved_more old mid new turn top place u after before at first second = record {
 }
 
 -- what is kept at a vertex stays so where another one's move changes
-kept_on : (game : ParityGame) (mid new : TablesData) (winner : List ℕ) (level player other u v : ℕ) →
+kept_on : {game : ParityGame} {mid new : TablesData} {winner : List ℕ} {level player other : ℕ} (u : ℕ) {v : ℕ} →
     IsMoved mid new (λ v. v ≡ u) → v ≢ u → IsKeptAt game mid winner level player other v →
     IsKeptAt game new winner level player other v
-kept_on game mid new winner level player other u v moved differ kept =
+kept_on {game} {mid} {new} {winner} {level} {player} u {v} moved differ kept =
     let move : get_or new.moves v 0 ≡ get_or mid.moves v 0 =
     elim (moved.moves v) [ inl same ↦ same | inr here ↦ absurd (differ here) ] in
     let levels = λ (w : ℕ). ap (λ xs. get_or xs w 0) moved.level in
@@ -46,7 +46,6 @@ kept_on game mid new winner level player other u v moved differ kept =
           let Edge : ℕ → Type 0 = HasEdge game v in
           let Above : ℕ → Type 0 = λ w. level < level_of new w in
           let Won : ℕ → Type 0 = λ w. get_or winner w 0 ≡ player in
-          let low : level < level_of mid (get_or mid.moves v 0) = step.above in
           let high : level < level_of new (get_or mid.moves v 0) = omega (arith, levels (get_or mid.moves v 0)) in
           record {
             edge = subst Edge (sym move) step.edge;
@@ -56,19 +55,22 @@ kept_on game mid new winner level player other u v moved differ kept =
       foreign = λ others w edge above. kept.foreign others w edge (omega (arith, levels w));
     }
 
-pub kept_more : (game : ParityGame) (old mid new : TablesData) (winner : List ℕ) (level player other turn place u : ℕ) →
-    get_or old.trail place 0 ≡ u → IsMoved mid new (λ v. v ≡ u) → IsKeptAt game new winner level player other u →
-    ((v : ℕ) → StandsBetween old turn place v → IsKeptAt game mid winner level player other v) → (v : ℕ) →
-    StandsBetween old turn (place + 1) v → IsKeptAt game new winner level player other v
-kept_more game old mid new winner level player other turn place u at moved here so_far v stands = elim (cases_eq v u) [
-  | inl same ↦ (let Kept : ℕ → Type 0 = λ x. IsKeptAt game new winner level player other x in
-      subst Kept (sym same) here)
-  | inr differ ↦ (
-      let not_last : stands.place ≢ place = λ same. differ (sym stands.is ∙ ap (λ j. get_or old.trail j 0) same ∙ at) in
-      let before : stands.place < place + 1 = stands.before in
-      kept_on game mid new winner level player other u v moved differ
-      (so_far v (record { place = stands.place; after = stands.after; before = omega arith; is = stands.is })))
-]
+pub kept_more : {game : ParityGame} {old mid new : TablesData} {winner : List ℕ} {level player other turn : ℕ}
+    (place : ℕ) {u : ℕ} → get_or old.trail place 0 ≡ u → IsMoved mid new (λ v. v ≡ u) →
+    IsKeptAt game new winner level player other u → ((v : ℕ) → StandsBetween old turn place v →
+    IsKeptAt game mid winner level player other v) → (v : ℕ) → StandsBetween old turn (place + 1) v →
+    IsKeptAt game new winner level player other v
+kept_more {game} {old} {mid} {new} {winner} {level} {player} {other} place {u} at moved here so_far v stands =
+    elim (cases_eq v u) [
+      | inl same ↦ (let Kept : ℕ → Type 0 = λ x. IsKeptAt game new winner level player other x in
+          subst Kept (sym same) here)
+      | inr differ ↦ (
+          let not_last : stands.place ≢ place =
+          λ same. differ (sym stands.is ∙ ap (λ j. get_or old.trail j 0) same ∙ at) in
+          let before : stands.place < place + 1 = stands.before in
+          kept_on u moved differ
+          (so_far v (record { place = stands.place; after = stands.after; before = omega arith; is = stands.is })))
+    ]
 
 -- ## What is put back
 
@@ -87,25 +89,25 @@ reopened_start winner player level turn spare tables at_end = record {
 }
 
 -- one more of the list
-one_more : (spare : List ℕ) (k u v : ℕ) → get_or spare k 0 ≡ u → StandsBefore spare (k + 1) v →
+one_more : {spare : List ℕ} (k u : ℕ) {v : ℕ} → get_or spare k 0 ≡ u → StandsBefore spare (k + 1) v →
     StandsBefore spare k v ⊎ (v ≡ u)
-one_more spare k u v at_k stands = elim (cases_eq stands.place k) [
+one_more {spare} k u at_k stands = elim (cases_eq stands.place k) [
   | inl same ↦ inr (sym stands.is ∙ ap (λ j. get_or spare j 0) same ∙ at_k)
   | inr differ ↦ (let before : stands.place < k + 1 = stands.before in
       inl (record { place = stands.place; before = omega arith; is = stands.is }))
 ]
 
-one_longer : (spare : List ℕ) (k v : ℕ) → StandsBefore spare k v → StandsBefore spare (k + 1) v
-one_longer spare k v stands = let before : stands.place < k = stands.before in
+one_longer : {spare : List ℕ} {k v : ℕ} → StandsBefore spare k v → StandsBefore spare (k + 1) v
+one_longer {k} stands = let before : stands.place < k = stands.before in
     record { place = stands.place; before = omega arith; is = stands.is }
 
 -- the next vertex was won by the player
-pub reopened_free : (winner : List ℕ) (player level turn : ℕ) (spare : List ℕ) (k u : ℕ) (old mid new : TablesData) →
-    get_or spare k 0 ≡ u → u < length mid.level → get_or winner u 0 ≡ player →
+pub reopened_free : {winner : List ℕ} {player level turn : ℕ} (spare : List ℕ) (k u : ℕ) {old mid : TablesData}
+    (new : TablesData) → get_or spare k 0 ≡ u → u < length mid.level → get_or winner u 0 ≡ player →
     new.level ≡ slice_set mid.level u UNPLACED → new.moves ≡ mid.moves → new.trail ≡ mid.trail →
     IsReopened winner player level turn (StandsBefore spare k) old mid →
     IsReopened winner player level turn (StandsBefore spare (k + 1)) old new
-reopened_free winner player level turn spare k u old mid new at_k within won levels moves trail so_far =
+reopened_free {winner} {player} {turn} spare k u {mid} new at_k within won levels moves trail so_far =
     let here : level_of new u ≡ UNPLACED = ap (λ xs. get_or xs u 0) levels
     ∙ get_or-set_same mid.level u UNPLACED 0 within in
     let there = λ (v : ℕ) (differ : v ≢ u). ap (λ xs. get_or xs v 0) levels
@@ -120,14 +122,13 @@ reopened_free winner player level turn spare k u old mid new at_k within won lev
       front = λ j before. at j ∙ so_far.front j before;
       behind = λ j after before. (
           let behind = so_far.behind j after (omega arith) in (
-            subst Off (sym (at j)) (one_longer spare k (get_or mid.trail j 0) behind.0),
+            subst Off (sym (at j)) (one_longer behind.0),
             subst NotWon (sym (at j)) behind.1,
           ));
-      lost = λ v off not_won. elim (one_more spare k u v at_k off) [
+      lost = λ v off not_won. elim (one_more k u at_k off) [
         | inr same ↦ absurd (not_won (ap (λ x. get_or winner x 0) same ∙ won))
         | inl earlier ↦ (
-            let lost = so_far.lost v earlier not_won in
-            let low : lost.1.place < length mid.trail = lost.1.within in (
+            let lost = so_far.lost v earlier not_won in (
               there v (λ same. not_won (ap (λ x. get_or winner x 0) same ∙ won)) ∙ lost.0,
               record {
                 place = lost.1.place;
@@ -139,7 +140,7 @@ reopened_free winner player level turn spare k u old mid new at_k within won lev
       ];
       freed = λ v off is_won. elim (cases_eq v u) [
         | inl same ↦ ap (λ x. level_of new x) same ∙ here
-        | inr differ ↦ elim (one_more spare k u v at_k off) [
+        | inr differ ↦ elim (one_more k u at_k off) [
           | inr same ↦ absurd (differ same)
           | inl earlier ↦ there v differ ∙ so_far.freed v earlier is_won
         ]
@@ -148,7 +149,7 @@ reopened_free winner player level turn spare k u old mid new at_k within won lev
         | inl same ↦ inr (record { place = k; before = omega arith; is = at_k ∙ sym same })
         | inr differ ↦ elim (so_far.same v) [
           | inl kept ↦ inl (there v differ ∙ kept)
-          | inr off ↦ inr (one_longer spare k v off)
+          | inr off ↦ inr (one_longer off)
         ]
       ];
       moves = moves ∙ so_far.moves;
@@ -156,11 +157,11 @@ reopened_free winner player level turn spare k u old mid new at_k within won lev
     }
 
 -- the next vertex was not won by the player
-pub reopened_lost : (winner : List ℕ) (player level turn : ℕ) (spare : List ℕ) (k u : ℕ) (old mid new : TablesData) →
-    get_or spare k 0 ≡ u → u < length mid.level → get_or winner u 0 ≢ player → new ≡ with_placed mid u level →
-    IsReopened winner player level turn (StandsBefore spare k) old mid →
+pub reopened_lost : {winner : List ℕ} {player level turn : ℕ} (spare : List ℕ) (k u : ℕ) {old mid : TablesData}
+    (new : TablesData) → get_or spare k 0 ≡ u → u < length mid.level → get_or winner u 0 ≢ player →
+    new ≡ with_placed mid u level → IsReopened winner player level turn (StandsBefore spare k) old mid →
     IsReopened winner player level turn (StandsBefore spare (k + 1)) old new
-reopened_lost winner player level turn spare k u old mid new at_k within not_won now so_far =
+reopened_lost {winner} {player} {level} {turn} spare k u {mid} new at_k within not_won now so_far =
     let levels : new.level ≡ slice_set mid.level u level = ap (λ (t : TablesData). t.level) now in
     let trail : new.trail ≡ mid.trail ++ u ∷ [] = ap (λ (t : TablesData). t.trail) now in
     let here : level_of new u ≡ level = ap (λ xs. get_or xs u 0) levels ∙ get_or-set_same mid.level u level 0 within in
@@ -181,7 +182,7 @@ reopened_lost winner player level turn spare k u old mid new at_k within not_won
       behind = λ j after before. elim (cases_lt j (length mid.trail)) [
         | inl less ↦ (
             let behind = so_far.behind j after less in (
-              subst Off (sym (at j less)) (one_longer spare k (get_or mid.trail j 0) behind.0),
+              subst Off (sym (at j less)) (one_longer behind.0),
               subst NotWon (sym (at j less)) behind.1,
             ))
         | inr more ↦ (
@@ -192,10 +193,9 @@ reopened_lost winner player level turn spare k u old mid new at_k within not_won
       lost = λ v off lost_here. elim (cases_eq v u) [
         | inl same ↦ (
           ap (λ x. level_of new x) same ∙ here,
-          record
-              { place = length mid.trail; after = longer; within = omega arith; is = last ∙ sym same },
+          record { place = length mid.trail; after = longer; within = omega arith; is = last ∙ sym same },
         )
-        | inr differ ↦ elim (one_more spare k u v at_k off) [
+        | inr differ ↦ elim (one_more k u at_k off) [
           | inr same ↦ absurd (differ same)
           | inl earlier ↦ (
               let lost = so_far.lost v earlier lost_here in
@@ -210,7 +210,7 @@ reopened_lost winner player level turn spare k u old mid new at_k within not_won
               ))
         ]
       ];
-      freed = λ v off is_won. elim (one_more spare k u v at_k off) [
+      freed = λ v off is_won. elim (one_more k u at_k off) [
         | inr same ↦ absurd (not_won (sym (ap (λ x. get_or winner x 0) same) ∙ is_won))
         | inl earlier ↦ there v (λ same. not_won (sym (ap (λ x. get_or winner x 0) same) ∙ is_won))
             ∙ so_far.freed v earlier is_won
@@ -219,7 +219,7 @@ reopened_lost winner player level turn spare k u old mid new at_k within not_won
         | inl same ↦ inr (record { place = k; before = omega arith; is = at_k ∙ sym same })
         | inr differ ↦ elim (so_far.same v) [
           | inl kept ↦ inl (there v differ ∙ kept)
-          | inr off ↦ inr (one_longer spare k v off)
+          | inr off ↦ inr (one_longer off)
         ]
       ];
       moves = ap (λ (t : TablesData). t.moves) now ∙ so_far.moves;
@@ -227,16 +227,15 @@ reopened_lost winner player level turn spare k u old mid new at_k within not_won
     }
 
 -- all of the list is put back
-pub reopened_end : (winner : List ℕ) (player level turn k : ℕ) (spare : List ℕ) (old cut new : TablesData) →
-    turn ≤ length old.trail → cut.level ≡ old.level → cut.moves ≡ old.moves → cut.trail ≡ take turn old.trail →
-    IsTakenOff turn old.trail spare → k ≡ length spare → IsReopened winner player level turn (StandsBefore spare k) cut
-    new → IsReopened winner player level turn (StandsFrom old turn) old new
-reopened_end winner player level turn k spare old cut new within levels moves trail off all reopened =
-    let size : length spare + turn ≡ length old.trail = off.all in
+pub reopened_end : {winner : List ℕ} {player level turn : ℕ} (k : ℕ) {spare : List ℕ} (old : TablesData)
+    {cut new : TablesData} → turn ≤ length old.trail → cut.level ≡ old.level → cut.moves ≡ old.moves →
+    cut.trail ≡ take turn old.trail → IsTakenOff turn old.trail spare → k ≡ length spare →
+    IsReopened winner player level turn (StandsBefore spare k) cut new →
+    IsReopened winner player level turn (StandsFrom old turn) old new
+reopened_end {turn} k {spare} old {new} within levels moves trail off all reopened =
     let to_old = λ (v : ℕ) (stands : StandsBefore spare k v). (
     let low : stands.place < k = stands.before in
-    let found : StandsFrom old turn v =
-    record {
+    let found : StandsFrom old turn v = record {
       place = turn + stands.place;
       after = omega arith;
       within = omega arith;
@@ -247,20 +246,17 @@ reopened_end winner player level turn k spare old cut new within levels moves tr
     let low : stands.place < length old.trail = stands.within in
     let after : turn ≤ stands.place = stands.after in
     let back : turn + (stands.place - turn) ≡ stands.place = omega arith in
-    let found : StandsBefore spare k v =
-    record {
+    let found : StandsBefore spare k v = record {
       place = stands.place - turn;
       before = omega arith;
-      is = off.same (stands.place - turn) (omega arith)
-          ∙ ap (λ j. get_or old.trail j 0) back ∙ stands.is;
+      is = off.same (stands.place - turn) (omega arith) ∙ ap (λ j. get_or old.trail j 0) back ∙ stands.is;
     } in
     found) in
     record {
       longer = reopened.longer;
       front =
           λ j before. reopened.front j before ∙ ap (λ xs. get_or xs j 0) trail ∙ get_or-take turn old.trail j 0 before;
-      behind =
-          λ j after before. (let behind = reopened.behind j after before in
+      behind = λ j after before. (let behind = reopened.behind j after before in
           (to_old (get_or new.trail j 0) behind.0, behind.1));
       lost = λ v stands. reopened.lost v (to_spare v stands);
       freed = λ v stands. reopened.freed v (to_spare v stands);

@@ -11,51 +11,47 @@ use Rattle.ps_zielonka.specs.Depths.{is_vertex, HasPriorities, IsDepth, IsFresh,
 use Rattle.ps_zielonka.specs.Nests.{from, winner_of, frame_at, Waits, IsNest}
 use Rattle.ps_zielonka.proofs.Depths.{one_priority, HasPriorities-larger, HasPriorities-turned}
 use Rattle.ps_zielonka.proofs.Sets.{from_at}
-use Rattle.ps_zielonka.proofs.Begins.{Begun, begun_left}
+use Rattle.ps_zielonka.proofs.Begun.{Begun}
+use Rattle.ps_zielonka.proofs.Begins.{begun_left}
 
 -- what the call of a depth has, and one for each call before it
-chain : (game : ParityGame) (tables : TablesData) (winner order : List ℕ) (frames : List Frame) (j m : ℕ) →
+chain : {game : ParityGame} (tables : TablesData) (winner order : List ℕ) (frames : List Frame) (j : ℕ) {m : ℕ} →
     ((i : ℕ) → i < j → Waits game tables winner order (2 * i) (frame_at frames i)) →
     HasPriorities game (from tables.level (2 * j + 1)) m → HasPriorities game (from tables.level 1) (m + j)
-chain game tables winner order frames zero m waits has_m =
+chain {game} tables winner order frames zero {m} waits has_m =
     let Count : ℕ → Type 0 = HasPriorities game (from tables.level 1) in
     let same : m ≡ m + 0 = omega arith in
     subst Count same has_m
-chain game tables winner order frames (suc j) m waits has_m =
+chain {game} tables winner order frames (suc j) {m} waits has_m =
     let wait = waits j (omega arith) in
     let Level : ℕ → Type 0 = λ c. HasPriorities game (from tables.level c) m in
     let Count : ℕ → Type 0 = HasPriorities game (from tables.level 1) in
     let level : 2 * suc j + 1 ≡ 2 * j + 3 = omega arith in
     let same : m + 1 + j ≡ m + suc j = omega arith in
     let more : HasPriorities game (from tables.level (2 * j + 2)) (m + 1) =
-    HasPriorities-turned game (from tables.level (2 * j + 2)) (from tables.level (2 * j + 3)) (frame_at frames j).player
-    (winner_of winner) (moves_of tables) m wait.prepared (subst Level level has_m) in
-    subst Count same (chain game tables winner order frames j (m + 1) (λ i less. waits i (omega arith))
-    (HasPriorities-larger game (from tables.level (2 * j + 2)) (from tables.level (2 * j + 1)) (m + 1)
+    HasPriorities-turned wait.prepared (subst Level level has_m) in
+    subst Count same (chain tables winner order frames j (λ i less. waits i (omega arith))
+    (HasPriorities-larger (from tables.level (2 * j + 1))
     wait.progress.within more))
 
 -- as many priorities as calls wait
-nest_priorities : (game : ParityGame) (tables : TablesData) (winner order : List ℕ) (frames : List Frame) (cursor : ℕ)
-    (solved : Bool) (k : ℕ) → length frames ≡ k + 1 → IsNest game tables winner order frames cursor solved →
+nest_priorities : {game : ParityGame} {tables : TablesData} {winner order : List ℕ} {frames : List Frame} {cursor : ℕ}
+    {solved : Bool} (k : ℕ) → length frames ≡ k + 1 → IsNest game tables winner order frames cursor solved →
     HasPriorities game (is_vertex game) (k + 1)
-nest_priorities game tables winner order frames cursor solved k calls nest =
+nest_priorities {game} {tables} {winner} {order} {frames} k calls nest =
     let wait = nest.waits k (omega arith) in
     let (top, is_top, greatest) = wait.prepared.some_top in
-    let one =
-    one_priority game (from tables.level (2 * k + 1)) top (wait.progress.within top
+    let one = one_priority game (from tables.level (2 * k + 1)) top (wait.progress.within top
     (wait.prepared.within top (wait.prepared.closed.holds top is_top))) in
     let Count : ℕ → Type 0 = HasPriorities game (is_vertex game) in
     let same : 1 + k ≡ k + 1 = omega arith in
-    let levels : length tables.level ≡ vertex_count game = nest.sound.fits.levels in
-    subst Count same (HasPriorities-larger game (from tables.level 1) (is_vertex game) (1 + k)
+    subst Count same (HasPriorities-larger (is_vertex game)
     (λ v inside. lt-ltb v (vertex_count game) (elim (cases_lt v (length tables.level)) [
       | inl less ↦ omega arith
       | inr past ↦ (
-          let high : 1 ≤ get_or tables.level v 0 = from_at tables.level 1 v inside in
-          let none : get_or tables.level v 0 ≡ 0 = get_or_past tables.level v 0 past in
-          absurd (omega arith))
+          absurd (omega (arith, get_or_past tables.level v 0 past, from_at tables.level 1 v inside)))
     ]))
-    (chain game tables winner order frames k 1 (λ i less. nest.waits i (omega arith)) one))
+    (chain tables winner order frames k (λ i less. nest.waits i (omega arith)) one))
 
 -- ## The depth so far
 
@@ -71,18 +67,18 @@ depth_start game levels unplaced =
     }
 
 -- what is known stays
-depth_stays : (game : ParityGame) (levels : List ℕ) (calls : ℕ) (solved : Bool) (depth : ℕ) → IsDepth game depth →
+depth_stays : {game : ParityGame} (levels : List ℕ) (calls : ℕ) (solved : Bool) {depth : ℕ} → IsDepth game depth →
     IsDepthSoFar game levels calls solved depth
-depth_stays game levels calls solved depth is_depth = record {
+depth_stays levels calls solved is_depth = record {
   most = is_depth.most;
   some = λ v is_vertex. inl (is_depth.some v is_vertex);
   two = λ set closed v is_vertex outside. inl (is_depth.two set closed v is_vertex outside);
 }
 
 -- a call has its answer
-pub depth_solved : (game : ParityGame) (levels : List ℕ) (calls : ℕ) (solved : Bool) (depth : ℕ) → solved ≡ true →
+pub depth_solved : {game : ParityGame} {levels : List ℕ} {calls : ℕ} {solved : Bool} {depth : ℕ} → solved ≡ true →
     IsDepthSoFar game levels calls solved depth → IsDepth game depth
-depth_solved game levels calls solved depth is_solved so_far =
+depth_solved {solved} is_solved so_far =
     let not_yet = λ (unsolved : solved ≡ false). (let h : ⊥ = false≢true (sym unsolved ∙ is_solved) in h) in
     record {
       most = so_far.most;
@@ -100,28 +96,29 @@ depth_solved game levels calls solved depth is_solved so_far =
     }
 
 -- the last call that waited has its answer, or goes on
-pub depth_climbs : (game : ParityGame) (levels now : List ℕ) (calls left : ℕ) (solved is : Bool) (depth : ℕ) →
-    solved ≡ true → IsDepthSoFar game levels calls solved depth → IsDepthSoFar game now left is depth
-depth_climbs game levels now calls left solved is depth is_solved so_far =
-    depth_stays game now left is depth (depth_solved game levels calls solved depth is_solved so_far)
+pub depth_climbs : {game : ParityGame} {levels : List ℕ} (now : List ℕ) {calls : ℕ} (left : ℕ) {solved : Bool}
+    (is : Bool) {depth : ℕ} → solved ≡ true → IsDepthSoFar game levels calls solved depth →
+    IsDepthSoFar game now left is depth
+depth_climbs {game} {levels} now {calls} left {solved} is {depth} is_solved so_far =
+    depth_stays now left is (depth_solved is_solved so_far)
 
-pub depth_kept : (game : ParityGame) (levels now : List ℕ) (calls left : ℕ) (solved is : Bool) (depth deep : ℕ) →
-    deep ≡ depth → solved ≡ true → IsDepthSoFar game levels calls solved depth → IsDepthSoFar game now left is deep
-depth_kept game levels now calls left solved is depth deep same is_solved so_far =
+pub depth_kept : {game : ParityGame} {levels : List ℕ} (now : List ℕ) {calls : ℕ} (left : ℕ) {solved : Bool} (is : Bool)
+    {depth : ℕ} (deep : ℕ) → deep ≡ depth → solved ≡ true → IsDepthSoFar game levels calls solved depth →
+    IsDepthSoFar game now left is deep
+depth_kept {game} {levels} now {calls} left {solved} is {depth} deep same is_solved so_far =
     let Deep : ℕ → Type 0 = IsDepthSoFar game now left is in
-    subst Deep (sym same) (depth_climbs game levels now calls left solved is depth is_solved so_far)
+    subst Deep (sym same) (depth_climbs now left is is_solved so_far)
 
 -- nothing is left to the present call
-pub depth_done : (game : ParityGame) (tables : TablesData) (winner order : List ℕ) (frames : List Frame) (cursor : ℕ)
-    (solved : Bool) (depth : ℕ) → IsNest game tables winner order frames cursor true →
-    IsDepthSoFar game tables.level (length frames) solved depth
-    → IsDepthSoFar game tables.level (length frames) true depth
-depth_done game tables winner order frames cursor solved depth nest so_far =
+pub depth_done : {game : ParityGame} {tables : TablesData} {winner order : List ℕ} {frames : List Frame} {cursor : ℕ}
+    {solved : Bool} {depth : ℕ} → IsNest game tables winner order frames cursor true →
+    IsDepthSoFar game tables.level (length frames) solved depth →
+    IsDepthSoFar game tables.level (length frames) true depth
+depth_done {game} {tables} {frames} {depth} nest so_far =
     let answer = nest.done refl in
     let placed =
-    λ (v : ℕ) (unplaced : level_of tables v ≡ UNPLACED). (let below : level_of tables v < UNPLACED = answer.placed v
-    in let h : ⊥ = omega arith in h) in
-    depth_stays game tables.level (length frames) true depth (record {
+    λ (v : ℕ) (unplaced : level_of tables v ≡ UNPLACED). (let h : ⊥ = omega (arith, answer.placed v) in h) in
+    depth_stays tables.level (length frames) true (record {
       most = so_far.most;
       some = λ v is_vertex. elim (so_far.some v is_vertex) [
         | inl one ↦ one
@@ -137,17 +134,16 @@ depth_done game tables winner order frames cursor solved depth nest so_far =
     })
 
 -- a turn begins
-pub depth_begun : (b : Begun) (frames : List Frame) (cursor : ℕ) (solved : Bool) (depth deeper : ℕ) →
+pub depth_begun : (b : Begun) {frames : List Frame} {cursor : ℕ} {solved : Bool} {depth : ℕ} (deeper : ℕ) →
     length frames ≡ b.depth + 1 → solved ≡ false → deeper ≡ max depth (length frames) →
-    IsNest b.game b.new b.winner_now b.order frames cursor solved
-    → IsDepthSoFar b.game b.old.level b.depth solved depth → IsDepthSoFar b.game b.new.level
-    (length frames) solved deeper
-depth_begun b frames cursor solved depth deeper calls unsolved greater nest so_far =
+    IsNest b.game b.new b.winner_now b.order frames cursor solved →
+    IsDepthSoFar b.game b.old.level b.depth solved depth → IsDepthSoFar b.game b.new.level (length frames) solved deeper
+depth_begun b {frames} {cursor} {solved} {depth} deeper calls unsolved greater nest so_far =
     let Count : ℕ → Type 0 = HasPriorities b.game (is_vertex b.game) in
     record {
       most = elim (cases_lt depth (length frames)) [
         | inl less ↦ (let same : b.depth + 1 ≡ deeper = omega arith in
-            subst Count same (nest_priorities b.game b.new b.winner_now b.order frames cursor solved
+            subst Count same (nest_priorities
             b.depth calls nest))
         | inr more ↦ (let same : depth ≡ deeper = omega arith in subst Count same so_far.most)
       ];
@@ -160,9 +156,9 @@ depth_begun b frames cursor solved depth deeper calls unsolved greater nest so_f
             | inl fresh ↦ inr (inr (record {
               one = omega arith;
               unsolved = unsolved;
-              unplaced = begun_left b set v fresh.none fresh.unplaced closed is_vertex outside;
+              unplaced = begun_left b v fresh.none fresh.unplaced closed is_vertex outside;
             }))
-            | inr second ↦ (let again : b.depth ≡ 1 = second.one in absurd (omega arith))
+            | inr second ↦ absurd (omega arith)
           ]
         ]
       ];

@@ -23,7 +23,7 @@ unfolding drop_at
 length-drop_at [] k within = absurd (omega arith)
 length-drop_at (x ∷ xs) zero within = omega arith
 length-drop_at (x ∷ xs) (suc k) within =
-    let shorter : length (drop_at xs k) + 1 ≡ length xs = length-drop_at xs k (omega arith) in omega arith
+    omega (arith, length-drop_at xs k (omega arith))
 
 Contains-drop_at : (xs : List ℕ) (k x j : ℕ) → j < length xs → get_or xs j x ≡ x → (get_or xs k x ≡ x → ⊥) →
     Contains (drop_at xs k) x
@@ -43,53 +43,51 @@ one_priority game set v inside = record {
 }
 
 -- a larger set has no fewer
-pub HasPriorities-larger : (game : ParityGame) (smaller larger : ℕ → Bool) (n : ℕ) → IsWithin smaller larger →
-    HasPriorities game smaller n → HasPriorities game larger n
-HasPriorities-larger game smaller larger n within has_n = record {
+pub HasPriorities-larger : {game : ParityGame} {smaller : ℕ → Bool} (larger : ℕ → Bool) {n : ℕ} →
+    IsWithin smaller larger → HasPriorities game smaller n → HasPriorities game larger n
+HasPriorities-larger larger within has_n = record {
   many = λ list all. has_n.many list (λ v inside. all v (within v inside));
 }
 
 -- one more than a part without one of its priorities
-HasPriorities-more : (game : ParityGame) (smaller larger : ℕ → Bool) (n top : ℕ) → IsWithin smaller larger →
-    IsTrue (larger top) → ((v : ℕ) → IsTrue (smaller v) → priority_of game v ≢ priority_of game top) →
-    HasPriorities game smaller n → HasPriorities game larger (n + 1)
-HasPriorities-more game smaller larger n top within inside differ has_n = record {
+HasPriorities-more : {game : ParityGame} {smaller : ℕ → Bool} (larger : ℕ → Bool) {n : ℕ} (top : ℕ) →
+    IsWithin smaller larger → IsTrue (larger top) → ((v : ℕ) → IsTrue (smaller v) →
+    priority_of game v ≢ priority_of game top) → HasPriorities game smaller n → HasPriorities game larger (n + 1)
+HasPriorities-more {game} larger {n} top within inside differ has_n = record {
   many = λ list all. (
       let found = all top inside in
       let d : ℕ = priority_of game top in
       let is_there : found.0 < length list = found.1 in
-      let shorter : length (drop_at list found.0) + 1 ≡ length list = length-drop_at list found.0 is_there in
       let fewer : n ≤ length (drop_at list found.0) = has_n.many (drop_at list found.0) (λ v in_smaller.
       let here = all v (within v in_smaller) in
       Contains-drop_at list found.0 (priority_of game v) here.0 here.1 here.2
       (λ same. differ v in_smaller (sym same ∙ get_or_default list found.0 (priority_of game v) d is_there ∙ found.2)))
       in
-      omega arith);
+      omega (arith, length-drop_at list found.0 is_there));
 }
 
 -- the rest of a turn has fewer priorities
-pub HasPriorities-turned : (game : ParityGame) (open_part rest : ℕ → Bool) (player : ℕ) (win : ℕ → ℕ)
-    (table : ℕ → Option ℕ) (n : ℕ) → IsTurned game open_part rest player win table → HasPriorities game rest n →
+pub HasPriorities-turned : {game : ParityGame} {open_part rest : ℕ → Bool} {player : ℕ} {win : ℕ → ℕ}
+    {table : ℕ → Option ℕ} {n : ℕ} → IsTurned game open_part rest player win table → HasPriorities game rest n →
     HasPriorities game open_part (n + 1)
-HasPriorities-turned game open_part rest player win table n turned has_n =
+HasPriorities-turned {game} {open_part} {rest} {n} turned has_n =
     let (top, is_top, greatest) = turned.some_top in
-    HasPriorities-more game rest open_part n top turned.left.within (turned.within top (turned.closed.holds top is_top))
+    HasPriorities-more open_part top turned.left.within (turned.within top (turned.closed.holds top is_top))
     (λ v inside same. turned.left.outside v inside (turned.closed.holds v
     (turned.all_top v (turned.left.within v inside) (same ∙ greatest)))) has_n
 
 -- what such a set leaves out, a turn leaves to be solved whose tops are just the vertices of the greatest priority
-pub left_out : (game : ParityGame) (whole rest set : ℕ → Bool) (player : ℕ) (win : ℕ → ℕ) (table : ℕ → Option ℕ) (v : ℕ)
-    → ((u : ℕ) → u < vertex_count game → IsTrue (whole u)) → ((u : ℕ) → IsTrue (whole u) → u < vertex_count game)
-    → (turned : IsTurned game whole rest player win table) →
-    ((u : ℕ) → IsTrue (turned.tops u) → priority_of game u ≡ turned.greatest) → IsClosedToTops game set →
-    v < vertex_count game → ¬ IsTrue (set v) → IsTrue (rest v)
-left_out game whole rest set player win table v all only turned just tops below outside =
+pub left_out : {game : ParityGame} {whole rest set : ℕ → Bool} {player : ℕ} {win : ℕ → ℕ} {table : ℕ → Option ℕ} (v : ℕ)
+    → ((u : ℕ) → u < vertex_count game → IsTrue (whole u)) → ((u : ℕ) → IsTrue (whole u) → u < vertex_count game) →
+    (turned : IsTurned game whole rest player win table) → ((u : ℕ) → IsTrue (turned.tops u) →
+    priority_of game u ≡ turned.greatest) → IsClosedToTops game set → v < vertex_count game → ¬ IsTrue (set v) →
+    IsTrue (rest v)
+left_out {game} {whole} {set} {player} {table} v all only turned just tops below outside =
     let (top, is_top, top_is) = turned.some_top in
     let top_inside : IsTrue (whole top) = turned.within top (turned.closed.holds top is_top) in
-    let top_below : priority_of game top ≤ tops.greatest = tops.is_greatest.bounds top (only top top_inside) in
     let (great, great_vertex, great_is) = tops.is_greatest.stands in
-    let great_below : priority_of game great ≤ turned.greatest = turned.most great (all great great_vertex) in
-    let same : turned.greatest ≡ tops.greatest = omega arith in
+    let same : turned.greatest ≡ tops.greatest =
+    omega (arith, turned.most great (all great great_vertex), tops.is_greatest.bounds top (only top top_inside)) in
     let parity : player ≡ tops.greatest % 2 = sym turned.parity ∙ ap (λ n. n % 2) same in
     let to_vertex = λ (u w : ℕ) (leads : LeadsInto game whole u w). (
     let there : LeadsInto game (is_vertex game) u w =
@@ -101,14 +99,11 @@ left_out game whole rest set player win table v all only turned just tops below 
       holds = λ u is_top. (
           let is_vertex : u < vertex_count game = only u (turned.within u (turned.closed.holds u is_top)) in
           tops.closed.holds u ((tops.is_target u is_vertex).1 (just u is_top ∙ same)));
-      own =
-          λ u w inside owns leads in_set. tops.closed.own u w (lt-ltb u (vertex_count game) (only u inside))
+      own = λ u w inside owns leads in_set. tops.closed.own u w (lt-ltb u (vertex_count game) (only u inside))
           (owns ∙ parity) (to_vertex u w leads) in_set;
-      other =
-          λ u inside others leads. tops.closed.other u (lt-ltb u (vertex_count game) (only u inside))
+      other = λ u inside others leads. tops.closed.other u (lt-ltb u (vertex_count game) (only u inside))
           (λ owns. others (owns ∙ sym parity)) (λ w on. leads w (to_whole u w on));
     } in
     let least : IsWithin turned.attracted set =
-    falls_least game whole player turned.tops turned.attracted table turned.rank turned.within
-    turned.falls set closed in
+    falls_least turned.within turned.falls set closed in
     turned.left.all v (all v below) (λ pulled. outside (least v pulled))

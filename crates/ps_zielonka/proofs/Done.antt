@@ -12,11 +12,11 @@ use Rattle.ps_zielonka.proofs.Forms.{progress_end}
 use Rattle.ps_zielonka.proofs.Sets.{from_at, to_from}
 
 -- where the order has no unplaced vertex behind the cursor, none is left
-none_left : (game : ParityGame) (tables : TablesData) (winner order : List ℕ) (a cursor : ℕ) →
-    IsSoundBoard game tables winner order → Searches game tables winner order a cursor
-    → ((j : ℕ) → cursor ≤ j → j < length order → level_of tables (get_or order j 0) ≢ UNPLACED) → (v : ℕ) →
+none_left : {game : ParityGame} {tables : TablesData} {winner order : List ℕ} {a cursor : ℕ} →
+    IsSoundBoard game tables winner order → Searches game tables winner order a cursor →
+    ((j : ℕ) → cursor ≤ j → j < length order → level_of tables (get_or order j 0) ≢ UNPLACED) → (v : ℕ) →
     a + 2 ≤ level_of tables v → ⊥
-none_left game tables winner order a cursor sound searches placed v high =
+none_left {tables} {order} {a} {cursor} sound searches placed v high =
     let (j, within, is) = sound.is_order.all v (searches.alive.vertices v (to_from tables.level (a + 2) v high)) in
     let same : level_of tables (get_or order j 0) ≡ level_of tables v = ap (λ x. level_of tables x) is in
     elim (cases_lt j cursor) [
@@ -24,26 +24,21 @@ none_left game tables winner order a cursor sound searches placed v high =
       | inr more ↦ placed j more within (same ∙ searches.unplaced v high)
     ]
 
-pub done_nest : (game : ParityGame) (tables : TablesData) (winner order : List ℕ) (frames : List Frame) (cursor : ℕ)
-    (solved : Bool) → solved ≡ false → IsNest game tables winner order frames cursor solved
-    → ((j : ℕ) → cursor ≤ j → j < length order → level_of tables (get_or order j 0) ≢ UNPLACED) →
+pub done_nest : {game : ParityGame} {tables : TablesData} {winner order : List ℕ} {frames : List Frame} {cursor : ℕ}
+    {solved : Bool} → solved ≡ false → IsNest game tables winner order frames cursor solved →
+    ((j : ℕ) → cursor ≤ j → j < length order → level_of tables (get_or order j 0) ≢ UNPLACED) →
     IsNest game tables winner order frames cursor true
-done_nest game tables winner order frames cursor solved unsolved nest placed =
+done_nest {game} {tables} {winner} {order} {frames} {cursor} {solved} unsolved nest placed =
     let a : ℕ = 2 * length frames in
     let searches = nest.searches unsolved in
-    let none = none_left game tables winner order a cursor nest.sound searches placed in
-    let room : a + 2 * size_from (a + 1) tables.level ≤ 2 * length tables.level = searches.room in
-    let levels : length tables.level ≡ vertex_count game = nest.sound.fits.levels in
-    let high : 2 * vertex_count game + 4 ≤ UNPLACED = nest.sound.high in
+    let none = none_left nest.sound searches placed in
     record {
       sound = nest.sound;
       waits = nest.waits;
       rises = nest.rises;
       searches = λ is. absurd (false≢true (sym is));
       done = λ is. record {
-        solved =
-            progress_end game (from tables.level (a + 1)) (from tables.level (a + 2)) (winner_of winner)
-            (moves_of tables) (λ v inside. none v (from_at tables.level (a + 2) v inside)) searches.progress;
+        solved = progress_end (λ v inside. none v (from_at tables.level (a + 2) v inside)) searches.progress;
         placed = λ v. elim (cases_lt (level_of tables v) UNPLACED) [
           | inl less ↦ less
           | inr more ↦ absurd (none v (omega arith))
@@ -52,10 +47,10 @@ done_nest game tables winner order frames cursor solved unsolved nest placed =
     }
 
 -- no call waits any more
-pub solved_by : (game : ParityGame) (tables : TablesData) (winner order : List ℕ) (frames : List Frame) (cursor : ℕ)
-    (solved : Bool) → solved ≡ true → length frames ≡ 0 → IsNest game tables winner order frames cursor solved →
+pub solved_by : {game : ParityGame} {tables : TablesData} {winner order : List ℕ} {frames : List Frame} {cursor : ℕ}
+    {solved : Bool} → solved ≡ true → length frames ≡ 0 → IsNest game tables winner order frames cursor solved →
     IsSolvedBy game tables winner
-solved_by game tables winner order frames cursor solved is_done empty nest =
+solved_by {game} {tables} {winner} {solved} is_done empty nest =
     let Answer : ℕ → Type 0 = λ k. HasAnswer game tables winner (2 * k) in
     let answer = subst Answer empty (nest.done is_done) in
     record {

@@ -17,41 +17,38 @@ progress_start game subgame open_part win table smaller larger = record {
   within = smaller;
   winners = λ v inside decided. absurd (decided (larger v inside));
   away = λ v w from edge inside decided. absurd (decided (larger w inside));
-  held =
-      λ player set is_player is_won. HoldsWithin-none game subgame player set table
+  held = λ player set is_player is_won. HoldsWithin-none game subgame player set table
       (λ v inside. is_won.decided v inside (larger v (is_won.within v inside)));
 }
 
 -- nothing is open any more
-pub progress_end : (game : ParityGame) (subgame open_part : ℕ → Bool) (win : ℕ → ℕ) (table : ℕ → Option ℕ) →
+pub progress_end : {game : ParityGame} {subgame open_part : ℕ → Bool} {win : ℕ → ℕ} {table : ℕ → Option ℕ} →
     ((v : ℕ) → ¬ IsTrue (open_part v)) → Progress game subgame open_part win table → Solved game subgame win table
-progress_end game subgame open_part win table none progress = Solved-done game subgame open_part win table progress none
+progress_end none progress = Solved-done progress none
 
 -- only what is decided matters
-pub progress_same : (game : ParityGame) (subgame open_part : ℕ → Bool) (win win_now : ℕ → ℕ)
-    (table table_now : ℕ → Option ℕ) → ((v : ℕ) → IsTrue (subgame v) → ¬ IsTrue (open_part v) → win_now v ≡ win v) →
-    ((v : ℕ) → IsTrue (subgame v) → ¬ IsTrue (open_part v) → table_now v ≡ table v) →
+pub progress_same : {game : ParityGame} {subgame open_part : ℕ → Bool} {win : ℕ → ℕ} (win_now : ℕ → ℕ)
+    {table : ℕ → Option ℕ} (table_now : ℕ → Option ℕ) → ((v : ℕ) → IsTrue (subgame v) → ¬ IsTrue (open_part v) →
+    win_now v ≡ win v) → ((v : ℕ) → IsTrue (subgame v) → ¬ IsTrue (open_part v) → table_now v ≡ table v) →
     Progress game subgame open_part win table → Progress game subgame open_part win_now table_now
 progress_same = Progress-same
 
 -- a turn after which nothing more is lost: at each vertex of the greatest priority the player stays in what it wins
-pub frame_kept : (game : ParityGame) (subgame open_part rest : ℕ → Bool) (player : ℕ) (win : ℕ → ℕ)
-    (table : ℕ → Option ℕ) → IsGame game → IsSubgame game open_part → Progress game subgame open_part win table →
+pub frame_kept : {game : ParityGame} {subgame open_part rest : ℕ → Bool} {player : ℕ} {win : ℕ → ℕ}
+    {table : ℕ → Option ℕ} → IsGame game → IsSubgame game open_part → Progress game subgame open_part win table →
     (turned : IsTurned game open_part rest player win table) → Solved game rest win table →
     ((v : ℕ) → IsTrue (turned.tops v) → owner_of game v ≡ player →
     IsSomeAnd (table v) (λ w. HasEdge game v w × IsTrue (open_part w) × (win w ≡ player))) →
     ((v w : ℕ) → IsTrue (turned.tops v) → owner_of game v ≢ player → HasEdge game v w → IsTrue (open_part w) →
     win w ≡ player) → Solved game subgame win table
-frame_kept game subgame open_part rest player win table is_game alive progress turned solved own edges =
-    let parity : turned.greatest % 2 ≡ player = turned.parity in
+frame_kept {game} {subgame} {open_part} {rest} {player} {win} {table} is_game alive progress turned solved own edges =
     let is_player : player < 2 = omega arith in
     let lost : ℕ → Bool = won_by rest win (1 - player) in
     let is_won : IsWon rest nothing win (1 - player) lost = IsWon-won_by rest win (1 - player) in
     let parted : IsWithout open_part lost (without open_part lost) = IsWithout-without open_part lost in
-    let not_lost =
-    λ (w : ℕ) (wins : win w ≡ player) (there : IsTrue (lost w)).
-    (let loses : win w ≡ 1 - player = is_won.won w there in let h : ⊥ = omega arith in h) in
-    Solved-kept game subgame open_part rest lost (without open_part lost) win table player (1 - player) is_game
+    let not_lost = λ (w : ℕ) (wins : win w ≡ player) (there : IsTrue (lost w)).
+    (let h : ⊥ = omega (arith, is_won.won w there) in h) in
+    Solved-kept is_game
     is_player (omega arith) (λ same. omega arith) turned is_won solved parted
     (λ v top owns. some_more (λ w. HasEdge game v w × IsTrue (open_part w) × (win w ≡ player))
     (LeadsInto game (without open_part lost) v) (table v)
@@ -61,8 +58,8 @@ frame_kept game subgame open_part rest player win table is_game alive progress t
     progress
 
 -- the other player attracts to what it won of the rest, and that is decided
-pub frame_goes_on : (game : ParityGame) (subgame open_part rest lost gone left : ℕ → Bool) (player : ℕ)
-    (win win_now : ℕ → ℕ) (table table_now : ℕ → Option ℕ) (rank : ℕ → ℕ) → IsGame game → IsSubgame game open_part →
+pub frame_goes_on : {game : ParityGame} {subgame open_part rest lost gone left : ℕ → Bool} {player : ℕ} {win : ℕ → ℕ}
+    (win_now : ℕ → ℕ) {table table_now : ℕ → Option ℕ} {rank : ℕ → ℕ} → IsGame game → IsSubgame game open_part →
     Progress game subgame open_part win table → IsTurned game open_part rest player win table →
     Solved game rest win table → ((v : ℕ) → IsTrue (lost v) → IsTrue (open_part v) × (win v ≢ player)) →
     ((v : ℕ) → IsTrue (open_part v) → win v ≢ player → IsTrue (lost v)) →
@@ -71,14 +68,12 @@ pub frame_goes_on : (game : ParityGame) (subgame open_part rest lost gone left :
     ((v : ℕ) → IsTrue (subgame v) → ¬ IsTrue (open_part v) → win_now v ≡ win v) →
     ((v : ℕ) → IsTrue (lost v) → table_now v ≡ table v) → ((v : ℕ) → IsTrue (subgame v) → ¬ IsTrue (open_part v) →
     table_now v ≡ table v) → Progress game subgame left win_now table_now
-frame_goes_on game subgame open_part rest lost gone left player win win_now table table_now rank is_game alive progress
-    turned solved lost_is is_lost attracted within parted given same_win same_lost same_table =
-    let parity : turned.greatest % 2 ≡ player = turned.parity in
+frame_goes_on {rest} {lost} {left} {player} {win} win_now {table_now} is_game alive progress turned solved lost_is
+    is_lost attracted within parted given same_win same_lost same_table =
     let is_player : player < 2 = omega arith in
     let is_other : 1 - player < 2 = omega arith in
     let differ : 1 - player ≢ player = λ same. omega arith in
-    let in_rest =
-    λ (v : ℕ) (there : IsTrue (lost v)). elim (in_part_or_rest open_part turned.attracted rest turned.left v
+    let in_rest = λ (v : ℕ) (there : IsTrue (lost v)). elim (in_part_or_rest turned.left v
     (lost_is v there).0) as (λ _. IsTrue (rest v)) [
       | inl pulled ↦ absurd ((lost_is v there).1 (turned.given v pulled))
       | inr left ↦ left
@@ -92,17 +87,16 @@ frame_goes_on game subgame open_part rest lost gone left player win win_now tabl
           omega arith);
       all = λ v inside decided wins. is_lost v (turned.left.within v inside) (λ same. differ (sym wins ∙ same));
     } in
-    Progress-attracted game subgame open_part lost gone left win_now table_now (1 - player) rank is_game is_other
+    Progress-attracted is_game is_other
     attracted within parted given
-    (HoldsWithin-same game open_part (1 - player) lost lost table table_now (λ v there. there) (λ v there. there)
+    (HoldsWithin-same lost table_now (λ v there. there) (λ v there. there)
     (λ v there owns. same_lost v there)
-    (lost_held game open_part rest lost win table player (1 - player) is_game is_player is_other differ turned
+    (lost_held is_game is_player is_other differ turned
     is_won solved))
-    (Progress-same game subgame open_part win win_now table table_now same_win same_table progress)
+    (Progress-same win_now table_now same_win same_table progress)
 
 -- what an attractor leaves is a subgame
-pub subgame_left : (game : ParityGame) (open_part target gone left : ℕ → Bool) (player : ℕ) (table : ℕ → Option ℕ)
-    (rank : ℕ → ℕ) → IsSubgame game open_part → IsAttracted game open_part player target gone table rank →
+pub subgame_left : {game : ParityGame} {open_part target gone left : ℕ → Bool} {player : ℕ} {table : ℕ → Option ℕ}
+    {rank : ℕ → ℕ} → IsSubgame game open_part → IsAttracted game open_part player target gone table rank →
     IsWithout open_part gone left → IsSubgame game left
-subgame_left game open_part target gone left player table rank alive attracted parted =
-    IsSubgame-left game open_part target gone left table player rank alive attracted parted
+subgame_left alive attracted parted = IsSubgame-left alive attracted parted

@@ -18,8 +18,7 @@ some_more P Q None more there = absurd there
 
 pub leads_more : (game : ParityGame) (set other : ℕ → Bool) (v : ℕ) → IsWithin set other → (move : Option ℕ) →
     IsSomeAnd move (LeadsInto game set v) → IsSomeAnd move (LeadsInto game other v)
-leads_more game set other v more move there =
-    some_more (LeadsInto game set v) (LeadsInto game other v) move
+leads_more game set other v more move there = some_more (LeadsInto game set v) (LeadsInto game other v) move
     (λ w leads. record { edge = leads.edge; inside = more w leads.inside }) there
 
 pub leads_down : (game : ParityGame) (subgame set : ℕ → Bool) (rank : ℕ → ℕ) (v : ℕ) (move : Option ℕ) →
@@ -34,19 +33,19 @@ pub not_in : (set : ℕ → Bool) (v : ℕ) → set v ≡ false → ¬ IsTrue (s
 not_in set v outside inside = false≢true (sym outside ∙ inside)
 
 -- the last place is the first one
-pub round_inside : (game : ParityGame) (player : ℕ) (set : ℕ → Bool) (table : ℕ → Option ℕ) (walk : ℕ → ℕ) (k : ℕ) →
+pub round_inside : {game : ParityGame} {player : ℕ} {set : ℕ → Bool} {table : ℕ → Option ℕ} {walk : ℕ → ℕ} {k : ℕ} →
     IsRound game player set table walk k → (t : ℕ) → t ≤ k → IsTrue (set (walk t))
-round_inside game player set table walk k round t within = elim (cases_eq t k) [
+round_inside {set} {walk} {k} round t within = elim (cases_eq t k) [
   | inl last ↦ (
       let begins : IsTrue (set (walk 0)) = round.inside 0 round.some in
       ap (λ n. set (walk n)) last ∙ ap set round.closes ∙ begins)
   | inr before ↦ round.inside t (omega arith)
 ]
 
-pub round_within : (game : ParityGame) (player : ℕ) (set other : ℕ → Bool) (table : ℕ → Option ℕ) (walk : ℕ → ℕ) (k : ℕ)
-    → IsRound game player set table walk k → ((t : ℕ) → t < k → IsTrue (other (walk t))) →
+pub round_within : {game : ParityGame} {player : ℕ} {set : ℕ → Bool} (other : ℕ → Bool) {table : ℕ → Option ℕ}
+    {walk : ℕ → ℕ} {k : ℕ} → IsRound game player set table walk k → ((t : ℕ) → t < k → IsTrue (other (walk t))) →
     IsRound game player other table walk k
-round_within game player set other table walk k round inside = record {
+round_within other round inside = record {
   some = round.some;
   closes = round.closes;
   inside = inside;
@@ -55,10 +54,10 @@ round_within game player set other table walk k round inside = record {
 }
 
 -- a step by the table from what is held within the subgame stays there
-pub held_step : (game : ParityGame) (subgame : ℕ → Bool) (player : ℕ) (set : ℕ → Bool) (table : ℕ → Option ℕ) →
+pub held_step : {game : ParityGame} {subgame : ℕ → Bool} {player : ℕ} {set : ℕ → Bool} {table : ℕ → Option ℕ} →
     HoldsWithin game subgame player set table → (v w : ℕ) → HasEdge game v w →
     (owner_of game v ≡ player → table v ≡ Some w) → IsTrue (subgame w) → IsTrue (set v) → IsTrue (set w)
-held_step game subgame player set table holds v w edge follows to from = elim (cases_eq (owner_of game v) player) [
+held_step {game} {player} {set} {table} holds v w edge follows to from = elim (cases_eq (owner_of game v) player) [
   | inl owns ↦ (
       let leads : LeadsInto game set v w =
       moved (LeadsInto game set v) (table v) w (holds.moves v from owns) (follows owns) in
@@ -67,21 +66,21 @@ held_step game subgame player set table holds v w edge follows to from = elim (c
 ]
 
 -- a round lies in what is held within the subgame, or beside it
-pub round_beside : (game : ParityGame) (subgame : ℕ → Bool) (player : ℕ) (set held : ℕ → Bool) (table : ℕ → Option ℕ)
-    (walk : ℕ → ℕ) (k : ℕ) → HoldsWithin game subgame player held table → IsWithin set subgame →
-    IsRound game player set table walk k
-    → ((t : ℕ) → t < k → IsTrue (held (walk t))) ⊎ ((t : ℕ) → t < k → held (walk t) ≡ false)
-round_beside game subgame player set held table walk k holds within round =
+pub round_beside : {game : ParityGame} {subgame : ℕ → Bool} {player : ℕ} {set held : ℕ → Bool} {table : ℕ → Option ℕ}
+    {walk : ℕ → ℕ} {k : ℕ} → HoldsWithin game subgame player held table → IsWithin set subgame →
+    IsRound game player set table walk k → ((t : ℕ) → t < k → IsTrue (held (walk t))) ⊎
+    ((t : ℕ) → t < k → held (walk t) ≡ false)
+round_beside {game} {subgame} {player} {set} {held} {table} {walk} {k} holds within round =
     all_or_none held walk k round.closes (λ t less from.
-    held_step game subgame player held table holds (walk t) (walk (t + 1)) (round.edges t less) (round.follows t less)
-    (within (walk (t + 1)) (round_inside game player set table walk k round (t + 1) (omega arith))) from)
+    held_step holds (walk t) (walk (t + 1)) (round.edges t less) (round.follows t less)
+    (within (walk (t + 1)) (round_inside round (t + 1) (omega arith))) from)
 
 -- in an attractor no round misses the target
-pub no_round_falls : (game : ParityGame) (subgame : ℕ → Bool) (player : ℕ) (target set : ℕ → Bool)
-    (table : ℕ → Option ℕ) (rank walk : ℕ → ℕ) (k : ℕ) → IsWithin set subgame →
-    Falls game subgame player target set table rank
-    → IsRound game player set table walk k → ((t : ℕ) → t < k → target (walk t) ≡ false) → ⊥
-no_round_falls game subgame player target set table rank walk k within falls round misses =
+pub no_round_falls : {game : ParityGame} {subgame : ℕ → Bool} {player : ℕ} {target set : ℕ → Bool}
+    {table : ℕ → Option ℕ} {rank walk : ℕ → ℕ} {k : ℕ} → IsWithin set subgame →
+    Falls game subgame player target set table rank → IsRound game player set table walk k →
+    ((t : ℕ) → t < k → target (walk t) ≡ false) → ⊥
+no_round_falls {game} {subgame} {player} {target} {set} {table} {rank} {walk} {k} within falls round misses =
     no_descent rank walk k round.some round.closes (λ t less.
     let from : IsTrue (set (walk t)) = round.inside t less in
     let outside : ¬ IsTrue (target (walk t)) = not_in target (walk t) (misses t less) in
@@ -91,7 +90,7 @@ no_round_falls game subgame player target set table rank walk k within falls rou
           (falls.own (walk t) from outside owns) (round.follows t less owns)
       | inr others ↦ falls.other (walk t) (walk (t + 1)) from outside others (record {
         edge = round.edges t less;
-        inside = within (walk (t + 1)) (round_inside game player set table walk k round (t + 1) (omega arith));
+        inside = within (walk (t + 1)) (round_inside round (t + 1) (omega arith));
       })
     ] in
     down.falls)
@@ -99,11 +98,11 @@ no_round_falls game subgame player target set table rank walk k within falls rou
 -- ## What is held
 
 -- the same set, with the same moves there
-pub HoldsWithin-same : (game : ParityGame) (subgame : ℕ → Bool) (player : ℕ) (set other : ℕ → Bool)
-    (table moves : ℕ → Option ℕ) → IsWithin set other → IsWithin other set →
-    ((v : ℕ) → IsTrue (set v) → owner_of game v ≡ player → moves v ≡ table v)
-    → HoldsWithin game subgame player set table → HoldsWithin game subgame player other moves
-HoldsWithin-same game subgame player set other table moves there back same holds = record {
+pub HoldsWithin-same : {game : ParityGame} {subgame : ℕ → Bool} {player : ℕ} {set : ℕ → Bool} (other : ℕ → Bool)
+    {table : ℕ → Option ℕ} (moves : ℕ → Option ℕ) → IsWithin set other → IsWithin other set →
+    ((v : ℕ) → IsTrue (set v) → owner_of game v ≡ player → moves v ≡ table v) →
+    HoldsWithin game subgame player set table → HoldsWithin game subgame player other moves
+HoldsWithin-same {game} {set} other {table} moves there back same holds = record {
   within = λ v inside. holds.within v (back v inside);
   moves = λ v inside owns. (
       let Leads : Option ℕ → Type 0 = λ move. IsSomeAnd move (LeadsInto game other v) in
@@ -120,15 +119,14 @@ HoldsWithin-same game subgame player set other table moves there back same holds
 }
 
 -- a larger subgame, in which the other player's edges lead nowhere else
-pub HoldsWithin-larger : (game : ParityGame) (smaller larger : ℕ → Bool) (player : ℕ) (set : ℕ → Bool)
-    (table : ℕ → Option ℕ) → IsWithin smaller larger
-    → ((v w : ℕ) → IsTrue (set v) → owner_of game v ≢ player → LeadsInto game larger v w → IsTrue (smaller w)) →
-    HoldsWithin game smaller player set table → HoldsWithin game larger player set table
-HoldsWithin-larger game smaller larger player set table within lands holds = record {
+pub HoldsWithin-larger : {game : ParityGame} {smaller : ℕ → Bool} (larger : ℕ → Bool) {player : ℕ} {set : ℕ → Bool}
+    {table : ℕ → Option ℕ} → IsWithin smaller larger → ((v w : ℕ) → IsTrue (set v) → owner_of game v ≢ player →
+    LeadsInto game larger v w → IsTrue (smaller w)) → HoldsWithin game smaller player set table →
+    HoldsWithin game larger player set table
+HoldsWithin-larger larger within lands holds = record {
   within = λ v inside. within v (holds.within v inside);
   moves = holds.moves;
-  stays =
-      λ v w inside others leads. holds.stays v w inside others (record
+  stays = λ v w inside others leads. holds.stays v w inside others (record
       { edge = leads.edge; inside = lands v w inside others leads });
   wins = holds.wins;
 }
@@ -144,16 +142,15 @@ HoldsWithin-none game subgame player set table none = record {
 }
 
 -- a set beside one that is held, where the other player's edges lead on in the smaller subgame or to the first set
-pub HoldsWithin-beside : (game : ParityGame) (smaller larger : ℕ → Bool) (player : ℕ) (first second set : ℕ → Bool)
-    (table : ℕ → Option ℕ) → IsWithin smaller larger
-    → IsWithin first set → IsWithin second set → ((v : ℕ) → IsTrue (set v) → IsTrue (first v) ⊎ IsTrue (second v))
-    → ((v w : ℕ) → IsTrue (second v) → owner_of game v ≢ player → LeadsInto game larger v w →
-    IsTrue (smaller w) ⊎ IsTrue (first w))
-    → HoldsWithin game larger player first table → HoldsWithin game smaller player second table →
-    HoldsWithin game larger player set table
-HoldsWithin-beside game smaller larger player first second set table less has_first has_second split lands holds also =
-    let within =
-    λ (v : ℕ) (inside : IsTrue (set v)). elim (split v inside) as (λ _. IsTrue (larger v))
+pub HoldsWithin-beside : {game : ParityGame} {smaller larger : ℕ → Bool} {player : ℕ} {first second : ℕ → Bool}
+    (set : ℕ → Bool) {table : ℕ → Option ℕ} → IsWithin smaller larger → IsWithin first set → IsWithin second set →
+    ((v : ℕ) → IsTrue (set v) → IsTrue (first v) ⊎ IsTrue (second v)) →
+    ((v w : ℕ) → IsTrue (second v) → owner_of game v ≢ player → LeadsInto game larger v w →
+    IsTrue (smaller w) ⊎ IsTrue (first w)) → HoldsWithin game larger player first table →
+    HoldsWithin game smaller player second table → HoldsWithin game larger player set table
+HoldsWithin-beside {game} {larger} {player} {first} {second} set {table} less has_first has_second split
+    lands holds also =
+    let within = λ (v : ℕ) (inside : IsTrue (set v)). elim (split v inside) as (λ _. IsTrue (larger v))
     [ inl one ↦ holds.within v one | inr two ↦ less v (also.within v two) ] in
     record {
       within = within;
@@ -168,23 +165,22 @@ HoldsWithin-beside game smaller larger player first second set table less has_fi
           | inr first ↦ has_first w first
         ]
       ];
-      wins =
-          λ walk k top round is_top. elim (round_beside game larger player set first table walk k holds within round) [
-            | inl all ↦ holds.wins walk k top (round_within game player set first table walk k round all) is_top
-            | inr none ↦ also.wins walk k top (round_within game player set second table walk k round
-                (λ t less. elim (split (walk t) (round.inside t less)) [
-                  | inl one ↦ absurd (not_in first (walk t) (none t less) one)
-                  | inr two ↦ two
-                ])) is_top
-          ];
+      wins = λ walk k top round is_top. elim (round_beside holds within round) [
+        | inl all ↦ holds.wins walk k top (round_within first round all) is_top
+        | inr none ↦ also.wins walk k top (round_within second round
+            (λ t less. elim (split (walk t) (round.inside t less)) [
+              | inl one ↦ absurd (not_in first (walk t) (none t less) one)
+              | inr two ↦ two
+            ])) is_top
+      ];
     }
 
 -- the attractor to a set that is held
-pub HoldsWithin-attracted : (game : ParityGame) (subgame : ℕ → Bool) (player : ℕ) (target set : ℕ → Bool)
-    (table : ℕ → Option ℕ) (rank : ℕ → ℕ) → IsWithin target set → IsWithin set subgame →
-    Falls game subgame player target set table rank
-    → HoldsWithin game subgame player target table → HoldsWithin game subgame player set table
-HoldsWithin-attracted game subgame player target set table rank has_target within falls holds = record {
+pub HoldsWithin-attracted : {game : ParityGame} {subgame : ℕ → Bool} {player : ℕ} {target set : ℕ → Bool}
+    {table : ℕ → Option ℕ} {rank : ℕ → ℕ} → IsWithin target set → IsWithin set subgame →
+    Falls game subgame player target set table rank → HoldsWithin game subgame player target table →
+    HoldsWithin game subgame player set table
+HoldsWithin-attracted {game} {subgame} {player} {target} {set} {table} {rank} has_target within falls holds = record {
   within = within;
   moves = λ v inside owns. elim (cases_Bool (target v)) [
     | inl there ↦ leads_more game target set v has_target (table v) (holds.moves v there owns)
@@ -197,24 +193,23 @@ HoldsWithin-attracted game subgame player target set table rank has_target withi
         falls.other v w inside (not_in target v outside) others leads in
         down.inside)
   ];
-  wins = λ walk k top round is_top. elim (round_beside game subgame player set target table walk k holds within round) [
-    | inl all ↦ holds.wins walk k top (round_within game player set target table walk k round all) is_top
-    | inr none ↦ absurd (no_round_falls game subgame player target set table rank walk k within falls round none)
+  wins = λ walk k top round is_top. elim (round_beside holds within round) [
+    | inl all ↦ holds.wins walk k top (round_within target round all) is_top
+    | inr none ↦ absurd (no_round_falls within falls round none)
   ];
 }
 
 -- a subgame where what is not in the attractor to some tops is held; these have priorities of the player's parity, each
 -- greater than those of the other parity
-pub HoldsWithin-all : (game : ParityGame) (subgame : ℕ → Bool) (player : ℕ) (tops set rest nested : ℕ → Bool)
-    (table : ℕ → Option ℕ) (rank : ℕ → ℕ)
-    → ((v w : ℕ) → IsTrue (tops v) → IsTrue (subgame w) → priority_of game w % 2 ≢ player →
-    priority_of game w < priority_of game v)
-    → ((v : ℕ) → IsTrue (tops v) → owner_of game v ≡ player → IsSomeAnd (table v) (LeadsInto game subgame v))
-    → IsWithin set subgame → Falls game subgame player tops set table rank
-    → ((v : ℕ) → IsTrue (subgame v) → IsTrue (set v) ⊎ IsTrue (rest v)) → IsWithin rest subgame →
+pub HoldsWithin-all : {game : ParityGame} {subgame : ℕ → Bool} {player : ℕ} {tops set rest nested : ℕ → Bool}
+    {table : ℕ → Option ℕ} {rank : ℕ → ℕ} → ((v w : ℕ) → IsTrue (tops v) → IsTrue (subgame w) →
+    priority_of game w % 2 ≢ player → priority_of game w < priority_of game v) →
+    ((v : ℕ) → IsTrue (tops v) → owner_of game v ≡ player → IsSomeAnd (table v) (LeadsInto game subgame v)) →
+    IsWithin set subgame → Falls game subgame player tops set table rank →
+    ((v : ℕ) → IsTrue (subgame v) → IsTrue (set v) ⊎ IsTrue (rest v)) → IsWithin rest subgame →
     HoldsWithin game nested player rest table → HoldsWithin game subgame player subgame table
-HoldsWithin-all game subgame player tops set rest nested table rank above top_moves within falls split rest_within
-    holds = record {
+HoldsWithin-all {game} {subgame} {player} {tops} {set} {rest} {table} {rank} above top_moves within falls split
+    rest_within holds = record {
       within = λ v inside. inside;
       moves = λ v inside owns. elim (split v inside) [
         | inl in_set ↦ elim (cases_Bool (tops v)) [
@@ -227,7 +222,6 @@ HoldsWithin-all game subgame player tops set rest nested table rank above top_mo
       stays = λ v w inside others leads. leads.inside;
       wins = λ walk k found round is_top. elim (some_or_none tops walk k) [
         | inl met ↦ (
-            let bounds : priority_of game (walk met.0) ≤ found = is_top.bounds met.0 met.1 in
             let (place, before, stands) = is_top.stands in
             elim (cases_eq (found % 2) player) [
               | inl same ↦ same
@@ -235,11 +229,10 @@ HoldsWithin-all game subgame player tops set rest nested table rank above top_mo
                   let below : priority_of game (walk place) < priority_of game (walk met.0) =
                   above (walk met.0) (walk place) met.2 (round.inside place before)
                   (λ same. other (ap (λ n. n % 2) (sym stands) ∙ same)) in
-                  absurd (omega arith))
+                  absurd (omega (arith, is_top.bounds met.0 met.1)))
             ])
         | inr none ↦ elim (all_or_none set walk k round.closes (λ t less from.
-            let step : IsTrue (subgame (walk (t + 1))) =
-            round_inside game player subgame table walk k round (t + 1) (omega arith) in
+            let step : IsTrue (subgame (walk (t + 1))) = round_inside round (t + 1) (omega arith) in
             let outside : ¬ IsTrue (tops (walk t)) = not_in tops (walk t) (none t less) in
             let down : LeadsDown game subgame set rank (walk t) (walk (t + 1)) =
             elim (cases_eq (owner_of game (walk t)) player) [
@@ -249,9 +242,8 @@ HoldsWithin-all game subgame player tops set rest nested table rank above top_mo
                   (record { edge = round.edges t less; inside = step })
             ] in
             down.inside)) [
-              | inl all ↦ absurd (no_round_falls game subgame player tops set table rank walk k within falls
-                  (round_within game player subgame set table walk k round all) none)
-              | inr out ↦ holds.wins walk k found (round_within game player subgame rest table walk k round
+              | inl all ↦ absurd (no_round_falls within falls (round_within set round all) none)
+              | inr out ↦ holds.wins walk k found (round_within rest round
                   (λ t less. elim (split (walk t) (round.inside t less)) [
                     | inl in_set ↦ absurd (not_in set (walk t) (out t less) in_set)
                     | inr in_rest ↦ in_rest

@@ -17,10 +17,10 @@ to_keeps : (rest lost : ℕ → Bool) (v : ℕ) → IsTrue (rest v) → ¬ IsTru
 to_keeps rest lost v inside outside = let split = IsWithout-without rest lost in split.all v inside outside
 
 -- what the player wins of the rest is what the other one does not
-pub IsWon-without : (game : ParityGame) (rest lost : ℕ → Bool) (win : ℕ → ℕ) (table : ℕ → Option ℕ) (player other : ℕ) →
-    player < 2 → other < 2 → other ≢ player
-    → IsWon rest nothing win other lost → Solved game rest win table → IsWon rest nothing win player (without rest lost)
-IsWon-without game rest lost win table player other is_player is_other differ is_won solved = record {
+pub IsWon-without : (game : ParityGame) {rest lost : ℕ → Bool} {win : ℕ → ℕ} (table : ℕ → Option ℕ) (player : ℕ)
+    {other : ℕ} → player < 2 → other < 2 → other ≢ player → IsWon rest nothing win other lost →
+    Solved game rest win table → IsWon rest nothing win player (without rest lost)
+IsWon-without game {rest} {lost} {win} table player {other} is_player is_other differ is_won solved = record {
   within = λ v inside. (kept_of rest lost v inside).0;
   decided = λ v inside h. false≢true h;
   won = λ v inside. (
@@ -32,17 +32,17 @@ IsWon-without game rest lost win table player other is_player is_other differ is
 }
 
 -- where no vertex of the other player at the greatest priority leads to what was lost, no other one does
-none_to_lost : (game : ParityGame) (open_part rest lost left : ℕ → Bool) (win : ℕ → ℕ) (table : ℕ → Option ℕ)
-    (player other : ℕ) → player < 2 → other < 2 → other ≢ player
-    → (turned : IsTurned game open_part rest player win table) → IsWon rest nothing win other lost →
-    Solved game rest win table → IsWithout open_part lost left
-    → ((v w : ℕ) → IsTrue (turned.tops v) → owner_of game v ≢ player → HasEdge game v w → ¬ IsTrue (lost w))
-    → (v w : ℕ) → IsTrue (left v) → owner_of game v ≡ other → HasEdge game v w → ¬ IsTrue (lost w)
-none_to_lost game open_part rest lost left win table player other is_player is_other differ turned is_won solved parted
-    top_edges v w still owns edge there =
+none_to_lost : {game : ParityGame} {open_part rest lost left : ℕ → Bool} {win : ℕ → ℕ} {table : ℕ → Option ℕ}
+    {player other : ℕ} → player < 2 → other < 2 → other ≢ player →
+    (turned : IsTurned game open_part rest player win table) → IsWon rest nothing win other lost →
+    Solved game rest win table → IsWithout open_part lost left →
+    ((v w : ℕ) → IsTrue (turned.tops v) → owner_of game v ≢ player → HasEdge game v w → ¬ IsTrue (lost w)) → (v w : ℕ) →
+    IsTrue (left v) → owner_of game v ≡ other → HasEdge game v w → ¬ IsTrue (lost w)
+none_to_lost {game} {open_part} {rest} {lost} {win} {table} {player} {other} is_player is_other differ turned is_won
+    solved parted top_edges v w still owns edge there =
     let others : owner_of game v ≢ player = λ same. differ (sym owns ∙ same) in
     let in_rest : IsTrue (rest w) = is_won.within w there in
-    elim (in_part_or_rest open_part turned.attracted rest turned.left v (parted.within v still)) [
+    elim (in_part_or_rest turned.left v (parted.within v still)) [
       | inl pulled ↦ elim (cases_Bool (turned.tops v)) [
         | inl top ↦ top_edges v w top others edge there
         | inr below ↦ (
@@ -52,7 +52,7 @@ none_to_lost game open_part rest lost left win table player other is_player is_o
             turned.left.outside w in_rest down.inside)
       ]
       | inr from ↦ (
-          let kept_won = IsWon-without game rest lost win table player other is_player is_other differ is_won solved in
+          let kept_won = IsWon-without game table player is_player is_other differ is_won solved in
           let kept : HoldsWithin game rest player (without rest lost) table =
           solved.held player (without rest lost) is_player kept_won in
           let stays : IsTrue (without rest lost w) =
@@ -61,42 +61,36 @@ none_to_lost game open_part rest lost left win table player other is_player is_o
           (kept_of rest lost w stays).1 there)
     ]
 
-pub Solved-kept : (game : ParityGame) (subgame open_part rest lost left : ℕ → Bool) (win : ℕ → ℕ) (table : ℕ → Option ℕ)
-    (player other : ℕ) → IsGame game → player < 2 → other < 2 → other ≢ player
-    → (turned : IsTurned game open_part rest player win table) → IsWon rest nothing win other lost →
-    Solved game rest win table → IsWithout open_part lost left
-    → ((v : ℕ) → IsTrue (turned.tops v) → owner_of game v ≡ player → IsSomeAnd (table v) (LeadsInto game left v))
-    → ((v w : ℕ) → IsTrue (turned.tops v) → owner_of game v ≢ player → HasEdge game v w → ¬ IsTrue (lost w))
-    → Progress game subgame open_part win table → Solved game subgame win table
-Solved-kept game subgame open_part rest lost left win table player other is_game is_player is_other differ turned is_won
-    solved parted top_moves top_edges progress =
-    let lost_left : Progress game subgame left win table =
-    Progress-taken game subgame open_part lost left win table other is_game is_other parted
+pub Solved-kept : {game : ParityGame} {subgame open_part rest lost left : ℕ → Bool} {win : ℕ → ℕ} {table : ℕ → Option ℕ}
+    {player other : ℕ} → IsGame game → player < 2 → other < 2 → other ≢ player →
+    (turned : IsTurned game open_part rest player win table) → IsWon rest nothing win other lost →
+    Solved game rest win table → IsWithout open_part lost left →
+    ((v : ℕ) → IsTrue (turned.tops v) → owner_of game v ≡ player → IsSomeAnd (table v) (LeadsInto game left v)) →
+    ((v w : ℕ) → IsTrue (turned.tops v) → owner_of game v ≢ player → HasEdge game v w → ¬ IsTrue (lost w)) →
+    Progress game subgame open_part win table → Solved game subgame win table
+Solved-kept {game} {subgame} {open_part} {rest} {lost} {left} {win} {table} {player} {other} is_game is_player is_other
+    differ turned is_won solved parted top_moves top_edges progress =
+    let lost_left : Progress game subgame left win table = Progress-taken is_game is_other parted
     (λ v inside. turned.left.within v (is_won.within v inside)) is_won.won
-    (none_to_lost game open_part rest lost left win table player other is_player is_other differ turned is_won solved
+    (none_to_lost is_player is_other differ turned is_won solved
     parted top_edges)
-    (lost_held game open_part rest lost win table player other is_game is_player is_other differ turned is_won solved)
+    (lost_held is_game is_player is_other differ turned is_won solved)
     progress in
-    let kept_won = IsWon-without game rest lost win table player other is_player is_other differ is_won solved in
-    let pulled_left : IsWithin turned.attracted left =
-    λ v pulled. parted.all v (turned.within v pulled) (λ there.
+    let kept_won = IsWon-without game table player is_player is_other differ is_won solved in
+    let pulled_left : IsWithin turned.attracted left = λ v pulled. parted.all v (turned.within v pulled) (λ there.
     turned.left.outside v (is_won.within v there) pulled) in
-    let split =
-    λ (v : ℕ) (still : IsTrue (left v)). elim (in_part_or_rest open_part turned.attracted rest turned.left v
+    let split = λ (v : ℕ) (still : IsTrue (left v)). elim (in_part_or_rest turned.left v
     (parted.within v still)) as (λ _. IsTrue (turned.attracted v) ⊎ IsTrue (without rest lost v)) [
       | inl pulled ↦ inl pulled
       | inr in_rest ↦ inr (to_keeps rest lost v in_rest (parted.outside v still))
     ] in
     let falls : Falls game left player turned.tops turned.attracted table turned.rank = record {
-      own =
-          λ v pulled below owns. some_more (LeadsDown game open_part turned.attracted turned.rank v)
-          (LeadsDown game left turned.attracted turned.rank v) (table v)
-          (λ w down. record {
+      own = λ v pulled below owns. some_more (LeadsDown game open_part turned.attracted turned.rank v)
+          (LeadsDown game left turned.attracted turned.rank v) (table v) (λ w down. record {
             leads = record { edge = down.leads.edge; inside = pulled_left w down.inside };
             inside = down.inside;
             falls = down.falls;
-          })
-          (turned.falls.own v pulled below owns);
+          }) (turned.falls.own v pulled below owns);
       other = λ v w pulled below others leads. (
           let down : LeadsDown game open_part turned.attracted turned.rank v w =
           turned.falls.other v w pulled below others (record {
@@ -105,12 +99,11 @@ Solved-kept game subgame open_part rest lost left win table player other is_game
           }) in
           record { leads = leads; inside = down.inside; falls = down.falls });
     } in
-    let all : HoldsWithin game left player left table =
-    HoldsWithin-all game left player turned.tops turned.attracted (without rest lost) rest table turned.rank
+    let all : HoldsWithin game left player left table = HoldsWithin-all
     (λ v w top still. turned.above v w top (parted.within w still)) top_moves pulled_left falls split
     (λ v kept. let from = kept_of rest lost v kept in parted.all v (turned.left.within v from.0) from.1)
     (solved.held player (without rest lost) is_player kept_won) in
-    Progress-taken game subgame left left nothing win table player is_game is_player
+    Progress-taken is_game is_player
     (record {
       within = λ v h. absurd (false≢true h);
       outside = λ v h. absurd (false≢true h);

@@ -1,4 +1,6 @@
+pub mod Answered
 pub mod Begins
+pub mod Begun
 pub mod Below
 pub mod Boards
 pub mod Climbs
@@ -9,6 +11,8 @@ pub mod Done
 pub mod Ending
 pub mod Forms
 pub mod Frames
+pub mod GoesOn
+pub mod Grown
 pub mod Holding
 pub mod Kept
 pub mod Measure

@@ -13,15 +13,15 @@ some_rest (suc m) = omega arith
 steps-le : (z m : ℕ) → z ≤ m → steps z ≤ steps m
 steps-le zero m less = some_step m
 steps-le (suc z) zero less = absurd (omega arith)
-steps-le (suc z) (suc m) less = let before : steps z ≤ steps m = steps-le z m (omega arith) in omega arith
+steps-le (suc z) (suc m) less = omega (arith, steps-le z m (omega arith))
 
 opened : (z m : ℕ) → z < m → rest_of m + steps z < steps m
 opened z zero less = absurd (omega arith)
-opened z (suc m) less = let before : steps z ≤ steps m = steps-le z m (omega arith) in omega arith
+opened z (suc m) less = omega (arith, steps-le z m (omega arith))
 
 gone_on : (z m : ℕ) → z < m → steps z < rest_of m
 gone_on z zero less = absurd (omega arith)
-gone_on z (suc m) less = let before : steps z ≤ steps m = steps-le z m (omega arith) in omega arith
+gone_on z (suc m) less = omega (arith, steps-le z m (omega arith))
 
 pub waiting_steps-suc : (levels : List ℕ) (k n : ℕ) → n ≡ k + 1 →
     waiting_steps levels n ≡ waiting_steps levels k + rest_of (size_from (2 * k + 2) levels)
@@ -36,9 +36,7 @@ waiting_steps-same old new zero sizes = refl
 waiting_steps-same old new (suc k) sizes =
     let before : waiting_steps new k ≡ waiting_steps old k =
     waiting_steps-same old new k (λ i less. sizes i (omega arith)) in
-    let here : rest_of (size_from (2 * k + 2) new) ≡ rest_of (size_from (2 * k + 2) old) =
-    ap rest_of (sizes k (omega arith)) in
-    omega arith
+    omega (arith, ap rest_of (sizes k (omega arith)))
 
 -- a turn begins: the next call is about fewer vertices
 pub falls_begun : (old new : List ℕ) (k n : ℕ) → n ≡ k + 1 →
@@ -49,10 +47,8 @@ falls_begun old new k n next sizes fewer =
     waiting_steps-suc new k n next in
     let before : waiting_steps new k ≡ waiting_steps old k =
     waiting_steps-same old new k (λ i less. sizes i (omega arith)) in
-    let same : rest_of (size_from (2 * k + 2) new) ≡ rest_of (size_from (2 * k + 2) old) =
-    ap rest_of (sizes k (omega arith)) in
     let less = opened (size_from (2 * n + 2) new) (size_from (2 * k + 2) old) fewer in
-    omega arith
+    omega (arith, ap rest_of (sizes k (omega arith)))
 
 -- nothing is left to the present call
 pub falls_done : (levels : List ℕ) (k : ℕ) → steps_left levels k true < steps_left levels k false
@@ -61,19 +57,14 @@ falls_done levels k = let some = some_step (size_from (2 * k + 2) levels) in ome
 -- the last call that waited has its answer
 pub falls_kept : (old new : List ℕ) (k n : ℕ) → n ≡ k + 1 → new ≡ old → steps_left new k true < steps_left old n true
 falls_kept old new k n next same =
-    let waiting : waiting_steps old n ≡ waiting_steps old k + rest_of (size_from (2 * k + 2) old) =
-    waiting_steps-suc old k n next in
     let before : waiting_steps new k ≡ waiting_steps old k = ap (λ l. waiting_steps l k) same in
     let some = some_rest (size_from (2 * k + 2) old) in
-    omega arith
+    omega (arith, waiting_steps-suc old k n next)
 
 -- the last call that waited goes on with fewer vertices
 pub falls_on : (old new : List ℕ) (k n : ℕ) → n ≡ k + 1 → ((i : ℕ) → i < k →
     size_from (2 * i + 2) new ≡ size_from (2 * i + 2) old) → size_from (2 * k + 2) new < size_from (2 * k + 2) old →
     steps_left new k false < steps_left old n true
 falls_on old new k n next sizes fewer =
-    let waiting : waiting_steps old n ≡ waiting_steps old k + rest_of (size_from (2 * k + 2) old) =
-    waiting_steps-suc old k n next in
-    let before : waiting_steps new k ≡ waiting_steps old k = waiting_steps-same old new k sizes in
     let less = gone_on (size_from (2 * k + 2) new) (size_from (2 * k + 2) old) fewer in
-    omega arith
+    omega (arith, waiting_steps-same old new k sizes, waiting_steps-suc old k n next)

@@ -23,11 +23,9 @@ pub from-same : (old new : List ℕ) (c : ℕ) → ((v : ℕ) → AgreesAt old n
 unfolding from
 from-same old new c agrees = fun_ext (λ v. elim (cases_lt (get_or old v 0) c) [
   | inl less ↦ (
-      let below : get_or new v 0 < c =
-      elim (cases_lt (get_or new v 0) c) [
+      let below : get_or new v 0 < c = elim (cases_lt (get_or new v 0) c) [
         | inl low ↦ low
-        | inr high ↦
-            (let back : c ≤ get_or old v 0 = (agrees v).back high in absurd (omega arith))
+        | inr high ↦ (absurd (omega (arith, (agrees v).back high)))
       ] in
       lt-leb c (get_or new v 0) below ∙ sym (lt-leb c (get_or old v 0) less))
   | inr more ↦ le-leb c (get_or new v 0) ((agrees v).up more) ∙ sym (le-leb c (get_or old v 0) more)
@@ -49,11 +47,9 @@ one_not c level low = ap count_true (lt-leb c level low)
 
 one-le : (c d level now : ℕ) → (d ≤ now → c ≤ level) → one d now ≤ one c level
 one-le c d level now more = elim (cases_lt now d) [
-  | inl low ↦ (let none : one d now ≡ 0 = one_not d now low in omega arith)
+  | inl low ↦ omega (arith, one_not d now low)
   | inr high ↦ (
-      let here : one d now ≡ 1 = one_is d now high in
-      let there : one c level ≡ 1 = one_is c level (more high) in
-      omega arith)
+      omega (arith, one_is c level (more high), one_is d now high))
 ]
 
 pub size_from-le : (c d : ℕ) (old new : List ℕ) → length new ≡ length old →

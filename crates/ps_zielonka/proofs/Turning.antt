@@ -12,9 +12,9 @@ use Rattle.ps_zielonka.proofs.Holding.{not_in, HoldsWithin-same, HoldsWithin-lar
 use Rattle.ps_zielonka.proofs.Holding.{HoldsWithin-attracted}
 
 -- what is in the whole is in the part or in the rest
-pub in_part_or_rest : (whole part rest : ℕ → Bool) → IsWithout whole part rest → (v : ℕ) → IsTrue (whole v) →
+pub in_part_or_rest : {whole part rest : ℕ → Bool} → IsWithout whole part rest → (v : ℕ) → IsTrue (whole v) →
     IsTrue (part v) ⊎ IsTrue (rest v)
-in_part_or_rest whole part rest left v inside = elim (cases_Bool (part v)) [
+in_part_or_rest {part} left v inside = elim (cases_Bool (part v)) [
   | inl there ↦ inl there
   | inr outside ↦ inr (left.all v inside (not_in part v outside))
 ]
@@ -22,9 +22,9 @@ in_part_or_rest whole part rest left v inside = elim (cases_Bool (part v)) [
 -- ## Where it begins and ends
 
 -- nothing is left
-pub Solved-done : (game : ParityGame) (subgame open_part : ℕ → Bool) (win : ℕ → ℕ) (table : ℕ → Option ℕ) →
+pub Solved-done : {game : ParityGame} {subgame open_part : ℕ → Bool} {win : ℕ → ℕ} {table : ℕ → Option ℕ} →
     Progress game subgame open_part win table → ((v : ℕ) → ¬ IsTrue (open_part v)) → Solved game subgame win table
-Solved-done game subgame open_part win table progress none = record {
+Solved-done progress none = record {
   within = λ v inside. absurd (false≢true inside);
   winners = λ v inside decided. progress.winners v inside (none v);
   away = λ v w from edge inside decided. absurd (false≢true from);
@@ -39,21 +39,17 @@ Solved-done game subgame open_part win table progress none = record {
 -- ## The same with other tables
 
 -- where winners and moves of what is decided stay
-pub Progress-same : (game : ParityGame) (subgame open_part : ℕ → Bool) (win other_win : ℕ → ℕ)
-    (table other_table : ℕ → Option ℕ)
-    → ((v : ℕ) → IsTrue (subgame v) → ¬ IsTrue (open_part v) → other_win v ≡ win v) →
-    ((v : ℕ) → IsTrue (subgame v) → ¬ IsTrue (open_part v) → other_table v ≡ table v)
-    → Progress game subgame open_part win table → Progress game subgame open_part other_win other_table
-Progress-same game subgame open_part win other_win table other_table same_win same_move progress = record {
+pub Progress-same : {game : ParityGame} {subgame open_part : ℕ → Bool} {win : ℕ → ℕ} (other_win : ℕ → ℕ)
+    {table : ℕ → Option ℕ} (other_table : ℕ → Option ℕ) → ((v : ℕ) → IsTrue (subgame v) → ¬ IsTrue (open_part v) →
+    other_win v ≡ win v) → ((v : ℕ) → IsTrue (subgame v) → ¬ IsTrue (open_part v) → other_table v ≡ table v) →
+    Progress game subgame open_part win table → Progress game subgame open_part other_win other_table
+Progress-same {win} other_win other_table same_win same_move progress = record {
   within = progress.within;
-  winners = λ v inside decided. let same : other_win v ≡ win v = same_win v inside decided in let below : win v < 2 =
-      progress.winners v inside decided in omega arith;
-  away =
-      λ v w from edge inside decided same. progress.away v w from edge inside decided
+  winners = λ v inside decided. let same : other_win v ≡ win v = same_win v inside decided in
+      omega (arith, progress.winners v inside decided);
+  away = λ v w from edge inside decided same. progress.away v w from edge inside decided
       (same ∙ same_win w inside decided);
-  held =
-      λ player set is_player is_won. HoldsWithin-same game subgame player set set table other_table (λ v inside. inside)
-      (λ v inside. inside)
+  held = λ player set is_player is_won. HoldsWithin-same set other_table (λ v inside. inside) (λ v inside. inside)
       (λ v inside owns. same_move v (is_won.within v inside) (is_won.decided v inside))
       (progress.held player set is_player (record {
         within = is_won.within;
@@ -66,17 +62,15 @@ Progress-same game subgame open_part win other_win table other_table same_win sa
 -- ## A step
 
 -- a part that a player holds within the open part is decided, where none of his vertices that stay open leads into it
-pub Progress-taken : (game : ParityGame) (subgame open_part part left : ℕ → Bool) (win : ℕ → ℕ) (table : ℕ → Option ℕ)
-    (player : ℕ) → IsGame game → player < 2
-    → IsWithout open_part part left → IsWithin part open_part → ((v : ℕ) → IsTrue (part v) → win v ≡ player)
-    → ((v w : ℕ) → IsTrue (left v) → owner_of game v ≡ player → HasEdge game v w → ¬ IsTrue (part w))
-    → HoldsWithin game open_part player part table → Progress game subgame open_part win table →
-    Progress game subgame left win table
-Progress-taken game subgame open_part part left win table player is_game is_player without part_within given none_steps
-    holds progress =
-    let taken =
-    λ (v : ℕ) (was_open : IsTrue (open_part v)) (decided : ¬ IsTrue (left v)).
-    elim (in_part_or_rest open_part part left without v was_open) as (λ _. IsTrue (part v))
+pub Progress-taken : {game : ParityGame} {subgame open_part part left : ℕ → Bool} {win : ℕ → ℕ} {table : ℕ → Option ℕ}
+    {player : ℕ} → IsGame game → player < 2 → IsWithout open_part part left → IsWithin part open_part →
+    ((v : ℕ) → IsTrue (part v) → win v ≡ player) → ((v w : ℕ) → IsTrue (left v) → owner_of game v ≡ player →
+    HasEdge game v w → ¬ IsTrue (part w)) → HoldsWithin game open_part player part table →
+    Progress game subgame open_part win table → Progress game subgame left win table
+Progress-taken {game} {subgame} {open_part} {part} {left} {win} {table} {player} is_game is_player without part_within
+    given none_steps holds progress =
+    let taken = λ (v : ℕ) (was_open : IsTrue (open_part v)) (decided : ¬ IsTrue (left v)).
+    elim (in_part_or_rest without v was_open) as (λ _. IsTrue (part v))
     [ inl there ↦ there | inr still ↦ absurd (decided still) ] in
     record {
       within = λ v inside. progress.within v (without.within v inside);
@@ -93,8 +87,7 @@ Progress-taken game subgame open_part part left win table player is_game is_play
       held = λ holder set is_holder is_won. elim (cases_eq holder player) [
         | inr other ↦ progress.held holder set is_holder (record {
           within = is_won.within;
-          decided =
-              λ v inside was_open. other (sym (is_won.won v inside)
+          decided = λ v inside was_open. other (sym (is_won.won v inside)
               ∙ given v (taken v was_open (is_won.decided v inside)));
           won = is_won.won;
           all = λ v inside decided wins. is_won.all v inside (λ still. decided (without.within v still)) wins;
@@ -102,49 +95,43 @@ Progress-taken game subgame open_part part left win table player is_game is_play
         | inl same ↦ (
             let IsHeld : ℕ → Type 0 = λ holder. HoldsWithin game subgame holder set table in
             let Wins : ℕ → Type 0 = λ holder. IsWon subgame left win holder set in
-            subst IsHeld (sym same) (taken_held game subgame open_part part left win table player set is_game is_player
+            subst IsHeld (sym same) (taken_held is_game is_player
             without part_within given taken holds progress (subst Wins same is_won)))
       ];
     }
   where
-    taken_held : (game : ParityGame) (subgame open_part part left : ℕ → Bool) (win : ℕ → ℕ) (table : ℕ → Option ℕ)
-        (player : ℕ) (set : ℕ → Bool) → IsGame game → player < 2
-        → IsWithout open_part part left → IsWithin part open_part → ((v : ℕ) → IsTrue (part v) → win v ≡ player) →
-        ((v : ℕ) → IsTrue (open_part v) → ¬ IsTrue (left v) → IsTrue (part v))
-        → HoldsWithin game open_part player part table → Progress game subgame open_part win table →
+    taken_held : {game : ParityGame} {subgame open_part part left : ℕ → Bool} {win : ℕ → ℕ} {table : ℕ → Option ℕ}
+        {player : ℕ} {set : ℕ → Bool} → IsGame game → player < 2 → IsWithout open_part part left →
+        IsWithin part open_part → ((v : ℕ) → IsTrue (part v) → win v ≡ player) →
+        ((v : ℕ) → IsTrue (open_part v) → ¬ IsTrue (left v) → IsTrue (part v)) →
+        HoldsWithin game open_part player part table → Progress game subgame open_part win table →
         IsWon subgame left win player set → HoldsWithin game subgame player set table
-    taken_held game subgame open_part part left win table player set is_game is_player without part_within given taken
-        holds progress is_won =
+    taken_held {game} {subgame} {open_part} {win} {table} {player} {set} is_game is_player without part_within given
+        taken holds progress is_won =
         let before : ℕ → Bool = λ v. set v && not (open_part v) in
         let from_before = λ (v : ℕ) (inside : IsTrue (before v)). and_parts (set v) (not (open_part v)) inside in
-        let to_before =
-        λ (v : ℕ) (inside : IsTrue (set v)) (outside : open_part v ≡ false).
+        let to_before = λ (v : ℕ) (inside : IsTrue (set v)) (outside : open_part v ≡ false).
         and_from (set v) (not (open_part v)) inside (not_from_false (open_part v) outside) in
         let before_held : HoldsWithin game subgame player before table = progress.held player before is_player (record {
           within = λ v inside. is_won.within v (from_before v inside).0;
           decided = λ v inside. not_in open_part v (not-true (open_part v) (from_before v inside).1);
           won = λ v inside. is_won.won v (from_before v inside).0;
-          all =
-              λ v inside decided wins. to_before v (is_won.all v inside (λ still. decided (without.within v still))
+          all = λ v inside decided wins. to_before v (is_won.all v inside (λ still. decided (without.within v still))
               wins) (false_from_ne_true (open_part v) decided);
         }) in
-        HoldsWithin-beside game open_part subgame player before part set table progress.within
-        (λ v inside. (from_before v inside).0)
+        HoldsWithin-beside {player = player} set progress.within (λ v inside. (from_before v inside).0)
         (λ v inside. is_won.all v (progress.within v (part_within v inside)) (λ still. without.outside v still inside)
-        (given v inside))
-        (λ v inside. elim (cases_Bool (open_part v)) [
+        (given v inside)) (λ v inside. elim (cases_Bool (open_part v)) [
           | inl was_open ↦ inr (taken v was_open (is_won.decided v inside))
           | inr outside ↦ inl (to_before v inside outside)
-        ])
-        (λ v w inside others leads. elim (cases_Bool (open_part w)) [
+        ]) (λ v w inside others leads. elim (cases_Bool (open_part w)) [
           | inl near ↦ inl near
           | inr outside ↦ inr (
               let decided : ¬ IsTrue (open_part w) = not_in open_part w outside in
               let away : owner_of game v ≢ win w =
               progress.away v w (part_within v inside) leads.edge leads.inside decided in
-              let owner : owner_of game v < 2 = is_game.owners v leads.edge.0 in
-              let winner : win w < 2 = progress.winners w leads.inside decided in
-              let same : win w ≡ player = omega arith in
+              let same : win w ≡ player =
+              omega (arith, progress.winners w leads.inside decided, is_game.owners v leads.edge.0) in
               to_before w (is_won.all w leads.inside (λ still. decided (without.within w still)) same) outside)
         ])
         before_held holds
@@ -152,43 +139,41 @@ Progress-taken game subgame open_part part left win table player is_game is_play
 -- ## Turns
 
 -- what the other player wins of the rest of a turn, it holds within the open part
-pub lost_held : (game : ParityGame) (open_part rest lost : ℕ → Bool) (win : ℕ → ℕ) (table : ℕ → Option ℕ)
-    (player other : ℕ) → IsGame game → player < 2 → other < 2 → other ≢ player
-    → IsTurned game open_part rest player win table → IsWon rest nothing win other lost → Solved game rest win table →
+pub lost_held : {game : ParityGame} {open_part rest lost : ℕ → Bool} {win : ℕ → ℕ} {table : ℕ → Option ℕ}
+    {player other : ℕ} → IsGame game → player < 2 → other < 2 → other ≢ player →
+    IsTurned game open_part rest player win table → IsWon rest nothing win other lost → Solved game rest win table →
     HoldsWithin game open_part other lost table
-lost_held game open_part rest lost win table player other is_game is_player is_other differ turned is_won solved =
-    HoldsWithin-larger game rest open_part other lost table turned.left.within
-    (λ v w inside others leads. elim (in_part_or_rest open_part turned.attracted rest turned.left w leads.inside) [
+lost_held {game} {open_part} {rest} {lost} {player} {other} is_game is_player is_other differ turned is_won solved =
+    HoldsWithin-larger open_part {player = other} turned.left.within
+    (λ v w inside others leads. elim (in_part_or_rest turned.left w leads.inside) [
       | inr near ↦ near
       | inl there ↦ (
-          let owner : owner_of game v < 2 = is_game.owners v leads.edge.0 in
-          let owns : owner_of game v ≡ player = omega arith in
+          let owns : owner_of game v ≡ player = omega (arith, is_game.owners v leads.edge.0) in
           let from : IsTrue (rest v) = is_won.within v inside in
           absurd (turned.left.outside v from (turned.closed.own v w (turned.left.within v from) owns leads there)))
     ])
     (solved.held other lost is_other is_won)
 
 -- the attractor of the other player to what it holds goes to it
-pub Progress-attracted : (game : ParityGame) (subgame open_part target set left : ℕ → Bool) (win : ℕ → ℕ)
-    (table : ℕ → Option ℕ) (player : ℕ) (rank : ℕ → ℕ) → IsGame game → player < 2
-    → IsAttracted game open_part player target set table rank → IsWithin set open_part → IsWithout open_part set left →
-    ((v : ℕ) → IsTrue (set v) → win v ≡ player)
-    → HoldsWithin game open_part player target table → Progress game subgame open_part win table →
-    Progress game subgame left win table
-Progress-attracted game subgame open_part target set left win table player rank is_game is_player attracted within
+pub Progress-attracted : {game : ParityGame} {subgame open_part target set left : ℕ → Bool} {win : ℕ → ℕ}
+    {table : ℕ → Option ℕ} {player : ℕ} {rank : ℕ → ℕ} → IsGame game → player < 2 →
+    IsAttracted game open_part player target set table rank → IsWithin set open_part → IsWithout open_part set left →
+    ((v : ℕ) → IsTrue (set v) → win v ≡ player) → HoldsWithin game open_part player target table →
+    Progress game subgame open_part win table → Progress game subgame left win table
+Progress-attracted {game} {subgame} {open_part} {set} {left} {win} {table} {player} is_game is_player attracted within
     without given holds progress =
-    Progress-taken game subgame open_part set left win table player is_game is_player without within given
+    Progress-taken is_game is_player without within given
     (λ v w still owns edge there. without.outside v still (attracted.closed.own v w (without.within v still) owns
     (record { edge = edge; inside = within w there }) there))
-    (HoldsWithin-attracted game open_part player target set table rank attracted.closed.holds within
+    (HoldsWithin-attracted attracted.closed.holds within
     attracted.falls holds)
     progress
 
 -- what an attractor leaves is a subgame
-pub IsSubgame-left : (game : ParityGame) (subgame target set left : ℕ → Bool) (table : ℕ → Option ℕ) (player : ℕ)
-    (rank : ℕ → ℕ) → IsSubgame game subgame
-    → IsAttracted game subgame player target set table rank → IsWithout subgame set left → IsSubgame game left
-IsSubgame-left game subgame target set left table player rank is_subgame attracted without = record {
+pub IsSubgame-left : {game : ParityGame} {subgame target set left : ℕ → Bool} {table : ℕ → Option ℕ} {player : ℕ}
+    {rank : ℕ → ℕ} → IsSubgame game subgame → IsAttracted game subgame player target set table rank →
+    IsWithout subgame set left → IsSubgame game left
+IsSubgame-left {game} {subgame} {set} is_subgame attracted without = record {
   vertices = λ v inside. is_subgame.vertices v (without.within v inside);
   goes_on = λ v inside. (
       let on : StaysOut game subgame set v = attracted.goes_on v (without.within v inside) (without.outside v inside) in
@@ -217,7 +202,6 @@ pub IsWithout-without : (whole part : ℕ → Bool) → IsWithout whole part (wi
 IsWithout-without whole part = record {
   within = λ v inside. (and_parts (whole v) (not (part v)) inside).0;
   outside = λ v inside. not_in part v (not-true (part v) (and_parts (whole v) (not (part v)) inside).1);
-  all =
-      λ v inside outside. and_from (whole v) (not (part v)) inside
+  all = λ v inside outside. and_from (whole v) (not (part v)) inside
       (not_from_false (part v) (false_from_ne_true (part v) outside));
 }

@@ -12,26 +12,22 @@ falling y k steps t (suc j) after within = elim (cases_eq t (suc j)) [
   | inr other ↦ (
       let next : y (j + 1) ≡ y (suc j) = ap y (omega arith) in
       let step : y (j + 1) ≤ y j = steps j (omega arith) in
-      let before : y j ≤ y t = falling y k steps t j (omega arith) (omega arith) in
-      omega arith)
+      omega (arith, falling y k steps t j (omega arith) (omega arith)))
 ]
 
 -- a number that never rises along the steps is the same at each place
 pub level : (y : ℕ → ℕ) (k : ℕ) → y k ≡ y 0 → ((t : ℕ) → t < k → y (t + 1) ≤ y t) → (t : ℕ) → t ≤ k → y t ≡ y 0
 level y k closes steps t within =
     let down : y t ≤ y 0 = falling y k steps 0 t (omega arith) within in
-    let up : y k ≤ y t = falling y k steps t k within (omega arith) in
-    omega arith
+    omega (arith, falling y k steps t k within (omega arith))
 
 -- no number falls at each step
 pub no_descent : (rank : ℕ → ℕ) (walk : ℕ → ℕ) (k : ℕ) → 0 < k → walk k ≡ walk 0 →
     ((t : ℕ) → t < k → rank (walk (t + 1)) < rank (walk t)) → ⊥
 no_descent rank walk k some closes falls =
-    let same : rank (walk 1) ≡ rank (walk 0) =
-    level (λ t. rank (walk t)) k (ap rank closes) (λ t less.
+    let same : rank (walk 1) ≡ rank (walk 0) = level (λ t. rank (walk t)) k (ap rank closes) (λ t less.
     let step : rank (walk (t + 1)) < rank (walk t) = falls t less in omega arith) 1 some in
-    let first : rank (walk 1) < rank (walk 0) = falls 0 some in
-    omega arith
+    omega (arith, falls 0 some)
 
 -- 0 for true, 1 for false
 abbrev distance : Bool → ℕ
@@ -53,8 +49,7 @@ pub all_or_none : (set : ℕ → Bool) (walk : ℕ → ℕ) (k : ℕ) → walk k
     ((t : ℕ) → t < k → IsTrue (set (walk t)) → IsTrue (set (walk (t + 1))))
     → ((t : ℕ) → t < k → IsTrue (set (walk t))) ⊎ ((t : ℕ) → t < k → set (walk t) ≡ false)
 all_or_none set walk k closes steps =
-    let same =
-    λ (t : ℕ) (less : t < k). distance-same (set (walk t)) (set (walk 0))
+    let same = λ (t : ℕ) (less : t < k). distance-same (set (walk t)) (set (walk 0))
     (level (λ t. distance (set (walk t))) k (ap (λ v. distance (set v)) closes)
     (λ t less. distance-le (set (walk t)) (set (walk (t + 1))) (steps t less)) t (omega arith)) in
     elim (cases_Bool (set (walk 0))) [

@@ -87,7 +87,7 @@ returns-clause-moves g c =
       grown = made.grown;
       placed = subst Region c.count.ensures.vertices c.in_ok-region.ensures.placed;
     } in
-    only_moves game c.args.player subgame target made.old new region c.in_ok-moves.moves answer
+    only_moves subgame made.old region answer
     c.in_ok-moves.ensures.given
 
 pub returns-clause-falls : goal.returns-clause-falls
@@ -110,5 +110,5 @@ returns-clause-falls g c =
     } in
     let taken = answer_taken game c.args.player subgame target made.old new region answer in
     let attracted = made.attracted (has region) taken in
-    answer_falls game c.args.player subgame target made.old new region c.in_ok-moves.moves c.in_ok-rank.rank.items
+    answer_falls subgame made.old region c.in_ok-rank.rank.items
     answer c.in_ok-moves.ensures.given c.in_ok-rank.ensures.first attracted.falls

@@ -20,7 +20,6 @@ returns-clause-attracted g c =
       old = old;
       laid = laid;
       grown = c.in_ok-attract.ensures.grown;
-      attracted =
-          λ set taken. c.in_ok-attract.ensures.attracted (has subgame) (has target) set
-          (laid_posed game c.args.player subgame target old c.requires.subgame c.requires.target laid) taken;
+      attracted = λ set taken. c.in_ok-attract.ensures.attracted (has subgame) (has target) set
+          (laid_posed c.args.player c.requires.subgame c.requires.target laid) taken;
     }

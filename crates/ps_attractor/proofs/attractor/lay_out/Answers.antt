@@ -22,8 +22,7 @@ loop-vertex-preserved g c =
           record {
             levels = ap (λ (t : TablesData). length t.level) now ∙ length-set old.level n 1 ∙ levels;
             moves = ap (λ (t : TablesData). length t.moves) now ∙ c.loop-vertex.invariant.moves;
-            laid_out =
-                subst Laid (sym now) (laid_placed c.args.subgame.now c.args.target.now n old within
+            laid_out = subst Laid (sym now) (laid_placed within
                 (sym w.if-contains.ensures) c.loop-vertex.invariant.laid_out);
           })
       | else-contains+then-contains-2 w ↦ (
@@ -34,22 +33,16 @@ loop-vertex-preserved g c =
                 ∙ length-set old.level n 2 ∙ levels;
             moves = ap (λ (t : TablesData). length t.moves) w.tables-is ∙ ap length w.set_level.ensures.moves
                 ∙ c.loop-vertex.invariant.moves;
-            laid_out =
-                subst Laid (sym w.tables-is) (laid_kept c.args.subgame.now c.args.target.now n old new
-                (sym w.if-contains.ensures) w.set_level.ensures.trail
+            laid_out = subst Laid (sym w.tables-is) (laid_kept new (sym w.if-contains.ensures) w.set_level.ensures.trail
                 (λ v differ. ap (λ xs. get_or xs v 0) w.set_level.ensures.level
-                ∙ get_or-set_other old.level n v 2 0 differ)
-                (λ inside. here)
+                ∙ get_or-set_other old.level n v 2 0 differ) (λ inside. here)
                 (λ outside. absurd (false≢true (sym outside ∙ sym w.if-contains-2.ensures)))
                 c.loop-vertex.invariant.laid_out);
           })
       | else-contains+else-contains-2 w ↦ record {
         levels = ap (λ (t : TablesData). length t.level) w.tables-is ∙ levels;
         moves = ap (λ (t : TablesData). length t.moves) w.tables-is ∙ c.loop-vertex.invariant.moves;
-        laid_out =
-            subst Laid (sym w.tables-is) (laid_kept c.args.subgame.now c.args.target.now n old old
-            (sym w.if-contains.ensures) refl
-            (λ v differ. refl)
+        laid_out = subst Laid (sym w.tables-is) (laid_kept old (sym w.if-contains.ensures) refl (λ v differ. refl)
             (λ inside. absurd (false≢true (w.if-contains-2.ensures ∙ inside)))
             (λ outside. c.loop-vertex.invariant.laid_out.later n (le_refl n))
             c.loop-vertex.invariant.laid_out);

@@ -3,9 +3,7 @@ use Rattle.ps_zielonka.specs.Answers.{AreMovesTo}
 use Rattle.ps_zielonka.proofs.answer.strategy_of.Given as goal
 
 abbrev pub invariant-loop-vertex : goal.invariant-loop-vertex
-invariant-loop-vertex g l =
-    record {
-      places : length l.strategy ≡ l.count;
-      given : AreMovesTo (g.A.Arena.game l.arena) l.tables.moves l.winner
-          l.player l.vertex l.strategy;
-    }
+invariant-loop-vertex g l = record {
+  places : length l.strategy ≡ l.count;
+  given : AreMovesTo (g.A.Arena.game l.arena) l.tables.moves l.winner l.player l.vertex l.strategy;
+}

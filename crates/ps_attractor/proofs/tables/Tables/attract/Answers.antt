@@ -6,10 +6,9 @@ use Rattle.ps_attractor.proofs.tables.Tables.attract.Goals as goal
 pub returns-clause-attracted : goal.returns-clause-attracted
 returns-clause-attracted g c subgame target set posed taken =
     let game = g.A.Arena.game c.args.arena.now in
-    let inside : c.loop-place.place ≤ length c.loop-place.self.trail = c.loop-place.invariant.inside in
     let at_end : c.loop-place.place ≡ length c.loop-place.self.trail = omega arith in
     let Reached : ℕ → Type 0 = λ k. Reaching game c.args.aim c.args.self.now c.loop-place.self (From k) in
-    attracted game c.args.aim c.args.self.now c.loop-place.self subgame target set (record {
+    attracted (record {
       is_game = c.requires.game;
       marks = c.requires.differ;
       begins = c.requires.begin;

@@ -7,9 +7,12 @@ pub level-requires : goal.level-requires
 level-requires g c =
     let game = g.A.Arena.game c.args.arena.now in
     let below : c.loop-number.number < length (successors_of game c.args.vertex) = omega (arith, c.requires.within) in
-    let is_vertex : get_or (successors_of game c.args.vertex) c.loop-number.number 0 < vertex_count game =
-    c.requires.game.within c.args.vertex _ (
-      c.requires.vertex,
-      Contains-get_or (successors_of game c.args.vertex) c.loop-number.number 0 below,
-    ) in
-    omega (arith, c.successor.ensures, c.requires.fits.levels)
+    omega (
+      arith,
+      c.requires.game.within c.args.vertex _ (
+        c.requires.vertex,
+        Contains-get_or (successors_of game c.args.vertex) c.loop-number.number 0 below,
+      ),
+      c.successor.ensures,
+      c.requires.fits.levels,
+    )

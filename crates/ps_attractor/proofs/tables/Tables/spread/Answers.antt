@@ -13,8 +13,7 @@ loop-source-init g c = record {
   longer = omega arith;
   frees = refl;
   here = sym c.vertex_at-reached.ensures;
-  reaching =
-      λ start begins so_far. enter (g.A.Arena.game c.args.arena.now) c.args.aim start c.args.self.now c.args.sources.now
+  reaching = λ start begins so_far. enter
       c.args.place c.vertex_at-reached.result c.requires.sources (sym c.vertex_at-reached.ensures) so_far;
 }
 
@@ -30,8 +29,7 @@ look-requires-clause-vertex g c =
     let n = c.loop-source.source-index in
     let within : n < length kept = omega arith in
     let is = source_is value kept n c.number.result c.source-item.result within c.source-item.is c.number.ensures in
-    let edge =
-    source_edge (g.A.Arena.game c.args.arena.now) c.args.sources.now (map value kept) c.vertex_at-reached.result n
+    let edge = source_edge (map value kept) c.vertex_at-reached.result n
     c.number.result c.requires.sources c.at-source-items.ensures (omega (arith, length-map kept value)) is in
     edge.0
 
@@ -53,12 +51,9 @@ loop-source-preserved g c =
     let longer : length c.args.self.now.trail ≤ length c.loop-source.self.trail = so_far.longer in
     let is = source_is value kept n source c.source-item.result (omega arith) c.source-item.is c.number.ensures in
     let within : n < length list = omega (arith, length-map kept value) in
-    let edge =
-    source_edge game c.args.sources.now list c.vertex_at-reached.result n source c.requires.sources
+    let edge = source_edge list c.vertex_at-reached.result n source c.requires.sources
     c.at-source-items.ensures within is in
-    let is_vertex : source < vertex_count game = edge.0 in
-    let keeps =
-    keeps_look game c.args.aim c.loop-source.self c.look.new.self source c.vertex_at-reached.result
+    let keeps = keeps_look game c.args.aim c.loop-source.self c.look.new.self source c.vertex_at-reached.result
     c.requires.differ (omega (arith, so_far.fits.levels)) c.in_ok-look.ensures.looked in
     record {
       fits = c.look.ensures.fits;
@@ -66,8 +61,8 @@ loop-source-preserved g c =
       frees = keeps.frees ∙ so_far.frees;
       here = keeps.front c.args.place (omega arith) ∙ so_far.here;
       reaching =
-          λ start begins start_reaching. look_on game c.args.aim start c.loop-source.self c.look.new.self
-          c.args.sources.now list c.args.place c.vertex_at-reached.result n source c.requires.sources
+          λ start begins start_reaching. look_on c.look.new.self list c.args.place c.vertex_at-reached.result n source
+          c.requires.sources
           c.at-source-items.ensures within is c.requires.differ begins c.requires.after (omega arith) so_far.fits
           so_far.here c.in_ok-look.ensures.looked (so_far.reaching start begins start_reaching);
     }
@@ -77,6 +72,6 @@ returns-clause-reaching g c = λ start begins so_far.
     let value = g.W.Width.value in
     let all : length (sources_of c.args.sources.now c.vertex_at-reached.result) ≤ c.loop-source.source-index =
     omega (arith, ap length c.at-source-items.ensures, length-map c.at-source-items.result.now value) in
-    reaching_leave (g.A.Arena.game c.args.arena.now) c.args.aim start c.loop-source.self
+    reaching_leave
     (sources_of c.args.sources.now c.vertex_at-reached.result) c.args.place c.loop-source.source-index all
     (c.loop-source.invariant.reaching start begins so_far)

@@ -20,8 +20,7 @@ pub returns-clause-attracted : goal.returns-clause-attracted
 returns-clause-attracted g c subgame target set =
     let game = g.A.Arena.game c.args.arena.now in
     let Attracts : Aim → TablesData → Type 0 = λ aim t. IsPosed game aim c.args.self.now.tables subgame target
-    → IsTaken aim t subgame set
-    → IsAttracted game subgame aim.player target set (moves_of t) (rank_of aim t) in
+    → IsTaken aim t subgame set → IsAttracted game subgame aim.player target set (moves_of t) (rank_of aim t) in
     let aimed = λ (aim : Aim). Attracts aim c.give.new.self.tables in
     subst aimed c.aim.ensures
     (subst (Attracts c.aim.result) (sym c.give.ensures.tables) (c.in_ok-attract.ensures.attracted subgame target set))

@@ -20,10 +20,9 @@ loop-place-preserved g c =
     record {
       fits = c.keeps.ensures.fits;
       winner = c.keeps.ensures.winner ∙ so_far.winner;
-      moved = moved_more old mid new c.args.frame.now.turn c.args.frame.now.top place u
+      moved = moved_more c.args.frame.now.turn c.args.frame.now.top place u
           (omega (arith, c.loop-place.auto.place)) (omega (arith, c.loop-place-test.true)) at so_far.moved
           c.keeps.ensures.moved;
-      kept = kept_more game old mid new c.args.self.now.winner.items (mark_of c.args.level) c.args.frame.now.player
-          (1 - c.args.frame.now.player) c.args.frame.now.turn place u at c.keeps.ensures.moved
+      kept = kept_more place at c.keeps.ensures.moved
           (subst Kept so_far.winner (c.if-not-keeps.ensures.kept (search rules))) so_far.kept;
     }

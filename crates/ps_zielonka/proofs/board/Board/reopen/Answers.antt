@@ -24,12 +24,18 @@ loop-place-preserved g c =
     let taken = c.in_ok-take_off.ensures.spare in
     let below : place < length spare = omega (arith, c.loop-place-test.true, c.len-place-end.ensures) in
     let size : length c.loop-place.self.spare ≡ length spare = ap length so_far.spare in
-    let all : length spare + turn ≡ length old.trail = taken.all in
     let at : get_or spare place 0 ≡ u = ap (λ xs. get_or xs place 0) (sym so_far.spare) ∙ sym c.at-vertex.ensures in
-    let is_vertex : get_or old.trail (turn + place) 0 < length old.level =
-    c.requires.vertices (turn + place) (omega arith) in
     let same_level : length mid.level ≡ length old.level = so_far.reopened.sizes ∙ ap length c.take_off.ensures.level in
-    let within : u < length mid.level = omega (arith, at, taken.same place below) in
+    let within : u < length mid.level =
+    omega (
+      arith,
+      c.requires.vertices (turn + place) (omega (
+        arith,
+        c.requires.vertices (turn + place) (omega arith),
+      )),
+      at,
+      taken.same place below,
+    ) in
     let who : get_or winner u 0 ≡ c.index.result.now = ap (λ xs. get_or xs u 0) (sym so_far.winner)
     ∙ sym (get_or_read c.loop-place.self.winner.items u c.index.result.now (search rules) c.index.ensures 0) in
     let Put : Board g.row.W.Denot → Type 0 = λ b. IsReopened winner c.args.frame.now.player (mark_of c.args.level) turn
@@ -38,18 +44,15 @@ loop-place-preserved g c =
       | then-eq w ↦ record {
         spare = ap (λ (b : Board g.row.W.Denot). b.spare) w.self-is ∙ so_far.spare;
         winner = ap (λ (b : Board g.row.W.Denot). b.winner.items) w.self-is ∙ so_far.winner;
-        reopened = subst Put (sym w.self-is) (reopened_free winner c.args.frame.now.player (mark_of c.args.level) turn
-            spare
-            place u cut mid w.set_level.new.self at within (who ∙ eqb-true _ _ (sym c.eq.ensures ∙ w.if-eq.true))
+        reopened = subst Put (sym w.self-is) (reopened_free spare
+            place u w.set_level.new.self at within (who ∙ eqb-true _ _ (sym c.eq.ensures ∙ w.if-eq.true))
             (w.set_level.ensures.level ∙ ap (slice_set mid.level u) w.mark.ensures) w.set_level.ensures.moves
             w.set_level.ensures.trail so_far.reopened);
       }
       | else-eq+in_ok-place w ↦ record {
         spare = ap (λ (b : Board g.row.W.Denot). b.spare) w.self-is ∙ so_far.spare;
         winner = ap (λ (b : Board g.row.W.Denot). b.winner.items) w.self-is ∙ so_far.winner;
-        reopened = subst Put (sym w.self-is) (reopened_lost winner c.args.frame.now.player (mark_of c.args.level) turn
-            spare
-            place u cut mid w.place.new.self at within (λ won. false≢true
+        reopened = subst Put (sym w.self-is) (reopened_lost spare place u w.place.new.self at within (λ won. false≢true
             (sym w.if-eq.false ∙ c.eq.ensures ∙ eq-eqb _ _ (sym who ∙ won)))
             (w.in_ok-place.ensures.ok ∙ ap (with_placed mid u) w.mark-else-eq.ensures) so_far.reopened);
       }
@@ -63,7 +66,7 @@ returns-clause-reopened g c =
     let Reopened : List ℕ → Type 0 = λ ws. IsReopened ws c.args.frame.now.player (mark_of c.args.level)
     c.args.frame.now.turn
     (StandsBefore spare c.loop-place.place) c.take_off.new.self.tables c.loop-place.self.tables in
-    reopened_end c.args.self.now.winner.items c.args.frame.now.player (mark_of c.args.level) c.args.frame.now.turn
-    c.loop-place.place spare c.args.self.now.tables c.take_off.new.self.tables c.loop-place.self.tables
+    reopened_end
+    c.loop-place.place c.args.self.now.tables
     c.requires.turn c.take_off.ensures.level c.take_off.ensures.moves c.in_ok-take_off.ensures.trail
     c.in_ok-take_off.ensures.spare at_end (subst Reopened c.take_off.ensures.winner c.loop-place.invariant.reopened)

@@ -8,10 +8,13 @@ pub level-requires : goal.level-requires
 level-requires g c =
     let game = g.A.Arena.game c.args.arena.now in
     let below : c.loop-number.number < length (successors_of game c.args.vertex) = omega arith in
-    let is_vertex : get_or (successors_of game c.args.vertex) c.loop-number.number 0 < vertex_count game =
-    c.requires.game.within c.args.vertex _ (edge_at game c.args.vertex c.loop-number.number c.requires.vertex below)
-    in
-    omega (arith, c.successor-successor.ensures, c.requires.fits.levels)
+    omega (
+      arith,
+      c.requires.game.within c.args.vertex _ (edge_at game c.args.vertex c.loop-number.number
+          c.requires.vertex below),
+      c.successor-successor.ensures,
+      c.requires.fits.levels,
+    )
 
 pub returns-clause-none : goal.returns-clause-none
 returns-clause-none g c w edge above won =

@@ -8,7 +8,8 @@ use Rattle.ps_zielonka.specs.declared.frame.Frame.{Frame}
 use Rattle.ps_zielonka.specs.Nests.{IsNest, steps_left}
 use Rattle.ps_zielonka.specs.Levels.{aim_of}
 use Rattle.ps_zielonka.specs.declared.level.Level.TheVariants.{Attracted}
-use Rattle.ps_zielonka.proofs.Begins.{Begun, frame_of, begun_nest, begun_falls}
+use Rattle.ps_zielonka.proofs.Begun.{Begun}
+use Rattle.ps_zielonka.proofs.Begins.{frame_of, begun_nest, begun_falls}
 use Rattle.ps_zielonka.proofs.Deep.{depth_begun}
 use Rattle.ps_zielonka.proofs.nest.Nest.begin_turn.Goals as goal
 
@@ -64,13 +65,11 @@ returns g c =
     let Nest : List Frame → Type 0 =
     λ more. IsNest game c.attract.new.self.tables c.attract.new.self.winner.items order more c.in_ok-behind.behind
     c.args.self.now.solved in
-    let nest =
-    subst Nest (sym pushed) (begun_nest b frames c.args.self.now.solved refl c.requires.searches
+    let nest = subst Nest (sym pushed) (begun_nest b frames c.args.self.now.solved refl c.requires.searches
     c.requires.stack.waits c.requires.stack.rises) in
     record {
       stack = nest;
       falls = subst Falls (sym c.requires.searches) (begun_falls b frames c.push.new.self.items refl size);
-      deep = depth_begun b c.push.new.self.items c.in_ok-behind.behind c.args.self.now.solved c.args.self.now.depth
-          c.max-self.result size c.requires.searches
+      deep = depth_begun b c.max-self.result size c.requires.searches
           (omega (arith, c.max-self.ensures, c.len.ensures, c.push.new.self.ok.0)) nest;
     }

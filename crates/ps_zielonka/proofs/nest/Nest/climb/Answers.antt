@@ -5,7 +5,7 @@ use Rattle.ps_zielonka.specs.declared.frame.Frame.{Frame}
 use Rattle.std.proofs.lemmas.List.{length_push}
 use Rattle.ps_zielonka.specs.Nests.{IsNest, StandsBetween, IsKeptAt, steps_left}
 use Rattle.ps_zielonka.proofs.Measure.{falls_kept}
-use Rattle.ps_zielonka.proofs.Frames.{kept_nest, moved_nest}
+use Rattle.ps_zielonka.proofs.Answered.{kept_nest, moved_nest}
 use Rattle.ps_zielonka.proofs.Deep.{depth_climbs, depth_kept}
 use Rattle.ps_zielonka.proofs.nest.Nest.climb.Goals as goal
 
@@ -22,8 +22,8 @@ go_on-requires-clause-nest g c =
     let Framed : List Frame → Type 0 = λ all. IsNest game old winner order all cursor true in
     let Won : List ℕ → Type 0 =
     λ won. IsNest game c.is_kept.new.self.tables won order (frames ++ frame ∷ []) cursor true in
-    subst Won (sym c.is_kept.ensures.winner) (moved_nest game old c.is_kept.new.self.tables winner order frames frame
-    cursor (subst Framed c.in-Some.ensures.items (subst Flag c.requires.done c.requires.stack))
+    subst Won (sym c.is_kept.ensures.winner) (moved_nest frames frame
+    (subst Framed c.in-Some.ensures.items (subst Flag c.requires.done c.requires.stack))
     c.is_kept.ensures.moved c.is_kept.ensures.fits)
 
 pub returns-then-is_kept-clause-stack : goal.returns-then-is_kept-clause-stack
@@ -45,7 +45,7 @@ returns-then-is_kept-clause-stack g c =
     let Kept : ℕ → Type 0 = λ level. (v : ℕ) → StandsBetween old frame.turn frame.top v →
     IsKeptAt game new winner level frame.player (1 - frame.player) v in
     subst Done (sym c.requires.done) (subst Won (sym c.is_kept.ensures.winner)
-    (kept_nest game old new winner order frames frame cursor
+    (kept_nest frames frame
     (subst Framed c.in-Some.ensures.items (subst Flag c.requires.done c.requires.stack)) c.is_kept.ensures.moved
     c.is_kept.ensures.fits (subst Kept depth (c.if-is_kept.ensures.kept refl))))
 
@@ -62,15 +62,11 @@ returns-then-is_kept-clause-falls g c =
     (length c.args.self.now.frames.items) next c.is_kept.ensures.moved.level)
 
 pub returns-then-is_kept-clause-deep : goal.returns-then-is_kept-clause-deep
-returns-then-is_kept-clause-deep g c so_far =
-    depth_climbs (g.A.Arena.game c.args.arena.now) c.args.self.now.board.tables.level c.is_kept.new.self.tables.level
-    (length c.args.self.now.frames.items) (length c.pop.new.self.items) c.args.self.now.solved
-    c.args.self.now.solved c.args.self.now.depth c.requires.done so_far
+returns-then-is_kept-clause-deep g c so_far = depth_climbs c.is_kept.new.self.tables.level (length c.pop.new.self.items)
+    c.args.self.now.solved c.requires.done so_far
 
 pub returns-else-is_kept-clause-deep : goal.returns-else-is_kept-clause-deep
-returns-else-is_kept-clause-deep g c =
-    on_ok_weaker c.go_on.result (λ same so_far.
-    depth_kept (g.A.Arena.game c.args.arena.now) c.args.self.now.board.tables.level c.go_on.new.self.board.tables.level
-    (length c.args.self.now.frames.items) (length c.go_on.new.self.frames.items) c.args.self.now.solved
-    c.go_on.new.self.solved c.args.self.now.depth c.go_on.new.self.depth same c.requires.done so_far)
+returns-else-is_kept-clause-deep g c = on_ok_weaker c.go_on.result (λ same so_far.
+    depth_kept c.go_on.new.self.board.tables.level (length c.go_on.new.self.frames.items)
+    c.go_on.new.self.solved c.go_on.new.self.depth same c.requires.done so_far)
     c.go_on.ensures.depth

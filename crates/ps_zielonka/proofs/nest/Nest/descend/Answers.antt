@@ -10,8 +10,7 @@ returns-else-cursor-len-clause-stack g c =
     let nest = c.args.self.now in
     let order : List ℕ = nest.order in
     let placed = c.first_unplaced-cursor.ensures.placed in
-    done_nest (g.A.Arena.game c.args.arena.now) nest.board.tables nest.board.winner.items order nest.frames.items
-    nest.cursor nest.solved c.requires.searches c.requires.stack
+    done_nest c.requires.searches c.requires.stack
     (λ j after within. placed j after (omega (arith, c.len.ensures)))
 
 pub returns-else-cursor-len-clause-falls : goal.returns-else-cursor-len-clause-falls
@@ -26,9 +25,6 @@ returns-else-cursor-len-clause-deep g c so_far =
     let nest = c.args.self.now in
     let order : List ℕ = nest.order in
     let placed = c.first_unplaced-cursor.ensures.placed in
-    let done =
-    done_nest (g.A.Arena.game c.args.arena.now) nest.board.tables nest.board.winner.items order nest.frames.items
-    nest.cursor nest.solved c.requires.searches c.requires.stack
+    let done = done_nest c.requires.searches c.requires.stack
     (λ j after within. placed j after (omega (arith, c.len.ensures))) in
-    depth_done (g.A.Arena.game c.args.arena.now) nest.board.tables nest.board.winner.items order nest.frames.items
-    nest.cursor nest.solved nest.depth done so_far
+    depth_done done so_far

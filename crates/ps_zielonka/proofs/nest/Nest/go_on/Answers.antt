@@ -4,17 +4,15 @@ use Rattle.ps_attractor.specs.Tables.{FitsGame}
 use Rattle.ps_zielonka.specs.Levels.{mark_of, aim_of}
 use Rattle.ps_zielonka.specs.Nests.{IsGiven}
 use Rattle.ps_zielonka.proofs.Climbs.{on_aim}
-use Rattle.ps_zielonka.proofs.Frames.{Reached, going_on, fits_reopened, last_waits, on_nest, on_falls}
+use Rattle.ps_zielonka.proofs.GoesOn.{Reached, going_on, fits_reopened, on_nest, on_falls}
+use Rattle.ps_zielonka.proofs.Frames.{last_waits}
 use Rattle.ps_zielonka.proofs.nest.Nest.go_on.Goals as goal
 
 pub attract-requires-clause-fits : goal.attract-requires-clause-fits
 attract-requires-clause-fits g c =
     let game = g.A.Arena.game c.args.arena.now in
-    let waits =
-    last_waits game c.args.self.now.board.tables c.args.self.now.board.winner.items c.args.self.now.order
-    c.args.self.now.frames.items c.args.frame c.args.self.now.cursor true c.requires.nest in
-    fits_reopened game c.args.self.now.board.winner.items c.args.frame.player (mark_of c.args.level) c.args.frame.turn
-    c.args.self.now.board.tables c.reopen.new.self.tables waits.segment.within c.requires.nest.sound.fits
+    let waits = last_waits c.args.self.now.frames.items c.args.frame c.requires.nest in
+    fits_reopened waits.segment.within c.requires.nest.sound.fits
     c.in_ok-reopen.ensures.reopened
 
 pub returns : goal.returns
@@ -34,8 +32,8 @@ returns g c =
     let is_level : level ≡ 2 * length frames + 1 = ap mark_of c.requires.level in
     let is_aim : aim ≡ on_aim (2 * length frames) frame = cc (c.opponent.ensures, is_level) in
     let Given : List ℕ → Type 0 = λ won. IsGiven aim.player aim.begin new won winner_now in
-    let waits = last_waits game old winner order frames frame cursor true c.requires.nest in
-    let fits_mid : FitsGame game mid = fits_reopened game winner frame.player level frame.turn old mid
+    let waits = last_waits frames frame c.requires.nest in
+    let fits_mid : FitsGame game mid = fits_reopened
     waits.segment.within c.requires.nest.sound.fits c.in_ok-reopen.ensures.reopened in
     let reached : Reached game level aim frame old mid new winner winner_now = record {
       reopened = c.in_ok-reopen.ensures.reopened;
@@ -43,12 +41,9 @@ returns g c =
       given = subst Given c.reopen.ensures.winner c.in_ok-attract.ensures.given;
       attracted = c.in_ok-attract.ensures.attracted;
     } in
-    let going = going_on game level aim old mid new winner winner_now order frames frame cursor c.requires.nest is_level
-    is_aim fits_mid c.in_ok-attract.ensures.fits reached in
+    let going = going_on frames c.requires.nest is_level is_aim fits_mid c.in_ok-attract.ensures.fits reached in
     record {
-      stack = on_nest game old mid new winner winner_now order frames frame cursor c.requires.nest going
-          c.in_ok-attract.ensures.fits c.in_ok-attract.ensures.winners;
-      falls = on_falls game level c.requires.lost.0 old mid new winner winner_now order frames frame cursor
-          c.requires.nest is_level going c.requires.lost.1 c.requires.lost.2;
+      stack = on_nest frames c.requires.nest going c.in_ok-attract.ensures.fits c.in_ok-attract.ensures.winners;
+      falls = on_falls frames c.requires.nest is_level going c.requires.lost.1 c.requires.lost.2;
       depth = refl;
     }

@@ -31,14 +31,13 @@ returns g c =
     let same : get_or tables.level v 0 ≡ UNPLACED =
     ap (λ xs. get_or xs v 0) levels ∙ get_or-replicate c.count-count.result v UNPLACED 0 (omega arith) in same) in
     let Calls : List Frame → Type 0 = λ frames. IsDepthSoFar game tables.level (length frames) false 0 in
-    let start = nest_start game tables winner order c.count-count.ensures.well_formed (subst Levels count levels)
+    let start = nest_start tables winner c.count-count.ensures.well_formed (subst Levels count levels)
     (subst Moves count c.in_ok-tables.ensures.moves) c.in_ok-tables.ensures.trail winners c.in_ok-order.ensures
     high in
     let Deep : TablesData → Type 0 = λ t. IsDepthSoFar game t.level (length c.new-2.result.items) false 0 in
     let Stack : TablesData → Type 0 = λ t. IsNest game t winner order c.new-2.result.items 0 false in
     record {
-      deep =
-          subst Deep (sym c.tables.view_is) (subst Calls (sym c.new-2.ensures.items)
+      deep = subst Deep (sym c.tables.view_is) (subst Calls (sym c.new-2.ensures.items)
           (depth_start game tables.level places));
       stack = subst Stack (sym c.tables.view_is) (subst Nest (sym c.new-2.ensures.items) start);
     }

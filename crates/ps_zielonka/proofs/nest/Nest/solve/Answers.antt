@@ -3,6 +3,4 @@ use Rattle.ps_zielonka.proofs.Deep.{depth_solved}
 use Rattle.ps_zielonka.proofs.nest.Nest.solve.Goals as goal
 
 pub returns-clause-depth : goal.returns-clause-depth
-returns-clause-depth g c =
-    depth_solved (g.A.Arena.game c.args.arena.now) c.steps.self.board.tables.level (length c.steps.self.frames.items)
-    c.steps.self.solved c.steps.self.depth c.if-not-self.false c.steps.invariant.deep
+returns-clause-depth g c = depth_solved c.if-not-self.false c.steps.invariant.deep

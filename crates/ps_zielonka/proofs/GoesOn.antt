@@ -1,0 +1,150 @@
+-- The last call that waits goes on: the stack without it, and the steps that are left fall.
+use Rattle.std.proofs.Common.{◌≡◌, ◌≢◌, ℕ, ◌+◌, ◌-◌, ◌*◌, ◌<◌, ◌≤◌, ◌⊎◌, inl, inr, List, [], ◌∷◌, ◌++◌, Bool, true}
+use Rattle.std.proofs.Common.{false, length, get_or, refl, subst, sym, ap, ◌∙◌, arith}
+use Rattle.std.proofs.lemmas.Bool.{cases_lt, false≢true}
+use Rattle.std.proofs.lemmas.List.Elements.{All-get_or, All-from_get_or}
+use Rattle.ps_game.specs.Games.{ParityGame, vertex_count}
+use Rattle.ps_attractor.specs.declared.aim.Aim.{Aim}
+use Rattle.ps_attractor.specs.Tables.{TablesData, FitsGame, level_of, moves_of}
+use Rattle.ps_attractor.specs.Aims.{StandsFrom, IsPosed, IsTaken, IsAttracted, IsGrown, rank_of}
+use Rattle.ps_zielonka.specs.declared.level.TheConstants.{UNPLACED}
+use Rattle.ps_zielonka.specs.declared.frame.Frame.{Frame}
+use Rattle.ps_zielonka.specs.Nests.{StandsBetween, IsNest, IsLostAt, IsReopened, IsGiven, steps_left}
+use Rattle.ps_zielonka.proofs.Measure.{falls_on}
+use Rattle.ps_zielonka.proofs.Sets.{size_from-same}
+use Rattle.ps_zielonka.proofs.Below.{agrees_at}
+use Rattle.ps_zielonka.proofs.Climbs.{on_aim, Going, was_open, stands_open, going_still, going_open, going_agrees}
+use Rattle.ps_zielonka.proofs.Climbs.{going_searches, going_fewer}
+use Rattle.ps_zielonka.proofs.Frames.{last_waits, last_solved, last_low, segment_below, below_wait, below_rise}
+
+-- ## The last call goes on
+
+pub on_nest : {game : ParityGame} {old mid new : TablesData} {winner winner_now order : List ℕ} (frames : List Frame)
+    {frame : Frame} {cursor : ℕ} → IsNest game old winner order (frames ++ frame ∷ []) cursor true →
+    Going game (2 * length frames) frame old mid new winner winner_now order → FitsGame game new →
+    length winner_now ≡ vertex_count game → IsNest game new winner_now order frames frame.cursor false
+on_nest {game} {old} {mid} {new} {winner} {winner_now} {order} frames {frame} {cursor} nest going fits winners =
+    let a : ℕ = 2 * length frames in
+    let agrees = going_agrees going in
+    let front = λ (j : ℕ) (before : j < frame.turn). going.grown.front j (omega arith)
+    ∙ going.reopened.front j before in
+    let level_at = λ (v : ℕ). (
+    let two : (level_of new v ≡ level_of old v) ⊎ ((level_of new v ≡ a + 1) ⊎ (level_of new v ≡ UNPLACED)) =
+    elim (cases_lt (level_of old v) (a + 2)) [
+      | inl small ↦ inl (going_still going v small).level
+      | inr high ↦ inr (elim (going_open going v high) [ inl decided ↦ inl decided.0 | inr free ↦ inr free ])
+    ] in
+    two) in
+    record {
+      sound = record {
+        is_game = nest.sound.is_game;
+        fits = fits;
+        winners = winners;
+        is_order = nest.sound.is_order;
+        high = nest.sound.high;
+        levels = λ v is_vertex. (
+            let some : 1 ≤ level_of old v = nest.sound.levels v is_vertex in
+            elim (level_at v) [
+              | inl same ↦ omega arith
+              | inr other ↦ elim other [ inl decided ↦ omega arith | inr free ↦ omega arith ]
+            ]);
+        most = λ v. (
+            let most : level_of old v ≤ UNPLACED = nest.sound.most v in
+            elim (level_at v) [
+              | inl same ↦ omega arith
+              | inr other ↦ elim other [ inl decided ↦ omega arith | inr free ↦ omega arith ]
+            ]);
+      };
+      waits = below_wait frames frame nest agrees (omega arith) front (λ b t less before segment.
+          segment_below (a + 1) frame.turn new less before going.waits.segment.within (omega arith) front
+          (λ j after within. (
+          let stands : StandsFrom new frame.turn (get_or new.trail j 0) =
+          record { place = j; after = after; within = within; is = refl } in
+          let high = stands_open going stands in
+          elim (going_open going (get_or new.trail j 0) high) [
+            | inl decided ↦ (let level : level_of new (get_or new.trail j 0) ≡ a + 1 = decided.0 in omega arith)
+            | inr free ↦ omega arith
+          ])) (λ v. elim (cases_lt (level_of old v) (a + 2)) [
+            | inl small ↦ inl (
+              (going_still going v small).level,
+              λ stands. (let high = was_open going stands in
+                  let h : ⊥ = omega arith in h),
+            )
+            | inr high ↦ inr (elim (going_open going v high) [
+              | inl decided ↦ (let level : level_of new v ≡ a + 1 = decided.0 in (omega arith, λ below. decided.1))
+              | inr free ↦ (omega arith, λ below. absurd (omega arith))
+            ])
+          ])
+          segment);
+      rises = below_rise frames frame nest;
+      searches = λ open_now. going_searches going;
+      done = λ solved_now. absurd (false≢true solved_now);
+    }
+
+-- what the steps leave, where the level of what is decided is told by its mark
+pub record Reached (game : ParityGame) (level : ℕ) (aim : Aim) (frame : Frame) (old mid new : TablesData)
+    (winner winner_now : List ℕ) : Type 0 where
+  pub reopened : IsReopened winner frame.player level frame.turn (StandsFrom old frame.turn) old mid
+  pub grown : IsGrown aim mid new
+  pub given : IsGiven aim.player aim.begin new winner winner_now
+  pub attracted : (subgame target set : ℕ → Bool) → IsPosed game aim mid subgame target → IsTaken aim new subgame set →
+      IsAttracted game subgame aim.player target set (moves_of new) (rank_of aim new)
+
+pub going_on : {game : ParityGame} {level : ℕ} {aim : Aim} {old mid new : TablesData} {winner winner_now order : List ℕ}
+    (frames : List Frame) {frame : Frame} {cursor : ℕ} → IsNest game old winner order (frames ++ frame ∷ []) cursor true
+    → level ≡ 2 * length frames + 1 → aim ≡ on_aim (2 * length frames) frame → FitsGame game mid → FitsGame game new →
+    Reached game level aim frame old mid new winner winner_now →
+    Going game (2 * length frames) frame old mid new winner winner_now order
+going_on {game} {aim} {old} {mid} {new} {winner} {winner_now} {order} frames {frame} {cursor} nest same aims fits_mid
+    fits_new reached =
+    let At : ℕ → Type 0 = λ l. Reached game l aim frame old mid new winner winner_now in
+    let Aimed : Aim → Type 0 = λ a. Reached game (2 * length frames + 1) a frame old mid new winner winner_now in
+    let here = subst Aimed aims (subst At same reached) in
+    record {
+      is_game = nest.sound.is_game;
+      low = last_low frames frame nest;
+      waits = last_waits frames frame nest;
+      solved = last_solved frames frame nest;
+      placed = (nest.done refl).placed;
+      reopened = here.reopened;
+      sizes = fits_new.levels ∙ sym fits_mid.levels;
+      grown = here.grown;
+      given = here.given;
+      attracted = here.attracted;
+    }
+
+-- the tables fit the game when vertices were put back
+pub fits_reopened : {game : ParityGame} {winner : List ℕ} {player level turn : ℕ} {old new : TablesData} →
+    turn ≤ length old.trail → FitsGame game old → IsReopened winner player level turn (StandsFrom old turn) old new →
+    FitsGame game new
+fits_reopened {game} {turn} {old} {new} within fits reopened =
+    let below = λ (j : ℕ) (less : j < length old.trail). All-get_or (λ v. v < vertex_count game) old.trail j 0 less
+    fits.vertices in
+    record {
+      levels = reopened.sizes ∙ fits.levels;
+      choices = ap length reopened.moves ∙ fits.choices;
+      vertices = All-from_get_or (λ v. v < vertex_count game) new.trail 0 (λ j less. elim (cases_lt j turn) [
+        | inl before ↦ (let is : get_or old.trail j 0 < vertex_count game = below j (omega arith) in
+            omega (arith, reopened.front j before))
+        | inr after ↦ (
+            let stands = (reopened.behind j after less).0 in
+            let is : get_or old.trail stands.place 0 < vertex_count game = below stands.place stands.within in
+            omega (arith, stands.is))
+      ]);
+    }
+
+-- the steps that are left fall
+pub on_falls : {game : ParityGame} {level v : ℕ} {old mid new : TablesData} {winner winner_now order : List ℕ}
+    (frames : List Frame) {frame : Frame} {cursor : ℕ} → IsNest game old winner order (frames ++ frame ∷ []) cursor true
+    → level ≡ 2 * length frames + 1 → Going game (2 * length frames) frame old mid new winner winner_now order →
+    StandsBetween old frame.turn frame.top v → IsLostAt game old winner level frame.player (1 - frame.player) v →
+    steps_left new.level (length frames) false < steps_left old.level (length frames + 1) true
+on_falls {game} {v} {old} {new} {winner} frames {frame} nest same going stands lost =
+    let k : ℕ = length frames in
+    let agrees = going_agrees going in
+    let Lost : ℕ → Type 0 = λ l. IsLostAt game old winner l frame.player (1 - frame.player) v in
+    falls_on old.level new.level k (k + 1) refl
+    (λ i below. size_from-same (2 * i + 2) old.level new.level agrees.sizes
+    (agrees_at (2 * i + 2) agrees (omega arith)))
+    (going_fewer going v nest.sound.fits.levels stands
+    (subst Lost same lost))
