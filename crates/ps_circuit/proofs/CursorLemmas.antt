@@ -1,7 +1,7 @@
 -- What the moves of a cursor read of a text, and how they fail.
-use Rattle.std.proofs.Common.{◌≡◌, ℕ, suc, ◌+◌, ◌-◌, ◌^◌, ◌<◌, ◌≤◌, Bool, true, false, not, cond, eqb, List}
-use Rattle.std.proofs.Common.{[], ◌∷◌, ◌++◌, length, take, drop, get_or, Option, None, Some, Result, Ok, Err}
-use Rattle.std.proofs.Common.{IsErrAnd, refl, sym, ap, ap₂, subst, inl, ◌∙◌, append_assoc, arith, length-append}
+use Rattle.std.proofs.Common.{◌≡◌, ℕ, suc, ◌+◌, ◌-◌, ◌^◌, ◌<◌, ◌≤◌, Bool, true, false, not, cond, eqb, List, [], ◌∷◌}
+use Rattle.std.proofs.Common.{◌++◌, length, take, drop, get_or, Option, None, Some, Result, Ok, Err, IsErrAnd, refl}
+use Rattle.std.proofs.Common.{sym, ap, ap₂, subst, inl, ◌∙◌, append_assoc, arith, length-append}
 use Rattle.std.specs.Option.{option_map}
 use Rattle.std.specs.List.{prefix_len, take_while}
 use Rattle.std.specs.Char.{is_ascii_digit}
@@ -25,8 +25,7 @@ use Rattle.ps_circuit.specs.declared.fault.AigCause.TheVariants.{Syntax}
 use Rattle.ps_circuit.specs.Causes.{AigFault}
 use Rattle.ps_text.specs.declared.faults.Fault.TheVariants.{Text, OutOfMemory}
 use Rattle.ps_circuit.specs.Signs.{Seen, pieces_at, ends_line, stream_of, aig_causes, Field, take_byte, byte, word}
-use Rattle.ps_circuit.specs.Signs.{is_digit, is_blank, is_inner, gap, rest_of_line, newline, line_end, more}
-use Rattle.ps_circuit.specs.Signs.{NoBadRun}
+use Rattle.ps_circuit.specs.Signs.{is_digit, is_blank, is_inner, gap, rest_of_line, newline, line_end, more, NoBadRun}
 use Rattle.ps_circuit.specs.declared.cursor.Class.{Class}
 use Rattle.ps_circuit.specs.declared.cursor.Class.TheVariants.{Digit, Blank, Inner}
 use Rattle.ps_circuit.specs.Cursors.{in_class, ended, next_byte, place_of, found_of, Tells, Passes, saturated}
@@ -41,9 +40,9 @@ pub exit : {V X : Type 0} (view : X → V) (P : Field V) (old new : Stream Seen)
     Stops aig_causes P old (found_of e) → IsErrAnd r (λ y. y ≡ e) → Tells view P old r new
 exit view P old new e r m i = exits found_of aig_causes view P old new e r m i
 
-pub memory_exit : {V X : Type 0} (view : X → V) (P : Field V) (old new : Stream Seen) (e : AigFault)
+pub memory_exit : {V X : Type 0} (view : X → V) (P : Field V) (old new : Stream Seen) {e : AigFault}
     (r : Result X AigFault) → e ≡ OutOfMemory → IsErrAnd r (λ y. y ≡ e) → Tells view P old r new
-memory_exit view P old new e r m i =
+memory_exit view P old new {e} r m i =
     exit view P old new e r (subst (λ y. Stops aig_causes P old (found_of y)) (sym m) tt) i
 
 -- ## The beginning
@@ -56,9 +55,9 @@ last_ends (b ∷ c ∷ cs) h =
     let e' : suc (length cs) - 1 ≡ length cs = omega arith in
     last_ends (c ∷ cs) (omega arith) ∙ rw (e, e') refl
 
-pub new_stream : (text : List ℕ) (b : Bool) → b ≡ ends_line text →
+pub new_stream : (text : List ℕ) {b : Bool} → b ≡ ends_line text →
     record { pieces = pieces_at 0 (ended (not b) text); end = 0 + length text } ≡ stream_of text
-new_stream text b e =
+new_stream text {b} e =
     let end : 0 + length text ≡ length text = omega arith in
     ap₂ (λ (ps : List (Piece Seen)) (n : ℕ). record { pieces = ps; end = n })
     (ap (pieces_at 0) (go b ∙ ap (λ x. cond x text (text ++ 10 ∷ [])) e)) end
@@ -75,30 +74,30 @@ pub new_small : (text : List ℕ) (u : Bool) → length text < 2 ^ 63 → length
 new_small text true l = omega (arith, length_pieces 0 (text ++ 10 ∷ []), length-append text (10 ∷ []), l)
 new_small text false l = omega (arith, length_pieces 0 text, l)
 
-pub place_is : (at : ℕ) (rest : List ℕ) (u : Bool) → at ≡ place_of
+pub place_is : {at : ℕ} (rest : List ℕ) (u : Bool) → at ≡ place_of
     (record { pieces = pieces_at at (ended u rest); end = at + length rest })
-place_is at [] true = refl
-place_is at [] false = omega arith
-place_is at (b ∷ rest) true = refl
-place_is at (b ∷ rest) false = refl
+place_is [] true = refl
+place_is [] false = omega arith
+place_is (b ∷ rest) true = refl
+place_is (b ∷ rest) false = refl
 
 -- ## Bytes
 
-pub next_is : (b : ℕ) (o : Option Seen) → option_map (λ s. s.byte) o ≡ Some b → (t : Seen) × (o ≡ Some t) × (t.byte ≡ b)
-next_is b None e = absurd (none_is_some b e)
-next_is b (Some t) e = (t, refl, same_some t.byte b e)
+pub next_is : {b : ℕ} (o : Option Seen) → option_map (λ s. s.byte) o ≡ Some b → (t : Seen) × (o ≡ Some t) × (t.byte ≡ b)
+next_is {b} None e = absurd (none_is_some b e)
+next_is {b} (Some t) e = (t, refl, same_some t.byte b e)
 
-pub byte_reads : (b : ℕ) (old new : Stream Seen) → next_byte old ≡ Some b → new ≡ tail old → Reads (byte b) old tt new
+pub byte_reads : {b : ℕ} {old new : Stream Seen} → next_byte old ≡ Some b → new ≡ tail old → Reads (byte b) old tt new
 unfolding byte
-byte_reads b old new e n =
-    let t = next_is b (next_of old) e in
-    reads_next (take_byte b) NoBad old new t.0 tt t.1 n (byte_taken b t.0 t.2) (λ f h. h)
+byte_reads {b} {old} {new} e n =
+    let t = next_is (next_of old) e in
+    reads_next (take_byte b) NoBad old new t.0 tt t.1 n (byte_taken t.0 t.2) (λ f h. h)
 
-pub byte_stops : (b : ℕ) (old : Stream Seen) (e : AigFault) → (next_byte old ≡ Some b → ⊥) →
+pub byte_stops : (b : ℕ) (old : Stream Seen) {e : AigFault} → (next_byte old ≡ Some b → ⊥) →
     e ≡ Text Syntax (place_of old) → Stops aig_causes (byte b) old (found_of e)
-byte_stops b old e none is =
+byte_stops b old none is =
     subst (λ x. Stops aig_causes (byte b) old (found_of x)) (sym is)
-    (stops_here (laws_byte b) old (λ t n h. none (ap (option_map (λ (s : Seen). s.byte)) n ∙ ap Some h)))
+    (stops_here (laws_byte b) (λ t n h. none (ap (option_map (λ (s : Seen). s.byte)) n ∙ ap Some h)))
 
 -- ## Runs
 
@@ -106,12 +105,12 @@ nil_of : (xs : List ℕ) → length xs ≡ 0 → xs ≡ []
 nil_of [] h = refl
 nil_of (x ∷ xs) h = absurd (omega (arith, h))
 
-pub is_empty_true : (r : List ℕ) (b : Bool) → b ≡ eqb (length r) 0 → b ≡ true → r ≡ []
-is_empty_true r b e t = nil_of r (eqb-true (length r) 0 (sym e ∙ t))
+pub is_empty_true : {r : List ℕ} {b : Bool} → b ≡ eqb (length r) 0 → b ≡ true → r ≡ []
+is_empty_true {r} e t = nil_of r (eqb-true (length r) 0 (sym e ∙ t))
 
-pub is_empty_false : (r : List ℕ) (b : Bool) → b ≡ eqb (length r) 0 → b ≡ false → 0 < length r
-is_empty_false [] b e f = let x : true ≡ false = sym e ∙ f in cc
-is_empty_false (x ∷ r) b e f = omega arith
+pub is_empty_false : (r : List ℕ) {b : Bool} → b ≡ eqb (length r) 0 → b ≡ false → 0 < length r
+is_empty_false [] e f = let x : true ≡ false = sym e ∙ f in cc
+is_empty_false (x ∷ r) e f = omega arith
 
 stops_ended : (p : ℕ → Bool) (u : Bool) (rest : List ℕ) → p 10 ≡ false → StopsBefore p rest →
     StopsBefore p (ended u rest)
@@ -124,18 +123,18 @@ ended_append : (u : Bool) (a b : List ℕ) → ended u (a ++ b) ≡ a ++ ended u
 ended_append true a b = append_assoc a b (10 ∷ [])
 ended_append false a b = refl
 
-pub passes_run : (p : ℕ → Bool) → p 10 ≡ false → (at n : ℕ) (rest run behind : List ℕ) (u : Bool) →
+pub passes_run : {p : ℕ → Bool} → p 10 ≡ false → (at : ℕ) {n : ℕ} (rest : List ℕ) {run behind : List ℕ} (u : Bool) →
     n ≡ prefix_len p rest → run ≡ take n rest → behind ≡ drop n rest → length run ≡ n
     → Passes p (record { pieces = pieces_at at (ended u rest); end = at + length rest })
     (record { pieces = pieces_at (at + n) (ended u behind); end = (at + n) + length behind }) run
-passes_run p line at n rest run behind u size taken left each = record {
+passes_run {p} line at {n} rest {run} {behind} u size taken left each = record {
   at = at;
   rest = ended u behind;
   old_is = ap (pieces_at at) (ap (ended u) whole ∙ ended_append u run behind);
   new_is = ap (λ k. pieces_at (at + k) (ended u behind)) (sym each);
   end = let l : length rest ≡ length run + length behind = ap length whole ∙ length-append run behind in
       omega (arith, l, each);
-  place = place_is at rest u;
+  place = place_is rest u;
   all = subst (AllOf p) (sym (taken ∙ ap (λ k. take k rest) size)) (run_all p rest);
   longest = subst (λ r. StopsBefore p (ended u r)) (sym behind_is)
       (stops_ended p u (drop (prefix_len p rest) rest) line (run_ends p rest));
@@ -147,40 +146,40 @@ passes_run p line at n rest run behind u size taken left each = record {
     whole : rest ≡ run ++ behind
     whole = sym (take-append-drop n rest) ∙ ap₂ (λ (x y : List ℕ). x ++ y) (sym taken) (sym left)
 
-pub same_place : (p : ℕ → Bool) (old new : Stream Seen) (r : List ℕ) → Passes p old new r → r ≡ [] → new ≡ old
-same_place p old new r x e =
+pub same_place : {p : ℕ → Bool} {old new : Stream Seen} {r : List ℕ} → Passes p old new r → r ≡ [] → new ≡ old
+same_place {p} {old} {new} x e =
     let y : Passes p old new [] = subst (Passes p old new) e x in
     let k : y.at + 0 ≡ y.at = omega arith in
     ap₂ (λ (ps : List (Piece Seen)) (n : ℕ). record { pieces = ps; end = n })
     (y.new_is ∙ ap (λ a. pieces_at a y.rest) k ∙ sym y.old_is) y.end
 
-pub gap_reads : (old new : Stream Seen) (r : List ℕ) → Passes is_blank old new r → 0 < length r → Reads gap old tt new
+pub gap_reads : {old new : Stream Seen} {r : List ℕ} → Passes is_blank old new r → 0 < length r → Reads gap old tt new
 unfolding gap
-gap_reads old new r x some = run_reads is_blank (λ at bytes. tt) NoBadRun old new r tt x some (λ f h. h) refl
+gap_reads {old} {new} {r} x some = run_reads is_blank (λ at bytes. tt) NoBadRun x some (λ f h. h) refl
 
-pub gap_stops : (old new : Stream Seen) (r : List ℕ) (e : AigFault) → Passes is_blank old new r → r ≡ [] →
+pub gap_stops : {old new : Stream Seen} {r : List ℕ} {e : AigFault} → Passes is_blank old new r → r ≡ [] →
     e ≡ Text Syntax (place_of old) → Stops aig_causes gap old (found_of e)
 unfolding gap
-gap_stops old new r e x none is =
+gap_stops {old} {new} x none is =
     subst (λ y. Stops aig_causes gap old (found_of y)) (sym is)
-    (run_stops is_blank (λ at bytes. tt) NoBadRun 32 refl old new (subst (Passes is_blank old new) none x))
+    (run_stops is_blank (λ at bytes. tt) NoBadRun 32 refl (subst (Passes is_blank old new) none x))
 
-pub rest_reads : (old new : Stream Seen) (r : List ℕ) → Passes is_inner old new r → 0 < length r →
+pub rest_reads : {old new : Stream Seen} {r : List ℕ} → Passes is_inner old new r → 0 < length r →
     Reads rest_of_line old r new
 unfolding rest_of_line
-rest_reads old new r x some = run_reads is_inner (λ at bytes. bytes) NoBadRun old new r r x some (λ f h. h) refl
+rest_reads {old} {new} {r} x some = run_reads is_inner (λ at bytes. bytes) NoBadRun x some (λ f h. h) refl
 
-pub rest_stops : (old new : Stream Seen) (r : List ℕ) (e : AigFault) → Passes is_inner old new r → r ≡ [] →
+pub rest_stops : {old new : Stream Seen} {r : List ℕ} {e : AigFault} → Passes is_inner old new r → r ≡ [] →
     e ≡ Text Syntax (place_of old) → Stops aig_causes rest_of_line old (found_of e)
 unfolding rest_of_line
-rest_stops old new r e x none is =
+rest_stops {old} {new} x none is =
     subst (λ y. Stops aig_causes rest_of_line old (found_of y)) (sym is)
-    (run_stops is_inner (λ at bytes. bytes) NoBadRun 32 refl old new (subst (Passes is_inner old new) none x))
+    (run_stops is_inner (λ at bytes. bytes) NoBadRun 32 refl (subst (Passes is_inner old new) none x))
 
 -- no byte of the class comes next
-pub avoids_run : (p : ℕ → Bool) (old new : Stream Seen) → Passes p old new [] →
+pub avoids_run : {p : ℕ → Bool} {old new : Stream Seen} → Passes p old new [] →
     Avoids (λ (s : Seen). p s.byte ≡ true) (next_of old)
-avoids_run p old new x t n h = go x.rest x.longest (sym (ap (λ z. first_of (signs z)) x.old_is) ∙ n)
+avoids_run {p} x t n h = go x.rest x.longest (sym (ap (λ z. first_of (signs z)) x.old_is) ∙ n)
   where
     go : (rest : List ℕ) → StopsBefore p rest → first_of (signs (pieces_at x.at rest)) ≡ Some t → ⊥
     go [] s n = none_is_some t n
@@ -188,38 +187,36 @@ avoids_run p old new x t n h = go x.rest x.longest (sym (ap (λ z. first_of (sig
         let byte : c ≡ t.byte =
         ap (λ (s : Seen). s.byte) (same_some (record { byte = c; at = x.at; behind = rest }) t n) in
         let k : p c ≡ true = ap p byte ∙ h in
-        let m : p c ≡ false = s in
         cc
 
-blanks_read : (old new : Stream Seen) (r : List ℕ) → Passes is_blank old new r → (b : Bool) → eqb (length r) 0 ≡ b →
+blanks_read : {old new : Stream Seen} {r : List ℕ} → Passes is_blank old new r → (b : Bool) → eqb (length r) 0 ≡ b →
     Reads (either gap (give tt)) old tt new
-blanks_read old new r x true e =
-    let none = is_empty_true r true (sym e) refl in
+blanks_read {old} {new} x true e =
+    let none = is_empty_true (sym e) refl in
     let y : Passes is_blank old new [] = subst (Passes is_blank old new) none x in
-    subst (λ z. Reads (either gap (give tt)) old tt z) (sym (same_place is_blank old new r x none))
+    subst (λ z. Reads (either gap (give tt)) old tt z) (sym (same_place x none))
     (reads_as {P = give tt} {Q = either gap (give tt)} {old = old} {new = old} {v = tt}
-    (right_otherwise laws_gap (laws_give Odd tt) (next_of old) (avoids_run is_blank old new y) (λ z. z))
-    (reads_give old tt))
-blanks_read old new r x false e =
-    let m = gap_reads old new r x (is_empty_false r false (sym e) refl) in
+    (right_otherwise laws_gap (laws_give Odd tt) (next_of old) (avoids_run y) (λ z. z)) (reads_give old tt))
+blanks_read {old} {new} {r} x false e =
+    let m = gap_reads x (is_empty_false r (sym e) refl) in
     reads_as {P = gap} {Q = either gap (give tt)} {old = old} {new = new} {v = tt}
     (left_entered laws_gap (laws_give Odd tt) (next_of old) (λ t h k. k)
     (enters_read gap (signs old.pieces) (signs new.pieces) tt (λ w h. laws_gap.null w h) m.1)) m
 
-pub line_end_tells : (old mid new : Stream Seen) (r : List ℕ) (result : Result (Unit {0}) AigFault) →
+pub line_end_tells : {old mid : Stream Seen} (new : Stream Seen) {r : List ℕ} (result : Result (Unit {0}) AigFault) →
     Passes is_blank old mid r → Tells (λ u. u) newline mid result new → Tells (λ u. u) line_end old result new
 unfolding line_end
-line_end_tells old mid new r (Ok u) x m =
-    reads_then (joint laws_blanks (λ _. laws_newline) blank_newline) (blanks_read old mid r x (eqb (length r) 0) refl) m
-line_end_tells old mid new r (Err e) x m =
+line_end_tells new {r} (Ok u) x m =
+    reads_then (joint laws_blanks (λ _. laws_newline) blank_newline) (blanks_read x (eqb (length r) 0) refl) m
+line_end_tells new {r} (Err e) x m =
     stops_behind aig_causes (joint laws_blanks (λ _. laws_newline) blank_newline)
-    (blanks_read old mid r x (eqb (length r) 0) refl) (found_of e) m
+    (blanks_read x (eqb (length r) 0) refl) (found_of e) m
 
 -- ## A further field
 
 avoids_blank : (old : Stream Seen) → next_byte old ≡ Some 10 → Avoids AtBlank (next_of old)
 avoids_blank old e t n h =
-    let s = next_is 10 (next_of old) e in
+    let s = next_is (next_of old) e in
     let same : s.0 ≡ t = same_some s.0 t (sym s.1 ∙ n) in
     blank_newline t h (ap (λ (x : Seen). x.byte) (sym same) ∙ s.2)
 
@@ -229,8 +226,8 @@ avoids_newline old none t n h = none (ap (option_map (λ (s : Seen). s.byte)) n 
 enters_newline : (old : Stream Seen) → next_byte old ≡ Some 10 → Enters newline (next_of old)
 unfolding newline byte
 enters_newline old e =
-    let t = next_is 10 (next_of old) e in
-    subst (Enters newline) (sym t.1) (enters_one (take_byte 10) NoBad t.0 (inl (tt, byte_taken 10 t.0 t.2)))
+    let t = next_is (next_of old) e in
+    subst (Enters newline) (sym t.1) (enters_one (take_byte 10) NoBad t.0 (inl (tt, byte_taken t.0 t.2)))
 
 module _ (old : Stream Seen) where
   at_line_end : next_byte old ≡ Some 10 → Stands (next_of old) ends_here more
@@ -241,8 +238,8 @@ module _ (old : Stream Seen) where
   unfolding more
   at_gap none = right_otherwise laws_ends_here laws_gap_more (next_of old) (avoids_newline old none) (λ z. z)
 
-  pub more_ends : (new : Stream Seen) → next_byte old ≡ Some 10 → Reads newline old tt new → Reads more old false new
-  more_ends new e m =
+  pub more_ends : {new : Stream Seen} → next_byte old ≡ Some 10 → Reads newline old tt new → Reads more old false new
+  more_ends {new} e m =
       reads_as {P = ends_here} {Q = more} {old = old} {new = new} {v = false} (at_line_end e)
       (reads_mapped (λ _. false) m)
 
@@ -264,9 +261,9 @@ module _ (old : Stream Seen) where
         left_entered laws_ends_here (laws_give Odd true) (next_of mid) (λ t h k. k)
         (enters_mapped (λ _. false) newline (next_of mid) (enters_newline mid e))
 
-    pub behind_gap_ends : (new : Stream Seen) → next_byte mid ≡ Some 10 → Reads newline mid tt new →
+    pub behind_gap_ends : {new : Stream Seen} → next_byte mid ≡ Some 10 → Reads newline mid tt new →
         Reads more old false new
-    behind_gap_ends new e m =
+    behind_gap_ends {new} e m =
         reads_as {P = gap_more} {Q = more} {old = old} {new = new} {v = false} (at_gap none)
         (reads_then joint_gap_more g (reads_as {P = ends_here} {Q = behind_gap} {old = mid} {new = new} {v = false}
         (behind_ends e) (reads_mapped (λ _. false) m)))
@@ -287,16 +284,15 @@ module _ (old : Stream Seen) where
 
 -- ## Values
 
-pub value_held : (digits : List ℕ) (v : ℕ) → AllOf is_digit digits → v < 2 ^ 64 →
+pub value_held : (digits : List ℕ) {v : ℕ} → AllOf is_digit digits → v < 2 ^ 64 →
     v ≡ decimal_value (take_while is_ascii_digit digits) → v ≡ saturated (decimal_value digits)
-value_held digits v all small e =
+value_held digits {v} all small e =
     let whole : v ≡ decimal_value digits = e ∙ ap decimal_value (run_whole is_ascii_digit digits all) in
     omega (arith, whole, small)
 
 pub value_large : (digits : List ℕ) → AllOf is_digit digits →
     2 ^ 64 ≤ decimal_value (take_while is_ascii_digit digits) → 18446744073709551615 ≡ saturated (decimal_value digits)
-value_large digits all large =
-    omega (arith, large, ap decimal_value (run_whole is_ascii_digit digits all))
+value_large digits all large = omega (arith, large, ap decimal_value (run_whole is_ascii_digit digits all))
 
 pub joint_word : (b : ℕ) (bytes : List ℕ) → Joint (byte b) (λ _. word bytes)
 joint_word b bytes = joint (laws_byte b) (λ _. laws_word bytes) (λ t x y. x)

@@ -4,13 +4,12 @@
 --     past_header, past_lines, all_reads      section by section
 --     answered      the answer to a text
 --     draft_fails, lines_exit, draft_trails      the exits of the reading of a text
-use Rattle.std.proofs.Common.{◌≡◌, ℕ, ◌^◌, ◌≤◌, List, [], ◌∷◌, length, Option, None}
-use Rattle.std.proofs.Common.{Some, Result, Ok, Err, IsErrAnd, All, refl, sym, ap, ap₂, subst, ◌∙◌}
-use Rattle.std.proofs.Common.{arith, length-append}
+use Rattle.std.proofs.Common.{◌≡◌, ℕ, ◌^◌, ◌≤◌, List, [], ◌∷◌, length, Option, None, Some, Result, Ok, Err, IsErrAnd}
+use Rattle.std.proofs.Common.{All, refl, sym, ap, ap₂, subst, ◌∙◌, arith, length-append}
 use Rattle.std.specs.Prelude.{replicate, IfOk}
 use Rattle.std.proofs.lemmas.Result.{err_from_is_err_and}
-use Rattle.ps_text.specs.Answers.{Piece, Stream, Found, signs, first_of, next_of}
-use Rattle.ps_text.specs.Parts.{PartAnswers, then_by, times, many, mapped}
+use Rattle.ps_text.specs.Answers.{Piece, Stream, Found, signs}
+use Rattle.ps_text.specs.Parts.{PartAnswers, then_by, times, many}
 use Rattle.ps_text.specs.Readers.{Reads as ReadsPart, Stops, Carries}
 use Rattle.ps_text.proofs.Laws.{Joint}
 use Rattle.ps_text.proofs.Exits.{reads_mapped, stops_first, carries_start, carries_reads, carries_stops, carries_then}
@@ -54,10 +53,10 @@ text_reads text new d e m =
     answers_ok laws_text (stream_of text) d (subst (λ ps. Rattle.ps_text.specs.Parts.IsRead circuit_text
     (signs (stream_of text).pieces) d (signs ps)) e m.1)
 
-pub text_trails : (text : List ℕ) (new : Stream Seen) (d : DraftData) (b : ℕ) (e : AigFault) →
+pub text_trails : (text : List ℕ) (new : Stream Seen) (d : DraftData) {b : ℕ} {e : AigFault} →
     ReadsPart circuit_text (stream_of text) d new → next_byte new ≡ Some b → e ≡ Text Syntax (place_of new) →
     FoundAnswers text (found_of e)
-text_trails text new d b e m n is = subst (λ x. FoundAnswers text (found_of x)) (sym is) (go new.pieces refl)
+text_trails text new d {b} m n is = subst (λ x. FoundAnswers text (found_of x)) (sym is) (go new.pieces refl)
   where
     go : (ps : List (Piece Seen)) → new.pieces ≡ ps → PartAnswers aig_causes circuit_text (stream_of text)
         (Err (record { cause = Syntax; offset = place_of new }))
@@ -78,8 +77,8 @@ pub record Reached (start now : Stream Seen) (left : Field DraftData) : Type 0 w
 
 module _ {A : Type 0} {P : Field A} {Q : A → Field DraftData} (j : Joint P Q) {start now : Stream Seen}
     (r : Reached start now (then_by P Q)) where
-  reads_on : (a : A) (next : Stream Seen) → ReadsPart P now a next → Reached start next (Q a)
-  reads_on a next m = record {
+  reads_on : (a : A) {next : Stream Seen} → ReadsPart P now a next → Reached start next (Q a)
+  reads_on a {next} m = record {
     carries = carries_then aig_causes j r.carries m;
     short = omega (arith, ap length m.0.split, length-append m.0.taken next.pieces, r.short);
   }
@@ -121,17 +120,16 @@ pub past_header : {start next : Stream Seen} {most : ℕ} {d : HeaderData} → m
 unfolding circuit_text body
 past_header {start} {next} {most} {d} e short m =
     reads_on joint_text (record { carries = carries_start aig_causes circuit_text start; short = short })
-    (numbers most d) next
-    (value_is header start next d (numbers most d) (ap (λ k. numbers k d) (sym e)) m)
+    (numbers most d) (value_is (ap (λ k. numbers k d) (sym e)) m)
 
 -- the lines of one kind, as the code counts them, behind what it has noted
 pub past_lines : {A : Type 0} (item : Lines A → Field (Lines A)) (n : ℕ) {count : ℕ} {c d : Lines A}
     {Q : Lines A → Field DraftData} → Joint (times n item c) Q → count ≡ saturated n → d ≡ c → {start now : Stream Seen}
-    → Reached start now (then_by (times n item c) Q) → (a : Lines A) (next : Stream Seen) →
+    → Reached start now (then_by (times n item c) Q) → (a : Lines A) {next : Stream Seen} →
     ((k : ℕ) → count ≡ saturated k → length now.pieces ≤ 2 ^ 63 → ReadsPart (times k item d) now a next) →
     Reached start next (Q a)
-past_lines item n j counted is {now = now} r a next m =
-    reads_on j r a next (subst (λ x. ReadsPart (times n item x) now a next) is (m n counted r.short))
+past_lines item n j counted is {now = now} r a {next} m =
+    reads_on j r a (subst (λ x. ReadsPart (times n item x) now a next) is (m n counted r.short))
 
 -- the names, and the comment behind them
 module _ (most : ℕ) (i : Lines ℕ) (l : Lines Latch) (u : Lines ℕ) (a : Lines Gate) {start now : Stream Seen}
@@ -146,7 +144,7 @@ module _ (most : ℕ) (i : Lines ℕ) (l : Lines Latch) (u : Lines ℕ) (a : Lin
       ReadsPart comment next tt last → ReadsPart circuit_text start (drafted most i l u a names) last
   unfolding symbols
   all_reads {names} {next} {last} m k =
-      carries_reads aig_causes (reads_on (joint_symbols most i l u a) r names next
+      carries_reads aig_causes (reads_on (joint_symbols most i l u a) r names
       (subst (λ n. ReadsPart (many symbol_line n) now names next) en m)).carries
       (reads_mapped (λ _. drafted most i l u a names) k)
 
@@ -180,10 +178,10 @@ module _ (text : List ℕ) (d : DraftData) (okay : PartAnswers aig_causes circui
 
 -- ## The exits of the reading of a text
 
-pub draft_fails : (text : List ℕ) (start : Stream Seen) (e : AigFault) (r : Result Draft AigFault) →
+pub draft_fails : (text : List ℕ) {start : Stream Seen} (e : AigFault) (r : Result Draft AigFault) →
     start ≡ stream_of text → Stops aig_causes circuit_text start (found_of e) → IsErrAnd r (λ y. y ≡ e) →
     TellsDraft text r
-draft_fails text start e r is s i = let y = err_from_is_err_and r i in
+draft_fails text e r is s i = let y = err_from_is_err_and r i in
     subst (TellsDraft text) (sym (y.1 ∙ ap Err y.2)) (text_stops text e
     (subst (λ x. Stops aig_causes circuit_text x (found_of e)) is s))
 
@@ -195,39 +193,38 @@ pub lines_exit : {A : Type 0} (item : Lines A → Field (Lines A)) (n : ℕ) {co
     ((k : ℕ) → count ≡ saturated k → length now.pieces ≤ 2 ^ 63 → Stops aig_causes (times k item d) now (found_of e)) →
     IsErrAnd result (λ y. y ≡ e) → TellsDraft text result
 lines_exit item n {d = d} j counted is {start = start} {now = now} r text e result begins m exit =
-    draft_fails text start e result begins (fails_there j r (found_of e) (subst
+    draft_fails text e result begins (fails_there j r (found_of e) (subst
     (λ x. Stops aig_causes (times n item x) now (found_of e)) is (m n counted r.short))) exit
 
-pub draft_memory : (text : List ℕ) (e : AigFault) (r : Result Draft AigFault) → e ≡ OutOfMemory →
+pub draft_memory : (text : List ℕ) {e : AigFault} (r : Result Draft AigFault) → e ≡ OutOfMemory →
     IsErrAnd r (λ y. y ≡ e) → TellsDraft text r
-draft_memory text e r m i = let y = err_from_is_err_and r i in subst (TellsDraft text) (sym (y.1 ∙ ap Err (y.2 ∙ m))) tt
+draft_memory text r m i = let y = err_from_is_err_and r i in subst (TellsDraft text) (sym (y.1 ∙ ap Err (y.2 ∙ m))) tt
 
 pub draft_trails : (text : List ℕ) {start s6 : Stream Seen} (s7 : Stream Seen) {d : DraftData} {e : AigFault}
     (r : Result Draft AigFault) → start ≡ stream_of text → TellsComment s6 (Err e) s7 →
-    (ReadsPart comment s6 tt s6 → ReadsPart circuit_text start d s6) → IsErrAnd r (λ y. y ≡ e)
-    → TellsDraft text r
+    (ReadsPart comment s6 tt s6 → ReadsPart circuit_text start d s6) → IsErrAnd r (λ y. y ≡ e) → TellsDraft text r
 draft_trails text {start} {s6} s7 {d} {e} r is c m i =
     let y = err_from_is_err_and r i in
     let none : next_byte s6 ≡ Some 99 → ⊥ = λ h. c.2 (same_some c.0 99 (sym c.1 ∙ h)) in
-    subst (TellsDraft text) (sym (y.1 ∙ ap Err y.2)) (text_trails text s6 d c.0 e
-    (subst (λ x. ReadsPart circuit_text x d s6) is (m (comment_other s6 none))) c.1 c.3)
+    subst (TellsDraft text) (sym (y.1 ∙ ap Err y.2)) (text_trails text s6 d
+    (subst (λ x. ReadsPart circuit_text x d s6) is (m (comment_other none))) c.1 c.3)
 
 pub draft_reads : (text : List ℕ) {start s7 : Stream Seen} {d : DraftData} → start ≡ stream_of text → s7.pieces ≡ [] →
     ReadsPart circuit_text start d s7 → PartAnswers aig_causes circuit_text (stream_of text) (Ok d)
 draft_reads text {start} {s7} {d} is e m = text_reads text s7 d e (subst (λ x. ReadsPart circuit_text x d s7) is m)
 
 -- no names at all
-none_of : {A : Type 0} (n : ℕ) (items : List A) → n ≡ length items → replicate n None ≡ no_names items
-none_of n [] e = ap (λ k. replicate k None) e
-none_of n (x ∷ items) e = ap (λ k. replicate k None) e ∙ ap (λ xs. None ∷ xs) (none_of (length items) items refl)
+none_of : {A : Type 0} {n : ℕ} (items : List A) → n ≡ length items → replicate n None ≡ no_names items
+none_of [] e = ap (λ k. replicate k None) e
+none_of (x ∷ items) e = ap (λ k. replicate k None) e ∙ ap (λ xs. None ∷ xs) (none_of items refl)
 
-pub none_named : (most : ℕ) (i : Lines ℕ) (l : Lines Latch) (u : Lines ℕ) (a : Lines Gate) (names : NamesData)
-    (ni nl nu : ℕ) → AreNone names ni nl nu → ni ≡ length i.items → nl ≡ length l.items → nu ≡ length u.items →
+pub none_named : (most : ℕ) (i : Lines ℕ) (l : Lines Latch) (u : Lines ℕ) (a : Lines Gate) {names : NamesData}
+    {ni nl nu : ℕ} → AreNone names ni nl nu → ni ≡ length i.items → nl ≡ length l.items → nu ≡ length u.items →
     names ≡ first_names most i l u a
-none_named most i l u a names ni nl nu x e f g =
-    let one = x.inputs_none ∙ none_of ni i.items e in
-    let two = x.latches_none ∙ none_of nl l.items f in
-    let three = x.outputs_none ∙ none_of nu u.items g in
+none_named most i l u a x e f g =
+    let one = x.inputs_none ∙ none_of i.items e in
+    let two = x.latches_none ∙ none_of l.items f in
+    let three = x.outputs_none ∙ none_of u.items g in
     rw_names one two three
   where
     named : List (Option (List ℕ)) → List (Option (List ℕ)) → List (Option (List ℕ)) → NamesData

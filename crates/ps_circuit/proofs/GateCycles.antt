@@ -27,10 +27,10 @@ module _ (R : ℕ → ℕ → Type 0) (decide : (i j : ℕ) → Decided (R i j))
   joined (last r) w = next r w
   joined (next r v) w = next r (joined v w)
 
-  way_of : (n i j : ℕ) → Through n i j → Way R i j
-  way_of zero i j r = last r
-  way_of (suc n) i j (inl t) = way_of n i j t
-  way_of (suc n) i j (inr t) = joined (way_of n i n t.0) (way_of n n j t.1)
+  way_of : (n : ℕ) {i j : ℕ} → Through n i j → Way R i j
+  way_of zero r = last r
+  way_of (suc n) {i} {j} (inl t) = way_of n t
+  way_of (suc n) {i} {j} (inr t) = joined (way_of n t.0) (way_of n t.1)
 
   -- ways through one more number
   to_it : (n i : ℕ) → Through (suc n) i n → Through n i n
@@ -65,9 +65,9 @@ module _ (R : ℕ → ℕ → Type 0) (decide : (i j : ℕ) → Decided (R i j))
   kept (suc n) i j r = inl (kept n i j r)
 
   module _ (n : ℕ) (within : (i j : ℕ) → R i j → (i < n) × (j < n)) where
-    through_of : (i j : ℕ) → Way R i j → Through n i j
-    through_of i j (last r) = kept n i j r
-    through_of i k (next {j = j} r w) = linked n i j k (within i j r).1 (kept n i j r) (through_of j k w)
+    through_of : {i j : ℕ} → Way R i j → Through n i j
+    through_of {i} {j} (last r) = kept n i j r
+    through_of {i} {j = k} (next {j = j} r w) = linked n i j k (within i j r).1 (kept n i j r) (through_of w)
 
     below : (i j : ℕ) → Way R i j → i < n
     below i j (last r) = (within i j r).0
@@ -91,13 +91,13 @@ module _ (R : ℕ → ℕ → Type 0) (decide : (i j : ℕ) → Decided (R i j))
         more none never j less w = at (cases_eq j k)
           where
             at : (j ≡ k) ⊎ ¬ (j ≡ k) → ⊥
-            at (inl e) = never (subst (λ z. Through n z z) e (through_of j j w))
+            at (inl e) = never (subst (λ z. Through n z z) e (through_of w))
             at (inr other) = none j (omega (arith, less, other)) w
 
         go : ((i : ℕ) × IsFirstOnCycle R i) ⊎ NoneBelow k → Decided (Through n k k) →
             ((i : ℕ) × IsFirstOnCycle R i) ⊎ NoneBelow (suc k)
         go (inl found) d = inl found
-        go (inr none) (inl t) = inl (k, record { cyclic = way_of n k k t; first = first none })
+        go (inr none) (inl t) = inl (k, record { cyclic = way_of n t; first = first none })
         go (inr none) (inr never) = inr (more none never)
 
     pub first_or_none : ((i : ℕ) × IsFirstOnCycle R i) ⊎ ((i : ℕ) → ¬ Way R i i)

@@ -11,10 +11,9 @@ use Rattle.indexmap.specs.IndexSet.{insert_key}
 use Rattle.ps_components.proofs.Places.{slice_get-append_left, slice_get-push_cases}
 use Rattle.ps_circuit.specs.declared.builder.Sides.{Sides}
 use Rattle.ps_circuit.specs.contracts.builder.SidesPartialEq.TheImpl as sides_eq
-use Rattle.ps_circuit.specs.Literals.{variable}
+use Rattle.ps_circuit.specs.Literals.{variable, negated}
 use Rattle.ps_circuit.specs.Building.{Drafted, AreSides, Extends, IsFull, IsHeld, IsNew, IsSoundDraft, Meets, NeedsGate}
 use Rattle.ps_circuit.specs.Building.{bit, variables_of}
-use Rattle.ps_circuit.specs.Literals.{negated}
 
 pub bool_cases : (b : Bool) → (b ≡ true) ⊎ (b ≡ false)
 bool_cases true = inl refl
@@ -23,25 +22,24 @@ bool_cases false = inr refl
 pub true_is_not_false : true ≡ false → ⊥
 true_is_not_false e = cc
 
-and_both : (a b : Bool) → (a && b) ≡ true → (a ≡ true) × (b ≡ true)
-and_both true b e = (refl, e)
-and_both false b e = (e, absurd (true_is_not_false (sym e)))
+and_both : (a : Bool) {b : Bool} → (a && b) ≡ true → (a ≡ true) × (b ≡ true)
+and_both true e = (refl, e)
+and_both false e = (e, absurd (true_is_not_false (sym e)))
 
-and_true : (a b : Bool) → a ≡ true → b ≡ true → (a && b) ≡ true
-and_true true b e f = f
-and_true false b e f = e
+and_true : (a : Bool) {b : Bool} → a ≡ true → b ≡ true → (a && b) ≡ true
+and_true true e f = f
+and_true false e f = e
 
 pub sides_are : (a b : Sides) → a.first ≡ b.first → a.second ≡ b.second → a ≡ b
 sides_are a b e f = let made : ℕ → ℕ → Sides = λ x y. record { first = x; second = y } in ap (λ x. made x a.second) e
     ∙ ap (λ y. made b.first y) f
 
-pub same_sides : (a b : Sides) → (sides_eq.eq-value).it a b ≡ true → a ≡ b
-same_sides a b e = let t = and_both (eqb a.first b.first) (eqb a.second b.second) e in
+pub same_sides : {a b : Sides} → (sides_eq.eq-value).it a b ≡ true → a ≡ b
+same_sides {a} {b} e = let t = and_both (eqb a.first b.first) e in
     sides_are a b (eqb-true a.first b.first t.0) (eqb-true a.second b.second t.1)
 
 pub sides_same : (a : Sides) → (sides_eq.eq-value).it a a ≡ true
-sides_same a =
-    and_true (eqb a.first a.first) (eqb a.second a.second) (eq-eqb a.first a.first refl) (eq-eqb a.second a.second refl)
+sides_same a = and_true (eqb a.first a.first) (eq-eqb a.first a.first refl) (eq-eqb a.second a.second refl)
 
 not_not : (b : Bool) → not (not b) ≡ b
 not_not true = refl
@@ -109,8 +107,8 @@ meets-extends a b x v m = record {
 abbrev pub more : Drafted → Sides → Drafted
 more d s = record { given = d.given; gates = d.gates ++ s ∷ [] }
 
-pub extends-more : (d : Drafted) (s : Sides) → Extends d (more d s)
-extends-more d s =
+pub extends-more : {d : Drafted} (s : Sides) → Extends d (more d s)
+extends-more {d} s =
     record {
       given = refl;
       more = (let e = length-append d.gates (s ∷ []) in omega arith);
@@ -129,9 +127,9 @@ pub new-absent : (d : Drafted) (s : Sides) → list_any ((sides_eq.eq-value).it 
     IsNew d s.first s.second
 new-absent d s none k t e both = absent d s none k t e (sides_are s t (sym both.0) (sym both.1))
 
-sound-more : (d : Drafted) (s : Sides) → IsSoundDraft d → variables_of d + 1 < 2 ^ 31 →
+sound-more : {d : Drafted} {s : Sides} → IsSoundDraft d → variables_of d + 1 < 2 ^ 31 →
     AreSides (variables_of d + 1) s → list_any ((sides_eq.eq-value).it s) d.gates ≡ false → IsSoundDraft (more d s)
-sound-more d s is room sides none = record {
+sound-more {d} {s} is room sides none = record {
   room = (let e = length-append d.gates (s ∷ []) in omega arith);
   sides = λ k t e. elim (slice_get-push_cases d.gates s k t e) [
     | inl old ↦ is.sides k t old
@@ -163,10 +161,9 @@ pub record Placed (old new : Drafted) (s : Sides) (place : ℕ) : Type 0 where
 pub placed : (old new : Drafted) (s : Sides) (place : ℕ) → IsSoundDraft old → AreSides (variables_of old + 1) s →
     (list_any ((sides_eq.eq-value).it s) old.gates ≡ false → IsFull old → ⊥) →
     new.given ≡ old.given → new.gates ≡ insert_key (sides_eq.eq-value).it old.gates s →
-    ((k : Sides) × (slice_get new.gates place ≡ Some k) × ((sides_eq.eq-value).it s k ≡ true)) →
-    Placed old new s place
+    ((k : Sides) × (slice_get new.gates place ≡ Some k) × ((sides_eq.eq-value).it s k ≡ true)) → Placed old new s place
 placed old new s place is sides room given keys stored =
-    let at : slice_get new.gates place ≡ Some s = stored.1 ∙ ap (λ k. Some k) (sym (same_sides s stored.0 stored.2)) in
+    let at : slice_get new.gates place ≡ Some s = stored.1 ∙ ap (λ k. Some k) (sym (same_sides stored.2)) in
     let known = list_any ((sides_eq.eq-value).it s) old.gates in
     elim (bool_cases known) [
       | inl there ↦
@@ -174,8 +171,7 @@ placed old new s place is sides room given keys stored =
           drafted_are new old given (keys ∙ ap (λ b. cond b old.gates (old.gates ++ s ∷ [])) there) in
           record {
             sound = subst IsSoundDraft (sym same) is;
-            extends = subst (Extends old) (sym same)
-                (extends-refl old);
+            extends = subst (Extends old) (sym same) (extends-refl old);
             at = at;
           }
       | inr none ↦
@@ -184,8 +180,8 @@ placed old new s place is sides room given keys stored =
           let less : variables_of old + 1 < 2 ^ 31 =
           (let p = is.room in let q : IsFull old → ⊥ = room none in omega arith) in
           record {
-            sound = subst IsSoundDraft (sym same) (sound-more old s is less sides none);
-            extends = subst (Extends old) (sym same) (extends-more old s);
+            sound = subst IsSoundDraft (sym same) (sound-more is less sides none);
+            extends = subst (Extends old) (sym same) (extends-more s);
             at = at;
           }
     ]
@@ -207,8 +203,8 @@ needs d own s is a new = record {
       let g = both.1 in omega arith);
 }
 
-pub needs-turned : (d : Drafted) (x y : ℕ) → NeedsGate d x y → NeedsGate d y x
-needs-turned d x y n =
+pub needs-turned : {d : Drafted} {x y : ℕ} → NeedsGate d x y → NeedsGate d y x
+needs-turned n =
     record {
       first_varies = n.second_varies;
       second_varies = n.first_varies;
@@ -221,9 +217,9 @@ de_morgan : (a b : Bool) → not (not a && not b) ≡ (a || b)
 de_morgan true b = refl
 de_morgan false b = not_not b
 
-pub or_bits : (v : ℕ → Bool) (x y neither nx ny result : ℕ) → nx ≡ negated x → ny ≡ negated y →
+pub or_bits : (v : ℕ → Bool) (x y neither : ℕ) {nx ny result : ℕ} → nx ≡ negated x → ny ≡ negated y →
     result ≡ negated neither → bit v neither ≡ (bit v nx && bit v ny) → bit v result ≡ (bit v x || bit v y)
-or_bits v x y neither nx ny result ex ey er h =
+or_bits v x y neither {ny} ex ey er h =
     ap (bit v) er ∙ bit-negated v neither ∙ ap not (h ∙ ap (λ b. b && bit v ny) (ap (bit v) ex ∙ bit-negated v x)
     ∙ ap (λ b. not (bit v x) && b) (ap (bit v) ey ∙ bit-negated v y)) ∙ de_morgan (bit v x) (bit v y)
 
@@ -232,10 +228,11 @@ choice true true l = refl
 choice true false l = refl
 choice false h l = refl
 
-pub chosen_bits : (v : ℕ → Bool) (s h l ns high low result : ℕ) → ns ≡ negated s → bit v high ≡ (bit v s && bit v h) →
+pub chosen_bits : (v : ℕ → Bool) (s h l : ℕ) {ns : ℕ} (high low result : ℕ) → ns ≡ negated s →
+    bit v high ≡ (bit v s && bit v h) →
     bit v low ≡ (bit v ns && bit v l) → bit v result ≡ (bit v high || bit v low) →
     bit v result ≡ cond (bit v s) (bit v h) (bit v l)
-chosen_bits v s h l ns high low result e eh el er =
+chosen_bits v s h l high low result e eh el er =
     er ∙ ap (λ b. b || bit v low) eh ∙ ap (λ b. (bit v s && bit v h) || b)
     (el ∙ ap (λ b. b && bit v l) (ap (bit v) e ∙ bit-negated v s)) ∙ choice (bit v s) (bit v h) (bit v l)
 

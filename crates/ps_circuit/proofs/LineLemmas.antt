@@ -2,12 +2,11 @@
 --     Lining      the invariant of a loop over the lines of one kind
 use Rattle.std.proofs.Common.{◌≡◌, ℕ, zero, suc, ◌+◌, ◌-◌, ◌*◌, ◌^◌, ◌<◌, ◌≤◌, Bool, true, false, eqb, List, [], ◌∷◌}
 use Rattle.std.proofs.Common.{◌++◌, length, Option, Result, Ok, Err, Contains, refl, sym, ap₂, subst, inl, inr, arith}
-use Rattle.ps_text.specs.Answers.{Stream, Found}
+use Rattle.ps_text.specs.Answers.{Stream, Found, signs}
 use Rattle.ps_text.specs.Parts.{IsRead, give, then_by, times, mapped}
 use Rattle.ps_text.specs.Readers.{Reads, Stops, Goes, Carries}
 use Rattle.ps_text.proofs.Laws.{Laws, Joint}
 use Rattle.ps_text.proofs.Joined.{joint}
-use Rattle.ps_text.specs.Answers.{signs}
 use Rattle.ps_text.proofs.Exits.{reads_give, reads_mapped, reads_then, stops_mapped, stops_first, stops_behind}
 use Rattle.ps_text.proofs.Branches.{reads_shrinks, times_reads, times_fails, times_fails_later}
 use Rattle.ps_circuit.specs.declared.cursor.Number.{Number}
@@ -15,9 +14,8 @@ use Rattle.ps_circuit.specs.declared.parts.Latch.{Latch}
 use Rattle.ps_circuit.specs.declared.parts.Gate.{Gate}
 use Rattle.ps_circuit.specs.declared.fault.AigCause.{AigCause}
 use Rattle.ps_circuit.specs.declared.fault.AigCause.TheVariants.{Literal, DefinedTwice, UnsetLatch}
-use Rattle.ps_circuit.specs.Causes.{AigFault}
+use Rattle.ps_circuit.specs.Causes.{AigFault, cause_number}
 use Rattle.ps_text.specs.declared.faults.Fault.TheVariants.{Text}
-use Rattle.ps_circuit.specs.Causes.{cause_number}
 use Rattle.ps_circuit.specs.Circuits.{IsDefinition}
 use Rattle.ps_circuit.specs.Literals.{variable}
 use Rattle.ps_circuit.specs.Signs.{Seen, Field, aig_causes, number, line_end, more, by_more}
@@ -32,28 +30,27 @@ use Rattle.ps_circuit.proofs.TextLaws.{latch_end, laws_latch_next, laws_latch_en
 use Rattle.ps_circuit.proofs.TextLaws.{laws_gate_first, laws_gate_second}
 use Rattle.ps_circuit.proofs.NumberLemmas.{number_small, number_wrong, field_reads, field_fails}
 
-pub value_is : {V : Type 0} (P : Field V) (old new : Stream Seen) (v w : V) → v ≡ w → Reads P old v new →
+pub value_is : {V : Type 0} {P : Field V} {old new : Stream Seen} {v w : V} → v ≡ w → Reads P old v new →
     Reads P old w new
-value_is P old new v w e m = (m.0, subst (λ x. IsRead P (signs old.pieces) x (signs new.pieces)) e m.1)
+value_is {P} {old} {new} e m = (m.0, subst (λ x. IsRead P (signs old.pieces) x (signs new.pieces)) e m.1)
 
 -- ## Literals
 
-pub definition_reads : (most : ℕ) (defined : List ℕ) (after : List ℕ) (old new : Stream Seen) (n : Number) →
+pub definition_reads : (most : ℕ) {defined : List ℕ} {after : List ℕ} {old new : Stream Seen} {n : Number} →
     most < 2 ^ 31 → NumberIs old new n → IsDefinition most n.value → AddsVariable defined (variable n.value) after
     → Reads (number (WrongDefinition most defined)) old n new
-definition_reads most defined after old new n limit x fits adds =
-    number_small (WrongDefinition most defined) old new n x (omega (arith, fits.2)) good
+definition_reads most {defined} {old} {new} {n} limit x fits adds =
+    number_small (WrongDefinition most defined) x (omega (arith, fits.2)) good
   where
     good : (f : AigCause) → WrongDefinition most defined n.value f → ⊥
     good f (inl w) = w.0 fits
     good f (inr w) = adds.fresh w.0.0 (variable n.value) w.0.1 w.0.2
 
-pub definition_wrong : (most : ℕ) (defined : List ℕ) (old new : Stream Seen) (n : Number) (e : AigFault) →
+pub definition_wrong : (most : ℕ) (defined : List ℕ) {old new : Stream Seen} {n : Number} {e : AigFault} →
     most < 2 ^ 31 → NumberIs old new n → (IsDefinition most n.value → ⊥) → e ≡ Text Literal n.offset
     → Stops aig_causes (number (WrongDefinition most defined)) old (found_of e)
-definition_wrong most defined old new n e limit x wrong is =
-    number_wrong (WrongDefinition most defined) old new n Literal e x (λ v h. inl (not_one v h, refl))
-    (λ v h g w. least v g w) is
+definition_wrong most defined {old} {new} {n} {e} limit x wrong is =
+    number_wrong (WrongDefinition most defined) Literal x (λ v h. inl (not_one v h, refl)) (λ v h g w. least v g w) is
   where
     not_one : (v : ℕ) → n.value ≡ saturated v → IsDefinition most v → ⊥
     not_one v h d = let same : v ≡ n.value = omega (arith, h, d.2) in wrong (subst (IsDefinition most) same d)
@@ -62,12 +59,11 @@ definition_wrong most defined old new n e limit x wrong is =
     least v g (inl w) = rw w.1 (omega arith)
     least v g (inr w) = rw w.1 (omega arith)
 
-pub definition_twice : (most : ℕ) (defined : List ℕ) (old new : Stream Seen) (n : Number) (e : AigFault) →
+pub definition_twice : (most : ℕ) (defined : List ℕ) {old new : Stream Seen} {n : Number} {e : AigFault} →
     most < 2 ^ 31 → NumberIs old new n → IsDefinition most n.value → Contains defined (variable n.value) →
-    e ≡ Text DefinedTwice n.offset
-    → Stops aig_causes (number (WrongDefinition most defined)) old (found_of e)
-definition_twice most defined old new n e limit x fits there is =
-    number_wrong (WrongDefinition most defined) old new n DefinedTwice e x
+    e ≡ Text DefinedTwice n.offset → Stops aig_causes (number (WrongDefinition most defined)) old (found_of e)
+definition_twice most defined {old} {new} {n} {e} limit x fits there is =
+    number_wrong (WrongDefinition most defined) DefinedTwice x
     (λ v h. inr (subst (λ k. Contains defined (variable k)) (same v h) there, refl)) (λ v h g w. least v h g w) is
   where
     same : (v : ℕ) → n.value ≡ saturated v → n.value ≡ v
@@ -78,28 +74,27 @@ definition_twice most defined old new n e limit x fits there is =
     least v h g (inl w) = absurd (w.0 (subst (IsDefinition most) (same v h) fits))
     least v h g (inr w) = rw w.1 (omega arith)
 
-pub literal_reads : (most : ℕ) (old new : Stream Seen) (n : Number) → most < 2 ^ 31 → NumberIs old new n →
+pub literal_reads : (most : ℕ) {old new : Stream Seen} {n : Number} → most < 2 ^ 31 → NumberIs old new n →
     n.value ≤ 2 * most + 1 → Reads (number (WrongLiteral most)) old n new
-literal_reads most old new n limit x small =
-    number_small (WrongLiteral most) old new n x (omega arith) (λ f w. omega (arith, w.0))
+literal_reads most {old} {new} {n} limit x small =
+    number_small (WrongLiteral most) x (omega arith) (λ f w. omega (arith, w.0))
 
-pub literal_wrong : (most : ℕ) (old new : Stream Seen) (n : Number) (e : AigFault) → most < 2 ^ 31 →
+pub literal_wrong : (most : ℕ) {old new : Stream Seen} {n : Number} {e : AigFault} → most < 2 ^ 31 →
     NumberIs old new n → 2 * most + 1 < n.value → e ≡ Text Literal n.offset →
     Stops aig_causes (number (WrongLiteral most)) old (found_of e)
-literal_wrong most old new n e limit x large is =
-    number_wrong (WrongLiteral most) old new n Literal e x (λ v h. (omega (arith, h), refl))
-    (λ v h g w. rw w.1 (omega arith)) is
+literal_wrong most {old} {new} {n} {e} limit x large is =
+    number_wrong (WrongLiteral most) Literal x (λ v h. (omega (arith, h), refl)) (λ v h g w. rw w.1 (omega arith)) is
 
-pub reading_reads : (most : ℕ) (old new : Stream Seen) (n : Number) → most < 2 ^ 31 → TellsField old (Ok n) new →
+pub reading_reads : (most : ℕ) {old new : Stream Seen} {n : Number} → most < 2 ^ 31 → TellsField old (Ok n) new →
     n.value ≤ 2 * most + 1 → Reads (field (WrongLiteral most)) old n new
-reading_reads most old new n limit m small =
-    field_reads (WrongLiteral most) old m.0 new n m.1 (literal_reads most m.0 new n limit m.2 small)
+reading_reads most {old} {new} {n} limit m small =
+    field_reads (WrongLiteral most) m.1 (literal_reads most limit m.2 small)
 
-pub reading_wrong : (most : ℕ) (old new : Stream Seen) (n : Number) (e : AigFault) → most < 2 ^ 31 →
+pub reading_wrong : (most : ℕ) {old : Stream Seen} (new : Stream Seen) (n : Number) {e : AigFault} → most < 2 ^ 31 →
     TellsField old (Ok n) new → 2 * most + 1 < n.value → e ≡ Text Literal n.offset →
     Stops aig_causes (field (WrongLiteral most)) old (found_of e)
-reading_wrong most old new n e limit m large is =
-    field_fails (WrongLiteral most) old m.0 (found_of e) m.1 (literal_wrong most m.0 new n e limit m.2 large is)
+reading_wrong most {old} new n {e} limit m large is =
+    field_fails (WrongLiteral most) (found_of e) m.1 (literal_wrong most limit m.2 large is)
 
 -- ## Inputs and outputs
 
@@ -113,20 +108,19 @@ pub input_fails : (most : ℕ) (c : Lines ℕ) (old : Stream Seen) (o : Option (
 unfolding input_line
 input_fails most c old o m = stops_first aig_causes (joint_input most c) old o m
 
-pub input_end_fails : (most : ℕ) (c : Lines ℕ) (old mid : Stream Seen) (l : Number) (o : Option (Found AigCause)) →
+pub input_end_fails : (most : ℕ) (c : Lines ℕ) {old mid : Stream Seen} {l : Number} (o : Option (Found AigCause)) →
     Reads (number (WrongDefinition most c.defined)) old l mid → Stops aig_causes line_end mid o →
     Stops aig_causes (input_line most c) old o
 unfolding input_line
-input_end_fails most c old mid l o m s =
+input_end_fails most c {mid} {l} o m s =
     stops_behind aig_causes (joint_input most c) m o (stops_mapped aig_causes (λ _. add_input c l) line_end mid o s)
 
-pub input_reads : (most : ℕ) (c d : Lines ℕ) (old mid new : Stream Seen) (l : Number) →
+pub input_reads : (most : ℕ) (c : Lines ℕ) {d : Lines ℕ} {old mid new : Stream Seen} {l : Number} →
     Reads (number (WrongDefinition most c.defined)) old l mid → Reads line_end mid tt new → d ≡ add_input c l →
     Reads (input_line most c) old d new
 unfolding input_line
-input_reads most c d old mid new l m s e =
-    value_is (input_line most c) old new (add_input c l) d (sym e)
-    (reads_then (joint_input most c) m (reads_mapped (λ _. add_input c l) s))
+input_reads most c {l} m s e =
+    value_is (sym e) (reads_then (joint_input most c) m (reads_mapped (λ _. add_input c l) s))
 
 pub joint_output : (most : ℕ) (c : Lines ℕ) → Joint (number (WrongLiteral most))
     (λ l. mapped (λ _. add_output c l) line_end)
@@ -137,20 +131,19 @@ pub output_fails : (most : ℕ) (c : Lines ℕ) (old : Stream Seen) (o : Option 
 unfolding output_line
 output_fails most c old o m = stops_first aig_causes (joint_output most c) old o m
 
-pub output_end_fails : (most : ℕ) (c : Lines ℕ) (old mid : Stream Seen) (l : Number) (o : Option (Found AigCause)) →
+pub output_end_fails : (most : ℕ) (c : Lines ℕ) {old mid : Stream Seen} {l : Number} (o : Option (Found AigCause)) →
     Reads (number (WrongLiteral most)) old l mid → Stops aig_causes line_end mid o →
     Stops aig_causes (output_line most c) old o
 unfolding output_line
-output_end_fails most c old mid l o m s =
+output_end_fails most c {mid} {l} o m s =
     stops_behind aig_causes (joint_output most c) m o (stops_mapped aig_causes (λ _. add_output c l) line_end mid o s)
 
-pub output_reads : (most : ℕ) (c d : Lines ℕ) (old mid new : Stream Seen) (l : Number) →
+pub output_reads : (most : ℕ) (c : Lines ℕ) {d : Lines ℕ} {old mid new : Stream Seen} {l : Number} →
     Reads (number (WrongLiteral most)) old l mid → Reads line_end mid tt new → d ≡ add_output c l →
     Reads (output_line most c) old d new
 unfolding output_line
-output_reads most c d old mid new l m s e =
-    value_is (output_line most c) old new (add_output c l) d (sym e)
-    (reads_then (joint_output most c) m (reads_mapped (λ _. add_output c l) s))
+output_reads most c {l} m s e =
+    value_is (sym e) (reads_then (joint_output most c) m (reads_mapped (λ _. add_output c l) s))
 
 -- ## Resets and latches
 
@@ -169,44 +162,44 @@ module _ (latch : ℕ) (old : Stream Seen) where
   unfolding reset
   reset_more_fails o m = stops_first aig_causes (joint_reset latch) old o m
 
-  pub reset_none : (new : Stream Seen) (b : Bool) → b ≡ false → Reads more old b new → Reads (reset latch) old false new
+  pub reset_none : {new : Stream Seen} {b : Bool} → b ≡ false → Reads more old b new → Reads (reset latch) old false new
   unfolding reset
-  reset_none new b e m = reads_then (joint_reset latch) (subst (λ z. Reads more old z new) e m) (reads_give new false)
+  reset_none {new} e m = reads_then (joint_reset latch) (subst (λ z. Reads more old z new) e m) (reads_give new false)
 
-  pub reset_fails : (mid : Stream Seen) (b : Bool) (o : Option (Found AigCause)) → b ≡ true → Reads more old b mid →
+  pub reset_fails : {mid : Stream Seen} {b : Bool} (o : Option (Found AigCause)) → b ≡ true → Reads more old b mid →
       Stops aig_causes (number (WrongReset latch)) mid o → Stops aig_causes (reset latch) old o
   unfolding reset
-  reset_fails mid b o e m s =
+  reset_fails {mid} o e m s =
       stops_behind aig_causes (joint_reset latch) (subst (λ z. Reads more old z mid) e m) o
       (stops_first aig_causes (joint_reset_value latch) mid o s)
 
-  pub reset_end_fails : (mid next : Stream Seen) (b : Bool) (n : Number) (o : Option (Found AigCause)) → b ≡ true →
+  pub reset_end_fails : {mid next : Stream Seen} {b : Bool} {n : Number} (o : Option (Found AigCause)) → b ≡ true →
       Reads more old b mid → Reads (number (WrongReset latch)) mid n next → Stops aig_causes line_end next o
       → Stops aig_causes (reset latch) old o
   unfolding reset
-  reset_end_fails mid next b n o e m s t =
+  reset_end_fails {mid} {next} {n} o e m s t =
       stops_behind aig_causes (joint_reset latch) (subst (λ z. Reads more old z mid) e m) o
       (stops_behind aig_causes (joint_reset_value latch) s o (stops_mapped aig_causes (is_one n) line_end next o t))
 
-  pub reset_reads : (mid next new : Stream Seen) (b : Bool) (n : Number) → b ≡ true → Reads more old b mid →
+  pub reset_reads : {mid next new : Stream Seen} {b : Bool} {n : Number} → b ≡ true → Reads more old b mid →
       Reads (number (WrongReset latch)) mid n next → Reads line_end next tt new →
       Reads (reset latch) old (eqb n.value 1) new
   unfolding reset
-  reset_reads mid next new b n e m s t =
+  reset_reads {mid} {n} e m s t =
       reads_then (joint_reset latch) (subst (λ z. Reads more old z mid) e m)
       (reads_then (joint_reset_value latch) s (reads_mapped (is_one n) t))
 
-reset_least_unset : (latch v : ℕ) (g : AigCause) → v ≡ latch → WrongReset latch v g →
+reset_least_unset : {latch v : ℕ} (g : AigCause) → v ≡ latch → WrongReset latch v g →
     cause_number UnsetLatch ≤ cause_number g
-reset_least_unset latch v g e (inl w) = rw w.1 (omega arith)
-reset_least_unset latch v g e (inr w) = absurd (w.1 e)
+reset_least_unset g e (inl w) = rw w.1 (omega arith)
+reset_least_unset g e (inr w) = absurd (w.1 e)
 
-pub reset_unset : (latch : ℕ) (old new : Stream Seen) (n : Number) (e : AigFault) → latch < 2 ^ 32 →
+pub reset_unset : {latch : ℕ} {old new : Stream Seen} {n : Number} {e : AigFault} → latch < 2 ^ 32 →
     NumberIs old new n → n.value ≡ latch → e ≡ Text UnsetLatch n.offset →
     Stops aig_causes (number (WrongReset latch)) old (found_of e)
-reset_unset latch old new n e limit x own is =
-    number_wrong (WrongReset latch) old new n UnsetLatch e x (λ v h. inl (same v h, refl))
-    (λ v h g w. reset_least_unset latch v g (same v h) w) is
+reset_unset {latch} {old} {new} {n} {e} limit x own is =
+    number_wrong (WrongReset latch) UnsetLatch x (λ v h. inl (same v h, refl))
+    (λ v h g w. reset_least_unset g (same v h) w) is
   where
     same : (v : ℕ) → n.value ≡ saturated v → v ≡ latch
     same v h = omega (arith, h, own)
@@ -215,17 +208,16 @@ reset_least_literal : (latch v : ℕ) (g : AigCause) → WrongReset latch v g �
 reset_least_literal latch v g (inl w) = rw w.1 (omega arith)
 reset_least_literal latch v g (inr w) = rw w.2 (omega arith)
 
-pub reset_wrong : (latch : ℕ) (old new : Stream Seen) (n : Number) (e : AigFault) → latch < 2 ^ 32 →
+pub reset_wrong : (latch : ℕ) {old new : Stream Seen} {n : Number} {e : AigFault} → latch < 2 ^ 32 →
     NumberIs old new n → (n.value ≡ latch → ⊥) → 1 < n.value → e ≡ Text Literal n.offset →
     Stops aig_causes (number (WrongReset latch)) old (found_of e)
-reset_wrong latch old new n e limit x other large is =
-    number_wrong (WrongReset latch) old new n Literal e x (λ v h.
-    inr (omega (arith, h), (λ z. other (omega (arith, h, z))), refl))
+reset_wrong latch {old} {new} {n} {e} limit x other large is =
+    number_wrong (WrongReset latch) Literal x (λ v h. inr (omega (arith, h), (λ z. other (omega (arith, h, z))), refl))
     (λ v h g w. reset_least_literal latch v g w) is
 
-pub reset_good : (latch : ℕ) (old new : Stream Seen) (n : Number) → NumberIs old new n → (n.value ≡ latch → ⊥) →
+pub reset_good : (latch : ℕ) {old new : Stream Seen} {n : Number} → NumberIs old new n → (n.value ≡ latch → ⊥) →
     n.value ≤ 1 → Reads (number (WrongReset latch)) old n new
-reset_good latch old new n x other small = number_small (WrongReset latch) old new n x (omega arith) good
+reset_good latch {old} {new} {n} x other small = number_small (WrongReset latch) x (omega arith) good
   where
     good : (f : AigCause) → WrongReset latch n.value f → ⊥
     good f (inl w) = other w.0
@@ -257,11 +249,11 @@ module _ (most : ℕ) (c : Lines Latch) (old : Stream Seen) where
           stops_behind aig_causes joint_latch m1 o (stops_behind aig_causes (joint_latch_next l) m2 o
           (stops_mapped aig_causes (λ r. add_latch c l next r) (reset l.value) s2 o m))
 
-      pub latch_reads : (d : Lines Latch) (new : Stream Seen) (r : Bool) → Reads (reset l.value) s2 r new →
+      pub latch_reads : {d : Lines Latch} {new : Stream Seen} {r : Bool} → Reads (reset l.value) s2 r new →
           d ≡ add_latch c l next r → Reads (latch_line most c) old d new
       unfolding latch_line
-      latch_reads d new r m e =
-          value_is (latch_line most c) old new (add_latch c l next r) d (sym e)
+      latch_reads {r} m e =
+          value_is (sym e)
           (reads_then joint_latch m1 (reads_then (joint_latch_next l) m2 (reads_mapped (λ r. add_latch c l next r) m)))
 
 -- ## Gates
@@ -306,37 +298,36 @@ module _ (most : ℕ) (c : Lines Gate) (old : Stream Seen) where
             (stops_behind aig_causes (joint_gate_second l first) m3 o
             (stops_mapped aig_causes (λ _. add_gate c l first second) line_end s3 o m)))
 
-        pub gate_reads : (d : Lines Gate) (new : Stream Seen) → Reads line_end s3 tt new →
+        pub gate_reads : {d : Lines Gate} {new : Stream Seen} → Reads line_end s3 tt new →
             d ≡ add_gate c l first second → Reads (gate_line most c) old d new
         unfolding gate_line
-        gate_reads d new m e =
-            value_is (gate_line most c) old new (add_gate c l first second) d (sym e)
-            (reads_then joint_gate m1 (reads_then (joint_gate_first l) m2
+        gate_reads m e =
+            value_is (sym e) (reads_then joint_gate m1 (reads_then (joint_gate_first l) m2
             (reads_then (joint_gate_second l first) m3 (reads_mapped (λ _. add_gate c l first second) m))))
 
 -- ## Values of lines
 
-pub input_is : (c : Lines ℕ) (l : Number) (items defined : List ℕ) → items ≡ c.items ++ l.value ∷ [] →
+pub input_is : (c : Lines ℕ) (l : Number) {items defined : List ℕ} → items ≡ c.items ++ l.value ∷ [] →
     defined ≡ c.defined ++ variable l.value ∷ []
     → record { items = items; defined = defined; readings = c.readings; starts = c.starts } ≡ add_input c l
-input_is c l items defined e f =
+input_is c l {items} {defined} e f =
     ap₂ (λ (x y : List ℕ). record { items = x; defined = y; readings = c.readings; starts = c.starts }) e f
 
-pub output_is : (c : Lines ℕ) (l : Number) (items : List ℕ) (readings : List Number) → items ≡ c.items ++ l.value ∷ [] →
+pub output_is : (c : Lines ℕ) (l : Number) {items : List ℕ} {readings : List Number} → items ≡ c.items ++ l.value ∷ [] →
     readings ≡ c.readings ++ l ∷ []
     → record { items = items; defined = c.defined; readings = readings; starts = c.starts } ≡ add_output c l
-output_is c l items readings e f =
+output_is c l {items} {readings} e f =
     ap₂ (λ (x : List ℕ) (y : List Number). record { items = x; defined = c.defined; readings = y; starts = c.starts }) e
     f
 
-pub latch_is : (c : Lines Latch) (l next : Number) (r : Bool) (items : List Latch) (defined : List ℕ)
-    (readings : List Number) → items ≡ c.items ++ record { literal = l.value; next = next.value; reset = r } ∷ []
+pub latch_is : (c : Lines Latch) (l next : Number) (r : Bool) {items : List Latch} {defined : List ℕ}
+    {readings : List Number} → items ≡ c.items ++ record { literal = l.value; next = next.value; reset = r } ∷ []
     → defined ≡ c.defined ++ variable l.value ∷ [] → readings ≡ c.readings ++ next ∷ [] →
     record { items = items; defined = defined; readings = readings; starts = c.starts } ≡ add_latch c l next r
-latch_is c l next r items defined readings e f g = rw (e, f, g) refl
+latch_is c l next r e f g = rw (e, f, g) refl
 
-pub gate_is : (c : Lines Gate) (l first second : Number) (items : List Gate) (defined starts : List ℕ)
-    (one two : List Number) → items ≡ c.items ++ record {
+pub gate_is : (c : Lines Gate) (l first second : Number) {items : List Gate} {defined starts : List ℕ}
+    {one two : List Number} → items ≡ c.items ++ record {
       literal = l.value;
       first = first.value;
       second = second.value;
@@ -344,7 +335,7 @@ pub gate_is : (c : Lines Gate) (l first second : Number) (items : List Gate) (de
     → defined ≡ c.defined ++ variable l.value ∷ [] → one ≡ c.readings ++ first ∷ [] → two ≡ one ++ second ∷ [] →
     starts ≡ c.starts ++ l.offset ∷ []
     → record { items = items; defined = defined; readings = two; starts = starts } ≡ add_gate c l first second
-gate_is c l first second items defined starts one two e f g h k = rw (e, f, h, g, k) refl
+gate_is c l first second e f g h k = rw (e, f, h, g, k) refl
 
 -- ## Loops
 
@@ -354,8 +345,8 @@ pub record Lining {C : Type 0} (item : C → Field C) (Adds : C → C → Type 0
   pub fewer : i + length now.pieces ≤ length start.pieces
   pub grown : Grown Adds c d
 
-pub is_row : {C : Type 0} (item : C → Field C) → ((c : C) → Laws Odd (item c) AtDigit Separates ⊥) → IsRow item
-is_row {C} item l =
+pub is_row : {C : Type 0} {item : C → Field C} → ((c : C) → Laws Odd (item c) AtDigit Separates ⊥) → IsRow item
+is_row {C} {item} l =
     record {
       takes = λ c d old new m. reads_shrinks (λ w h. (l c).null w h) m;
       goes_on = go;
@@ -381,12 +372,12 @@ module _ {C : Type 0} (item : C → Field C) (Adds : C → C → Type 0) (row : 
       same : (n : ℕ) → n - 0 ≡ n
       same n = omega arith
 
-  pub lining_from : (d : C) → c ≡ d → Lining item Adds count 0 start start c d
-  lining_from d e = subst (Lining item Adds count 0 start start c) e lining_start
+  pub lining_from : {d : C} → c ≡ d → Lining item Adds count 0 start start c d
+  lining_from e = subst (Lining item Adds count 0 start start c) e lining_start
 
-  pub lining_next : (i : ℕ) (now next : Stream Seen) (d e : C) → i < count → Lining item Adds count i start now c d →
+  pub lining_next : {i : ℕ} {now next : Stream Seen} {d e : C} → i < count → Lining item Adds count i start now c d →
       Reads (item d) now e next → Adds d e → Lining item Adds count (i + 1) start next c e
-  lining_next i now next d e less inv m adds = record {
+  lining_next {i} {now} {next} {d} {e} less inv m adds = record {
     carries = λ n k r new g.
         let one : (n - i) - 1 ≡ n - (i + 1) = omega arith in
         inv.carries n k r new (row.goes_on (n - i) d e now next new r (omega (arith, k)) m
@@ -395,14 +386,16 @@ module _ {C : Type 0} (item : C → Field C) (Adds : C → C → Type 0) (row : 
     grown = grow inv.grown adds;
   }
 
-  pub lining_fails : (i : ℕ) (now : Stream Seen) (d : C) (o : Option (Found AigCause)) → i < count →
+  pub lining_fails : {i : ℕ} {now : Stream Seen} {d : C} (o : Option (Found AigCause)) → i < count →
       Lining item Adds count i start now c d → Stops aig_causes (item d) now o → (n : ℕ) → count ≡ saturated n →
       Stops aig_causes (times n item c) start o
-  lining_fails i now d o less inv m n k = inv.carries n k (Err o) now (row.fails (n - i) d now o (omega (arith, k)) m)
+  lining_fails {i} {now} {d} o less inv m n k =
+      inv.carries n k (Err o) now (row.fails (n - i) d now o (omega (arith, k)) m)
 
-  pub lining_ends : (i : ℕ) (now : Stream Seen) (d : C) → count ≤ i → Lining item Adds count i start now c d → (n : ℕ) →
+  pub lining_ends : {i : ℕ} {now : Stream Seen} {d : C} → count ≤ i → Lining item Adds count i start now c d → (n : ℕ) →
       count ≡ saturated n → length start.pieces ≤ 2 ^ 63 → Reads (times n item c) start d now
-  lining_ends i now d done inv n k short = inv.carries n k (Ok d) now (none_left (n - i) (omega (arith, k, inv.fewer)))
+  lining_ends {i} {now} {d} done inv n k short =
+      inv.carries n k (Ok d) now (none_left (n - i) (omega (arith, k, inv.fewer)))
     where
       none_left : (m : ℕ) → m ≡ 0 → Reads (times m item d) now d now
       none_left zero z = reads_give now d

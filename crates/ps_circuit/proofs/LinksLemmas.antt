@@ -62,8 +62,7 @@ module _ (gates : List Gate) (once : AllPairs (λ g h. variable g.literal ≢ va
         let within : k < length gates = omega (arith, many, at.0) in (
           get_or gates k no_gate,
           slice_get-get_or gates k no_gate within,
-          sym (variable_at k 0 no_gate within)
-              ∙ sym (eqb-true v _ at.1),
+          sym (variable_at k 0 no_gate within) ∙ sym (eqb-true v _ at.1),
         );
     forth = λ k g at.
         let within : k < length gates = slice_get_within gates k g at in
@@ -76,9 +75,9 @@ length-links_by place_of [] = refl
 length-links_by place_of (g ∷ gates) = ap suc (length-links_by place_of gates)
 
 -- the links by the places of all gates
-links-by_places : (gates : List Gate) (place_of : ℕ → Option ℕ) (links : List Links) → ArePlaces gates place_of →
+links-by_places : {gates : List Gate} {place_of : ℕ → Option ℕ} {links : List Links} → ArePlaces gates place_of →
     links ≡ links_by place_of gates → AreLinksOf gates links
-links-by_places gates place_of links a e = record {
+links-by_places {gates} {place_of} a e = record {
   each = ap length e ∙ length-links_by place_of gates;
   link_reads = λ i j l. reads i j (subst (λ ls. Link (graph_of ls) i j) e l);
   reads_link = λ i j r. subst (λ ls. Link (graph_of ls) i j) (sym e) (linked i j r);
@@ -96,12 +95,12 @@ links-by_places gates place_of links a e = record {
         found None is e = cc
         found (Some g) is e = (g, (is, cc, cc))
 
-    read_by : (i j : ℕ) (g h : Gate) → slice_get gates i ≡ Some g → (side : ℕ) →
+    read_by : {i j : ℕ} {g h : Gate} → slice_get gates i ≡ Some g → (side : ℕ) →
         (variable side ≡ variable g.first) ⊎ (variable side ≡ variable g.second) →
         (slice_get gates j ≡ Some h) × (variable h.literal ≡ variable side) → ReadsGate gates i j
-    read_by i j g h at_i side (inl e) r =
+    read_by {g} {h} at_i side (inl e) r =
         record { reader = g; read = h; at_i = at_i; at_j = r.0; side = inl (sym e ∙ sym r.1) }
-    read_by i j g h at_i side (inr e) r =
+    read_by {g} {h} at_i side (inr e) r =
         record { reader = g; read = h; at_i = at_i; at_j = r.0; side = inr (sym e ∙ sym r.1) }
 
     reads : (i j : ℕ) → Link (graph_of (links_by place_of gates)) i j → ReadsGate gates i j
@@ -112,10 +111,10 @@ links-by_places gates place_of links a e = record {
         found None is place lt t = cc
         found (Some sides) is zero lt t =
             (let g = there i sides is in let h = a.back (variable g.0.first) j (g.1.1 ∙ t) in
-            read_by i j g.0 h.0 g.1.0 g.0.first (inl refl) (h.1, h.2))
+            read_by {g = g.0} g.1.0 g.0.first (inl refl) (h.1, h.2))
         found (Some sides) is (suc place) lt t =
             (let g = there i sides is in let h = a.back (variable g.0.second) j (g.1.2 ∙ t) in
-            read_by i j g.0 h.0 g.1.0 g.0.second (inr refl) (h.1, h.2))
+            read_by {g = g.0} g.1.0 g.0.second (inr refl) (h.1, h.2))
 
     linked : (i j : ℕ) → ReadsGate gates i j → Link (graph_of (links_by place_of gates)) i j
     linked i j r =
@@ -128,15 +127,13 @@ links-by_places gates place_of links a e = record {
             from = from;
             place = 0;
             at = omega arith;
-            target = ap (λ o. target_of o 0) at
-                ∙ ap place_of e ∙ a.forth j r.read r.at_j;
+            target = ap (λ o. target_of o 0) at ∙ ap place_of e ∙ a.forth j r.read r.at_j;
           }
           | inr e ↦ record {
             from = from;
             place = 1;
             at = omega arith;
-            target = ap (λ o. target_of o 1) at
-                ∙ ap place_of e ∙ a.forth j r.read r.at_j;
+            target = ap (λ o. target_of o 1) at ∙ ap place_of e ∙ a.forth j r.read r.at_j;
           }
         ]
 
@@ -144,34 +141,33 @@ abbrev sides : Option ℕ → Option ℕ → Links
 sides first second = record { first = first; second = second }
 
 -- the links of one gate more
-pub links_by-more : (variables : List ℕ) (gates : List Gate) (k : ℕ) (g : Gate) (links more : List Links)
-    (first second : Option ℕ) → k < length gates →
+pub links_by-more : (variables : List ℕ) (gates : List Gate) (k : ℕ) (g : Gate) {links more : List Links}
+    {first second : Option ℕ} → k < length gates →
     links ≡ links_by (place_in variables) (take k gates) → more ≡ links ++
     record { first = first; second = second } ∷ [] →
     first ≡ place_in variables (variable (get_or gates k g).first) →
     second ≡ place_in variables (variable (get_or gates k g).second) →
     more ≡ links_by (place_in variables) (take (k + 1) gates)
-links_by-more variables gates k g links more first second l before e at_first at_second =
+links_by-more variables gates k g l before e at_first at_second =
     e ∙ ap₂ (λ (ls : List Links) (made : Links). ls ++ made ∷ []) before (ap₂ sides at_first at_second)
     ∙ sym (ap (links_by (place_in variables)) (take_more gates k g l)
     ∙ map-append (λ h. sides (place_in variables (variable h.first)) (place_in variables (variable h.second)))
     (take k gates) (get_or gates k g ∷ []))
 
 -- the links by the places of the gates' variables
-pub links-by_variables : (gates : List Gate) (variables : List ℕ) (links : List Links) →
+pub links-by_variables : {gates : List Gate} {variables : List ℕ} {links : List Links} →
     AllPairs (λ g h. variable g.literal ≢ variable h.literal) gates →
     variables ≡ gate_variables gates → links ≡ links_by (place_in variables) gates → AreLinksOf gates links
-links-by_variables gates variables links once are e =
-    links-by_places gates (place_in (gate_variables gates)) links (are_places gates once)
-    (e ∙ ap (λ vs. links_by (place_in vs) gates) are)
+links-by_variables {gates} once are e =
+    links-by_places (are_places gates once) (e ∙ ap (λ vs. links_by (place_in vs) gates) are)
 
 module _ (gates : List Gate) (links : List Links) (a : AreLinksOf gates links) where
   pub links_within : IsWithin (graph_of links)
   links_within i j l = omega (arith, a.each, slice_get_within gates j _ (a.link_reads i j l).at_j)
 
-  pub order-of_links : (order : List ℕ) → IsOrder (Link (graph_of links)) (length links) order →
+  pub order-of_links : {order : List ℕ} → IsOrder (Link (graph_of links)) (length links) order →
       IsOrder (ReadsGate gates) (length gates) order
-  order-of_links order o = record {
+  order-of_links o = record {
     within = λ k i h. omega (arith, o.within k i h, a.each);
     once = o.once;
     each = λ i lt. o.each i (omega (arith, a.each));
@@ -181,8 +177,8 @@ module _ (gates : List Gate) (links : List Links) (a : AreLinksOf gates links) w
   pub acyclic-of_links : ((i : ℕ) → Way (Link (graph_of links)) i i → ⊥) → (i : ℕ) → Way (ReadsGate gates) i i → ⊥
   acyclic-of_links none i w = none i (Way-map a.reads_link w)
 
-  pub cyclic-of_links : (i : ℕ) → IsFirstOnCycle (Link (graph_of links)) i → IsFirstOnCycle (ReadsGate gates) i
-  cyclic-of_links i c =
+  pub cyclic-of_links : {i : ℕ} → IsFirstOnCycle (Link (graph_of links)) i → IsFirstOnCycle (ReadsGate gates) i
+  cyclic-of_links c =
       record { cyclic = Way-map a.link_reads c.cyclic; first = λ j w. c.first j (Way-map a.reads_link w) }
 
 -- no two gates of a circuit have one variable
@@ -201,9 +197,9 @@ gates_once c once i j d lt within e =
         ∙ get_or-map (λ g. g.literal) c.gates i d 0 lt
 
 -- where a side of a gate leads is a gate
-pub side_within : (links : List Links) (item place : ℕ) (sides : Links) → IsWithin (graph_of links) →
+pub side_within : (links : List Links) (item place : ℕ) {sides : Links} → IsWithin (graph_of links) →
     slice_get links item ≡ Some sides → place < 2 → IfSome (side_of sides place) (λ to. to < length links)
-side_within links item place sides within at lt = which (side_of sides place) refl
+side_within links item place {sides} within at lt = which (side_of sides place) refl
   where
     which : (o : Option ℕ) → side_of sides place ≡ o → IfSome o (λ to. to < length links)
     which None e = tt

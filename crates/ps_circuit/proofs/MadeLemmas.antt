@@ -24,8 +24,8 @@ IsThere made make e = make e ≡ record { draft = e; literal = made.literal }
 abbrev made_with : Drafted → ℕ → Made
 made_with d literal = record { draft = d; literal = literal }
 
-made_are : (a b : Made) → a.draft ≡ b.draft → a.literal ≡ b.literal → a ≡ b
-made_are a b e f = ap (λ d. made_with d a.literal) e ∙ ap (made_with b.draft) f
+made_are : {a b : Made} → a.draft ≡ b.draft → a.literal ≡ b.literal → a ≡ b
+made_are {a} {b} e f = ap (λ d. made_with d a.literal) e ∙ ap (made_with b.draft) f
 
 -- ## One gate
 
@@ -48,30 +48,29 @@ present_place d s some = elim (cases_lt (place_of d s) (length d.gates)) [
       (λ k e lt. fails_before_first (has_sides s) d.gates k e (omega arith))))
 ]
 
-pub gate-extends : (d : Drafted) (s : Sides) → Extends d (gate_of d s).draft
+pub gate-extends : {d : Drafted} (s : Sides) → Extends d (gate_of d s).draft
 unfolding gate_of
-gate-extends d s = elim (bool_cases (list_any (has_sides s) d.gates)) [
+gate-extends {d} s = elim (bool_cases (list_any (has_sides s) d.gates)) [
   | inl there ↦ rw there (extends-refl d)
-  | inr none ↦ rw none (extends-more d s)
+  | inr none ↦ rw none (extends-more s)
 ]
 
-pub gate_at : (d : Drafted) (s : Sides) → slice_get (gate_of d s).draft.gates (place_of d s) ≡ Some s
+pub gate_at : (d : Drafted) {s : Sides} → slice_get (gate_of d s).draft.gates (place_of d s) ≡ Some s
 unfolding gate_of
-gate_at d s = elim (bool_cases (list_any (has_sides s) d.gates)) [
+gate_at d {s} = elim (bool_cases (list_any (has_sides s) d.gates)) [
   | inl there ↦
       let lt = present_place d s there in
       ap (λ b. slice_get (cond b d.gates (d.gates ++ s ∷ [])) (place_of d s)) there
-      ∙ slice_get-get_or d.gates (place_of d s) s lt
-      ∙ ap (λ t. Some t) (sym (same_sides s (get_or d.gates (place_of d s) s)
+      ∙ slice_get-get_or d.gates (place_of d s) s lt ∙ ap (λ t. Some t) (sym (same_sides
       (passes_at_first (has_sides s) d.gates s lt)))
   | inr none ↦ ap (λ b. slice_get (cond b d.gates (d.gates ++ s ∷ [])) (place_of d s)) none
       ∙ ap (slice_get (d.gates ++ s ∷ [])) (absent_place d s none) ∙ slice_get-push d.gates s
 ]
 
 -- no gate before its place has its sides
-gate_first : (d e : Drafted) (s : Sides) → Extends d e → (k : ℕ) → k < place_of d s → place_of d s ≤ length d.gates →
+gate_first : {d e : Drafted} (s : Sides) → Extends d e → (k : ℕ) → k < place_of d s → place_of d s ≤ length d.gates →
     has_sides s (get_or e.gates k s) ≡ false
-gate_first d e s x k lt within =
+gate_first {d} {e} s x k lt within =
     let less : k < length d.gates = omega arith in
     ap (has_sides s) (get_or_from_slice_get e.gates k (get_or d.gates k s) s
     (x.same k (get_or d.gates k s) (slice_get-get_or d.gates k s less)))
@@ -84,36 +83,35 @@ place_within d s = elim (bool_cases (list_any (has_sides s) d.gates)) [
 ]
 
 -- a gate that has these sides where no gate before it has them
-pub gate-found : (e : Drafted) (s : Sides) (place : ℕ) → slice_get e.gates place ≡ Some s →
+pub gate-found : (e : Drafted) {s : Sides} (place : ℕ) → slice_get e.gates place ≡ Some s →
     ((k : ℕ) → k < place → has_sides s (get_or e.gates k s) ≡ false) →
     gate_of e s ≡ record { draft = e; literal = 2 * (e.given + 1 + place) }
 unfolding gate_of
-gate-found e s place at first =
+gate-found e {s} place at first =
     let lt = slice_get_within e.gates place s at in
     let passes : has_sides s (get_or e.gates place s) ≡ true =
     ap (has_sides s) (get_or_from_slice_get e.gates place s s at) ∙ sides_same s in
     let is : place_of e s ≡ place =
     position_or_len_is (has_sides s) e.gates place s (omega arith) first (λ h. passes) in
     let there = list_any_at (has_sides s) e.gates place s lt passes in
-    let made : Bool → ℕ → Made =
-    λ b n. record {
+    let made : Bool → ℕ → Made = λ b n. record {
       draft = record { given = e.given; gates = cond b e.gates (e.gates ++ s ∷ []) };
       literal = 2 * (e.given + 1 + n);
     } in
     ap (λ b. made b (place_of e s)) there ∙ ap (made true) is
 
-gate_literal : (d e : Drafted) (s : Sides) → Extends (gate_of d s).draft e →
+gate_literal : (d : Drafted) {e : Drafted} (s : Sides) → Extends (gate_of d s).draft e →
     2 * (e.given + 1 + place_of d s) ≡ (gate_of d s).literal
 unfolding gate_of
-gate_literal d e s x = ap (λ g. 2 * (g + 1 + place_of d s)) x.given
+gate_literal d s x = ap (λ g. 2 * (g + 1 + place_of d s)) x.given
 
-pub gate-again : (d e : Drafted) (s : Sides) → Extends (gate_of d s).draft e →
+pub gate-again : (d : Drafted) {e : Drafted} (s : Sides) → Extends (gate_of d s).draft e →
     IsThere (gate_of d s) (λ t. gate_of t s) e
-gate-again d e s x =
-    let first = gate_first d e s (extends-trans d (gate_of d s).draft e (gate-extends d s) x) in
+gate-again d {e} s x =
+    let first = gate_first s (extends-trans d (gate_of d s).draft e (gate-extends s) x) in
     let found =
-    gate-found e s (place_of d s) (x.same (place_of d s) s (gate_at d s)) (λ k lt. first k lt (place_within d s)) in
-    found ∙ ap (made_with e) (gate_literal d e s x)
+    gate-found e (place_of d s) (x.same (place_of d s) s (gate_at d)) (λ k lt. first k lt (place_within d s)) in
+    found ∙ ap (made_with e) (gate_literal d s x)
 
 -- ## Conjunctions
 
@@ -125,108 +123,106 @@ both_by never is_second is_first falls x y d =
     else if falls then gate_of d (record { first = x; second = y })
     else gate_of d (record { first = y; second = x })
 
-both_extends : (a b c f : Bool) (x y : ℕ) (d : Drafted) → Extends d (both_by a b c f x y d).draft
-both_extends true b c f x y d = extends-refl d
-both_extends false true c f x y d = extends-refl d
-both_extends false false true f x y d = extends-refl d
-both_extends false false false true x y d = gate-extends d (record { first = x; second = y })
-both_extends false false false false x y d = gate-extends d (record { first = y; second = x })
+both_extends : (a b c f : Bool) (x y : ℕ) {d : Drafted} → Extends d (both_by a b c f x y d).draft
+both_extends true b c f x y {d} = extends-refl d
+both_extends false true c f x y {d} = extends-refl d
+both_extends false false true f x y {d} = extends-refl d
+both_extends false false false true x y = gate-extends (record { first = x; second = y })
+both_extends false false false false x y = gate-extends (record { first = y; second = x })
 
-both_again : (a b c f : Bool) (x y : ℕ) (d e : Drafted) → Extends (both_by a b c f x y d).draft e →
+both_again : (a b c f : Bool) (x y : ℕ) (d : Drafted) {e : Drafted} → Extends (both_by a b c f x y d).draft e →
     IsThere (both_by a b c f x y d) (both_by a b c f x y) e
-both_again true b c f x y d e h = refl
-both_again false true c f x y d e h = refl
-both_again false false true f x y d e h = refl
-both_again false false false true x y d e h = gate-again d e (record { first = x; second = y }) h
-both_again false false false false x y d e h = gate-again d e (record { first = y; second = x }) h
+both_again true b c f x y d h = refl
+both_again false true c f x y d h = refl
+both_again false false true f x y d h = refl
+both_again false false false true x y d h = gate-again d (record { first = x; second = y }) h
+both_again false false false false x y d h = gate-again d (record { first = y; second = x }) h
 
-pub and-extends : (d : Drafted) (x y : ℕ) → Extends d (and_of d x y).draft
+pub and-extends : {d : Drafted} (x y : ℕ) → Extends d (and_of d x y).draft
 unfolding and_of
-and-extends d x y = both_extends (x == 0 || y == 0 || x == negated y) (x == 1 || x == y) (y == 1) (nat_lt y x) x y d
+and-extends x y = both_extends (x == 0 || y == 0 || x == negated y) (x == 1 || x == y) (y == 1) (nat_lt y x) x y
 
-pub and-again : (d e : Drafted) (x y : ℕ) → Extends (and_of d x y).draft e →
+pub and-again : (d : Drafted) {e : Drafted} (x y : ℕ) → Extends (and_of d x y).draft e →
     IsThere (and_of d x y) (λ t. and_of t x y) e
 unfolding and_of
-and-again d e x y h = both_again (x == 0 || y == 0 || x == negated y) (x == 1 || x == y) (y == 1) (nat_lt y x) x y d e h
+and-again d x y h = both_again (x == 0 || y == 0 || x == negated y) (x == 1 || x == y) (y == 1) (nat_lt y x) x y d h
 
-pub or-extends : (d : Drafted) (x y : ℕ) → Extends d (or_of d x y).draft
+pub or-extends : {d : Drafted} (x y : ℕ) → Extends d (or_of d x y).draft
 unfolding or_of
-or-extends d x y = and-extends d (negated x) (negated y)
+or-extends x y = and-extends (negated x) (negated y)
 
-pub or-again : (d e : Drafted) (x y : ℕ) → Extends (or_of d x y).draft e → IsThere (or_of d x y) (λ t. or_of t x y) e
+pub or-again : (d : Drafted) {e : Drafted} (x y : ℕ) → Extends (or_of d x y).draft e →
+    IsThere (or_of d x y) (λ t. or_of t x y) e
 unfolding or_of
-or-again d e x y h = ap inverted (and-again d e (negated x) (negated y) h)
+or-again d x y h = ap inverted (and-again d (negated x) (negated y) h)
 
 -- ## Choices
 
-pub chosen-extends : (d : Drafted) (s high low : ℕ) → Extends d (chosen_of d s high low).draft
+pub chosen-extends : {d : Drafted} (s high low : ℕ) → Extends d (chosen_of d s high low).draft
 unfolding chosen_of
-chosen-extends d s high low =
+chosen-extends {d} s high low =
     let a = and_of d s high in
     let b = and_of a.draft (negated s) low in
-    extends-trans d a.draft _ (and-extends d s high) (extends-trans a.draft b.draft _
-    (and-extends a.draft (negated s) low) (or-extends b.draft a.literal b.literal))
+    extends-trans d a.draft _ (and-extends s high) (extends-trans a.draft b.draft _
+    (and-extends (negated s) low) (or-extends a.literal b.literal))
 
-pub chosen-again : (d e : Drafted) (s high low : ℕ) → Extends (chosen_of d s high low).draft e →
+pub chosen-again : (d : Drafted) {e : Drafted} (s high low : ℕ) → Extends (chosen_of d s high low).draft e →
     IsThere (chosen_of d s high low) (λ t. chosen_of t s high low) e
 unfolding chosen_of
-chosen-again d e s high low h =
+chosen-again d {e} s high low h =
     let a = and_of d s high in
     let b = and_of a.draft (negated s) low in
     let hb : Extends b.draft e =
-    extends-trans b.draft (or_of b.draft a.literal b.literal).draft e (or-extends b.draft a.literal b.literal) h in
-    let ha : Extends a.draft e = extends-trans a.draft b.draft e (and-extends a.draft (negated s) low) hb in
+    extends-trans b.draft (or_of b.draft a.literal b.literal).draft e (or-extends a.literal b.literal) h in
+    let ha : Extends a.draft e = extends-trans a.draft b.draft e (and-extends (negated s) low) hb in
     let again : Made → Made → Made = λ p q. or_of q.draft p.literal q.literal in
-    ap (λ p. again p (and_of p.draft (negated s) low)) (and-again d e s high ha)
-    ∙ ap (λ q. again (record { draft = e; literal = a.literal }) q) (and-again a.draft e (negated s) low hb)
-    ∙ or-again b.draft e a.literal b.literal h
+    ap (λ p. again p (and_of p.draft (negated s) low)) (and-again d s high ha)
+    ∙ ap (λ q. again (record { draft = e; literal = a.literal }) q) (and-again a.draft (negated s) low hb)
+    ∙ or-again b.draft a.literal b.literal h
 
 abbrev pub choice_by : Bool → Bool → Bool → Bool → Bool → Bool → Bool → ℕ → ℕ → ℕ → Drafted → Made
 choice_by same is_s is_not_s high_true high_false low_false low_true s high low d =
     if same then record { draft = d; literal = high }
     else if is_s then record { draft = d; literal = s }
     else if is_not_s then record { draft = d; literal = negated s }
-    else if high_true then or_of d s low
-    else if high_false then and_of d (negated s) low
-    else if low_false then and_of d s high
-    else if low_true then or_of d (negated s) high
-    else chosen_of d s high low
+    else if high_true then or_of d s low else if high_false then and_of d (negated s) low
+    else if low_false then and_of d s high else if low_true then or_of d (negated s) high else chosen_of d s high low
 
-choice_extends : (a b c f g h i : Bool) (s high low : ℕ) (d : Drafted) →
+choice_extends : (a b c f g h i : Bool) (s high low : ℕ) {d : Drafted} →
     Extends d (choice_by a b c f g h i s high low d).draft
-choice_extends true b c f g h i s high low d = extends-refl d
-choice_extends false true c f g h i s high low d = extends-refl d
-choice_extends false false true f g h i s high low d = extends-refl d
-choice_extends false false false true g h i s high low d = or-extends d s low
-choice_extends false false false false true h i s high low d = and-extends d (negated s) low
-choice_extends false false false false false true i s high low d = and-extends d s high
-choice_extends false false false false false false true s high low d = or-extends d (negated s) high
-choice_extends false false false false false false false s high low d = chosen-extends d s high low
+choice_extends true b c f g h i s high low {d} = extends-refl d
+choice_extends false true c f g h i s high low {d} = extends-refl d
+choice_extends false false true f g h i s high low {d} = extends-refl d
+choice_extends false false false true g h i s high low = or-extends s low
+choice_extends false false false false true h i s high low = and-extends (negated s) low
+choice_extends false false false false false true i s high low = and-extends s high
+choice_extends false false false false false false true s high low = or-extends (negated s) high
+choice_extends false false false false false false false s high low = chosen-extends s high low
 
-choice_again : (a b c f g h i : Bool) (s high low : ℕ) (d e : Drafted) →
+choice_again : (a b c f g h i : Bool) (s high low : ℕ) (d : Drafted) {e : Drafted} →
     Extends (choice_by a b c f g h i s high low d).draft e → IsThere (choice_by a b c f g h i s high low d)
     (choice_by a b c f g h i s high low) e
-choice_again true b c f g h i s high low d e x = refl
-choice_again false true c f g h i s high low d e x = refl
-choice_again false false true f g h i s high low d e x = refl
-choice_again false false false true g h i s high low d e x = or-again d e s low x
-choice_again false false false false true h i s high low d e x = and-again d e (negated s) low x
-choice_again false false false false false true i s high low d e x = and-again d e s high x
-choice_again false false false false false false true s high low d e x = or-again d e (negated s) high x
-choice_again false false false false false false false s high low d e x = chosen-again d e s high low x
+choice_again true b c f g h i s high low d x = refl
+choice_again false true c f g h i s high low d x = refl
+choice_again false false true f g h i s high low d x = refl
+choice_again false false false true g h i s high low d x = or-again d s low x
+choice_again false false false false true h i s high low d x = and-again d (negated s) low x
+choice_again false false false false false true i s high low d x = and-again d s high x
+choice_again false false false false false false true s high low d x = or-again d (negated s) high x
+choice_again false false false false false false false s high low d x = chosen-again d s high low x
 
 pub mux-extends : (d : Drafted) (s high low : ℕ) → Extends d (mux_of d s high low).draft
 unfolding mux_of
 mux-extends d s high low =
     choice_extends (high == low) (high == 1 && low == 0) (high == 0 && low == 1) (high == 1) (high == 0) (low == 0)
-    (low == 1) s high low d
+    (low == 1) s high low
 
 pub mux-again : (d e : Drafted) (s high low : ℕ) → Extends (mux_of d s high low).draft e →
     IsThere (mux_of d s high low) (λ t. mux_of t s high low) e
 unfolding mux_of
 mux-again d e s high low x =
     choice_again (high == low) (high == 1 && low == 0) (high == 0 && low == 1) (high == 1) (high == 0) (low == 0)
-    (low == 1) s high low d e x
+    (low == 1) s high low d x
 
 pub mux-same : (d : Drafted) (s literal : ℕ) → mux_of d s literal literal ≡ record { draft = d; literal = literal }
 unfolding mux_of
@@ -244,20 +240,19 @@ above-first d s high low above =
     let a = and_of d s high in
     let b = and_of a.draft (negated s) low in
     above-extends a.draft (or_of b.draft a.literal b.literal).draft
-    (extends-trans a.draft b.draft _ (and-extends a.draft (negated s) low) (or-extends b.draft a.literal b.literal))
-    above
+    (extends-trans a.draft b.draft _ (and-extends (negated s) low) (or-extends a.literal b.literal)) above
 
-pub above-second : (d t : Drafted) (s high low where_true ns : ℕ) →
+pub above-second : (d t : Drafted) (s high low where_true : ℕ) {ns : ℕ} →
     and_of d s high ≡ record { draft = t; literal = where_true } → ns ≡ negated s →
     2147483647 < variables_of (and_of t ns low).draft → 2147483647 < variables_of (chosen_of d s high low).draft
 unfolding chosen_of
-above-second d t s high low where_true ns made is above =
+above-second d t s high low where_true made is above =
     let a = and_of d s high in
     let b = and_of a.draft (negated s) low in
     let here : 2147483647 < variables_of b.draft =
     subst (λ x. 2147483647 < variables_of (and_of x (negated s) low).draft) (sym (ap (λ (m : Made). m.draft) made))
     (subst (λ x. 2147483647 < variables_of (and_of t x low).draft) is above) in
-    above-extends b.draft (or_of b.draft a.literal b.literal).draft (or-extends b.draft a.literal b.literal) here
+    above-extends b.draft (or_of b.draft a.literal b.literal).draft (or-extends a.literal b.literal) here
 
 pub above-new : (d : Drafted) (s : Sides) → variables_of d ≡ 2147483647 → list_any (has_sides s) d.gates ≡ false →
     2147483647 < variables_of (gate_of d s).draft
@@ -266,27 +261,27 @@ above-new d s full none =
     let longer = length-append d.gates (s ∷ []) in
     rw none (omega arith)
 
-gate_draft : (old new : Drafted) (s : Sides) → new.given ≡ old.given →
+gate_draft : (old : Drafted) {new : Drafted} (s : Sides) → new.given ≡ old.given →
     new.gates ≡ insert_key (sides_eq.eq-value).it old.gates s → (gate_of old s).draft ≡ new
 unfolding gate_of
-gate_draft old new s given keys = drafted_are (gate_of old s).draft new (sym given) (sym keys)
+gate_draft old {new} s given keys = drafted_are (gate_of old s).draft new (sym given) (sym keys)
 
 -- a gate that has its place is made
-pub made-placed : (old new : Drafted) (s : Sides) (place : ℕ) → Placed old new s place → new.given ≡ old.given →
+pub made-placed : {old new : Drafted} {s : Sides} {place : ℕ} → Placed old new s place → new.given ≡ old.given →
     new.gates ≡ insert_key (sides_eq.eq-value).it old.gates s →
     gate_of old s ≡ record { draft = new; literal = 2 * (new.given + 1 + place) }
-made-placed old new s place p given keys =
-    let is : (gate_of old s).draft ≡ new = gate_draft old new s given keys in
-    let found = gate-found new s place p.at (λ k lt. elim (bool_cases (has_sides s (get_or new.gates k s))) [
+made-placed {old} {new} {s} {place} p given keys =
+    let is : (gate_of old s).draft ≡ new = gate_draft old s given keys in
+    let found = gate-found new place p.at (λ k lt. elim (bool_cases (has_sides s (get_or new.gates k s))) [
       | inl same ↦
           let within : place < length new.gates = slice_get_within new.gates place s p.at in
           let at : slice_get new.gates k ≡ Some s = slice_get-get_or new.gates k s (omega arith)
-          ∙ ap (λ t. Some t) (sym (same_sides s (get_or new.gates k s) same)) in
+          ∙ ap (λ t. Some t) (sym (same_sides same)) in
           let one : k ≡ place = p.sound.once k place s at p.at in
           absurd (omega arith)
       | inr isnt ↦ isnt
     ]) in
-    let again = gate-again old new s (subst (λ t. Extends t new) (sym is) (extends-refl new)) in
+    let again = gate-again old s (subst (λ t. Extends t new) (sym is) (extends-refl new)) in
     let literal : (gate_of old s).literal ≡ 2 * (new.given + 1 + place) =
     ap (λ (m : Made). m.literal) (sym again ∙ found) in
-    made_are (gate_of old s) (made_with new (2 * (new.given + 1 + place))) is literal
+    made_are is literal

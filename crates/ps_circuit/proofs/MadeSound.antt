@@ -11,10 +11,9 @@ use Rattle.ps_circuit.specs.Building.{Drafted, AreSides, Extends, IsFull, IsHeld
 use Rattle.ps_circuit.specs.Building.{variables_of}
 use Rattle.ps_circuit.specs.Literals.{negated, variable}
 use Rattle.ps_circuit.specs.Gates.{Made, has_sides, gate_of, and_of, or_of, chosen_of, mux_of}
-use Rattle.ps_circuit.proofs.GateLemmas.{bit-negated, chosen_bits, held-extends, held-negated}
-use Rattle.ps_circuit.proofs.GateLemmas.{meets-extends, or_bits, placed, placed-bit, sides_same}
-use Rattle.ps_circuit.proofs.MadeLemmas.{above-new, and-extends, both_by, choice_by, gate_at, or-extends}
-use Rattle.ps_circuit.proofs.MadeLemmas.{place_of}
+use Rattle.ps_circuit.proofs.GateLemmas.{bit-negated, chosen_bits, held-extends, held-negated, meets-extends, or_bits}
+use Rattle.ps_circuit.proofs.GateLemmas.{placed, placed-bit, sides_same}
+use Rattle.ps_circuit.proofs.MadeLemmas.{above-new, and-extends, both_by, choice_by, gate_at, or-extends, place_of}
 
 -- there is a literal for each variable
 abbrev pub HasRoom : Drafted → Type 0
@@ -50,15 +49,15 @@ there d literal p sound held is = record { sound = sound; held = held; is = λ v
 
 -- ## One gate
 
-gate-made : (d : Drafted) (s : Sides) → IsSoundDraft d → AreSides (variables_of d + 1) s →
+gate-made : {d : Drafted} {s : Sides} → IsSoundDraft d → AreSides (variables_of d + 1) s →
     HasRoom (gate_of d s).draft → IsMade (gate_of d s) (λ v. bit v s.first && bit v s.second)
 unfolding gate_of
-gate-made d s sound sides room =
+gate-made {d} {s} sound sides room =
     let new : Drafted = (gate_of d s).draft in
     let place = place_of d s in
     let full : list_any (has_sides s) d.gates ≡ false → IsFull d → ⊥ =
     λ none full. (let above = above-new d s full none in omega (arith, above, room)) in
-    let p = placed d new s place sound sides full refl refl (s, gate_at d s, sides_same s) in
+    let p = placed d new s place sound sides full refl refl (s, gate_at d, sides_same s) in
     record {
       sound = p.sound;
       held = (let within = slice_get_within new.gates place s p.at in
@@ -92,8 +91,8 @@ both_turned false true = refl
 both_turned false false = refl
 
 -- literals of one variable are equal, or each is the other's negation
-one_variable : (x y : ℕ) → (x ≡ negated y → ⊥) → variable x ≡ variable y → x ≡ y
-one_variable x y other same = elim (cases_eq (y % 2) 1) [
+one_variable : {x y : ℕ} → (x ≡ negated y → ⊥) → variable x ≡ variable y → x ≡ y
+one_variable {x} {y} other same = elim (cases_eq (y % 2) 1) [
   | inl odd ↦
       let is : negated y ≡ y - 1 = ap (λ b. cond b (y - 1) (y + 1)) (eq-eqb (y % 2) 1 odd) in
       elim (cases_eq x (y - 1)) [
@@ -150,87 +149,81 @@ differ x y a b c =
       second = eqb-false y 0 q.1;
       first_varies = eqb-false x 1 r.0;
       second_varies = eqb-false y 1 c;
-      different = λ same. eqb-false x y r.1 (one_variable x y (eqb-false x (negated y) p.1) same);
+      different = λ same. eqb-false x y r.1 (one_variable (eqb-false x (negated y) p.1) same);
     }
 
-both_made : (a b c f : Bool) (x y : ℕ) (d : Drafted) → (x == 0 || y == 0 || x == negated y) ≡ a →
+both_made : (a b c f : Bool) (x y : ℕ) {d : Drafted} → (x == 0 || y == 0 || x == negated y) ≡ a →
     (x == 1 || x == y) ≡ b → (y == 1) ≡ c → nat_lt y x ≡ f → IsSoundDraft d → IsHeld d x → IsHeld d y →
     HasRoom (both_by a b c f x y d).draft → IsMade (both_by a b c f x y d) (λ v. bit v x && bit v y)
-both_made true b c f x y d ea eb ec ef sound hx hy room =
+both_made true b c f x y {d} ea eb ec ef sound hx hy room =
     there d 0 _ sound (omega arith) (λ v zero. zero ∙ sym (never_is x y ea v zero))
-both_made false true c f x y d ea eb ec ef sound hx hy room = there d y _ sound hy (second_is x y eb)
-both_made false false true f x y d ea eb ec ef sound hx hy room = there d x _ sound hx (first_is x y ec)
-both_made false false false true x y d ea eb ec ef sound hx hy room =
+both_made false true c f x y {d} ea eb ec ef sound hx hy room = there d y _ sound hy (second_is x y eb)
+both_made false false true f x y {d} ea eb ec ef sound hx hy room = there d x _ sound hx (first_is x y ec)
+both_made false false false true x y ea eb ec ef sound hx hy room =
     let less : y < x = ltb-true y x ef in
     let apart = differ x y ea eb ec in
-    gate-made d (record { first = x; second = y }) sound (record {
+    gate-made sound (record {
       below = omega (arith, hx);
       falls = less;
       different = λ e. apart.different (sym e);
       not_constant = (let p = apart.second in let q = apart.second_varies in omega arith);
     }) room
-both_made false false false false x y d ea eb ec ef sound hx hy room =
+both_made false false false false x y {d} ea eb ec ef sound hx hy room =
     let le : x ≤ y = ltb-false y x ef in
     let apart = differ x y ea eb ec in
     made-as (gate_of d (record { first = y; second = x })) (λ v. bit v y && bit v x) (λ v. bit v x && bit v y)
-    (λ v zero. both_turned (bit v y) (bit v x))
-    (gate-made d (record { first = y; second = x }) sound (record {
+    (λ v zero. both_turned (bit v y) (bit v x)) (gate-made sound (record {
       below = omega (arith, hy);
       falls = (let p = (λ (e : x ≡ y). apart.different (ap variable e)) in omega arith);
       different = apart.different;
       not_constant = (let p = apart.first in let q = apart.first_varies in omega arith);
     }) room)
 
-pub and-made : (d : Drafted) (x y : ℕ) → IsSoundDraft d → IsHeld d x → IsHeld d y → HasRoom (and_of d x y).draft →
+pub and-made : {d : Drafted} (x y : ℕ) → IsSoundDraft d → IsHeld d x → IsHeld d y → HasRoom (and_of d x y).draft →
     IsMade (and_of d x y) (λ v. bit v x && bit v y)
 unfolding and_of
-and-made d x y sound hx hy room =
-    both_made (x == 0 || y == 0 || x == negated y) (x == 1 || x == y) (y == 1) (nat_lt y x) x y d refl refl refl refl
+and-made x y sound hx hy room =
+    both_made (x == 0 || y == 0 || x == negated y) (x == 1 || x == y) (y == 1) (nat_lt y x) x y refl refl refl refl
     sound hx hy room
 
-pub or-made : (d : Drafted) (x y : ℕ) → IsSoundDraft d → IsHeld d x → IsHeld d y → HasRoom (or_of d x y).draft →
+pub or-made : {d : Drafted} (x y : ℕ) → IsSoundDraft d → IsHeld d x → IsHeld d y → HasRoom (or_of d x y).draft →
     IsMade (or_of d x y) (λ v. bit v x || bit v y)
 unfolding or_of
-or-made d x y sound hx hy room =
+or-made {d} x y sound hx hy room =
     let neither = and_of d (negated x) (negated y) in
-    let made =
-    and-made d (negated x) (negated y) sound (held-negated d x hx) (held-negated d y hy) room in
+    let made = and-made (negated x) (negated y) sound (held-negated d x hx) (held-negated d y hy) room in
     record {
       sound = made.sound;
       held = held-negated neither.draft neither.literal made.held;
-      is = λ v meets.
-          or_bits v x y neither.literal (negated x) (negated y) (negated neither.literal) refl refl refl
-          (made.is v meets);
+      is = λ v meets. or_bits v x y neither.literal refl refl refl (made.is v meets);
     }
 
 -- ## Choices
 
-chosen-made : (d : Drafted) (s high low : ℕ) → IsSoundDraft d → IsHeld d s → IsHeld d high → IsHeld d low →
+chosen-made : {d : Drafted} (s high low : ℕ) → IsSoundDraft d → IsHeld d s → IsHeld d high → IsHeld d low →
     HasRoom (chosen_of d s high low).draft →
     IsMade (chosen_of d s high low) (λ v. cond (bit v s) (bit v high) (bit v low))
 unfolding chosen_of
-chosen-made d s high low sound hs hh hl room =
+chosen-made {d} s high low sound hs hh hl room =
     let a = and_of d s high in
     let b = and_of a.draft (negated s) low in
     let o = or_of b.draft a.literal b.literal in
-    let xa : Extends d a.draft = and-extends d s high in
-    let xb : Extends a.draft b.draft = and-extends a.draft (negated s) low in
-    let xo : Extends b.draft o.draft = or-extends b.draft a.literal b.literal in
+    let xa : Extends d a.draft = and-extends s high in
+    let xb : Extends a.draft b.draft = and-extends (negated s) low in
+    let xo : Extends b.draft o.draft = or-extends a.literal b.literal in
     let room_b : HasRoom b.draft = room-before b.draft o.draft xo room in
     let room_a : HasRoom a.draft = room-before a.draft b.draft xb room_b in
-    let first = and-made d s high sound hs hh room_a in
-    let second =
-    and-made a.draft (negated s) low first.sound (held-negated a.draft s (held-extends d a.draft xa s hs))
+    let first = and-made s high sound hs hh room_a in
+    let second = and-made (negated s) low first.sound (held-negated a.draft s (held-extends d a.draft xa s hs))
     (held-extends d a.draft xa low hl) room_b in
-    let either =
-    or-made b.draft a.literal b.literal second.sound (held-extends a.draft b.draft xb a.literal first.held)
+    let either = or-made a.literal b.literal second.sound (held-extends a.draft b.draft xb a.literal first.held)
     second.held room in
     record {
       sound = either.sound;
       held = either.held;
       is = λ v meets.
           (let behind = meets-extends b.draft o.draft xo v meets in
-          chosen_bits v s high low (negated s) a.literal b.literal o.literal refl
+          chosen_bits v s high low a.literal b.literal o.literal refl
           (first.is v (meets-extends a.draft b.draft xb v behind)) (second.is v behind) (either.is v meets));
     }
 
@@ -241,9 +234,9 @@ zero_is v l zero e = ap (bit v) (eqb-true l 0 e) ∙ zero
 one_is : (v : ℕ → Bool) (l : ℕ) → v 0 ≡ false → (l == 1) ≡ true → bit v l ≡ true
 one_is v l zero e = ap (bit v) (eqb-true l 1 e) ∙ ap not zero
 
-by_same : (b x : Bool) → x ≡ cond b x x
-by_same true x = refl
-by_same false x = refl
+by_same : (b : Bool) {x : Bool} → x ≡ cond b x x
+by_same true = refl
+by_same false = refl
 
 by_itself : (b : Bool) → b ≡ cond b true false
 by_itself true = refl
@@ -269,45 +262,42 @@ else_true : (b x : Bool) → (not b || x) ≡ cond b x true
 else_true true x = refl
 else_true false x = refl
 
-choice_made : (a b c f g h i : Bool) (s high low : ℕ) (d : Drafted) → (high == low) ≡ a →
+choice_made : (a b c f g h i : Bool) (s high low : ℕ) {d : Drafted} → (high == low) ≡ a →
     (high == 1 && low == 0) ≡ b → (high == 0 && low == 1) ≡ c → (high == 1) ≡ f → (high == 0) ≡ g → (low == 0) ≡ h →
     (low == 1) ≡ i → IsSoundDraft d → IsHeld d s → IsHeld d high → IsHeld d low →
     HasRoom (choice_by a b c f g h i s high low d).draft →
     IsMade (choice_by a b c f g h i s high low d) (λ v. cond (bit v s) (bit v high) (bit v low))
-choice_made true b c f g h i s high low d ea eb ec ef eg eh ei sound hs hh hl room =
-    there d high _ sound hh (λ v zero. by_same (bit v s) (bit v high)
+choice_made true b c f g h i s high low {d} ea eb ec ef eg eh ei sound hs hh hl room =
+    there d high _ sound hh (λ v zero. by_same (bit v s)
     ∙ ap (λ l. cond (bit v s) (bit v high) (bit v l)) (eqb-true high low ea))
-choice_made false true c f g h i s high low d ea eb ec ef eg eh ei sound hs hh hl room =
+choice_made false true c f g h i s high low {d} ea eb ec ef eg eh ei sound hs hh hl room =
     let both = and_parts (high == 1) (low == 0) eb in
     there d s _ sound hs (λ v zero. by_itself (bit v s)
     ∙ sym (ap₂ (cond (bit v s)) (one_is v high zero both.0) (zero_is v low zero both.1)))
-choice_made false false true f g h i s high low d ea eb ec ef eg eh ei sound hs hh hl room =
+choice_made false false true f g h i s high low {d} ea eb ec ef eg eh ei sound hs hh hl room =
     let both = and_parts (high == 0) (low == 1) ec in
     there d (negated s) _ sound (held-negated d s hs) (λ v zero. bit-negated v s ∙ by_other (bit v s)
     ∙ sym (ap₂ (cond (bit v s)) (zero_is v high zero both.0) (one_is v low zero both.1)))
-choice_made false false false true g h i s high low d ea eb ec ef eg eh ei sound hs hh hl room =
+choice_made false false false true g h i s high low {d} ea eb ec ef eg eh ei sound hs hh hl room =
     made-as (or_of d s low) _ _ (λ v zero. then_true (bit v s) (bit v low)
-    ∙ sym (ap (λ t. cond (bit v s) t (bit v low)) (one_is v high zero ef)))
-    (or-made d s low sound hs hl room)
-choice_made false false false false true h i s high low d ea eb ec ef eg eh ei sound hs hh hl room =
+    ∙ sym (ap (λ t. cond (bit v s) t (bit v low)) (one_is v high zero ef))) (or-made s low sound hs hl room)
+choice_made false false false false true h i s high low {d} ea eb ec ef eg eh ei sound hs hh hl room =
     made-as (and_of d (negated s) low) _ _ (λ v zero. ap (λ t. t && bit v low) (bit-negated v s)
     ∙ then_false (bit v s) (bit v low) ∙ sym (ap (λ t. cond (bit v s) t (bit v low)) (zero_is v high zero eg)))
-    (and-made d (negated s) low sound (held-negated d s hs) hl room)
-choice_made false false false false false true i s high low d ea eb ec ef eg eh ei sound hs hh hl room =
+    (and-made (negated s) low sound (held-negated d s hs) hl room)
+choice_made false false false false false true i s high low {d} ea eb ec ef eg eh ei sound hs hh hl room =
     made-as (and_of d s high) _ _ (λ v zero. else_false (bit v s) (bit v high)
-    ∙ sym (ap (cond (bit v s) (bit v high)) (zero_is v low zero eh)))
-    (and-made d s high sound hs hh room)
-choice_made false false false false false false true s high low d ea eb ec ef eg eh ei sound hs hh hl room =
+    ∙ sym (ap (cond (bit v s) (bit v high)) (zero_is v low zero eh))) (and-made s high sound hs hh room)
+choice_made false false false false false false true s high low {d} ea eb ec ef eg eh ei sound hs hh hl room =
     made-as (or_of d (negated s) high) _ _ (λ v zero. ap (λ t. t || bit v high) (bit-negated v s)
     ∙ else_true (bit v s) (bit v high) ∙ sym (ap (cond (bit v s) (bit v high)) (one_is v low zero ei)))
-    (or-made d (negated s) high sound (held-negated d s hs) hh room)
-choice_made false false false false false false false s high low d ea eb ec ef eg eh ei sound hs hh hl room =
-    chosen-made d s high low sound hs hh hl room
+    (or-made (negated s) high sound (held-negated d s hs) hh room)
+choice_made false false false false false false false s high low ea eb ec ef eg eh ei sound hs hh hl room =
+    chosen-made s high low sound hs hh hl room
 
 pub mux-made : (d : Drafted) (s high low : ℕ) → IsSoundDraft d → IsHeld d s → IsHeld d high → IsHeld d low →
-    HasRoom (mux_of d s high low).draft →
-    IsMade (mux_of d s high low) (λ v. cond (bit v s) (bit v high) (bit v low))
+    HasRoom (mux_of d s high low).draft → IsMade (mux_of d s high low) (λ v. cond (bit v s) (bit v high) (bit v low))
 unfolding mux_of
 mux-made d s high low sound hs hh hl room =
     choice_made (high == low) (high == 1 && low == 0) (high == 0 && low == 1) (high == 1) (high == 0) (low == 0)
-    (low == 1) s high low d refl refl refl refl refl refl refl sound hs hh hl room
+    (low == 1) s high low refl refl refl refl refl refl refl sound hs hh hl room

@@ -14,9 +14,8 @@ use Rattle.ps_circuit.specs.declared.cursor.Number.{Number}
 use Rattle.ps_circuit.specs.declared.header.Header.{Header}
 use Rattle.ps_circuit.specs.declared.fault.AigCause.{AigCause}
 use Rattle.ps_circuit.specs.declared.fault.AigCause.TheVariants.{Literal, Sections}
-use Rattle.ps_circuit.specs.Causes.{AigFault}
+use Rattle.ps_circuit.specs.Causes.{AigFault, cause_number}
 use Rattle.ps_text.specs.declared.faults.Fault.TheVariants.{Text}
-use Rattle.ps_circuit.specs.Causes.{cause_number}
 use Rattle.ps_circuit.specs.Signs.{Seen, aig_causes, word, is_digit, number_at, number, gap, line_end, more, by_more}
 use Rattle.ps_circuit.specs.Cursors.{place_of, found_of, Tells, saturated, NumberIs, TellsNumber}
 use Rattle.ps_circuit.specs.Texts.{AnyNumber, WrongMost, WrongCount, HeaderData, sections, field, header}
@@ -32,85 +31,83 @@ use Rattle.ps_circuit.proofs.TextLaws.{laws_header_5}
 abbrev BadDigits : (ℕ → AigCause → Type 0) → List ℕ → AigCause → Type 0
 BadDigits Wrong digits f = Wrong (decimal_value digits) f
 
-number_is : (old new : Stream Seen) (n : Number) (x : NumberIs old new n) → n.value ≡ decimal_value x.run →
+number_is : {old new : Stream Seen} {n : Number} (x : NumberIs old new n) → n.value ≡ decimal_value x.run →
     n ≡ number_at (place_of old) x.run
-number_is old new n x e = ap₂ (λ (v o : ℕ). record { value = v; offset = o }) e x.offset
+number_is x e = ap₂ (λ (v o : ℕ). record { value = v; offset = o }) e x.offset
 
-pub number_small : (Wrong : ℕ → AigCause → Type 0) (old new : Stream Seen) (n : Number) → NumberIs old new n →
+pub number_small : (Wrong : ℕ → AigCause → Type 0) {old new : Stream Seen} {n : Number} → NumberIs old new n →
     n.value < 18446744073709551615 → ((f : AigCause) → Wrong n.value f → ⊥) → Reads (number Wrong) old n new
 unfolding number
-number_small Wrong old new n x small good =
+number_small Wrong {old} {new} {n} x small good =
     let v : n.value ≡ decimal_value x.run = omega (arith, x.value) in
-    run_reads is_digit number_at (BadDigits Wrong) old new x.run n x.passes x.some
-    (λ f b. good f (subst (λ k. Wrong k f) (sym v) b)) (number_is old new n x v)
+    run_reads is_digit number_at (BadDigits Wrong) x.passes x.some
+    (λ f b. good f (subst (λ k. Wrong k f) (sym v) b)) (number_is x v)
 
 -- a number of any size
-pub number_any : (old new : Stream Seen) (n : Number) → NumberIs old new n →
+pub number_any : {old new : Stream Seen} {n : Number} → NumberIs old new n →
     (v : Number) × (n.value ≡ saturated v.value) × Reads (number AnyNumber) old v new
 unfolding number
-number_any old new n x = (
+number_any {old} {new} x = (
   number_at (place_of old) x.run,
   x.value,
-  run_reads is_digit number_at (BadDigits AnyNumber) old new x.run
-      (number_at (place_of old) x.run) x.passes x.some (λ f b. b) refl,
+  run_reads is_digit number_at (BadDigits AnyNumber) x.passes x.some (λ f b. b) refl,
 )
 
-pub number_wrong : (Wrong : ℕ → AigCause → Type 0) (old new : Stream Seen) (n : Number) (f : AigCause) (e : AigFault) →
+pub number_wrong : (Wrong : ℕ → AigCause → Type 0) {old new : Stream Seen} {n : Number} (f : AigCause) {e : AigFault} →
     NumberIs old new n → ((v : ℕ) → n.value ≡ saturated v → Wrong v f)
     → ((v : ℕ) → n.value ≡ saturated v → (g : AigCause) → Wrong v g → cause_number f ≤ cause_number g) →
     e ≡ Text f n.offset → Stops aig_causes (number Wrong) old (found_of e)
 unfolding number
-number_wrong Wrong old new n f e x wrong least is =
+number_wrong Wrong {old} {new} f x wrong least is =
     subst (λ y. Stops aig_causes (number Wrong) old (found_of y)) (sym (is ∙ ap (Text f) x.offset))
-    (run_bad is_digit number_at (BadDigits Wrong) old new x.run f x.passes x.some (wrong (decimal_value x.run) x.value)
+    (run_bad is_digit number_at (BadDigits Wrong) f x.passes x.some (wrong (decimal_value x.run) x.value)
     (least (decimal_value x.run) x.value))
 
-pub number_none : (Wrong : ℕ → AigCause → Type 0) (old new : Stream Seen) (e : AigFault) → TellsNumber old (Err e) new →
+pub number_none : (Wrong : ℕ → AigCause → Type 0) {old : Stream Seen} (new : Stream Seen) (e : AigFault) →
+    TellsNumber old (Err e) new →
     Stops aig_causes (number Wrong) old (found_of e)
 unfolding number
-number_none Wrong old new e m =
+number_none Wrong {old} new e m =
     subst (λ y. Stops aig_causes (number Wrong) old (found_of y)) (sym m.1)
-    (run_stops is_digit number_at (BadDigits Wrong) 48 refl old new m.0)
+    (run_stops is_digit number_at (BadDigits Wrong) 48 refl m.0)
 
 -- ## Numbers behind a gap
 
-pub field_reads : (Wrong : ℕ → AigCause → Type 0) (old mid new : Stream Seen) (n : Number) → Reads gap old tt mid →
+pub field_reads : (Wrong : ℕ → AigCause → Type 0) {old mid new : Stream Seen} {n : Number} → Reads gap old tt mid →
     Reads (number Wrong) mid n new → Reads (field Wrong) old n new
 unfolding field
-field_reads Wrong old mid new n g m = reads_then (joint_field Wrong) g m
+field_reads Wrong g m = reads_then (joint_field Wrong) g m
 
-pub field_fails : (Wrong : ℕ → AigCause → Type 0) (old mid : Stream Seen) (o : Option (Found AigCause)) →
+pub field_fails : (Wrong : ℕ → AigCause → Type 0) {old mid : Stream Seen} (o : Option (Found AigCause)) →
     Reads gap old tt mid → Stops aig_causes (number Wrong) mid o → Stops aig_causes (field Wrong) old o
 unfolding field
-field_fails Wrong old mid o g m = stops_behind aig_causes (joint_field Wrong) g o m
+field_fails Wrong o g m = stops_behind aig_causes (joint_field Wrong) g o m
 
-pub field_none : (Wrong : ℕ → AigCause → Type 0) (old new : Stream Seen) (e : AigFault) → TellsField old (Err e) new →
+pub field_none : (Wrong : ℕ → AigCause → Type 0) {old : Stream Seen} (new : Stream Seen) (e : AigFault) →
+    TellsField old (Err e) new →
     Stops aig_causes (field Wrong) old (found_of e)
 unfolding field
-field_none Wrong old new e (inl m) = stops_first aig_causes (joint_field Wrong) old (found_of e) m
-field_none Wrong old new e (inr m) =
-    stops_behind aig_causes (joint_field Wrong) m.1 (found_of e) (number_none Wrong m.0 new e m.2)
+field_none Wrong {old} new e (inl m) = stops_first aig_causes (joint_field Wrong) old (found_of e) m
+field_none Wrong new e (inr m) =
+    stops_behind aig_causes (joint_field Wrong) m.1 (found_of e) (number_none Wrong new e m.2)
 
-pub most_reads : (old new : Stream Seen) (n : Number) → TellsField old (Ok n) new → n.value ≤ 2147483647 →
+pub most_reads : {old new : Stream Seen} {n : Number} → TellsField old (Ok n) new → n.value ≤ 2147483647 →
     Reads (field WrongMost) old n new
-most_reads old new n m small =
-    field_reads WrongMost old m.0 new n m.1 (number_small WrongMost m.0 new n m.2 (omega arith)
-    (λ f w. omega (arith, w.0)))
+most_reads m small = field_reads WrongMost m.1 (number_small WrongMost m.2 (omega arith) (λ f w. omega (arith, w.0)))
 
-pub most_wrong : (old new : Stream Seen) (n : Number) (e : AigFault) → TellsField old (Ok n) new →
+pub most_wrong : {old : Stream Seen} (new : Stream Seen) (n : Number) {e : AigFault} → TellsField old (Ok n) new →
     2147483647 < n.value → e ≡ Text Literal n.offset → Stops aig_causes (field WrongMost) old (found_of e)
-most_wrong old new n e m large is =
-    field_fails WrongMost old m.0 (found_of e) m.1
-    (number_wrong WrongMost m.0 new n Literal e m.2 (λ v h. (omega (arith, h), refl))
+most_wrong new n {e} m large is =
+    field_fails WrongMost (found_of e) m.1 (number_wrong WrongMost Literal m.2 (λ v h. (omega (arith, h), refl))
     (λ v h g w. rw w.1 (omega arith)) is)
 
 pub count_reads : (old new : Stream Seen) (n : Number) → TellsField old (Ok n) new → TellsCount old (Ok n.value) new
-count_reads old new n m = let v = number_any m.0 new n m.2 in (v.0, v.1, field_reads AnyNumber old m.0 new v.0 m.1 v.2)
+count_reads old new n m = let v = number_any m.2 in (v.0, v.1, field_reads AnyNumber m.1 v.2)
 
 pub count_fails : (old mid new : Stream Seen) (e : AigFault) (r : Result ℕ AigFault) → TellsField old (Err e) mid →
     IsErrAnd r (λ y. y ≡ e) → TellsCount old r new
 count_fails old mid new e r m i = let y = err_from_is_err_and r i in
-    subst (λ z. TellsCount old z new) (sym (y.1 ∙ ap Err y.2)) (field_none AnyNumber old mid e m)
+    subst (λ z. TellsCount old z new) (sym (y.1 ∙ ap Err y.2)) (field_none AnyNumber mid e m)
 
 -- ## Sections
 
@@ -132,27 +129,28 @@ unfolding sections
 sections_more_fails old zero o l m = absurd (omega arith)
 sections_more_fails old (suc n) o l m = stops_first aig_causes (joint_sections n) old o m
 
-pub sections_ended : (old new : Stream Seen) (left : ℕ) (b : Bool) → 0 < left → b ≡ false → Reads more old b new →
+pub sections_ended : {old new : Stream Seen} (left : ℕ) {b : Bool} → 0 < left → b ≡ false → Reads more old b new →
     Reads (sections left) old tt new
 unfolding sections
-sections_ended old new zero b l e m = absurd (omega arith)
-sections_ended old new (suc n) b l e m =
+sections_ended zero l e m = absurd (omega arith)
+sections_ended {old} {new} (suc n) l e m =
     reads_then (joint_sections n) (subst (λ z. Reads more old z new) e m) (reads_give new tt)
 
-pub sections_fails : (old mid : Stream Seen) (left : ℕ) (b : Bool) (o : Option (Found AigCause)) → 0 < left → b ≡ true →
+pub sections_fails : {old mid : Stream Seen} (left : ℕ) {b : Bool} (o : Option (Found AigCause)) → 0 < left → b ≡ true →
     Reads more old b mid → Stops aig_causes (number WrongCount) mid o → Stops aig_causes (sections left) old o
 unfolding sections
-sections_fails old mid zero b o l e m s = absurd (omega arith)
-sections_fails old mid (suc n) b o l e m s =
+sections_fails zero o l e m s = absurd (omega arith)
+sections_fails {old} {mid} (suc n) o l e m s =
     stops_behind aig_causes (joint_sections n) (subst (λ z. Reads more old z mid) e m) o
     (stops_first aig_causes (joint_counted n) mid o s)
 
-pub sections_next : (old mid next new : Stream Seen) (left : ℕ) (b : Bool) (k : Number) (r : Result (Unit {0}) AigFault)
+pub sections_next : {old mid next : Stream Seen} (new : Stream Seen) (left : ℕ) {b : Bool} {k : Number}
+    (r : Result (Unit {0}) AigFault)
     → 0 < left → b ≡ true → Reads more old b mid → Reads (number WrongCount) mid k next
     → Tells (λ u. u) (sections (left - 1)) next r new → Tells (λ u. u) (sections left) old r new
 unfolding sections
-sections_next old mid next new zero b k r l e m s t = absurd (omega arith)
-sections_next old mid next new (suc n) b k r l e m s t =
+sections_next new zero r l e m s t = absurd (omega arith)
+sections_next {old} {mid} {next} new (suc n) r l e m s t =
     go r (subst (λ x. Tells (λ u. u) (sections x) next r new) one t)
   where
     one : suc n - 1 ≡ n
@@ -166,14 +164,14 @@ sections_next old mid next new (suc n) b k r l e m s t =
         stops_behind aig_causes (joint_sections n) (subst (λ z. Reads more old z mid) e m) (found_of f)
         (stops_behind aig_causes (joint_counted n) s (found_of f) t)
 
-pub count_zero : (old new : Stream Seen) (n : Number) → NumberIs old new n → n.value ≡ 0 →
+pub count_zero : {old new : Stream Seen} {n : Number} → NumberIs old new n → n.value ≡ 0 →
     Reads (number WrongCount) old n new
-count_zero old new n x e = number_small WrongCount old new n x (omega (arith, e)) (λ f w. w.0 e)
+count_zero x e = number_small WrongCount x (omega (arith, e)) (λ f w. w.0 e)
 
-pub count_wrong : (old new : Stream Seen) (n : Number) (e : AigFault) → NumberIs old new n → (n.value ≡ 0 → ⊥) →
+pub count_wrong : {old new : Stream Seen} {n : Number} {e : AigFault} → NumberIs old new n → (n.value ≡ 0 → ⊥) →
     e ≡ Text Sections n.offset → Stops aig_causes (number WrongCount) old (found_of e)
-count_wrong old new n e x some is =
-    number_wrong WrongCount old new n Sections e x (λ v h. (λ z. some (omega (arith, h, z)), refl))
+count_wrong x some is =
+    number_wrong WrongCount Sections x (λ v h. (λ z. some (omega (arith, h, z)), refl))
     (λ v h g w. rw w.1 (omega arith)) is
 
 -- ## The first line
@@ -184,10 +182,10 @@ module _ (old s0 : Stream Seen) (w : Reads (word (codes "aag")) old tt s0) where
   unfolding header
   header_0_fails o m = stops_behind aig_causes joint_header w o m
 
-  pub header_0_reads : (d : HeaderData) (new : Stream Seen) → Reads (then_by (field WrongMost) header_1) s0 d new →
+  pub header_0_reads : {d : HeaderData} {new : Stream Seen} → Reads (then_by (field WrongMost) header_1) s0 d new →
       Reads header old d new
   unfolding header
-  header_0_reads d new m = reads_then joint_header w m
+  header_0_reads m = reads_then joint_header w m
 
 pub joint_1 : Joint (field WrongMost) header_1
 joint_1 = joint (laws_field WrongMost) (λ m. laws_header_1 m) digit_separates

@@ -89,16 +89,15 @@ over text a (meaning d h k n e) = draft d h (meant k n e)
 in_split : (before after : List Number) (l : Number) → Contains (before ++ l ∷ after) l
 in_split before after l = Contains-append_right before (l ∷ after) l (0, omega arith, refl)
 
-not_all : (defined : List ℕ) (readings : List Number) (l : Number) → IsFirstUndefined defined readings l →
+not_all : {defined : List ℕ} {readings : List Number} {l : Number} → IsFirstUndefined defined readings l →
     All (IsDefined defined) readings → ⊥
-not_all defined readings l u h =
+not_all {defined} {readings} {l} u h =
     u.not_defined (All-contains (IsDefined defined) readings l h
     (subst (λ z. Contains z l) (sym u.split) (in_split u.before u.after l)))
 
-same_first : (defined : List ℕ) (readings : List Number) (l m : Number) → IsFirstUndefined defined readings l →
+same_first : {defined : List ℕ} {readings : List Number} {l m : Number} → IsFirstUndefined defined readings l →
     IsFirstUndefined defined readings m → l ≡ m
-same_first defined readings l m u v =
-    go (compared u.before (l ∷ u.after) v.before (m ∷ v.after) (sym u.split ∙ v.split))
+same_first {defined} {l} {m} u v = go (compared u.before (l ∷ u.after) v.before (m ∷ v.after) (sym u.split ∙ v.split))
   where
     go : Compared u.before (l ∷ u.after) v.before (m ∷ v.after) → l ≡ m
     go (same e f) = same_head l m u.after v.after f
@@ -114,10 +113,10 @@ same_first defined readings l m u v =
 settled : (d : DraftData) (a b : CircuitAnswer) → Settled d a → Settled d b → a ≡ b
 settled d a b (undefined_at l u e) (undefined_at m v f) =
     e ∙ ap (λ (n : Number). Err (record { cause = causes.Undefined; offset = n.offset }))
-    (same_first d.defined d.readings l m u v) ∙ sym f
-settled d a b (undefined_at l u e) (cyclic_at j s h c g f) = absurd (not_all d.defined d.readings l u h)
-settled d a b (undefined_at l u e) (meant h n f) = absurd (not_all d.defined d.readings l u h)
-settled d a b (cyclic_at i r k c g e) (undefined_at m v f) = absurd (not_all d.defined d.readings m v k)
+    (same_first u v) ∙ sym f
+settled d a b (undefined_at l u e) (cyclic_at j s h c g f) = absurd (not_all u h)
+settled d a b (undefined_at l u e) (meant h n f) = absurd (not_all u h)
+settled d a b (cyclic_at i r k c g e) (undefined_at m v f) = absurd (not_all v k)
 settled d a b (cyclic_at i r k c g e) (cyclic_at j s h x y f) =
     let under : i ≤ j = c.first j x.cyclic in
     let above : j ≤ i = x.first i c.cyclic in
@@ -125,17 +124,17 @@ settled d a b (cyclic_at i r k c g e) (cyclic_at j s h x y f) =
     let start : r ≡ s = same_some r s (sym g ∙ ap (slice_get d.starts) place ∙ y) in
     e ∙ ap (λ n. Err (record { cause = causes.Cyclic; offset = n })) start ∙ sym f
 settled d a b (cyclic_at i r k c g e) (meant h n f) = absurd (n i c.cyclic)
-settled d a b (meant k n e) (undefined_at m v f) = absurd (not_all d.defined d.readings m v k)
+settled d a b (meant k n e) (undefined_at m v f) = absurd (not_all v k)
 settled d a b (meant k n e) (cyclic_at j s h x y f) = absurd (n j x.cyclic)
 settled d a b (meant k n e) (meant h m f) = e ∙ sym f
 
-one_over : (text : List ℕ) (a b : CircuitAnswer) → Over text a → Over text b → a ≡ b
-one_over text a b (first f h e) (first g k i) =
+one_over : {text : List ℕ} {a b : CircuitAnswer} → Over text a → Over text b → a ≡ b
+one_over {text} (first f h e) (first g k i) =
     e ∙ ap (λ r. Err (found_in f r)) (same_draft text (Err f) (Err g) h k) ∙ sym i
-one_over text a b (first f h e) (draft d k s) = absurd (subst IsOkDraft (sym (same_draft text (Err f) (Ok d) h k)) tt)
-one_over text a b (draft d h s) (first g k i) = absurd (subst IsOkDraft (same_draft text (Ok d) (Err g) h k) tt)
-one_over text a b (draft d h s) (draft x k t) =
+one_over {text} (first f h e) (draft d k s) = absurd (subst IsOkDraft (sym (same_draft text (Err f) (Ok d) h k)) tt)
+one_over {text} (draft d h s) (first g k i) = absurd (subst IsOkDraft (same_draft text (Ok d) (Err g) h k) tt)
+one_over {text} {a} {b} (draft d h s) (draft x k t) =
     settled d a b s (subst (λ z. Settled z b) (sym (ap (draft_in d) (same_draft text (Ok d) (Ok x) h k))) t)
 
 pub one_reading : (text : List ℕ) (a b : CircuitAnswer) → ReadsCircuit text a → ReadsCircuit text b → a ≡ b
-one_reading text a b h k = one_over text a b (over text a h) (over text b k)
+one_reading text a b h k = one_over (over text a h) (over text b k)

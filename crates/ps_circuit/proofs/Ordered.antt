@@ -5,16 +5,16 @@ use Rattle.ps_components.specs.Graphs.{Way, last, next}
 use Rattle.ps_components.specs.Orders.{IsOrder}
 
 module _ (R : ℕ → ℕ → Type 0) (n : ℕ) (falls : (i j : ℕ) → R i j → j < i) (within : (i j : ℕ) → R i j → i < n) where
-  way-falls : (i j : ℕ) → Way R i j → j < i
-  way-falls i j (last r) = falls i j r
-  way-falls i j (next {j = x} r w) = omega (arith, falls i x r, way-falls x j w)
+  way-falls : {i j : ℕ} → Way R i j → j < i
+  way-falls {i} {j} (last r) = falls i j r
+  way-falls {i} {j} (next {j = x} r w) = omega (arith, falls i x r, way-falls w)
 
   pub acyclic : (i : ℕ) → Way R i i → ⊥
-  acyclic i w = omega (arith, way-falls i i w)
+  acyclic i w = omega (arith, way-falls w)
 
-  pub order-of_places : (places : List ℕ) → length places ≡ n → ((k : ℕ) → k < n → get_or places k 0 ≡ k) →
+  pub order-of_places : {places : List ℕ} → length places ≡ n → ((k : ℕ) → k < n → get_or places k 0 ≡ k) →
       IsOrder R n places
-  order-of_places places count each = record {
+  order-of_places {places} count each = record {
     within = λ k i h. (let lt = slice_get_within places k i h in let e = here k i h in omega arith);
     once = λ k l i hk hl. here k i hk ∙ sym (here l i hl);
     each = λ i lt. (i, there i lt);

@@ -2,7 +2,7 @@
 use Rattle.std.proofs.Common.{◌≡◌, ◌≢◌, ℕ, ◌+◌, ◌^◌, ◌<◌, ◌≤◌, ◌⊎◌, List, [], ◌∷◌, ◌++◌, Bool, true, false, map, length}
 use Rattle.std.proofs.Common.{take, drop, get_or, set, suc, refl, sym, ap, subst, ◌∙◌, arith, Some, Option, All}
 use Rattle.std.proofs.Common.{AllPairs, Contains, append-nil, append_assoc, flat_map, Vec}
-use Rattle.std.proofs.lemmas.List.{length-map, get_or-map, map-append, map-set}
+use Rattle.std.proofs.lemmas.List.{length-map, get_or-map, map-append, map-set, take_more, take_all, take-append-drop}
 use Rattle.std.proofs.lemmas.Option.{slice_get_within, slice_get-get_or}
 use Rattle.std.proofs.Math.Seq.{drop-cons}
 use Rattle.std.proofs.lemmas.List.Elements.{All-append, All-push, All-set, Contains-get_or}
@@ -22,17 +22,16 @@ use Rattle.ps_circuit.specs.Texts.{IsDefined, IsFirstUndefined}
 use Rattle.ps_circuit.specs.Reading.{AddsVariable, Defines, IsKnownIn, TellsCyclic}
 use Rattle.ps_circuit.specs.declared.cursor.Number.{Number}
 use Rattle.std.specs.Bool.{OnTrue}
-use Rattle.std.proofs.lemmas.List.{take_more, take_all, take-append-drop}
 use Rattle.std.proofs.lemmas.List.Concat.{flat_map-append}
 
 -- a variable that is none of those goes behind them
-pub adds_variable : (old new : List ℕ) (v : ℕ) → new ≡ old ++ v ∷ [] → (Contains old v → ⊥) → AddsVariable old v new
-adds_variable old new v e none =
+pub adds_variable : {old new : List ℕ} {v : ℕ} → new ≡ old ++ v ∷ [] → (Contains old v → ⊥) → AddsVariable old v new
+adds_variable {old} e none =
     record { behind = e; fresh = λ k d l h. none (subst (λ x. Contains old x) h (Contains-get_or old k d l)) }
 
-pub defines_one : (most literal : ℕ) (old new : List ℕ) → IsDefinition most literal →
+pub defines_one : {most : ℕ} (literal : ℕ) {old new : List ℕ} → IsDefinition most literal →
     AddsVariable old (variable literal) new → Defines most old (literal ∷ []) new
-defines_one most literal old new fits adds = record {
+defines_one {most} literal {old} fits adds = record {
   variables = adds.behind;
   each =
       λ k d lt. (let e : k ≡ 0 = omega arith in subst (λ i. IsDefinition most (get_or (literal ∷ []) i d)) (sym e)
@@ -43,9 +42,10 @@ defines_one most literal old new fits adds = record {
 }
 
 -- one more literal behind those that stand there
-pub defines_more : (most m literal : ℕ) (old mid new literals : List ℕ) → m ≡ most → Defines most old literals mid →
+pub defines_more : {most m : ℕ} (literal : ℕ) {old mid new literals : List ℕ} → m ≡ most →
+    Defines most old literals mid →
     Defines m mid (literal ∷ []) new → Defines most old (literals ++ literal ∷ []) new
-defines_more most m literal old mid new literals e d one = record {
+defines_more {most} literal {old} {literals} e d one = record {
   variables = one.variables ∙ ap (λ xs. xs ++ variable literal ∷ []) d.variables
       ∙ append_assoc old (map variable literals) (variable literal ∷ [])
       ∙ ap (λ xs. old ++ xs) (sym (map-append variable literals (literal ∷ [])));
@@ -55,8 +55,8 @@ defines_more most m literal old mid new literals e d one = record {
   apart = λ h. one.apart (d.apart h);
 }
 
-pub defines_none : (most : ℕ) (old : List ℕ) → Defines most old [] old
-defines_none most old =
+pub defines_none : {most : ℕ} {old : List ℕ} → Defines most old [] old
+defines_none {old} =
     record { variables = sym (append-nil old); each = λ k d lt. absurd (omega arith); apart = λ h. h }
 
 -- a name put at its place
@@ -67,9 +67,9 @@ names_set names i name h some plain =
     subst (λ ns. All IsName ns) (sym (map-set name_bytes names i (Some name)))
     (All-set IsName (map name_bytes names) i (Some name.items) (some, plain) h)
 
-pub way_within : (gates : List Gate) (i j : ℕ) → Way (ReadsGate gates) i j → i < length gates
-way_within gates i j (last r) = slice_get_within gates i r.reader r.at_i
-way_within gates i j (next r w) = slice_get_within gates i r.reader r.at_i
+pub way_within : (gates : List Gate) {i j : ℕ} → Way (ReadsGate gates) i j → i < length gates
+way_within gates {i} (last r) = slice_get_within gates i r.reader r.at_i
+way_within gates {i} (next r w) = slice_get_within gates i r.reader r.at_i
 
 apart_of : (literals : List ℕ) → AllPairs (λ v w. v ≢ w) (map variable literals) →
     AllPairs (λ l m. variable l ≢ variable m) literals
@@ -79,15 +79,14 @@ apart_of literals h i j d lt within e =
     ∙ sym (get_or-map variable literals j d (variable d) within))
 
 -- the parts that were read make a draft
-pub draft_of : (c : CircuitData) (m1 m2 m3 : ℕ) (first second third : List ℕ) → c.most < 2 ^ 31 → m1 ≡ c.most →
+pub draft_of : {c : CircuitData} {m1 m2 m3 : ℕ} {first second third : List ℕ} → c.most < 2 ^ 31 → m1 ≡ c.most →
     m2 ≡ c.most → m3 ≡ c.most →
     Defines m1 [] c.inputs first → Defines m2 first (map (λ l. l.literal) c.latches) second →
-    Defines m3 second (map (λ g. g.literal) c.gates) third →
-    All (IsKnownIn third) (readings c) →
+    Defines m3 second (map (λ g. g.literal) c.gates) third → All (IsKnownIn third) (readings c) →
     length c.input_names ≡ length c.inputs → length c.latch_names ≡ length c.latches →
     length c.output_names ≡ length c.outputs →
     All IsName c.input_names → All IsName c.latch_names → All IsName c.output_names → IsDraft c
-draft_of c m1 m2 m3 first second third limit e1 e2 e3 d1 d2 d3 known n1 n2 n3 a1 a2 a3 = record {
+draft_of {c} {third} limit e1 e2 e3 d1 d2 d3 known n1 n2 n3 a1 a2 a3 = record {
   limit = limit;
   defined = All-append (IsDefinition c.most) (c.inputs ++ map (λ l. l.literal) c.latches) (map (λ g. g.literal) c.gates)
       (All-append (IsDefinition c.most) c.inputs (map (λ l. l.literal) c.latches)
@@ -119,16 +118,18 @@ pub at_true : (b : Bool) (P : Type 0) → b ≡ true → OnTrue b P → P
 at_true true P e h = h
 at_true false P e h = cc
 
-pub reads_more : {X : Type 0} (f : X → ℕ) (xs ys : List X) (x : X) (start now then : List ℕ) → ys ≡ xs ++ x ∷ [] →
+pub reads_more : {X : Type 0} (f : X → ℕ) (xs : List X) {ys : List X} (x : X) (start : List ℕ) {now : List ℕ}
+    (then : List ℕ) → ys ≡ xs ++ x ∷ [] →
     now ≡ start ++ map f xs → then ≡ now ++ f x ∷ [] → then ≡ start ++ map f ys
-reads_more f xs ys x start now then e h k =
+reads_more f xs x start then e h k =
     k ∙ ap (λ zs. zs ++ f x ∷ []) h ∙ append_assoc start (map f xs) (f x ∷ [])
     ∙ ap (λ zs. start ++ zs) (sym (map-append f xs (x ∷ []))) ∙ ap (λ zs. start ++ map f zs) (sym e)
 
-pub reads_gate : (xs ys : List Gate) (g : Gate) (start now one two : List ℕ) → ys ≡ xs ++ g ∷ [] →
+pub reads_gate : (xs : List Gate) {ys : List Gate} (g : Gate) (start : List ℕ) {now one two : List ℕ} →
+    ys ≡ xs ++ g ∷ [] →
     now ≡ start ++ flat_map (λ g. g.first ∷ g.second ∷ []) xs → one ≡ now ++ g.first ∷ [] → two ≡ one ++ g.second ∷ [] →
     two ≡ start ++ flat_map (λ g. g.first ∷ g.second ∷ []) ys
-reads_gate xs ys g start now one two e h k m =
+reads_gate xs g start {now} e h k m =
     m ∙ ap (λ zs. zs ++ g.second ∷ []) k ∙ append_assoc now (g.first ∷ []) (g.second ∷ [])
     ∙ ap (λ zs. zs ++ g.first ∷ g.second ∷ []) h
     ∙ append_assoc start (flat_map (λ g. g.first ∷ g.second ∷ []) xs) (g.first ∷ g.second ∷ [])
@@ -141,8 +142,7 @@ pub defines_mapped : {X : Type 0} (f : X → ℕ) (xs ys : List X) (x : X) (most
     Defines most old (map f ys) now
 defines_mapped f xs ys x most m old mid new now e e' d one same =
     subst (λ zs. Defines most old zs now) (sym (ap (map f) e ∙ map-append f xs (x ∷ [])))
-    (subst (λ z. Defines most old (map f xs ++ f x ∷ []) z) (sym same)
-    (defines_more most m (f x) old mid new (map f xs) e' d one))
+    (subst (λ z. Defines most old (map f xs ++ f x ∷ []) z) (sym same) (defines_more (f x) e' d one))
 
 pub known_more : (variables : List ℕ) (fields : List Number) (i : ℕ) (d : Number) → i < length fields →
     All (λ f. IsKnownIn variables f.value) (take i fields) → IsKnownIn variables (get_or fields i d).value →
@@ -156,27 +156,26 @@ pub known_all : (variables : List ℕ) (fields : List Number) (i : ℕ) → leng
 known_all variables fields i le h = subst (λ fs. All (λ f. IsKnownIn variables f.value) fs) (take_all i fields le) h
 
 -- the first of these that is not defined
-pub first_undefined : (variables : List ℕ) (readings : List Number) (i : ℕ) (d : Number) → i < length readings →
+pub first_undefined : {variables : List ℕ} {readings : List Number} (i : ℕ) (d : Number) → i < length readings →
     All (IsDefined variables) (take i readings) → (IsDefined variables (get_or readings i d) → ⊥) →
     IsFirstUndefined variables readings (get_or readings i d)
-first_undefined variables readings i d l h n =
+first_undefined {readings} i d l h n =
     record {
       before = take i readings;
       after = drop (suc i) readings;
-      split = sym (take-append-drop i readings)
-          ∙ ap (λ xs. take i readings ++ xs) (drop-cons readings i d l);
+      split = sym (take-append-drop i readings) ∙ ap (λ xs. take i readings ++ xs) (drop-cons readings i d l);
       before_defined = h;
       not_defined = n;
     }
 
-pub cyclic_tells : (gates : List Gate) (starts : List ℕ) (i : ℕ) (f e : AigFault) → IsFirstOnCycle (ReadsGate gates) i →
+pub cyclic_tells : (gates : List Gate) (starts : List ℕ) {i : ℕ} {f e : AigFault} → IsFirstOnCycle (ReadsGate gates) i →
     i < length starts → f ≡ Text Cyclic (get_or starts i 0) → f ≡ e → TellsCyclic gates starts (found_of e)
-cyclic_tells gates starts i f e first l is same =
+cyclic_tells gates starts {i} first l is same =
     subst (λ x. TellsCyclic gates starts (found_of x)) (sym is ∙ same) (i, refl, first, slice_get-get_or starts i 0 l)
 
 -- a name that was read fits
-pub name_set : (names : List (Option (Vec ℕ Global))) (i : ℕ) (name : List ℕ) (v : Vec ℕ Global) →
+pub name_set : (names : List (Option (Vec ℕ Global))) (i : ℕ) {name : List ℕ} (v : Vec ℕ Global) →
     All IsName (map name_bytes names) → v.items ≡ name → 0 < length name → All (λ b. b ≢ 10) name →
     All IsName (map name_bytes (set names i (Some v)))
-name_set names i name v h e full plain =
+name_set names i v h e full plain =
     names_set names i v h (subst (λ xs. 0 < length xs) (sym e) full) (subst (λ xs. All (λ b. b ≢ 10) xs) (sym e) plain)

@@ -28,9 +28,9 @@ pub record Spanned {X : Type 0} (q : X → Bool) (xs : List X) : Type 0 where
   pub all : AllByRecursion (λ x. q x ≡ true) text
   pub longest : (x : X) → first_of rest ≡ Some x → q x ≡ false
 
-pub run_of : {X : Type 0} (q : X → Bool) (xs : List X) → Spanned q xs
-run_of q [] = record { text = []; rest = []; split = refl; all = tt; longest = λ x e. absurd (none_is_some x e) }
-run_of {X} q (x ∷ xs) = go (q x) refl (run_of q xs)
+pub run_of : {X : Type 0} {q : X → Bool} (xs : List X) → Spanned q xs
+run_of [] = record { text = []; rest = []; split = refl; all = tt; longest = λ x e. absurd (none_is_some x e) }
+run_of {X} {q} (x ∷ xs) = go (q x) refl (run_of xs)
   where
     go : (b : Bool) → q x ≡ b → Spanned q xs → Spanned q (x ∷ xs)
     go true e s = record {
@@ -57,7 +57,7 @@ module _ {V : Type 0} (p : ℕ → Bool) (see : ℕ → List ℕ → V) (Bad : L
   -- a byte that passes comes first
   module _ (t : Seen) (after : List Seen) (passes : p t.byte ≡ true) where
     abbrev seen : Spanned p t.behind
-    seen = run_of p t.behind
+    seen = run_of t.behind
 
     abbrev whole : List ℕ
     whole = t.byte ∷ seen.text
@@ -71,13 +71,13 @@ module _ {V : Type 0} (p : ℕ → Bool) (see : ℕ → List ℕ → V) (Bad : L
       longest = stops_bytes p seen.rest seen.longest;
     }
 
-    bad_is : (f : AigCause) → IsBadRun p Bad t f → Bad whole f
-    bad_is f b = subst (λ z. Bad z f)
+    bad_is : {f : AigCause} → IsBadRun p Bad t f → Bad whole f
+    bad_is {f} b = subst (λ z. Bad z f)
         (same_run p b.run whole b.begins.rest begins.rest (sym b.begins.split ∙ begins.split) b.begins.all begins.all
         b.begins.longest begins.longest) b.bad
 
     abbrev taken : Spanned (λ (s : Seen). p s.byte) after
-    taken = run_of (λ s. p s.byte) after
+    taken = run_of after
 
     abbrev text : List Seen
     text = t ∷ taken.text
@@ -96,7 +96,7 @@ module _ {V : Type 0} (p : ℕ → Bool) (see : ℕ → List ℕ → V) (Bad : L
 
     clean : ((f : AigCause) → Bad whole f → ⊥) → CleanUpTo (run p see Bad) (t ∷ after) (length text + 1)
     clean right front more u f e n c = right f
-        (bad_is f (subst (λ s. IsBadRun p Bad s f) (sym (same_head t u after more (e ∙ ap (λ z. z ++ u ∷ more) c.0)))
+        (bad_is (subst (λ s. IsBadRun p Bad s f) (sym (same_head t u after more (e ∙ ap (λ z. z ++ u ∷ more) c.0)))
         c.1))
 
     run_read : ((f : AigCause) → Bad whole f → ⊥) →
@@ -114,7 +114,7 @@ module _ {V : Type 0} (p : ℕ → Bool) (see : ℕ → List ℕ → V) (Bad : L
       front = [];
       split = refl;
       clean = λ front rest u g e n c. absurd (omega (arith, n));
-      fault = is_cause t refl (refl, record { run = whole; begins = begins; bad = b }) (λ g c. least g (bad_is g c.1));
+      fault = is_cause t refl (refl, record { run = whole; begins = begins; bad = b }) (λ g c. least g (bad_is c.1));
     })
     judged (good right) = was_read _ _ (run_read right)
 

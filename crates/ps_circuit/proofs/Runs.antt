@@ -2,8 +2,8 @@
 --     laws_run      a run begins and goes on with the bytes that pass
 --     run_reads, run_bad      a run was passed: it is read, unless it is wrong
 --     stops_here      no sign comes with which the part begins
-use Rattle.std.proofs.Common.{◌≡◌, ℕ, suc, ◌+◌, ◌<◌, ◌≤◌, Bool, true, false, List, [], ◌∷◌, ◌++◌, length, Option, None}
-use Rattle.std.proofs.Common.{Some, refl, sym, ap, ap₂, subst, ◌∙◌, arith}
+use Rattle.std.proofs.Common.{◌≡◌, ℕ, suc, ◌+◌, ◌<◌, ◌≤◌, Bool, true, List, [], ◌∷◌, ◌++◌, length, Option, None, Some}
+use Rattle.std.proofs.Common.{refl, sym, ap, ap₂, subst, ◌∙◌, arith}
 use Rattle.ps_text.specs.Answers.{Begins, Piece, Stream, signs, first_of, next_of, offset_of}
 use Rattle.ps_text.specs.Parts.{is_cause, is_refusal, StopsAt, CleanUpTo}
 use Rattle.ps_text.specs.Readers.{StopsWith, Reads}
@@ -18,8 +18,7 @@ use Rattle.ps_circuit.specs.declared.fault.AigCause.{AigCause}
 use Rattle.ps_circuit.specs.declared.fault.AigCause.TheVariants.{Syntax, Literal, DefinedTwice, Undefined, Cyclic}
 use Rattle.ps_circuit.specs.declared.fault.AigCause.TheVariants.{UnsetLatch, Sections}
 use Rattle.ps_circuit.specs.Causes.{cause_number}
-use Rattle.ps_circuit.specs.Signs.{Seen, pieces_at, bytes_of, first_at, aig_causes, Field, IsBadRun}
-use Rattle.ps_circuit.specs.Signs.{run}
+use Rattle.ps_circuit.specs.Signs.{Seen, pieces_at, bytes_of, first_at, aig_causes, Field, IsBadRun, run}
 use Rattle.ps_circuit.specs.Cursors.{Passes, place_of}
 
 abbrev pub Odd : Seen → Type 0
@@ -49,9 +48,9 @@ pub bytes_with : (at : ℕ) (bytes rest : List ℕ) → bytes_of (signs (pieces_
 bytes_with at [] rest = refl
 bytes_with at (b ∷ bytes) rest = ap (λ xs. b ∷ xs) (bytes_with (at + 1) bytes rest)
 
-first_with : (at : ℕ) (bytes rest : List ℕ) → 0 < length bytes → first_at (signs (pieces_with at bytes rest)) ≡ at
-first_with at [] rest h = absurd (omega arith)
-first_with at (b ∷ bytes) rest h = refl
+first_with : {at : ℕ} (bytes rest : List ℕ) → 0 < length bytes → first_at (signs (pieces_with at bytes rest)) ≡ at
+first_with [] rest h = absurd (omega arith)
+first_with (b ∷ bytes) rest h = refl
 
 length_with : (at : ℕ) (bytes rest : List ℕ) → 0 < length bytes → 0 < length (signs (pieces_with at bytes rest))
 length_with at [] rest h = absurd (omega arith)
@@ -76,9 +75,9 @@ syntax_least Sections = omega arith
 -- ## A part that does not begin
 
 pub stops_here : {V : Type 0} {P : Field V} {First More : Seen → Type 0} → Laws Odd P First More ⊥ →
-    (old : Stream Seen) → ((t : Seen) → next_of old ≡ Some t → First t → ⊥)
+    {old : Stream Seen} → ((t : Seen) → next_of old ≡ Some t → First t → ⊥)
     → StopsWith aig_causes P old (record { cause = Syntax; offset = place_of old })
-stops_here {V} {P = P} {First = First} l old none = go old.pieces refl
+stops_here {V} {P = P} {First = First} l {old} none = go old.pieces refl
   where
     clean : (all : List Seen) → CleanUpTo P all 0
     clean all front more t g e n c = absurd (omega (arith, n))
@@ -154,17 +153,17 @@ module _ {V : Type 0} (p : ℕ → Bool) (see : ℕ → List ℕ → V) (Bad : L
   }
 
   -- what is wrong with the run that comes is the run's
-  bad_is : (old new : Stream Seen) (r : List ℕ) → Passes p old new r → (t : Seen) (rest : List Seen) (f : AigCause) →
+  bad_is : {old new : Stream Seen} {r : List ℕ} → Passes p old new r → {t : Seen} (rest : List Seen) {f : AigCause} →
       signs old.pieces ≡ t ∷ rest → IsBadRun p Bad t f → Bad r f
-  bad_is old new r x t rest f e b =
+  bad_is {r} x {t} rest {f} e b =
       let whole : r ++ x.rest ≡ t.byte ∷ t.behind =
       first_sees x.at (r ++ x.rest) t rest (ap signs (sym x.old_is) ∙ e) in
       subst (λ z. Bad z f) (same_run p b.run r b.begins.rest x.rest (sym b.begins.split ∙ sym whole) b.begins.all x.all
       b.begins.longest x.longest) b.bad
 
-  pub run_reads : (old new : Stream Seen) (r : List ℕ) (v : V) → Passes p old new r → 0 < length r →
+  pub run_reads : {old new : Stream Seen} {r : List ℕ} {v : V} → Passes p old new r → 0 < length r →
       ((f : AigCause) → Bad r f → ⊥) → v ≡ see (place_of old) r → Reads (run p see Bad) old v new
-  run_reads old new r v x some good value = (
+  run_reads {old} {new} {r} x some good value = (
     record { taken = pieces_with x.at r x.rest; split = split; end = x.end },
     record {
       text = text;
@@ -172,7 +171,7 @@ module _ {V : Type 0} (p : ℕ → Bool) (see : ℕ → List ℕ → V) (Bad : L
       is_text = record {
         some = length_with x.at r x.rest some;
         all = subst (AllOf p) (sym bytes) x.all;
-        value = value ∙ ap₂ see (sym x.place ∙ sym (first_with x.at r x.rest some)) (sym bytes);
+        value = value ∙ ap₂ see (sym x.place ∙ sym (first_with r x.rest some)) (sym bytes);
       };
       stops = subst (λ z. StopsAt (run p see Bad) text (first_of (signs z))) (sym x.new_is) (stops x.rest x.longest);
       clean = clean;
@@ -199,16 +198,15 @@ module _ {V : Type 0} (p : ℕ → Bool) (see : ℕ → List ℕ → V) (Bad : L
           subst (AllOf p) (bytes_append text (sign ∷ [])) (all_left p (bytes_of (text ++ sign ∷ []))
           (bytes_of b.more) one) in
           let three : p c ≡ true = (all_right p (bytes_of text) (c ∷ []) two).0 in
-          let four : p c ≡ false = s in
           absurd cc
 
       clean : CleanUpTo (run p see Bad) (signs old.pieces) (length text + 1)
-      clean front more t f e l c = good f (bad_is old new r x t more f (e ∙ ap (λ z. z ++ t ∷ more) c.0) c.1)
+      clean front more t f e l c = good f (bad_is x more (e ∙ ap (λ z. z ++ t ∷ more) c.0) c.1)
 
-  pub run_bad : (old new : Stream Seen) (r : List ℕ) (f : AigCause) → Passes p old new r → 0 < length r → Bad r f →
+  pub run_bad : {old new : Stream Seen} {r : List ℕ} (f : AigCause) → Passes p old new r → 0 < length r → Bad r f →
       ((g : AigCause) → Bad r g → cause_number f ≤ cause_number g)
       → StopsWith aig_causes (run p see Bad) old (record { cause = f; offset = place_of old })
-  run_bad old new r f x some bad least = go r x some bad least
+  run_bad {old} {new} {r} f x some bad least = go r x some bad least
     where
       go : (r : List ℕ) → Passes p old new r → 0 < length r → Bad r f →
           ((g : AigCause) → Bad r g → cause_number f ≤ cause_number g) →
@@ -234,28 +232,25 @@ module _ {V : Type 0} (p : ℕ → Bool) (see : ℕ → List ℕ → V) (Bad : L
                       bad = bad;
                     },
                   )
-                  (λ g c. least g (bad_is old new (b ∷ r) x sign (signs (pieces_at (x.at + 1) (r ++ x.rest))) g
-                  (ap signs x.old_is) c.1));
+                  (λ g c. least g (bad_is x (signs (pieces_at (x.at + 1) (r ++ x.rest))) (ap signs x.old_is) c.1));
             };
             offset = sym x.place;
           }
 
-  pub run_stops : (b : ℕ) → p b ≡ true → (old new : Stream Seen) → Passes p old new [] →
+  pub run_stops : (b : ℕ) → p b ≡ true → {old new : Stream Seen} → Passes p old new [] →
       StopsWith aig_causes (run p see Bad) old (record { cause = Syntax; offset = place_of old })
-  run_stops b e old new x =
-      stops_here (laws_run b e) old (λ t n h. go x.rest x.longest t (sym (ap (λ z. first_of (signs z)) x.old_is) ∙ n) h)
+  run_stops b e x =
+      stops_here (laws_run b e) (λ t n h. go x.rest x.longest t (sym (ap (λ z. first_of (signs z)) x.old_is) ∙ n) h)
     where
       go : (rest : List ℕ) → StopsBefore p rest → (t : Seen) → first_of (signs (pieces_at x.at rest)) ≡ Some t →
           p t.byte ≡ true → ⊥
       go [] s t n h = none_is_some t n
       go (c ∷ rest) s t n h =
-          let same : first_of (signs (pieces_at x.at (c ∷ rest))) ≡ Some t = n in
-          let byte : c ≡ t.byte = byte_of c x.at rest t n in
+          let byte : c ≡ t.byte = byte_of x.at rest n in
           let k : p c ≡ true = ap p byte ∙ h in
-          let m : p c ≡ false = s in
           cc
         where
-          byte_of : (c at : ℕ) (rest : List ℕ) (t : Seen) → first_of (signs (pieces_at at (c ∷ rest))) ≡ Some t →
+          byte_of : {c : ℕ} (at : ℕ) (rest : List ℕ) {t : Seen} → first_of (signs (pieces_at at (c ∷ rest))) ≡ Some t →
               c ≡ t.byte
-          byte_of c at rest t n = let e : Some (record { byte = c; at = at; behind = rest }) ≡ Some t = n in
+          byte_of {c} at rest {t} n = let e : Some (record { byte = c; at = at; behind = rest }) ≡ Some t = n in
               ap (λ (o : Option Seen). elim o as (λ _. ℕ) [ None ↦ c | Some s ↦ s.byte ]) e

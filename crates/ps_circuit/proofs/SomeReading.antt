@@ -78,12 +78,9 @@ gates_placed text d h =
     let outputs = latches.is_right in
     let gates = outputs.is_right in
     let none : outputs.value.starts ≡ [] =
-    keeps_all (output_line head.most) (keeps_output head.most) head.outputs _ outputs.value outputs.left
-    outputs.is_left
-    ∙ keeps_all (latch_line head.most) (keeps_latch head.most) head.latches _ latches.value latches.left
-    latches.is_left
-    ∙ keeps_all (input_line head.most) (keeps_input head.most) head.inputs _ inputs.value inputs.left inputs.is_left
-    in
+    keeps_all (output_line head.most) (keeps_output head.most) head.outputs _ outputs.value outputs.left outputs.is_left
+    ∙ keeps_all (latch_line head.most) (keeps_latch head.most) head.latches _ latches.value latches.left latches.is_left
+    ∙ keeps_all (input_line head.most) (keeps_input head.most) head.inputs _ inputs.value inputs.left inputs.is_left in
     let balanced : Balanced gates.value =
     gates_starts head.most head.gates _ gates.value gates.left gates.is_left (ap length none) in
     rw gates.is_right.is_right.2 balanced
@@ -113,8 +110,7 @@ module _ (defined : List ℕ) where
           before = [];
           after = readings;
           split = refl;
-          before_defined = λ k d less. absurd
-              (omega (arith, less));
+          before_defined = λ k d less. absurd (omega (arith, less));
           not_defined = n;
         },
       )
@@ -140,11 +136,10 @@ module _ (text : List ℕ) (d : DraftData) (okay : PartAnswers aig_causes circui
       ((i : ℕ) × IsFirstOnCycle (ReadsGate d.circuit.gates) i) ⊎ ((i : ℕ) → ¬ Way (ReadsGate d.circuit.gates) i i) →
       SomeCircuit text
   with_gates known (inl found) =
-      let within : found.0 < length d.circuit.gates = way_within d.circuit.gates found.0 found.0 found.1.cyclic in
+      let within : found.0 < length d.circuit.gates = way_within d.circuit.gates found.1.cyclic in
       let start : ℕ = get_or d.starts found.0 0 in (
         Err (record { cause = Cyclic; offset = start }),
-        cyclic d found.0 start okay known found.1
-            (slice_get-get_or d.starts found.0 0
+        cyclic d found.0 start okay known found.1 (slice_get-get_or d.starts found.0 0
             (omega (arith, within, gates_placed (signs (stream_of text).pieces) d okay.0))) refl,
       )
   with_gates known (inr none) = (Ok d.circuit, meaning d okay known none refl)

@@ -28,8 +28,8 @@ use Rattle.ps_circuit.specs.declared.fault.AigCause.TheVariants.{Syntax}
 use Rattle.ps_circuit.specs.Causes.{AigFault}
 use Rattle.ps_text.specs.declared.faults.Fault.TheVariants.{Text}
 use Rattle.ps_circuit.specs.Drafts.{name_bytes}
-use Rattle.ps_circuit.specs.Signs.{Seen, pieces_at, bytes_of, aig_causes, is_digit, is_inner}
-use Rattle.ps_circuit.specs.Signs.{take_byte, byte, number, rest_of_line, newline}
+use Rattle.ps_circuit.specs.Signs.{Seen, pieces_at, bytes_of, aig_causes, is_digit, is_inner, take_byte, byte, number}
+use Rattle.ps_circuit.specs.Signs.{rest_of_line, newline}
 use Rattle.ps_circuit.specs.Cursors.{next_byte, place_of, found_of, Passes, IsAhead, NumberIs, TellsNumber}
 use Rattle.ps_circuit.specs.Texts.{AnyNumber, Kind, OfInput, OfLatch, OfOutput, NamesData, names_of, put_names}
 use Rattle.ps_circuit.specs.Texts.{add_name, take_kind, IsBadSymbol, symbol_line, anything, comment}
@@ -48,9 +48,9 @@ bytes_at at [] = refl
 bytes_at at (b ∷ bytes) = ap (λ xs. b ∷ xs) (bytes_at (at + 1) bytes)
 
 -- what the next sign sees is what stands behind it
-behind_is : (old new : Stream Seen) (t : Seen) (at : ℕ) (bytes : List ℕ) → IsAhead old → next_of old ≡ Some t →
+behind_is : {old new : Stream Seen} {t : Seen} (at : ℕ) {bytes : List ℕ} → IsAhead old → next_of old ≡ Some t →
     new ≡ tail old → new.pieces ≡ pieces_at at bytes → t.behind ≡ bytes
-behind_is old new t at bytes x n e k = go x.1 x.2
+behind_is {old} {t} at {bytes} x n e k = go x.1 x.2
   where
     go : (all : List ℕ) → old.pieces ≡ pieces_at x.0 all → t.behind ≡ bytes
     go [] y = absurd (none_is_some t (sym (ap (λ ps. first_of (signs ps)) y) ∙ n))
@@ -73,8 +73,7 @@ module _ (all : NamesData) (kind : Kind) (t : Seen) (old s1 : Stream Seen) (ahea
   -- no number comes
   no_number : (s2 : Stream Seen) → Passes is_digit s1 s2 [] → (f : AigCause) → IsBadSymbol all t f → ⊥
   no_number s2 x f b =
-      go b.digits b.number.some b.number.all b.number.split x.rest x.longest
-      (behind_is old s1 t x.at x.rest ahead next moved x.old_is)
+      go b.digits b.number.some b.number.all b.number.split x.rest x.longest (behind_is x.at ahead next moved x.old_is)
     where
       go : (digits : List ℕ) → 0 < length digits → AllOf is_digit digits → t.behind ≡ digits ++ b.number.rest →
           (rest : List ℕ) → StopsBefore is_digit rest → t.behind ≡ rest → ⊥
@@ -83,36 +82,35 @@ module _ (all : NamesData) (kind : Kind) (t : Seen) (old s1 : Stream Seen) (ahea
       go (d ∷ digits) l h e (c ∷ rest) s k =
           let same : c ≡ d = same_head c d rest (digits ++ b.number.rest) (sym k ∙ e) in
           let y : is_digit c ≡ true = ap is_digit same ∙ h.0 in
-          let z : is_digit c ≡ false = s in
           cc
 
-  same_digits : (s2 : Stream Seen) (n : Number) (x : NumberIs s1 s2 n) (f : AigCause) (b : IsBadSymbol all t f) →
+  same_digits : {s2 : Stream Seen} {n : Number} (x : NumberIs s1 s2 n) {f : AigCause} (b : IsBadSymbol all t f) →
       b.digits ≡ x.run
-  same_digits s2 n x f b =
-      let whole = behind_is old s1 t x.passes.at (x.run ++ x.passes.rest) ahead next moved x.passes.old_is in
+  same_digits x b =
+      let whole = behind_is x.passes.at ahead next moved x.passes.old_is in
       same_run is_digit b.digits x.run b.number.rest x.passes.rest (sym b.number.split ∙ whole) b.number.all
       x.passes.all b.number.longest x.passes.longest
 
-  value_small : (s2 : Stream Seen) (n : Number) (x : NumberIs s1 s2 n) (names : ℕ) → n.value < names → names < 2 ^ 64 →
+  value_small : {s2 : Stream Seen} {n : Number} (x : NumberIs s1 s2 n) (names : ℕ) → n.value < names → names < 2 ^ 64 →
       decimal_value x.run ≡ n.value
-  value_small s2 n x names l m = omega (arith, x.value)
+  value_small x names l m = omega (arith, x.value)
 
   -- the number is free
   free_good : (s2 : Stream Seen) (n : Number) → NumberIs s1 s2 n → length (names_of all kind) < 2 ^ 64 →
       slice_get (names_of all kind) n.value ≡ Some None → (f : AigCause) → IsBadSymbol all t f → ⊥
   free_good s2 n x small free f b =
       let same : b.kind ≡ kind = same_some b.kind kind (sym b.letter ∙ is) in
-      let digits = same_digits s2 n x f b in
+      let digits = same_digits x b in
       let within : n.value < length (names_of all kind) = slice_get_within (names_of all kind) n.value None free in
-      let value = value_small s2 n x (length (names_of all kind)) within small in
+      let value = value_small x (length (names_of all kind)) within small in
       b.not_free (ap (λ k. slice_get (names_of all k) (decimal_value b.digits)) same
       ∙ ap (λ d. slice_get (names_of all kind) (decimal_value d)) digits
       ∙ ap (slice_get (names_of all kind)) value ∙ free)
 
-  taken_bad : (s2 : Stream Seen) (n : Number) → NumberIs s1 s2 n → length (names_of all kind) < 2 ^ 64 →
+  taken_bad : {s2 : Stream Seen} {n : Number} → NumberIs s1 s2 n → length (names_of all kind) < 2 ^ 64 →
       (slice_get (names_of all kind) n.value ≡ Some None → ⊥) → IsBadSymbol all t Syntax
-  taken_bad s2 n x small taken =
-      let whole = behind_is old s1 t x.passes.at (x.run ++ x.passes.rest) ahead next moved x.passes.old_is in
+  taken_bad {n} x small taken =
+      let whole = behind_is x.passes.at ahead next moved x.passes.old_is in
       record {
         kind = kind;
         letter = is;
@@ -133,14 +131,13 @@ module _ (all : NamesData) (kind : Kind) (t : Seen) (old s1 : Stream Seen) (ahea
         cause = refl;
       }
 
-  pub letter_stops : (s2 : Stream Seen) (n : Number) (e : AigFault) → NumberIs s1 s2 n →
+  pub letter_stops : {s2 : Stream Seen} {n : Number} {e : AigFault} → NumberIs s1 s2 n →
       length (names_of all kind) < 2 ^ 64 → (slice_get (names_of all kind) n.value ≡ Some None → ⊥) →
-      e ≡ Text Syntax (place_of old)
-      → Stops aig_causes (symbol_line all) old (found_of e)
+      e ≡ Text Syntax (place_of old) → Stops aig_causes (symbol_line all) old (found_of e)
   unfolding symbol_line
-  letter_stops s2 n e x small taken is =
+  letter_stops {e} x small taken is =
       stops_first aig_causes (joint_letter all) old (found_of e)
-      (stops_bad aig_causes take_kind (IsBadSymbol all) old t Syntax (found_of e) next (taken_bad s2 n x small taken)
+      (stops_bad aig_causes take_kind (IsBadSymbol all) old t Syntax (found_of e) next (taken_bad x small taken)
       (λ g b. syntax_least g) (ap found_of is))
 
   pub symbol_number_fails : (s2 : Stream Seen) (e : AigFault) → TellsNumber s1 (Err e) s2 →
@@ -149,19 +146,19 @@ module _ (all : NamesData) (kind : Kind) (t : Seen) (old s1 : Stream Seen) (ahea
   symbol_number_fails s2 e m =
       stops_behind aig_causes (joint_letter all) (letter_reads (no_number s2 m.0)) (found_of e)
       (stops_first aig_causes (joint (laws_number AnyNumber) (λ k. laws_symbol_space all kind k) digit_space) s1
-      (found_of e) (number_none AnyNumber s1 s2 e m))
+      (found_of e) (number_none AnyNumber s2 e m))
 
   module _ (s2 : Stream Seen) (n : Number) (x : NumberIs s1 s2 n) (small : length (names_of all kind) < 2 ^ 64)
       (free : slice_get (names_of all kind) n.value ≡ Some None) where
     abbrev k : Number
-    k = (number_any s1 s2 n x).0
+    k = (number_any x).0
 
     k_reads : Reads (number AnyNumber) s1 k s2
-    k_reads = (number_any s1 s2 n x).2
+    k_reads = (number_any x).2
 
     k_value : k.value ≡ n.value
     k_value = let within : n.value < length (names_of all kind) =
-        slice_get_within (names_of all kind) n.value None free in omega (arith, (number_any s1 s2 n x).1)
+        slice_get_within (names_of all kind) n.value None free in omega (arith, (number_any x).1)
 
     good : (f : AigCause) → IsBadSymbol all t f → ⊥
     good = free_good s2 n x small free
@@ -191,16 +188,14 @@ module _ (all : NamesData) (kind : Kind) (t : Seen) (old s1 : Stream Seen) (ahea
             Stops aig_causes (symbol_line all) old o
         end_fails o m =
             behind o (stops_behind aig_causes (joint (laws_byte 32) (λ _. laws_symbol_name all kind k) (λ t x y. x)) m3
-            o
-            (stops_behind aig_causes (joint laws_rest (λ name. laws_symbol_end all kind k name) inner_newline) m4 o
+            o (stops_behind aig_causes (joint laws_rest (λ name. laws_symbol_end all kind k name) inner_newline) m4 o
             (stops_mapped aig_causes (λ _. add_name all kind k.value name) newline s4 o m)))
 
-        pub symbol_reads : (s5 : Stream Seen) (d : NamesData) → Reads newline s4 tt s5 →
+        pub symbol_reads : {s5 : Stream Seen} {d : NamesData} → Reads newline s4 tt s5 →
             d ≡ add_name all kind n.value name → Reads (symbol_line all) old d s5
         unfolding symbol_line
-        symbol_reads s5 d m e =
-            value_is (symbol_line all) old s5 (add_name all kind k.value name) d
-            (ap (λ v. add_name all kind v name) k_value ∙ sym e)
+        symbol_reads m e =
+            value_is (ap (λ v. add_name all kind v name) k_value ∙ sym e)
             (reads_then (joint_letter all) (letter_reads good) (reads_then
             (joint (laws_number AnyNumber) (λ k. laws_symbol_space all kind k) digit_space) k_reads
             (reads_then (joint (laws_byte 32) (λ _. laws_symbol_name all kind k) (λ t x y. x)) m3
@@ -208,22 +203,23 @@ module _ (all : NamesData) (kind : Kind) (t : Seen) (old s1 : Stream Seen) (ahea
             (reads_mapped (λ _. add_name all kind k.value name) m)))))
 
 -- the list of one kind, with a name put at its place
-pub named_is : (all : NamesData) (kind : Kind) (names after : List (Option (Vec ℕ Global))) (i : ℕ) (v : Vec ℕ Global)
-    (name : List ℕ) → names_of all kind ≡ map name_bytes names → after ≡ set names i (Some v) → v.items ≡ name
+pub named_is : (all : NamesData) (kind : Kind) (names : List (Option (Vec ℕ Global)))
+    {after : List (Option (Vec ℕ Global))} (i : ℕ) (v : Vec ℕ Global)
+    {name : List ℕ} → names_of all kind ≡ map name_bytes names → after ≡ set names i (Some v) → v.items ≡ name
     → put_names all kind (map name_bytes after) ≡ add_name all kind i name
-named_is all kind names after i v name e f g =
+named_is all kind names i v e f g =
     ap (put_names all kind) (ap (map name_bytes) f ∙ map-set name_bytes names i (Some v)
     ∙ ap₂ (λ (xs : List (Option (List ℕ))) (y : List ℕ). set xs i (Some y)) (sym e) g)
 
-pub short_names : (all : List (Option (List ℕ))) (names : List (Option (Vec ℕ Global))) → all ≡ map name_bytes names →
+pub short_names : {all : List (Option (List ℕ))} (names : List (Option (Vec ℕ Global))) → all ≡ map name_bytes names →
     length names < 2 ^ 64 → length all < 2 ^ 64
-short_names all names e l = omega (arith, ap length e, length-map names name_bytes)
+short_names names e l = omega (arith, ap length e, length-map names name_bytes)
 
 -- ## Which line comes
 
-pub kind_of : (b : ℕ) (kind : Kind) (t : Seen) → t.byte ≡ b →
+pub kind_of : {b : ℕ} {kind : Kind} (t : Seen) → t.byte ≡ b →
     take_kind (record { byte = b; at = 0; behind = [] }) ≡ Some kind → take_kind t ≡ Some kind
-kind_of b kind t e h =
+kind_of {kind} t e h =
     subst (λ x. cond (eqb x 105) (Some OfInput) (cond (eqb x 108) (Some OfLatch)
     (cond (eqb x 111) (Some OfOutput) None)) ≡ Some kind) (sym e) h
 
@@ -248,9 +244,9 @@ is_kind_some s e = go (next_of s) refl e
       where
         by : (x y z : Bool) → eqb t.byte 105 ≡ x → eqb t.byte 108 ≡ y → eqb t.byte 111 ≡ z → ((x || y) || z) ≡ true →
             (t : Seen) × (next_of s ≡ Some t) × (kind : Kind) × (take_kind t ≡ Some kind)
-        by true y z a b c h = (t, n, OfInput, kind_of 105 OfInput t (eqb-true t.byte 105 a) refl)
-        by false true z a b c h = (t, n, OfLatch, kind_of 108 OfLatch t (eqb-true t.byte 108 b) refl)
-        by false false true a b c h = (t, n, OfOutput, kind_of 111 OfOutput t (eqb-true t.byte 111 c) refl)
+        by true y z a b c h = (t, n, OfInput, kind_of t (eqb-true t.byte 105 a) refl)
+        by false true z a b c h = (t, n, OfLatch, kind_of t (eqb-true t.byte 108 b) refl)
+        by false false true a b c h = (t, n, OfOutput, kind_of t (eqb-true t.byte 111 c) refl)
         by false false false a b c h = absurd cc
 
 enters_symbol : (names : NamesData) (s : Stream Seen) → is_kind (next_byte s) ≡ true →
@@ -266,40 +262,40 @@ pub names_fail : (names : NamesData) (s : Stream Seen) (o : Option (Found AigCau
 names_fail names s o e m =
     many_fails symbol_line laws_symbol_line (λ t x y. x) aig_causes names s o (enters_symbol names s e) m
 
-pub names_end : (names : NamesData) (s : Stream Seen) → is_kind (next_byte s) ≡ false →
+pub names_end : {names : NamesData} {s : Stream Seen} → is_kind (next_byte s) ≡ false →
     Reads (many symbol_line names) s names s
-names_end names s e = many_ends symbol_line laws_symbol_line (λ t x y. x) names s (no_kind s e)
+names_end {names} {s} e = many_ends symbol_line laws_symbol_line (λ t x y. x) names s (no_kind s e)
 
-pub names_next : (first names after : NamesData) (start s new : Stream Seen) →
+pub names_next : (first names : NamesData) {after : NamesData} (start : Stream Seen) {s new : Stream Seen} →
     Carries aig_causes (many symbol_line first) start (many symbol_line names) s → Reads (symbol_line names) s after new
     → Carries aig_causes (many symbol_line first) start (many symbol_line after) new
-names_next first names after start s new c m =
+names_next first names {after} start c m =
     carries_many symbol_line laws_symbol_line (λ t x y. x) aig_causes {c = names} {d = after} c m
 
-pub symbol_shrinks : (names after : NamesData) (s new : Stream Seen) → Reads (symbol_line names) s after new →
+pub symbol_shrinks : (names : NamesData) {after : NamesData} {s new : Stream Seen} →
+    Reads (symbol_line names) s after new →
     length new.pieces < length s.pieces
-symbol_shrinks names after s new m = reads_shrinks (λ w h. (laws_symbol_line names).null w h) m
+symbol_shrinks names m = reads_shrinks (λ w h. (laws_symbol_line names).null w h) m
 
-pub symbol_refused : (names : NamesData) (s : Stream Seen) (e : AigFault) → (next_byte s ≡ Some 105 → ⊥) →
+pub symbol_refused : (names : NamesData) (s : Stream Seen) {e : AigFault} → (next_byte s ≡ Some 105 → ⊥) →
     (next_byte s ≡ Some 108 → ⊥) → (next_byte s ≡ Some 111 → ⊥) → e ≡ Text Syntax (place_of s)
     → Stops aig_causes (symbol_line names) s (found_of e)
-symbol_refused names s e i l o is =
-    subst (λ x. Stops aig_causes (symbol_line names) s (found_of x)) (sym is)
-    (stops_here (laws_symbol_line names) s none)
+symbol_refused names s i l o is =
+    subst (λ x. Stops aig_causes (symbol_line names) s (found_of x)) (sym is) (stops_here (laws_symbol_line names) none)
   where
-    byte_is : (b : ℕ) (t : Seen) → next_of s ≡ Some t → t.byte ≡ b → next_byte s ≡ Some b
-    byte_is b t n h = ap (option_map (λ (x : Seen). x.byte)) n ∙ ap Some h
+    byte_is : {b : ℕ} {t : Seen} → next_of s ≡ Some t → t.byte ≡ b → next_byte s ≡ Some b
+    byte_is n h = ap (option_map (λ (x : Seen). x.byte)) n ∙ ap Some h
 
     none : (t : Seen) → next_of s ≡ Some t → AtKind t → ⊥
-    none t n (inl h) = i (byte_is 105 t n h)
-    none t n (inr (inl h)) = l (byte_is 108 t n h)
-    none t n (inr (inr h)) = o (byte_is 111 t n h)
+    none t n (inl h) = i (byte_is n h)
+    none t n (inr (inl h)) = l (byte_is n h)
+    none t n (inr (inr h)) = o (byte_is n h)
 
 -- the letter comes
-pub letter_is : (s : Stream Seen) (b : ℕ) (kind : Kind) → next_byte s ≡ Some b →
+pub letter_is : (s : Stream Seen) {b : ℕ} {kind : Kind} → next_byte s ≡ Some b →
     take_kind (record { byte = b; at = 0; behind = [] }) ≡ Some kind →
     (t : Seen) × (next_of s ≡ Some t) × (take_kind t ≡ Some kind)
-letter_is s b kind e h = let t = next_is b (next_of s) e in (t.0, t.1, kind_of b kind t.0 t.2 h)
+letter_is s e h = let t = next_is (next_of s) e in (t.0, t.1, kind_of t.0 t.2 h)
 
 -- a name that was read has a byte, and no newline
 all_plain : (xs : List ℕ) → AllOf is_inner xs → All (λ b. b ≢ 10) xs
@@ -311,10 +307,10 @@ length_bytes : (signs : List Seen) → length (bytes_of signs) ≡ length signs
 length_bytes [] = refl
 length_bytes (s ∷ signs) = ap suc (length_bytes signs)
 
-pub plain_name : (old new : Stream Seen) (name : List ℕ) → Reads rest_of_line old name new →
+pub plain_name : {old new : Stream Seen} {name : List ℕ} → Reads rest_of_line old name new →
     (0 < length name) × All (λ b. b ≢ 10) name
 unfolding rest_of_line
-plain_name old new name m =
+plain_name m =
     let t = m.1.is_text in (
       omega (arith, t.some, ap length t.value, length_bytes m.1.text),
       subst (λ xs. All (λ b. b ≢ 10) xs) (sym t.value) (all_plain (bytes_of m.1.text) t.all),
@@ -332,18 +328,18 @@ nothing_left s e = go s.pieces e
 no_comment : (s : Stream Seen) → (next_byte s ≡ Some 99 → ⊥) → Avoids (At 99) (next_of s)
 no_comment s none t n h = none (ap (option_map (λ (x : Seen). x.byte)) n ∙ ap Some h)
 
-pub comment_none : (s : Stream Seen) → next_byte s ≡ None → Reads comment s tt s × (s.pieces ≡ [])
+pub comment_none : {s : Stream Seen} → next_byte s ≡ None → Reads comment s tt s × (s.pieces ≡ [])
 unfolding comment
-comment_none s e = (
+comment_none {s} e = (
   reads_as {P = give tt} {Q = comment} {old = s} {new = s} {v = tt}
       (right_otherwise laws_c_line (laws_give Odd tt) (next_of s) (no_comment s (λ h. none_is_some 99 (sym e ∙ h)))
       (λ z. z)) (reads_give s tt),
   nothing_left s e,
 )
 
-pub comment_other : (s : Stream Seen) → (next_byte s ≡ Some 99 → ⊥) → Reads comment s tt s
+pub comment_other : {s : Stream Seen} → (next_byte s ≡ Some 99 → ⊥) → Reads comment s tt s
 unfolding comment
-comment_other s none =
+comment_other {s} none =
     reads_as {P = give tt} {Q = comment} {old = s} {new = s} {v = tt}
     (right_otherwise laws_c_line (laws_give Odd tt) (next_of s) (no_comment s none) (λ z. z)) (reads_give s tt)
 
@@ -357,9 +353,9 @@ no_any_cause zero front t f c = c
 no_any_cause (suc n) front t f (inl c) = c.1
 no_any_cause (suc n) front t f (inr c) = no_any_cause n c.right t f c.is_cause
 
-pub anything_reads : (s new : Stream Seen) → new.pieces ≡ [] → new.end ≡ s.end → Reads anything s tt new
+pub anything_reads : {s new : Stream Seen} → new.pieces ≡ [] → new.end ≡ s.end → Reads anything s tt new
 unfolding anything
-anything_reads s new e end = (
+anything_reads {s} e end = (
   record { taken = s.pieces; split = sym (append-nil s.pieces) ∙ ap (λ x. s.pieces ++ x) (sym e); end = end },
   record {
     text = signs s.pieces;
@@ -370,17 +366,17 @@ anything_reads s new e end = (
   },
 )
 
-pub comment_reads : (s new : Stream Seen) → next_byte s ≡ Some 99 → new.pieces ≡ [] → new.end ≡ s.end →
+pub comment_reads : {s new : Stream Seen} → next_byte s ≡ Some 99 → new.pieces ≡ [] → new.end ≡ s.end →
     Reads comment s tt new × (new.pieces ≡ [])
 unfolding comment byte
-comment_reads s new e left end =
-    let t = next_is 99 (next_of s) e in
+comment_reads {s} {new} e left end =
+    let t = next_is (next_of s) e in
     let first : Enters (byte 99) (next_of s) =
-    subst (Enters (byte 99)) (sym t.1) (enters_one (take_byte 99) NoBad t.0 (inl (tt, byte_taken 99 t.0 t.2))) in
+    subst (Enters (byte 99)) (sym t.1) (enters_one (take_byte 99) NoBad t.0 (inl (tt, byte_taken t.0 t.2))) in
     let joint_c = joint (laws_byte 99) (λ _. laws_anything) (λ t x y. x) in (
       reads_as {P = c_line} {Q = comment} {old = s} {new = new} {v = tt}
           (left_entered laws_c_line (laws_give Odd tt) (next_of s) (λ t h k. k)
           (enters_then (byte 99) (λ _. anything) joint_c (next_of s) first))
-          (reads_then joint_c (byte_reads 99 s (tail s) e refl) (anything_reads (tail s) new left end)),
+          (reads_then joint_c (byte_reads e refl) (anything_reads left end)),
       left,
     )

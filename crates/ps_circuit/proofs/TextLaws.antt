@@ -58,14 +58,14 @@ abbrev pub AtBody : Seen → Type 0
 AtBody s = AtDigit s ⊎ AtTail s
 
 -- the test of a byte that is known
-test_at : (p : ℕ → Bool) (b : ℕ) (t : Seen) → t.byte ≡ b → p t.byte ≡ true → p b ≡ false → ⊥
-test_at p b t e h k = let g : p b ≡ true = ap p (sym e) ∙ h in cc
+test_at : (p : ℕ → Bool) {b : ℕ} (t : Seen) → t.byte ≡ b → p t.byte ≡ true → p b ≡ false → ⊥
+test_at p {b} t e h k = let g : p b ≡ true = ap p (sym e) ∙ h in cc
 
 pub blank_newline : Apart AtBlank (At 10)
-blank_newline t h e = test_at is_blank 10 t e h refl
+blank_newline t h e = test_at is_blank t e h refl
 
 pub inner_newline : Apart AtInner (At 10)
-inner_newline t h e = test_at is_inner 10 t e h refl
+inner_newline t h e = test_at is_inner t e h refl
 
 blank_is : (t : Seen) → AtBlank t → (t.byte ≡ 32) ⊎ (t.byte ≡ 9)
 blank_is t h = go (eqb t.byte 32) (eqb t.byte 9) refl refl h
@@ -79,24 +79,24 @@ pub blank_digit : Apart AtBlank AtDigit
 blank_digit t h d = go (blank_is t h)
   where
     go : (t.byte ≡ 32) ⊎ (t.byte ≡ 9) → ⊥
-    go (inl e) = test_at is_digit 32 t e d refl
-    go (inr e) = test_at is_digit 9 t e d refl
+    go (inl e) = test_at is_digit t e d refl
+    go (inr e) = test_at is_digit t e d refl
 
 pub digit_separates : Apart AtDigit Separates
 digit_separates t d (inl h) = blank_digit t h d
-digit_separates t d (inr e) = test_at is_digit 10 t e d refl
+digit_separates t d (inr e) = test_at is_digit t e d refl
 
 pub separates_digit : Apart Separates AtDigit
 separates_digit t h d = digit_separates t d h
 
 pub digit_space : Apart AtDigit (At 32)
-digit_space t d e = test_at is_digit 32 t e d refl
+digit_space t d e = test_at is_digit t e d refl
 
 tail_blank : (t : Seen) → AtTail t → AtBlank t → ⊥
-tail_blank t (inl (inl e)) d = test_at is_blank 105 t e d refl
-tail_blank t (inl (inr (inl e))) d = test_at is_blank 108 t e d refl
-tail_blank t (inl (inr (inr e))) d = test_at is_blank 111 t e d refl
-tail_blank t (inr e) d = test_at is_blank 99 t e d refl
+tail_blank t (inl (inl e)) d = test_at is_blank t e d refl
+tail_blank t (inl (inr (inl e))) d = test_at is_blank t e d refl
+tail_blank t (inl (inr (inr e))) d = test_at is_blank t e d refl
+tail_blank t (inr e) d = test_at is_blank t e d refl
 
 tail_newline : (t : Seen) → AtTail t → At 10 t → ⊥
 tail_newline t (inl (inl e)) d = omega (arith, e, d)
@@ -119,11 +119,11 @@ not_odd A t a o = none_is_some o.0 o.1
 
 -- ## Bytes
 
-pub byte_taken : (b : ℕ) (s : Seen) → s.byte ≡ b → take_byte b s ≡ Some tt
-byte_taken b s e = ap (λ x. cond x (Some tt) None) (eq-eqb s.byte b e)
+pub byte_taken : {b : ℕ} (s : Seen) → s.byte ≡ b → take_byte b s ≡ Some tt
+byte_taken {b} s e = ap (λ x. cond x (Some tt) None) (eq-eqb s.byte b e)
 
-pub taken_byte : (b : ℕ) (s : Seen) (u : Unit {0}) → take_byte b s ≡ Some u → s.byte ≡ b
-taken_byte b s u e = go (eqb s.byte b) refl e
+pub taken_byte : {b : ℕ} (s : Seen) {u : Unit {0}} → take_byte b s ≡ Some u → s.byte ≡ b
+taken_byte {b} s {u} e = go (eqb s.byte b) refl e
   where
     go : (x : Bool) → eqb s.byte b ≡ x → cond x (Some tt) None ≡ Some u → s.byte ≡ b
     go true t h = eqb-true s.byte b t
@@ -135,11 +135,11 @@ seen b = record { byte = b; at = 0; behind = [] }
 pub laws_byte : (b : ℕ) → Laws Odd (byte b) (At b) Nothing ⊥
 unfolding byte
 laws_byte b =
-    weaker (laws_one (take_byte b) NoBad Odd (seen b) tt (byte_taken b (seen b) refl) (not_odd (Taken (take_byte b)))
+    weaker (laws_one (take_byte b) NoBad Odd (seen b) tt (byte_taken (seen b) refl) (not_odd (Taken (take_byte b)))
     (not_odd (BadSign NoBad))) first (λ t h. h) (λ n. n)
   where
     first : (t : Seen) → Or (Taken (take_byte b)) (BadSign {F = AigCause} NoBad) t → At b t
-    first t (inl x) = taken_byte b t x.0 x.1
+    first t (inl x) = taken_byte t x.1
     first t (inr x) = absurd x.1
 
 pub laws_word : (bytes : List ℕ) → Laws Odd (word bytes) Any Nothing (Unit {0})
@@ -423,8 +423,8 @@ laws_lines item l (suc n) c = weaker (laws_then (l c) (λ d. laws_lines item l n
 
 -- ## Names
 
-kind_at : (s : Seen) (k : Kind) → take_kind s ≡ Some k → AtKind s
-kind_at s k e = go (eqb s.byte 105) (eqb s.byte 108) (eqb s.byte 111) refl refl refl e
+kind_at : (s : Seen) {k : Kind} → take_kind s ≡ Some k → AtKind s
+kind_at s {k} e = go (eqb s.byte 105) (eqb s.byte 108) (eqb s.byte 111) refl refl refl e
   where
     go : (x y z : Bool) → eqb s.byte 105 ≡ x → eqb s.byte 108 ≡ y → eqb s.byte 111 ≡ z →
         cond x (Some OfInput) (cond y (Some OfLatch) (cond z (Some OfOutput) None)) ≡ Some k → AtKind s
@@ -442,8 +442,8 @@ laws_letter names =
     (not_odd (BadSign (IsBadSymbol names)))) first (λ t h. h) (λ n. n)
   where
     first : (t : Seen) → Or (Taken take_kind) (BadSign (IsBadSymbol names)) t → AtKind t
-    first t (inl x) = kind_at t x.0 x.1
-    first t (inr x) = kind_at t x.1.kind x.1.letter
+    first t (inl x) = kind_at t x.1
+    first t (inr x) = kind_at t x.1.letter
 
 abbrev pub symbol_end : NamesData → Kind → Number → List ℕ → Field NamesData
 symbol_end names kind k name = mapped (λ _. add_name names kind k.value name) newline

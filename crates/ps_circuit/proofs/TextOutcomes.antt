@@ -79,7 +79,7 @@ judge_reset latch n = judge_one cause_number (judge_cause cause_number UnsetLatc
 
 has_byte : (b : ℕ) → Has (byte b)
 unfolding byte
-has_byte b = has_one aig_causes (take_byte b) NoBad (seen b) tt (byte_taken b (seen b) refl)
+has_byte b = has_one aig_causes (take_byte b) NoBad (seen b) tt (byte_taken (seen b) refl)
     (λ t. judge_none cause_number)
 
 has_word : (bytes : List ℕ) → Has (word bytes)
@@ -158,10 +158,8 @@ has_numbers Wrong judge l q = has_then aig_causes (joint (laws_number Wrong) l d
 has_header : Has header
 unfolding header
 has_header = has_then aig_causes joint_header (has_word (codes "aag")) (λ _.
-    has_fields WrongMost judge_most laws_header_1 (λ m.
-    has_fields AnyNumber judge_any (laws_header_2 m) (λ i.
-    has_fields AnyNumber judge_any (laws_header_3 m i) (λ l.
-    has_fields AnyNumber judge_any (laws_header_4 m i l) (λ o.
+    has_fields WrongMost judge_most laws_header_1 (λ m. has_fields AnyNumber judge_any (laws_header_2 m) (λ i.
+    has_fields AnyNumber judge_any (laws_header_3 m i) (λ l. has_fields AnyNumber judge_any (laws_header_4 m i l) (λ o.
     has_fields AnyNumber judge_any (laws_header_5 m i l o) (λ a.
     has_mapped aig_causes (header_of m i l o a) (sections 4) (has_sections 4)))))))
 
@@ -222,7 +220,7 @@ module _ (names : NamesData) where
   judge_symbol s = by (take_kind s) refl
     where
       digits : Spanned is_digit s.behind
-      digits = run_of is_digit s.behind
+      digits = run_of s.behind
 
       -- the number that stands behind the letter
       same : (f : AigCause) (b : IsBadSymbol names s f) → b.digits ≡ digits.text
@@ -239,12 +237,12 @@ module _ (names : NamesData) where
           (subst (λ k. slice_get (names_of names k) (decimal_value b.digits) ≡ Some None → ⊥)
           (sym (same_some kind b.kind (sym e ∙ b.letter))) b.not_free))
 
-      at_number : (kind : Kind) → take_kind s ≡ Some kind → (text : List ℕ) → digits.text ≡ text →
+      at_number : {kind : Kind} → take_kind s ≡ Some kind → (text : List ℕ) → digits.text ≡ text →
           Decided (slice_get (names_of names kind) (decimal_value digits.text) ≡ Some None → ⊥) →
           Judged cause_number (IsBadSymbol names s)
-      at_number kind e [] x d = good (no_number x)
-      at_number kind e (b ∷ bytes) x (inr n) = good (free kind e n)
-      at_number kind e (b ∷ bytes) x (inl bad) = bad_only cause_number _ Syntax (record {
+      at_number e [] x d = good (no_number x)
+      at_number {kind} e (b ∷ bytes) x (inr n) = good (free kind e n)
+      at_number {kind} e (b ∷ bytes) x (inl bad) = bad_only cause_number _ Syntax (record {
         kind = kind;
         letter = e;
         digits = digits.text;
@@ -261,7 +259,7 @@ module _ (names : NamesData) where
 
       by : (o : Option Kind) → take_kind s ≡ o → Judged cause_number (IsBadSymbol names s)
       by None e = good (λ f b. none_is_some b.kind (sym e ∙ b.letter))
-      by (Some kind) e = at_number kind e digits.text refl (decide_free kind (decimal_value digits.text))
+      by (Some kind) e = at_number e digits.text refl (decide_free kind (decimal_value digits.text))
 
   has_symbol_line : Has (symbol_line names)
   unfolding symbol_line
@@ -301,8 +299,7 @@ has_body h =
     has_then aig_causes (joint_latches h i)
     (has_lines (latch_line h.most) (laws_latch_line h.most) (has_latch_line h.most) h.latches (next_lines i)) (λ l.
     has_then aig_causes (joint_outputs h i l)
-    (has_lines (output_line h.most) (laws_output_line h.most) (has_output_line h.most) h.outputs (next_lines l))
-    (λ o.
+    (has_lines (output_line h.most) (laws_output_line h.most) (has_output_line h.most) h.outputs (next_lines l)) (λ o.
     has_then aig_causes (joint_gates h i l o)
     (has_lines (gate_line h.most) (laws_gate_line h.most) (has_gate_line h.most) h.gates (next_lines o)) (λ a.
     has_symbols h.most i l o a))))

@@ -56,11 +56,10 @@ module _ (c : CircuitData) (draft : IsDraft c) where
       (ap variable (front before (x ∷ after) k x small) ∙ sym (get_or-map variable before k x (variable x) small) ∙ h
       ∙ sym (ap variable (middle before after x x)))
 
-  pub definition_good : (before after defined : List ℕ) (x : ℕ) → definitions c ≡ before ++ x ∷ after →
+  pub definition_good : (before after : List ℕ) {defined : List ℕ} (x : ℕ) → definitions c ≡ before ++ x ∷ after →
       defined ≡ map variable before → (f : AigCause) → WrongDefinition c.most defined x f → ⊥
-  definition_good before after defined x e d f (inl w) = w.0 (definition_at before after x e)
-  definition_good before after defined x e d f (inr w) =
-      fresh_at before after x e (subst (λ z. Contains z (variable x)) d w.0)
+  definition_good before after x e d f (inl w) = w.0 (definition_at before after x e)
+  definition_good before after x e d f (inr w) = fresh_at before after x e (subst (λ z. Contains z (variable x)) d w.0)
 
   pub definition_small : (before after : List ℕ) (x : ℕ) → definitions c ≡ before ++ x ∷ after → (2 ≤ x) × (x < 2 ^ 64)
   definition_small before after x e = let d = definition_at before after x e in (d.1, omega (arith, d.2, draft.limit))
@@ -91,16 +90,17 @@ value_of n = n.value
 
 -- ## Lists, where one item is put behind those before it
 
-pub split_at : (a b all before after : List ℕ) (x : ℕ) → a ++ x ∷ b ≡ all →
+pub split_at : (a b : List ℕ) {all : List ℕ} (before after : List ℕ) (x : ℕ) → a ++ x ∷ b ≡ all →
     before ++ (all ++ after) ≡ (before ++ a) ++ x ∷ (b ++ after)
-split_at a b all before after x e =
+split_at a b before after x e =
     ap (λ z. before ++ (z ++ after)) (sym e) ∙ ap (λ z. before ++ z) (append_assoc a (x ∷ b) after)
     ∙ sym (append_assoc before a (x ∷ (b ++ after)))
 
-pub split_mapped : {X : Type 0} (f : X → ℕ) (a b all : List X) (before after : List ℕ) (x : X) → a ++ x ∷ b ≡ all →
+pub split_mapped : {X : Type 0} (f : X → ℕ) (a b : List X) {all : List X} (before after : List ℕ) (x : X) →
+    a ++ x ∷ b ≡ all →
     before ++ (map f all ++ after) ≡ (before ++ map f a) ++ f x ∷ (map f b ++ after)
-split_mapped f a b all before after x e =
-    split_at (map f a) (map f b) (map f all) before after (f x) (sym (map-append f a (x ∷ b)) ∙ ap (map f) e)
+split_mapped f a b before after x e =
+    split_at (map f a) (map f b) before after (f x) (sym (map-append f a (x ∷ b)) ∙ ap (map f) e)
 
 pub moved : {X : Type 0} (a b all : List X) (x : X) → a ++ x ∷ b ≡ all → (a ++ x ∷ []) ++ b ≡ all
 moved a b all x e = append_assoc a (x ∷ []) b ∙ e
@@ -111,17 +111,17 @@ pub put : {X Y : Type 0} (f : X → Y) (now before : List Y) (a : List X) (x : X
 put f now before a x y e h = ap (λ z. z ++ y ∷ []) e ∙ ap (λ z. (before ++ map f a) ++ z ∷ []) h
     ∙ append_assoc before (map f a) (f x ∷ []) ∙ ap (λ z. before ++ z) (sym (map-append f a (x ∷ [])))
 
-pub put_variable : {X : Type 0} (f : X → ℕ) (now before : List ℕ) (a : List X) (x : X) (y : ℕ) →
+pub put_variable : {X : Type 0} (f : X → ℕ) {now : List ℕ} (before : List ℕ) (a : List X) (x : X) {y : ℕ} →
     now ≡ map variable (before ++ map f a) → y ≡ f x → now ++ variable y ∷ [] ≡ map variable
     (before ++ map f (a ++ x ∷ []))
-put_variable f now before a x y e h =
+put_variable f before a x {y} e h =
     ap (λ z. z ++ variable y ∷ []) e ∙ ap (λ z. map variable (before ++ map f a) ++ variable z ∷ []) h
     ∙ sym (map-append variable (before ++ map f a) (f x ∷ []))
     ∙ ap (map variable) (put f (before ++ map f a) before a x (f x) refl refl)
 
-pub put_reading : (now : List Number) (before a : List ℕ) (x : ℕ) (n : Number) → map value_of now ≡ before ++ a →
+pub put_reading : (now : List Number) (before a : List ℕ) {x : ℕ} (n : Number) → map value_of now ≡ before ++ a →
     n.value ≡ x → map value_of (now ++ n ∷ []) ≡ before ++ (a ++ x ∷ [])
-put_reading now before a x n e h = map-append value_of now (n ∷ []) ∙ ap (λ z. z ++ n.value ∷ []) e
+put_reading now before a {x} n e h = map-append value_of now (n ∷ []) ∙ ap (λ z. z ++ n.value ∷ []) e
     ∙ ap (λ z. (before ++ a) ++ z ∷ []) h ∙ append_assoc before a (x ∷ [])
 
 -- ## Kinds of lines
@@ -162,9 +162,9 @@ module _ (c : CircuitData) where
       IsLeft c.gates (λ a. (c.inputs ++ map literal_of_latch c.latches) ++ map literal_of_gate a)
       (λ a. (map next_of_latch c.latches ++ c.outputs) ++ flat_map sides a)
 
-  input_put : (x : ℕ) (xs : List ℕ) (d : Lines ℕ) (l : Number) → InputsLeft (x ∷ xs) d → l.value ≡ x →
+  input_put : {x : ℕ} (xs : List ℕ) (d : Lines ℕ) (l : Number) → InputsLeft (x ∷ xs) d → l.value ≡ x →
       InputsLeft xs (add_input d l)
-  input_put x xs d l h g = record {
+  input_put {x} xs d l h g = record {
     items = ap (λ z. (d.items ++ z ∷ []) ++ xs) g ∙ moved d.items xs c.inputs x h.items;
     defined = put variable d.defined [] d.items l.value (variable l.value) h.defined refl;
     readings = h.readings;
@@ -174,7 +174,7 @@ module _ (c : CircuitData) where
       definitions c ≡ d.items ++ x ∷ (xs ++ (map literal_of_latch c.latches ++ map literal_of_gate c.gates))
   input_splits x xs d h =
       append_assoc c.inputs (map literal_of_latch c.latches) (map literal_of_gate c.gates)
-      ∙ split_at d.items xs c.inputs [] (map literal_of_latch c.latches ++ map literal_of_gate c.gates) x h.items
+      ∙ split_at d.items xs [] (map literal_of_latch c.latches ++ map literal_of_gate c.gates) x h.items
 
   latch_put : (x : Latch) (xs : List Latch) (d : Lines Latch) (l n : Number) → LatchesLeft (x ∷ xs) d →
       l.value ≡ x.literal → n.value ≡ x.next → LatchesLeft xs (add_latch d l n x.reset)
@@ -188,8 +188,8 @@ module _ (c : CircuitData) where
         starts = d.starts;
       })) (sym same) (record {
         items = moved d.items xs c.latches x h.items;
-        defined = put_variable literal_of_latch d.defined c.inputs d.items x l.value h.defined g;
-        readings = put_reading d.readings [] (map next_of_latch d.items) x.next n h.readings k
+        defined = put_variable literal_of_latch c.inputs d.items x h.defined g;
+        readings = put_reading d.readings [] (map next_of_latch d.items) n h.readings k
             ∙ sym (map-append next_of_latch d.items (x ∷ []));
       })
 
@@ -198,27 +198,27 @@ module _ (c : CircuitData) where
       x.literal ∷ (map literal_of_latch xs ++ map literal_of_gate c.gates)
   latch_splits x xs d h =
       append_assoc c.inputs (map literal_of_latch c.latches) (map literal_of_gate c.gates)
-      ∙ split_mapped literal_of_latch d.items xs c.latches c.inputs (map literal_of_gate c.gates) x h.items
+      ∙ split_mapped literal_of_latch d.items xs c.inputs (map literal_of_gate c.gates) x h.items
 
   latch_reads : (x : Latch) (xs : List Latch) (d : Lines Latch) → LatchesLeft (x ∷ xs) d →
       readings c ≡ map next_of_latch d.items ++ x.next ∷ (map next_of_latch xs ++ (c.outputs ++ flat_map sides c.gates))
   latch_reads x xs d h =
       append_assoc (map next_of_latch c.latches) c.outputs (flat_map sides c.gates)
-      ∙ split_mapped next_of_latch d.items xs c.latches [] (c.outputs ++ flat_map sides c.gates) x h.items
+      ∙ split_mapped next_of_latch d.items xs [] (c.outputs ++ flat_map sides c.gates) x h.items
 
-  output_put : (x : ℕ) (xs : List ℕ) (d : Lines ℕ) (l : Number) → OutputsLeft (x ∷ xs) d → l.value ≡ x →
+  output_put : {x : ℕ} (xs : List ℕ) (d : Lines ℕ) (l : Number) → OutputsLeft (x ∷ xs) d → l.value ≡ x →
       OutputsLeft xs (add_output d l)
-  output_put x xs d l h g = record {
+  output_put {x} xs d l h g = record {
     items = ap (λ z. (d.items ++ z ∷ []) ++ xs) g ∙ moved d.items xs c.outputs x h.items;
     defined = h.defined;
-    readings = put_reading d.readings (map next_of_latch c.latches) d.items l.value l h.readings refl;
+    readings = put_reading d.readings (map next_of_latch c.latches) d.items l h.readings refl;
   }
 
   output_reads : (x : ℕ) (xs : List ℕ) (d : Lines ℕ) → OutputsLeft (x ∷ xs) d →
       readings c ≡ (map next_of_latch c.latches ++ d.items) ++ x ∷ (xs ++ flat_map sides c.gates)
   output_reads x xs d h =
       append_assoc (map next_of_latch c.latches) c.outputs (flat_map sides c.gates)
-      ∙ split_at d.items xs c.outputs (map next_of_latch c.latches) (flat_map sides c.gates) x h.items
+      ∙ split_at d.items xs (map next_of_latch c.latches) (flat_map sides c.gates) x h.items
 
   gate_put : (x : Gate) (xs : List Gate) (d : Lines Gate) (l m n : Number) → GatesLeft (x ∷ xs) d →
       l.value ≡ x.literal → m.value ≡ x.first → n.value ≡ x.second → GatesLeft xs (add_gate d l m n)
@@ -233,15 +233,12 @@ module _ (c : CircuitData) where
         starts = d.starts ++ l.offset ∷ [];
       })) (sym same) (record {
         items = moved d.items xs c.gates x h.items;
-        defined =
-            put_variable literal_of_gate d.defined (c.inputs ++ map literal_of_latch c.latches) d.items x
-            l.value h.defined g;
+        defined = put_variable literal_of_gate (c.inputs ++ map literal_of_latch c.latches) d.items x h.defined g;
         readings =
             put_reading (d.readings ++ m ∷ []) (map next_of_latch c.latches ++ c.outputs)
-            (flat_map sides d.items ++ x.first ∷ []) x.second n
-            (put_reading d.readings (map next_of_latch c.latches ++ c.outputs) (flat_map sides d.items) x.first m
-            h.readings i) k
-            ∙ ap (λ z. (map next_of_latch c.latches ++ c.outputs) ++ z)
+            (flat_map sides d.items ++ x.first ∷ []) n
+            (put_reading d.readings (map next_of_latch c.latches ++ c.outputs) (flat_map sides d.items) m
+            h.readings i) k ∙ ap (λ z. (map next_of_latch c.latches ++ c.outputs) ++ z)
             (append_assoc (flat_map sides d.items) (x.first ∷ []) (x.second ∷ [])
             ∙ sym (flat_map-append sides d.items (x ∷ [])));
       })
@@ -251,7 +248,7 @@ module _ (c : CircuitData) where
       x.literal ∷ (map literal_of_gate xs ++ [])
   gate_splits x xs d h =
       ap (λ z. (c.inputs ++ map literal_of_latch c.latches) ++ z) (sym (append-nil (map literal_of_gate c.gates)))
-      ∙ split_mapped literal_of_gate d.items xs c.gates (c.inputs ++ map literal_of_latch c.latches) [] x h.items
+      ∙ split_mapped literal_of_gate d.items xs (c.inputs ++ map literal_of_latch c.latches) [] x h.items
 
   gate_reads : (x : Gate) (xs : List Gate) (d : Lines Gate) → GatesLeft (x ∷ xs) d →
       readings c ≡ ((map next_of_latch c.latches ++ c.outputs) ++ flat_map sides d.items) ++
@@ -270,9 +267,9 @@ module _ (c : CircuitData) where
       (x.first ∷ []) (x.second ∷ flat_map sides xs))
 
 module _ (c : CircuitData) (draft : IsDraft c) (e : ℕ) where
-  pub went_inputs : (at : ℕ) (rest : List ℕ) → Went (times (length c.inputs) (input_line c.most) no_lines) e
+  pub went_inputs : {at : ℕ} {rest : List ℕ} → Went (times (length c.inputs) (input_line c.most) no_lines) e
       (InputsLeft c []) rest at (literal_lines c.inputs ++ rest)
-  went_inputs at rest =
+  went_inputs {at} {rest} =
       went_lines (input_line c.most) (laws_input_line c.most) (λ x. line x []) literal_lines refl (λ x xs. refl) e
       (InputsLeft c) step
       c.inputs no_lines (record { items = refl; defined = refl; readings = refl }) at rest
@@ -282,22 +279,19 @@ module _ (c : CircuitData) (draft : IsDraft c) (e : ℕ) where
       step x xs d h at rest =
           let split = input_splits c x xs d h in
           let s = definition_small c draft d.items _ x split in
-          went_as (line_is x [] rest) (went_good (went_input c.most e at d x rest s.1
-          (definition_good c draft d.items _ d.defined x split h.defined))
-          (λ v g. subst (InputsLeft c xs) (sym g.2) (input_put c x xs d g.0 h g.1)))
+          went_as (line_is x [] rest) (went_good (went_input c.most e at d x s.1
+          (definition_good c draft d.items _ x split h.defined))
+          (λ v g. subst (InputsLeft c xs) (sym g.2) (input_put c xs d g.0 h g.1)))
 
-  pub went_latches : (i : Lines ℕ) → InputsLeft c [] i → (at : ℕ) (rest : List ℕ) →
+  pub went_latches : (i : Lines ℕ) → InputsLeft c [] i → {at : ℕ} {rest : List ℕ} →
       Went (times (length c.latches) (latch_line c.most) (next_lines i)) e (LatchesLeft c []) rest at
       (latch_lines c.latches ++ rest)
-  went_latches i h at rest =
+  went_latches i h {at} {rest} =
       went_lines (latch_line c.most) (laws_latch_line c.most) written.latch_line latch_lines refl (λ x xs. refl) e
-      (LatchesLeft c) step
-      c.latches (next_lines i) (record {
+      (LatchesLeft c) step c.latches (next_lines i) (record {
         items = refl;
-        defined = h.defined
-            ∙ ap (map variable) (sym (append-nil i.items) ∙ h.items ∙ sym (append-nil c.inputs));
-        readings =
-            h.readings;
+        defined = h.defined ∙ ap (map variable) (sym (append-nil i.items) ∙ h.items ∙ sym (append-nil c.inputs));
+        readings = h.readings;
       }) at rest
     where
       latch_text : (x : Latch) (rest : List ℕ) → written.latch_line x ++ rest ≡ decimal x.literal ++
@@ -314,22 +308,20 @@ module _ (c : CircuitData) (draft : IsDraft c) (e : ℕ) where
       step x xs d h at rest =
           let split = latch_splits c x xs d h in
           let reads = latch_reads c x xs d h in
-          let s =
-          definition_small c draft (c.inputs ++ map literal_of_latch d.items)
+          let s = definition_small c draft (c.inputs ++ map literal_of_latch d.items)
           (map literal_of_latch xs ++ map literal_of_gate c.gates) x.literal split in
-          went_as (latch_text x rest) (went_good (went_latch c.most e at d x.literal x.next x.reset rest s.1
+          went_as (latch_text x rest) (went_good (went_latch c.most e at d x.literal x.next x.reset s.1
           (literal_small c draft (map next_of_latch d.items) _ x.next reads) s.0
-          (definition_good c draft (c.inputs ++ map literal_of_latch d.items) _ d.defined x.literal split h.defined)
+          (definition_good c draft (c.inputs ++ map literal_of_latch d.items) _ x.literal split h.defined)
           (literal_good c draft (map next_of_latch d.items) _ x.next reads))
           (λ v g. subst (LatchesLeft c xs) (sym g.4) (latch_put c x xs d g.0 g.1 h g.2 g.3)))
 
-  pub went_outputs : (l : Lines Latch) → LatchesLeft c [] l → (at : ℕ) (rest : List ℕ) →
+  pub went_outputs : (l : Lines Latch) → LatchesLeft c [] l → {at : ℕ} {rest : List ℕ} →
       Went (times (length c.outputs) (output_line c.most) (next_lines l)) e (OutputsLeft c []) rest at
       (literal_lines c.outputs ++ rest)
-  went_outputs l h at rest =
+  went_outputs l h {at} {rest} =
       went_lines (output_line c.most) (laws_output_line c.most) (λ x. line x []) literal_lines refl (λ x xs. refl) e
-      (OutputsLeft c) step
-      c.outputs (next_lines l) (record {
+      (OutputsLeft c) step c.outputs (next_lines l) (record {
         items = refl;
         defined = h.defined ∙ ap (λ z. map variable (c.inputs ++ map literal_of_latch z)) all;
         readings = h.readings ∙ ap (map next_of_latch) all ∙ sym (append-nil (map next_of_latch c.latches));
@@ -342,18 +334,17 @@ module _ (c : CircuitData) (draft : IsDraft c) (e : ℕ) where
           Went (output_line c.most d) e (OutputsLeft c xs) rest at (line x [] ++ rest)
       step x xs d h at rest =
           let reads = output_reads c x xs d h in
-          went_as (line_is x [] rest) (went_good (went_output c.most e at d x rest
+          went_as (line_is x [] rest) (went_good (went_output c.most e at d x
           (literal_small c draft (map next_of_latch c.latches ++ d.items) _ x reads)
           (literal_good c draft (map next_of_latch c.latches ++ d.items) _ x reads))
-          (λ v g. subst (OutputsLeft c xs) (sym g.2) (output_put c x xs d g.0 h g.1)))
+          (λ v g. subst (OutputsLeft c xs) (sym g.2) (output_put c xs d g.0 h g.1)))
 
-  pub went_gates : (o : Lines ℕ) → OutputsLeft c [] o → (at : ℕ) (rest : List ℕ) →
+  pub went_gates : (o : Lines ℕ) → OutputsLeft c [] o → {at : ℕ} {rest : List ℕ} →
       Went (times (length c.gates) (gate_line c.most) (next_lines o)) e (GatesLeft c []) rest at
       (gate_lines c.gates ++ rest)
-  went_gates o h at rest =
+  went_gates o h {at} {rest} =
       went_lines (gate_line c.most) (laws_gate_line c.most) (λ x. line x.literal (x.first ∷ x.second ∷ [])) gate_lines
-      refl (λ x xs. refl) e (GatesLeft c) step
-      c.gates (next_lines o) (record {
+      refl (λ x xs. refl) e (GatesLeft c) step c.gates (next_lines o) (record {
         items = refl;
         defined = h.defined ∙ ap (map variable) (sym (append-nil (c.inputs ++ map literal_of_latch c.latches)));
         readings = h.readings ∙ ap (λ z. map next_of_latch c.latches ++ z) (sym (append-nil o.items) ∙ h.items)
@@ -370,10 +361,8 @@ module _ (c : CircuitData) (draft : IsDraft c) (e : ℕ) where
           let seconds = gate_reads_second c x xs d h in
           let s = definition_small c draft before _ x.literal split in
           went_as (line_is x.literal (x.first ∷ x.second ∷ []) rest)
-          (went_good (went_gate c.most e at d x.literal x.first x.second rest s.1
-          (literal_small c draft read _ x.first reads)
-          (literal_small c draft (read ++ x.first ∷ []) _ x.second seconds)
-          (definition_good c draft before _ d.defined x.literal split h.defined)
-          (literal_good c draft read _ x.first reads)
+          (went_good (went_gate c.most e at d x.literal x.first x.second s.1
+          (literal_small c draft read _ x.first reads) (literal_small c draft (read ++ x.first ∷ []) _ x.second seconds)
+          (definition_good c draft before _ x.literal split h.defined) (literal_good c draft read _ x.first reads)
           (literal_good c draft (read ++ x.first ∷ []) _ x.second seconds))
           (λ v g. subst (GatesLeft c xs) (sym g.6) (gate_put c x xs d g.0 g.1 g.2 h g.3 g.4 g.5)))

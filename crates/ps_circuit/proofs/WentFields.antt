@@ -5,8 +5,8 @@
 --     went_number, went_field      a number, and a number behind a space
 --     went_end      the end of a line
 --     went_more, went_no_more      a further field, and none
-use Rattle.std.proofs.Common.{◌≡◌, ℕ, ◌+◌, ◌^◌, ◌<◌, Bool, true, false, ◌||◌, eqb, List, []}
-use Rattle.std.proofs.Common.{◌∷◌, ◌++◌, length, refl, sym, ap, subst, ◌∙◌, arith}
+use Rattle.std.proofs.Common.{◌≡◌, ℕ, ◌+◌, ◌^◌, ◌<◌, Bool, true, false, ◌||◌, eqb, List, [], ◌∷◌, ◌++◌, length, refl}
+use Rattle.std.proofs.Common.{sym, ap, subst, ◌∙◌, arith}
 use Rattle.std.specs.Prelude.{decimal}
 use Rattle.std.proofs.lemmas.Bool.{eqb-true}
 use Rattle.ps_text.specs.Answers.{Stream, next_of}
@@ -23,8 +23,8 @@ use Rattle.ps_text.proofs.Exits.{reads_give, reads_mapped, reads_then, reads_nex
 use Rattle.ps_text.proofs.Branches.{reads_as, right_otherwise, left_otherwise}
 use Rattle.ps_circuit.specs.declared.cursor.Number.{Number}
 use Rattle.ps_circuit.specs.declared.fault.AigCause.{AigCause}
-use Rattle.ps_circuit.specs.Signs.{Seen, Field, pieces_at, take_byte, byte, word, is_digit}
-use Rattle.ps_circuit.specs.Signs.{is_blank, number_at, number, gap, newline, line_end, more, NoBadRun}
+use Rattle.ps_circuit.specs.Signs.{Seen, Field, pieces_at, take_byte, byte, word, is_digit, is_blank, number_at, number}
+use Rattle.ps_circuit.specs.Signs.{gap, newline, line_end, more, NoBadRun}
 use Rattle.ps_circuit.specs.Texts.{field}
 use Rattle.ps_circuit.specs.Cursors.{Passes, place_of}
 use Rattle.ps_circuit.proofs.Runs.{Odd, run_reads}
@@ -83,9 +83,9 @@ passes p e at (b ∷ run) rest some all longest =
       longest = longest;
     }
 
-place_is : (e at : ℕ) (run rest : List ℕ) → 0 < length run → at ≡ place_of (from e at (run ++ rest))
-place_is e at [] rest some = absurd (omega arith)
-place_is e at (b ∷ run) rest some = refl
+place_is : (e : ℕ) {at : ℕ} (run rest : List ℕ) → 0 < length run → at ≡ place_of (from e at (run ++ rest))
+place_is e [] rest some = absurd (omega arith)
+place_is e (b ∷ run) rest some = refl
 
 -- digits are no blanks
 digit_no_blank : (b : ℕ) → is_digit b ≡ true → is_blank b ≡ false
@@ -104,55 +104,53 @@ digits_no_blank (b ∷ digits) rest some all = digit_no_blank b all.0
 abbrev pub HasValue : ℕ → Number → Type 0
 HasValue n x = x.value ≡ n
 
-pub went_number : (Wrong : ℕ → AigCause → Type 0) (e at n : ℕ) (rest : List ℕ) → n < 2 ^ 64 →
+pub went_number : (Wrong : ℕ → AigCause → Type 0) {e at : ℕ} (n : ℕ) {rest : List ℕ} → n < 2 ^ 64 →
     ((f : AigCause) → Wrong n f → ⊥) → StopsBefore is_digit rest →
     Went (number Wrong) e (HasValue n) rest at (decimal n ++ rest)
 unfolding number
-went_number Wrong e at n rest small good longest =
+went_number Wrong {e} {at} n {rest} small good longest =
     let t = number_text n small in
     record {
       value = number_at at (decimal n);
       good = t.value;
       to = at + length (decimal n);
       reads =
-          run_reads is_digit number_at (λ digits f. Wrong (decimal_value digits) f) (from e at (decimal n ++ rest))
-          (from e (at + length (decimal n)) rest) (decimal n) (number_at at (decimal n))
+          run_reads is_digit number_at (λ digits f. Wrong (decimal_value digits) f)
           (passes is_digit e at (decimal n) rest t.some t.pass longest) t.some
           (λ f w. good f (subst (λ z. Wrong z f) t.value w))
-          (ap (λ z. number_at z (decimal n)) (place_is e at (decimal n) rest t.some));
+          (ap (λ z. number_at z (decimal n)) (place_is e (decimal n) rest t.some));
     }
 
 -- ## Bytes
 
-pub went_byte : (b e at : ℕ) (rest : List ℕ) → Went (byte b) e Some_value rest at (b ∷ rest)
+pub went_byte : (b : ℕ) {e at : ℕ} {rest : List ℕ} → Went (byte b) e Some_value rest at (b ∷ rest)
 unfolding byte
-went_byte b e at rest = record {
+went_byte b {e} {at} {rest} = record {
   value = tt;
   good = tt;
   to = at + 1;
   reads =
       reads_next (take_byte b) NoBad (from e at (b ∷ rest)) (from e (at + 1) rest)
       (record { byte = b; at = at; behind = rest }) tt refl refl
-      (byte_taken b (record { byte = b; at = at; behind = rest }) refl) (λ f x. x);
+      (byte_taken (record { byte = b; at = at; behind = rest }) refl) (λ f x. x);
 }
 
-pub went_newline : (e at : ℕ) (rest : List ℕ) → Went newline e Some_value rest at (10 ∷ rest)
+pub went_newline : {e at : ℕ} {rest : List ℕ} → Went newline e Some_value rest at (10 ∷ rest)
 unfolding newline
-went_newline e at rest = went_byte 10 e at rest
+went_newline = went_byte 10
 
-pub went_word : (bytes : List ℕ) (e at : ℕ) (rest : List ℕ) → Went (word bytes) e Some_value rest at (bytes ++ rest)
-went_word [] e at rest = record { value = tt; good = tt; to = at; reads = reads_give (from e at rest) tt }
-went_word (b ∷ bytes) e at rest =
-    went_then (joint (laws_byte b) (λ _. laws_word bytes) (λ t x y. x)) (went_byte b e at (bytes ++ rest))
-    (λ _ _ to. went_word bytes e to rest)
+pub went_word : (bytes : List ℕ) {e at : ℕ} {rest : List ℕ} → Went (word bytes) e Some_value rest at (bytes ++ rest)
+went_word [] {e} {at} {rest} = record { value = tt; good = tt; to = at; reads = reads_give (from e at rest) tt }
+went_word (b ∷ bytes) {e} {rest} =
+    went_then (joint (laws_byte b) (λ _. laws_word bytes) (λ t x y. x)) (went_byte b) (λ _ _ to. went_word bytes)
 
-pub went_space : (e at : ℕ) (rest : List ℕ) → StopsBefore is_blank rest → Went gap e Some_value rest at (32 ∷ rest)
+pub went_space : {e at : ℕ} {rest : List ℕ} → StopsBefore is_blank rest → Went gap e Some_value rest at (32 ∷ rest)
 unfolding gap
-went_space e at rest longest = record {
+went_space {e} {at} {rest} longest = record {
   value = tt;
   good = tt;
   to = at + 1;
-  reads = run_reads is_blank (λ at bytes. tt) NoBadRun (from e at (32 ∷ rest)) (from e (at + 1) rest) (32 ∷ []) tt
+  reads = run_reads is_blank (λ at bytes. tt) NoBadRun
       (passes is_blank e at (32 ∷ []) rest (omega arith) (refl, tt) longest) (omega arith) (λ f x. x) refl;
 }
 
@@ -167,20 +165,20 @@ avoids_digits A e at [] rest some all none = absurd (omega arith)
 avoids_digits A e at (b ∷ digits) rest some all none =
     avoids_at A e at b (digits ++ rest) (λ t x a. none t (ap is_digit x ∙ all.0) a)
 
-pub went_field : (Wrong : ℕ → AigCause → Type 0) (e at n : ℕ) (rest : List ℕ) → n < 2 ^ 64 →
+pub went_field : (Wrong : ℕ → AigCause → Type 0) {e at : ℕ} (n : ℕ) {rest : List ℕ} → n < 2 ^ 64 →
     ((f : AigCause) → Wrong n f → ⊥) → StopsBefore is_digit rest →
     Went (field Wrong) e (HasValue n) rest at (32 ∷ decimal n ++ rest)
 unfolding field
-went_field Wrong e at n rest small good longest =
+went_field Wrong n {rest} small good longest =
     let t = number_text n small in
-    went_then (joint_field Wrong) (went_space e at (decimal n ++ rest) (digits_no_blank (decimal n) rest t.some t.pass))
-    (λ _ _ to. went_number Wrong e to n rest small good longest)
+    went_then (joint_field Wrong) (went_space (digits_no_blank (decimal n) rest t.some t.pass))
+    (λ _ _ to. went_number Wrong n small good longest)
 
 no_blank_newline : (e at : ℕ) (rest : List ℕ) → Avoids AtBlank (next_of (from e at (10 ∷ rest)))
 no_blank_newline e at rest = avoids_at AtBlank e at 10 rest (λ t x a. blank_newline t a x)
 
-went_no_blanks : (e at : ℕ) (rest : List ℕ) → Went (either gap (give tt)) e Some_value (10 ∷ rest) at (10 ∷ rest)
-went_no_blanks e at rest = record {
+went_no_blanks : {e at : ℕ} (rest : List ℕ) → Went (either gap (give tt)) e Some_value (10 ∷ rest) at (10 ∷ rest)
+went_no_blanks {e} {at} rest = record {
   value = tt;
   good = tt;
   to = at;
@@ -189,19 +187,18 @@ went_no_blanks e at rest = record {
       (no_blank_newline e at rest) (λ n. n)) (reads_give (from e at (10 ∷ rest)) tt);
 }
 
-pub went_end : (e at : ℕ) (rest : List ℕ) → Went line_end e Some_value rest at (10 ∷ rest)
+pub went_end : {e at : ℕ} {rest : List ℕ} → Went line_end e Some_value rest at (10 ∷ rest)
 unfolding line_end
-went_end e at rest =
-    went_then (joint laws_blanks (λ _. laws_newline) blank_newline) (went_no_blanks e at rest)
-    (λ _ _ to. went_newline e to rest)
+went_end {rest} =
+    went_then (joint laws_blanks (λ _. laws_newline) blank_newline) (went_no_blanks rest) (λ _ _ to. went_newline)
 
-went_ends_here : (e at : ℕ) (rest : List ℕ) → Went ends_here e (λ v. v ≡ false) rest at (10 ∷ rest)
-went_ends_here e at rest = went_mapped (λ _. false) (went_newline e at rest) (λ _ _. refl)
+went_ends_here : {e at : ℕ} {rest : List ℕ} → Went ends_here e (λ v. v ≡ false) rest at (10 ∷ rest)
+went_ends_here = went_mapped (λ _. false) (went_newline) (λ _ _. refl)
 
-pub went_no_more : (e at : ℕ) (rest : List ℕ) → Went more e (λ v. v ≡ false) rest at (10 ∷ rest)
+pub went_no_more : {e at : ℕ} {rest : List ℕ} → Went more e (λ v. v ≡ false) rest at (10 ∷ rest)
 unfolding more
-went_no_more e at rest =
-    let w = went_ends_here e at rest in
+went_no_more {e} {at} {rest} =
+    let w = went_ends_here in
     record {
       value = w.value;
       good = w.good;
@@ -214,9 +211,9 @@ went_no_more e at rest =
 digit_newline : (t : Seen) → AtDigit t → At 10 t → ⊥
 digit_newline t d e = let h : is_digit 10 ≡ true = ap is_digit (sym e) ∙ d in cc
 
-went_behind_gap : (e at n : ℕ) (rest : List ℕ) → IsNumberText n (decimal n) →
+went_behind_gap : {e at n : ℕ} (rest : List ℕ) → IsNumberText n (decimal n) →
     Went behind_gap e (λ v. v ≡ true) (decimal n ++ rest) at (decimal n ++ rest)
-went_behind_gap e at n rest t = record {
+went_behind_gap {e} {at} {n} rest t = record {
   value = true;
   good = refl;
   to = at;
@@ -227,14 +224,13 @@ went_behind_gap e at n rest t = record {
 }
 
 -- a further number comes
-pub went_more : (e at n : ℕ) (rest : List ℕ) → n < 2 ^ 64 → Went more e (λ v. v ≡ true) (decimal n ++ rest) at
+pub went_more : {e at : ℕ} (n : ℕ) (rest : List ℕ) → n < 2 ^ 64 → Went more e (λ v. v ≡ true) (decimal n ++ rest) at
     (32 ∷ decimal n ++ rest)
 unfolding more
-went_more e at n rest small =
+went_more {e} {at} n rest small =
     let t = number_text n small in
-    let w =
-    went_then joint_gap_more (went_space e at (decimal n ++ rest) (digits_no_blank (decimal n) rest t.some t.pass))
-    (λ _ _ to. went_behind_gap e to n rest t) in
+    let w = went_then joint_gap_more (went_space (digits_no_blank (decimal n) rest t.some t.pass))
+    (λ _ _ to. went_behind_gap rest t) in
     record {
       value = w.value;
       good = w.good;

@@ -32,17 +32,17 @@ use Rattle.ps_circuit.proofs.TextLaws.{gate_first, laws_latch_next, laws_latch_e
 use Rattle.ps_circuit.proofs.WentFields.{from, Went, went_then, went_mapped, went_as, went_number, went_word}
 use Rattle.ps_circuit.proofs.WentFields.{went_field, went_end, went_more, went_no_more}
 
-pub went_give : {V : Type 0} (v : V) (e at : ℕ) (rest : List ℕ) → Went (give v) e (λ w. w ≡ v) rest at rest
-went_give v e at rest = record { value = v; good = refl; to = at; reads = reads_give (from e at rest) v }
+pub went_give : {V : Type 0} (v : V) {e at : ℕ} {rest : List ℕ} → Went (give v) e (λ w. w ≡ v) rest at rest
+went_give v {e} {at} {rest} = record { value = v; good = refl; to = at; reads = reads_give (from e at rest) v }
 
 -- ## The first line
 
-went_sections : (e at : ℕ) (rest : List ℕ) → Went (sections 4) e (λ u. u ≡ tt) rest at (10 ∷ rest)
+went_sections : {e at : ℕ} {rest : List ℕ} → Went (sections 4) e (λ u. u ≡ tt) rest at (10 ∷ rest)
 unfolding sections
-went_sections e at rest =
-    went_then (joint_by_more (laws_counted 3 (laws_sections 3)) tt) (went_no_more e at rest) (λ b h to.
+went_sections {e} {rest} =
+    went_then (joint_by_more (laws_counted 3 (laws_sections 3)) tt) (went_no_more) (λ b h to.
     subst (λ z. Went (by_more (then_by (number WrongCount) (λ _. sections 3)) (give tt) z) e (λ u. u ≡ tt) rest to rest)
-    (sym h) (went_give tt e to rest))
+    (sym h) (went_give tt))
 
 abbrev pub field_text : ℕ → List ℕ → List ℕ
 field_text n rest = 32 ∷ (decimal n ++ rest)
@@ -75,46 +75,39 @@ header_data c =
     }
 
 module _ (c : CircuitData) (w : IsWritable c) (e : ℕ) (rest : List ℕ) where
-  went_counts : (m : Number) → m.value ≡ c.most → (at : ℕ) → Went (header_1 m) e (λ h. h ≡ header_data c) rest at
+  went_counts : (m : Number) → m.value ≡ c.most → {at : ℕ} → Went (header_1 m) e (λ h. h ≡ header_data c) rest at
       (counts_text c rest)
-  went_counts m gm at =
+  went_counts m gm =
       went_then (joint (laws_field AnyNumber) (laws_header_2 m) digit_separates)
-      (went_field AnyNumber e at (length c.inputs) (field_text (length c.latches)
-      (field_text (length c.outputs) (field_text (length c.gates) (10 ∷ rest)))) w.inputs (λ f x. x) refl)
-      (λ i gi t2.
+      (went_field AnyNumber (length c.inputs) w.inputs (λ f x. x) refl) (λ i gi t2.
       went_then (joint (laws_field AnyNumber) (laws_header_3 m i) digit_separates)
-      (went_field AnyNumber e t2 (length c.latches) (field_text (length c.outputs)
-      (field_text (length c.gates) (10 ∷ rest))) w.latches (λ f x. x) refl) (λ l gl t3.
+      (went_field AnyNumber (length c.latches) w.latches (λ f x. x) refl) (λ l gl t3.
       went_then (joint (laws_field AnyNumber) (laws_header_4 m i l) digit_separates)
-      (went_field AnyNumber e t3 (length c.outputs) (field_text (length c.gates) (10 ∷ rest)) w.outputs (λ f x. x)
-      refl) (λ o go t4.
+      (went_field AnyNumber (length c.outputs) w.outputs (λ f x. x) refl) (λ o go t4.
       went_then (joint (laws_field AnyNumber) (laws_header_5 m i l o) digit_separates)
-      (went_field AnyNumber e t4 (length c.gates) (10 ∷ rest) w.gates (λ f x. x) refl) (λ a ga t5.
-      went_mapped (header_of m i l o a) (went_sections e t5 rest) (λ u g. counts m i l o a gm gi gl go ga)))))
+      (went_field AnyNumber (length c.gates) w.gates (λ f x. x) refl) (λ a ga t5.
+      went_mapped (header_of m i l o a) (went_sections) (λ u g. counts m i l o a gm gi gl go ga)))))
     where
       counts : (m i l o a : Number) → m.value ≡ c.most → i.value ≡ length c.inputs → l.value ≡ length c.latches →
-          o.value ≡ length c.outputs → a.value ≡ length c.gates →
-          header_of m i l o a tt ≡ header_data c
+          o.value ≡ length c.outputs → a.value ≡ length c.gates → header_of m i l o a tt ≡ header_data c
       counts m i l o a gm gi gl go ga = cc
 
-  went_most : (at : ℕ) → Went header_0 e (λ h. h ≡ header_data c) rest at (field_text c.most (counts_text c rest))
-  went_most at = went_then (joint (laws_field WrongMost) laws_header_1 digit_separates)
-      (went_field WrongMost e at c.most (counts_text c rest) (omega (arith, w.draft.limit))
-      (λ f x. omega (arith, w.draft.limit, x.0)) refl) (λ m gm to. went_counts m gm to)
+  went_most : {at : ℕ} → Went header_0 e (λ h. h ≡ header_data c) rest at (field_text c.most (counts_text c rest))
+  went_most = went_then (joint (laws_field WrongMost) laws_header_1 digit_separates)
+      (went_field WrongMost c.most (omega (arith, w.draft.limit))
+      (λ f x. omega (arith, w.draft.limit, x.0)) refl) (λ m gm to. went_counts m gm)
 
-  pub went_header : (at : ℕ) → Went header e (λ h. h ≡ header_data c) rest at (header_line c ++ rest)
+  pub went_header : {at : ℕ} → Went header e (λ h. h ≡ header_data c) rest at (header_line c ++ rest)
   unfolding header
-  went_header at = subst (λ t. Went header e (λ h. h ≡ header_data c) rest at t) (sym (header_text c rest))
-      (went_then joint_header (went_word (codes "aag") e at (field_text c.most (counts_text c rest)))
-      (λ _ _ to. went_most to))
+  went_header {at} = subst (λ t. Went header e (λ h. h ≡ header_data c) rest at t) (sym (header_text c rest))
+      (went_then joint_header (went_word (codes "aag")) (λ _ _ to. went_most))
 
 -- ## Lines
 
 module _ {C X : Type 0} (item : C → Field C) (laws : (c : C) → Laws Odd (item c) AtDigit Separates ⊥)
     (text : X → List ℕ) (texts : List X → List ℕ)
     (none : texts [] ≡ []) (some : (x : X) (xs : List X) → texts (x ∷ xs) ≡ text x ++ texts xs) (e : ℕ)
-    (Left : List X → C → Type 0)
-    (step : (x : X) (xs : List X) (c : C) → Left (x ∷ xs) c → (at : ℕ) (rest : List ℕ) →
+    (Left : List X → C → Type 0) (step : (x : X) (xs : List X) (c : C) → Left (x ∷ xs) c → (at : ℕ) (rest : List ℕ) →
     Went (item c) e (Left xs) rest at (text x ++ rest)) where
   pub went_lines : (xs : List X) (c : C) → Left xs c → (at : ℕ) (rest : List ℕ) →
       Went (times (length xs) item c) e (Left []) rest at (texts xs ++ rest)
@@ -146,24 +139,24 @@ line_is x xs rest = append_assoc (decimal x ++ fields xs) (10 ∷ []) rest
     ∙ append_assoc (decimal x) (fields xs) (10 ∷ rest) ∙ ap (λ z. decimal x ++ z) (fields_is xs (10 ∷ rest))
 
 module _ (most : ℕ) (e at : ℕ) where
-  pub went_input : (c : Lines ℕ) (x : ℕ) (rest : List ℕ) → x < 2 ^ 64 →
+  pub went_input : (c : Lines ℕ) (x : ℕ) {rest : List ℕ} → x < 2 ^ 64 →
       ((f : AigCause) → WrongDefinition most c.defined x f → ⊥) →
       Went (input_line most c) e (λ d. (l : Number) × (l.value ≡ x) × (d ≡ add_input c l)) rest at
       (decimal x ++ 10 ∷ rest)
   unfolding input_line
-  went_input c x rest small good =
+  went_input c x small good =
       went_then (joint (laws_number (WrongDefinition most c.defined)) (λ l. laws_ended (add_input c l)) digit_separates)
-      (went_number (WrongDefinition most c.defined) e at x (10 ∷ rest) small good refl)
-      (λ l g to. went_mapped (λ _. add_input c l) (went_end e to rest) (λ _ _. (l, g, refl)))
+      (went_number (WrongDefinition most c.defined) x small good refl)
+      (λ l g to. went_mapped (λ _. add_input c l) (went_end) (λ _ _. (l, g, refl)))
 
-  pub went_output : (c : Lines ℕ) (x : ℕ) (rest : List ℕ) → x < 2 ^ 64 → ((f : AigCause) → WrongLiteral most x f → ⊥) →
+  pub went_output : (c : Lines ℕ) (x : ℕ) {rest : List ℕ} → x < 2 ^ 64 → ((f : AigCause) → WrongLiteral most x f → ⊥) →
       Went (output_line most c) e (λ d. (l : Number) × (l.value ≡ x) × (d ≡ add_output c l)) rest at
       (decimal x ++ 10 ∷ rest)
   unfolding output_line
-  went_output c x rest small good =
+  went_output c x small good =
       went_then (joint (laws_number (WrongLiteral most)) (λ l. laws_ended (add_output c l)) digit_separates)
-      (went_number (WrongLiteral most) e at x (10 ∷ rest) small good refl)
-      (λ l g to. went_mapped (λ _. add_output c l) (went_end e to rest) (λ _ _. (l, g, refl)))
+      (went_number (WrongLiteral most) x small good refl)
+      (λ l g to. went_mapped (λ _. add_output c l) (went_end) (λ _ _. (l, g, refl)))
 
 -- what stands behind the next literal of a latch
 abbrev pub reset_text : Bool → List ℕ → List ℕ
@@ -173,20 +166,20 @@ reset_stops : (r : Bool) (rest : List ℕ) → StopsBefore is_digit (reset_text 
 reset_stops true rest = refl
 reset_stops false rest = refl
 
-went_reset : (r : Bool) (latch e at : ℕ) (rest : List ℕ) → 2 ≤ latch →
+went_reset : (r : Bool) (latch : ℕ) {e at : ℕ} {rest : List ℕ} → 2 ≤ latch →
     Went (reset latch) e (λ b. b ≡ r) rest at (reset_text r rest)
 unfolding reset
-went_reset false latch e at rest two =
-    went_then (joint_by_more (laws_reset_value latch) false) (went_no_more e at rest) (λ b h to.
+went_reset false latch {e} {rest} two =
+    went_then (joint_by_more (laws_reset_value latch) false) (went_no_more) (λ b h to.
     subst (λ z. Went (by_more (then_by (number (WrongReset latch)) (λ n. mapped (is_one n) line_end)) (give false) z) e
-    (λ b. b ≡ false) rest to rest) (sym h) (went_give false e to rest))
-went_reset true latch e at rest two =
-    went_then (joint_by_more (laws_reset_value latch) false) (went_more e at 1 (10 ∷ rest) (omega arith)) (λ b h to.
+    (λ b. b ≡ false) rest to rest) (sym h) (went_give false))
+went_reset true latch {e} {rest} two =
+    went_then (joint_by_more (laws_reset_value latch) false) (went_more 1 (10 ∷ rest) (omega arith)) (λ b h to.
     subst (λ z. Went (by_more (then_by (number (WrongReset latch)) (λ n. mapped (is_one n) line_end)) (give false) z) e
     (λ b. b ≡ true) rest to (decimal 1 ++ 10 ∷ rest)) (sym h)
     (went_then (joint (laws_number (WrongReset latch)) (λ n. laws_one_end n) digit_separates)
-    (went_number (WrongReset latch) e to 1 (10 ∷ rest) (omega arith) good refl)
-    (λ n g t. went_mapped (is_one n) (went_end e t rest) (λ _ _. eq-eqb n.value 1 g))))
+    (went_number (WrongReset latch) 1 (omega arith) good refl)
+    (λ n g t. went_mapped (is_one n) (went_end) (λ _ _. eq-eqb n.value 1 g))))
   where
     laws_one_end : (n : Number) → Laws Odd (mapped (is_one n) line_end) Separates Nothing ⊥
     laws_one_end n = laws_mapped (is_one n) line_end laws_line_end
@@ -196,43 +189,41 @@ went_reset true latch e at rest two =
     good f (inr x) = omega (arith, x.0)
 
 module _ (most : ℕ) (e at : ℕ) where
-  pub went_latch : (c : Lines Latch) (x y : ℕ) (r : Bool) (rest : List ℕ) → x < 2 ^ 64 → y < 2 ^ 64 → 2 ≤ x →
+  pub went_latch : (c : Lines Latch) (x y : ℕ) (r : Bool) {rest : List ℕ} → x < 2 ^ 64 → y < 2 ^ 64 → 2 ≤ x →
       ((f : AigCause) → WrongDefinition most c.defined x f → ⊥) → ((f : AigCause) → WrongLiteral most y f → ⊥) →
       Went (latch_line most c) e (λ d. (l n : Number) × (l.value ≡ x) × (n.value ≡ y) × (d ≡ add_latch c l n r)) rest at
       (decimal x ++ field_text y (reset_text r rest))
   unfolding latch_line
-  went_latch c x y r rest small small' two good good' =
+  went_latch c x y r {rest} small small' two good good' =
       went_then {GoodB = λ d. (l n : Number) × (l.value ≡ x) × (n.value ≡ y) × (d ≡ add_latch c l n r)}
       (joint (laws_number (WrongDefinition most c.defined)) (λ l. laws_latch_next most c l) digit_separates)
-      (went_number (WrongDefinition most c.defined) e at x (field_text y (reset_text r rest)) small good refl)
-      (λ l g t1. behind l g t1)
+      (went_number (WrongDefinition most c.defined) x small good refl) (λ l g t1. behind l g t1)
     where
       behind : (l : Number) → l.value ≡ x → (at : ℕ) → Went (latch_next most c l) e
           (λ d. (l n : Number) × (l.value ≡ x) × (n.value ≡ y) × (d ≡ add_latch c l n r)) rest at
           (field_text y (reset_text r rest))
       behind l g at = went_then (joint (laws_field (WrongLiteral most)) (λ n. laws_latch_end c l n) digit_separates)
-          (went_field (WrongLiteral most) e at y (reset_text r rest) small' good' (reset_stops r rest)) (λ n h to.
-          went_mapped (λ b. add_latch c l n b) (went_reset r l.value e to rest (omega (arith, g)))
+          (went_field (WrongLiteral most) y small' good' (reset_stops r rest)) (λ n h to.
+          went_mapped (λ b. add_latch c l n b) (went_reset r l.value (omega (arith, g)))
           (λ b i. (l, n, g, h, ap (λ z. add_latch c l n z) i)))
 
-  pub went_gate : (c : Lines Gate) (x y z : ℕ) (rest : List ℕ) → x < 2 ^ 64 → y < 2 ^ 64 → z < 2 ^ 64 →
+  pub went_gate : (c : Lines Gate) (x y z : ℕ) {rest : List ℕ} → x < 2 ^ 64 → y < 2 ^ 64 → z < 2 ^ 64 →
       ((f : AigCause) → WrongDefinition most c.defined x f → ⊥) → ((f : AigCause) → WrongLiteral most y f → ⊥) →
       ((f : AigCause) → WrongLiteral most z f → ⊥) →
       Went (gate_line most c) e (λ d. (l m n : Number) × (l.value ≡ x) × (m.value ≡ y) × (n.value ≡ z) ×
       (d ≡ add_gate c l m n)) rest at (decimal x ++ field_text y (field_text z (10 ∷ rest)))
   unfolding gate_line
-  went_gate c x y z rest small small' small'' good good' good'' =
+  went_gate c x y z {rest} small small' small'' good good' good'' =
       went_then {GoodB = λ d. (l m n : Number) × (l.value ≡ x) × (m.value ≡ y) × (n.value ≡ z) × (d ≡ add_gate c l m n)}
       (joint (laws_number (WrongDefinition most c.defined)) (λ l. laws_gate_first most c l) digit_separates)
-      (went_number (WrongDefinition most c.defined) e at x (field_text y (field_text z (10 ∷ rest))) small good refl)
-      (λ l g t1. behind l g t1)
+      (went_number (WrongDefinition most c.defined) x small good refl) (λ l g t1. behind l g t1)
     where
       behind : (l : Number) → l.value ≡ x → (at : ℕ) → Went (gate_first most c l) e
           (λ d. (l m n : Number) × (l.value ≡ x) × (m.value ≡ y) × (n.value ≡ z) × (d ≡ add_gate c l m n)) rest at
           (field_text y (field_text z (10 ∷ rest)))
       behind l g at =
           went_then (joint (laws_field (WrongLiteral most)) (λ m. laws_gate_second most c l m) digit_separates)
-          (went_field (WrongLiteral most) e at y (field_text z (10 ∷ rest)) small' good' refl) (λ m h t2.
+          (went_field (WrongLiteral most) y small' good' refl) (λ m h t2.
           went_then (joint (laws_field (WrongLiteral most)) (λ n. laws_ended (add_gate c l m n)) digit_separates)
-          (went_field (WrongLiteral most) e t2 z (10 ∷ rest) small'' good'' refl) (λ n i t3.
-          went_mapped (λ _. add_gate c l m n) (went_end e t3 rest) (λ _ _. (l, m, n, g, h, i, refl))))
+          (went_field (WrongLiteral most) z small'' good'' refl) (λ n i t3.
+          went_mapped (λ _. add_gate c l m n) (went_end) (λ _ _. (l, m, n, g, h, i, refl))))

@@ -30,16 +30,16 @@ use Rattle.ps_circuit.proofs.Runs.{Odd, run_reads}
 use Rattle.ps_circuit.proofs.TextLaws.{letter, laws_byte, laws_number, laws_rest, laws_symbol_space, laws_symbol_name}
 use Rattle.ps_circuit.proofs.TextLaws.{laws_symbol_end, laws_symbol_line, symbol_number, joint_letter, digit_space}
 use Rattle.ps_circuit.proofs.TextLaws.{inner_newline, laws_c_line}
-use Rattle.ps_circuit.proofs.WentFields.{from, Went, went_then, went_mapped, went_as, Some_value, passes}
-use Rattle.ps_circuit.proofs.WentFields.{went_number, went_byte, went_newline}
+use Rattle.ps_circuit.proofs.WentFields.{from, Went, went_then, went_mapped, went_as, Some_value, passes, went_number}
+use Rattle.ps_circuit.proofs.WentFields.{went_byte, went_newline}
 
 abbrev pub letter_of : Kind → ℕ
 letter_of OfInput = 105
 letter_of OfLatch = 108
 letter_of OfOutput = 111
 
-kind_taken : (kind : Kind) (s : Seen) → s.byte ≡ letter_of kind → take_kind s ≡ Some kind
-kind_taken kind s e = by kind (ap (λ (b : ℕ). take_kind (record { byte = b; at = s.at; behind = s.behind })) e)
+kind_taken : {kind : Kind} (s : Seen) → s.byte ≡ letter_of kind → take_kind s ≡ Some kind
+kind_taken {kind} s e = by kind (ap (λ (b : ℕ). take_kind (record { byte = b; at = s.at; behind = s.behind })) e)
   where
     by : (kind : Kind) → take_kind s ≡ take_kind (record { byte = letter_of kind; at = s.at; behind = s.behind }) →
         take_kind s ≡ Some kind
@@ -62,8 +62,7 @@ name_inner (b ∷ name) h = (inner b (All-head (λ b. b ≢ 10) b name h), name_
 
 module _ (names : NamesData) (kind : Kind) (k : ℕ) (small : k < 2 ^ 64)
     (free : slice_get (names_of names kind) k ≡ Some None) (name : List ℕ) (full : 0 < length name)
-    (plain : All (λ b. b ≢ 10) name)
-    (e : ℕ) (rest : List ℕ) where
+    (plain : All (λ b. b ≢ 10) name) (e : ℕ) (rest : List ℕ) where
   abbrev behind_letter : List ℕ
   behind_letter = decimal k ++ 32 ∷ (name ++ 10 ∷ rest)
 
@@ -71,8 +70,7 @@ module _ (names : NamesData) (kind : Kind) (k : ℕ) (small : k < 2 ^ 64)
       { byte = letter_of kind; at = at; behind = behind_letter }) f → ⊥
   not_bad at f b =
       let t = number_text k small in
-      let same : b.kind ≡ kind =
-      same_some b.kind kind (sym b.letter ∙ kind_taken kind (record
+      let same : b.kind ≡ kind = same_some b.kind kind (sym b.letter ∙ kind_taken (record
       { byte = letter_of kind; at = at; behind = behind_letter }) refl) in
       let digits : b.digits ≡ decimal k =
       same_run is_digit b.digits (decimal k) b.number.rest (32 ∷ (name ++ 10 ∷ rest)) (sym b.number.split)
@@ -81,8 +79,8 @@ module _ (names : NamesData) (kind : Kind) (k : ℕ) (small : k < 2 ^ 64)
       ∙ ap (λ z. slice_get (names_of names kind) (decimal_value z)) digits
       ∙ ap (slice_get (names_of names kind)) t.value ∙ free)
 
-  went_letter : (at : ℕ) → Went (letter names) e (λ v. v ≡ kind) behind_letter at (letter_of kind ∷ behind_letter)
-  went_letter at =
+  went_letter : {at : ℕ} → Went (letter names) e (λ v. v ≡ kind) behind_letter at (letter_of kind ∷ behind_letter)
+  went_letter {at} =
       let s : Seen = record { byte = letter_of kind; at = at; behind = behind_letter } in
       record {
         value = kind;
@@ -90,38 +88,36 @@ module _ (names : NamesData) (kind : Kind) (k : ℕ) (small : k < 2 ^ 64)
         to = at + 1;
         reads =
             reads_next take_kind (IsBadSymbol names) (from e at (letter_of kind ∷ behind_letter))
-            (from e (at + 1) behind_letter) s kind refl refl (kind_taken kind s refl) (not_bad at);
+            (from e (at + 1) behind_letter) s kind refl refl (kind_taken s refl) (not_bad at);
       }
 
-  went_rest : (at : ℕ) → Went rest_of_line e (λ v. v ≡ name) (10 ∷ rest) at (name ++ 10 ∷ rest)
+  went_rest : {at : ℕ} → Went rest_of_line e (λ v. v ≡ name) (10 ∷ rest) at (name ++ 10 ∷ rest)
   unfolding rest_of_line
-  went_rest at = record {
+  went_rest {at} = record {
     value = name;
     good = refl;
     to = at + length name;
     reads =
-        run_reads is_inner (λ at bytes. bytes) NoBadRun (from e at (name ++ 10 ∷ rest))
-        (from e (at + length name) (10 ∷ rest)) name name
+        run_reads is_inner (λ at bytes. bytes) NoBadRun
         (passes is_inner e at name (10 ∷ rest) full (name_inner name plain) refl) full (λ f x. x) refl;
   }
 
-  went_number_and_name : (at : ℕ) → Went (symbol_number names kind) e (λ d. d ≡ add_name names kind k name) rest
+  went_number_and_name : {at : ℕ} → Went (symbol_number names kind) e (λ d. d ≡ add_name names kind k name) rest
       at behind_letter
-  went_number_and_name at =
+  went_number_and_name =
       went_then (joint (laws_number AnyNumber) (λ n. laws_symbol_space names kind n) digit_space)
-      (went_number AnyNumber e at k (32 ∷ (name ++ 10 ∷ rest)) small (λ f x. x) refl) (λ n g t1.
-      went_then (joint (laws_byte 32) (λ _. laws_symbol_name names kind n) (λ t x y. x))
-      (went_byte 32 e t1 (name ++ 10 ∷ rest)) (λ _ _ t2.
-      went_then (joint laws_rest (λ m. laws_symbol_end names kind n m) inner_newline) (went_rest t2) (λ m h t3.
-      went_mapped (λ _. add_name names kind n.value m) (went_newline e t3 rest)
+      (went_number AnyNumber k small (λ f x. x) refl) (λ n g t1.
+      went_then (joint (laws_byte 32) (λ _. laws_symbol_name names kind n) (λ t x y. x)) (went_byte 32) (λ _ _ t2.
+      went_then (joint laws_rest (λ m. laws_symbol_end names kind n m) inner_newline) (went_rest) (λ m h t3.
+      went_mapped (λ _. add_name names kind n.value m) (went_newline)
       (λ _ _. ap (λ z. add_name names kind z m) g ∙ ap (λ z. add_name names kind k z) h))))
 
-  pub went_symbol : (at : ℕ) → Went (symbol_line names) e (λ d. d ≡ add_name names kind k name) rest at
+  pub went_symbol : {at : ℕ} → Went (symbol_line names) e (λ d. d ≡ add_name names kind k name) rest at
       (letter_of kind ∷ behind_letter)
   unfolding symbol_line
-  went_symbol at = went_then (joint_letter names) (went_letter at) (λ v h to.
+  went_symbol = went_then (joint_letter names) (went_letter) (λ v h to.
       subst (λ z. Went (symbol_number names z) e (λ d. d ≡ add_name names kind k name) rest to behind_letter) (sym h)
-      (went_number_and_name to))
+      (went_number_and_name))
 
 -- ## Names of one kind
 
@@ -139,19 +135,18 @@ went_many {names} {names'} {e} {at} {text} {mid} {rest} {Good} w next =
       value = n.value;
       good = n.good;
       to = n.to;
-      reads = many_reads symbol_line laws_symbol_line (λ t x y. x)
-          w.reads n.reads;
+      reads = many_reads symbol_line laws_symbol_line (λ t x y. x) w.reads n.reads;
     }
 
-seam_get : (xs ys : List (Option (List ℕ))) (y : Option (List ℕ)) → slice_get (xs ++ y ∷ ys) (length xs) ≡ Some y
-seam_get [] ys y = refl
-seam_get (x ∷ xs) ys y = seam_get xs ys y
+seam_get : (xs ys : List (Option (List ℕ))) {y : Option (List ℕ)} → slice_get (xs ++ y ∷ ys) (length xs) ≡ Some y
+seam_get [] ys = refl
+seam_get (x ∷ xs) ys {y} = seam_get xs ys
 
-put_same : (names : NamesData) (kind : Kind) (list : List (Option (List ℕ))) → names_of names kind ≡ list →
+put_same : {names : NamesData} (kind : Kind) {list : List (Option (List ℕ))} → names_of names kind ≡ list →
     put_names names kind list ≡ names
-put_same names OfInput list e = ap (λ z. put_names names OfInput z) (sym e)
-put_same names OfLatch list e = ap (λ z. put_names names OfLatch z) (sym e)
-put_same names OfOutput list e = ap (λ z. put_names names OfOutput z) (sym e)
+put_same {names} OfInput e = ap (λ z. put_names names OfInput z) (sym e)
+put_same {names} OfLatch e = ap (λ z. put_names names OfLatch z) (sym e)
+put_same {names} OfOutput e = ap (λ z. put_names names OfOutput z) (sym e)
 
 put_again : (names : NamesData) (kind : Kind) (one two : List (Option (List ℕ))) →
     put_names (put_names names kind one) kind two ≡ put_names names kind two
@@ -159,11 +154,11 @@ put_again names OfInput one two = refl
 put_again names OfLatch one two = refl
 put_again names OfOutput one two = refl
 
-put_there : (names : NamesData) (kind : Kind) (list : List (Option (List ℕ))) →
+put_there : (names : NamesData) (kind : Kind) {list : List (Option (List ℕ))} →
     names_of (put_names names kind list) kind ≡ list
-put_there names OfInput list = refl
-put_there names OfLatch list = refl
-put_there names OfOutput list = refl
+put_there names OfInput = refl
+put_there names OfLatch = refl
+put_there names OfOutput = refl
 
 pub went_names : (kind : Kind) (e : ℕ) (Good : NamesData → Type 0) (text rest : List ℕ)
     (ns before : List (Option (List ℕ))) (k : ℕ) (names : NamesData) →
@@ -171,20 +166,19 @@ pub went_names : (kind : Kind) (e : ℕ) (Good : NamesData → Type 0) (text res
     ((to : ℕ) → Went (many symbol_line (put_names names kind (before ++ ns))) e Good rest to text) → (at : ℕ) →
     Went (many symbol_line names) e Good rest at (symbol_lines (letter_of kind) k ns ++ text)
 went_names kind e Good text rest [] before k names free size named small next at =
-    subst (λ z. Went (many symbol_line z) e Good rest at text) (put_same names kind (before ++ []) free) (next at)
+    subst (λ z. Went (many symbol_line z) e Good rest at text) (put_same kind free) (next at)
 went_names kind e Good text rest (None ∷ ns) before k names free size named small next at =
     went_names kind e Good text rest ns (before ++ None ∷ []) (k + 1) names
-    (free ∙ sym (append_assoc before (None ∷ []) (no_names ns)))
-    (omega (arith, size, length-append before (None ∷ [])))
+    (free ∙ sym (append_assoc before (None ∷ []) (no_names ns))) (omega (arith, size, length-append before (None ∷ [])))
     (All-tail IsName None ns named) (omega arith) (λ to. subst
     (λ z. Went (many symbol_line (put_names names kind z)) e Good rest to text)
     (sym (append_assoc before (None ∷ []) ns)) (next to)) at
 went_names kind e Good text rest (Some name ∷ ns) before k names free size named small next at =
     let is_name : IsName (Some name) = All-head IsName (Some name) ns named in
     let there : slice_get (names_of names kind) k ≡ Some None = ap (λ z. slice_get z k) free
-    ∙ ap (slice_get (before ++ None ∷ no_names ns)) (sym size) ∙ seam_get before (no_names ns) None in
+    ∙ ap (slice_get (before ++ None ∷ no_names ns)) (sym size) ∙ seam_get before (no_names ns) in
     let put : names_of (add_name names kind k name) kind ≡ (before ++ Some name ∷ []) ++ no_names ns =
-    put_there names kind (slice_set (names_of names kind) k (Some name)) ∙ ap (λ z. slice_set z k (Some name)) free
+    put_there names kind ∙ ap (λ z. slice_set z k (Some name)) free
     ∙ ap (λ z. slice_set (before ++ None ∷ no_names ns) z (Some name)) (sym size)
     ∙ set-append_seam before None (no_names ns) (Some name) ∙ sym
     (append_assoc before (Some name ∷ []) (no_names ns)) in
@@ -192,29 +186,27 @@ went_names kind e Good text rest (Some name ∷ ns) before k names free size nam
     (symbol_lines (letter_of kind) (k + 1) ns) text ∙ symbol_is kind k name
     (symbol_lines (letter_of kind) (k + 1) ns ++ text))
     (went_many (went_symbol names kind k (omega arith) there name is_name.0 is_name.1 e
-    (symbol_lines (letter_of kind) (k + 1) ns ++ text) at)
+    (symbol_lines (letter_of kind) (k + 1) ns ++ text))
     (went_names kind e Good text rest ns (before ++ Some name ∷ []) (k + 1) (add_name names kind k name) put
-    (omega (arith, size, length-append before (Some name ∷ [])))
-    (All-tail IsName (Some name) ns named) (omega arith)
+    (omega (arith, size, length-append before (Some name ∷ []))) (All-tail IsName (Some name) ns named) (omega arith)
     (λ to. subst (λ z. Went (many symbol_line z) e Good rest to text)
     (sym (put_again names kind (slice_set (names_of names kind) k (Some name)) ((before ++ Some name ∷ []) ++ ns)
     ∙ ap (put_names names kind) (append_assoc before (Some name ∷ []) ns))) (next to))))
 
 -- ## The end
 
-pub went_no_names : (names : NamesData) (e at : ℕ) → Went (many symbol_line names) e (λ d. d ≡ names) [] at []
-went_no_names names e at =
+pub went_no_names : (names : NamesData) {e at : ℕ} → Went (many symbol_line names) e (λ d. d ≡ names) [] at []
+went_no_names names {e} {at} =
     record {
       value = names;
       good = refl;
       to = at;
-      reads = many_ends symbol_line laws_symbol_line (λ t x y. x) names
-          (from e at []) (λ t x a. none_is_some t x);
+      reads = many_ends symbol_line laws_symbol_line (λ t x y. x) names (from e at []) (λ t x a. none_is_some t x);
     }
 
-pub went_no_comment : (e at : ℕ) → Went comment e Some_value [] at []
+pub went_no_comment : {e at : ℕ} → Went comment e Some_value [] at []
 unfolding comment
-went_no_comment e at = record {
+went_no_comment {e} {at} = record {
   value = tt;
   good = tt;
   to = at;

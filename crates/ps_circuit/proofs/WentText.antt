@@ -67,8 +67,7 @@ module _ (c : CircuitData) (w : IsWritable c) (e : ℕ) where
       refl w.draft.latch_names (omega (arith, w.draft.latches_named, w.latches))
       (went_names OfOutput e (λ d. d ≡ all_names) [] [] c.output_names [] 0
       (record { inputs = c.input_names; latches = c.latch_names; outputs = no_names c.output_names }) refl refl
-      w.draft.output_names (omega (arith, w.draft.outputs_named, w.outputs))
-      (λ to. went_no_names all_names e to)))
+      w.draft.output_names (omega (arith, w.draft.outputs_named, w.outputs)) (λ to. went_no_names all_names)))
 
   module _ (i : Lines ℕ) (l : Lines Latch) (o : Lines ℕ) (a : Lines Gate) (ih : InputsLeft c [] i)
       (lh : LatchesLeft c [] l) (oh : OutputsLeft c [] o) (ah : GatesLeft c [] a) where
@@ -96,8 +95,8 @@ module _ (c : CircuitData) (w : IsWritable c) (e : ℕ) where
       output_names = names.outputs;
     }
 
-    draft_is : (names : NamesData) → names ≡ all_names → IsDraftOf c (draft_of c.most i l o a names)
-    draft_is names e = record {
+    draft_is : {names : NamesData} → names ≡ all_names → IsDraftOf c (draft_of c.most i l o a names)
+    draft_is {names} e = record {
       circuit = ap₂ (λ x y. circuit_of x y o.items a.items names) inputs_are latches_are
           ∙ ap₂ (λ x y. circuit_of c.inputs c.latches x y names) outputs_are gates_are
           ∙ ap (λ z. circuit_of c.inputs c.latches c.outputs c.gates z) e;
@@ -118,30 +117,27 @@ module _ (c : CircuitData) (w : IsWritable c) (e : ℕ) where
         none_same o.items c.output_names (ap length outputs_are ∙ sym w.draft.outputs_named) in
         cc (x, y, z)
 
-    went_symbols : (at : ℕ) → Went (symbols c.most i l o a) e (IsDraftOf c) [] at names_text
+    went_symbols : {at : ℕ} → Went (symbols c.most i l o a) e (IsDraftOf c) [] at names_text
     unfolding symbols
-    went_symbols at =
+    went_symbols {at} =
         went_then (joint_symbols c.most i l o a) (subst (λ z. Went (many symbol_line z) e (λ d. d ≡ all_names) [] at
         names_text) (sym first_names_are) (went_all_names at)) (λ names h to.
-        went_mapped (λ _. draft_of c.most i l o a names) (went_no_comment e to) (λ _ _. draft_is names h))
+        went_mapped (λ _. draft_of c.most i l o a names) (went_no_comment) (λ _ _. draft_is h))
 
-  went_body : (at : ℕ) → Went (body (header_data c)) e (IsDraftOf c) [] at
+  went_body : {at : ℕ} → Went (body (header_data c)) e (IsDraftOf c) [] at
       (literal_lines c.inputs ++ (latch_lines c.latches ++ (literal_lines c.outputs ++
       (gate_lines c.gates ++ names_text))))
   unfolding body
-  went_body at =
+  went_body =
       went_then (joint_lines (laws_input_line c.most) (length c.inputs) no_lines (laws_body_latches (header_data c)))
-      (went_inputs c w.draft e at (latch_lines c.latches ++ (literal_lines c.outputs ++
-      (gate_lines c.gates ++ names_text)))) (λ i ih t1.
+      (went_inputs c w.draft e) (λ i ih t1.
       went_then (joint_lines (laws_latch_line c.most) (length c.latches) (next_lines i)
-      (laws_body_outputs (header_data c) i)) (went_latches c w.draft e i ih t1
-      (literal_lines c.outputs ++ (gate_lines c.gates ++ names_text))) (λ l lh t2.
+      (laws_body_outputs (header_data c) i)) (went_latches c w.draft e i ih) (λ l lh t2.
       went_then (joint_lines (laws_output_line c.most) (length c.outputs) (next_lines l)
-      (laws_body_gates (header_data c) i l)) (went_outputs c w.draft e l lh t2 (gate_lines c.gates ++ names_text))
-      (λ o oh t3.
+      (laws_body_gates (header_data c) i l)) (went_outputs c w.draft e l lh) (λ o oh t3.
       went_then (joint_lines (laws_gate_line c.most) (length c.gates) (next_lines o)
-      (laws_behind_gates (header_data c) i l o)) (went_gates c w.draft e o oh t3 names_text) (λ a ah t4.
-      went_symbols i l o a ih lh oh ah t4))))
+      (laws_behind_gates (header_data c) i l o)) (went_gates c w.draft e o oh) (λ a ah t4.
+      went_symbols i l o a ih lh oh ah))))
 
   abbrev body_text : List ℕ
   body_text =
@@ -158,12 +154,12 @@ module _ (c : CircuitData) (w : IsWritable c) (e : ℕ) where
           (a ++ (b ++ (c ++ (d ++ (e ++ (f ++ (g ++ [])))))))
       regroup h a b c d e f g = simp (append_assoc, append-nil)
 
-  went_text : (at : ℕ) → Went circuit_text e (IsDraftOf c) [] at (text_of c)
+  went_text : {at : ℕ} → Went circuit_text e (IsDraftOf c) [] at (text_of c)
   unfolding circuit_text
-  went_text at =
+  went_text {at} =
       subst (λ t. Went circuit_text e (IsDraftOf c) [] at t) (sym text_is)
-      (went_then joint_text (went_header c w e body_text at) (λ h g to.
-      subst (λ z. Went (body z) e (IsDraftOf c) [] to body_text) (sym g) (went_body to)))
+      (went_then joint_text (went_header c w e body_text) (λ h g to.
+      subst (λ z. Went (body z) e (IsDraftOf c) [] to body_text) (sym g) (went_body)))
 
 -- ## The last line is ended
 
@@ -182,18 +178,17 @@ ends_behind (x ∷ z ∷ xs) ys h = ends_behind (z ∷ xs) ys h
 abbrev AreLines : List ℕ → Type 0
 AreLines xs = (xs ≡ []) ⊎ (ends_line xs ≡ true)
 
-ends_more : (xs ys : List ℕ) → ends_line xs ≡ true → AreLines ys → ends_line (xs ++ ys) ≡ true
-ends_more xs ys h (inl e) = ap (λ z. ends_line (xs ++ z)) e ∙ ap ends_line (append-nil xs) ∙ h
-ends_more xs ys h (inr k) = ends_behind xs ys k
+ends_more : (xs : List ℕ) {ys : List ℕ} → ends_line xs ≡ true → AreLines ys → ends_line (xs ++ ys) ≡ true
+ends_more xs h (inl e) = ap (λ z. ends_line (xs ++ z)) e ∙ ap ends_line (append-nil xs) ∙ h
+ends_more xs {ys} h (inr k) = ends_behind xs ys k
 
 literal_lines_end : (xs : List ℕ) → AreLines (literal_lines xs)
 literal_lines_end [] = inl refl
-literal_lines_end (x ∷ xs) =
-    inr (ends_more (line x []) (literal_lines xs) (ends_newline (decimal x ++ [])) (literal_lines_end xs))
+literal_lines_end (x ∷ xs) = inr (ends_more (line x []) (ends_newline (decimal x ++ [])) (literal_lines_end xs))
 
 latch_lines_end : (xs : List Latch) → AreLines (latch_lines xs)
 latch_lines_end [] = inl refl
-latch_lines_end (x ∷ xs) = inr (ends_more (latch_line_of x) (latch_lines xs) (one x.reset) (latch_lines_end xs))
+latch_lines_end (x ∷ xs) = inr (ends_more (latch_line_of x) (one x.reset) (latch_lines_end xs))
   where
     one : (r : Bool) → ends_line (if r then line x.literal (x.next ∷ 1 ∷ []) else line x.literal (x.next ∷ [])) ≡ true
     one true = ends_newline (decimal x.literal ++ fields (x.next ∷ 1 ∷ []))
@@ -202,25 +197,23 @@ latch_lines_end (x ∷ xs) = inr (ends_more (latch_line_of x) (latch_lines xs) (
 gate_lines_end : (xs : List Gate) → AreLines (gate_lines xs)
 gate_lines_end [] = inl refl
 gate_lines_end (x ∷ xs) =
-    inr (ends_more (line x.literal (x.first ∷ x.second ∷ [])) (gate_lines xs)
+    inr (ends_more (line x.literal (x.first ∷ x.second ∷ []))
     (ends_newline (decimal x.literal ++ fields (x.first ∷ x.second ∷ []))) (gate_lines_end xs))
 
 symbol_lines_end : (letter k : ℕ) (ns : List (Option (List ℕ))) → AreLines (symbol_lines letter k ns)
 symbol_lines_end letter k [] = inl refl
 symbol_lines_end letter k (None ∷ ns) = symbol_lines_end letter (k + 1) ns
 symbol_lines_end letter k (Some name ∷ ns) =
-    inr (ends_more (symbol_line_of letter k (Some name)) (symbol_lines letter (k + 1) ns)
+    inr (ends_more (symbol_line_of letter k (Some name))
     (ends_newline ((letter ∷ decimal k) ++ (32 ∷ name))) (symbol_lines_end letter (k + 1) ns))
 
-three_end : (x a b c : List ℕ) → ends_line x ≡ true → AreLines a → AreLines b → AreLines c →
+three_end : (x : List ℕ) {a b c : List ℕ} → ends_line x ≡ true → AreLines a → AreLines b → AreLines c →
     ends_line (((x ++ a) ++ b) ++ c) ≡ true
-three_end x a b c h i j k = ends_more ((x ++ a) ++ b) c (ends_more (x ++ a) b (ends_more x a h i) j) k
+three_end x {a} {b} h i j k = ends_more ((x ++ a) ++ b) (ends_more (x ++ a) (ends_more x h i) j) k
 
 text_ends : (c : CircuitData) → ends_line (text_of c) ≡ true
 text_ends c =
-    three_end lines (symbol_lines 105 0 c.input_names) (symbol_lines 108 0 c.latch_names)
-    (symbol_lines 111 0 c.output_names) lines_end
-    (symbol_lines_end 105 0 c.input_names) (symbol_lines_end 108 0 c.latch_names)
+    three_end lines lines_end (symbol_lines_end 105 0 c.input_names) (symbol_lines_end 108 0 c.latch_names)
     (symbol_lines_end 111 0 c.output_names)
   where
     lines : List ℕ
@@ -236,30 +229,28 @@ text_ends c =
     lines_end : ends_line lines ≡ true
     lines_end =
         ends_more (((header_line c ++ literal_lines c.inputs) ++ latch_lines c.latches) ++ literal_lines c.outputs)
-        (gate_lines c.gates)
-        (three_end (header_line c) (literal_lines c.inputs) (latch_lines c.latches) (literal_lines c.outputs) first
-        (literal_lines_end c.inputs) (latch_lines_end c.latches) (literal_lines_end c.outputs))
-        (gate_lines_end c.gates)
+        (three_end (header_line c) first
+        (literal_lines_end c.inputs) (latch_lines_end c.latches) (literal_lines_end c.outputs)) (gate_lines_end c.gates)
 
 -- ## The circuit is read again
 
-known_numbers : (defined values : List ℕ) (numbers : List Number) → map value_of numbers ≡ values →
+known_numbers : (defined : List ℕ) {values : List ℕ} (numbers : List Number) → map value_of numbers ≡ values →
     All (λ x. (variable x ≡ 0) ⊎ Contains defined (variable x)) values → All (IsDefined defined) numbers
-known_numbers defined values numbers e h k d l =
+known_numbers defined numbers e h k d l =
     subst (λ x. (variable x ≡ 0) ⊎ Contains defined (variable x))
     (ap (λ z. get_or z k (value_of d)) (sym e) ∙ get_or-map value_of numbers k d (value_of d) l)
     (h k (value_of d) (subst (λ z. k < length z) e (omega (arith, l, length-map numbers value_of))))
 
-pub reads_again : (c : CircuitData) → IsCircuit c → length c.inputs < 2 ^ 64 → length c.latches < 2 ^ 64 →
+pub reads_again : {c : CircuitData} → IsCircuit c → length c.inputs < 2 ^ 64 → length c.latches < 2 ^ 64 →
     length c.outputs < 2 ^ 64 → length c.gates < 2 ^ 64 → ReadsCircuit (text_of c) (Ok c)
-reads_again c circuit i l o a =
+reads_again {c} circuit i l o a =
     meaning d answers known (subst (λ (z : CircuitData). (i : ℕ) → Way (ReadsGate z.gates) i i → ⊥) (sym is.circuit)
     circuit.acyclic) (ap Ok (sym is.circuit))
   where
     went : Went circuit_text (length (text_of c)) (IsDraftOf c) [] 0 (text_of c)
     went =
         went_text c (record { draft = circuit.draft; inputs = i; latches = l; outputs = o; gates = a })
-        (length (text_of c)) 0
+        (length (text_of c))
 
     d : DraftData
     d = went.value
@@ -277,6 +268,6 @@ reads_again c circuit i l o a =
 
     known : All (IsDefined d.defined) d.readings
     known =
-        known_numbers d.defined (readings c) d.readings is.readings
+        known_numbers d.defined d.readings is.readings
         (subst (λ z. All (λ x. (variable x ≡ 0) ⊎ Contains z (variable x)) (readings c)) (sym is.defined)
         circuit.draft.known)

@@ -17,28 +17,20 @@ returns-in_err-more t c =
     (sections_more_fails c.args.cursor.now c.args.left _ (omega arith) c.in_err-more.ensures) c.from_residual.ensures.1
 
 pub returns-then-not-branch : goal.returns-then-not-branch
-returns-then-not-branch t c =
-    sections_ended c.args.cursor.now c.more.new.self c.args.left c.in_ok-more.field-0 (omega arith) c.if-not-branch.true
-    c.in_ok-more.ensures
+returns-then-not-branch t c = sections_ended c.args.left (omega arith) c.if-not-branch.true c.in_ok-more.ensures
 
 pub returns-in_err-count : goal.returns-in_err-count
 returns-in_err-count t c = exit (λ u. u) (parts.sections c.args.left) c.args.cursor.now _ _ _
-    (sections_fails c.args.cursor.now c.more.new.self c.args.left c.in_ok-more.field-0 _ (omega arith)
-    c.if-not-branch.false c.in_ok-more.ensures (number_none WrongCount c.more.new.self c.number.new.self _
-    c.in_err-count.ensures))
+    (sections_fails c.args.left _ (omega arith)
+    c.if-not-branch.false c.in_ok-more.ensures (number_none WrongCount c.number.new.self _ c.in_err-count.ensures))
     c.from_residual-in_err-count.ensures.1
 
 pub returns-then-count-ne0 : goal.returns-then-count-ne0
 returns-then-count-ne0 t c =
-    sections_fails c.args.cursor.now c.more.new.self c.args.left c.in_ok-more.field-0 _ (omega arith)
-    c.if-not-branch.false c.in_ok-more.ensures
-    (count_wrong c.more.new.self c.number.new.self c.in_ok-count.count c.refused.result c.in_ok-count.ensures
-    (λ z. omega arith) c.refused.ensures)
+    sections_fails c.args.left _ (omega arith) c.if-not-branch.false c.in_ok-more.ensures
+    (count_wrong c.in_ok-count.ensures (λ z. omega arith) c.refused.ensures)
 
 pub returns : goal.returns
 returns t c =
-    sections_next c.args.cursor.now c.more.new.self c.number.new.self c.sections.new.cursor c.args.left
-    c.in_ok-more.field-0 c.in_ok-count.count c.sections.result (omega arith) c.if-not-branch.false
-    c.in_ok-more.ensures
-    (count_zero c.more.new.self c.number.new.self c.in_ok-count.count c.in_ok-count.ensures (omega arith))
-    c.sections.ensures
+    sections_next c.sections.new.cursor c.args.left c.sections.result (omega arith) c.if-not-branch.false
+    c.in_ok-more.ensures (count_zero c.in_ok-count.ensures (omega arith)) c.sections.ensures

@@ -6,14 +6,12 @@ use Rattle.ps_circuit.proofs.header.most.Goals as goal
 
 pub returns-in_err-most-clause-exact : goal.returns-in_err-most-clause-exact
 returns-in_err-most-clause-exact c =
-    exit (λ n. n) (field WrongMost) c.args.cursor.now _ _ _ (field_none WrongMost c.args.cursor.now c.field.new.cursor _
+    exit (λ n. n) (field WrongMost) c.args.cursor.now _ _ _ (field_none WrongMost c.field.new.cursor _
     c.in_err-most.ensures) c.from_residual.ensures.1
 
 pub returns-then-most-gt-MOST-clause-exact : goal.returns-then-most-gt-MOST-clause-exact
 returns-then-most-gt-MOST-clause-exact c =
-    most_wrong c.args.cursor.now c.field.new.cursor c.in_ok-most.most c.refused.result c.in_ok-most.ensures
-    (omega arith) c.refused.ensures
+    most_wrong c.field.new.cursor c.in_ok-most.most c.in_ok-most.ensures (omega arith) c.refused.ensures
 
 pub returns-clause-exact : goal.returns-clause-exact
-returns-clause-exact c =
-    most_reads c.args.cursor.now c.field.new.cursor c.in_ok-most.most c.in_ok-most.ensures (omega arith)
+returns-clause-exact c = most_reads c.in_ok-most.ensures (omega arith)

@@ -75,9 +75,8 @@ returns-clause-exact c =
     let a = c.in_ok-gates.ensures in (
       header_of m i.0 l.0 o.0 a.0 tt,
       record { most = refl; inputs = i.1; latches = l.1; outputs = o.1; gates = a.1 },
-      header_0_reads c.args.cursor.now _ c.in_ok-first_word.ensures _ _
+      header_0_reads c.args.cursor.now _ c.in_ok-first_word.ensures
           (reads_then joint_1 c.in_ok-most.ensures.exact (reads_then (joint_2 m) i.2
-          (reads_then (joint_3 m i.0) l.2 (reads_then (joint_4 m i.0 l.0) o.2
-          (reads_then (joint_5 m i.0 l.0 o.0) a.2
+          (reads_then (joint_3 m i.0) l.2 (reads_then (joint_4 m i.0 l.0) o.2 (reads_then (joint_5 m i.0 l.0 o.0) a.2
           (reads_mapped (header_of m i.0 l.0 o.0 a.0) c.in_ok-sections.ensures)))))),
     )

@@ -8,7 +8,7 @@ push-requires c = Contains-none c.args.variable c.args.variables.now (sym c.has.
 
 pub returns-clause-new : goal.returns-clause-new
 returns-clause-new c =
-    adds_variable c.args.variables.now c.push.new.self c.args.variable c.in_ok-push.ensures.ok
+    adds_variable c.in_ok-push.ensures.ok
     (Contains-none c.args.variable c.args.variables.now (sym c.has.ensures ∙ c.if-has.false))
 
 pub returns-then-has-clause-twice : goal.returns-then-has-clause-twice

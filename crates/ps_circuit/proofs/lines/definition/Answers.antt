@@ -12,38 +12,34 @@ use Rattle.ps_circuit.proofs.lines.definition.Goals as goal
 pub returns-in_err-number-clause-exact : goal.returns-in_err-number-clause-exact
 returns-in_err-number-clause-exact c =
     let Wrong = WrongDefinition c.args.most c.args.variables.now in
-    exit (λ n. n) (number Wrong) c.args.cursor.now _ _ _ (number_none Wrong c.args.cursor.now c.number.new.self _
+    exit (λ n. n) (number Wrong) c.args.cursor.now _ _ _ (number_none Wrong c.number.new.self _
     c.in_err-number.ensures) c.from_residual.ensures.1
 
 pub returns-then-not-can_define-clause-exact : goal.returns-then-not-can_define-clause-exact
 returns-then-not-can_define-clause-exact c =
-    definition_wrong c.args.most c.args.variables.now c.args.cursor.now c.number.new.self c.in_ok-number.number
-    c.refused.result c.requires c.in_ok-number.ensures
+    definition_wrong c.args.most c.args.variables.now c.requires c.in_ok-number.ensures
     (λ d. let y : true ≡ false = sym (c.can_define.ensures.1 d) ∙ c.if-not-can_define.true in cc) c.refused.ensures
 
 pub returns-in_err-adds-clause-exact : goal.returns-in_err-adds-clause-exact
 returns-in_err-adds-clause-exact c =
-    memory_exit (λ n. n) (number (WrongDefinition c.args.most c.args.variables.now)) c.args.cursor.now _ _ _
+    memory_exit (λ n. n) (number (WrongDefinition c.args.most c.args.variables.now)) c.args.cursor.now _ _
     c.in_err-adds.ensures.memory c.from_residual-in_err-adds.ensures.1
 
 pub returns-then-not-branch-clause-exact : goal.returns-then-not-branch-clause-exact
 returns-then-not-branch-clause-exact c =
-    definition_twice c.args.most c.args.variables.now c.args.cursor.now c.number.new.self c.in_ok-number.number
-    c.refused-then-not-branch.result c.requires c.in_ok-number.ensures
+    definition_twice c.args.most c.args.variables.now c.requires c.in_ok-number.ensures
     (c.can_define.ensures.0 c.if-not-can_define.false) (rw c.variable.ensures at
     (c.adds.ensures.twice (c.in_ok-adds.was ∙ ap Ok c.if-not-branch.true))) c.refused-then-not-branch.ensures
 
 pub returns-clause-exact : goal.returns-clause-exact
 returns-clause-exact c =
-    let adds =
-    at_true c.in_ok-adds.field-0 (AddsVariable c.args.variables.now (variable c.in_ok-number.number.value)
+    let adds = at_true c.in_ok-adds.field-0 (AddsVariable c.args.variables.now (variable c.in_ok-number.number.value)
     c.adds.new.variables) c.if-not-branch.false (rw c.variable.ensures at c.in_ok-adds.ensures.new) in
-    definition_reads c.args.most c.args.variables.now c.adds.new.variables c.args.cursor.now c.number.new.self
-    c.in_ok-number.number c.requires c.in_ok-number.ensures (c.can_define.ensures.0 c.if-not-can_define.false) adds
+    definition_reads c.args.most c.requires c.in_ok-number.ensures
+    (c.can_define.ensures.0 c.if-not-can_define.false) adds
 
 pub returns-clause-defined : goal.returns-clause-defined
 returns-clause-defined c =
-    let adds =
-    at_true c.in_ok-adds.field-0 (AddsVariable c.args.variables.now (variable c.in_ok-number.number.value)
+    let adds = at_true c.in_ok-adds.field-0 (AddsVariable c.args.variables.now (variable c.in_ok-number.number.value)
     c.adds.new.variables) c.if-not-branch.false (rw c.variable.ensures at c.in_ok-adds.ensures.new) in
-    defines_one c.args.most c.in_ok-number.number.value _ _ (c.can_define.ensures.0 c.if-not-can_define.false) adds
+    defines_one c.in_ok-number.number.value (c.can_define.ensures.0 c.if-not-can_define.false) adds

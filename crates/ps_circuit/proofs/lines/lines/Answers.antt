@@ -8,27 +8,25 @@ use Rattle.ps_circuit.proofs.lines.lines.Goals as goal
 pub loop-init : goal.loop-init
 loop-init g c =
     lining_from (g.L.Line.part c.args.most) (g.L.Line.adds c.args.most) c.requires.row c.args.count c.args.cursor.now
-    (lines_of [] c.args.noted.now) _
-    (ap (λ xs. lines_of xs c.args.noted.now) (sym c.new-items.ensures.items))
+    (lines_of [] c.args.noted.now) (ap (λ xs. lines_of xs c.args.noted.now) (sym c.new-items.ensures.items))
 
 pub loop-preserved : goal.loop-preserved
 loop-preserved g c =
     lining_next (g.L.Line.part c.args.most) (g.L.Line.adds c.args.most) c.requires.row c.args.count c.args.cursor.now
-    (lines_of [] c.args.noted.now) c.loop.counter c.loop.cursor c.read.new.cursor _ _
+    (lines_of [] c.args.noted.now)
     c.loop-test.true c.loop.invariant c.in_ok-read.ensures.exact c.in_ok-read.ensures.adds
 
 pub returns-in_err-read-clause-exact : goal.returns-in_err-read-clause-exact
 returns-in_err-read-clause-exact g c = λ n k short.
     exit _ (times n (g.L.Line.part c.args.most) (lines_of [] c.args.noted.now)) c.args.cursor.now _ _ _
     (lining_fails (g.L.Line.part c.args.most) (g.L.Line.adds c.args.most) c.requires.row c.args.count c.args.cursor.now
-    (lines_of [] c.args.noted.now) c.loop.counter c.loop.cursor _ _ c.loop-test.true
+    (lines_of [] c.args.noted.now) _ c.loop-test.true
     c.loop.invariant c.in_err-read.ensures.exact n k) c.from_residual.ensures.1
 
 pub returns-clause-exact : goal.returns-clause-exact
 returns-clause-exact g c = λ n k short.
     lining_ends (g.L.Line.part c.args.most) (g.L.Line.adds c.args.most) c.requires.row c.args.count c.args.cursor.now
-    (lines_of [] c.args.noted.now) c.loop.counter c.loop.cursor _ c.loop-test.false
-    c.loop.invariant n k short
+    (lines_of [] c.args.noted.now) c.loop-test.false c.loop.invariant n k short
 
 pub returns-clause-grown : goal.returns-clause-grown
 returns-clause-grown g c = c.loop.invariant.grown

@@ -2,4 +2,4 @@ use Rattle.ps_circuit.proofs.LinksLemmas.{links-by_variables}
 use Rattle.ps_circuit.proofs.links.links_of.Goals as goal
 
 pub returns : goal.returns
-returns c = links-by_variables c.args.gates.now _ _ c.requires.once c.in_ok-variables.ensures c.in_ok-links.ensures
+returns c = links-by_variables c.requires.once c.in_ok-variables.ensures c.in_ok-links.ensures

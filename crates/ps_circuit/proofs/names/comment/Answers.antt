@@ -3,9 +3,9 @@ use Rattle.ps_circuit.proofs.SymbolLemmas.{comment_none, comment_reads}
 use Rattle.ps_circuit.proofs.names.comment.Goals as goal
 
 pub returns-in-None : goal.returns-in-None
-returns-in-None c = comment_none c.args.cursor.now (sym c.peek.ensures ∙ c.in-None.is)
+returns-in-None c = comment_none (sym c.peek.ensures ∙ c.in-None.is)
 
 pub returns-in-Some-eq99 : goal.returns-in-Some-eq99
 returns-in-Some-eq99 c =
-    comment_reads c.args.cursor.now c.finish.new.self (sym c.peek.ensures ∙ c.in-Some-eq99.is
+    comment_reads (sym c.peek.ensures ∙ c.in-Some-eq99.is
     ∙ ap Some c.in-Some-eq99.field-0-test) c.finish.ensures.pieces c.finish.ensures.end

@@ -8,34 +8,31 @@ use Rattle.ps_circuit.proofs.SymbolLemmas.{end_fails, symbol_reads, named_is, pl
 use Rattle.ps_circuit.proofs.names.name_line.Goals as goal
 
 pub returns-in_err-number-clause-exact : goal.returns-in_err-number-clause-exact
-returns-in_err-number-clause-exact c = λ all kind t same next is.
-    exit _ (parts.symbol_line all) c.args.cursor.now _ _ _
+returns-in_err-number-clause-exact c = λ all kind t same next is. exit _ (parts.symbol_line all) c.args.cursor.now _ _ _
     (symbol_number_fails all kind t c.args.cursor.now c.step.new.self c.step.ensures.ahead next is c.step.ensures.next
     c.number.new.self _ c.in_err-number.ensures) c.from_residual.ensures.1
 
 pub returns-then-not-is_free-clause-exact : goal.returns-then-not-is_free-clause-exact
 returns-then-not-is_free-clause-exact c = λ all kind t same next is.
     letter_stops all kind t c.args.cursor.now c.step.new.self c.step.ensures.ahead next is c.step.ensures.next
-    c.number.new.self c.in_ok-number.number c.refusal-refusal.result c.in_ok-number.ensures
-    (short_names _ c.args.names.now.items same c.is_free.ensures.small)
+    c.in_ok-number.ensures
+    (short_names c.args.names.now.items same c.is_free.ensures.small)
     (λ e. c.is_free.ensures.taken c.if-not-is_free.true (ap (λ xs. slice_get xs c.in_ok-number.number.value)
     (sym same) ∙ e)) c.refusal-refusal.ensures
 
 pub returns-in_err-byte-clause-exact : goal.returns-in_err-byte-clause-exact
-returns-in_err-byte-clause-exact c = λ all kind t same next is.
-    exit _ (parts.symbol_line all) c.args.cursor.now _ _ _
+returns-in_err-byte-clause-exact c = λ all kind t same next is. exit _ (parts.symbol_line all) c.args.cursor.now _ _ _
     (space_fails all kind t c.args.cursor.now c.step.new.self c.step.ensures.ahead next is c.step.ensures.next
     c.number.new.self c.in_ok-number.number c.in_ok-number.ensures
-    (short_names _ c.args.names.now.items same c.is_free.ensures.small)
+    (short_names c.args.names.now.items same c.is_free.ensures.small)
     (ap (λ xs. slice_get xs c.in_ok-number.number.value) same ∙ c.is_free.ensures.free c.if-not-is_free.false) _
     c.in_err-byte.ensures) c.from_residual-in_err-byte.ensures.1
 
 pub returns-in_err-name-clause-exact : goal.returns-in_err-name-clause-exact
-returns-in_err-name-clause-exact c = λ all kind t same next is.
-    exit _ (parts.symbol_line all) c.args.cursor.now _ _ _
+returns-in_err-name-clause-exact c = λ all kind t same next is. exit _ (parts.symbol_line all) c.args.cursor.now _ _ _
     (name_fails all kind t c.args.cursor.now c.step.new.self c.step.ensures.ahead next is c.step.ensures.next
     c.number.new.self c.in_ok-number.number c.in_ok-number.ensures
-    (short_names _ c.args.names.now.items same c.is_free.ensures.small)
+    (short_names c.args.names.now.items same c.is_free.ensures.small)
     (ap (λ xs. slice_get xs c.in_ok-number.number.value) same ∙ c.is_free.ensures.free c.if-not-is_free.false)
     c.byte.new.self c.in_ok-byte.ensures _ c.in_err-name.ensures) c.from_residual-in_err-name.ensures.1
 
@@ -44,7 +41,7 @@ returns-in_err-newline-clause-exact c = λ all kind t same next is.
     exit _ (parts.symbol_line all) c.args.cursor.now _ _ _
     (end_fails all kind t c.args.cursor.now c.step.new.self c.step.ensures.ahead next is c.step.ensures.next
     c.number.new.self c.in_ok-number.number c.in_ok-number.ensures
-    (short_names _ c.args.names.now.items same c.is_free.ensures.small)
+    (short_names c.args.names.now.items same c.is_free.ensures.small)
     (ap (λ xs. slice_get xs c.in_ok-number.number.value) same ∙ c.is_free.ensures.free c.if-not-is_free.false)
     c.byte.new.self c.in_ok-byte.ensures c.rest_of_line.new.self c.in_ok-name.name.now c.in_ok-name.ensures _
     c.in_err-newline.ensures) c.from_residual-in_err-newline.ensures.1
@@ -53,15 +50,15 @@ pub returns-clause-exact : goal.returns-clause-exact
 returns-clause-exact c = λ all kind t same next is.
     symbol_reads all kind t c.args.cursor.now c.step.new.self c.step.ensures.ahead next is c.step.ensures.next
     c.number.new.self c.in_ok-number.number c.in_ok-number.ensures
-    (short_names _ c.args.names.now.items same c.is_free.ensures.small)
+    (short_names c.args.names.now.items same c.is_free.ensures.small)
     (ap (λ xs. slice_get xs c.in_ok-number.number.value) same ∙ c.is_free.ensures.free c.if-not-is_free.false)
     c.byte.new.self c.in_ok-byte.ensures c.rest_of_line.new.self c.in_ok-name.name.now c.in_ok-name.ensures
-    c.newline.new.self _ c.in_ok-newline.ensures
-    (named_is all kind c.args.names.now.items _ c.in_ok-number.number.value c.in_ok-to_vec.field-0 c.in_ok-name.name.now
+    c.in_ok-newline.ensures
+    (named_is all kind c.args.names.now.items c.in_ok-number.number.value c.in_ok-to_vec.field-0
     same refl (c.in_ok-to_vec.ensures.items_if_clones_equal (λ x y h. h)))
 
 pub returns-clause-names : goal.returns-clause-names
 returns-clause-names c =
-    let plain = plain_name c.byte.new.self c.rest_of_line.new.self c.in_ok-name.name.now c.in_ok-name.ensures in
-    name_set c.args.names.now.items c.in_ok-number.number.value c.in_ok-name.name.now c.in_ok-to_vec.field-0 c.requires
+    let plain = plain_name c.in_ok-name.ensures in
+    name_set c.args.names.now.items c.in_ok-number.number.value c.in_ok-to_vec.field-0 c.requires
     (c.in_ok-to_vec.ensures.items_if_clones_equal (λ x y h. h)) plain.0 plain.1

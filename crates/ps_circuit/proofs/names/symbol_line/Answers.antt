@@ -6,22 +6,22 @@ use Rattle.ps_circuit.proofs.names.symbol_line.Goals as goal
 
 pub returns-then-comes-clause-exact : goal.returns-then-comes-clause-exact
 returns-then-comes-clause-exact c =
-    let t = letter_is c.args.cursor.now 105 OfInput (c.comes.ensures.0 c.if-comes.true) refl in
+    let t = letter_is c.args.cursor.now (c.comes.ensures.0 c.if-comes.true) refl in
     c.name_line.ensures.exact (names_data c.args.names.now) OfInput t.0 refl t.1 t.2
 
 pub returns-then-comes-2-clause-exact : goal.returns-then-comes-2-clause-exact
 returns-then-comes-2-clause-exact c =
-    let t = letter_is c.args.cursor.now 108 OfLatch (c.comes-2.ensures.0 c.if-comes-2.true) refl in
+    let t = letter_is c.args.cursor.now (c.comes-2.ensures.0 c.if-comes-2.true) refl in
     c.name_line-then-comes-2.ensures.exact (names_data c.args.names.now) OfLatch t.0 refl t.1 t.2
 
 pub returns-then-comes-3-clause-exact : goal.returns-then-comes-3-clause-exact
 returns-then-comes-3-clause-exact c =
-    let t = letter_is c.args.cursor.now 111 OfOutput (c.comes-3.ensures.0 c.if-comes-3.true) refl in
+    let t = letter_is c.args.cursor.now (c.comes-3.ensures.0 c.if-comes-3.true) refl in
     c.name_line-then-comes-3.ensures.exact (names_data c.args.names.now) OfOutput t.0 refl t.1 t.2
 
 pub returns-clause-exact : goal.returns-clause-exact
 returns-clause-exact c =
-    symbol_refused (names_data c.args.names.now) c.args.cursor.now c.refusal.result
+    symbol_refused (names_data c.args.names.now) c.args.cursor.now
     (λ e. let y : true ≡ false = sym (c.comes.ensures.1 e) ∙ c.if-comes.false in cc)
     (λ e. let y : true ≡ false = sym (c.comes-2.ensures.1 e) ∙ c.if-comes-2.false in cc)
     (λ e. let y : true ≡ false = sym (c.comes-3.ensures.1 e) ∙ c.if-comes-3.false in cc) c.refusal.ensures

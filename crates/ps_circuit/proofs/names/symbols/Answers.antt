@@ -7,9 +7,7 @@ use Rattle.ps_circuit.proofs.SymbolLemmas.{symbol_shrinks, names_next, names_fai
 use Rattle.ps_circuit.proofs.names.symbols.Goals as goal
 
 pub more-smaller : goal.more-smaller
-more-smaller c =
-    symbol_shrinks (names_data c.more.names) (names_data c.symbol_line.new.names) c.more.cursor c.symbol_line.new.cursor
-    c.in_ok-symbol_line.ensures.exact
+more-smaller c = symbol_shrinks (names_data c.more.names) c.in_ok-symbol_line.ensures.exact
 
 pub more-preserved : goal.more-preserved
 more-preserved c =
@@ -25,8 +23,7 @@ more-preserved c =
         outputs_named = n.outputs_named;
       };
       carries =
-          names_next (names_data c.args.names.now) (names_data c.more.names) (names_data c.symbol_line.new.names)
-          c.args.cursor.now c.more.cursor c.symbol_line.new.cursor c.more.invariant.carries
+          names_next (names_data c.args.names.now) (names_data c.more.names) c.args.cursor.now c.more.invariant.carries
           c.in_ok-symbol_line.ensures.exact;
     }
 
@@ -39,5 +36,5 @@ returns-in_err-symbol_line-clause-exact c =
 
 pub returns-clause-exact : goal.returns-clause-exact
 returns-clause-exact c =
-    c.more.invariant.carries (Ok _) c.more.cursor (names_end (names_data c.more.names) c.more.cursor
+    c.more.invariant.carries (Ok _) c.more.cursor (names_end
     (sym (ap is_kind c.peek.ensures) ∙ sym c.is_letter.ensures ∙ c.more-test.false))

@@ -32,7 +32,7 @@ returns-then-not-is_defined c =
     IsFirstUndefined keys fs x) same (
       get_or now c.loop-number.number-index origin,
       c.refused.ensures,
-      first_undefined keys now c.loop-number.number-index origin c.loop-number-test.true inv
+      first_undefined c.loop-number.number-index origin c.loop-number-test.true inv
           (rw c.variable.ensures at (c.is_defined.ensures.not_defined c.if-not-is_defined.true)),
     )
 

@@ -5,10 +5,10 @@ use Rattle.ps_circuit.proofs.reader.assembled.Goals as goal
 pub cyclic-requires : goal.cyclic-requires
 cyclic-requires c =
     let first = c.new.ensures.cyclic c.in-Err-Cyclic.gate (cc) in
-    omega (arith, way_within c.args.parts.gates.items _ _ first.cyclic, c.requires.starts)
+    omega (arith, way_within c.args.parts.gates.items first.cyclic, c.requires.starts)
 
 pub returns-in-Err-Cyclic-clause-cyclic : goal.returns-in-Err-Cyclic-clause-cyclic
 returns-in-Err-Cyclic-clause-cyclic c = λ e h.
     let first = c.new.ensures.cyclic c.in-Err-Cyclic.gate (cc) in
-    cyclic_tells c.args.parts.gates.items c.args.starts.now c.in-Err-Cyclic.gate c.cyclic.result e first
-    (omega (arith, way_within c.args.parts.gates.items _ _ first.cyclic, c.requires.starts)) c.cyclic.ensures cc
+    cyclic_tells c.args.parts.gates.items c.args.starts.now first
+    (omega (arith, way_within c.args.parts.gates.items first.cyclic, c.requires.starts)) c.cyclic.ensures cc

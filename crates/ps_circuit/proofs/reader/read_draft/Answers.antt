@@ -3,15 +3,14 @@ use Rattle.ps_circuit.specs.declared.parts.Gate.{Gate}
 use Rattle.ps_circuit.specs.declared.parts.Latch.{Latch}
 use Rattle.ps_circuit.specs.Names.{names_data}
 use Rattle.ps_circuit.specs.Reading.{lines_of, AddsInput, Grown}
-use Rattle.ps_circuit.specs.Texts.{Lines, input_line, latch_line, output_line, gate_line}
-use Rattle.ps_circuit.specs.Texts.{symbols, HeaderData}
+use Rattle.ps_circuit.specs.Texts.{Lines, input_line, latch_line, output_line, gate_line, symbols, HeaderData}
 use Rattle.ps_circuit.proofs.TextLaws.{laws_input_line, laws_latch_line, laws_output_line, laws_gate_line, body_latches}
 use Rattle.ps_circuit.proofs.TextLaws.{body_outputs, body_gates, first_names}
 use Rattle.ps_circuit.proofs.LineLemmas.{is_row}
 use Rattle.ps_circuit.proofs.DraftReading.{Reached, numbers, past_header, past_lines, joint_inputs, joint_latches}
 use Rattle.ps_circuit.proofs.DraftReading.{joint_outputs, joint_gates, header_fails, lines_exit, symbols_fail}
-use Rattle.ps_circuit.proofs.DraftReading.{all_reads, draft_fails, draft_memory, draft_trails, draft_reads}
-use Rattle.ps_circuit.proofs.DraftReading.{none_named, body_inputs}
+use Rattle.ps_circuit.proofs.DraftReading.{all_reads, draft_fails, draft_memory, draft_trails, draft_reads, none_named}
+use Rattle.ps_circuit.proofs.DraftReading.{body_inputs}
 use Rattle.ps_circuit.proofs.DraftLemmas.{each_named, sound_draft}
 use Rattle.ps_circuit.proofs.reader.read_draft.Goals as goal
 use Rattle.ps_circuit.proofs.reader.read_draft.Goals.{After-lines, After-lines-2, After-lines-3, After-lines-4}
@@ -55,29 +54,28 @@ behind_inputs : (c : After-lines-2) →
 behind_inputs c =
     let h = header_of (one c) in
     past_lines (input_line h.most) h.inputs (joint_inputs h) c.in_ok-header.ensures.exact.1.inputs
-    c.nothing-noted.ensures (behind_header (one c)) (inputs_of c) _ c.in_ok-inputs.ensures.exact
+    c.nothing-noted.ensures (behind_header (one c)) (inputs_of c) c.in_ok-inputs.ensures.exact
 
 behind_latches : (c : After-lines-3) → Reached c.new-cursor.result c.lines-2.new.cursor
     (body_outputs (header_of (one (two c))) (inputs_of (two c)) (latches_of c))
 behind_latches c =
     let h = header_of (one (two c)) in
     past_lines (latch_line h.most) h.latches (joint_latches h (inputs_of (two c)))
-    c.in_ok-header.ensures.exact.1.latches refl (behind_inputs (two c)) (latches_of c) _ c.in_ok-latches.ensures.exact
+    c.in_ok-header.ensures.exact.1.latches refl (behind_inputs (two c)) (latches_of c) c.in_ok-latches.ensures.exact
 
 behind_outputs : (c : After-lines-4) → let b = two (three c) in Reached c.new-cursor.result c.lines-3.new.cursor
     (body_gates (header_of (one b)) (inputs_of b) (latches_of (three c)) (outputs_of c))
 behind_outputs c =
     let b = two (three c) in let h = header_of (one b) in
     past_lines (output_line h.most) h.outputs (joint_outputs h (inputs_of b) (latches_of (three c)))
-    c.in_ok-header.ensures.exact.1.outputs refl (behind_latches (three c)) (outputs_of c) _
-    c.in_ok-outputs.ensures.exact
+    c.in_ok-header.ensures.exact.1.outputs refl (behind_latches (three c)) (outputs_of c) c.in_ok-outputs.ensures.exact
 
 behind_gates : (c : After-symbols) → let b = two (three (four c)) in Reached c.new-cursor.result c.lines-4.new.cursor
     (symbols (header_of (one b)).most (inputs_of b) (latches_of (three (four c))) (outputs_of (four c)) (gates_of c))
 behind_gates c =
     let b = two (three (four c)) in let h = header_of (one b) in
     past_lines (gate_line h.most) h.gates (joint_gates h (inputs_of b) (latches_of (three (four c))) (outputs_of
-    (four c))) c.in_ok-header.ensures.exact.1.gates refl (behind_outputs (four c)) (gates_of c) _
+    (four c))) c.in_ok-header.ensures.exact.1.gates refl (behind_outputs (four c)) (gates_of c)
     c.in_ok-gates.ensures.exact
 
 none_yet : (c : After-symbols) → let b = two (three (four c)) in names_data c.in_ok-names.names ≡ first_names
@@ -85,7 +83,7 @@ none_yet : (c : After-symbols) → let b = two (three (four c)) in names_data c.
 none_yet c =
     let b = two (three (four c)) in
     none_named c.in_ok-header.header.most (inputs_of b) (latches_of (three (four c))) (outputs_of (four c)) (gates_of c)
-    (names_data c.in_ok-names.names) c.len.result c.len-2.result c.len-3.result c.in_ok-names.ensures.none
+    c.in_ok-names.ensures.none
     (omega (arith, c.len.ensures, c.in_ok-inputs.inputs.ok.0))
     (omega (arith, c.len-2.ensures, c.in_ok-latches.latches.ok.0))
     (omega (arith, c.len-3.ensures, c.in_ok-outputs.outputs.ok.0))
@@ -94,7 +92,7 @@ none_yet c =
 
 pub returns-in_err-header-clause-exact : goal.returns-in_err-header-clause-exact
 returns-in_err-header-clause-exact c =
-    draft_fails c.args.text.now c.new-cursor.result _ _ c.new-cursor.ensures.stream
+    draft_fails c.args.text.now _ _ c.new-cursor.ensures.stream
     (header_fails c.new-cursor.result _ c.in_err-header.ensures.exact) c.from_residual.ensures.1
 
 pub returns-in_err-inputs-clause-exact : goal.returns-in_err-inputs-clause-exact
@@ -115,8 +113,7 @@ pub returns-in_err-outputs-clause-exact : goal.returns-in_err-outputs-clause-exa
 returns-in_err-outputs-clause-exact c =
     let b = (goal.at.returns-in_err-outputs-clause-exact c).After-lines-3 in let h = header_of (one (two b)) in
     lines_exit (output_line h.most) h.outputs (joint_outputs h (inputs_of (two b)) (latches_of b))
-    c.in_ok-header.ensures.exact.1.outputs
-    refl (behind_latches b) c.args.text.now _ _ c.new-cursor.ensures.stream
+    c.in_ok-header.ensures.exact.1.outputs refl (behind_latches b) c.args.text.now _ _ c.new-cursor.ensures.stream
     c.in_err-outputs.ensures.exact c.from_residual-in_err-outputs.ensures.1
 
 pub returns-in_err-gates-clause-exact : goal.returns-in_err-gates-clause-exact
@@ -129,12 +126,12 @@ returns-in_err-gates-clause-exact c =
 
 pub returns-in_err-names-clause-exact : goal.returns-in_err-names-clause-exact
 returns-in_err-names-clause-exact c =
-    draft_memory c.args.text.now _ _ c.in_err-names.ensures.memory c.from_residual-in_err-names.ensures.1
+    draft_memory c.args.text.now _ c.in_err-names.ensures.memory c.from_residual-in_err-names.ensures.1
 
 pub returns-in_err-symbols-clause-exact : goal.returns-in_err-symbols-clause-exact
 returns-in_err-symbols-clause-exact c =
     let b = (goal.at.returns-in_err-symbols-clause-exact c).After-symbols in
-    draft_fails c.args.text.now c.new-cursor.result _ _ c.new-cursor.ensures.stream
+    draft_fails c.args.text.now _ _ c.new-cursor.ensures.stream
     (symbols_fail _ _ _ _ _ (behind_gates b) (none_yet b) _ c.in_err-symbols.ensures.exact)
     c.from_residual-in_err-symbols.ensures.1
 
@@ -157,8 +154,7 @@ returns-clause-sound c =
     let most = c.in_ok-header.header.most in
     let n = c.in_ok-symbols.ensures.named in
     let k = c.in_ok-names.ensures.names in
-    sound_draft most (inputs_of d) (latches_of (three (four b))) (outputs_of (four b)) (gates_of b)
-    (names_data c.symbols.new.names) c.in_ok-header.ensures.small
+    sound_draft most (names_data c.symbols.new.names) c.in_ok-header.ensures.small
     (subst (λ (x : Lines ℕ). Grown (AddsInput most) x (inputs_of d)) c.nothing-noted.ensures
     c.in_ok-inputs.ensures.grown)
     c.in_ok-latches.ensures.grown c.in_ok-outputs.ensures.grown c.in_ok-gates.ensures.grown
@@ -168,13 +164,13 @@ returns-clause-sound c =
     n.inputs_named n.latches_named n.outputs_named
 
 pub lines-requires-clause-row : goal.lines-requires-clause-row
-lines-requires-clause-row c = is_row _ (laws_input_line c.in_ok-header.header.most)
+lines-requires-clause-row c = is_row (laws_input_line c.in_ok-header.header.most)
 
 pub lines-requires-2-clause-row : goal.lines-requires-2-clause-row
-lines-requires-2-clause-row c = is_row _ (laws_latch_line c.in_ok-header.header.most)
+lines-requires-2-clause-row c = is_row (laws_latch_line c.in_ok-header.header.most)
 
 pub lines-requires-3-clause-row : goal.lines-requires-3-clause-row
-lines-requires-3-clause-row c = is_row _ (laws_output_line c.in_ok-header.header.most)
+lines-requires-3-clause-row c = is_row (laws_output_line c.in_ok-header.header.most)
 
 pub lines-requires-4-clause-row : goal.lines-requires-4-clause-row
-lines-requires-4-clause-row c = is_row _ (laws_gate_line c.in_ok-header.header.most)
+lines-requires-4-clause-row c = is_row (laws_gate_line c.in_ok-header.header.most)

@@ -11,8 +11,7 @@ returns-clause-read_again c =
     let l : length c.latches.result.now < 2 ^ 64 = search rules in
     let o : length c.outputs.result.now < 2 ^ 64 = search rules in
     let g : length c.gates.result.now < 2 ^ 64 = search rules in
-    subst (λ z. ReadsCircuit z (Ok c.args.circuit.now)) (sym bytes)
-    (reads_again c.args.circuit.now c.inputs.ensures.well_formed
+    subst (λ z. ReadsCircuit z (Ok c.args.circuit.now)) (sym bytes) (reads_again c.inputs.ensures.well_formed
     (subst (λ z. length z < 2 ^ 64) c.inputs.ensures.inputs i)
     (subst (λ z. length z < 2 ^ 64) c.latches.ensures.latches l)
     (subst (λ z. length z < 2 ^ 64) c.outputs.ensures.outputs o)

@@ -5,5 +5,4 @@ pub returns-then-gt-clause-needed : goal.returns-then-gt-clause-needed
 returns-then-gt-clause-needed c e = c.gate.ensures.needed e
 
 pub returns-else-gt-clause-needed : goal.returns-else-gt-clause-needed
-returns-else-gt-clause-needed c e =
-    needs-turned c.gate-else-gt.new.self c.args.y c.args.x (c.gate-else-gt.ensures.needed e)
+returns-else-gt-clause-needed c e = needs-turned (c.gate-else-gt.ensures.needed e)

@@ -20,7 +20,7 @@ returns-clause-bit c =
     IfOk-weaker c.or.result _ _ (λ literal h v m.
     let there = meets-extends c.and-2.new.self c.or.new.self c.or.ensures.extends v m in
     let before = meets-extends c.and.new.self c.and-2.new.self c.and-2.ensures.extends v there in
-    chosen_bits v c.args.s c.args.high c.args.low c.negated.result c.in_ok-where_true.where_true
+    chosen_bits v c.args.s c.args.high c.args.low c.in_ok-where_true.where_true
     c.in_ok-where_false.where_false literal c.negated.ensures (c.in_ok-where_true.ensures.bit v before)
     (c.in_ok-where_false.ensures.bit v there) (h v m)) c.or.ensures.bit
 
@@ -36,7 +36,7 @@ returns-in_err-where_true-clause-above c e =
 pub returns-in_err-where_false-clause-above : goal.returns-in_err-where_false-clause-above
 returns-in_err-where_false-clause-above c e =
     above-second c.args.self.now c.and.new.self c.args.s c.args.high c.args.low c.in_ok-where_true.where_true
-    c.negated.result c.in_ok-where_true.ensures.made c.negated.ensures
+    c.in_ok-where_true.ensures.made c.negated.ensures
     (c.and-2.ensures.above (c.in_err-where_false.was ∙ ap (λ f. Err f)
     (passed c.from_residual-in_err-where_false.result c.in_err-where_false.field-0.0 _
     c.from_residual-in_err-where_false.ensures.1 e)))

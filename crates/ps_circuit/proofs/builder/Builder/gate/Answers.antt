@@ -66,4 +66,4 @@ returns-clause-made c =
     let at = (goal.at.returns-clause-made c).In_ok-place in
     rw c.positive.ensures (subst (λ t. gate_of t c.args.sides ≡ record
     { draft = after at; literal = 2 * (c.self.inside.given + 1 + c.in_ok-place.place) }) c.self.view_is
-    (made-placed (before at) (after at) c.args.sides c.in_ok-place.place (done at) refl c.in_ok-place.ensures.keys))
+    (made-placed (done at) refl c.in_ok-place.ensures.keys))

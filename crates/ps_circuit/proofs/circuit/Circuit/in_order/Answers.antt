@@ -10,7 +10,7 @@ invariant_of-result c =
     let n : c.len.result ≡ length gates = c.len.ensures ∙ c.args.parts.gates.ok.0 in
     let within : (i j : ℕ) → ReadsGate gates i j → i < length gates = λ i j r. slice_get_within gates i _ r.at_i in (
       record { draft = c.requires.draft; acyclic = acyclic (ReadsGate gates) (length gates) c.requires.ordered within },
-      order-of_places (ReadsGate gates) (length gates) c.requires.ordered within c.in_ok-order.order.items
+      order-of_places (ReadsGate gates) (length gates) c.requires.ordered within
           (c.in_ok-order.ensures.count ∙ n) (λ k lt. c.in_ok-order.ensures.each k (subst (λ m. k < m) (sym n) lt)),
     )
 

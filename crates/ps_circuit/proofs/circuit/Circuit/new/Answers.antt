@@ -23,7 +23,7 @@ invariant_of-result c =
     let arranged =
     subst (λ a. IsArrangement (graph_of c.in_ok-links.links.items) a) c.in-Order.is c.in_ok-arrangement.ensures in
     let ended = arranged in
-    (record { draft = c.requires; acyclic = acyclic-of_links _ _ links ended.1 }, order-of_links _ _ links _ ended.0)
+    (record { draft = c.requires; acyclic = acyclic-of_links _ _ links ended.1 }, order-of_links _ _ links ended.0)
 
 pub returns-in-Order-clause-well_formed : goal.returns-in-Order-clause-well_formed
 returns-in-Order-clause-well_formed c =
@@ -38,6 +38,6 @@ returns-in-Cyclic-clause-cyclic c =
     let links = subst (λ gs. AreLinksOf gs c.in_ok-links.links.items) c.deref.ensures.value c.in_ok-links.ensures in
     let arranged =
     subst (λ a. IsArrangement (graph_of c.in_ok-links.links.items) a) c.in-Cyclic.is c.in_ok-arrangement.ensures in
-    let first = cyclic-of_links _ _ links c.in-Cyclic.gate arranged in
+    let first = cyclic-of_links _ _ links arranged in
     λ i e. (let same : c.in-Cyclic.gate ≡ i = cc in subst (λ x. IsFirstOnCycle (ReadsGate c.args.parts.gates.items) x)
     same first)

@@ -3,10 +3,7 @@ use Rattle.ps_circuit.proofs.cursor.Cursor.gap.Goals as goal
 
 pub returns-then-is_empty : goal.returns-then-is_empty
 returns-then-is_empty c =
-    gap_stops c.args.self.now c.run.new.self c.run.result.now c.refusal-refusal.result c.run.ensures
-    (is_empty_true c.run.result.now c.is_empty.result c.is_empty.ensures c.if-is_empty.true) c.refusal-refusal.ensures
+    gap_stops c.run.ensures (is_empty_true c.is_empty.ensures c.if-is_empty.true) c.refusal-refusal.ensures
 
 pub returns : goal.returns
-returns c =
-    gap_reads c.args.self.now c.run.new.self c.run.result.now c.run.ensures
-    (is_empty_false c.run.result.now c.is_empty.result c.is_empty.ensures c.if-is_empty.false)
+returns c = gap_reads c.run.ensures (is_empty_false c.run.result.now c.is_empty.ensures c.if-is_empty.false)

@@ -10,7 +10,7 @@ returns-in_err-newline c =
     c.in_err-newline.ensures) c.from_residual.ensures.1
 
 pub returns-then-comes : goal.returns-then-comes
-returns-then-comes c = more_ends c.args.self.now _ (c.comes.ensures.0 c.if-comes.true) c.in_ok-newline.ensures
+returns-then-comes c = more_ends c.args.self.now (c.comes.ensures.0 c.if-comes.true) c.in_ok-newline.ensures
 
 pub returns-in_err-gap : goal.returns-in_err-gap
 returns-in_err-gap c = exit (λ b. b) more c.args.self.now _ _ _
@@ -27,7 +27,7 @@ pub returns-then-comes-2 : goal.returns-then-comes-2
 returns-then-comes-2 c =
     behind_gap_ends c.args.self.now c.gap.new.self (λ e. let y : true ≡ false = sym (c.comes.ensures.1 e)
     ∙ c.if-comes.false in
-    cc) c.in_ok-gap.ensures _ (c.comes-2.ensures.0 c.if-comes-2.true) c.in_ok-newline-2.ensures
+    cc) c.in_ok-gap.ensures (c.comes-2.ensures.0 c.if-comes-2.true) c.in_ok-newline-2.ensures
 
 pub returns : goal.returns
 returns c =

@@ -3,11 +3,8 @@ use Rattle.ps_circuit.proofs.cursor.Cursor.rest_of_line.Goals as goal
 
 pub returns-then-is_empty : goal.returns-then-is_empty
 returns-then-is_empty c =
-    rest_stops c.args.self.now c.run-bytes.new.self c.run-bytes.result.now c.refusal-refusal.result c.run-bytes.ensures
-    (is_empty_true c.run-bytes.result.now c.is_empty.result c.is_empty.ensures c.if-is_empty.true)
-    c.refusal-refusal.ensures
+    rest_stops c.run-bytes.ensures (is_empty_true c.is_empty.ensures c.if-is_empty.true) c.refusal-refusal.ensures
 
 pub returns : goal.returns
 returns c =
-    rest_reads c.args.self.now c.run-bytes.new.self c.run-bytes.result.now c.run-bytes.ensures
-    (is_empty_false c.run-bytes.result.now c.is_empty.result c.is_empty.ensures c.if-is_empty.false)
+    rest_reads c.run-bytes.ensures (is_empty_false c.run-bytes.result.now c.is_empty.ensures c.if-is_empty.false)

@@ -7,16 +7,14 @@ use Rattle.ps_circuit.proofs.gate_graph.GateGraphGraph.target.Goals as goal
 pub returns-then-place-eq0-clause-within : goal.returns-then-place-eq0-clause-within
 returns-then-place-eq0-clause-within c =
     let links = c.args.self.now.links.items in
-    let at =
-    slice_get_read links (length links) c.args.item c.index-sides.result.now refl c.requires.item
+    let at = slice_get_read links (length links) c.args.item c.index-sides.result.now refl c.requires.item
     c.index-sides.ensures in
-    side_within links c.args.item 0 c.index-sides.result.now c.args.self.now.within at (omega arith)
+    side_within links c.args.item 0 c.args.self.now.within at (omega arith)
 
 pub returns-else-place-eq0-clause-target : goal.returns-else-place-eq0-clause-target
 returns-else-place-eq0-clause-target c =
     let links = c.args.self.now.links.items in
-    let at =
-    slice_get_read links (length links) c.args.item c.index-sides.result.now refl c.requires.item
+    let at = slice_get_read links (length links) c.args.item c.index-sides.result.now refl c.requires.item
     c.index-sides.ensures in
     let one : 1 ≡ c.args.place = omega arith in
     subst (λ p. c.index-sides.result.now.second ≡ target_of (slice_get links c.args.item) p) one
@@ -25,7 +23,6 @@ returns-else-place-eq0-clause-target c =
 pub returns-else-place-eq0-clause-within : goal.returns-else-place-eq0-clause-within
 returns-else-place-eq0-clause-within c =
     let links = c.args.self.now.links.items in
-    let at =
-    slice_get_read links (length links) c.args.item c.index-sides.result.now refl c.requires.item
+    let at = slice_get_read links (length links) c.args.item c.index-sides.result.now refl c.requires.item
     c.index-sides.ensures in
-    side_within links c.args.item 1 c.index-sides.result.now c.args.self.now.within at (omega arith)
+    side_within links c.args.item 1 c.args.self.now.within at (omega arith)

@@ -24,8 +24,7 @@ returns-in_err-second-clause-exact c =
     exit _ (parts.gate_line c.args.most before) c.args.cursor.now _ _ _
     (gate_second_fails c.args.most before c.args.cursor.now c.definition.new.cursor c.in_ok-own.own
     c.in_ok-own.ensures.exact c.reading.new.cursor c.in_ok-first.first c.in_ok-first.ensures.exact _
-    c.in_err-second.ensures.exact)
-    c.from_residual-in_err-second.ensures.1
+    c.in_err-second.ensures.exact) c.from_residual-in_err-second.ensures.1
 
 pub returns-in_err-line_end-clause-exact : goal.returns-in_err-line_end-clause-exact
 returns-in_err-line_end-clause-exact c =
@@ -41,9 +40,8 @@ returns-clause-exact c =
     let before = lines_of c.args.items.now.items c.args.noted.now in
     gate_reads c.args.most before c.args.cursor.now c.definition.new.cursor c.in_ok-own.own c.in_ok-own.ensures.exact
     c.reading.new.cursor c.in_ok-first.first c.in_ok-first.ensures.exact
-    c.reading-2.new.cursor c.in_ok-second.second c.in_ok-second.ensures.exact _ c.line_end.new.self
-    c.in_ok-line_end.ensures
-    (gate_is before c.in_ok-own.own c.in_ok-first.first c.in_ok-second.second _ _ _ _ _
+    c.reading-2.new.cursor c.in_ok-second.second c.in_ok-second.ensures.exact c.in_ok-line_end.ensures
+    (gate_is before c.in_ok-own.own c.in_ok-first.first c.in_ok-second.second
     (rw (c.literal.ensures, c.literal-2.ensures, c.literal-3.ensures) at c.in_ok-push-2.ensures.items)
     c.in_ok-own.ensures.defined.variables c.in_ok-first.ensures.noted c.in_ok-second.ensures.noted
     c.in_ok-push.ensures.items)

@@ -23,15 +23,13 @@ returns-in_err-reset-clause-exact c =
     exit _ (parts.latch_line c.args.most before) c.args.cursor.now _ _ _
     (latch_reset_fails c.args.most before c.args.cursor.now c.definition.new.cursor c.in_ok-own.own
     c.in_ok-own.ensures.exact c.reading.new.cursor c.in_ok-next.next c.in_ok-next.ensures.exact _
-    c.in_err-reset.ensures)
-    c.from_residual-in_err-reset.ensures.1
+    c.in_err-reset.ensures) c.from_residual-in_err-reset.ensures.1
 
 pub returns-clause-exact : goal.returns-clause-exact
 returns-clause-exact c =
     let before = lines_of c.args.items.now.items c.args.noted.now in
     latch_reads c.args.most before c.args.cursor.now c.definition.new.cursor c.in_ok-own.own c.in_ok-own.ensures.exact
-    c.reading.new.cursor c.in_ok-next.next c.in_ok-next.ensures.exact _ c.reset.new.cursor c.in_ok-reset.reset
-    c.in_ok-reset.ensures
-    (latch_is before c.in_ok-own.own c.in_ok-next.next c.in_ok-reset.reset _ _ _
+    c.reading.new.cursor c.in_ok-next.next c.in_ok-next.ensures.exact c.in_ok-reset.ensures
+    (latch_is before c.in_ok-own.own c.in_ok-next.next c.in_ok-reset.reset
     (rw (c.literal.ensures, c.literal-2.ensures) at c.in_ok-push.ensures.items)
     c.in_ok-own.ensures.defined.variables c.in_ok-next.ensures.noted)

@@ -12,30 +12,27 @@ pub returns-in_err-output-clause-exact : goal.returns-in_err-output-clause-exact
 returns-in_err-output-clause-exact c =
     let before = lines_of c.args.items.now.items c.args.noted.now in
     exit _ (parts.output_line c.args.most before) c.args.cursor.now _ _ _
-    (output_fails c.args.most before c.args.cursor.now _ (number_none (WrongLiteral c.args.most) c.args.cursor.now
+    (output_fails c.args.most before c.args.cursor.now _ (number_none (WrongLiteral c.args.most)
     c.number.new.self _ c.in_err-output.ensures)) c.from_residual.ensures.1
 
 pub returns-then-output-from-clause-exact : goal.returns-then-output-from-clause-exact
 returns-then-output-from-clause-exact c =
     let before = lines_of c.args.items.now.items c.args.noted.now in
-    output_fails c.args.most before c.args.cursor.now _
-    (literal_wrong c.args.most c.args.cursor.now c.number.new.self c.in_ok-output.output c.refused.result c.requires
+    output_fails c.args.most before c.args.cursor.now _ (literal_wrong c.args.most c.requires
     c.in_ok-output.ensures (omega (arith, c.from.ensures)) c.refused.ensures)
 
 pub returns-in_err-line_end-clause-exact : goal.returns-in_err-line_end-clause-exact
 returns-in_err-line_end-clause-exact c =
     let before = lines_of c.args.items.now.items c.args.noted.now in
-    exit _ (parts.output_line c.args.most before) c.args.cursor.now _ _ _
-    (output_end_fails c.args.most before c.args.cursor.now c.number.new.self c.in_ok-output.output _
-    (literal_reads c.args.most c.args.cursor.now c.number.new.self c.in_ok-output.output c.requires
+    exit _ (parts.output_line c.args.most before) c.args.cursor.now _ _ _ (output_end_fails c.args.most before _
+    (literal_reads c.args.most c.requires
     c.in_ok-output.ensures (omega (arith, c.from.ensures))) c.in_err-line_end.ensures)
     c.from_residual-in_err-line_end.ensures.1
 
 pub returns-clause-exact : goal.returns-clause-exact
 returns-clause-exact c =
     let before = lines_of c.args.items.now.items c.args.noted.now in
-    output_reads c.args.most before _ c.args.cursor.now c.number.new.self c.line_end.new.self c.in_ok-output.output
-    (literal_reads c.args.most c.args.cursor.now c.number.new.self c.in_ok-output.output c.requires
+    output_reads c.args.most before (literal_reads c.args.most c.requires
     c.in_ok-output.ensures (omega (arith, c.from.ensures))) c.in_ok-line_end.ensures
-    (output_is before c.in_ok-output.output _ _ (rw c.literal.ensures at c.in_ok-push-2.ensures.items)
+    (output_is before c.in_ok-output.output (rw c.literal.ensures at c.in_ok-push-2.ensures.items)
     c.in_ok-push.ensures.items)
