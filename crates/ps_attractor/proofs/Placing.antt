@@ -32,7 +32,8 @@ pub trail_length : {aim : Aim} {mid new : TablesData} {u : ℕ} → Places aim m
 trail_length {mid} {u} places = ap length places.trail ∙ length_push mid.trail u
 
 -- a vertex that is not free is another one than that which is placed
-pub not_it : {aim : Aim} {mid new : TablesData} {u : ℕ} (v : ℕ) → Places aim mid new u → level_of mid v ≢ aim.free → v ≢ u
+pub not_it : {aim : Aim} {mid new : TablesData} {u : ℕ} (v : ℕ) → Places aim mid new u →
+    level_of mid v ≢ aim.free → v ≢ u
 not_it {mid} v places not_free same = not_free (ap (λ x. level_of mid x) same ∙ places.was_free)
 
 -- nor is one that is free afterwards
@@ -111,7 +112,8 @@ stands_before_on {aim} {mid} {new} {u} j w places within stands =
       is = trail_before stands.place places (omega arith) ∙ stands.is;
     }
 
-pub leads_back_on : {game : ParityGame} {aim : Aim} {old mid new : TablesData} {u j v : ℕ} → Places aim mid new u → v ≢ u →
+pub leads_back_on : {game : ParityGame} {aim : Aim} {old mid new : TablesData} {u j v : ℕ} →
+    Places aim mid new u → v ≢ u →
     j ≤ length mid.trail → LeadsBack game aim old mid j v → LeadsBack game aim old new j v
 leads_back_on {game} {aim} {mid} {new} {u} {j} {v} places differ within leads =
     let Back : ℕ → Type 0 = λ w. HasEdge game v w × StandsBefore aim new j w in

@@ -41,7 +41,8 @@ size_from-length c (x ∷ xs) =
 
 -- ## The last call
 
-unfoldable pub last_waits : {game : ParityGame} {tables : TablesData} {winner order : List ℕ} (frames : List Frame) (frame : Frame)
+unfoldable pub last_waits : {game : ParityGame} {tables : TablesData} {winner order : List ℕ} (frames : List Frame)
+    (frame : Frame)
     {cursor : ℕ} {solved : Bool} → IsNest game tables winner order (frames ++ frame ∷ []) cursor solved →
     Waits game tables winner order (2 * length frames) frame
 last_waits {game} {tables} {winner} {order} frames frame nest =
