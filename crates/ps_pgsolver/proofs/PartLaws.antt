@@ -312,8 +312,8 @@ laws_value = laws_next laws_number (λ _. laws_semicolon) (nothing_apart _)
 abbrev pub IsWord : List ℕ → Sign → Type 0
 IsWord word t = t ≡ Word word
 
-same_word : (word letters : List ℕ) (v : Unit {0}) → keyword_in word (Word letters) ≡ Some v → letters ≡ word
-same_word word letters v e = ⊎_elim
+same_word : {word letters : List ℕ} {v : Unit {0}} → keyword_in word (Word letters) ≡ Some v → letters ≡ word
+same_word {word} {letters} {v} e = ⊎_elim
     (λ (yes : bytes_eq letters word ≡ true). (bytes_eq-Decides letters word).0 yes)
     (λ (no : bytes_eq letters word ≡ false). absurd (none_is_some v (sym (ap (λ b. cond b (Some tt) None) no) ∙ e)))
     (cases_Bool (bytes_eq letters word))
@@ -322,7 +322,7 @@ pub takes_word : (word : List ℕ) → keyword_in word (Word word) ≡ Some tt
 takes_word word = ap (λ b. cond b (Some tt) None) ((bytes_eq-Decides word word).1 refl)
 
 first_keyword : (word : List ℕ) → Within (Or (Taken (keyword_in word)) (BadSign {F = PgCause} NoBad)) (IsWord word)
-first_keyword word (Word letters) (inl h) = ap Word (same_word word letters h.0 h.1)
+first_keyword word (Word letters) (inl h) = ap Word (same_word h.1)
 first_keyword word (Word letters) (inr h) = absurd h.1
 first_keyword word (Number x) (inl h) = absurd (none_is_some h.0 h.1)
 first_keyword word (Number x) (inr h) = absurd h.1
