@@ -16,9 +16,9 @@ use Rattle.ps_pgsolver.specs.Signs.{Sign, Number, Word, Name, Comma}
 use Rattle.ps_pgsolver.specs.declared.fault.PgCause.{PgCause}
 use Rattle.ps_pgsolver.specs.Causes.{PgFault}
 use Rattle.ps_pgsolver.proofs.Exits.{Done, Halts, stops_right, done_then}
-use Rattle.ps_pgsolver.proofs.PartLaws.{IsKind, kind_of, laws_line, laws_no_line, joint_line, line, takes_word}
-use Rattle.ps_pgsolver.proofs.PartLaws.{laws_one_name, laws_no_name, joint_more, joint_id, from_priority, another}
-use Rattle.ps_pgsolver.proofs.PartLaws.{laws_more, laws_entry}
+use Rattle.ps_pgsolver.proofs.PartLaws.{IsKind, kind_of, laws_one_name, laws_no_name, joint_more, joint_id}
+use Rattle.ps_pgsolver.proofs.PartLaws.{from_priority, another, laws_more}
+use Rattle.ps_pgsolver.proofs.GameLaws.{laws_line, laws_no_line, joint_line, line, takes_word, laws_entry}
 
 keyword_done : (word : List ℕ) (old : Stream Sign) {new : Stream Sign} → next_of old ≡ Some (Word word) →
     new ≡ tail old →

@@ -15,7 +15,7 @@ use Rattle.ps_pgsolver.specs.Signs.{Sign}
 use Rattle.ps_pgsolver.specs.declared.fault.PgCause.{PgCause}
 use Rattle.ps_pgsolver.specs.declared.fault.PgCause.TheVariants as causes
 use Rattle.ps_pgsolver.proofs.GameTokens.{only_tokens}
-use Rattle.ps_pgsolver.proofs.PartLaws.{laws_game}
+use Rattle.ps_pgsolver.proofs.GameLaws.{laws_game}
 
 abbrev of_number : ℕ → PgCause
 of_number n =

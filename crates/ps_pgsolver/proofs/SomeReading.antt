@@ -24,10 +24,10 @@ use Rattle.ps_pgsolver.specs.Signs.{Sign, Number, Word, Name, Comma, Semicolon, 
 use Rattle.ps_pgsolver.specs.declared.fault.PgCause.{PgCause}
 use Rattle.ps_pgsolver.specs.declared.fault.PgCause.TheVariants as causes
 use Rattle.ps_pgsolver.proofs.GameTokens.{tokens_found}
-use Rattle.ps_pgsolver.proofs.PartLaws.{laws_one_name, laws_no_name, laws_more, laws_entry, laws_line, laws_no_line}
-use Rattle.ps_pgsolver.proofs.PartLaws.{laws_game, takes_word, joint_more, joint_successors, joint_name, joint_list}
-use Rattle.ps_pgsolver.proofs.PartLaws.{joint_owner, joint_priority, joint_id, joint_entries, joint_value, joint_line}
-use Rattle.ps_pgsolver.proofs.PartLaws.{joint_start, joint_parity}
+use Rattle.ps_pgsolver.proofs.PartLaws.{laws_one_name, laws_no_name, laws_more, joint_more, joint_successors}
+use Rattle.ps_pgsolver.proofs.PartLaws.{joint_name, joint_list, joint_owner, joint_priority, joint_id}
+use Rattle.ps_pgsolver.proofs.GameLaws.{laws_entry, laws_line, laws_no_line, laws_game, takes_word, joint_entries}
+use Rattle.ps_pgsolver.proofs.GameLaws.{joint_value, joint_line, joint_start, joint_parity}
 use Rattle.ps_pgsolver.proofs.Sound.{same_nodes}
 
 abbrev Judges : (Sign → PgCause → Type 0) → Type 0

@@ -16,7 +16,8 @@ use Rattle.ps_pgsolver.specs.Signs.{Sign, Number}
 use Rattle.ps_pgsolver.specs.declared.fault.PgCause.{PgCause}
 use Rattle.ps_pgsolver.specs.declared.fault.PgCause.TheVariants as causes
 use Rattle.ps_ids.proofs.Members.{Contains-any, any-from_Contains}
-use Rattle.ps_pgsolver.proofs.PartLaws.{laws_game, from_priority, from_owner, from_successors, from_name, from_start}
+use Rattle.ps_pgsolver.proofs.PartLaws.{from_priority, from_owner, from_successors, from_name}
+use Rattle.ps_pgsolver.proofs.GameLaws.{laws_game, from_start}
 use Rattle.ps_text.proofs.Simple.{none_is_some, same_some}
 
 abbrev pub Quiet : {V : Type 0} → Part Sign V PgCause → List Sign → Type 0

@@ -12,7 +12,7 @@ use Rattle.ps_pgsolver.specs.declared.fault.PgCause.TheVariants as causes
 use Rattle.ps_pgsolver.specs.Causes.{PgFault}
 use Rattle.ps_text.specs.declared.faults.Fault.TheVariants as faults
 use Rattle.ps_pgsolver.proofs.Exits.{Done, Halts}
-use Rattle.ps_pgsolver.proofs.PartLaws.{laws_game}
+use Rattle.ps_pgsolver.proofs.GameLaws.{laws_game}
 
 halts_answers : (known : Option (List ℕ)) (stream : Stream Sign) (e : PgFault) → Halts (game known) stream e →
     FaultAnswers known stream (found_of e)

@@ -20,12 +20,12 @@ use Rattle.ps_pgsolver.specs.GameTexts.{owner, successor, first_successor, comma
 use Rattle.ps_pgsolver.specs.GameTexts.{name, node, entry, entries, keyword, value_line, setting, game}
 use Rattle.ps_pgsolver.specs.Nodes.{NodeData, ids_of}
 use Rattle.ps_pgsolver.specs.Signs.{Sign, Number, Word, Name, Comma, Semicolon}
-use Rattle.ps_pgsolver.proofs.PartLaws.{IsKind, IsWord, kind_of, another, all_more, joint_more, laws_more}
-use Rattle.ps_pgsolver.proofs.PartLaws.{joint_successors, laws_one_name, laws_no_name, node_end, from_name}
-use Rattle.ps_pgsolver.proofs.PartLaws.{from_successors, from_owner, from_priority, joint_name, joint_list, joint_owner}
-use Rattle.ps_pgsolver.proofs.PartLaws.{joint_priority, joint_id, laws_entry, more_entries, joint_entries, joint_value}
-use Rattle.ps_pgsolver.proofs.PartLaws.{takes_word, joint_line, line, laws_line, laws_no_line, from_start, joint_start}
-use Rattle.ps_pgsolver.proofs.PartLaws.{joint_parity, laws_game}
+use Rattle.ps_pgsolver.proofs.PartLaws.{IsKind, kind_of, another, all_more, joint_more, laws_more, joint_successors}
+use Rattle.ps_pgsolver.proofs.PartLaws.{laws_one_name, laws_no_name, node_end, from_name, from_successors, from_owner}
+use Rattle.ps_pgsolver.proofs.PartLaws.{from_priority, joint_name, joint_list, joint_owner, joint_priority, joint_id}
+use Rattle.ps_pgsolver.proofs.GameLaws.{IsWord, laws_entry, more_entries, joint_entries, joint_value, takes_word}
+use Rattle.ps_pgsolver.proofs.GameLaws.{joint_line, line, laws_line, laws_no_line, from_start, joint_start}
+use Rattle.ps_pgsolver.proofs.GameLaws.{joint_parity, laws_game}
 use Rattle.ps_pgsolver.proofs.WrittenSigns.{comma_signs, list_signs, name_signs, node_signs, nodes_signs, written_signs}
 
 abbrev pub IsKnown : Option (List ℕ) → ℕ → Type 0

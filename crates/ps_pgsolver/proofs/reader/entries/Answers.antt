@@ -4,7 +4,7 @@ use Rattle.ps_pgsolver.specs.GameTexts.{entry, entries}
 use Rattle.ps_pgsolver.proofs.Choices.{number_entered, number_avoided, entry_shrinks}
 use Rattle.ps_pgsolver.proofs.Exits.{Done, Halts, exit, stops_left, continues_start, continues_then, continues_many}
 use Rattle.ps_pgsolver.proofs.Exits.{many_halts, many_done}
-use Rattle.ps_pgsolver.proofs.PartLaws.{joint_entries, laws_entry}
+use Rattle.ps_pgsolver.proofs.GameLaws.{joint_entries, laws_entry}
 use Rattle.ps_pgsolver.proofs.reader.entries.Goals as goal
 
 pub returns-in_err-entry-clause-part : goal.returns-in_err-entry-clause-part
